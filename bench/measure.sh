@@ -1,0 +1,16 @@
+#!/bin/sh
+# Usage: bench/measure.sh marks|codec. Proves and builds crates/bench_NAME and runs its measurement.
+# marks: how many reads one and three reader threads make in a second beside a thread that raises.
+# codec: how many megabytes a second of a log of 100,000 records are written into memory and read again.
+# The first line is the machine's.
+set -eu
+cd "$(dirname "$0")/../crates/bench_$1"
+model=$(sed -n 's/^model name[^:]*: //p' /proc/cpuinfo | head -n 1)
+printf 'machine: %s processors, %s\n' "$(nproc)" "$model"
+log=$(mktemp)
+trap 'rm -f "$log"' EXIT
+if ! rt run -- measure >"$log" 2>&1; then
+    cat "$log" >&2
+    exit 1
+fi
+grep -E '^(readers|records) ' "$log"

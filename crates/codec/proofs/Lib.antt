@@ -1,0 +1,9 @@
+pub mod Readers
+pub mod Fields
+pub mod Records
+pub mod Requests
+pub mod Items
+pub mod RowLoops
+pub mod Replies
+pub mod Frames
+pub mod Numbered

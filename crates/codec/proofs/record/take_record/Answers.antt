@@ -1,0 +1,19 @@
+use Rattle.std.proofs.Common.{◌∙◌, drop, arith}
+use Rattle.history.specs.declared.record.Record.{Record}
+use Rattle.codec.specs.Records.{record_bytes, IsRecord}
+use Rattle.codec.specs.Reading.{record_at}
+use Rattle.codec.proofs.Readers.{IsBytes-drop}
+use Rattle.codec.proofs.Frames as frames
+use Rattle.codec.proofs.Records.{record_reads, record_length}
+use Rattle.codec.proofs.record.take_record.Goals as goal
+
+pub returns : goal.returns
+returns c =
+    let at = c.args.at in
+    let left = drop c.args.at c.args.bytes.now in
+    record {
+      found = frames.found Record record_bytes IsRecord record_at record_reads 181 at left c.take_exact.result (IsBytes-drop at c.args.bytes.now (λ i. omega (arith, c.type_inv.bytes i))) c.take_exact.ensures;
+      only = λ r rest fits e. c.take_exact.ensures ∙ frames.only Record record_bytes IsRecord record_at record_reads 181 at left r rest fits (record_length r fits).0 (record_length r fits).1 (omega arith) e;
+      short = frames.short Record record_at 181 at left c.take_exact.result c.take_exact.ensures;
+      bad = frames.bad Record record_at 181 at left c.take_exact.result c.take_exact.ensures;
+    }

@@ -1,0 +1,27 @@
+//! Records of the transaction log, requests and replies as bytes.
+//!
+//! Knows: the one spelling of each value as bytes, and the grammar that tells spellings from other bytes.
+//! Must not know: where bytes are kept, whether a record fits those before it, what a message does.
+//! Promises the next crates: what is written is the one spelling, what is read is what stands there, no
+//! spelling begins another, and bytes that end within a frame are told apart from bytes outside the grammar.
+#![tactic(auto)]
+
+mod fault;
+mod frame;
+mod lengths;
+mod reading;
+mod record;
+mod reply;
+mod request;
+mod rows;
+mod taken;
+mod writing;
+
+pub use record::{put_record, record_spelling_law, take_record};
+pub use reply::{Reply, put_reply, reply_spelling_law, take_reply};
+pub use request::{Request, put_request, request_spelling_law, take_request};
+pub use rows::Rows;
+pub use taken::Taken;
+
+#[cfg(test)]
+mod tests;

@@ -1,0 +1,179 @@
+//! The readers of a frame's parts. Each gives the value at the front and the bytes after it.
+ghost use Rattle.codec.specs.Reading.{Gives, number_at, count_at, bytes_at, key_at, value_at, row_at, flag_at, optional_at, op_at, answer_at};
+
+use byteorder::{BigEndian, ByteOrder};
+use record_key::{Answer, Key, Op, Value};
+
+/// The first number that is too large to stand in a frame.
+const NUMBER_LIMIT: u64 = 1 << 48;
+
+#[tactic(auto, unfolding(crate::specs::Reading::below_at, crate::specs::Fields::first_number))]
+pub(crate) fn take_number(bytes: &[u8]) -> Option<(u64, &[u8])>
+    ensures { Gives (λ x. (x.0, x.1.now)) result (number_at bytes.now) }
+{
+    if bytes.len() < 8 {
+        return None;
+    }
+    let number = BigEndian::read_u64(bytes);
+    if number < NUMBER_LIMIT {
+        Some((number, &bytes[8..]))
+    } else {
+        None
+    }
+}
+
+/// How many follow. There is no bound on it but what the bytes have room for.
+#[tactic(auto, unfolding(crate::specs::Reading::below_at, crate::specs::Fields::first_number))]
+pub(crate) fn take_count(bytes: &[u8]) -> Option<(u64, &[u8])>
+    ensures { Gives (λ x. (x.0, x.1.now)) result (count_at bytes.now) }
+{
+    if bytes.len() < 8 {
+        return None;
+    }
+    Some((BigEndian::read_u64(bytes), &bytes[8..]))
+}
+
+#[tactic(auto, unfolding(crate::specs::Reading::bytes_at))]
+fn take_bytes(bytes: &[u8]) -> Option<(&[u8], &[u8])>
+    ensures { Gives (λ x. (x.0.now, x.1.now)) result (bytes_at bytes.now) }
+{
+    let (length, rest) = bytes.split_first()?;
+    let length = *length as usize;
+    if rest.len() < length {
+        return None;
+    }
+    Some(rest.split_at(length))
+}
+
+#[tactic(auto, unfolding(crate::specs::Reading::key_at))]
+pub(crate) fn take_key(bytes: &[u8]) -> Option<(Key, &[u8])>
+    ensures { Gives (λ x. (x.0, x.1.now)) result (key_at bytes.now) }
+{
+    let (text, rest) = take_bytes(bytes)?;
+    Some((Key::new(text).ok()?, rest))
+}
+
+#[tactic(auto, unfolding(crate::specs::Reading::value_at))]
+pub(crate) fn take_value(bytes: &[u8]) -> Option<(Value, &[u8])>
+    ensures { Gives (λ x. (x.0, x.1.now)) result (value_at bytes.now) }
+{
+    let (text, rest) = take_bytes(bytes)?;
+    Some((Value::new(text).ok()?, rest))
+}
+
+/// A key, then a value.
+pub(crate) fn take_row(bytes: &[u8]) -> Option<((Key, Value), &[u8])>
+    ensures { Gives (λ x. (x.0, x.1.now)) result (row_at bytes.now) }
+{
+    let (key, rest) = take_key(bytes)?;
+    let (value, rest) = take_value(rest)?;
+    Some(((key, value), rest))
+}
+
+#[tactic(auto, unfolding(crate::specs::Reading::op_at))]
+pub(crate) fn take_op(bytes: &[u8]) -> Option<(Op, &[u8])>
+    ensures { Gives (λ x. (x.0, x.1.now)) result (op_at bytes.now) }
+{
+    let (kind, rest) = bytes.split_first()?;
+    match *kind {
+        1 => {
+            let ((key, value), rest) = take_row(rest)?;
+            Some((Op::Insert(key, value), rest))
+        }
+        2 => {
+            let ((key, value), rest) = take_row(rest)?;
+            Some((Op::Update(key, value), rest))
+        }
+        3 => {
+            let ((key, value), rest) = take_row(rest)?;
+            Some((Op::Upsert(key, value), rest))
+        }
+        4 => {
+            let (key, rest) = take_key(rest)?;
+            Some((Op::Delete(key), rest))
+        }
+        _ => None,
+    }
+}
+
+#[tactic(auto, unfolding(crate::specs::Reading::flag_at))]
+fn take_flag(bytes: &[u8]) -> Option<(bool, &[u8])>
+    ensures { Gives (λ x. (x.0, x.1.now)) result (flag_at bytes.now) }
+{
+    let (flag, rest) = bytes.split_first()?;
+    match *flag {
+        0 => Some((false, rest)),
+        1 => Some((true, rest)),
+        _ => None,
+    }
+}
+
+pub(crate) fn take_optional_key(bytes: &[u8]) -> Option<(Option<Key>, &[u8])>
+    ensures { Gives (λ x. (x.0, x.1.now)) result (optional_at key_at bytes.now) }
+{
+    let (is_there, rest) = take_flag(bytes)?;
+    if !is_there {
+        return Some((None, rest));
+    }
+    let (key, rest) = take_key(rest)?;
+    Some((Some(key), rest))
+}
+
+pub(crate) fn take_optional_op(bytes: &[u8]) -> Option<(Option<Op>, &[u8])>
+    ensures { Gives (λ x. (x.0, x.1.now)) result (optional_at op_at bytes.now) }
+{
+    let (is_there, rest) = take_flag(bytes)?;
+    if !is_there {
+        return Some((None, rest));
+    }
+    let (op, rest) = take_op(rest)?;
+    Some((Some(op), rest))
+}
+
+#[tactic(auto, unfolding(crate::specs::Reading::answer_at))]
+pub(crate) fn take_answer(bytes: &[u8]) -> Option<(Answer, &[u8])>
+    ensures { Gives (λ x. (x.0, x.1.now)) result (answer_at bytes.now) }
+{
+    let (kind, rest) = bytes.split_first()?;
+    match *kind {
+        1 => Some((Answer::Inserted, rest)),
+        2 => {
+            let (value, rest) = take_value(rest)?;
+            Some((Answer::Updated(value), rest))
+        }
+        3 => Some((Answer::Was(None), rest)),
+        4 => {
+            let (value, rest) = take_value(rest)?;
+            Some((Answer::Was(Some(value)), rest))
+        }
+        5 => {
+            let (value, rest) = take_value(rest)?;
+            Some((Answer::Deleted(value), rest))
+        }
+        6 => Some((Answer::Exists, rest)),
+        7 => Some((Answer::NoRecord, rest)),
+        _ => None,
+    }
+}
+
+pub(crate) fn take_optional_answer(bytes: &[u8]) -> Option<(Option<Answer>, &[u8])>
+    ensures { Gives (λ x. (x.0, x.1.now)) result (optional_at answer_at bytes.now) }
+{
+    let (is_there, rest) = take_flag(bytes)?;
+    if !is_there {
+        return Some((None, rest));
+    }
+    let (answer, rest) = take_answer(rest)?;
+    Some((Some(answer), rest))
+}
+
+pub(crate) fn take_optional_value(bytes: &[u8]) -> Option<(Option<Value>, &[u8])>
+    ensures { Gives (λ x. (x.0, x.1.now)) result (optional_at value_at bytes.now) }
+{
+    let (is_there, rest) = take_flag(bytes)?;
+    if !is_there {
+        return Some((None, rest));
+    }
+    let (value, rest) = take_value(rest)?;
+    Some((Some(value), rest))
+}

@@ -1,0 +1,185 @@
+//! Records of the transaction log.
+ghost use Rattle.std.specs.Prelude.{◌≡◌, ◌↔◌, ◌+◌, ◌<◌, ◌≤◌, ◌++◌, ℕ, List, length, drop, vec_len, vec_capacity, OnOk, OnErr, IfErr};
+ghost use Rattle.history.specs.declared.record.Record.{Record};
+ghost use Rattle.codec.specs.Records.{record_bytes, HasNumbers, IsRecord};
+ghost use Rattle.codec.specs.Frames.{frame, IfTaken, IfBad, IsThere, IsCut};
+ghost use Rattle.codec.specs.Writing.{HasRoom, Puts};
+ghost use Rattle.codec.specs.Reading.{Gives, record_at, all_of, frame_at, within};
+
+use crate::frame::{HEADER_LEN, take_body};
+use crate::lengths::{answer_len, op_len, optional_op_len};
+use crate::reading::{take_answer, take_number, take_op, take_optional_op};
+use crate::taken::Taken;
+use crate::writing::{put_answer, put_byte, put_number, put_op, put_optional_op};
+use history::Record;
+use record_key::Refusal;
+
+/// Appends the record's frame, its one spelling. Where memory for it is refused nothing is appended.
+#[tactic(auto, using(crate::proofs::Numbered::number_lengths))]
+pub fn put_record(out: &mut Vec<u8>, record: &Record) -> Result<(), Refusal>
+    requires { HasNumbers «record».now }
+    ensures spelling { OnOk result (out.new.items ≡ out.old.items ++ frame (record_bytes «record».now)) }
+    ensures refused { OnErr result (out.new.items ≡ out.old.items) }
+    ensures cause { IfErr result (λ refusal. refusal ≡ Refusal.NoMemory) }
+    ensures room { OnErr result (vec_capacity out.old < vec_len out.old + length (frame (record_bytes «record».now))) }
+    ensures has_spelling { IsRecord «record».now }
+{
+    let length = body_len(record);
+    out.reserve(HEADER_LEN + length)?;
+    put_number(out, length as u64);
+    put_body(out, record);
+    Ok(())
+}
+
+/// The record whose frame begins at a place, and the place after it. Takes no memory.
+pub fn take_record(bytes: &[u8], at: usize) -> Taken<Record>
+    // What is taken stands there.
+    ensures found { IfTaken result (IsThere Record record_bytes IsRecord at (drop at bytes.now)) }
+    // What stands there is taken, whatever follows.
+    ensures only { (r : Record) (rest : List ℕ) → IsRecord r → drop at bytes.now ≡ frame (record_bytes r) ++ rest → result ≡ Taken.Record r (at + length (frame (record_bytes r))) }
+    ensures short { (result ≡ Taken.Short) ↔ IsCut 181 (drop at bytes.now) }
+    ensures bad { IfBad result (λ place. place ≡ at) }
+{
+    take_exact(bytes, at)
+}
+
+/// No record's frame begins another's, so what was written is read back, whatever follows it.
+pub fn record_spelling_law()
+    ensures { (a b : Record) (x y : List ℕ) → IsRecord a → IsRecord b → frame (record_bytes a) ++ x ≡ frame (record_bytes b) ++ y → (a ≡ b) × (x ≡ y) }
+{}
+
+#[tactic(auto, unfolding(crate::specs::Records::record_bytes), using(crate::proofs::Numbered::number_lengths))]
+fn body_len(record: &Record) -> usize
+    requires { HasNumbers «record».now }
+    ensures len { result ≡ length (record_bytes «record».now) }
+    ensures bounded { result ≤ 181 }
+    ensures spelled { IsRecord «record».now }
+{
+    match record {
+        Record::Session | Record::Begin => 1,
+        Record::Op { op, .. } => 17 + op_len(op),
+        Record::Answer { answer, .. } => 9 + answer_len(answer),
+        Record::Comp { inverse, .. } => 25 + optional_op_len(inverse),
+        Record::Commit { .. } | Record::End { .. } | Record::Checkpoint { .. } => 9,
+    }
+}
+
+#[tactic(auto, unfolding(crate::specs::Records::record_bytes))]
+fn put_body(out: &mut Vec<u8>, record: &Record)
+    requires { HasRoom out.old (record_bytes «record».now) }
+    ensures { Puts out.old out.new (record_bytes «record».now) }
+{
+    match record {
+        Record::Session => put_byte(out, 1),
+        Record::Begin => put_byte(out, 2),
+        Record::Op { txn, prev, op } => {
+            put_byte(out, 3);
+            put_number(out, *txn);
+            put_number(out, *prev);
+            put_op(out, op);
+        }
+        Record::Answer { of, answer } => {
+            put_byte(out, 4);
+            put_number(out, *of);
+            put_answer(out, answer);
+        }
+        Record::Comp {
+            txn,
+            undoes,
+            next,
+            inverse,
+        } => {
+            put_byte(out, 5);
+            put_number(out, *txn);
+            put_number(out, *undoes);
+            put_number(out, *next);
+            put_optional_op(out, inverse);
+        }
+        Record::Commit { txn } => {
+            put_byte(out, 6);
+            put_number(out, *txn);
+        }
+        Record::End { txn } => {
+            put_byte(out, 7);
+            put_number(out, *txn);
+        }
+        Record::Checkpoint { low } => {
+            put_byte(out, 8);
+            put_number(out, *low);
+        }
+    }
+}
+
+/// The longest body of a record, in bytes: a Comp whose inverse has a key and a value of the greatest lengths.
+const RECORD_LIMIT: u64 = 181;
+
+#[tactic(auto, unfolding(crate::specs::Reading::record_at))]
+fn take_fields(bytes: &[u8]) -> Option<(Record, &[u8])>
+    ensures { Gives (λ x. (x.0, x.1.now)) result (record_at bytes.now) }
+{
+    let (kind, rest) = bytes.split_first()?;
+    match *kind {
+        1 => Some((Record::Session, rest)),
+        2 => Some((Record::Begin, rest)),
+        3 => {
+            let (txn, rest) = take_number(rest)?;
+            let (prev, rest) = take_number(rest)?;
+            let (op, rest) = take_op(rest)?;
+            Some((Record::Op { txn, prev, op }, rest))
+        }
+        4 => {
+            let (of, rest) = take_number(rest)?;
+            let (answer, rest) = take_answer(rest)?;
+            Some((Record::Answer { of, answer }, rest))
+        }
+        5 => {
+            let (txn, rest) = take_number(rest)?;
+            let (undoes, rest) = take_number(rest)?;
+            let (next, rest) = take_number(rest)?;
+            let (inverse, rest) = take_optional_op(rest)?;
+            Some((
+                Record::Comp {
+                    txn,
+                    undoes,
+                    next,
+                    inverse,
+                },
+                rest,
+            ))
+        }
+        6 => {
+            let (txn, rest) = take_number(rest)?;
+            Some((Record::Commit { txn }, rest))
+        }
+        7 => {
+            let (txn, rest) = take_number(rest)?;
+            Some((Record::End { txn }, rest))
+        }
+        8 => {
+            let (low, rest) = take_number(rest)?;
+            Some((Record::Checkpoint { low }, rest))
+        }
+        _ => None,
+    }
+}
+
+/// The record that all of a body spells.
+fn take_all(body: &[u8]) -> Option<Record>
+    ensures { result ≡ all_of record_at body.now }
+{
+    let (record, rest) = take_fields(body)?;
+    if rest.is_empty() { Some(record) } else { None }
+}
+
+fn take_exact(bytes: &[u8], at: usize) -> Taken<Record>
+    ensures { result ≡ within at record_at (frame_at 181 at (drop at bytes.now)) }
+{
+    match take_body(bytes, at, RECORD_LIMIT) {
+        Taken::Record(body, next) => match take_all(body) {
+            Some(record) => Taken::Record(record, next),
+            None => Taken::Bad(at as u64),
+        },
+        Taken::Short => Taken::Short,
+        Taken::Bad(place) => Taken::Bad(place),
+    }
+}

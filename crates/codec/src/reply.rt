@@ -1,0 +1,286 @@
+//! Replies of the data component to the transaction component.
+ghost use Rattle.std.specs.Prelude.{◌≡◌, ◌≢◌, ◌↔◌, ◌+◌, ◌<◌, ◌≤◌, ◌^◌, ◌++◌, ℕ, List, length, drop, vec_len, vec_capacity, slice_index, OnOk, OnErr, IfOk, IfErr, IsErrOf, IfSome, IfNone, OnSome};
+ghost use Rattle.codec.specs.declared.reply.Reply.{Reply};
+ghost use Rattle.codec.specs.Replies.{reply_bytes, IsOrdered, IsReply};
+ghost use Rattle.codec.specs.Frames.{frame, any_length, IfTaken, IfBad, IsThere, IsCut};
+ghost use Rattle.codec.specs.Writing.{HasRoom, Puts};
+ghost use Rattle.codec.specs.Reading.{Gives, Finds, pair, number_at, choose, reply_choices, reply_at, all_of, frame_at, within};
+
+use crate::fault::Fault;
+use crate::frame::{HEADER_LEN, take_body};
+use crate::lengths::{optional_answer_len, optional_value_len};
+use crate::reading::{take_number, take_optional_answer, take_optional_value};
+use crate::rows::{Rows, put_rows, rows_len, take_rows};
+use crate::taken::Taken;
+use crate::writing::{put_byte, put_number, put_optional_answer, put_optional_value};
+use record_key::{Answer, Refusal, Value};
+use std::alloc::Global;
+
+/// A reply to a request of the same session.
+#[derive(Debug, Drop)]
+pub enum Reply {
+    /// The session has begun.
+    Connected {
+        session: u64,
+    },
+    /// The operation of this number was done. No answer: it is no longer kept.
+    Answered {
+        session: u64,
+        number: u64,
+        answer: Option<Answer>,
+    },
+    /// The value that a Get found.
+    Row {
+        session: u64,
+        read: u64,
+        value: Option<Value>,
+    },
+    /// The rows that a Scan found, with rising keys.
+    Rows {
+        session: u64,
+        read: u64,
+        rows: Rows,
+    },
+    /// The effects of each number up to `low` are stable.
+    Checkpointed {
+        session: u64,
+        low: u64,
+    },
+    /// The end of the operations of earlier sessions is noted.
+    RedoEnded {
+        session: u64,
+    },
+}
+
+/// Appends the reply's frame, its one spelling. Where memory for it is refused nothing is appended.
+#[tactic(auto, using(crate::proofs::Numbered::number_lengths))]
+pub fn put_reply(out: &mut Vec<u8>, reply: &Reply) -> Result<(), Refusal>
+    requires { IsOrdered reply.now }
+    ensures spelling { OnOk result (out.new.items ≡ out.old.items ++ frame (reply_bytes reply.now)) }
+    ensures has_spelling { OnOk result (IsReply reply.now) }
+    ensures refused { OnErr result (out.new.items ≡ out.old.items) }
+    ensures cause { IfErr result (λ refusal. refusal ≡ Refusal.NoMemory) }
+    ensures room { OnErr result (vec_capacity out.old < vec_len out.old + length (frame (reply_bytes reply.now))) }
+{
+    let Some(length) = frame_len(reply) else {
+        return Err(Refusal::NoMemory);
+    };
+    out.reserve(length)?;
+    put_number(out, (length - HEADER_LEN) as u64);
+    put_body(out, reply);
+    Ok(())
+}
+
+/// The reply whose frame begins at a place, and the place after it. Only rows take memory.
+pub fn take_reply(alloc: Global, bytes: &[u8], at: usize) -> Result<Taken<Reply>, Refusal>
+    // What is taken stands there.
+    ensures found { IfOk result (λ taken. IfTaken taken (IsThere Reply reply_bytes IsReply at (drop at bytes.now))) }
+    // What stands there is taken, whatever follows.
+    ensures only { IfOk result (λ taken. (r : Reply) (rest : List ℕ) → IsReply r → drop at bytes.now ≡ frame (reply_bytes r) ++ rest → taken ≡ Taken.Record r (at + length (frame (reply_bytes r)))) }
+    ensures short { IfOk result (λ taken. (taken ≡ Taken.Short) ↔ IsCut any_length (drop at bytes.now)) }
+    ensures bad { IfOk result (λ taken. IfBad taken (λ place. place ≡ at)) }
+    ensures cause { IfErr result (λ refusal. refusal ≡ Refusal.NoMemory) }
+{
+    take_exact(alloc, bytes, at)
+}
+
+/// How many bytes the reply's frame takes. None where that is 2 to the power of 64 or more.
+#[tactic(auto, unfolding(crate::specs::Replies::reply_bytes), using(crate::proofs::Numbered::number_lengths))]
+fn frame_len(reply: &Reply) -> Option<usize>
+    requires { IsOrdered reply.now }
+    ensures some { IfSome result (λ len. len ≡ 8 + length (reply_bytes reply.now)) }
+    ensures spelled { OnSome result (IsReply reply.now) }
+    ensures none { IfNone result (2 ^ 64 ≤ 8 + length (reply_bytes reply.now)) }
+{
+    match reply {
+        Reply::Connected { .. } | Reply::RedoEnded { .. } => Some(17),
+        Reply::Answered { answer, .. } => Some(25 + optional_answer_len(answer)),
+        Reply::Row { value, .. } => Some(25 + optional_value_len(value)),
+        Reply::Rows { rows, .. } => {
+            let Some(len) = rows_len(rows) else {
+                return None;
+            };
+            len.checked_add(25)
+        }
+        Reply::Checkpointed { .. } => Some(25),
+    }
+}
+
+#[tactic(auto, unfolding(crate::specs::Replies::reply_bytes))]
+fn put_body(out: &mut Vec<u8>, reply: &Reply)
+    requires { HasRoom out.old (reply_bytes reply.now) }
+    ensures { Puts out.old out.new (reply_bytes reply.now) }
+{
+    match reply {
+        Reply::Connected { session } => {
+            put_byte(out, 0x11);
+            put_number(out, *session);
+        }
+        Reply::Answered {
+            session,
+            number,
+            answer,
+        } => {
+            put_byte(out, 0x12);
+            put_number(out, *session);
+            put_number(out, *number);
+            put_optional_answer(out, answer);
+        }
+        Reply::Row {
+            session,
+            read,
+            value,
+        } => {
+            put_byte(out, 0x13);
+            put_number(out, *session);
+            put_number(out, *read);
+            put_optional_value(out, value);
+        }
+        Reply::Rows {
+            session,
+            read,
+            rows,
+        } => {
+            put_byte(out, ROWS);
+            put_number(out, *session);
+            put_number(out, *read);
+            put_rows(out, rows);
+        }
+        Reply::Checkpointed { session, low } => {
+            put_byte(out, 0x15);
+            put_number(out, *session);
+            put_number(out, *low);
+        }
+        Reply::RedoEnded { session } => {
+            put_byte(out, 0x16);
+            put_number(out, *session);
+        }
+    }
+}
+
+/// The kind of a reply that has rows.
+const ROWS: u8 = 0x14;
+
+/// The fields of a kind that takes no memory.
+fn take_plain(kind: u8, bytes: &[u8]) -> Option<(Reply, &[u8])>
+    requires { kind ≢ 20 }
+    ensures { Gives (λ x. (x.0, x.1.now)) result (choose reply_choices kind bytes.now) }
+{
+    match kind {
+        0x11 => {
+            let (session, rest) = take_number(bytes)?;
+            Some((Reply::Connected { session }, rest))
+        }
+        0x12 => {
+            let (session, rest) = take_number(bytes)?;
+            let (number, rest) = take_number(rest)?;
+            let (answer, rest) = take_optional_answer(rest)?;
+            Some((
+                Reply::Answered {
+                    session,
+                    number,
+                    answer,
+                },
+                rest,
+            ))
+        }
+        0x13 => {
+            let (session, rest) = take_number(bytes)?;
+            let (read, rest) = take_number(rest)?;
+            let (value, rest) = take_optional_value(rest)?;
+            Some((
+                Reply::Row {
+                    session,
+                    read,
+                    value,
+                },
+                rest,
+            ))
+        }
+        0x15 => {
+            let (session, rest) = take_number(bytes)?;
+            let (low, rest) = take_number(rest)?;
+            Some((Reply::Checkpointed { session, low }, rest))
+        }
+        0x16 => {
+            let (session, rest) = take_number(bytes)?;
+            Some((Reply::RedoEnded { session }, rest))
+        }
+        _ => None,
+    }
+}
+
+/// The session and the read number of rows.
+fn take_read(bytes: &[u8]) -> Option<((u64, u64), &[u8])>
+    ensures { Gives (λ x. (x.0, x.1.now)) result (pair number_at number_at bytes.now) }
+{
+    let (session, rest) = take_number(bytes)?;
+    let (read, rest) = take_number(rest)?;
+    Some(((session, read), rest))
+}
+
+/// No reply's frame begins another's, so what was written is read back, whatever follows it.
+pub fn reply_spelling_law()
+    ensures { (a b : Reply) (x y : List ℕ) → IsReply a → IsReply b → length (reply_bytes a) < 2 ^ 64 → length (reply_bytes b) < 2 ^ 64
+        → frame (reply_bytes a) ++ x ≡ frame (reply_bytes b) ++ y → (a ≡ b) × (x ≡ y) }
+{}
+
+#[tactic(auto, unfolding(crate::specs::Reading::reply_at))]
+fn take_fields(alloc: Global, bytes: &[u8]) -> Result<(Reply, &[u8]), Fault>
+    ensures { Finds (λ x. (x.0, x.1.now)) result (reply_at bytes.now) }
+{
+    let Some((kind, rest)) = bytes.split_first() else {
+        return Err(Fault::Outside);
+    };
+    if *kind != ROWS {
+        return match take_plain(*kind, rest) {
+            Some(part) => Ok(part),
+            None => Err(Fault::Outside),
+        };
+    }
+    let Some(((session, read), rest)) = take_read(rest) else {
+        return Err(Fault::Outside);
+    };
+    let (rows, rest) = take_rows(alloc, rest)?;
+    Ok((
+        Reply::Rows {
+            session,
+            read,
+            rows,
+        },
+        rest,
+    ))
+}
+
+/// The reply that all of a body spells.
+fn take_all(alloc: Global, body: &[u8]) -> Result<Option<Reply>, Refusal>
+    ensures value { IfOk result (λ reply. reply ≡ all_of reply_at body.now) }
+    ensures cause { IfErr result (λ refusal. refusal ≡ Refusal.NoMemory) }
+{
+    match take_fields(alloc, body) {
+        Ok((reply, rest)) => {
+            if rest.is_empty() {
+                Ok(Some(reply))
+            } else {
+                Ok(None)
+            }
+        }
+        Err(Fault::Outside) => Ok(None),
+        Err(Fault::Memory) => Err(Refusal::NoMemory),
+    }
+}
+
+fn take_exact(alloc: Global, bytes: &[u8], at: usize) -> Result<Taken<Reply>, Refusal>
+    ensures value { IfOk result (λ taken. taken ≡ within at reply_at (frame_at any_length at (drop at bytes.now))) }
+    ensures fits { length bytes.now < 2 ^ 64 }
+    ensures cause { IfErr result (λ refusal. refusal ≡ Refusal.NoMemory) }
+{
+    match take_body(bytes, at, u64::MAX) {
+        Taken::Record(body, next) => match take_all(alloc, body)? {
+            Some(reply) => Ok(Taken::Record(reply, next)),
+            None => Ok(Taken::Bad(at as u64)),
+        },
+        Taken::Short => Ok(Taken::Short),
+        Taken::Bad(place) => Ok(Taken::Bad(place)),
+    }
+}

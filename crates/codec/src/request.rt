@@ -1,0 +1,244 @@
+//! Requests of the transaction component to the data component.
+ghost use Rattle.std.specs.Prelude.{◌≡◌, ◌↔◌, ◌+◌, ◌<◌, ◌≤◌, ◌^◌, ◌++◌, ℕ, List, length, drop, vec_len, vec_capacity, OnOk, OnErr, IfErr};
+ghost use Rattle.codec.specs.declared.request.Request.{Request};
+ghost use Rattle.codec.specs.Requests.{request_bytes, HasRequestNumbers, IsRequest};
+ghost use Rattle.codec.specs.Frames.{frame, any_length, IfTaken, IfBad, IsThere, IsCut};
+ghost use Rattle.codec.specs.Writing.{HasRoom, Puts};
+ghost use Rattle.codec.specs.Reading.{Gives, request_at, all_of, frame_at, within};
+
+use crate::frame::{HEADER_LEN, take_body};
+use crate::lengths::{key_len, op_len, range_len};
+use crate::reading::{take_key, take_number, take_op, take_optional_key};
+use crate::taken::Taken;
+use crate::writing::{put_byte, put_number, put_op, put_optional_key, put_text};
+use record_key::{Key, Op, Refusal};
+
+/// A request of a session. Requests of other sessions than the last that connected are stale.
+#[derive(Debug, Clone, PartialEq, Eq, Drop)]
+pub enum Request {
+    /// The session begins.
+    Connect {
+        session: u64,
+    },
+    /// Do the operation, unless it was done under this number before.
+    Perform {
+        session: u64,
+        number: u64,
+        op: Op,
+    },
+    /// The value at the key.
+    Get {
+        session: u64,
+        read: u64,
+        key: Key,
+    },
+    /// The rows from `low` on, below `high` where there is one.
+    Scan {
+        session: u64,
+        read: u64,
+        low: Key,
+        high: Option<Key>,
+    },
+    /// No number up to `low` is sent again.
+    LowWater {
+        session: u64,
+        low: u64,
+    },
+    /// Make the effects of each number up to `low` stable.
+    Checkpoint {
+        session: u64,
+        low: u64,
+    },
+    /// The operations of earlier sessions have all been sent again.
+    RedoEnd {
+        session: u64,
+    },
+}
+
+/// Appends the request's frame, its one spelling. Where memory for it is refused nothing is appended.
+#[tactic(auto, using(crate::proofs::Numbered::number_lengths))]
+pub fn put_request(out: &mut Vec<u8>, request: &Request) -> Result<(), Refusal>
+    requires { HasRequestNumbers request.now }
+    ensures spelling { OnOk result (out.new.items ≡ out.old.items ++ frame (request_bytes request.now)) }
+    ensures refused { OnErr result (out.new.items ≡ out.old.items) }
+    ensures cause { IfErr result (λ refusal. refusal ≡ Refusal.NoMemory) }
+    ensures room { OnErr result (vec_capacity out.old < vec_len out.old + length (frame (request_bytes request.now))) }
+    ensures has_spelling { IsRequest request.now }
+{
+    let length = body_len(request);
+    out.reserve(HEADER_LEN + length)?;
+    put_number(out, length as u64);
+    put_body(out, request);
+    Ok(())
+}
+
+/// The request whose frame begins at a place, and the place after it. Takes no memory.
+pub fn take_request(bytes: &[u8], at: usize) -> Taken<Request>
+    // What is taken stands there.
+    ensures found { IfTaken result (IsThere Request request_bytes IsRequest at (drop at bytes.now)) }
+    // What stands there is taken, whatever follows.
+    ensures only { (r : Request) (rest : List ℕ) → IsRequest r → drop at bytes.now ≡ frame (request_bytes r) ++ rest → result ≡ Taken.Record r (at + length (frame (request_bytes r))) }
+    ensures short { (result ≡ Taken.Short) ↔ IsCut any_length (drop at bytes.now) }
+    ensures bad { IfBad result (λ place. place ≡ at) }
+{
+    take_exact(bytes, at)
+}
+
+/// No request's frame begins another's, so what was written is read back, whatever follows it.
+pub fn request_spelling_law()
+    ensures { (a b : Request) (x y : List ℕ) → IsRequest a → IsRequest b → frame (request_bytes a) ++ x ≡ frame (request_bytes b) ++ y → (a ≡ b) × (x ≡ y) }
+{}
+
+#[tactic(auto, unfolding(crate::specs::Requests::request_bytes), using(crate::proofs::Numbered::number_lengths))]
+fn body_len(request: &Request) -> usize
+    requires { HasRequestNumbers request.now }
+    ensures len { result ≡ length (request_bytes request.now) }
+    ensures bounded { result ≤ 256 }
+    ensures spelled { IsRequest request.now }
+{
+    match request {
+        Request::Connect { .. } | Request::RedoEnd { .. } => 9,
+        Request::Perform { op, .. } => 17 + op_len(op),
+        Request::Get { key, .. } => 17 + key_len(key),
+        Request::Scan { low, high, .. } => 17 + range_len(low, high),
+        Request::LowWater { .. } | Request::Checkpoint { .. } => 17,
+    }
+}
+
+#[tactic(auto, unfolding(crate::specs::Requests::request_bytes))]
+fn put_body(out: &mut Vec<u8>, request: &Request)
+    requires { HasRoom out.old (request_bytes request.now) }
+    ensures { Puts out.old out.new (request_bytes request.now) }
+{
+    match request {
+        Request::Connect { session } => {
+            put_byte(out, 1);
+            put_number(out, *session);
+        }
+        Request::Perform {
+            session,
+            number,
+            op,
+        } => {
+            put_byte(out, 2);
+            put_number(out, *session);
+            put_number(out, *number);
+            put_op(out, op);
+        }
+        Request::Get { session, read, key } => {
+            put_byte(out, 3);
+            put_number(out, *session);
+            put_number(out, *read);
+            put_text(out, key.as_bytes());
+        }
+        Request::Scan {
+            session,
+            read,
+            low,
+            high,
+        } => {
+            put_byte(out, 4);
+            put_number(out, *session);
+            put_number(out, *read);
+            put_text(out, low.as_bytes());
+            put_optional_key(out, high);
+        }
+        Request::LowWater { session, low } => {
+            put_byte(out, 5);
+            put_number(out, *session);
+            put_number(out, *low);
+        }
+        Request::Checkpoint { session, low } => {
+            put_byte(out, 6);
+            put_number(out, *session);
+            put_number(out, *low);
+        }
+        Request::RedoEnd { session } => {
+            put_byte(out, 7);
+            put_number(out, *session);
+        }
+    }
+}
+
+#[tactic(auto, unfolding(crate::specs::Reading::request_at))]
+fn take_fields(bytes: &[u8]) -> Option<(Request, &[u8])>
+    ensures { Gives (λ x. (x.0, x.1.now)) result (request_at bytes.now) }
+{
+    let (kind, rest) = bytes.split_first()?;
+    match *kind {
+        1 => {
+            let (session, rest) = take_number(rest)?;
+            Some((Request::Connect { session }, rest))
+        }
+        2 => {
+            let (session, rest) = take_number(rest)?;
+            let (number, rest) = take_number(rest)?;
+            let (op, rest) = take_op(rest)?;
+            Some((
+                Request::Perform {
+                    session,
+                    number,
+                    op,
+                },
+                rest,
+            ))
+        }
+        3 => {
+            let (session, rest) = take_number(rest)?;
+            let (read, rest) = take_number(rest)?;
+            let (key, rest) = take_key(rest)?;
+            Some((Request::Get { session, read, key }, rest))
+        }
+        4 => {
+            let (session, rest) = take_number(rest)?;
+            let (read, rest) = take_number(rest)?;
+            let (low, rest) = take_key(rest)?;
+            let (high, rest) = take_optional_key(rest)?;
+            Some((
+                Request::Scan {
+                    session,
+                    read,
+                    low,
+                    high,
+                },
+                rest,
+            ))
+        }
+        5 => {
+            let (session, rest) = take_number(rest)?;
+            let (low, rest) = take_number(rest)?;
+            Some((Request::LowWater { session, low }, rest))
+        }
+        6 => {
+            let (session, rest) = take_number(rest)?;
+            let (low, rest) = take_number(rest)?;
+            Some((Request::Checkpoint { session, low }, rest))
+        }
+        7 => {
+            let (session, rest) = take_number(rest)?;
+            Some((Request::RedoEnd { session }, rest))
+        }
+        _ => None,
+    }
+}
+
+/// The request that all of a body spells.
+fn take_all(body: &[u8]) -> Option<Request>
+    ensures { result ≡ all_of request_at body.now }
+{
+    let (request, rest) = take_fields(body)?;
+    if rest.is_empty() { Some(request) } else { None }
+}
+
+fn take_exact(bytes: &[u8], at: usize) -> Taken<Request>
+    ensures { result ≡ within at request_at (frame_at any_length at (drop at bytes.now)) }
+{
+    match take_body(bytes, at, u64::MAX) {
+        Taken::Record(body, next) => match take_all(body) {
+            Some(request) => Taken::Record(request, next),
+            None => Taken::Bad(at as u64),
+        },
+        Taken::Short => Taken::Short,
+        Taken::Bad(place) => Taken::Bad(place),
+    }
+}

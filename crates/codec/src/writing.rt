@@ -1,0 +1,156 @@
+//! The writers of a frame's parts, at the end of a vector that has room for them.
+ghost use Rattle.codec.specs.Fields.{number, text, optional, op_bytes, answer_bytes};
+ghost use Rattle.codec.specs.Writing.{HasRoom, Puts};
+ghost use Rattle.std.specs.Prelude.{◌∷◌, [], ◌<◌, ◌++◌, length};
+
+use byteorder::{BigEndian, ByteOrder};
+use record_key::{Answer, Key, Op, Value};
+
+pub(crate) fn put_bytes(out: &mut Vec<u8>, bytes: &[u8])
+    requires { HasRoom out.old bytes.now }
+    ensures { Puts out.old out.new bytes.now }
+{
+    match out.extend_from_slice(bytes) {
+        Ok(()) => {}
+        Err(_) => unreachable!(),
+    }
+}
+
+/// A kind, a flag or a length.
+pub(crate) fn put_byte(out: &mut Vec<u8>, byte: u8)
+    requires { HasRoom out.old (byte ∷ []) }
+    ensures { Puts out.old out.new (byte ∷ []) }
+{
+    put_bytes(out, &[byte]);
+}
+
+#[tactic(auto, unfolding(crate::specs::Fields::number))]
+pub(crate) fn put_number(out: &mut Vec<u8>, n: u64)
+    requires { HasRoom out.old (number n) }
+    ensures { Puts out.old out.new (number n) }
+{
+    let mut bytes = [0; 8];
+    BigEndian::write_u64(&mut bytes, n);
+    put_bytes(out, &bytes);
+}
+
+/// The text of a key or a value, behind its length.
+pub(crate) fn put_text(out: &mut Vec<u8>, bytes: &[u8])
+    requires room { HasRoom out.old (text bytes.now) }
+    requires short { length bytes.now < 256 }
+    ensures { Puts out.old out.new (text bytes.now) }
+{
+    put_byte(out, bytes.len() as u8);
+    put_bytes(out, bytes);
+}
+
+/// A key, then a value.
+pub(crate) fn put_row(out: &mut Vec<u8>, key: &Key, value: &Value)
+    requires { HasRoom out.old (text key.now ++ text value.now) }
+    ensures { Puts out.old out.new (text key.now ++ text value.now) }
+{
+    put_text(out, key.as_bytes());
+    put_text(out, value.as_bytes());
+}
+
+#[tactic(auto, unfolding(crate::specs::Fields::op_bytes))]
+pub(crate) fn put_op(out: &mut Vec<u8>, op: &Op)
+    requires { HasRoom out.old (op_bytes op.now) }
+    ensures { Puts out.old out.new (op_bytes op.now) }
+{
+    match op {
+        Op::Insert(key, value) => {
+            put_byte(out, 1);
+            put_row(out, key, value);
+        }
+        Op::Update(key, value) => {
+            put_byte(out, 2);
+            put_row(out, key, value);
+        }
+        Op::Upsert(key, value) => {
+            put_byte(out, 3);
+            put_row(out, key, value);
+        }
+        Op::Delete(key) => {
+            put_byte(out, 4);
+            put_text(out, key.as_bytes());
+        }
+    }
+}
+
+pub(crate) fn put_optional_key(out: &mut Vec<u8>, key: &Option<Key>)
+    requires { HasRoom out.old (optional text key.now) }
+    ensures { Puts out.old out.new (optional text key.now) }
+{
+    match key {
+        None => put_byte(out, 0),
+        Some(key) => {
+            put_byte(out, 1);
+            put_text(out, key.as_bytes());
+        }
+    }
+}
+
+pub(crate) fn put_optional_op(out: &mut Vec<u8>, op: &Option<Op>)
+    requires { HasRoom out.old (optional op_bytes op.now) }
+    ensures { Puts out.old out.new (optional op_bytes op.now) }
+{
+    match op {
+        None => put_byte(out, 0),
+        Some(op) => {
+            put_byte(out, 1);
+            put_op(out, op);
+        }
+    }
+}
+
+#[tactic(auto, unfolding(crate::specs::Fields::answer_bytes))]
+pub(crate) fn put_answer(out: &mut Vec<u8>, answer: &Answer)
+    requires { HasRoom out.old (answer_bytes answer.now) }
+    ensures { Puts out.old out.new (answer_bytes answer.now) }
+{
+    match answer {
+        Answer::Inserted => put_byte(out, 1),
+        Answer::Updated(value) => {
+            put_byte(out, 2);
+            put_text(out, value.as_bytes());
+        }
+        Answer::Was(None) => put_byte(out, 3),
+        Answer::Was(Some(value)) => {
+            put_byte(out, 4);
+            put_text(out, value.as_bytes());
+        }
+        Answer::Deleted(value) => {
+            put_byte(out, 5);
+            put_text(out, value.as_bytes());
+        }
+        Answer::Exists => put_byte(out, 6),
+        Answer::NoRecord => put_byte(out, 7),
+    }
+}
+
+pub(crate) fn put_optional_value(out: &mut Vec<u8>, value: &Option<Value>)
+    requires { HasRoom out.old (optional text value.now) }
+    ensures { Puts out.old out.new (optional text value.now) }
+{
+    match value {
+        None => put_byte(out, 0),
+        Some(value) => {
+            put_byte(out, 1);
+            put_text(out, value.as_bytes());
+        }
+    }
+}
+
+pub(crate) fn put_optional_answer(out: &mut Vec<u8>, answer: &Option<Answer>)
+    requires { HasRoom out.old (optional answer_bytes answer.now) }
+    ensures { Puts out.old out.new (optional answer_bytes answer.now) }
+{
+    match answer {
+        None => put_byte(out, 0),
+        Some(answer) => {
+            put_byte(out, 1);
+            put_answer(out, answer);
+        }
+    }
+}

@@ -1,0 +1,38 @@
+-- What restart and rollback rest on: compensations take the operations of a transaction latest first, each
+-- once (ARIES), and nobody else touches a key while its transaction is open (strict two-phase locking).
+use Rattle.std.specs.Prelude.{◌≡◌, ◌≢◌, ◌⊎◌, ℕ, ◌<◌, List, [], ◌∷◌, Option, Some, None, IsSome}
+use Rattle.record_key.specs.declared.op.Op.{Op}
+use Rattle.record_key.specs.Table.{Bytes, key_of}
+use Rattle.history.specs.declared.record.Record.{Record}
+use Rattle.history.specs.declared.record.Record.TheVariants as is
+use Rattle.history.specs.Log.{record_at, before, answer_of, Requests, IsStepOf, IsOpBy}
+use Rattle.history.specs.Legal.{IsLatest, IsLatestOrNone, Stands}
+
+-- each compensation names its transaction's latest operation that none before it names, so none twice,
+-- and its undo-next is the latest earlier one that is left
+abbrev pub IsWellChained : List Record → Type 0
+IsWellChained [] = Unit {0}
+IsWellChained (is.Comp t u x i ∷ log) = IsLatest (Stands log t) u × IsLatestOrNone (λ n. Stands log t n × (n < u)) x × IsWellChained log
+IsWellChained (r ∷ log) = IsWellChained log
+
+-- a Commit or End of the transaction stands at this number
+abbrev pub IsEndOf : List Record → ℕ → ℕ → Type 0
+IsEndOf log t n = (record_at log n ≡ Some (is.Commit t)) ⊎ (record_at log n ≡ Some (is.End t))
+
+-- the transaction ended between two numbers
+pub record EndsBetween (log : List Record) (t n m : ℕ) : Type 0 where
+  pub end : ℕ
+  pub is : IsEndOf log t end
+  pub after : n < end
+  pub before : end < m
+
+-- between an operation and a later request of another transaction on its key, its transaction ended
+abbrev pub IsStrict : List Record → Type 0
+IsStrict log =
+    (n m t u : ℕ) (o q : Op) → IsOpBy log n t o → n < m → IsStepOf log u m → Requests log m q → key_of q ≡ key_of o → u ≢ t
+    → EndsBetween log t n m
+
+-- of two requests on a key the earlier is answered before the later one stands
+abbrev pub IsOneAtATime : List Record → Type 0
+IsOneAtATime log =
+    (n m : ℕ) (o q : Op) → Requests log n o → n < m → Requests log m q → key_of q ≡ key_of o → IsSome (answer_of (before log m) n)

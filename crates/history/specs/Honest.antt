@@ -1,0 +1,51 @@
+-- When a leaf is honest for a log: of each of its keys it has captured a beginning of what the log does there.
+use Rattle.std.specs.Prelude.{◌≡◌, ℕ, ◌+◌, ◌<◌, ◌≤◌, ◌==◌, ◌||◌, Bool, true, false, List, [], ◌∷◌, Option, Some, None, length, nat_le, if◌then◌else◌}
+use Rattle.std.specs.List.{AllByRecursion, list_any}
+use Rattle.std.specs.Bool.{MatchBool}
+use Rattle.record_key.specs.declared.op.Op.{Op}
+use Rattle.record_key.specs.declared.op.Answer.{Answer}
+use Rattle.record_key.specs.Table.{Bytes, key_of, answer_at, value_after}
+use Rattle.history.specs.declared.record.Record.{Record}
+use Rattle.history.specs.Log.{request_of}
+use Rattle.history.specs.Values.{is_on}
+
+-- a number with what it has done
+pub record Done : Type 0 where
+  pub number : ℕ
+  pub op : Op
+
+abbrev pub done_with : Bytes → ℕ → Option Op → List Done → List Done
+done_with k n None rest = rest
+done_with k n (Some o) rest = if is_on k o then record { number = n; op = o } ∷ rest else rest
+
+-- a log's numbers on a key, the newest first
+abbrev pub done_on : Bytes → List Record → List Done
+done_on k [] = []
+done_on k (r ∷ log) = done_with k (length log + 1) (request_of r) (done_on k log)
+
+-- a number is captured: it is at most the low number, or stands in the set
+abbrev pub captured : ℕ → List ℕ → ℕ → Bool
+captured low numbers n = nat_le n low || list_any (λ m. n == m) numbers
+
+abbrev pub AreCaptured : (ℕ → Bool) → List Done → Type 0
+AreCaptured cap done = AllByRecursion (λ d. cap d.number ≡ true) done
+
+-- the captured ones are a beginning
+abbrev pub IsBeginning : (ℕ → Bool) → List Done → Type 0
+IsBeginning cap [] = Unit {0}
+IsBeginning cap (d ∷ done) = MatchBool (cap d.number) (AreCaptured cap done) (IsBeginning cap done)
+
+-- the value, or its absence, that the captured ones give
+abbrev pub value_of : (ℕ → Bool) → List Done → Option Bytes
+value_of cap [] = None
+value_of cap (d ∷ done) = if cap d.number then value_after d.op (value_of cap done) else value_of cap done
+
+-- a saved answer is the one given at its place
+abbrev pub IsSavedAnswer : (ℕ → Bool) → List Done → ℕ → Answer → Type 0
+IsSavedAnswer cap [] n a = ⊥
+IsSavedAnswer cap (d ∷ done) n a = MatchBool (d.number == n) (a ≡ answer_at d.op (value_of cap done)) (IsSavedAnswer cap done n a)
+
+-- honest at one key, where the leaf has this value
+pub record IsHonestAt (log : List Record) (cap : ℕ → Bool) (k : Bytes) (value : Option Bytes) : Type 0 where
+  pub beginning : IsBeginning cap (done_on k log)
+  pub right : value ≡ value_of cap (done_on k log)

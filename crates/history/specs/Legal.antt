@@ -1,0 +1,88 @@
+-- When a record fits the records before it, and so which logs are legal.
+use Rattle.std.specs.Prelude.{◌≡◌, ◌≢◌, ◌⊎◌, ℕ, ◌<◌, ◌≤◌, false, List, [], ◌∷◌, Option, Some, None, IsSome, length}
+use Rattle.record_key.specs.declared.op.Op.{Op}
+use Rattle.record_key.specs.declared.op.Answer.{Answer}
+use Rattle.record_key.specs.Table.{Bytes, key_of}
+use Rattle.inverse.specs.Inverse.{inverse_of}
+use Rattle.history.specs.declared.record.Record.{Record}
+use Rattle.history.specs.declared.record.Record.TheVariants as is
+use Rattle.history.specs.Log.{record_at, answer_of, is_crossed, IsOpen, Requests, IsStepOf, IsOpBy}
+
+-- the greatest number of a kind
+pub record IsLatest (P : ℕ → Type 0) (n : ℕ) : Type 0 where
+  pub is : P n
+  pub greatest : (m : ℕ) → P m → m ≤ n
+
+-- the greatest, or 0 where there is none
+abbrev pub IsLatestOrNone : (ℕ → Type 0) → ℕ → Type 0
+IsLatestOrNone P n = IsLatest P n ⊎ ((n ≡ 0) × ((m : ℕ) → P m → ⊥))
+
+-- an operation of the transaction that no compensation names
+pub record Stands (log : List Record) (t n : ℕ) : Type 0 where
+  pub op : Op
+  pub is : IsOpBy log n t op
+  pub uncrossed : is_crossed log n ≡ false
+
+-- no request of the transaction waits for its answer
+abbrev pub IsIdle : List Record → ℕ → Type 0
+IsIdle log t = (n : ℕ) (o : Op) → IsStepOf log t n → Requests log n o → IsSome (answer_of log n)
+
+-- no other open transaction has an operation on the key, undone or not
+abbrev pub IsKeyFree : List Record → ℕ → Bytes → Type 0
+IsKeyFree log t k = (n u : ℕ) (o : Op) → IsOpBy log n u o → key_of o ≡ k → IsOpen log u → u ≡ t
+
+-- the inverse of an answered operation
+pub record Inverts (log : List Record) (u : ℕ) (i : Option Op) : Type 0 where
+  pub txn : ℕ
+  pub op : Op
+  pub answer : Answer
+  pub is : IsOpBy log u txn op
+  pub answered : answer_of log u ≡ Some answer
+  pub inverse : i ≡ inverse_of op answer
+
+pub record FitsOp (log : List Record) (t p : ℕ) (o : Op) : Type 0 where
+  pub open_txn : IsOpen log t
+  pub idle : IsIdle log t
+  pub prev : IsLatestOrNone (IsStepOf log t) p
+  pub free : IsKeyFree log t (key_of o)
+
+pub record FitsAnswer (log : List Record) (n : ℕ) : Type 0 where
+  pub op : Op
+  pub requested : Requests log n op
+  pub unanswered : answer_of log n ≡ None
+
+pub record FitsComp (log : List Record) (t u x : ℕ) (i : Option Op) : Type 0 where
+  pub open_txn : IsOpen log t
+  pub idle : IsIdle log t
+  pub latest : IsLatest (Stands log t) u
+  pub next : IsLatestOrNone (λ n. Stands log t n × (n < u)) x
+  pub inverse : Inverts log u i
+
+pub record FitsCommit (log : List Record) (t : ℕ) : Type 0 where
+  pub open_txn : IsOpen log t
+  pub idle : IsIdle log t
+
+pub record FitsEnd (log : List Record) (t : ℕ) : Type 0 where
+  pub open_txn : IsOpen log t
+  pub idle : IsIdle log t
+  pub undone : (n : ℕ) → Stands log t n → ⊥
+
+pub record FitsCheckpoint (log : List Record) (low : ℕ) : Type 0 where
+  pub within : low ≤ length log
+  pub answered : (n : ℕ) (o : Op) → n ≤ low → Requests log n o → IsSome (answer_of log n)
+
+-- the record may follow the log
+abbrev pub Fits : List Record → Record → Type 0
+Fits log is.Session = Unit {0}
+Fits log is.Begin = Unit {0}
+Fits log (is.Op t p o) = FitsOp log t p o
+Fits log (is.Answer n a) = FitsAnswer log n
+Fits log (is.Comp t u x i) = FitsComp log t u x i
+Fits log (is.Commit t) = FitsCommit log t
+Fits log (is.End t) = FitsEnd log t
+Fits log (is.Checkpoint l) = FitsCheckpoint log l
+
+-- each record fits those before it
+abbrev pub IsLegal : List Record → Type 0
+IsLegal [] = Unit {0}
+IsLegal (r ∷ log) = Fits log r × IsLegal log

@@ -1,0 +1,54 @@
+-- Spans of keys that transactions hold, and when two of them conflict.
+use Rattle.std.specs.Prelude.{◌≡◌, ◌⊎◌, ℕ, ◌&&◌, Bool, true, false, not, List, [], ◌∷◌, ◌++◌, Option, Some, None, IsTrue, filter}
+use Rattle.std.specs.Ordering.{is_lt}
+use Rattle.std.specs.FinMap as table
+use Rattle.record_key.specs.Table.{Bytes, Table}
+use Rattle.record_key.specs.Laws.{key_cmp}
+
+-- what a span is held for
+pub data Mode : Type 0 where
+  Shared : Mode
+  Exclusive : Mode
+
+-- two modes agree only where both are shared
+abbrev pub do_conflict : Mode → Mode → Bool
+do_conflict Shared Shared = false
+do_conflict Shared Exclusive = true
+do_conflict Exclusive m = true
+
+-- keys from lo on and below hi, or to the end
+pub record Span : Type 0 where
+  pub lo : Bytes
+  pub hi : Option Bytes
+  pub mode : Mode
+
+abbrev pub is_below : Bytes → Bytes → Bool
+is_below a b = is_lt (key_cmp a b)
+
+abbrev pub ends_above : Option Bytes → Bytes → Bool
+ends_above None k = true
+ends_above (Some hi) k = is_below k hi
+
+abbrev pub is_within : Span → Bytes → Bool
+is_within s k = not (is_below k s.lo) && ends_above s.hi k
+
+-- a range has its upper end above its lower one
+abbrev pub IsRange : Span → Type 0
+IsRange s = IsTrue (ends_above s.hi s.lo)
+
+-- one key: from it to the next text, which has a 0 at its end
+abbrev pub at_key : Mode → Bytes → Span
+at_key m k = record { lo = k; hi = Some (k ++ 0 ∷ []); mode = m }
+
+-- they share a key, and their modes conflict
+abbrev pub Conflict : Span → Span → Type 0
+Conflict s r = (k : Bytes) × IsTrue (is_within s k) × IsTrue (is_within r k) × IsTrue (do_conflict s.mode r.mode)
+
+-- one of these conflicts with it
+abbrev pub AnyConflict : Span → List Span → Type 0
+AnyConflict s [] = ⊥
+AnyConflict s (r ∷ rs) = Conflict s r ⊎ AnyConflict s rs
+
+-- the rows of a table in a span, in key order
+abbrev pub rows_in : Span → Table → List (Bytes × Bytes)
+rows_in s m = filter (λ row. is_within s row.0) (table.entries m)

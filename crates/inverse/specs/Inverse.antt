@@ -1,0 +1,54 @@
+-- What undoes an operation.
+use Rattle.std.specs.Prelude.{◌≡◌, ◌≢◌, List, [], ◌∷◌, Option, Some, None}
+use Rattle.std.specs.List.{AllByRecursion}
+use Rattle.record_key.specs.declared.op.Op.{Op}
+use Rattle.record_key.specs.declared.op.Op.TheVariants.{Insert, Update, Delete}
+use Rattle.record_key.specs.declared.op.Answer.{Answer}
+use Rattle.record_key.specs.declared.op.Answer.TheVariants.{Inserted, Updated, Was, Deleted, Exists, NoRecord}
+use Rattle.record_key.specs.Table.{Bytes, Table, key_of, answer_in, after}
+
+-- by the key and the answer alone
+abbrev pub undo_of : Bytes → Answer → Option Op
+undo_of k Inserted = Some (Delete k)
+undo_of k (Updated old) = Some (Update k old)
+undo_of k (Was None) = Some (Delete k)
+undo_of k (Was (Some old)) = Some (Update k old)
+undo_of k (Deleted old) = Some (Insert k old)
+undo_of k Exists = None
+undo_of k NoRecord = None
+
+abbrev pub inverse_of : Op → Answer → Option Op
+inverse_of o a = undo_of (key_of o) a
+
+-- the answer of an operation that did something
+abbrev pub IsEffective : Answer → Type 0
+IsEffective Inserted = Unit {0}
+IsEffective (Updated old) = Unit {0}
+IsEffective (Was old) = Unit {0}
+IsEffective (Deleted old) = Unit {0}
+IsEffective Exists = ⊥
+IsEffective NoRecord = ⊥
+
+-- the table after operations in order, and their answers
+abbrev pub after_all : Table → List Op → Table
+after_all m [] = m
+after_all m (o ∷ os) = after_all (after m o) os
+
+abbrev pub answers_in : Table → List Op → List Answer
+answers_in m [] = []
+answers_in m (o ∷ os) = answer_in m o ∷ answers_in (after m o) os
+
+-- none of the operations is on the key
+abbrev pub AreElsewhere : Bytes → List Op → Type 0
+AreElsewhere k os = AllByRecursion (λ o. key_of o ≢ k) os
+
+-- an operation, others on other keys, and then its inverse leave what the others leave
+abbrev pub Undone : Type 0
+Undone = (m : Table) (o i : Op) (w : List Op) → inverse_of o (answer_in m o) ≡ Some i → AreElsewhere (key_of o) w
+    → (after (after_all (after m o) w) i ≡ after_all m w)
+    × (answers_in (after m o) w ≡ answers_in m w)
+    × IsEffective (answer_in (after_all (after m o) w) i)
+
+-- an operation that has no inverse did nothing
+abbrev pub WithoutEffect : Type 0
+WithoutEffect = (m : Table) (o : Op) → inverse_of o (answer_in m o) ≡ None → after m o ≡ m

@@ -1,0 +1,12 @@
+pub mod Records
+pub mod LegalLogs
+pub mod Strict
+pub mod Undo
+pub mod Values
+pub mod Compensations
+pub mod Cancel
+pub mod Plain
+pub mod Rows
+pub mod Reading
+pub mod Checking
+pub mod Named

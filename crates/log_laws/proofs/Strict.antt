@@ -1,0 +1,251 @@
+-- Compensations come latest first, an open transaction has its keys to itself, and requests on a key come one at a time.
+use Rattle.std.proofs.Common.{◌≡◌, ◌≢◌, ℕ, ◌+◌, ◌<◌, true, List, [], ◌∷◌, length, Option, Some, None, IsSome, refl, sym, ap, ◌∙◌, subst, arith, inl, inr, ◌⊎◌, true≢false}
+use Rattle.std.proofs.lemmas.Bool.{cases_eq, cases_Bool, cases_order, eq-eqb}
+use Rattle.record_key.specs.declared.op.Op.{Op}
+use Rattle.record_key.specs.Table.{key_of}
+use Rattle.inverse.proofs.Undo.{inverse_key}
+use Rattle.history.specs.declared.record.Record.{Record}
+use Rattle.history.specs.declared.record.Record.TheVariants as is
+use Rattle.history.specs.Log.{record_at, answer_of, has_ended, IsOpen, Requests, IsStepOf, IsOpBy}
+use Rattle.history.specs.Legal.{Fits, IsLegal, IsIdle}
+use Rattle.history.specs.Chains.{IsWellChained, IsStrict, IsEndOf, EndsBetween}
+use Rattle.log_laws.specs.Laws.{LegalIsChainedAndStrict, LegalIsOneAtATime}
+use Rattle.log_laws.proofs.Records.{AStep, AnOp, ARequest, op_step, op_request, request_step, op_same, at_newest, newest_at, older_at, had_at, kept_at, IsNumber, which, not_newest, within, before_newest, before_older}
+use Rattle.log_laws.proofs.LegalLogs.{ended_push, ended_cases, answered_push, step_open, step_idle, step_ends_none, begun, op_number, request_number, step_number}
+
+-- each compensation fits, so it takes the latest and leaves the next
+pub well_chained : (log : List Record) → IsLegal log → IsWellChained log
+well_chained [] h = tt
+well_chained (is.Comp t u x i ∷ log) h = (h.0.latest, h.0.next, well_chained log h.1)
+well_chained (r ∷ log) h = well_chained log h.1
+
+-- an end of the transaction stands after this number
+pub record EndsAfter (log : List Record) (t n : ℕ) : Type 0 where
+  pub end : ℕ
+  pub is_end : IsEndOf log t end
+  pub after : n < end
+
+-- a record of which it can be said that it is a Commit or End of the transaction
+abbrev pub AnEnd : ℕ → Option Record → Type 0
+AnEnd t r = (r ≡ Some (is.Commit t)) ⊎ (r ≡ Some (is.End t))
+
+-- no record is no end
+no_end : (t : ℕ) → AnEnd t None → ⊥
+no_end t (inl e) = cc
+no_end t (inr e) = cc
+
+-- a record that is an end is one where it stands
+some_end : (t : ℕ) (r : Record) → (r ≡ is.Commit t) ⊎ (r ≡ is.End t) → AnEnd t (Some r)
+some_end t r (inl e) = inl (ap Some e)
+some_end t r (inr e) = inr (ap Some e)
+
+-- an end is a number of the log
+pub end_number : (log : List Record) (t n : ℕ) → IsEndOf log t n → IsNumber log n
+end_number log t n h = within (AnEnd t) (no_end t) log n h
+
+-- and stays one in a longer log
+kept_end : (r : Record) (log : List Record) (t n : ℕ) → EndsAfter log t n → EndsAfter (r ∷ log) t n
+kept_end r log t n h = record { end = h.end; is_end = kept_at (AnEnd t) r log h.end (end_number log t h.end h.is_end) h.is_end; after = h.after }
+
+-- a transaction that has a step and has ended did so after the step
+pub ended_after : (log : List Record) (t n : ℕ) → IsLegal log → IsStepOf log t n → has_ended log t ≡ true → EndsAfter log t n
+ended_after [] t n h s ended = absurd (cc)
+ended_after (r ∷ log) t n h s ended =
+    elim (which r log n (step_number (r ∷ log) n t s)) [
+      | inl e ↦
+          let step : AStep t (Some r) = newest_at (AStep t) r log n e s in
+          absurd (true≢false (sym ended ∙ step_ends_none log r t t step ∙ (step_open log r t h.0 step).goes_on))
+      | inr was ↦
+          elim (ended_cases t r log ended) [
+            | inl ago ↦ kept_end r log t n (ended_after log t n h.1 (had_at (AStep t) r log n was s) ago)
+            | inr now ↦ record { end = length log + 1; is_end = at_newest (AnEnd t) r log (length log + 1) refl (some_end t r now); after = omega (arith, was.bounded) }
+          ]
+    ]
+
+-- an end of a transaction ends it
+is_end_ends : (t : ℕ) (r : Record) (log : List Record) → AnEnd t (Some r) → has_ended (r ∷ log) t ≡ true
+is_end_ends t r log (inl e) = let same : r ≡ is.Commit t = cc in rw (same, eq-eqb t t refl) refl
+is_end_ends t r log (inr e) = let same : r ≡ is.End t = cc in rw (same, eq-eqb t t refl) refl
+
+-- so it does from its number on
+pub end_ends : (log : List Record) (t n : ℕ) → IsEndOf log t n → has_ended log t ≡ true
+end_ends [] t n h = absurd (no_end t h)
+end_ends (r ∷ log) t n h =
+    elim (cases_eq n (length log + 1)) [
+      | inl e ↦ is_end_ends t r log (newest_at (AnEnd t) r log n e h)
+      | inr e ↦ ended_push t r log (end_ends log t n (older_at (AnEnd t) r log n e h))
+    ]
+
+-- what lies between two numbers does so in a longer log
+longer_between : (r : Record) (log : List Record) (t n m : ℕ) → EndsBetween log t n m → EndsBetween (r ∷ log) t n m
+longer_between r log t n m h =
+    record { end = h.end; is = kept_at (AnEnd t) r log h.end (end_number log t h.end h.is) h.is; after = h.after; before = h.before }
+
+-- the transaction of an older operation is open or ended since
+open_or_ended : (log : List Record) (t n : ℕ) → IsLegal log → IsStepOf log t n → IsOpen log t ⊎ EndsAfter log t n
+open_or_ended log t n h s =
+    elim (cases_Bool (has_ended log t)) [
+      | inl ended ↦ inr (ended_after log t n h s ended)
+      | inr goes_on ↦ inl (record { begun = begun log t n h s; goes_on = goes_on })
+    ]
+
+-- what lies after a number lies between it and the newest
+between_newest : (r : Record) (log : List Record) (t n m : ℕ) → m ≡ length log + 1 → EndsAfter log t n → EndsBetween (r ∷ log) t n m
+between_newest r log t n m e h =
+    let is_number : IsNumber log h.end = end_number log t h.end h.is_end in
+    record { end = h.end; is = kept_at (AnEnd t) r log h.end is_number h.is_end; after = h.after; before = omega (arith, is_number.bounded) }
+
+-- what strictness says at the newest record
+abbrev StrictAt : Record → List Record → Type 0
+StrictAt r log = (n t u : ℕ) (o q : Op) → IsOpBy log n t o → AStep u (Some r) → ARequest q (Some r) → key_of q ≡ key_of o → u ≢ t → EndsAfter log t n
+
+-- an Op needs a free key; a Comp is on the key of its own operation, which is strict towards the other
+strict_at : (r : Record) (log : List Record) → Fits log r → IsLegal log → IsStrict log → StrictAt r log
+strict_at (is.Op v p q') log fits legal strict n t u o q is_op s asks same other =
+    elim (open_or_ended log t n legal (op_step t o (record_at log n) is_op)) [
+      | inl goes_on ↦
+          let one : v ≡ u = cc in
+          let ask : q' ≡ q = cc in
+          absurd (other (sym (fits.free n t o is_op (sym same ∙ ap key_of (sym ask)) goes_on ∙ one)))
+      | inr ended ↦ ended
+    ]
+strict_at (is.Comp v w x i) log fits legal strict n t u o q is_op s asks same other =
+    let undone = fits.inverse in
+    let one : v ≡ u = cc in
+    let latest = fits.latest.is in
+    let is_latest : IsOpBy log w u undone.op =
+    subst (λ (z : ℕ). IsOpBy log w z undone.op) ((op_same undone.txn v undone.op latest.op (record_at log w) undone.is latest.is).0 ∙ one) undone.is in
+    let key : key_of q ≡ key_of undone.op = inverse_key undone.op q undone.answer (sym undone.inverse ∙ asks) in
+    elim (cases_order n w) [
+      | inl e ↦ absurd (other (op_same u t undone.op o (record_at log w) is_latest (subst (λ (z : ℕ). IsOpBy log z t o) e is_op)).0)
+      | inr (inl below) ↦
+          let found = strict n w t u o undone.op is_op below (op_step u undone.op (record_at log w) is_latest) (op_request u undone.op (record_at log w) is_latest) (sym key ∙ same) other in
+          record { end = found.end; is_end = found.is; after = found.after }
+      | inr (inr above) ↦
+          let found = strict w n u t undone.op o is_latest above (op_step t o (record_at log n) is_op) (op_request t o (record_at log n) is_op) (sym same ∙ key) (λ e. other (sym e)) in
+          absurd (true≢false (sym (end_ends log u found.end found.is) ∙ ap (has_ended log) (sym one) ∙ fits.open_txn.goes_on))
+    ]
+strict_at _ log fits legal strict n t u o q is_op s asks same other = absurd (cc)
+
+-- a legal log is strict
+pub strict : (log : List Record) → IsLegal log → IsStrict log
+strict [] legal n m t u o q is_op below s asks same other = absurd (cc)
+strict (r ∷ log) legal n m t u o q is_op below s asks same other =
+    let older : IsNumber log n = record {
+      positive = (op_number (r ∷ log) n t o is_op).positive;
+      bounded = omega (arith, (step_number (r ∷ log) m u s).bounded);
+    } in
+    elim (which r log m (step_number (r ∷ log) m u s)) [
+      | inl e ↦
+          between_newest r log t n m e (strict_at r log legal.0 legal.1 (strict log legal.1) n t u o q
+          (had_at (AnOp t o) r log n older is_op) (newest_at (AStep u) r log m e s) (newest_at (ARequest q) r log m e asks) same other)
+      | inr was ↦
+          longer_between r log t n m (strict log legal.1 n m t u o q
+          (had_at (AnOp t o) r log n older is_op) below (had_at (AStep u) r log m was s) (had_at (ARequest q) r log m was asks) same other)
+    ]
+
+-- the law
+pub chained_and_strict : LegalIsChainedAndStrict
+chained_and_strict log h = (well_chained log h, strict log h)
+
+-- at a Commit or End the transaction is idle
+end_idle : (r : Record) (log : List Record) (t : ℕ) → Fits log r → (r ≡ is.Commit t) ⊎ (r ≡ is.End t) → IsIdle log t
+end_idle r log t fits (inl e) = (subst (Fits log) e fits).idle
+end_idle r log t fits (inr e) = (subst (Fits log) e fits).idle
+
+-- an operation on the key of a step's request, of the same transaction: its own, or the one that it undoes
+record OnKey (log : List Record) (t : ℕ) (o : Op) : Type 0 where
+  number : ℕ
+  op : Op
+  is_op : IsOpBy log number t op
+  same_key : key_of op ≡ key_of o
+
+-- it stays in a longer log
+kept_key : (r : Record) (log : List Record) (t : ℕ) (o : Op) → OnKey log t o → OnKey (r ∷ log) t o
+kept_key r log t o h = record {
+  number = h.number;
+  op = h.op;
+  is_op = kept_at (AnOp t h.op) r log h.number (op_number log h.number t h.op h.is_op) h.is_op;
+  same_key = h.same_key;
+}
+
+-- at the newest record
+on_key_newest : (r : Record) (log : List Record) (t : ℕ) (o : Op) → Fits log r → AStep t (Some r) → ARequest o (Some r) → OnKey (r ∷ log) t o
+on_key_newest (is.Op u p q) log t o fits s asks =
+    let one : u ≡ t = cc in
+    let ask : q ≡ o = cc in
+    record {
+      number = length log + 1;
+      op = q;
+      is_op = at_newest (AnOp t q) (is.Op u p q) log (length log + 1) refl (ap (λ (z : ℕ). Some (z, q)) one);
+      same_key = ap key_of ask;
+    }
+on_key_newest (is.Comp u w x i) log t o fits s asks =
+    let undone = fits.inverse in
+    let one : u ≡ t = cc in
+    let latest = fits.latest.is in
+    kept_key (is.Comp u w x i) log t o (record {
+      number = w;
+      op = undone.op;
+      is_op = subst (λ (z : ℕ). IsOpBy log w z undone.op) ((op_same undone.txn u undone.op latest.op (record_at log w) undone.is latest.is).0 ∙ one) undone.is;
+      same_key = sym (inverse_key undone.op o undone.answer (sym undone.inverse ∙ asks));
+    })
+on_key_newest _ log t o fits s asks = absurd (cc)
+
+-- at any
+on_key : (log : List Record) → IsLegal log → (n t : ℕ) (o : Op) → IsStepOf log t n → Requests log n o → OnKey log t o
+on_key [] h n t o s asks = absurd (cc)
+on_key (r ∷ log) h n t o s asks =
+    elim (cases_eq n (length log + 1)) [
+      | inl e ↦ on_key_newest r log t o h.0 (newest_at (AStep t) r log n e s) (newest_at (ARequest o) r log n e asks)
+      | inr e ↦ kept_key r log t o (on_key log h.1 n t o (older_at (AStep t) r log n e s) (older_at (ARequest o) r log n e asks))
+    ]
+
+-- a request of a transaction that has ended is answered
+ended_answered : (log : List Record) (t n : ℕ) (o : Op) → IsLegal log → has_ended log t ≡ true → IsStepOf log t n → Requests log n o → IsSome (answer_of log n)
+ended_answered [] t n o h ended s asks = absurd (cc)
+ended_answered (r ∷ log) t n o h ended s asks =
+    elim (which r log n (step_number (r ∷ log) n t s)) [
+      | inl e ↦
+          let step : AStep t (Some r) = newest_at (AStep t) r log n e s in
+          absurd (true≢false (sym ended ∙ step_ends_none log r t t step ∙ (step_open log r t h.0 step).goes_on))
+      | inr was ↦
+          let step : IsStepOf log t n = had_at (AStep t) r log n was s in
+          let asked : Requests log n o = had_at (ARequest o) r log n was asks in
+          answered_push n r log (elim (ended_cases t r log ended) [
+            | inl ago ↦ ended_answered log t n o h.1 ago step asked
+            | inr now ↦ end_idle r log t h.0 now n o step asked
+          ])
+    ]
+
+-- the older of two requests on a key is answered where the newer one fits
+answered_at : (r : Record) (log : List Record) → Fits log r → IsLegal log → (n t u : ℕ) (o q : Op)
+    → IsStepOf log t n → Requests log n o → AStep u (Some r) → ARequest q (Some r) → key_of q ≡ key_of o → IsSome (answer_of log n)
+answered_at r log fits legal n t u o q s asks step ask same =
+    elim (cases_eq u t) [
+      | inl e ↦ step_idle log r u fits step n o (subst (λ (z : ℕ). IsStepOf log z n) (sym e) s) asks
+      | inr other ↦
+          let found = on_key log legal n t o s asks in
+          let end = strict_at r log fits legal (strict log legal) found.number t u found.op q found.is_op step ask (same ∙ sym found.same_key) other in
+          ended_answered log t n o legal (end_ends log t end.end end.is_end) s asks
+    ]
+
+-- so requests on a key come one at a time
+pub one_at_a_time : LegalIsOneAtATime
+one_at_a_time [] legal n m o q asks below ask same = absurd (cc)
+one_at_a_time (r ∷ log) legal n m o q asks below ask same =
+    let older : IsNumber log n = record {
+      positive = (request_number (r ∷ log) n o asks).positive;
+      bounded = omega (arith, (request_number (r ∷ log) m q ask).bounded);
+    } in
+    let asked : Requests log n o = had_at (ARequest o) r log n older asks in
+    elim (which r log m (request_number (r ∷ log) m q ask)) [
+      | inl e ↦
+          let newest : ARequest q (Some r) = newest_at (ARequest q) r log m e ask in
+          let by = request_step o (record_at log n) asked in
+          let of = request_step q (Some r) newest in
+          before_newest (λ x. IsSome (answer_of x n)) r log m e (answered_at r log legal.0 legal.1 n by.0 of.0 o q by.1 asked of.1 newest same)
+      | inr was ↦
+          before_older (λ x. IsSome (answer_of x n)) r log m (not_newest log m was)
+          (one_at_a_time log legal.1 n m o q asked below (had_at (ARequest q) r log m was ask) same)
+    ]

@@ -1,0 +1,103 @@
+-- What a log leaves at a key: by which numbers, split at an operation, and the answers that it gives.
+use Rattle.std.proofs.Common.{◌≡◌, ℕ, ◌+◌, ◌<◌, Bool, true, false, cond, List, [], ◌∷◌, length, Option, Some, None, is_some, refl, sym, ap, ◌∙◌, subst, arith, inl, inr, true≢false, eq-eqb, ne_eqb}
+use Rattle.std.specs.Prelude.{◌&&◌, if◌then◌else◌}
+use Rattle.std.proofs.lemmas.Bool.{cases_eq}
+use Rattle.record_key.specs.declared.op.Op.{Op}
+use Rattle.record_key.specs.declared.op.Answer.{Answer}
+use Rattle.record_key.specs.Table.{Bytes, key_of, answer_at, value_after}
+use Rattle.history.specs.declared.record.Record.{Record}
+use Rattle.history.specs.declared.record.Record.TheVariants as is
+use Rattle.history.specs.Log.{before, answer_of, op_of, IsOpBy}
+use Rattle.history.specs.Legal.{IsLegal}
+use Rattle.history.specs.Values.{is_on, value_on, value_kept, value_where, IsRight, HasRightAnswers}
+use Rattle.log_laws.proofs.Records.{AnOp, ARequest, at_newest, newest_at, kept_at, had_at, which, not_newest, before_newest, before_older, before_old}
+use Rattle.log_laws.proofs.LegalLogs.{op_number, request_number, unanswered_next, right_rest}
+
+-- an operation that both tests let through, or neither
+chosen : (on p q : Bool) (o : Op) (v w : Option Bytes) → (on ≡ true → p ≡ q) → v ≡ w → (if p && on then value_after o v else v) ≡ (if q && on then value_after o w else w)
+chosen true p q o v w same e = ap (λ b. if b && true then value_after o v else v) (same refl) ∙ ap (λ x. if q && true then value_after o x else x) e
+chosen false true true o v w same e = e
+chosen false true false o v w same e = e
+chosen false false true o v w same e = e
+chosen false false false o v w same e = e
+
+-- of what a record has kept
+kept_alike : (k : Bytes) (n : ℕ) (p q : ℕ → Bool) (by : Option (ℕ × Op)) (v w : Option Bytes)
+    → ((t : ℕ) (o : Op) → by ≡ Some (t, o) → is_on k o ≡ true → p n ≡ q n) → v ≡ w → value_kept k n p by v ≡ value_kept k n q by w
+kept_alike k n p q None v w same e = e
+kept_alike k n p q (Some by) v w same e = chosen (is_on k by.1) (p n) (q n) by.1 v w (same by.0 by.1 refl) e
+
+-- tests that agree on the operations of a key leave the same there
+pub values_alike : (k : Bytes) (p q : ℕ → Bool) (log : List Record)
+    → ((n t : ℕ) (o : Op) → IsOpBy log n t o → is_on k o ≡ true → p n ≡ q n) → value_where k p log ≡ value_where k q log
+values_alike k p q [] same = refl
+values_alike k p q (r ∷ log) same =
+    kept_alike k (length log + 1) p q (op_of r) (value_where k p log) (value_where k q log)
+    (λ t o is on. same (length log + 1) t o (at_newest (AnOp t o) r log (length log + 1) refl is) on)
+    (values_alike k p q log (λ n t o is on. same n t o (kept_at (AnOp t o) r log n (op_number log n t o is) is) on))
+
+-- an operation that the test leaves out
+left_out : (on p : Bool) (o : Op) (v : Option Bytes) → (on ≡ true → p ≡ false) → (if p && on then value_after o v else v) ≡ v
+left_out on false o v none = refl
+left_out false true o v none = refl
+left_out true true o v none = absurd (true≢false (none refl))
+
+kept_none : (k : Bytes) (n : ℕ) (p : ℕ → Bool) (by : Option (ℕ × Op)) (v : Option Bytes)
+    → ((t : ℕ) (o : Op) → by ≡ Some (t, o) → is_on k o ≡ true → p n ≡ false) → value_kept k n p by v ≡ v
+kept_none k n p None v none = refl
+kept_none k n p (Some by) v none = left_out (is_on k by.1) (p n) by.1 v (none by.0 by.1 refl)
+
+-- none above a number passes
+abbrev pub NoneAbove : Bytes → (ℕ → Bool) → List Record → ℕ → Type 0
+NoneAbove k p log u = (n t : ℕ) (o : Op) → u < n → IsOpBy log n t o → is_on k o ≡ true → p n ≡ false
+
+-- where no operation above this one passes, it comes last
+pub value_split : (k : Bytes) (p : ℕ → Bool) (log : List Record) (u t : ℕ) (o : Op) → IsOpBy log u t o → NoneAbove k p log u
+    → value_where k p log ≡ value_kept k u p (Some (t, o)) (value_where k p (before log u))
+value_split k p [] u t o is none = absurd (cc)
+value_split k p (r ∷ log) u t o is none =
+    elim (which r log u (op_number (r ∷ log) u t o is)) [
+      | inl e ↦
+          before_newest (λ x. value_where k p (r ∷ log) ≡ value_kept k u p (Some (t, o)) (value_where k p x)) r log u e
+          (ap (λ (n : ℕ). value_kept k n p (op_of r) (value_where k p log)) (sym e)
+          ∙ ap (λ by. value_kept k u p by (value_where k p log)) (newest_at (AnOp t o) r log u e is))
+      | inr was ↦
+          kept_none k (length log + 1) p (op_of r) (value_where k p log)
+          (λ v q by on. none (length log + 1) v q (omega (arith, was.bounded)) (at_newest (AnOp v q) r log (length log + 1) refl by) on)
+          ∙ before_older (λ x. value_where k p log ≡ value_kept k u p (Some (t, o)) (value_where k p x)) r log u (not_newest log u was)
+          (value_split k p log u t o (had_at (AnOp t o) r log u was is)
+          (λ n v q above by on. none n v q above (kept_at (AnOp v q) r log n (op_number log n v q by) by) on))
+    ]
+
+-- a request is no answer
+request_answers_none : (o : Op) (r : Record) (log : List Record) (n : ℕ) → ARequest o (Some r) → answer_of (r ∷ log) n ≡ answer_of log n
+request_answers_none o (is.Op t p q) log n h = refl
+request_answers_none o (is.Comp t u x i) log n h = refl
+request_answers_none o _ log n h = absurd (cc)
+
+-- an answer that is the newest record, or was there
+right_now : (r : Record) (log : List Record) (n : ℕ) (a : Answer) → HasRightAnswers (r ∷ log) → answer_of (r ∷ log) n ≡ Some a
+    → (answer_of log n ≡ Some a → IsRight log n a) → IsRight log n a
+right_now (is.Answer m b) log n a right answered before =
+    elim (cases_eq n m) [
+      | inl e ↦
+          let same : Some b ≡ Some a = subst (λ (c : Bool). cond c (Some b) (answer_of log n) ≡ Some a) (eq-eqb n m e) answered in
+          let equal : b ≡ a = cc in
+          subst (IsRight log n) equal (subst (λ (z : ℕ). IsRight log z b) (sym e) right.0)
+      | inr e ↦ before (subst (λ (c : Bool). cond c (Some b) (answer_of log n) ≡ Some a) (ne_eqb n m e) answered)
+    ]
+right_now _ log n a right answered before = before answered
+
+-- where the answers of a legal log are right, so is each answer that it has
+pub right_at : (log : List Record) (n : ℕ) (a : Answer) → IsLegal log → HasRightAnswers log → answer_of log n ≡ Some a → IsRight log n a
+right_at [] n a legal right answered o asks = absurd (cc)
+right_at (r ∷ log) n a legal right answered o asks =
+    elim (which r log n (request_number (r ∷ log) n o asks)) [
+      | inl e ↦
+          let none : answer_of log (length log + 1) ≡ Some a =
+          ap (answer_of log) (sym e) ∙ sym (request_answers_none o r log n (newest_at (ARequest o) r log n e asks)) ∙ answered in
+          absurd (true≢false (sym (ap is_some none) ∙ unanswered_next log legal.1))
+      | inr was ↦
+          subst (λ x. a ≡ answer_at o (value_on (key_of o) x)) (sym (before_old r log n (not_newest log n was)))
+          (right_now r log n a right answered (right_at log n a legal.1 (right_rest r log right)) o (had_at (ARequest o) r log n was asks))
+    ]

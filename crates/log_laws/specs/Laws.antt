@@ -1,0 +1,82 @@
+-- What is true of every legal log.
+use Rattle.std.specs.Prelude.{◌≡◌, ℕ, ◌<◌, ◌&&◌, Bool, not, is_some, List, ◌∷◌, ◌++◌, Option, Some, IsSome}
+use Rattle.std.specs.FinMap.{get}
+use Rattle.record_key.specs.declared.op.Op.{Op}
+use Rattle.record_key.specs.declared.op.Answer.{Answer}
+use Rattle.record_key.specs.Table.{Bytes, key_of, answer_at, value_after}
+use Rattle.inverse.specs.Inverse.{IsEffective}
+use Rattle.history.specs.declared.record.Record.{Record}
+use Rattle.history.specs.declared.record.Record.TheVariants as is
+use Rattle.history.specs.History.{plain}
+use Rattle.history.specs.Log.{record_at, before, answer_of, is_crossed, Requests, IsStepOf, IsOpBy, hist}
+use Rattle.history.specs.Legal.{IsLatestOrNone, Stands, IsLegal}
+use Rattle.history.specs.Chains.{IsWellChained, IsStrict, IsOneAtATime}
+use Rattle.history.specs.Values.{value_on, value_where, value_standing, IsRight, HasRightAnswers}
+use Rattle.history.specs.Honest.{done_on, value_of, AreCaptured}
+
+-- a beginning of a legal log is legal, and has right answers where the log has them
+pub record BeginningsAreLegal : Type 0 where
+  pub legal : (newer older : List Record) → IsLegal (newer ++ older) → IsLegal older
+  pub right : (newer older : List Record) → HasRightAnswers (newer ++ older) → HasRightAnswers older
+
+-- compensations come latest first and once, and an open transaction has its keys to itself
+abbrev pub LegalIsChainedAndStrict : Type 0
+LegalIsChainedAndStrict = (log : List Record) → IsLegal log → IsWellChained log × IsStrict log
+
+abbrev pub LegalIsOneAtATime : Type 0
+LegalIsOneAtATime = (log : List Record) → IsLegal log → IsOneAtATime log
+
+-- what is left to undo from a step on: the step itself where it is an operation, else its undo-next
+abbrev pub undo_from : Option Record → ℕ → ℕ
+undo_from (Some (is.Comp t u x i)) n = x
+undo_from (Some (is.Op t p o)) n = n
+undo_from _ n = 0
+
+abbrev pub prev_in : Option Record → ℕ
+prev_in (Some (is.Op t p o)) = p
+prev_in _ = 0
+
+-- two looks find what a transaction has left to undo, and what is left after that
+pub record FindsUndo (log : List Record) (t : ℕ) : Type 0 where
+  pub latest : (s : ℕ) → IsLatestOrNone (IsStepOf log t) s → IsLatestOrNone (Stands log t) (undo_from (record_at log s) s)
+  pub earlier : (u : ℕ) → Stands log t u
+      → IsLatestOrNone (λ n. Stands log t n × (n < u)) (undo_from (record_at log (prev_in (record_at log u))) (prev_in (record_at log u)))
+
+abbrev pub UndoIsFound : Type 0
+UndoIsFound = (log : List Record) (t : ℕ) → IsLegal log → FindsUndo log t
+
+-- a lost Answer record can only come back the same
+abbrev pub RightAnswersAreUnique : Type 0
+RightAnswersAreUnique = (log : List Record) (n : ℕ) (o : Op) (a b : Answer) → Requests log n o → IsRight log n a → IsRight log n b → a ≡ b
+
+-- where a compensation fits, its key holds what the operation left, so the inverse gives back what was there
+pub record Brackets (log : List Record) (u : ℕ) (o i : Op) : Type 0 where
+  pub same_key : key_of i ≡ key_of o
+  pub left : value_on (key_of o) log ≡ value_after o (value_on (key_of o) (before log u))
+  pub given_back : value_after i (value_on (key_of o) log) ≡ value_on (key_of o) (before log u)
+  pub effective : IsEffective (answer_at i (value_on (key_of o) log))
+
+abbrev pub CompensationsBracket : Type 0
+CompensationsBracket =
+    (log : List Record) (t u x : ℕ) (o i : Op) → IsLegal (is.Comp t u x (Some i) ∷ log) → HasRightAnswers log → IsOpBy log u t o
+    → Brackets log u o i
+
+-- operations and inverses together leave what the operations that stand leave alone
+abbrev pub CompensationsCancel : Type 0
+CompensationsCancel =
+    (log : List Record) → IsLegal log → HasRightAnswers log → (k : Bytes) → value_on k log ≡ value_standing k log
+
+-- the plain map of a log's history holds what its answered operations leave that no compensation names
+abbrev pub PlainOfHistory : Type 0
+PlainOfHistory =
+    (log : List Record) (k : Bytes) → get (plain (hist log)) k ≡ value_where k (λ n. is_some (answer_of log n) && not (is_crossed log n)) log
+
+-- every operation has its answer
+abbrev pub IsAllAnswered : List Record → Type 0
+IsAllAnswered log = (n t : ℕ) (o : Op) → IsOpBy log n t o → IsSome (answer_of log n)
+
+-- so where all is answered, a key of which everything is captured holds what the plain map has
+abbrev pub SettledIsPlain : Type 0
+SettledIsPlain =
+    (log : List Record) → IsLegal log → HasRightAnswers log → IsAllAnswered log
+    → (k : Bytes) (cap : ℕ → Bool) → AreCaptured cap (done_on k log) → value_of cap (done_on k log) ≡ get (plain (hist log)) k

@@ -1,0 +1,31 @@
+-- What the slow checker asks of one number of a log.
+use Rattle.std.specs.Prelude.{◌≡◌, ◌≢◌, ℕ, ◌≤◌, List, IsSome, IsNone}
+use Rattle.record_key.specs.declared.op.Op.{Op}
+use Rattle.record_key.specs.Table.{Bytes, key_of}
+use Rattle.history.specs.declared.record.Record.{Record}
+use Rattle.history.specs.Log.{record_at, answer_of, request_in, IsOpen, Requests, IsStepOf, IsOpBy}
+
+-- a request of the transaction that has no answer
+pub record Waits (log : List Record) (t n : ℕ) : Type 0 where
+  pub step : IsStepOf log t n
+  pub requested : IsSome (request_in (record_at log n))
+  pub unanswered : IsNone (answer_of log n)
+
+-- an operation on the key by another transaction that is open
+pub record Blocks (log : List Record) (t : ℕ) (k : Bytes) (n : ℕ) : Type 0 where
+  pub txn : ℕ
+  pub op : Op
+  pub is_op : IsOpBy log n txn op
+  pub same_key : key_of op ≡ k
+  pub is_open : IsOpen log txn
+  pub other : txn ≢ t
+
+-- a request up to this number that has no answer
+pub record LacksAnswer (log : List Record) (low n : ℕ) : Type 0 where
+  pub below : n ≤ low
+  pub requested : IsSome (request_in (record_at log n))
+  pub unanswered : IsNone (answer_of log n)
+
+-- every request up to this number has its answer
+abbrev pub AreAnswered : List Record → ℕ → Type 0
+AreAnswered log low = (n : ℕ) (o : Op) → n ≤ low → Requests log n o → IsSome (answer_of log n)

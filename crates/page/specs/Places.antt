@@ -1,0 +1,20 @@
+-- What an operation does to sorted rows, where its key's place is known.
+use Rattle.std.specs.Prelude.{ℕ, List, Result, Ok, Err, MatchResult, insert, remove, slice_set}
+use Rattle.record_key.specs.declared.op.Op.{Op}
+use Rattle.record_key.specs.declared.op.Op.TheVariants.{Insert, Update, Upsert, Delete}
+use Rattle.record_key.specs.Table.{Bytes}
+use Rattle.record_key.specs.Rows.{Row, IsAt, IsGapFor}
+
+-- the key's row stands there, or it would go there
+abbrev pub IsPlaceOf : Bytes → List Row → Result ℕ ℕ → Type 0
+IsPlaceOf k rows place = MatchResult place (IsAt k rows) (IsGapFor k rows)
+
+abbrev pub rows_after : Op → Result ℕ ℕ → List Row → List Row
+rows_after (Insert k v) (Ok at) rows = rows
+rows_after (Insert k v) (Err gap) rows = insert rows gap (k, v)
+rows_after (Update k v) (Ok at) rows = slice_set rows at (k, v)
+rows_after (Update k v) (Err gap) rows = rows
+rows_after (Upsert k v) (Ok at) rows = slice_set rows at (k, v)
+rows_after (Upsert k v) (Err gap) rows = insert rows gap (k, v)
+rows_after (Delete k) (Ok at) rows = remove rows at
+rows_after (Delete k) (Err gap) rows = rows

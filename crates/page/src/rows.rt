@@ -1,0 +1,80 @@
+//! The records of a leaf, in key order: where a key stands, and what an operation does there.
+ghost use Rattle.std.specs.Prelude.{◌≡◌, ◌<◌, ◌≤◌, length, insert, vec_len, IfOk, IfErr, MatchResult};
+ghost use Rattle.std.specs.Vec.{vec_capacity};
+ghost use Rattle.std.specs.FinMap.{get};
+ghost use Rattle.record_key.specs.Table.{answer_at as answer_to};
+ghost use Rattle.record_key.specs.Rows.{IsAt, IsGapFor, AreInOrder, table_of};
+ghost use Rattle.page.specs.Places.{IsPlaceOf, rows_after};
+
+use record_key::{Answer, Key, Op, Value};
+
+/// Where the key's row stands, or where it would go.
+pub fn place_of(rows: &[(Key, Value)], key: &Key) -> Result<usize, usize>
+    requires { AreInOrder rows.now }
+    ensures place { IsPlaceOf key.now rows.now result }
+    ensures within { IfOk result (λ at. at < length rows.now) }
+    ensures bounded { IfErr result (λ gap. gap ≤ length rows.now) }
+{
+    rows.binary_search_by(|row| row.0.cmp(key))
+}
+
+/// The value at a key whose place is known.
+pub fn value_at(rows: &[(Key, Value)], key: &Key, place: Result<usize, usize>) -> Option<Value>
+    requires ordered { AreInOrder rows.now }
+    requires place { IsPlaceOf key.now rows.now place }
+    requires within { IfOk place (λ at. at < length rows.now) }
+    ensures { result ≡ get (table_of rows.now) key.now }
+{
+    match place {
+        Ok(at) => Some(rows[at].1.copied()),
+        Err(_) => None,
+    }
+}
+
+/// What the operation is answered, where this is the value at its key.
+pub fn answer_at(op: &Op, old: Option<Value>) -> Answer
+    ensures { result ≡ answer_to op.now old }
+{
+    match (op, old) {
+        (Op::Insert(_, _), None) => Answer::Inserted,
+        (Op::Insert(_, _), Some(_)) => Answer::Exists,
+        (Op::Update(_, _), Some(old)) => Answer::Updated(old),
+        (Op::Upsert(_, _), old) => Answer::Was(old),
+        (Op::Delete(_), Some(old)) => Answer::Deleted(old),
+        (Op::Update(_, _), None) => Answer::NoRecord,
+        (Op::Delete(_), None) => Answer::NoRecord,
+    }
+}
+
+/// Does the operation, where its key's place is known and there is room for a row. Takes no memory.
+pub fn write_at(rows: &mut Vec<(Key, Value)>, op: &Op, place: Result<usize, usize>)
+    requires within { IfOk place (λ at. at < vec_len rows.old) }
+    requires bounded { IfErr place (λ gap. gap ≤ vec_len rows.old) }
+    requires room { vec_len rows.old < vec_capacity rows.old }
+    ensures { rows.new.items ≡ rows_after op.now place rows.old.items }
+{
+    match (op, place) {
+        (Op::Insert(key, value), Err(gap)) => insert_row(rows, gap, key, value),
+        (Op::Insert(_, _), Ok(_)) => {}
+        (Op::Update(key, value), Ok(at)) => rows[at] = (key.copied(), value.copied()),
+        (Op::Update(_, _), Err(_)) => {}
+        (Op::Upsert(key, value), Ok(at)) => rows[at] = (key.copied(), value.copied()),
+        (Op::Upsert(key, value), Err(gap)) => insert_row(rows, gap, key, value),
+        (Op::Delete(_), Ok(at)) => {
+            rows.remove(at);
+        }
+        (Op::Delete(_), Err(_)) => {}
+    }
+}
+
+/// Puts a new row in its gap.
+fn insert_row(rows: &mut Vec<(Key, Value)>, gap: usize, key: &Key, value: &Value)
+    requires bounded { gap ≤ vec_len rows.old }
+    requires room { vec_len rows.old < vec_capacity rows.old }
+    ensures { rows.new.items ≡ insert rows.old.items gap (key.now, value.now) }
+{
+    match rows.insert(gap, (key.copied(), value.copied())) {
+        Ok(()) => {}
+        Err(_) => unreachable!(),
+    }
+}

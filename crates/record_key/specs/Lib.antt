@@ -1,0 +1,4 @@
+pub mod Table
+pub mod Refusals
+pub mod Laws
+pub mod Rows

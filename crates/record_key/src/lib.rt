@@ -1,0 +1,24 @@
+//! Keys, values, operations on records, their answers, and the refusals of every call.
+//!
+//! Knows: what a table is (a finite map in key order) and what one operation does to it.
+//! Must not know: transactions, logs, leaves, messages, devices.
+//! Promises the next crates: keys are 1 to 32 bytes and ordered by them, a beginning first; values are
+//! 0 to 120 bytes; both lie inline, so none of them ever takes memory.
+#![tactic(auto)]
+
+mod key;
+mod laws;
+mod op;
+mod plain_table;
+mod refusal;
+mod value;
+
+pub use key::Key;
+pub use laws::{key_order_law, table_law};
+pub use op::{Answer, Op};
+pub use plain_table::PlainTable;
+pub use refusal::Refusal;
+pub use value::Value;
+
+#[cfg(test)]
+mod tests;

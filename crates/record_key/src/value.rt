@@ -1,0 +1,58 @@
+//! The value of a record.
+ghost use Rattle.std.specs.Prelude.{◌≡◌, ◌<◌, ◌≤◌, length};
+
+use crate::refusal::Refusal;
+use arrayvec::ArrayVec;
+use std::marker::Model;
+
+/// A value: 0 to 120 bytes, kept inline.
+#[derive(Debug, Clone, PartialEq, Eq, Drop)]
+pub struct Value {
+    bytes: ArrayVec<u8, 120>,
+}
+
+impl Model for Value {
+    ghost use Rattle.std.specs.Prelude.{List, ℕ, ◌≤◌, length};
+    ghost use Rattle.std.specs.Coded.{coded_ℕ, coded_list};
+
+    ghost Value = { List ℕ };
+
+    ghost coded = { coded_list coded_ℕ };
+
+    ghost view = { λ v. v.bytes.items };
+
+    ghost invariant = { λ v. length v.bytes.items ≤ 120 };
+
+    ghost inverse = { λ bytes. record { bytes = record { items = bytes } } };
+}
+
+impl Value {
+    /// The greatest length of a value, in bytes.
+    pub const MAX_LEN: usize = 120;
+
+    /// The value of these bytes. Takes no memory.
+    pub fn new(bytes: &[u8]) -> Result<Value, Refusal>
+        ensures ok { length bytes.now ≤ 120 → result ≡ Ok bytes.now }
+        ensures too_long { 120 < length bytes.now → result ≡ Err Refusal.TooLong }
+    {
+        match ArrayVec::try_from(bytes) {
+            Ok(bytes) => Ok(Value { bytes }),
+            Err(_) => Err(Refusal::TooLong),
+        }
+    }
+
+    /// The value's bytes.
+    pub fn as_bytes(&self) -> &[u8]
+        ensures bytes { result.now ≡ self.now }
+        ensures bounded { length self.now ≤ 120 }
+    {
+        self.bytes.as_slice()
+    }
+
+    /// Another of the same bytes. Takes no memory.
+    pub fn copied(&self) -> Value
+        ensures { result ≡ self.now }
+    {
+        self.clone().unwrap()
+    }
+}

@@ -1,0 +1,3 @@
+mod Left
+mod Pages
+mod Rest

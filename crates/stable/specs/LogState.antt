@@ -1,0 +1,23 @@
+-- A log device in memory as its callers see it.
+use Rattle.std.specs.Prelude.{ℕ, ◌+◌, List, Option, Result}
+use Rattle.stable.specs.Countdown.{after_call}
+use Rattle.stable.specs.Device.{failures_told}
+use Rattle.stable.specs.declared.error.DeviceError.{DeviceError}
+
+pub record LogState : Type 0 where
+  -- what every crash leaves
+  pub forced : List ℕ
+  -- what was appended after these
+  pub pending : List ℕ
+  -- which call from now fails
+  pub countdown : Option ℕ
+  -- how often the device has failed
+  pub failures : ℕ
+
+-- the log with its bytes changed, and the rest as it was
+abbrev pub with_bytes : LogState → List ℕ → List ℕ → LogState
+with_bytes log forced pending = record log { forced = forced; pending = pending }
+
+-- the log after a call that gave this answer, its bytes as they were
+abbrev pub log_after : {T : Type 0} → LogState → Result T DeviceError → LogState
+log_after log answer = record log { countdown = after_call log.countdown; failures = log.failures + failures_told answer }

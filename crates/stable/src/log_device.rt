@@ -1,0 +1,53 @@
+//! What a log device promises.
+ghost use Rattle.std.specs.Prelude.{◌≡◌, ℕ, ◌+◌, ◌≤◌, List, [], ◌++◌, take, length, OnOk, OnErr, IfOk, IsOkUnless};
+ghost use Rattle.std.specs.Borrow.{sem};
+ghost use Rattle.stable.specs.Device.{failures_told, ForcesPart, Rests};
+
+use crate::error::DeviceError;
+
+/// Bytes that only grow at their end. A crash leaves all that are forced, and a beginning of the others.
+pub trait LogDevice {
+    /// What every crash leaves.
+    ghost forced: { Self → List ℕ };
+
+    /// What was appended after the forced bytes.
+    ghost pending: { Self → List ℕ };
+
+    /// How often the device has failed, a number without a last value.
+    ghost failures: { Self → ℕ };
+
+    /// Adds bytes at the end, all of them or none.
+    fn append(&mut self, bytes: &[u8]) -> Result<(), DeviceError>
+        ensures forced { forced self.new ≡ forced self.old }
+        ensures appended { OnOk result (pending self.new ≡ pending self.old ++ bytes.now) }
+        ensures err { OnErr result (pending self.new ≡ pending self.old) }
+        ensures failures { failures self.new ≡ failures self.old + failures_told result };
+
+    /// After it every byte is forced. Where it fails, some may be.
+    fn force(&mut self) -> Result<(), DeviceError>
+        ensures all_forced { OnOk result (forced self.new ≡ forced self.old ++ pending self.old) }
+        ensures none_pending { OnOk result (pending self.new ≡ []) }
+        ensures err { OnErr result (ForcesPart (forced self.old) (pending self.old)
+            (forced self.new) (pending self.new)) }
+        ensures no_memory { IsOkUnless result DeviceError.Device }
+        ensures failures { failures self.new ≡ failures self.old + failures_told result };
+
+    /// Keeps the first `len` bytes of what a crash left. The cut lasts.
+    fn cut(&mut self, len: usize) -> Result<(), DeviceError>
+        requires all_forced { pending self.old ≡ [] }
+        requires within { len ≤ length (forced self.old) }
+        ensures cut { OnOk result (forced self.new ≡ take len (forced self.old)) }
+        ensures err { OnErr result (forced self.new ≡ forced self.old) }
+        ensures none_pending { pending self.new ≡ [] }
+        ensures no_memory { IsOkUnless result DeviceError.Device }
+        ensures failures { failures self.new ≡ failures self.old + failures_told result };
+
+    /// All bytes, the forced ones first. They are lent and not copied.
+    fn bytes(&mut self) -> Result<&[u8], DeviceError>
+        ensures value { IfOk result (λ bytes. bytes.now ≡ forced self.old ++ pending self.old) }
+        ensures no_memory { IsOkUnless result DeviceError.Device }
+        ensures* after { sem 𝓛 (Rests Self.row self.entry (λ new.
+            (forced new ≡ forced self.old)
+            × (pending new ≡ pending self.old)
+            × (failures new ≡ failures self.old + failures_told result))) };
+}

@@ -1,0 +1,130 @@
+//! A log device in memory, which a test can make fail and crash.
+ghost use Rattle.std.specs.Prelude.{◌≡◌, ◌≤◌, ◌↔◌, [], ◌++◌, take, length, IsTrue, OnOk, OnErr, IfOk, IsErrOf, IsOkUnless};
+ghost use Rattle.std.specs.Borrow.{sem};
+ghost use Rattle.stable.specs.Countdown.{fails_next};
+ghost use Rattle.stable.specs.Crash.{MayLeave};
+ghost use Rattle.stable.specs.Device.{Rests};
+ghost use Rattle.stable.specs.LogState.{with_bytes, log_after};
+
+use crate::error::DeviceError;
+use crate::faults::Faults;
+use crate::log_device::LogDevice;
+use std::alloc::Global;
+use std::marker::Model;
+
+/// Bytes in memory. Each device call counts down to the failure that was set, also one that is refused for memory.
+#[derive(Drop)]
+pub struct MemLog {
+    bytes: Vec<u8>,
+    // How many of the bytes are forced.
+    forced: usize,
+    faults: Faults,
+}
+
+impl Model for MemLog {
+    ghost use Rattle.std.specs.Prelude.{◌≤◌, take, drop, length};
+    ghost use Rattle.stable.specs.LogState.{LogState};
+
+    ghost Value = { LogState };
+
+    ghost view = { λ m. record {
+      forced = take m.forced m.bytes.items;
+      pending = drop m.forced m.bytes.items;
+      countdown = m.faults.countdown;
+      failures = m.faults.failures.count;
+    } };
+
+    ghost invariant = { λ m. m.forced ≤ length m.bytes.items };
+}
+
+impl MemLog {
+    /// An empty log with no failure set, which takes its memory from `alloc`.
+    pub fn new(alloc: Global) -> MemLog
+        ensures forced { result.forced ≡ [] }
+        ensures pending { result.pending ≡ [] }
+        ensures countdown { result.countdown ≡ None }
+        ensures failures { result.failures ≡ 0 }
+    {
+        MemLog {
+            bytes: Vec::new(alloc),
+            forced: 0,
+            faults: Faults::new(),
+        }
+    }
+
+    /// The `n`-th call from now fails, once. It takes the place of a failure that was set and hasn't happened.
+    pub fn fail_at(&mut self, n: u64)
+        requires { 1 ≤ n }
+        ensures { self.new ≡ record self.old { countdown = Some n } }
+    {
+        self.faults.fail_at(n);
+    }
+
+    /// Keeps the forced bytes and at most `kept` more, all of which are forced from now on.
+    pub fn crash(&mut self, kept: usize)
+        ensures left { self.new ≡ with_bytes self.old (self.old.forced ++ take kept self.old.pending) [] }
+        ensures law { MayLeave self.old.forced self.old.pending self.new.forced }
+    {
+        let pending = self.bytes.len() - self.forced;
+        self.forced += kept.min(pending);
+        self.bytes.truncate(self.forced);
+    }
+}
+
+impl LogDevice for MemLog {
+    ghost use Rattle.stable.specs.contracts.mem_log.MemLog.{the_row};
+
+    ghost forced = { λ log. log.forced };
+
+    ghost pending = { λ log. log.pending };
+
+    ghost failures = { λ log. log.failures };
+
+    fn append(&mut self, bytes: &[u8]) -> Result<(), DeviceError>
+        ensures fails { IsErrOf result DeviceError.Device ↔ IsTrue (fails_next self.old.countdown) }
+        ensures ok { OnOk result (self.new
+            ≡ with_bytes (log_after self.old result) self.old.forced (self.old.pending ++ bytes.now)) }
+        ensures err { OnErr result (self.new ≡ log_after self.old result) }
+    {
+        self.faults.call()?;
+        self.bytes.extend_from_slice(bytes)?;
+        Ok(())
+    }
+
+    fn force(&mut self) -> Result<(), DeviceError>
+        ensures fails { IsErrOf result DeviceError.Device ↔ IsTrue (fails_next self.old.countdown) }
+        ensures no_memory { IsOkUnless result DeviceError.Device }
+        ensures ok { OnOk result (self.new
+            ≡ with_bytes (log_after self.old result) (self.old.forced ++ self.old.pending) []) }
+        ensures err { OnErr result (self.new ≡ log_after self.old result) }
+    {
+        self.faults.call()?;
+        self.forced = self.bytes.len();
+        Ok(())
+    }
+
+    fn cut(&mut self, len: usize) -> Result<(), DeviceError>
+        requires all_forced { self.old.pending ≡ [] }
+        requires within { len ≤ length self.old.forced }
+        ensures fails { IsErrOf result DeviceError.Device ↔ IsTrue (fails_next self.old.countdown) }
+        ensures no_memory { IsOkUnless result DeviceError.Device }
+        ensures ok { OnOk result (self.new
+            ≡ with_bytes (log_after self.old result) (take len self.old.forced) []) }
+        ensures err { OnErr result (self.new ≡ log_after self.old result) }
+    {
+        self.faults.call()?;
+        self.bytes.truncate(len);
+        self.forced = len;
+        Ok(())
+    }
+
+    fn bytes(&mut self) -> Result<&[u8], DeviceError>
+        ensures fails { IsErrOf result DeviceError.Device ↔ IsTrue (fails_next self.old.countdown) }
+        ensures value { IfOk result (λ bytes. bytes.now ≡ self.old.forced ++ self.old.pending) }
+        ensures no_memory { IsOkUnless result DeviceError.Device }
+        ensures* after { sem 𝓛 (Rests the_row self.entry (λ new. new ≡ log_after self.old result)) }
+    {
+        self.faults.call()?;
+        Ok(&self.bytes)
+    }
+}

@@ -1,0 +1,4 @@
+pub mod Index
+pub mod Keeps
+pub mod KeepsIdle
+pub mod KeepsTc

@@ -1,0 +1,17 @@
+-- Which refusal a call gives: the first whose cause holds, or want of memory where none does.
+use Rattle.std.specs.Prelude.{◌≡◌, Bool, List, [], ◌∷◌, Option, Some, None, if◌then◌else◌}
+use Rattle.record_key.specs.declared.refusal.Refusal.{Refusal}
+use Rattle.record_key.specs.declared.refusal.Refusal.TheVariants.{NoMemory}
+
+abbrev pub first_of : List (Bool × Refusal) → Option Refusal
+first_of [] = None
+first_of (cause ∷ causes) = if cause.0 then Some cause.1 else first_of causes
+
+-- these causes where none of those holds
+abbrev pub or_else : Option Refusal → Option Refusal → Option Refusal
+or_else (Some r) later = Some r
+or_else None later = later
+
+abbrev pub RefusesAs : Option Refusal → Refusal → Type 0
+RefusesAs (Some r) given = given ≡ r
+RefusesAs None given = given ≡ NoMemory

@@ -1,0 +1,6 @@
+-- What is seen of the parts of the transaction component.
+use Rattle.tc_core.specs.declared.parts.Parts.{Parts}
+use Rattle.tc_core.specs.TcView.{TcView}
+
+abbrev pub seen : Parts → TcView
+seen p = record { log = p.log.records; stable = p.log.stable; session = p.session; open_txn = p.open_txn }

@@ -1,0 +1,172 @@
+//! The transaction component.
+ghost use Rattle.std.specs.Prelude.{◌≡◌, ◌+◌, length, Some, None, IfOk, IfErr, OnOk, OnErr};
+ghost use Rattle.std.specs.Option.{option_copied};
+ghost use Rattle.history.specs.Log.{record_at};
+ghost use Rattle.tc_core.specs.Refusals.{RefusesAs};
+ghost use Rattle.tc_core.specs.LogView.{spent_refusal};
+ghost use Rattle.tc_core.specs.TcView.{TcView, fresh};
+ghost use Rattle.tc_core.specs.Calls.{begin_refusal, act_refusal, rollback_refusal, undo_refusal, resend_refusal, reply_refusal, reconnected, begun, forced, Acts, RollsBack, UndoesStep, IsRequestOf, TakesReply};
+ghost use Rattle.tc_core.specs.Kept.{IsTc};
+
+use crate::open_txn::OpenTxn;
+use crate::parts::Parts;
+use crate::told::{Request, Told, UndoStep};
+use history::Record;
+use record_key::{Answer, Op, Refusal};
+use std::alloc::Global;
+use std::marker::Model;
+
+/// A log, a session and at most one open transaction.
+#[derive(Debug, Drop)]
+pub struct Tc {
+    parts: Parts,
+}
+
+impl Model for Tc {
+    ghost use Rattle.tc_core.specs.TcView.{TcView};
+    ghost use Rattle.tc_core.specs.Kept.{IsTc};
+    ghost use Rattle.tc_core.specs.Seen.{seen};
+
+    ghost Value = { TcView };
+
+    ghost view = { λ t. seen t.parts };
+
+    ghost invariant = { λ t. IsTc (seen t.parts) };
+}
+
+impl Tc {
+    /// A component with an empty log and no session.
+    pub fn new(alloc: Global) -> Tc
+        ensures { result ≡ fresh }
+    {
+        Tc {
+            parts: Parts::new(alloc),
+        }
+    }
+
+    /// Starts a session: logs it, forces the log, and answers the session's number. Refused NumbersSpent,
+    /// NoMemory.
+    pub fn reconnect(&mut self) -> Result<u64, Refusal>
+        ensures session { IfOk result (λ session. session ≡ length self.old.log + 1) }
+        ensures reconnected { OnOk result (self.new ≡ reconnected self.old) }
+        ensures allowed { OnOk result (spent_refusal self.old.log ≡ None) }
+        ensures refused { IfErr result (RefusesAs (spent_refusal self.old.log)) }
+        ensures unchanged { OnErr result (self.new ≡ self.old) }
+    {
+        self.parts.reconnect()
+    }
+
+    /// Begins a transaction and answers its number. Refused NotConnected, Full while one is open,
+    /// NumbersSpent, NoMemory.
+    pub fn begin(&mut self) -> Result<u64, Refusal>
+        ensures number { IfOk result (λ txn. txn ≡ length self.old.log + 1) }
+        ensures begun { OnOk result (self.new ≡ begun self.old) }
+        ensures allowed { OnOk result (begin_refusal self.old ≡ None) }
+        ensures refused { IfErr result (RefusesAs (begin_refusal self.old)) }
+        ensures unchanged { OnErr result (self.new ≡ self.old) }
+    {
+        self.parts.begin()
+    }
+
+    /// Logs an operation and answers its number. Refused NotConnected, NotOpen, RollingBack, Unanswered,
+    /// NumbersSpent, NoMemory.
+    pub fn act(&mut self, txn: u64, op: &Op) -> Result<u64, Refusal>
+        ensures acted { IfOk result (λ number. Acts self.old txn op.now number self.new) }
+        ensures allowed { OnOk result (act_refusal self.old txn ≡ None) }
+        ensures refused { IfErr result (RefusesAs (act_refusal self.old txn)) }
+        ensures unchanged { OnErr result (self.new ≡ self.old) }
+    {
+        self.parts.act(txn, op)
+    }
+
+    /// Begins to roll the transaction back. Refused NotConnected, NotOpen, RollingBack, Unanswered.
+    pub fn rollback(&mut self, txn: u64) -> Result<(), Refusal>
+        ensures rolls_back { OnOk result (RollsBack self.old txn self.new) }
+        ensures refused { IfErr result (λ refusal. rollback_refusal self.old txn ≡ Some refusal) }
+        ensures unchanged { OnErr result (self.new ≡ self.old) }
+    {
+        self.parts.rollback(txn)
+    }
+
+    /// Compensates the latest operation that is left, or ends the rollback where none is. Refused
+    /// NotConnected, NotOpen, Unanswered, NumbersSpent, NoMemory.
+    pub fn undo_step(&mut self, txn: u64) -> Result<UndoStep, Refusal>
+        ensures undoes { IfOk result (λ step. UndoesStep self.old txn step self.new) }
+        ensures allowed { OnOk result (undo_refusal self.old txn ≡ None) }
+        ensures refused { IfErr result (RefusesAs (undo_refusal self.old txn)) }
+        ensures unchanged { OnErr result (self.new ≡ self.old) }
+    {
+        self.parts.undo_step(txn)
+    }
+
+    /// Makes the log stable and answers its end.
+    pub fn force(&mut self) -> u64
+        ensures end { result ≡ length self.old.log }
+        ensures forced { self.new ≡ forced self.old }
+    {
+        self.parts.force()
+    }
+
+    /// The request that the transaction waits for, first or again. Refused NotConnected, NotOpen, Unsent,
+    /// BeyondStable where its record isn't stable.
+    pub fn resend(&self, txn: u64) -> Result<Request, Refusal>
+        ensures sent { IfOk result (λ request. IsRequestOf self.now txn request.number request.op) }
+        ensures refused { IfErr result (λ refusal. resend_refusal self.now txn ≡ Some refusal) }
+    {
+        self.parts.resend(txn)
+    }
+
+    /// Logs the answer of the awaited request and tells it; any other reply changes nothing. Refused
+    /// NumbersSpent, NoMemory; the reply may be given again then.
+    pub fn on_reply(&mut self, number: u64, answer: &Answer) -> Result<Told, Refusal>
+        ensures taken { IfOk result (λ told. TakesReply self.old number answer.now told self.new) }
+        ensures allowed { OnOk result (reply_refusal self.old number ≡ None) }
+        ensures refused { IfErr result (RefusesAs (reply_refusal self.old number)) }
+        ensures unchanged { OnErr result (self.new ≡ self.old) }
+    {
+        self.parts.on_reply(number, answer)
+    }
+
+    /// The number of the running session, 0 if there is none.
+    pub fn session(&self) -> u64
+        ensures { result ≡ self.now.session }
+    {
+        self.parts.session
+    }
+
+    /// The open transaction.
+    pub fn open_txn(&self) -> Option<OpenTxn>
+        ensures { result ≡ self.now.open_txn }
+    {
+        self.parts.open_txn
+    }
+
+    /// How many records the log has.
+    pub fn records(&self) -> u64
+        ensures { result ≡ length self.now.log }
+    {
+        self.parts.log.len()
+    }
+
+    /// The record of this number.
+    pub fn record(&self, number: u64) -> Option<&Record>
+        ensures { option_copied result ≡ record_at self.now.log number }
+    {
+        self.parts.log.record(number)
+    }
+
+    /// The number up to which records are stable.
+    pub fn stable_end(&self) -> u64
+        ensures { result ≡ self.now.stable }
+    {
+        self.parts.log.stable_end()
+    }
+
+    /// What holds at every moment: the log is legal, a beginning of it is stable, and the open transaction
+    /// is the only one.
+    pub fn kept(&self)
+        ensures { IsTc self.now }
+    {
+        let _ = &self.parts;
+    }
+}

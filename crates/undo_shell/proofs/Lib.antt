@@ -1,0 +1,5 @@
+pub mod Printing
+pub mod Records
+pub mod Grammar
+pub mod Bindings
+pub mod Running

@@ -1,0 +1,152 @@
+-- The text of a script: what its lines come to, and what is printed of that.
+use Rattle.std.specs.Prelude.{◌≡◌, ◌⊎◌, ℕ, Bool, true, false, ◌||◌, nat_lt, List, [], ◌∷◌, ◌++◌, Option, Some, None, Result, Ok, Err, length, flat_map, ⊤, if◌then◌else◌}
+use Rattle.std.specs.FinMap.{entries}
+use Rattle.std.specs.Io.KnownBytes.{Appends}
+use Rattle.record_key.specs.declared.refusal.Refusal.{Refusal}
+use Rattle.record_key.specs.declared.refusal.Refusal.TheVariants as refusal
+use Rattle.record_key.specs.declared.op.Op.TheVariants as op
+use Rattle.world.specs.declared.event.Event.{Event}
+use Rattle.world.specs.declared.event.Event.TheVariants as event
+use Rattle.world.specs.declared.event.Out.{Out}
+use Rattle.world.specs.declared.event.Out.TheVariants as out
+use Rattle.world.specs.Node.{NodeView, fresh_node, StepsTo}
+use Rattle.world.specs.Rounds.{Settles}
+use Rattle.undo_shell.specs.Labels.{Bindings, unbound, AreSame, IsBound}
+use Rattle.undo_shell.specs.declared.reply.Reply.{Reply}
+use Rattle.undo_shell.specs.declared.reply.Reply.TheVariants as reply
+use Rattle.undo_shell.specs.Script.{Command, begins, inserts, rolls_back, settles, shows_table, shows_log, lines_of, first_fault, commands_of, onto}
+use Rattle.undo_shell.specs.Ending.{end_line, is_failure}
+use Rattle.undo_shell.specs.View.{log_of, rows_of, stable_of}
+use Rattle.undo_shell.specs.Printed.{IsCut, out_line, told_line, refusal_line, table_text, log_text}
+
+-- the label of a `begin` is bound to the transaction that it began
+abbrev pub Rebinds : Out → List ℕ → Bindings → Bindings → Type 0
+Rebinds (out.Begun txn) label old new = IsBound old new label txn
+Rebinds _ label old new = AreSame old new
+
+-- `begin` is an event, unless there is no memory for the label
+abbrev pub Begins : List ℕ → NodeView → Bindings → Out → NodeView → Bindings → Type 0
+Begins label before old output after new =
+    (StepsTo before event.Begin output after × Rebinds output label old new) ⊎ ((output ≡ out.Refused refusal.NoMemory) × (after ≡ before) × AreSame old new)
+
+-- what is wrong with the lengths of a key and a value: an empty key first, then a word that is too long
+abbrev pub long_fault : List ℕ → List ℕ → Option Refusal
+long_fault key value = if nat_lt 32 (length key) || nat_lt 120 (length value) then Some refusal.TooLong else None
+
+abbrev pub length_fault : List ℕ → List ℕ → Option Refusal
+length_fault [] value = Some refusal.EmptyKey
+length_fault (b ∷ bs) value = long_fault (b ∷ bs) value
+
+-- an event, where there is no refusal before it
+abbrev pub StepsUnless : Option Refusal → NodeView → Event → Out → NodeView → Type 0
+StepsUnless None before e output after = StepsTo before e output after
+StepsUnless (Some r) before e output after = (output ≡ out.Refused r) × (after ≡ before)
+
+abbrev pub Inserts : List ℕ → List ℕ → List ℕ → NodeView → Bindings → Out → NodeView → Type 0
+Inserts label key value before labels output after = StepsUnless (length_fault key value) before (event.Act (labels label) (op.Insert key value)) output after
+
+-- a reply that is one event's output of which this holds
+abbrev pub IsEvent : (Out → Type 0) → Reply → Type 0
+IsEvent P (reply.Event output) = P output
+IsEvent P _ = ⊥
+
+abbrev pub IsSettling : NodeView → Reply → NodeView → Type 0
+IsSettling before (reply.Settled outs end) after = Settles before [] outs.items end after
+IsSettling before _ after = ⊥
+
+-- what a line may come to, from a node and labels, and what it leaves
+abbrev pub Replies : Command → NodeView → Bindings → Reply → NodeView → Bindings → Type 0
+Replies (begins label) before old r after new = IsEvent (λ output. Begins label before old output after new) r
+Replies (inserts label key value) before old r after new = IsEvent (λ output. Inserts label key value before old output after) r × AreSame old new
+Replies (rolls_back label) before old r after new = IsEvent (λ output. StepsTo before (event.Rollback (old label)) output after) r × AreSame old new
+Replies settles before old r after new = IsSettling before r after × AreSame old new
+Replies shows_table before old r after new = (r ≡ reply.Table) × (after ≡ before) × AreSame old new
+Replies shows_log before old r after new = (r ≡ reply.Log) × (after ≡ before) × AreSame old new
+
+-- what is printed of a reply, where this is the node after it
+abbrev pub reply_text : Reply → NodeView → List ℕ
+reply_text (reply.Event output) view = out_line output
+reply_text (reply.Settled outs end) view = flat_map told_line outs.items ++ end_line end
+reply_text reply.Table view = table_text (entries (rows_of view))
+reply_text reply.Log view = log_text (log_of view) (stable_of view)
+
+abbrev pub out_ends : Out → Bool
+out_ends (out.Refused r) = is_failure r
+out_ends _ = false
+
+abbrev pub settling_ends : Result (Unit {0}) Refusal → Bool
+settling_ends (Ok u) = false
+settling_ends (Err r) = is_failure r
+
+abbrev pub ends_run : Reply → Bool
+ends_run (reply.Event output) = out_ends output
+ends_run (reply.Settled outs end) = settling_ends end
+ends_run _ = false
+
+-- the reply's text is written and the run goes on, or it ends: by the reply, or where a write failed
+abbrev pub Shows : Bool → Reply → NodeView → Option (List ℕ) → Option (List ℕ) → Type 0
+Shows true r view old new = Appends old new (reply_text r view) × (ends_run r ≡ false)
+Shows false r view old new = (Appends old new (reply_text r view) × (ends_run r ≡ true)) ⊎ IsCut old new (reply_text r view)
+
+-- these bytes are a beginning of the text
+abbrev pub IsBeginning : List ℕ → List ℕ → Type 0
+IsBeginning written text = (left : List ℕ) × (text ≡ written ++ left)
+
+-- what is written for these lines from a node and labels on, and the exit status
+pub data Runs : List Command → NodeView → Bindings → List ℕ → ℕ → Type 0 where
+  -- no line is left
+  done : (view : NodeView) (labels : Bindings) → Runs [] view labels [] 0
+  -- the text of a line, and then of those behind it
+  goes_on : (c : Command) (cs : List Command) (view : NodeView) (labels : Bindings) (r : Reply) (after : NodeView) (next : Bindings) (text : List ℕ) (status : ℕ) → Replies c view labels r after next → ends_run r ≡ false → Runs cs after next text status → Runs (c ∷ cs) view labels (reply_text r after ++ text) status
+  -- memory or a device failed: the text of that line is the last
+  fails : (c : Command) (cs : List Command) (view : NodeView) (labels : Bindings) (r : Reply) (after : NodeView) (next : Bindings) → Replies c view labels r after next → ends_run r ≡ true → Runs (c ∷ cs) view labels (reply_text r after) 3
+  -- a write failed: a beginning of that line's text is the last
+  is_cut : (c : Command) (cs : List Command) (view : NodeView) (labels : Bindings) (r : Reply) (after : NodeView) (next : Bindings) (text : List ℕ) → Replies c view labels r after next → IsBeginning text (reply_text r after) → Runs (c ∷ cs) view labels text 3
+
+-- the text of these lines is written
+pub record WritesRun (commands : List Command) (view : NodeView) (labels : Bindings) (old new : Option (List ℕ)) (status : ℕ) : Type 0 where
+  pub text : List ℕ
+  pub appended : Appends old new text
+  pub runs : Runs commands view labels text status
+
+-- a line, if there is one, is run and its text written: what those behind it write follows, or nothing does
+abbrev pub RunsLine : Bool → Option Command → NodeView → Bindings → NodeView → Bindings → List ℕ → Type 0
+RunsLine true command view labels after next said = (cs : List Command) (text : List ℕ) (status : ℕ) → Runs cs after next text status → Runs (onto command cs) view labels (said ++ text) status
+RunsLine false command view labels after next said = (cs : List Command) → Runs (onto command cs) view labels said 3
+
+pub record WritesLine (going : Bool) (command : Option Command) (view : NodeView) (labels : Bindings) (after : NodeView) (next : Bindings) (old new : Option (List ℕ)) : Type 0 where
+  pub said : List ℕ
+  pub appended : Appends old new said
+  pub runs : RunsLine going command view labels after next said
+
+-- a line alone with its exit status, or a beginning of it where a write failed
+abbrev pub IsAlone : List ℕ → ℕ → List ℕ → ℕ → Type 0
+IsAlone line own text status = ((text ≡ line) × (status ≡ own)) ⊎ (IsBeginning text line × (status ≡ 3))
+
+pub record WritesAlone (line : List ℕ) (own : ℕ) (old new : Option (List ℕ)) (status : ℕ) : Type 0 where
+  pub text : List ℕ
+  pub appended : Appends old new text
+  pub alone : IsAlone line own text status
+
+-- the text of a script, where this is its first fault
+abbrev pub IsTextAfterCheck : Option ℕ → List ℕ → List ℕ → ℕ → Type 0
+IsTextAfterCheck (Some line) script text status = IsAlone (refusal_line (refusal.BadScript line)) 2 text status
+IsTextAfterCheck None script text status = (labels : Bindings) × AreSame unbound labels × Runs (commands_of (lines_of script)) fresh_node labels text status
+
+abbrev pub IsTextOf : List ℕ → List ℕ → ℕ → Type 0
+IsTextOf script text status = IsTextAfterCheck (first_fault script) script text status
+
+-- what is written where the script could not be read: a device failed, or there was no memory for it
+abbrev pub IsUnread : List ℕ → ℕ → Type 0
+IsUnread text status = IsAlone (refusal_line refusal.NoMemory) 3 text status ⊎ IsAlone (refusal_line refusal.Device) 3 text status
+
+-- the script is all that the reader had left, where that is known
+abbrev pub IsAllOf : Option (List ℕ) → List ℕ → Type 0
+IsAllOf None script = ⊤
+IsAllOf (Some bytes) script = script ≡ bytes
+
+-- the text of the script that was read is written, and nothing else
+pub record WritesText (given old new : Option (List ℕ)) (status : ℕ) : Type 0 where
+  pub text : List ℕ
+  pub appended : Appends old new text
+  pub is_text : ((script : List ℕ) × IsAllOf given script × IsTextOf script text status) ⊎ IsUnread text status

@@ -1,0 +1,46 @@
+//! The command line.
+ghost use Rattle.std.specs.Prelude.{◌≡◌, IfOk};
+
+use clap::{Command, Error};
+use std::alloc::Global;
+use std::convert::AsStr;
+
+/// What the command line asks for.
+#[derive(Debug, Clone, Copy, PartialEq, Eq)]
+pub enum Task {
+    /// A script is read from standard input and run.
+    Run,
+}
+
+const LINES: &str = "\
+A script is lines; empty lines and lines that begin with # are skipped.
+
+  begin T       begins a transaction and names it by the label T
+  insert T K V  puts the record K=V for transaction T
+  rollback T    rolls transaction T back
+  settle        lets the node work until nothing is left to do
+  table         prints each record of the data component
+  log           prints each record of the transaction log
+
+T is 1 to 8 lower case letters or digits. K and V are letters and digits, or a dot
+for the empty text; a key has 1 to 32 bytes, a value 0 to 120. Words are separated
+by one space. The whole script is checked before its first line is run.
+
+Exit status: 0; 2 for a line or a command line outside the grammar; 3 where memory
+or a device failed.";
+
+/// What these words ask for, the first of them the program's name.
+pub fn choose<S: AsStr>(alloc: Global, words: &[S]) -> Result<Task, Error>
+    ensures { IfOk result (λ task. task ≡ Task.Run) }
+{
+    let run = Command::new(alloc, "run")
+        .about("Reads a script from standard input and prints what its lines came to")
+        .after_help(LINES);
+    let shell = Command::new(alloc, "undo_shell")
+        .about("A database kernel in two components that undoes by logged compensations")
+        .after_help(LINES)
+        .subcommand_required(true)
+        .subcommand(run)?;
+    shell.try_get_matches_from(words)?;
+    Ok(Task::Run)
+}

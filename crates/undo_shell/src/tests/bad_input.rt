@@ -1,0 +1,84 @@
+//! Lines outside the grammar, and those that only look so.
+use super::assert_run;
+use crate::script::first_fault;
+
+#[test]
+fn words_that_are_no_line(rt: HostRuntime) {
+    let scripts = [
+        "begin",
+        "begin ",
+        "begin  t",
+        " begin t",
+        "begin t ",
+        "begin T",
+        "begin t u",
+        "begin abcdefghi",
+        "begin a-b",
+        "Begin t",
+        "rollback",
+        "rollback t t",
+        "insert t k",
+        "insert t k v w",
+        "insert t k v ",
+        "insert t  v",
+        "insert T k v",
+        "insert t k- v",
+        "insert t .. v",
+        "insert t k .v",
+        "settle 1",
+        "settle ",
+        " settle",
+        "settled",
+        "table t",
+        "log log",
+        "log\r",
+        "\tlog",
+        " ",
+        " #",
+        "commit t",
+        "update t k v",
+    ];
+    for script in scripts {
+        assert_run(&rt, script, "no 17 BadScript 1\n", 2);
+    }
+}
+
+#[test]
+fn bytes_that_are_no_text(rt: HostRuntime) {
+    assert_eq!(rt; first_fault(b"log\n\xff\n"), Some(2));
+    assert_eq!(rt; first_fault(b"begin \x80"), Some(1));
+    assert_eq!(rt; first_fault(b"insert t k \x00"), Some(1));
+}
+
+#[test]
+fn the_first_fault_counts_skipped_lines(rt: HostRuntime) {
+    assert_run(
+        &rt,
+        "# a comment\n\ntable\nlog\nno\nworse\n",
+        "no 17 BadScript 5\n",
+        2,
+    );
+    assert_run(&rt, "settle\nsettle", "settled\nsettled\n", 0);
+    assert_run(&rt, "\n\n#\n# begin\n#log", "", 0);
+}
+
+#[test]
+fn words_of_any_length(rt: HostRuntime) {
+    assert_eq!(rt; first_fault(b"begin abcd1234"), None);
+    assert_eq!(rt; first_fault(b"insert 0 . ."), None);
+    assert_eq!(rt;
+        first_fault(b"insert t aZ09aZ09aZ09aZ09aZ09aZ09aZ09aZ09aZ09 v"),
+        None
+    );
+}
+
+/// The first of the faults of a line's words: an empty key before a word that is too long.
+#[test]
+fn lengths_are_refused_in_order(rt: HostRuntime) {
+    let key = "insert t aaaaaaaaaaaaaaaaaaaaaaaaaaaaaaaaa .\n";
+    assert_run(&rt, key, "no 12 TooLong\n", 0);
+    let value =
+        "insert t . vvvvvvvvvvvvvvvvvvvvvvvvvvvvvvvvvvvvvvvvvvvvvvvvvvvvvvvvvvvvvvvvvvvvvvvvvvvvvvvvv\
+                 vvvvvvvvvvvvvvvvvvvvvvvvvvvvvvvvvvvvvvvvvvvvv\n";
+    assert_run(&rt, value, "no 11 EmptyKey\n", 0);
+}

@@ -1,0 +1,14 @@
+pub mod Leaves
+pub mod KeepsNode
+pub mod Performs
+pub mod Histories
+pub mod Crossings
+pub mod Told
+pub mod Machines
+pub mod Calls
+pub mod Tells
+pub mod Causes
+pub mod Follows
+pub mod FollowsMore
+pub mod Headline
+pub mod Work

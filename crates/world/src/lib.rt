@@ -1,0 +1,21 @@
+//! The node: one transaction component, one data component, and what passes between them.
+//!
+//! Knows: the calls of the two components, and the list machine that clients may rely on.
+//! Must not know: how either component keeps its state.
+//! Promises the next crates the headline: whatever events come, each client's answer is that of one list of
+//! operations with the rolled-back ones crossed out, and a settled node holds what a plain map holds.
+#![tactic(auto)]
+
+mod driving;
+mod event;
+mod node;
+mod settling;
+mod world;
+
+pub use driving::drive;
+pub use event::{Event, Out};
+pub use settling::settle;
+pub use world::World;
+
+#[cfg(test)]
+mod tests;

@@ -1,0 +1,125 @@
+//! The world: a node, one event at a time.
+ghost use Rattle.std.specs.Prelude.{◌≡◌, length, MatchOption};
+ghost use Rattle.std.specs.Option.{option_copied};
+ghost use Rattle.std.specs.FinMap.{entries};
+ghost use Rattle.history.specs.History.{plain};
+ghost use Rattle.history.specs.Log.{record_at};
+ghost use Rattle.history.specs.ListMachine.{fresh};
+ghost use Rattle.world.specs.Node.{fresh_node, StepsTo};
+ghost use Rattle.world.specs.Simulation.{machine, Happens, IsSettled};
+ghost use Rattle.world.specs.Kept.{IsKept};
+ghost use Rattle.world.specs.Rounds.{IsNext, IsAtRest};
+
+use crate::event::{Event, Out};
+use crate::node::Node;
+use history::Record;
+use record_key::{Key, Value};
+use std::alloc::Global;
+use std::marker::Model;
+
+/// A node with what holds of it at every moment.
+#[derive(Drop)]
+pub struct World {
+    node: Node,
+}
+
+impl Model for World {
+    ghost use Rattle.std.specs.Coded.{codes};
+    ghost use Rattle.record_key.specs.Table.{table_code};
+    ghost use Rattle.page.specs.Leaf.{saved_code};
+    ghost use Rattle.world.specs.Node.{NodeView};
+    ghost use Rattle.world.specs.Kept.{IsKept};
+    ghost use Rattle.world.specs.Seen.{seen};
+
+    ghost Value = { NodeView };
+
+    ghost coded = { Prim.hlevel (codes, table_code, saved_code) };
+
+    ghost view = { λ w. seen w.node };
+
+    ghost invariant = { λ w. IsKept (seen w.node) };
+}
+
+impl World {
+    /// A new node: nothing is logged or stored, and no session runs.
+    pub fn new(alloc: Global) -> World
+        ensures node { result ≡ fresh_node }
+        ensures machine { machine result ≡ fresh }
+    {
+        World {
+            node: Node::new(alloc),
+        }
+    }
+
+    /// One event. What it came to and what it left are what the components' contracts say, and a step of
+    /// the list machine.
+    pub fn step(&mut self, event: &Event) -> Out
+        ensures step { StepsTo self.old event.now result self.new }
+        ensures happens { Happens (machine self.old) event.now result (machine self.new) }
+    {
+        self.node.step(event)
+    }
+
+    /// What holds at every moment; and where the node is settled, its records are those of a plain map.
+    pub fn kept(&self)
+        ensures kept { IsKept self.now }
+        ensures rows { IsSettled self.now → self.now.leaf.rows ≡ plain (machine self.now).h }
+    {
+        let _ = &self.node;
+    }
+
+    /// The records of the data component, in key order.
+    pub fn rows(&self) -> &[(Key, Value)]
+        ensures { result.now ≡ entries self.now.leaf.rows }
+    {
+        self.node.leaf.rows()
+    }
+
+    /// How many records the log has.
+    pub fn records(&self) -> u64
+        ensures { result ≡ length self.now.tc.log }
+    {
+        self.node.tc.records()
+    }
+
+    /// The record of this number.
+    pub fn record(&self, number: u64) -> Option<&Record>
+        ensures { option_copied result ≡ record_at self.now.tc.log number }
+    {
+        self.node.tc.record(number)
+    }
+
+    /// The number up to which records are stable.
+    pub fn stable_end(&self) -> u64
+        ensures { result ≡ self.now.tc.stable }
+    {
+        self.node.tc.stable_end()
+    }
+
+    /// The first round of settling that applies, if any is left: connect where there is no session; for an
+    /// unanswered request, force the log where its record isn't stable, else deliver it; undo where a
+    /// transaction is being rolled back; force where records aren't stable.
+    pub fn next_round(&self) -> Option<Event>
+        ensures { MatchOption result (IsAtRest self.now) (IsNext self.now) }
+    {
+        if self.node.tc.session() == 0 {
+            return Some(Event::Reconnect);
+        }
+        let stable = self.node.tc.stable_end();
+        if let Some(open) = self.node.tc.open_txn() {
+            if let Some(number) = open.waiting {
+                if stable < number {
+                    return Some(Event::Force);
+                }
+                return Some(Event::Deliver { txn: open.txn });
+            }
+            if open.rolling {
+                return Some(Event::Undo { txn: open.txn });
+            }
+        }
+        if stable < self.node.tc.records() {
+            return Some(Event::Force);
+        }
+        None
+    }
+}
