@@ -17,6 +17,8 @@ fn main(rt: HostRuntime) -> io::Result<()> {
         put,
         taken,
     } = measure::measured(&rt, rt.alloc())?;
-    println!(rt; "records {records}: {bytes} bytes, put at {put} and taken at {taken} megabytes a second")?;
+    println!(rt;
+        "records {records}: {bytes} bytes, put at {put} and taken at {taken} megabytes a second"
+    )?;
     Ok(())
 }
