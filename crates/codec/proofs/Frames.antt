@@ -8,7 +8,7 @@ use Rattle.record_key.specs.Table.{Bytes}
 use Rattle.codec.specs.declared.taken.Taken.{Taken}
 use Rattle.codec.specs.declared.taken.Taken.TheVariants as took
 use Rattle.codec.specs.Fields.{number, first_number}
-use Rattle.codec.specs.Frames.{frame, any_length, IsCut, IfTaken, IfBad, IsThere}
+use Rattle.codec.specs.Frames.{frame, any_length, IsCut, IfTaken, IfBad, IsThere, IsWhole}
 use Rattle.codec.specs.Reading.{Reader, all_of, frame_at, value_or_bad, within}
 use Rattle.codec.proofs.Readers.{IsBytes, IsBytes-drop, IsBytes-take, IsReader, bind_some}
 use Rattle.codec.proofs.Fields.{length-number, number_in_front, first_number-number}
@@ -197,6 +197,33 @@ pub bad : (X : Type 0) (read : Reader X) (limit place : ℕ) (left : List ℕ) (
 bad X read limit place left (took.Record x next) e = tt
 bad X read limit place left took.Short e = tt
 bad X read limit place left (took.Bad at) e = bad_place X read limit place left at (sym e)
+
+-- ---- a whole page
+
+pub whole_found : (X : Type 0) (spell : X → List ℕ) (Fits : X → Type 0) (read : Reader X) → IsReader X spell Fits read →
+    (bytes : List ℕ) (result : Taken X) → IsBytes bytes → result ≡ value_or_bad 0 (length bytes) (all_of read bytes) → IfTaken result (IsWhole X spell Fits bytes)
+whole_found X spell Fits read law bytes (took.Record x next) fits e =
+    let v = value_is X 0 (length bytes) (all_of read bytes) x next (sym e) in
+    let a = all_takes X spell Fits read law bytes x fits v.0 in
+    record { fits = a.1; all = a.0; next_is = sym v.1 }
+whole_found X spell Fits read law bytes took.Short fits e = tt
+whole_found X spell Fits read law bytes (took.Bad at) fits e = tt
+
+pub whole_only : (X : Type 0) (spell : X → List ℕ) (Fits : X → Type 0) (read : Reader X) → IsReader X spell Fits read →
+    (bytes : List ℕ) (x : X) → Fits x → bytes ≡ spell x → value_or_bad 0 (length bytes) (all_of read bytes) ≡ took.Record x (length bytes)
+whole_only X spell Fits read law bytes x fits e =
+    let all : all_of read bytes ≡ Some x = ap (all_of read) e ∙ all_again X spell Fits read law x fits in
+    ap (value_or_bad 0 (length bytes)) all
+
+pub whole_never_short : (X : Type 0) (bytes : List ℕ) (o : Option X) (result : Taken X) → result ≡ value_or_bad 0 (length bytes) o → result ≡ took.Short → ⊥
+whole_never_short X bytes o result e s = never_short X 0 (length bytes) o (sym e ∙ s)
+
+pub whole_bad : (X : Type 0) (bytes : List ℕ) (o : Option X) (result : Taken X) → result ≡ value_or_bad 0 (length bytes) o → IfBad result (λ at. at ≡ 0)
+whole_bad X bytes o (took.Record x next) e = tt
+whole_bad X bytes o took.Short e = tt
+whole_bad X bytes o (took.Bad at) e = bad_value X 0 (length bytes) o at (sym e)
+
+-- ---- one frame
 
 -- no frame begins another
 pub one_frame_of : (X : Type 0) (spell : X → List ℕ) (Fits : X → Type 0) (read : Reader X) → IsReader X spell Fits read →

@@ -1,11 +1,13 @@
 -- Items one after the other: as a loop reads them, and as they are spelled.
-use Rattle.std.proofs.Common.{◌≡◌, ℕ, zero, suc, ◌-◌, ◌+◌, ◌≤◌, ◌<◌, List, [], ◌∷◌, ◌++◌, length, Option, Some, None, refl, sym, ap, subst, ◌∙◌, append_assoc, arith}
+use Rattle.std.proofs.Common.{◌≡◌, ℕ, zero, suc, ◌-◌, ◌+◌, ◌^◌, ◌≤◌, ◌<◌, List, [], ◌∷◌, ◌++◌, length, Option, Some, None, refl, sym, ap, subst, ◌∙◌, append_assoc, arith}
 use Rattle.std.specs.List.{flat_map, AllByRecursion}
 use Rattle.std.proofs.lemmas.List.{append-nil}
 use Rattle.std.proofs.lemmas.List.Concat.{flat_map-cons}
 use Rattle.std.proofs.lemmas.Option.{same_Some}
-use Rattle.codec.specs.Reading.{◌>>=◌, Reader, items_at}
+use Rattle.codec.specs.Fields.{number, counted}
+use Rattle.codec.specs.Reading.{◌>>=◌, Reader, count_at, items_at, counted_at}
 use Rattle.codec.proofs.Readers.{IsBytes, Takes, Takes-then, IsReader, bind_some}
+use Rattle.codec.proofs.Fields.{count_reads}
 
 -- what was read before, and what is still read
 abbrev pub with_front : {X : Type 0} → List X → Option (List X × List ℕ) → Option (List X × List ℕ)
@@ -62,3 +64,20 @@ items_again X spell Fits part law [] rest fits = refl
 items_again X spell Fits part law (x ∷ xs) rest fits =
     let regrouped : flat_map spell (x ∷ xs) ++ rest ≡ spell x ++ (flat_map spell xs ++ rest) = ap (λ (t : List ℕ). t ++ rest) (flat_map-cons spell x xs) ∙ append_assoc (spell x) (flat_map spell xs) rest in
     ap (items_at part (suc (length xs))) regrouped ∙ rw (law.again x (flat_map spell xs ++ rest) fits.0, items_again X spell Fits part law xs rest fits.1) refl
+
+-- ---- behind their count
+
+pub counted_reads : (X : Type 0) (spell : X → List ℕ) (Fits : X → Type 0) (part : Reader X) → IsReader X spell Fits part →
+    IsReader (List X) (counted spell) (λ xs. (length xs < 2 ^ 64) × AllByRecursion Fits xs) (counted_at part)
+counted_reads X spell Fits part law = record {
+  takes = λ bytes x fits e.
+      let a = bind_some (count_at bytes) (λ n. items_at part n.0 n.1) x e in
+      let front = count_reads.takes bytes a.0 fits a.1 in
+      let each = items_take X spell Fits part law a.0.0 a.0.1 x front.0.rest_fits a.2 in
+      let whole = Takes-then bytes (number a.0.0) a.0.1 (flat_map spell x.0) x.1 front.0 each.0 in
+      let few : length x.0 < 2 ^ 64 = omega (arith, each.1, front.1) in
+      (subst (λ (k : ℕ). Takes bytes (number k ++ flat_map spell x.0) x.1) (sym each.1) whole, (few, each.2));
+  again = λ xs rest fits.
+      ap (counted_at part) (append_assoc (number (length xs)) (flat_map spell xs) rest)
+      ∙ rw (count_reads.again (length xs) (flat_map spell xs ++ rest) fits.0) (items_again X spell Fits part law xs rest fits.1);
+}

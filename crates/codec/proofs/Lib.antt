@@ -3,7 +3,11 @@ pub mod Fields
 pub mod Records
 pub mod Requests
 pub mod Items
-pub mod RowLoops
+pub mod ItemLoops
+pub mod Lists
 pub mod Replies
+pub mod Images
+pub mod DcRecords
 pub mod Frames
+pub mod Results
 pub mod Numbered

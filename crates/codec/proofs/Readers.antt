@@ -3,8 +3,8 @@ use Rattle.std.proofs.Common.{◌≡◌, ℕ, suc, ◌<◌, ◌+◌, Bool, true,
 use Rattle.std.specs.List.{AllByRecursion}
 use Rattle.std.proofs.lemmas.Bool.{cases_lt, eqb-true}
 use Rattle.std.proofs.lemmas.List.{length-take, get_or-drop, get_or-take, get_or_past}
-use Rattle.std.proofs.lemmas.Option.{same_Some}
-use Rattle.codec.specs.Reading.{◌>>=◌, Reader, fixed, pair, mapped, choose, one_of}
+use Rattle.std.proofs.lemmas.Option.{same_Some, cond_some}
+use Rattle.codec.specs.Reading.{◌>>=◌, Reader, fixed, pair, mapped, where_, choose, one_of}
 
 -- each item is a byte
 abbrev pub IsBytes : List ℕ → Type 0
@@ -71,6 +71,41 @@ pair_reads X Y s F r t G q first second = record {
 pub mapped_again : (X Y : Type 0) (s : X → List ℕ) (F : X → Type 0) (r : Reader X) → IsReader X s F r →
     (make : X → Y) (x : X) (rest : List ℕ) → F x → mapped make r (s x ++ rest) ≡ Some (make x, rest)
 mapped_again X Y s F r law make x rest fits = rw (law.again x rest fits) refl
+
+pub mapped_reads : (X Y : Type 0) (s : X → List ℕ) (F : X → Type 0) (r : Reader X) (spell : Y → List ℕ) (Fits : Y → Type 0) → IsReader X s F r →
+    (make : X → Y) (parts : Y → X) → ((x : X) → spell (make x) ≡ s x) → ((x : X) → F x → Fits (make x)) → ((y : Y) → make (parts y) ≡ y) → ((y : Y) → Fits y → F (parts y))
+    → IsReader Y spell Fits (mapped make r)
+mapped_reads X Y s F r spell Fits law make parts is_spelled has made had = record {
+  takes = λ bytes y fits e.
+      let a = bind_some (r bytes) (λ x. Some (make x.0, x.1)) y e in
+      let t = law.takes bytes a.0 fits a.1 in
+      let one : Y × List ℕ = (make a.0.0, a.0.1) in
+      subst (λ (z : Y × List ℕ). Takes bytes (spell z.0) z.1 × Fits z.0) (same_Some one y a.2)
+      (subst (λ (w : List ℕ). Takes bytes w a.0.1) (sym (is_spelled a.0.0)) t.0, has a.0.0 t.1);
+  again = λ y rest fits.
+      let spelling : spell y ≡ s (parts y) = ap spell (sym (made y)) ∙ is_spelled (parts y) in
+      let whole : Y × List ℕ → Option (Y × List ℕ) = λ z. Some z in
+      ap (λ (w : List ℕ). mapped make r (w ++ rest)) spelling ∙ mapped_again X Y s F r law make (parts y) rest (had y fits) ∙ ap (λ (z : Y). whole (z, rest)) (made y);
+}
+
+-- the same in other words for what has a spelling
+pub fits_as : {X : Type 0} {s : X → List ℕ} {F : X → Type 0} {r : Reader X} → IsReader X s F r → (G : X → Type 0) → ((x : X) → F x → G x) → ((x : X) → G x → F x) → IsReader X s G r
+fits_as law G to from = record {
+  takes = λ bytes x fits e. let t = law.takes bytes x fits e in (t.0, to x.0 t.1);
+  again = λ x rest fits. law.again x rest (from x fits);
+}
+
+-- what is read by a test is spelled as before, and passes
+pub where_reads : (X : Type 0) (spell : X → List ℕ) (Fits : X → Type 0) (read : Reader X) → IsReader X spell Fits read →
+    (test : X → Bool) → IsReader X spell (λ x. Fits x × (test x ≡ true)) (where_ test read)
+where_reads X spell Fits read law test = record {
+  takes = λ bytes x fits e.
+      let a = bind_some (read bytes) (λ y. cond (test y.0) (Some y) None) x e in
+      let g = cond_some (test a.0.0) a.0 x a.2 in
+      let t = law.takes bytes a.0 fits a.1 in
+      subst (λ (z : X × List ℕ). Takes bytes (spell z.0) z.1 × (Fits z.0 × (test z.0 ≡ true))) g.1 (t.0, (t.1, g.0));
+  again = λ x rest fits. let passes : test x ≡ true = fits.1 in rw (law.again x rest fits.0, passes) refl;
+}
 
 -- behind its kind, what a choice reads is spelled so
 pub record IsChoice (Y : Type 0) (spell : Y → List ℕ) (Fits : Y → Type 0) (choice : ℕ × Reader Y) : Type 0 where

@@ -1,43 +1,18 @@
--- Rows and replies: what is read is spelled so, and what has a spelling is read again.
-use Rattle.std.proofs.Common.{◌≡◌, ℕ, ◌<◌, ◌^◌, true, cond, List, ◌++◌, length, Option, Some, None, refl, sym, ap, subst, ◌∙◌, append_assoc, arith}
+-- Replies: what is read is spelled so, and what has a spelling is read again.
+use Rattle.std.proofs.Common.{◌≡◌, ℕ, ◌<◌, List, ◌++◌, length, Option, Some, refl, arith}
 use Rattle.std.specs.Prelude.{IfSome}
-use Rattle.std.specs.List.{flat_map}
-use Rattle.std.proofs.lemmas.Option.{cond_some}
 use Rattle.record_key.specs.Table.{Bytes}
 use Rattle.record_key.specs.Rows.{Row}
 use Rattle.record_key.specs.declared.op.Answer.{Answer}
 use Rattle.codec.specs.declared.reply.Reply.{Reply}
 use Rattle.codec.specs.declared.reply.Reply.TheVariants as is
 use Rattle.codec.specs.Fields.{number, IsNumber, text, IsValue, optional, answer_bytes, IsAnswer}
-use Rattle.codec.specs.Rows.{row_bytes, IsRow, rows_bytes, rises, AreRows}
+use Rattle.codec.specs.Rows.{rows_bytes, AreRows}
 use Rattle.codec.specs.Replies.{reply_bytes, IsOrdered, IsReply}
-use Rattle.codec.specs.Reading.{◌>>=◌, pair, number_at, count_at, items_at, row_at, rows_at, optional_at, value_at, answer_at, reply_choices, reply_at}
-use Rattle.codec.proofs.Readers.{IsReader, IsBytes, Takes, Takes-then, bind_some, both, made_again, choice, one_of_takes}
-use Rattle.codec.proofs.Fields.{number_reads, count_reads, optional_reads, value_reads, answer_reads, row_reads}
-use Rattle.codec.proofs.Items.{items_take, items_again}
-
-rows_take : (bytes : List ℕ) (x : List Row × List ℕ) → IsBytes bytes → rows_at bytes ≡ Some x → Takes bytes (rows_bytes x.0) x.1 × AreRows x.0
-unfolding rows_at rows_bytes
-rows_take bytes x fits e =
-    let a = bind_some (count_at bytes) (λ n. items_at row_at n.0 n.1 >>= λ rows. cond (rises rows.0) (Some rows) None) x e in
-    let b = bind_some (items_at row_at a.0.0 a.0.1) (λ rows. cond (rises rows.0) (Some rows) None) x a.2 in
-    let g = cond_some (rises b.0.0) b.0 x b.2 in
-    let front = count_reads.takes bytes a.0 fits a.1 in
-    let each = items_take Row row_bytes IsRow row_at row_reads a.0.0 a.0.1 b.0 front.0.rest_fits b.1 in
-    let whole = Takes-then bytes (number a.0.0) a.0.1 (flat_map row_bytes b.0.0) b.0.1 front.0 each.0 in
-    let counted : Takes bytes (number (length b.0.0) ++ flat_map row_bytes b.0.0) b.0.1 = subst (λ (k : ℕ). Takes bytes (number k ++ flat_map row_bytes b.0.0) b.0.1) (sym each.1) whole in
-    let few : length b.0.0 < 2 ^ 64 = omega (arith, each.1, front.1) in
-    subst (λ (z : List Row × List ℕ). Takes bytes (rows_bytes z.0) z.1 × AreRows z.0) g.1 (counted, (few, (each.2, g.0)))
-
-rows_again : (rows : List Row) (rest : List ℕ) → AreRows rows → rows_at (rows_bytes rows ++ rest) ≡ Some (rows, rest)
-unfolding rows_at rows_bytes
-rows_again rows rest fits =
-    let ordered : rises rows ≡ true = fits.1.1 in
-    ap rows_at (append_assoc (number (length rows)) (flat_map row_bytes rows) rest)
-    ∙ rw (count_reads.again (length rows) (flat_map row_bytes rows ++ rest) fits.0, items_again Row row_bytes IsRow row_at row_reads rows rest fits.1.0, ordered) refl
-
-rows_read : IsReader (List Row) rows_bytes AreRows rows_at
-rows_read = record { takes = rows_take; again = rows_again }
+use Rattle.codec.specs.Reading.{pair, number_at, rows_at, optional_at, value_at, answer_at, reply_choices, reply_at}
+use Rattle.codec.proofs.Readers.{IsReader, both, made_again, choice, one_of_takes}
+use Rattle.codec.proofs.Fields.{number_reads, optional_reads, value_reads, answer_reads}
+use Rattle.codec.proofs.Lists.{rows_read}
 
 numbers_read : IsReader (ℕ × ℕ) (λ p. number p.0 ++ number p.1) (λ p. IsNumber p.0 × IsNumber p.1) (pair number_at number_at)
 numbers_read = both number_reads number_reads
@@ -99,6 +74,6 @@ pub is_ordered : (r : Reply) → IsReply r → IsOrdered r
 is_ordered (is.Connected session) fits = fits
 is_ordered (is.Answered session n a) fits = (fits.0, fits.1.0)
 is_ordered (is.Row session read value) fits = (fits.0, fits.1.0)
-is_ordered (is.Rows session read rows) fits = (fits.0, fits.1.0, fits.1.1.1.1)
+is_ordered (is.Rows session read rows) fits = (fits.0, fits.1.0, fits.1.1.1)
 is_ordered (is.Checkpointed session low) fits = fits
 is_ordered (is.RedoEnded session) fits = fits

@@ -1,5 +1,6 @@
 -- The one spelling of each part of a message, and which parts have one.
 use Rattle.std.specs.Prelude.{ℕ, ◌<◌, ◌≤◌, ◌^◌, Bool, true, false, List, [], ◌∷◌, ◌++◌, length, Option, Some, None, IfSome}
+use Rattle.std.specs.List.{flat_map}
 use Rattle.byteorder.specs.Endian.{big_bytes, big_number}
 use Rattle.record_key.specs.Table.{Bytes}
 use Rattle.record_key.specs.declared.op.Op.{Op}
@@ -40,6 +41,10 @@ flag true = 1 ∷ []
 abbrev pub optional : {X : Type 0} → (X → List ℕ) → Option X → List ℕ
 optional spell None = flag false
 optional spell (Some x) = flag true ++ spell x
+
+-- how many, then each
+abbrev pub counted : {X : Type 0} → (X → List ℕ) → List X → List ℕ
+counted spell xs = number (length xs) ++ flat_map spell xs
 
 unfoldable pub op_bytes : Op → List ℕ
 op_bytes (Insert key value) = 1 ∷ text key ++ text value

@@ -32,3 +32,9 @@ pub record IsThere (X : Type 0) (spell : X → List ℕ) (Fits : X → Type 0) (
   pub fits : Fits x
   pub parts : left ≡ frame (spell x) ++ drop (length (frame (spell x))) left
   pub next_is : next ≡ place + length (frame (spell x))
+
+-- the bytes are the spelling of a value and no more, and the next place is after them
+pub record IsWhole (X : Type 0) (spell : X → List ℕ) (Fits : X → Type 0) (bytes : List ℕ) (x : X) (next : ℕ) : Type 0 where
+  pub fits : Fits x
+  pub all : bytes ≡ spell x
+  pub next_is : next ≡ length bytes

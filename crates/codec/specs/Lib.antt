@@ -3,6 +3,9 @@ pub mod Records
 pub mod Requests
 pub mod Rows
 pub mod Replies
+pub mod Entries
+pub mod Images
+pub mod DcRecords
 pub mod Frames
 pub mod Reading
 pub mod Writing

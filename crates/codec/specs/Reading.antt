@@ -18,6 +18,11 @@ use Rattle.codec.specs.declared.fault.Fault.{Fault}
 use Rattle.codec.specs.declared.fault.Fault.TheVariants as faults
 use Rattle.codec.specs.Fields.{first_number}
 use Rattle.codec.specs.Rows.{rises}
+use Rattle.codec.specs.declared.entries.Entry.{Entry}
+use Rattle.codec.specs.declared.image.LeafImage.{LeafImage}
+use Rattle.codec.specs.Images.{keeps_bounds}
+use Rattle.codec.specs.declared.dc_record.DcRecord.{DcRecord}
+use Rattle.codec.specs.declared.dc_record.DcRecord.TheVariants as notes
 
 infixl 10 ◌>>=◌
 abbrev pub ◌>>=◌ : {A B : Type 0} → Option A → (A → Option B) → Option B
@@ -50,6 +55,10 @@ pair first second bytes = first bytes >>= λ x. second x.1 >>= λ y. Some ((x.0,
 abbrev pub mapped : {X Y : Type 0} → (X → Y) → Reader X → Reader Y
 mapped make part bytes = part bytes >>= λ x. Some (make x.0, x.1)
 
+-- a part that passes a test
+abbrev pub where_ : {X : Type 0} → (X → Bool) → Reader X → Reader X
+where_ test part bytes = part bytes >>= λ x. if test x.0 then Some x else None
+
 abbrev pub byte_at : Reader ℕ
 byte_at [] = None
 byte_at (b ∷ rest) = Some (b, rest)
@@ -78,6 +87,10 @@ count_at = below_at (2 ^ 64)
 unfoldable pub items_at : {X : Type 0} → Reader X → ℕ → Reader (List X)
 items_at part zero bytes = Some ([], bytes)
 items_at part (suc n) bytes = part bytes >>= λ x. items_at part n x.1 >>= λ xs. Some (x.0 ∷ xs.0, xs.1)
+
+-- how many, then each
+abbrev pub counted_at : {X : Type 0} → Reader X → Reader (List X)
+counted_at part bytes = count_at bytes >>= λ n. items_at part n.0 n.1
 
 unfoldable pub bytes_at : Reader Bytes
 bytes_at bytes = byte_at bytes >>= λ n. if nat_lt (length n.1) n.0 then None else Some (take n.0 n.1, drop n.0 n.1)
@@ -145,7 +158,7 @@ request_at = one_of (
     ∷ [])
 
 unfoldable pub rows_at : Reader (List Row)
-rows_at bytes = count_at bytes >>= λ n. items_at row_at n.0 n.1 >>= λ rows. if rises rows.0 then Some rows else None
+rows_at = where_ rises (counted_at row_at)
 
 abbrev pub reply_choices : List (ℕ × Reader Reply)
 reply_choices =
@@ -159,6 +172,42 @@ reply_choices =
 
 unfoldable pub reply_at : Reader Reply
 reply_at = one_of reply_choices
+
+-- a number, a key and an answer
+abbrev pub entry_at : Reader Entry
+entry_at = mapped (λ p. record { number = p.0; key = p.1.0; answer = p.1.1 }) (pair number_at (pair key_at answer_at))
+
+unfoldable pub entries_at : Reader (List Entry)
+entries_at = counted_at entry_at
+
+abbrev pub image_numbers_at : Reader (ℕ × (ℕ × ℕ))
+image_numbers_at = pair number_at (pair number_at number_at)
+
+abbrev pub fences_at : Reader (Option Bytes × Option Bytes)
+fences_at = pair (optional_at key_at) (optional_at key_at)
+
+abbrev pub ImageParts : Type 0
+ImageParts = (ℕ × (ℕ × ℕ)) × ((Option Bytes × Option Bytes) × (List Row × List Entry))
+
+abbrev pub image_parts_at : Reader ImageParts
+image_parts_at = pair image_numbers_at (pair fences_at (pair rows_at entries_at))
+
+abbrev pub image_of : ImageParts → LeafImage
+image_of p = record { id = p.0.0; last = p.0.1.0; low = p.0.1.1; low_fence = p.1.0.0; high_fence = p.1.0.1; rows = p.1.1.0; entries = p.1.1.1 }
+
+unfoldable pub image_at : Reader LeafImage
+image_at = where_ keeps_bounds (mapped image_of image_parts_at)
+
+-- two leaves and the image of the first, whose number it has
+abbrev pub merge_at : Reader (ℕ × (ℕ × LeafImage))
+merge_at = where_ (λ p. p.1.1.id == p.0) (pair number_at (pair number_at image_at))
+
+unfoldable pub dc_record_at : Reader DcRecord
+dc_record_at = one_of (
+    (1, mapped (λ session. notes.Accept session) number_at)
+    ∷ (2, mapped (λ p. notes.Split p.0 p.1.0 p.1.1) (pair number_at (pair key_at image_at)))
+    ∷ (3, mapped (λ p. notes.Merge p.0 p.1.0 p.1.1) merge_at)
+    ∷ [])
 
 -- the value that all of the bytes spell
 abbrev pub all_of : {X : Type 0} → Reader X → List ℕ → Option X

@@ -1,12 +1,12 @@
 -- Rows and the order of their keys.
 use Rattle.std.specs.Prelude.{◌≡◌, ℕ, ◌<◌, ◌^◌, Bool, true, false, List, [], ◌∷◌, ◌++◌, length, if◌then◌else◌}
-use Rattle.std.specs.List.{flat_map, AllByRecursion}
+use Rattle.std.specs.List.{AllByRecursion}
 use Rattle.std.specs.declared.cmp.Ordering.{Ordering}
 use Rattle.std.specs.declared.cmp.Ordering.TheVariants.{Less, Equal, Greater}
 use Rattle.record_key.specs.Table.{Bytes}
 use Rattle.record_key.specs.Laws.{key_cmp}
 use Rattle.record_key.specs.Rows.{Row}
-use Rattle.codec.specs.Fields.{number, text, IsKey, IsValue}
+use Rattle.codec.specs.Fields.{text, IsKey, IsValue, counted}
 
 abbrev pub is_less : Ordering → Bool
 is_less Less = true
@@ -34,8 +34,8 @@ IsRow row = IsKey row.0 × IsValue row.1
 
 -- how many, then each
 unfoldable pub rows_bytes : List Row → List ℕ
-rows_bytes rows = number (length rows) ++ flat_map row_bytes rows
+rows_bytes rows = counted row_bytes rows
 
 -- what has a spelling
 abbrev pub AreRows : List Row → Type 0
-AreRows rows = (length rows < 2 ^ 64) × (AllByRecursion IsRow rows × (rises rows ≡ true))
+AreRows rows = ((length rows < 2 ^ 64) × AllByRecursion IsRow rows) × (rises rows ≡ true)

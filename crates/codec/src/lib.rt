@@ -1,13 +1,17 @@
-//! Records of the transaction log, requests and replies as bytes.
+//! Records of both logs, images of leaves, requests and replies as bytes.
 //!
 //! Knows: the one spelling of each value as bytes, and the grammar that tells spellings from other bytes.
-//! Must not know: where bytes are kept, whether a record fits those before it, what a message does.
+//! Must not know: where bytes are kept, whether a record fits those before it, what a message or a split does.
 //! Promises the next crates: what is written is the one spelling, what is read is what stands there, no
 //! spelling begins another, and bytes that end within a frame are told apart from bytes outside the grammar.
+//! An image has no frame: it is all of its page.
 #![tactic(auto)]
 
+mod dc_record;
+mod entries;
 mod fault;
 mod frame;
+mod image;
 mod lengths;
 mod reading;
 mod record;
@@ -17,6 +21,9 @@ mod rows;
 mod taken;
 mod writing;
 
+pub use dc_record::{DcRecord, dc_record_spelling_law, put_dc_record, take_dc_record};
+pub use entries::{Entries, Entry};
+pub use image::{LeafImage, leaf_image_spelling_law, put_leaf_image, take_leaf_image};
 pub use record::{put_record, record_spelling_law, take_record};
 pub use reply::{Reply, put_reply, reply_spelling_law, take_reply};
 pub use request::{Request, put_request, request_spelling_law, take_request};

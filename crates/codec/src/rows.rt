@@ -3,7 +3,7 @@ ghost use Rattle.std.specs.Prelude.{◌≡◌, ◌≤◌, ◌<◌, ◌+◌, ◌^
 ghost use Rattle.std.specs.List.{flat_map, AllByRecursion};
 ghost use Rattle.codec.specs.Rows.{rises, rises_after, is_below, row_bytes, rows_bytes, IsRow};
 ghost use Rattle.codec.specs.Writing.{HasRoom, Puts};
-ghost use Rattle.codec.specs.Reading.{Finds, rows_at, items_at, row_at};
+ghost use Rattle.codec.specs.Reading.{Finds, rows_at, counted_at, items_at, row_at};
 
 use crate::fault::Fault;
 use crate::frame::HEADER_LEN;
@@ -44,7 +44,7 @@ impl Rows {
     }
 }
 
-fn key_is_below(low: &Key, high: &Key) -> bool
+pub(crate) fn key_is_below(low: &Key, high: &Key) -> bool
     ensures { result ≡ is_below low.now high.now }
 {
     match low.cmp(high) {
@@ -92,15 +92,21 @@ fn take_each(alloc: Global, count: u64, bytes: &[u8]) -> Result<(Vec<(Key, Value
     Ok((rows, rest))
 }
 
+fn take_counted(alloc: Global, bytes: &[u8]) -> Result<(Vec<(Key, Value)>, &[u8]), Fault>
+    ensures { Finds (λ x. (x.0.items, x.1.now)) result (counted_at row_at bytes.now) }
+{
+    let Some((count, rest)) = take_count(bytes) else {
+        return Err(Fault::Outside);
+    };
+    take_each(alloc, count, rest)
+}
+
 /// A count, and that many rows with rising keys.
 #[tactic(auto, unfolding(crate::specs::Reading::rows_at))]
 pub(crate) fn take_rows(alloc: Global, bytes: &[u8]) -> Result<(Rows, &[u8]), Fault>
     ensures { Finds (λ x. (x.0, x.1.now)) result (rows_at bytes.now) }
 {
-    let Some((count, rest)) = take_count(bytes) else {
-        return Err(Fault::Outside);
-    };
-    let (rows, rest) = take_each(alloc, count, rest)?;
+    let (rows, rest) = take_counted(alloc, bytes)?;
     if keys_rise(&rows) {
         Ok((Rows::new(rows), rest))
     } else {

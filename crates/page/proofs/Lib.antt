@@ -1,3 +1,9 @@
 pub mod Search
 pub mod Writes
-pub mod Saved
+pub mod OnKey
+pub mod Captured
+pub mod OneMore
+pub mod Performing
+pub mod Raising
+pub mod Honest
+pub mod Ranges

@@ -1,21 +1,12 @@
--- What a write at a known place does to the table, and how saved answers grow.
+-- What a write at a known place does to the table.
 use Rattle.std.proofs.Common.{◌≡◌, ℕ, List, [], Option, Result, Ok, Err, Some, None, refl, sym, ap, ◌∙◌}
 use Rattle.std.specs.FinMap as map
-use Rattle.std.specs.Ordering.{nat_cmp}
 use Rattle.record_key.specs.declared.op.Op.{Op}
 use Rattle.record_key.specs.declared.op.Op.TheVariants.{Insert, Update, Upsert, Delete}
 use Rattle.record_key.specs.Table.{Bytes, key_of, value_after, after, with_record}
 use Rattle.record_key.specs.Rows.{Row, AreInOrder, table_of}
 use Rattle.record_key.proofs.Tables.{after-idle}
 use Rattle.record_key.proofs.Rows.{inserted, replaced, removed, found, absent}
-use Rattle.std.specs.BTreeMap as tree
-use Rattle.std.specs.BTreeMap.{BTreeMap}
-use Rattle.record_key.specs.declared.op.Answer.{Answer}
-use Rattle.record_key.specs.Table.{answer_in}
-use Rattle.page.specs.declared.leaf.Done.TheVariants.{Performed}
-use Rattle.page.specs.Leaf.{saved_of}
-use Rattle.page.specs.Performs.{Performs}
-use Rattle.page.proofs.Saved.{insert-saved}
 use Rattle.page.specs.Places.{IsPlaceOf, rows_after}
 
 -- the rows are in order, and are those of the table after the operation
@@ -43,13 +34,3 @@ writes rows (Upsert k v) (Ok at) ordered is = written rows _ (Upsert k v) (Some 
 writes rows (Upsert k v) (Err gap) ordered is = written rows _ (Upsert k v) None (absent rows ordered k gap is) (inserted rows ordered k gap v is)
 writes rows (Delete k) (Ok at) ordered is = written rows _ (Delete k) (Some _) (found rows ordered k at ([], []) is) (removed rows ordered k at is)
 writes rows (Delete k) (Err gap) ordered is = idle rows (Delete k) None ordered (absent rows ordered k gap is) refl
-
--- a new number is performed
-pub performs_new : (old new : List Row) (saved grown : BTreeMap ℕ Answer) (n : ℕ) (o : Op) (a : Answer)
-    → map.get (saved_of saved.entries) n ≡ None → a ≡ answer_in (table_of old) o → Writes old new o → tree.Updates nat_cmp saved grown n (Some a)
-    → Performs (record { rows = table_of old; saved = saved_of saved.entries }) n o (Performed a) (record { rows = table_of new; saved = saved_of grown.entries })
-performs_new old new saved grown n o a none right written updates =
-    rw (none) (
-      ap Performed right,
-      λ i. record { rows = written.table i; saved = (insert-saved saved grown n a updates ∙ ap (map.insert (saved_of saved.entries) n) right) i },
-    )

@@ -1,3 +1,4 @@
 pub mod Leaf
 pub mod Places
 pub mod Performs
+pub mod Honest

@@ -1,13 +1,20 @@
 -- What an operation does to sorted rows, where its key's place is known.
-use Rattle.std.specs.Prelude.{ℕ, List, Result, Ok, Err, MatchResult, insert, remove, slice_set}
+use Rattle.std.specs.Prelude.{◌≡◌, ℕ, zero, suc, true, false, List, [], ◌∷◌, Result, Ok, Err, MatchResult, insert, remove, slice_set}
 use Rattle.record_key.specs.declared.op.Op.{Op}
 use Rattle.record_key.specs.declared.op.Op.TheVariants.{Insert, Update, Upsert, Delete}
 use Rattle.record_key.specs.Table.{Bytes}
 use Rattle.record_key.specs.Rows.{Row, IsAt, IsGapFor}
+use Rattle.history.specs.Spans.{is_below}
 
 -- the key's row stands there, or it would go there
 abbrev pub IsPlaceOf : Bytes → List Row → Result ℕ ℕ → Type 0
 IsPlaceOf k rows place = MatchResult place (IsAt k rows) (IsGapFor k rows)
+
+-- the rows before this place are those below the key
+abbrev pub IsStartFor : Bytes → List Row → ℕ → Type 0
+IsStartFor k [] p = p ≡ 0
+IsStartFor k (row ∷ rows) zero = is_below row.0 k ≡ false
+IsStartFor k (row ∷ rows) (suc p) = (is_below row.0 k ≡ true) × IsStartFor k rows p
 
 abbrev pub rows_after : Op → Result ℕ ℕ → List Row → List Row
 rows_after (Insert k v) (Ok at) rows = rows

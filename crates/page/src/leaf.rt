@@ -1,14 +1,15 @@
 //! One leaf.
-ghost use Rattle.std.specs.Prelude.{◌≡◌, OnErr, IfOk, IsOk, IsSome, IsOkUnless};
+ghost use Rattle.std.specs.Prelude.{◌≡◌};
 ghost use Rattle.std.specs.Option.{option_copied};
 ghost use Rattle.std.specs.FinMap as map;
-ghost use Rattle.page.specs.Leaf.{blank};
-ghost use Rattle.page.specs.Performs.{Performs};
+ghost use Rattle.history.specs.Spans.{Shared, rows_in};
+ghost use Rattle.ab_lsn.specs.AbLsn.{captures};
+ghost use Rattle.page.specs.Leaf.{first};
 
-use crate::rows::{answer_at, place_of, value_at, write_at};
-use record_key::{Answer, Key, Op, Refusal, Value};
+use crate::rows::{place_of, rows_below, rows_from};
+use ab_lsn::{AbLsn, Entry};
+use record_key::{Answer, Key, Value};
 use std::alloc::Global;
-use std::collections::BTreeMap;
 use std::marker::Model;
 
 /// What a request came to.
@@ -20,37 +21,81 @@ pub enum Done {
     Repeated(Option<Answer>),
 }
 
-/// Records in key order, and the numbers performed on them with their answers.
+/// The records between two fences, in key order, and which requests were performed on them.
 #[derive(Debug, Drop)]
 pub struct Leaf {
-    rows: Vec<(Key, Value)>,
-    saved: BTreeMap<u64, Answer>,
+    id: u64,
+    last: u64,
+    low_fence: Option<Key>,
+    high_fence: Option<Key>,
+    pub(crate) rows: Vec<(Key, Value)>,
+    pub(crate) ab: AbLsn,
 }
 
 impl Model for Leaf {
-    ghost use Rattle.page.specs.Leaf.{LeafView, saved_code, saved_of};
+    ghost use Rattle.page.specs.Leaf.{LeafView};
     ghost use Rattle.std.specs.Coded.{codes};
     ghost use Rattle.record_key.specs.Table.{table_code};
     ghost use Rattle.record_key.specs.Rows.{AreInOrder, table_of};
 
     ghost Value = { LeafView };
 
-    ghost coded = { Prim.hlevel (codes, table_code, saved_code) };
+    ghost coded = { Prim.hlevel (codes, table_code) };
 
-    ghost view = { λ l. record { rows = table_of l.rows.items; saved = saved_of l.saved.entries } };
+    ghost view = { λ l. record {
+      id = l.id;
+      last = l.last;
+      low_fence = l.low_fence;
+      high_fence = l.high_fence;
+      rows = table_of l.rows.items;
+      ab = l.ab;
+    } };
 
     ghost invariant = { λ l. AreInOrder l.rows.items };
 }
 
 impl Leaf {
-    /// A leaf of no records that has performed nothing.
-    pub fn new(alloc: Global) -> Leaf
-        ensures { result ≡ blank }
+    /// The first leaf of a tree: number 1, no fences, no records, nothing performed. Takes no memory; the
+    /// allocator serves what comes later.
+    pub fn first(alloc: Global) -> Leaf
+        ensures { result ≡ first }
     {
         Leaf {
+            id: 1,
+            last: 0,
+            low_fence: None,
+            high_fence: None,
             rows: Vec::new(alloc),
-            saved: BTreeMap::new(alloc),
+            ab: AbLsn::new(alloc),
         }
+    }
+
+    /// The leaf's number.
+    pub fn id(&self) -> u64
+        ensures { result ≡ self.now.id }
+    {
+        self.id
+    }
+
+    /// The last system transaction that changed the leaf, 0 if none.
+    pub fn last(&self) -> u64
+        ensures { result ≡ self.now.last }
+    {
+        self.last
+    }
+
+    /// The least key that belongs to the leaf, none where there is no bound.
+    pub fn low_fence(&self) -> Option<&Key>
+        ensures { option_copied result ≡ self.now.low_fence }
+    {
+        self.low_fence.as_ref()
+    }
+
+    /// The key below which the leaf's keys lie, none where there is no bound.
+    pub fn high_fence(&self) -> Option<&Key>
+        ensures { option_copied result ≡ self.now.high_fence }
+    {
+        self.high_fence.as_ref()
     }
 
     /// The records, in key order.
@@ -58,6 +103,27 @@ impl Leaf {
         ensures { result.now ≡ map.entries self.now.rows }
     {
         self.rows.as_slice()
+    }
+
+    /// The number up to which every request counts as performed.
+    pub fn low(&self) -> u64
+        ensures { result ≡ self.now.ab.low }
+    {
+        self.ab.low()
+    }
+
+    /// The numbers above the low one that were performed, rising, with their answers.
+    pub fn entries(&self) -> &[Entry]
+        ensures { result.now ≡ self.now.ab.entries }
+    {
+        self.ab.entries()
+    }
+
+    /// Whether the request of this number counts as performed. Takes no memory.
+    pub fn captures(&self, number: u64) -> bool
+        ensures { result ≡ captures self.now.ab number }
+    {
+        self.ab.captures(number)
     }
 
     /// The value at the key. Takes no memory.
@@ -70,22 +136,14 @@ impl Leaf {
         }
     }
 
-    /// Performs the operation under this number, or gives the answer that it had under it before. A refused
-    /// growth leaves the leaf as it was; a repeated number takes no memory.
-    pub fn perform(&mut self, number: u64, op: &Op) -> Result<Done, Refusal>
-        ensures done { IfOk result (λ done. Performs self.old number op.now done self.new) }
-        ensures repeated { IsSome (map.get self.old.saved number) → IsOk result }
-        ensures refused { OnErr result (self.new ≡ self.old) }
-        ensures memory { IsOkUnless result Refusal.NoMemory }
+    /// The records from `low` on, below `high` where there is one. Takes no memory.
+    pub fn scan(&self, low: &Key, high: Option<&Key>) -> &[(Key, Value)]
+        ensures { result.now ≡ rows_in (record { lo = low.now; hi = option_copied high.entry; mode = Shared }) self.now.rows }
     {
-        if let Some(answer) = self.saved.get(&number) {
-            return Ok(Done::Repeated(Some(answer.copied())));
+        let rows = rows_from(self.rows.as_slice(), low);
+        match high {
+            Some(high) => rows_below(rows, high),
+            None => rows,
         }
-        let place = place_of(self.rows.as_slice(), op.key());
-        let answer = answer_at(op, value_at(self.rows.as_slice(), op.key(), place));
-        self.rows.reserve(1)?;
-        self.saved.insert(number, answer.copied())?;
-        write_at(&mut self.rows, op, place);
-        Ok(Done::Performed(answer))
     }
 }

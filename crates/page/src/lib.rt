@@ -1,14 +1,17 @@
-//! A leaf: records in key order, and the numbers of the requests that it has performed, each with its answer.
+//! A leaf: records in key order, and which requests it has performed.
 //!
-//! Knows: the table of operations of `record_key`.
-//! Must not know: transactions, logs, compensation, who sends a request or how often.
-//! Promises the next crates: a new number is performed as the table says and captured with its answer; a
-//! captured one changes nothing and gives the answer that was saved.
+//! Knows: the table of operations of `record_key`, and abstract page LSNs.
+//! Must not know: transactions, compensation, sessions, who sends a request or how often.
+//! Promises the next crates: a new number is performed as the table says and captured with its answer, a
+//! captured one changes nothing; and a leaf that is honest for a log stays so, by the leaf law.
 #![tactic(auto)]
 
+mod laws;
 mod leaf;
+mod requests;
 mod rows;
 
+pub use laws::leaf_law;
 pub use leaf::{Done, Leaf};
 
 #[cfg(test)]

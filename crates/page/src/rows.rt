@@ -1,10 +1,12 @@
 //! The records of a leaf, in key order: where a key stands, and what an operation does there.
-ghost use Rattle.std.specs.Prelude.{◌≡◌, ◌<◌, ◌≤◌, length, insert, vec_len, IfOk, IfErr, MatchResult};
+ghost use Rattle.std.specs.Prelude.{◌≡◌, ◌<◌, ◌≤◌, not, length, filter, insert, vec_len, IfOk, IfErr};
+ghost use Rattle.std.specs.Option.{option_copied};
 ghost use Rattle.std.specs.Vec.{vec_capacity};
 ghost use Rattle.std.specs.FinMap.{get};
 ghost use Rattle.record_key.specs.Table.{answer_at as answer_to};
 ghost use Rattle.record_key.specs.Rows.{IsAt, IsGapFor, AreInOrder, table_of};
-ghost use Rattle.page.specs.Places.{IsPlaceOf, rows_after};
+ghost use Rattle.history.specs.Spans.{is_below};
+ghost use Rattle.page.specs.Places.{IsPlaceOf, IsStartFor, rows_after};
 
 use record_key::{Answer, Key, Op, Value};
 
@@ -43,6 +45,45 @@ pub fn answer_at(op: &Op, old: Option<Value>) -> Answer
         (Op::Delete(_), Some(old)) => Answer::Deleted(old),
         (Op::Update(_, _), None) => Answer::NoRecord,
         (Op::Delete(_), None) => Answer::NoRecord,
+    }
+}
+
+/// The rows whose keys are at or above this one.
+pub fn rows_from<'a>(rows: &'a [(Key, Value)], key: &Key) -> &'a [(Key, Value)]
+    requires { AreInOrder rows.now }
+    ensures rows { result.now ≡ filter (λ row. not (is_below row.0 key.now)) rows.now }
+    ensures ordered { AreInOrder result.now }
+{
+    &rows[start_of(rows, key)..]
+}
+
+/// The rows whose keys are below this one.
+pub fn rows_below<'a>(rows: &'a [(Key, Value)], key: &Key) -> &'a [(Key, Value)]
+    requires { AreInOrder rows.now }
+    ensures { result.now ≡ filter (λ row. is_below row.0 key.now) rows.now }
+{
+    &rows[..start_of(rows, key)]
+}
+
+/// How many rows have keys below this one.
+fn start_of(rows: &[(Key, Value)], key: &Key) -> usize
+    requires { AreInOrder rows.now }
+    ensures start { IsStartFor key.now rows.now result }
+    ensures within { result ≤ length rows.now }
+{
+    match place_of(rows, key) {
+        Ok(at) => at,
+        Err(gap) => gap,
+    }
+}
+
+/// A copy of the answer. Takes no memory.
+pub fn copy_of(answer: Option<&Answer>) -> Option<Answer>
+    ensures { result ≡ option_copied answer.entry }
+{
+    match answer {
+        Some(answer) => Some(answer.copied()),
+        None => None,
     }
 }
 

@@ -1,6 +1,8 @@
-//! A leaf beside the plain table, and a repeated request.
+//! A leaf beside the plain table, requests that are sent again, and ranges.
 use super::*;
 use record_key::{Answer, Key, Op, PlainTable, Value};
+use std::alloc::Global;
+use std::process::Abort;
 use std::test::Fail;
 
 fn key(text: &[u8]) -> Result<Key, Fail> {
@@ -13,26 +15,37 @@ fn value(text: &[u8]) -> Result<Value, Fail> {
 
 #[test]
 fn a_repeated_number_changes_nothing(rt: HostRuntime) -> Result<(), Fail> {
-    let mut leaf = Leaf::new(rt.alloc());
+    let mut leaf = Leaf::first(rt.alloc());
     let op = Op::Insert(key(b"a")?, value(b"1")?);
     assert_eq!(rt; leaf.perform(3, &op)?, Done::Performed(Answer::Inserted));
-    assert_eq!(rt;
-        leaf.perform(3, &op)?,
-        Done::Repeated(Some(Answer::Inserted))
-    );
+    let again = leaf.perform(3, &op)?;
+    assert_eq!(rt; again, Done::Repeated(Some(Answer::Inserted)));
     assert_eq!(rt; leaf.perform(5, &op)?, Done::Performed(Answer::Exists));
+    leaf.raise(4);
+    assert_eq!(rt; leaf.perform(3, &op)?, Done::Repeated(None));
     assert_eq!(rt; leaf.perform(5, &op)?, Done::Repeated(Some(Answer::Exists)));
-    assert_eq!(rt; leaf.rows().len(), 1);
     assert_eq!(rt; leaf.get(&key(b"a")?), Some(&value(b"1")?));
     assert_eq!(rt; leaf.get(&key(b"b")?), None);
     Ok(())
 }
 
+#[test]
+fn the_first_leaf(rt: HostRuntime) {
+    let leaf = Leaf::first(rt.alloc());
+    assert_eq!(rt; (leaf.id(), leaf.last(), leaf.low()), (1, 0, 0));
+    assert_eq!(rt; leaf.low_fence(), None);
+    assert_eq!(rt; leaf.high_fence(), None);
+    assert!(rt; leaf.rows().is_empty() && leaf.entries().is_empty());
+    assert!(rt; leaf.captures(0) && !leaf.captures(1));
+    leaf_law();
+}
+
+const NAMES: [&[u8]; 5] = [b"m", b"ma", b"a", b"z", b"c"];
+
 /// Four operations on each of a few keys, in an order that mixes them.
 fn nth_op(n: u64) -> Result<Op, Fail> {
-    let names: [&[u8]; 5] = [b"m", b"ma", b"a", b"z", b"c"];
-    let k = key(names[(n % 5) as usize])?;
-    let v = value(names[(n / 5 % 5) as usize])?;
+    let k = key(NAMES[(n % 5) as usize])?;
+    let v = value(NAMES[(n / 5 % 5) as usize])?;
     Ok(match n % 4 {
         0 => Op::Insert(k, v),
         1 => Op::Update(k, v),
@@ -41,15 +54,56 @@ fn nth_op(n: u64) -> Result<Op, Fail> {
     })
 }
 
+/// A refused request leaves the leaf as it was, and is performed once there is memory.
+fn performed<R: Abort>(rt: &R, leaf: &mut Leaf, n: u64, op: &Op) -> Result<Done, Fail> {
+    let rows = leaf.rows().len();
+    match leaf.perform(n, op) {
+        Ok(done) => Ok(done),
+        Err(refusal) => {
+            assert_eq!(rt; refusal, record_key::Refusal::NoMemory);
+            assert_eq!(rt; leaf.rows().len(), rows);
+            assert!(rt; !leaf.captures(n));
+            Ok(leaf.perform(n, op)?)
+        }
+    }
+}
+
 #[test]
 fn answers_as_the_plain_table(rt: HostRuntime) -> Result<(), Fail> {
-    let mut leaf = Leaf::new(rt.alloc());
+    let mut leaf = Leaf::first(rt.alloc());
     let mut table = PlainTable::new(rt.alloc());
     for n in 1..200u64 {
         let op = nth_op(n)?;
         let expected = table.apply(&op)?;
-        assert_eq!(rt; leaf.perform(n, &op)?, Done::Performed(expected));
+        let done = performed(&rt, &mut leaf, n, &op)?;
+        assert_eq!(rt; done, Done::Performed(expected));
         assert_eq!(rt; leaf.rows(), table.rows());
     }
+    assert_eq!(rt; leaf.entries().len(), 199);
+    Ok(())
+}
+
+/// A leaf of the five names.
+fn five(alloc: Global) -> Result<Leaf, Fail> {
+    let mut leaf = Leaf::first(alloc);
+    let mut n = 0u64;
+    for name in NAMES {
+        n = n.wrapping_add(1);
+        leaf.perform(n, &Op::Upsert(key(name)?, value(name)?))?;
+    }
+    Ok(leaf)
+}
+
+#[test]
+fn ranges(rt: HostRuntime) -> Result<(), Fail> {
+    let leaf = five(rt.alloc())?;
+    let all = leaf.rows();
+    assert!(rt; all.len() == 5);
+    let (c, m) = (key(b"c")?, key(b"m")?);
+    assert_eq!(rt; leaf.scan(&key(b"a")?, None), all);
+    assert_eq!(rt; leaf.scan(&c, None), &all[1..]);
+    assert_eq!(rt; leaf.scan(&c, Some(&key(b"mb")?)), &all[1..4]);
+    assert_eq!(rt; leaf.scan(&key(b"b")?, Some(&m)), &all[1..2]);
+    assert!(rt; leaf.scan(&m, Some(&c)).is_empty());
     Ok(())
 }

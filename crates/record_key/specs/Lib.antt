@@ -1,4 +1,5 @@
 pub mod Table
 pub mod Refusals
+pub mod FirstCause
 pub mod Laws
 pub mod Rows

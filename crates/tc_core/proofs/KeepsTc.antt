@@ -1,7 +1,8 @@
 -- Each call keeps what holds of the transaction component.
-use Rattle.std.proofs.Common.{◌≡◌, ◌≢◌, ℕ, ◌+◌, true, false, List, ◌∷◌, length, Option, Some, None, IsSome, refl, sym, ap, ◌∙◌, subst, arith, inl, inr, true≢false, eq-eqb}
-use Rattle.std.specs.Prelude.{◌||◌, ◌==◌}
+use Rattle.std.proofs.Common.{◌≡◌, ◌≢◌, ℕ, ◌+◌, Bool, true, false, List, ◌∷◌, length, Option, Some, None, IsSome, refl, sym, ap, ◌∙◌, subst, arith, inl, inr, true≢false, eq-eqb, eqb-true}
+use Rattle.std.specs.Prelude.{◌||◌, ◌==◌, if◌then◌else◌}
 use Rattle.std.proofs.lemmas.Bool.{cases_eq}
+use Rattle.std.proofs.lemmas.Bool.Decides.{nat_tests}
 use Rattle.record_key.specs.declared.op.Op.{Op}
 use Rattle.record_key.specs.declared.op.Answer.{Answer}
 use Rattle.history.specs.declared.record.Record.{Record}
@@ -15,7 +16,10 @@ use Rattle.log_laws.proofs.Undo.{latest_found, earlier_found, op_record}
 use Rattle.tc_core.specs.declared.open_txn.OpenTxn.{OpenTxn}
 use Rattle.tc_core.specs.TcView.{TcView}
 use Rattle.tc_core.specs.Calls.{reconnected, begun as begins, acted, rolled, forced, compensated, ended, answered, next_of, inverse_at, waits_for}
-use Rattle.tc_core.specs.Kept.{IsTc, IsAlone, IsOpenTxn, IsWaiting, Waits}
+use Rattle.tc_core.specs.Replies.{takes, is_number, awaiting, next_phase, passed}
+use Rattle.tc_core.specs.declared.phase.Phase.{Phase}
+use Rattle.tc_core.specs.declared.phase.Phase.TheVariants as phase
+use Rattle.tc_core.specs.Kept.{IsTc, IsAlone, IsOpenTxn, IsWaiting, Waits, IsPhase}
 use Rattle.tc_core.specs.Undo.{IsUndoable, HasRequest}
 use Rattle.tc_core.proofs.Index.{record_at-zero, nothing_answered}
 use Rattle.tc_core.proofs.Keeps.{IsNeutral, open_had, open_kept, unended_next, still_alone, still_open}
@@ -34,10 +38,10 @@ still_so log (Some o) h =
     still_open is.Session log (session_neutral log) o o.waiting h (still_waits is.Session log (session_neutral log) o o.waiting (λ n. refl) h.waits)
 
 pub keeps_session : (w : TcView) → IsTc w → IsTc (reconnected w)
-keeps_session w k = record { legal = (tt, k.legal); within = omega arith; alone = still_so w.log w.open_txn k.alone }
+keeps_session w k = record { legal = (tt, k.legal); within = omega arith; session = omega arith; phase = omega arith; alone = still_so w.log w.open_txn k.alone }
 
 pub keeps_force : (w : TcView) → IsTc w → IsTc (forced w)
-keeps_force w k = record { legal = k.legal; within = omega arith; alone = k.alone }
+keeps_force w k = record { legal = k.legal; within = omega arith; session = omega (arith, k.session, k.within); phase = k.phase; alone = k.alone }
 
 -- a transaction begins
 no_steps_yet : (log : List Record) (n : ℕ) → IsLegal log → IsStepOf (is.Begin ∷ log) (length log + 1) n → ⊥
@@ -60,7 +64,7 @@ opens log legal alone = record {
 pub keeps_begin : (w : TcView) → IsTc w → w.open_txn ≡ None → IsTc (begins w)
 keeps_begin w k none =
     let P : Option OpenTxn → Type 0 = λ o. IsAlone w.log o in
-    record { legal = (tt, k.legal); within = omega (arith, k.within); alone = opens w.log k.legal (subst P none k.alone) }
+    record { legal = (tt, k.legal); within = omega (arith, k.within); session = k.session; phase = k.phase; alone = opens w.log k.legal (subst P none k.alone) }
 
 -- what is known where a transaction is open
 pub alone_at : (w : TcView) (o : OpenTxn) → IsTc w → w.open_txn ≡ Some o → IsOpenTxn w.log o
@@ -100,6 +104,8 @@ keeps_act w o op k is none =
     record {
       legal = (fits_op w o op k is none, k.legal);
       within = omega (arith, k.within);
+      session = k.session;
+      phase = k.phase;
       alone = acts w.log o op k.legal h (idle_at w.log o h none);
     }
 
@@ -111,6 +117,8 @@ keeps_rollback w o k is none =
     record {
       legal = k.legal;
       within = k.within;
+      session = k.session;
+      phase = k.phase;
       alone = record { is = h.is; only = h.only; last = h.last; undo = h.undo; waits = subst P (sym none) (idle_at w.log o h none) };
     }
 
@@ -129,6 +137,8 @@ keeps_answer w o n a k at some =
     record {
       legal = (fits, k.legal);
       within = omega (arith, k.within);
+      session = k.session;
+      phase = k.phase;
       alone = still_open r w.log (record { fits = fits; no_begin = λ e. cc; no_step = λ t s. cc; ends_none = λ t. refl }) o None h (idle_now w.log o n a (waits_at w.log o n h some));
     }
 
@@ -203,6 +213,8 @@ keeps_comp w o k at none rolling some =
     record {
       legal = (fits_comp w o k at none some, k.legal);
       within = omega (arith, k.within);
+      session = k.session;
+      phase = k.phase;
       alone = compensates (inverse_at w.log o.undo) w.log o (next_of w.log o.undo) k.legal h (idle_at w.log o h none) rolling;
     }
 
@@ -223,7 +235,30 @@ ends log o h t now =
 
 pub keeps_end : (w : TcView) (o : OpenTxn) → IsTc w → w.open_txn ≡ Some o → o.waiting ≡ None → o.undo ≡ 0 → IsTc (ended w o.txn)
 keeps_end w o k at none zero =
-    record { legal = (fits_end w o k at none zero, k.legal); within = omega (arith, k.within); alone = ends w.log o (alone_at w o k at) }
+    record { legal = (fits_end w o k at none zero, k.legal); within = omega (arith, k.within); session = k.session; phase = k.phase; alone = ends w.log o (alone_at w o k at) }
+
+-- whoever waits for an answer is the open transaction
+pub awaited_is : (x : Option OpenTxn) (n : ℕ) (o : OpenTxn) → awaiting x n ≡ Some o → (x ≡ Some o) × (o.waiting ≡ Some n)
+awaited_is None n o h = absurd (cc)
+awaited_is (Some p) n o h = pick p.waiting refl (is_number p.waiting n) refl h
+  where
+    number : (m : Option ℕ) → is_number m n ≡ true → m ≡ Some n
+    number None h = absurd (cc)
+    number (Some m) h = ap Some (eqb-true m n h)
+
+    pick : (m : Option ℕ) → p.waiting ≡ m → (b : Bool) → is_number p.waiting n ≡ b → (if b then Some p else None) ≡ Some o → (Some p ≡ Some o) × (o.waiting ≡ Some n)
+    pick m is true test same = (same, let e : p ≡ o = cc in ap (λ (x : OpenTxn). x.waiting) (sym e) ∙ number p.waiting test)
+    pick m is false test same = absurd (cc)
+
+-- redo goes on
+pub keeps_passed : (w : TcView) (n : ℕ) → takes w.session w.phase n ≡ true → IsTc w → IsTc (passed w n)
+keeps_passed w n taken k = record { legal = k.legal; within = k.within; session = k.session; phase = by w.phase taken k.phase; alone = k.alone }
+  where
+    by : (p : Phase) → takes w.session p n ≡ true → IsPhase w.session p → IsPhase w.session (next_phase p n)
+    by phase.Unconnected test h = absurd (cc)
+    by phase.Connecting test h = absurd (cc)
+    by (phase.Redoing next) test h = (omega arith, grind (arith, nat_tests, test))
+    by phase.Running test h = h
 
 -- what is sent is what was logged
 pub has_request : (w : TcView) (o : OpenTxn) (n : ℕ) → IsTc w → w.open_txn ≡ Some o → o.waiting ≡ Some n → HasRequest w.log n

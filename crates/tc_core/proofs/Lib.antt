@@ -2,3 +2,4 @@ pub mod Index
 pub mod Keeps
 pub mod KeepsIdle
 pub mod KeepsTc
+pub mod Answered

@@ -1,29 +1,34 @@
 -- What each call is refused for, and what it makes of what was seen before it.
-use Rattle.std.specs.Prelude.{◌≡◌, ◌≢◌, ℕ, ◌+◌, ◌≤◌, ◌==◌, ◌&&◌, Bool, false, true, not, nat_lt, List, [], ◌∷◌, Option, Some, None, is_some, unwrap_or, length}
+use Rattle.std.specs.Prelude.{◌≡◌, ◌≢◌, ℕ, ◌+◌, ◌≤◌, ◌&&◌, false, true, not, nat_lt, List, [], ◌∷◌, Option, Some, None, is_some, unwrap_or, length}
 use Rattle.record_key.specs.declared.op.Op.{Op}
 use Rattle.record_key.specs.declared.op.Answer.{Answer}
 use Rattle.record_key.specs.declared.refusal.Refusal.{Refusal}
-use Rattle.record_key.specs.declared.refusal.Refusal.TheVariants.{NotConnected, NotOpen, RollingBack, Unanswered, Full, NumbersSpent, Unsent, BeyondStable}
+use Rattle.record_key.specs.declared.refusal.Refusal.TheVariants.{NotConnected, Redoing, NotOpen, RollingBack, Unanswered, Full, NumbersSpent, Unsent, BeyondStable}
 use Rattle.inverse.specs.Inverse.{inverse_of}
 use Rattle.history.specs.declared.record.Record.{Record}
 use Rattle.history.specs.declared.record.Record.TheVariants as is
 use Rattle.history.specs.Log.{record_at, answer_of, op_in, Requests}
 use Rattle.log_laws.specs.Laws.{undo_from, prev_in}
+use Rattle.codec.specs.declared.request.Request.{Request}
+use Rattle.codec.specs.declared.request.Request.TheVariants as asks
 use Rattle.tc_core.specs.declared.open_txn.OpenTxn.{OpenTxn}
-use Rattle.tc_core.specs.declared.told.Told.{Told}
-use Rattle.tc_core.specs.declared.told.Told.TheVariants as told
+use Rattle.tc_core.specs.declared.phase.Phase.TheVariants as phase
 use Rattle.tc_core.specs.declared.told.UndoStep.{UndoStep}
 use Rattle.tc_core.specs.declared.told.UndoStep.TheVariants as step
-use Rattle.tc_core.specs.Refusals.{first_of, or_else}
+use Rattle.record_key.specs.FirstCause.{first_of, or_else}
 use Rattle.tc_core.specs.LogView.{is_spent, spent_refusal}
-use Rattle.tc_core.specs.TcView.{TcView, is_unconnected, is_txn, is_rolling, is_waiting}
+use Rattle.tc_core.specs.TcView.{TcView, is_unconnected, is_running, is_txn, is_rolling, is_waiting}
+
+-- clients are served only while the component runs
+abbrev pub running_refusal : TcView → Option Refusal
+running_refusal w = first_of ((is_unconnected w.phase, NotConnected) ∷ (not (is_running w.phase), Redoing) ∷ [])
 
 -- the causes that stand before all others where a transaction is named
 abbrev pub open_refusal : TcView → ℕ → Option Refusal
-open_refusal w t = first_of ((is_unconnected w, NotConnected) ∷ (not (is_txn t w.open_txn), NotOpen) ∷ [])
+open_refusal w t = or_else (running_refusal w) (first_of ((not (is_txn t w.open_txn), NotOpen) ∷ []))
 
 abbrev pub begin_refusal : TcView → Option Refusal
-begin_refusal w = first_of ((is_unconnected w, NotConnected) ∷ (is_some w.open_txn, Full) ∷ (is_spent w.log, NumbersSpent) ∷ [])
+begin_refusal w = or_else (running_refusal w) (first_of ((is_some w.open_txn, Full) ∷ (is_spent w.log, NumbersSpent) ∷ []))
 
 abbrev pub rollback_refusal : TcView → ℕ → Option Refusal
 rollback_refusal w t = or_else (open_refusal w t) (first_of ((is_rolling w.open_txn, RollingBack) ∷ (is_waiting w.open_txn, Unanswered) ∷ []))
@@ -48,7 +53,7 @@ resend_refusal w t =
 
 -- a new session, stable at once
 abbrev pub reconnected : TcView → TcView
-reconnected w = record w { log = is.Session ∷ w.log; stable = length (is.Session ∷ w.log); session = length w.log + 1 }
+reconnected w = record w { log = is.Session ∷ w.log; stable = length (is.Session ∷ w.log); session = length w.log + 1; phase = phase.Connecting }
 
 abbrev pub begun : TcView → TcView
 begun w = record w {
@@ -107,20 +112,6 @@ Undoes w o step.Idle new = (o.rolling ≡ false) × (new ≡ w)
 Undoes w o (step.Compensated n) new = (o.rolling ≡ true) × (o.undo ≢ 0) × (n ≡ length w.log + 1) × (new ≡ compensated w o)
 Undoes w o (step.RolledBack t) new = (o.rolling ≡ true) × (o.undo ≡ 0) × (t ≡ o.txn) × (new ≡ ended w o.txn)
 
-abbrev pub IsAwaited : Option OpenTxn → ℕ → Type 0
-IsAwaited None n = ⊥
-IsAwaited (Some o) n = o.waiting ≡ Some n
-
--- a reply that is awaited is logged and told; any other changes nothing
-abbrev pub Takes : TcView → OpenTxn → ℕ → Answer → Told → TcView → Type 0
-Takes w o n a told.Nothing new = ⊥
-Takes w o n a (told.Answered t b) new = (o.rolling ≡ false) × (t ≡ o.txn) × (b ≡ a) × (new ≡ answered w o n a)
-Takes w o n a (told.Undone m) new = (o.rolling ≡ true) × (m ≡ n) × (new ≡ answered w o n a)
-
-abbrev pub TakesReply : TcView → ℕ → Answer → Told → TcView → Type 0
-TakesReply w n a told.Nothing new = ¬ (IsAwaited w.open_txn n) × (new ≡ w)
-TakesReply w n a t new = (o : OpenTxn) × (w.open_txn ≡ Some o) × (o.waiting ≡ Some n) × Takes w o n a t new
-
 -- the open transaction of this number
 pub record IsAt (w : TcView) (t : ℕ) (o : OpenTxn) : Type 0 where
   pub is : w.open_txn ≡ Some o
@@ -147,29 +138,21 @@ pub record UndoesStep (old : TcView) (t : ℕ) (step : UndoStep) (new : TcView) 
   pub undoes : Undoes old open_txn step new
 
 -- the request that the transaction waits for is stable, and is that of its record
-pub record IsRequestOf (w : TcView) (t number : ℕ) (op : Op) : Type 0 where
+pub record IsRequestOf (w : TcView) (t : ℕ) (request : Request) : Type 0 where
   pub open_txn : OpenTxn
+  pub number : ℕ
+  pub op : Op
   pub at : IsAt w t open_txn
-  pub connected : is_unconnected w ≡ false
+  pub running : is_running w.phase ≡ true
   pub waiting : open_txn.waiting ≡ Some number
   pub stable : number ≤ w.stable
   pub requests : Requests w.log number op
-
-abbrev pub is_number : Option ℕ → ℕ → Bool
-is_number None n = false
-is_number (Some m) n = m == n
-
-abbrev pub is_awaited : Option OpenTxn → ℕ → Bool
-is_awaited None n = false
-is_awaited (Some o) n = is_number o.waiting n
-
-abbrev pub reply_refusal : TcView → ℕ → Option Refusal
-reply_refusal w n = first_of ((is_awaited w.open_txn n && is_spent w.log, NumbersSpent) ∷ [])
+  pub is : request ≡ asks.Perform w.session number op
 
 -- what the calls that name a transaction find first
 pub record FindsOpen (w : TcView) (t : ℕ) (o : OpenTxn) : Type 0 where
   pub at : IsAt w t o
-  pub connected : is_unconnected w ≡ false
+  pub running : is_running w.phase ≡ true
   pub allowed : open_refusal w t ≡ None
 
 pub record FindsAnswered (w : TcView) (t : ℕ) (o : OpenTxn) : Type 0 where

@@ -1,5 +1,5 @@
 -- What holds of the transaction component at every moment.
-use Rattle.std.specs.Prelude.{◌≡◌, ◌≢◌, ℕ, ◌≤◌, List, Option, Some, None, IsSome, length}
+use Rattle.std.specs.Prelude.{◌≡◌, ◌≢◌, ℕ, ◌<◌, ◌≤◌, List, Option, Some, None, IsSome, length}
 use Rattle.std.specs.Bool.{MatchBool}
 use Rattle.record_key.specs.declared.op.Op.{Op}
 use Rattle.history.specs.declared.record.Record.{Record}
@@ -8,6 +8,8 @@ use Rattle.history.specs.Log.{record_at, answer_of, IsOpen, Requests, IsStepOf}
 use Rattle.history.specs.Legal.{IsLatestOrNone, IsIdle, IsLegal}
 use Rattle.log_laws.specs.Laws.{undo_from}
 use Rattle.tc_core.specs.declared.open_txn.OpenTxn.{OpenTxn}
+use Rattle.tc_core.specs.declared.phase.Phase.{Phase}
+use Rattle.tc_core.specs.declared.phase.Phase.TheVariants as phase
 use Rattle.tc_core.specs.TcView.{TcView}
 
 -- the record that is waited for: an operation, or in a rollback a compensation with an inverse
@@ -39,8 +41,18 @@ abbrev pub IsAlone : List Record → Option OpenTxn → Type 0
 IsAlone log None = (t : ℕ) → IsOpen log t → ⊥
 IsAlone log (Some o) = IsOpenTxn log o
 
--- the log is legal, a beginning of it is stable, and the open transaction is the only one
+-- a session runs from its start on, and redo never passes its record
+abbrev pub IsPhase : ℕ → Phase → Type 0
+IsPhase s phase.Unconnected = s ≡ 0
+IsPhase s phase.Connecting = 0 < s
+IsPhase s (phase.Redoing next) = (0 < next) × (next ≤ s)
+IsPhase s phase.Running = 0 < s
+
+-- the log is legal, a beginning of it with the session's record is stable, and the open transaction is the
+-- only one
 pub record IsTc (w : TcView) : Type 0 where
   pub legal : IsLegal w.log
   pub within : w.stable ≤ length w.log
+  pub session : w.session ≤ w.stable
+  pub phase : IsPhase w.session w.phase
   pub alone : IsAlone w.log w.open_txn

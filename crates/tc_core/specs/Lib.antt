@@ -1,7 +1,9 @@
-pub mod Refusals
 pub mod LogView
 pub mod TcView
 pub mod Calls
+pub mod Replies
+pub mod Recovery
+pub mod LowWater
 pub mod Kept
 pub mod Undo
 pub mod Seen

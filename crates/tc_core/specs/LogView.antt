@@ -1,12 +1,13 @@
 -- What is seen of a log in memory: its records, the newest first, and how many of them are stable.
-use Rattle.std.specs.Prelude.{◌≡◌, ℕ, ◌+◌, ◌-◌, ◌<◌, ◌≤◌, Bool, false, List, [], ◌∷◌, ◌++◌, Option, Some, None, length, nat_le, slice_set}
+use Rattle.std.specs.Prelude.{◌≡◌, ℕ, ◌+◌, ◌-◌, ◌<◌, ◌≤◌, ◌||◌, Bool, false, not, List, [], ◌∷◌, ◌++◌, Option, Some, None, is_some, length, drop, nat_le, slice_set}
 use Rattle.record_key.specs.declared.refusal.Refusal.{Refusal}
 use Rattle.record_key.specs.declared.refusal.Refusal.TheVariants.{NumbersSpent}
 use Rattle.record_key.specs.declared.op.Answer.{Answer}
 use Rattle.history.specs.declared.record.Record.{Record}
 use Rattle.history.specs.declared.record.Record.TheVariants as is
-use Rattle.history.specs.Legal.{IsLegal}
-use Rattle.tc_core.specs.Refusals.{first_of}
+use Rattle.history.specs.Log.{record_at, answer_of, request_in}
+use Rattle.history.specs.Legal.{IsLegal, IsLatest, FitsCheckpoint}
+use Rattle.record_key.specs.FirstCause.{first_of}
 
 pub record LogView : Type 0 where
   pub records : List Record
@@ -44,7 +45,13 @@ abbrev pub answer_in : Option Record → Option Answer
 answer_in (Some (is.Answer of answer)) = Some answer
 answer_in _ = None
 
-pub record IsKept (log : List Record) (answers : List ℕ) (stable : ℕ) : Type 0 where
+-- the record of this number asks for nothing, or is answered
+abbrev pub is_answered : List Record → ℕ → Bool
+is_answered log n = not (is_some (request_in (record_at log n))) || is_some (answer_of log n)
+
+-- the log is legal, and the index, the stable end and the cursor of answered requests are right for it
+pub record IsKept (log : List Record) (answers : List ℕ) (stable answered : ℕ) : Type 0 where
   pub legal : IsLegal log
   pub indexed : answers ≡ index log
   pub within : stable ≤ length log
+  pub greatest : IsLatest (FitsCheckpoint (drop (length log - stable) log)) answered

@@ -3,4 +3,4 @@ use Rattle.tc_core.specs.declared.parts.Parts.{Parts}
 use Rattle.tc_core.specs.TcView.{TcView}
 
 abbrev pub seen : Parts → TcView
-seen p = record { log = p.log.records; stable = p.log.stable; session = p.session; open_txn = p.open_txn }
+seen p = record { log = p.log.records; stable = p.log.stable; session = p.session; phase = p.phase; open_txn = p.open_txn }

@@ -1,7 +1,7 @@
 //! The transaction component: it logs, rolls back and answers by records and keys, and knows no pages.
 //!
-//! Knows: the records of the log, which logs are legal, and the inverse of an operation.
-//! Must not know: leaves, how a request is performed, or how often it is sent.
+//! Knows: the records of the log, which logs are legal, the inverse of an operation, and the messages.
+//! Must not know: leaves, how a request is performed, or how often a message arrives.
 //! Promises the next crates: its log is legal at every moment; what each call appends, changes and answers is
 //! a stated function of what was seen before; a refused call changes nothing and names the first cause.
 #![tactic(auto)]
@@ -9,13 +9,17 @@
 mod log;
 mod open_txn;
 mod parts;
+mod phase;
+mod replies;
+mod requests;
 mod tc;
 mod told;
 mod undo;
 
 pub use open_txn::OpenTxn;
+pub use phase::Phase;
 pub use tc::Tc;
-pub use told::{Request, Told, UndoStep};
+pub use told::{RecoverStep, Told, UndoStep};
 
 #[cfg(test)]
 mod tests;

@@ -1,11 +1,12 @@
 //! The log in memory, with a stable beginning.
-ghost use Rattle.std.specs.Prelude.{◌≡◌, ◌+◌, ◌-◌, ◌<◌, ◌≤◌, ◌∷◌, ◌++◌, [], length, vec_len, slice_index, Option, Some, IfOk, IfErr, OnOk, OnErr};
+ghost use Rattle.std.specs.Prelude.{◌≡◌, ◌+◌, ◌-◌, ◌<◌, ◌≤◌, [], length, vec_len, slice_index, Option, Some, is_some, IfOk, IfErr, OnOk, OnErr};
 ghost use Rattle.std.specs.Vec.{vec_capacity};
 ghost use Rattle.std.specs.Option.{option_copied};
-ghost use Rattle.history.specs.Log.{record_at, answer_of};
-ghost use Rattle.history.specs.Legal.{Fits, IsLegal};
-ghost use Rattle.tc_core.specs.LogView.{LogView, Appends, spent_refusal, noted, NamesWithin, answer_in};
-ghost use Rattle.tc_core.specs.Refusals.{RefusesAs};
+ghost use Rattle.history.specs.Log.{record_at, answer_of, request_of};
+ghost use Rattle.history.specs.Legal.{Fits, FitsCheckpoint, IsLatest};
+ghost use Rattle.tc_core.specs.LogView.{LogView, Appends, spent_refusal, noted, NamesWithin, answer_in, is_answered};
+ghost use Rattle.tc_core.specs.LowWater.{IsGreatestLow};
+ghost use Rattle.record_key.specs.FirstCause.{RefusesAs};
 
 use history::Record;
 use record_key::{Answer, Refusal};
@@ -15,12 +16,14 @@ use std::marker::Model;
 /// The greatest number that a record may have.
 pub const LAST_NUMBER: u64 = 281_474_976_710_655;
 
-/// Records by their numbers, and for each the number of its Answer record.
+/// Records by their numbers, for each the number of its Answer record, and up to where every stable request
+/// has a stable answer.
 #[derive(Debug, Drop)]
 pub struct Log {
     records: Vec<Record>,
     answers: Vec<u64>,
     stable: u64,
+    answered: u64,
 }
 
 impl Model for Log {
@@ -31,7 +34,7 @@ impl Model for Log {
 
     ghost view = { λ l. record { records = reverse l.records.items; stable = l.stable } };
 
-    ghost invariant = { λ l. IsKept (reverse l.records.items) l.answers.items l.stable };
+    ghost invariant = { λ l. IsKept (reverse l.records.items) l.answers.items l.stable l.answered };
 }
 
 impl Log {
@@ -43,6 +46,7 @@ impl Log {
             records: Vec::new(alloc),
             answers: Vec::new(alloc),
             stable: 0,
+            answered: 0,
         }
     }
 
@@ -96,7 +100,7 @@ impl Log {
         self.answers.reserve(1)?;
         let number = self.len() + 1;
         note(&mut self.answers, &appended, number);
-        push_reserved(&mut self.records, appended);
+        self.records.push_reserved(appended);
         Ok(number)
     }
 
@@ -105,8 +109,50 @@ impl Log {
         ensures end { result ≡ length self.old.records }
         ensures forced { self.new ≡ record self.old { stable = length self.old.records } }
     {
+        let answered = self.answered_of_all();
         self.stable = self.len();
+        self.answered = answered;
         self.stable
+    }
+
+    /// The greatest stable number up to which every request has a stable answer.
+    pub fn answered_end(&self) -> u64
+        ensures { IsGreatestLow self.now.records self.now.stable result }
+    {
+        self.answered
+    }
+
+    /// The greatest number up to which every request has its answer. Each record is passed once.
+    fn answered_of_all(&self) -> u64
+        ensures { IsLatest (FitsCheckpoint self.now.records) result }
+    {
+        let count = self.len();
+        let mut end = self.answered;
+        while end < count && self.is_answered(end + 1) {
+            end += 1;
+        }
+        end
+    }
+
+    /// The record of this number asks for nothing, or is answered.
+    fn is_answered(&self, number: u64) -> bool
+        ensures { result ≡ is_answered self.now.records number }
+    {
+        match self.record(number) {
+            Some(item) if asks(item) => self.answer_of(number).is_some(),
+            _ => true,
+        }
+    }
+}
+
+/// The record has something done to the table.
+fn asks(item: &Record) -> bool
+    ensures { result ≡ is_some (request_of item.now) }
+{
+    match item {
+        Record::Op { .. } => true,
+        Record::Comp { inverse, .. } => inverse.is_some(),
+        _ => false,
     }
 }
 
@@ -140,16 +186,5 @@ fn note(answers: &mut Vec<u64>, appended: &Record, number: u64)
     if let Record::Answer { of, .. } = appended {
         answers[*of as usize - 1] = number;
     }
-    push_reserved(answers, 0);
-}
-
-/// Pushes where there is room.
-fn push_reserved<T: Drop>(items: &mut Vec<T>, item: T)
-    requires { vec_len items.old < vec_capacity items.old }
-    ensures { items.new.items ≡ items.old.items ++ item ∷ [] }
-{
-    match items.push(item) {
-        Ok(()) => {}
-        Err(_) => unreachable!(),
-    }
+    answers.push_reserved(0);
 }

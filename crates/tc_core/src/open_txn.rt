@@ -1,5 +1,4 @@
 //! The open transaction.
-ghost use Rattle.std.specs.Prelude.{◌≡◌, ◌↔◌, Some, IsTrue};
 
 /// An open transaction: its number, what it does, and where its chains begin.
 #[derive(Debug, Clone, Copy, PartialEq, Eq)]
@@ -14,16 +13,4 @@ pub struct OpenTxn {
     pub waiting: Option<u64>,
     /// It is being rolled back.
     pub rolling: bool,
-}
-
-impl OpenTxn {
-    /// Whether it waits for the answer of this record.
-    pub fn awaits(&self, number: u64) -> bool
-        ensures { IsTrue result ↔ (self.now.waiting ≡ Some number) }
-    {
-        match self.waiting {
-            Some(waiting) => waiting == number,
-            None => false,
-        }
-    }
 }

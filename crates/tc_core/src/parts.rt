@@ -1,16 +1,23 @@
 //! The calls of the transaction component.
-ghost use Rattle.std.specs.Prelude.{◌≡◌, ◌+◌, true, false, length, Some, None, IfOk, IfErr, OnOk, OnErr};
-ghost use Rattle.tc_core.specs.Refusals.{RefusesAs};
+ghost use Rattle.std.specs.Prelude.{◌≡◌, ◌+◌, true, false, length, Some, None, IsOk, IfOk, IfErr, OnOk, OnErr};
+ghost use Rattle.record_key.specs.FirstCause.{RefusesAs};
 ghost use Rattle.tc_core.specs.LogView.{spent_refusal};
-ghost use Rattle.tc_core.specs.TcView.{fresh, is_unconnected};
-ghost use Rattle.tc_core.specs.Calls.{begin_refusal, act_refusal, rollback_refusal, undo_refusal, resend_refusal, reply_refusal, reconnected, begun, forced, Acts, RollsBack, UndoesStep, IsRequestOf, TakesReply, open_refusal, answered_refusal, FindsOpen, FindsAnswered, FindsIdle};
+ghost use Rattle.tc_core.specs.TcView.{fresh, is_running, is_rolling};
+ghost use Rattle.tc_core.specs.Calls.{running_refusal, open_refusal, answered_refusal, begin_refusal, act_refusal, rollback_refusal, undo_refusal, resend_refusal, reconnected, begun, forced, Acts, RollsBack, UndoesStep, IsRequestOf, FindsOpen, FindsAnswered, FindsIdle};
+ghost use Rattle.tc_core.specs.Replies.{TakesReply, reply_refusal, answered_refusal_of, logs, is_logged, awaiting, passed, takes as takes_number, on_connected as connects, on_redo_ended as ends_redo, on_answered as answers};
+ghost use Rattle.tc_core.specs.Recovery.{Recovers, Redoes, recover_refusal};
+ghost use Rattle.tc_core.specs.LowWater.{Announces, RefusesLow};
 ghost use Rattle.tc_core.specs.Kept.{IsTc};
 ghost use Rattle.tc_core.specs.Seen.{seen};
 
-use crate::log::Log;
+use crate::log::{LAST_NUMBER, Log};
 use crate::open_txn::OpenTxn;
-use crate::told::{Request, Told, UndoStep};
+use crate::phase::Phase;
+use crate::replies::{awaiting, session_of, takes, told_of};
+use crate::requests::{first_request, request};
+use crate::told::{RecoverStep, Told, UndoStep};
 use crate::undo;
+use codec::{Reply, Request};
 use history::Record;
 use record_key::{Answer, Op, Refusal};
 use std::alloc::Global;
@@ -19,8 +26,9 @@ use std::alloc::Global;
 #[derive(Debug, Drop)]
 pub struct Parts {
     pub log: Log,
-    /// The number of the running session, 0 where there is none.
+    /// The number of the latest session, 0 where there is none.
     pub session: u64,
+    pub phase: Phase,
     pub open_txn: Option<OpenTxn>,
 }
 
@@ -32,14 +40,26 @@ impl Parts {
         Parts {
             log: Log::new(alloc),
             session: 0,
+            phase: Phase::Unconnected,
             open_txn: None,
         }
     }
 
-    pub fn reconnect(&mut self) -> Result<u64, Refusal>
+    /// Whether one more record may be logged.
+    pub fn can_log(&self) -> Result<(), Refusal>
+        ensures unspent { OnOk result (spent_refusal self.now.log.records ≡ None) }
+        ensures refused { IfErr result (λ refusal. spent_refusal self.now.log.records ≡ Some refusal) }
+    {
+        if self.log.len() >= LAST_NUMBER {
+            return Err(Refusal::NumbersSpent);
+        }
+        Ok(())
+    }
+
+    pub fn reconnect(&mut self) -> Result<Request, Refusal>
         requires { IsTc (seen self.old) }
         ensures kept { IsTc (seen self.new) }
-        ensures session { IfOk result (λ session. session ≡ length self.old.log.records + 1) }
+        ensures connects { IfOk result (λ request. request ≡ Request.Connect (length self.old.log.records + 1)) }
         ensures reconnected { OnOk result (seen self.new ≡ reconnected (seen self.old)) }
         ensures allowed { OnOk result (spent_refusal self.old.log.records ≡ None) }
         ensures refused { IfErr result (RefusesAs (spent_refusal self.old.log.records)) }
@@ -48,7 +68,8 @@ impl Parts {
         let session = self.log.append(Record::Session)?;
         self.log.force();
         self.session = session;
-        Ok(session)
+        self.phase = Phase::Connecting;
+        Ok(Request::Connect { session })
     }
 
     pub fn begin(&mut self) -> Result<u64, Refusal>
@@ -60,7 +81,7 @@ impl Parts {
         ensures refused { IfErr result (RefusesAs (begin_refusal (seen self.old))) }
         ensures unchanged { OnErr result (seen self.new ≡ seen self.old) }
     {
-        self.connected()?;
+        self.running()?;
         if self.open_txn.is_some() {
             return Err(Refusal::Full);
         }
@@ -120,6 +141,7 @@ impl Parts {
         ensures undoes { IfOk result (λ step. UndoesStep (seen self.old) txn step (seen self.new)) }
         ensures allowed { OnOk result (undo_refusal (seen self.old) txn ≡ None) }
         ensures refused { IfErr result (RefusesAs (undo_refusal (seen self.old) txn)) }
+        ensures memory { is_rolling self.old.open_txn ≡ false → undo_refusal (seen self.old) txn ≡ None → IsOk result }
         ensures unchanged { OnErr result (seen self.new ≡ seen self.old) }
     {
         let open = self.answered(txn)?;
@@ -159,7 +181,7 @@ impl Parts {
 
     pub fn resend(&self, txn: u64) -> Result<Request, Refusal>
         requires { IsTc (seen self.now) }
-        ensures sent { IfOk result (λ request. IsRequestOf (seen self.now) txn request.number request.op) }
+        ensures sent { IfOk result (IsRequestOf (seen self.now) txn) }
         ensures refused { IfErr result (λ refusal. resend_refusal (seen self.now) txn ≡ Some refusal) }
     {
         let open = self.open_at(txn)?;
@@ -169,26 +191,141 @@ impl Parts {
         if number > self.log.stable_end() {
             return Err(Refusal::BeyondStable);
         }
-        Ok(Request {
+        Ok(Request::Perform {
+            session: self.session,
             number,
-            op: undo::request(&self.log, number),
+            op: request(&self.log, number),
         })
     }
 
-    pub fn on_reply(&mut self, number: u64, answer: &Answer) -> Result<Told, Refusal>
+    pub fn recover_step(&mut self) -> Result<RecoverStep, Refusal>
         requires { IsTc (seen self.old) }
         ensures kept { IsTc (seen self.new) }
-        ensures taken { IfOk result (λ told. TakesReply (seen self.old) number answer.now told (seen self.new)) }
-        ensures allowed { OnOk result (reply_refusal (seen self.old) number ≡ None) }
-        ensures refused { IfErr result (RefusesAs (reply_refusal (seen self.old) number)) }
+        ensures recovers { IfOk result (λ step. Recovers (seen self.old) step (seen self.new)) }
+        ensures refused { IfErr result (λ refusal. recover_refusal (seen self.old) ≡ Some refusal) }
         ensures unchanged { OnErr result (seen self.new ≡ seen self.old) }
     {
-        let Some(open) = self.open_txn else {
-            return Ok(Told::Nothing);
-        };
-        if !open.awaits(number) {
+        match self.phase {
+            Phase::Unconnected => Err(Refusal::NotConnected),
+            Phase::Connecting => Ok(RecoverStep::Sends(Request::Connect {
+                session: self.session,
+            })),
+            Phase::Redoing { next } => Ok(RecoverStep::Sends(self.redo(next))),
+            Phase::Running => Ok(RecoverStep::Nothing),
+        }
+    }
+
+    /// The next request of redo, from this number on; the end of redo after the last.
+    fn redo(&mut self, next: u64) -> Request
+        requires kept { IsTc (seen self.old) }
+        requires redoing { self.old.phase ≡ Phase.Redoing next }
+        ensures kept { IsTc (seen self.new) }
+        ensures redoes { Redoes (seen self.old) next result (seen self.new) }
+    {
+        let session = self.session;
+        match first_request(&self.log, next, session) {
+            Some((number, op)) => {
+                self.phase = Phase::Redoing { next: number };
+                Request::Perform {
+                    session,
+                    number,
+                    op,
+                }
+            }
+            None => {
+                self.phase = Phase::Redoing { next: session };
+                Request::RedoEnd { session }
+            }
+        }
+    }
+
+    pub fn low_water(&self, low: u64) -> Result<Request, Refusal>
+        requires { IsTc (seen self.now) }
+        ensures request { IfOk result (λ request. request ≡ Request.LowWater self.now.session low) }
+        ensures announces { OnOk result (Announces (seen self.now) low) }
+        ensures refused { IfErr result (RefusesLow (seen self.now) low) }
+    {
+        self.running()?;
+        if low > self.log.answered_end() {
+            return Err(Refusal::BeyondStable);
+        }
+        Ok(Request::LowWater {
+            session: self.session,
+            low,
+        })
+    }
+
+    pub fn on_reply(&mut self, reply: &Reply) -> Result<Told, Refusal>
+        requires { IsTc (seen self.old) }
+        ensures kept { IsTc (seen self.new) }
+        ensures taken { IfOk result (λ told. TakesReply (seen self.old) reply.now told (seen self.new)) }
+        ensures allowed { OnOk result (reply_refusal (seen self.old) reply.now ≡ None) }
+        ensures refused { IfErr result (RefusesAs (reply_refusal (seen self.old) reply.now)) }
+        ensures memory { logs (seen self.old) reply.now ≡ false → reply_refusal (seen self.old) reply.now ≡ None → IsOk result }
+        ensures unchanged { OnErr result (seen self.new ≡ seen self.old) }
+    {
+        let session = session_of(reply);
+        if self.session == 0 || session != self.session {
+            return Err(Refusal::Stale);
+        }
+        match reply {
+            Reply::Connected { .. } => Ok(self.on_connected()),
+            Reply::Answered { number, answer, .. } => self.on_answered(*number, answer),
+            Reply::RedoEnded { .. } => Ok(self.on_redo_ended()),
+            Reply::Row { .. } | Reply::Rows { .. } | Reply::Checkpointed { .. } => {
+                Ok(Told::Nothing)
+            }
+        }
+    }
+
+    fn on_connected(&mut self) -> Told
+        requires kept { IsTc (seen self.old) }
+        ensures kept { IsTc (seen self.new) }
+        ensures told { result ≡ (connects (seen self.old) self.old.phase).0 }
+        ensures left { seen self.new ≡ (connects (seen self.old) self.old.phase).1 }
+    {
+        if self.phase != Phase::Connecting {
+            return Told::Nothing;
+        }
+        self.phase = Phase::Redoing { next: 1 };
+        Told::Connected(self.session)
+    }
+
+    fn on_redo_ended(&mut self) -> Told
+        requires kept { IsTc (seen self.old) }
+        ensures kept { IsTc (seen self.new) }
+        ensures told { result ≡ (ends_redo (seen self.old) self.old.phase).0 }
+        ensures left { seen self.new ≡ (ends_redo (seen self.old) self.old.phase).1 }
+    {
+        match self.phase {
+            Phase::Redoing { next } if next == self.session => {
+                self.phase = Phase::Running;
+                Told::RedoEnded(self.session)
+            }
+            _ => Told::Nothing,
+        }
+    }
+
+    fn on_answered(&mut self, number: u64, answer: &Option<Answer>) -> Result<Told, Refusal>
+        requires { IsTc (seen self.old) }
+        ensures kept { IsTc (seen self.new) }
+        ensures told { IfOk result (λ told. told ≡ (answers (seen self.old) number answer.now).0) }
+        ensures left { OnOk result (seen self.new ≡ (answers (seen self.old) number answer.now).1) }
+        ensures allowed { OnOk result (answered_refusal_of (seen self.old) number answer.now ≡ None) }
+        ensures refused { IfErr result (RefusesAs (answered_refusal_of (seen self.old) number answer.now)) }
+        ensures memory { is_logged (seen self.old) number answer.now (awaiting self.old.open_txn number) ≡ false → IsOk result }
+        ensures unchanged { OnErr result (seen self.new ≡ seen self.old) }
+    {
+        if !takes(self.session, self.phase, number) {
             return Ok(Told::Nothing);
         }
+        let Some(open) = awaiting(self.open_txn, number) else {
+            self.pass(number);
+            return Ok(Told::Nothing);
+        };
+        let Some(answer) = answer else {
+            return Ok(Told::Nothing);
+        };
         self.log.append(Record::Answer {
             of: number,
             answer: answer.copied(),
@@ -197,24 +334,32 @@ impl Parts {
             waiting: None,
             ..open
         });
-        if open.rolling {
-            Ok(Told::Undone(number))
-        } else {
-            Ok(Told::Answered {
-                txn: open.txn,
-                answer: answer.copied(),
-            })
+        self.pass(number);
+        Ok(told_of(&open, number, answer))
+    }
+
+    /// Redo goes on after this number.
+    fn pass(&mut self, number: u64)
+        requires kept { IsTc (seen self.old) }
+        requires taken { takes_number self.old.session self.old.phase number ≡ true }
+        ensures kept { IsTc (seen self.new) }
+        ensures passed { seen self.new ≡ passed (seen self.old) number }
+    {
+        if let Phase::Redoing { .. } = self.phase {
+            self.phase = Phase::Redoing { next: number + 1 };
         }
     }
 
-    fn connected(&self) -> Result<(), Refusal>
-        ensures ok { OnOk result (is_unconnected (seen self.now) ≡ false) }
-        ensures refused { IfErr result (λ refusal. (refusal ≡ Refusal.NotConnected) × (is_unconnected (seen self.now) ≡ true)) }
+    fn running(&self) -> Result<(), Refusal>
+        ensures ok { OnOk result (is_running self.now.phase ≡ true) }
+        ensures allowed { OnOk result (running_refusal (seen self.now) ≡ None) }
+        ensures refused { IfErr result (λ refusal. running_refusal (seen self.now) ≡ Some refusal) }
     {
-        if self.session == 0 {
-            return Err(Refusal::NotConnected);
+        match self.phase {
+            Phase::Unconnected => Err(Refusal::NotConnected),
+            Phase::Connecting | Phase::Redoing { .. } => Err(Refusal::Redoing),
+            Phase::Running => Ok(()),
         }
-        Ok(())
     }
 
     /// The open transaction of this number.
@@ -222,7 +367,7 @@ impl Parts {
         ensures found { IfOk result (FindsOpen (seen self.now) txn) }
         ensures refused { IfErr result (λ refusal. open_refusal (seen self.now) txn ≡ Some refusal) }
     {
-        self.connected()?;
+        self.running()?;
         match self.open_txn {
             Some(open) if open.txn == txn => Ok(open),
             _ => Err(Refusal::NotOpen),

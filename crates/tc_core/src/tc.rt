@@ -1,16 +1,21 @@
 //! The transaction component.
-ghost use Rattle.std.specs.Prelude.{◌≡◌, ◌+◌, length, Some, None, IfOk, IfErr, OnOk, OnErr};
+ghost use Rattle.std.specs.Prelude.{◌≡◌, ◌+◌, false, length, Some, None, IsOk, IfOk, IfErr, OnOk, OnErr};
 ghost use Rattle.std.specs.Option.{option_copied};
 ghost use Rattle.history.specs.Log.{record_at};
-ghost use Rattle.tc_core.specs.Refusals.{RefusesAs};
+ghost use Rattle.record_key.specs.FirstCause.{RefusesAs};
 ghost use Rattle.tc_core.specs.LogView.{spent_refusal};
-ghost use Rattle.tc_core.specs.TcView.{TcView, fresh};
-ghost use Rattle.tc_core.specs.Calls.{begin_refusal, act_refusal, rollback_refusal, undo_refusal, resend_refusal, reply_refusal, reconnected, begun, forced, Acts, RollsBack, UndoesStep, IsRequestOf, TakesReply};
+ghost use Rattle.tc_core.specs.TcView.{TcView, fresh, is_rolling};
+ghost use Rattle.tc_core.specs.Calls.{begin_refusal, act_refusal, rollback_refusal, undo_refusal, resend_refusal, reconnected, begun, forced, Acts, RollsBack, UndoesStep, IsRequestOf};
+ghost use Rattle.tc_core.specs.Replies.{TakesReply, reply_refusal, logs};
+ghost use Rattle.tc_core.specs.Recovery.{Recovers, recover_refusal};
+ghost use Rattle.tc_core.specs.LowWater.{Announces, RefusesLow, IsGreatestLow};
 ghost use Rattle.tc_core.specs.Kept.{IsTc};
 
 use crate::open_txn::OpenTxn;
 use crate::parts::Parts;
-use crate::told::{Request, Told, UndoStep};
+use crate::phase::Phase;
+use crate::told::{RecoverStep, Told, UndoStep};
+use codec::{Reply, Request};
 use history::Record;
 use record_key::{Answer, Op, Refusal};
 use std::alloc::Global;
@@ -44,10 +49,18 @@ impl Tc {
         }
     }
 
-    /// Starts a session: logs it, forces the log, and answers the session's number. Refused NumbersSpent,
+    /// Whether one more record may be logged. Refused NumbersSpent.
+    pub fn can_log(&self) -> Result<(), Refusal>
+        ensures unspent { OnOk result (spent_refusal self.now.log ≡ None) }
+        ensures refused { IfErr result (λ refusal. spent_refusal self.now.log ≡ Some refusal) }
+    {
+        self.parts.can_log()
+    }
+
+    /// Starts a session: logs it, forces the log, and gives the request that begins it. Refused NumbersSpent,
     /// NoMemory.
-    pub fn reconnect(&mut self) -> Result<u64, Refusal>
-        ensures session { IfOk result (λ session. session ≡ length self.old.log + 1) }
+    pub fn reconnect(&mut self) -> Result<Request, Refusal>
+        ensures connects { IfOk result (λ request. request ≡ Request.Connect (length self.old.log + 1)) }
         ensures reconnected { OnOk result (self.new ≡ reconnected self.old) }
         ensures allowed { OnOk result (spent_refusal self.old.log ≡ None) }
         ensures refused { IfErr result (RefusesAs (spent_refusal self.old.log)) }
@@ -56,7 +69,7 @@ impl Tc {
         self.parts.reconnect()
     }
 
-    /// Begins a transaction and answers its number. Refused NotConnected, Full while one is open,
+    /// Begins a transaction and answers its number. Refused NotConnected, Redoing, Full while one is open,
     /// NumbersSpent, NoMemory.
     pub fn begin(&mut self) -> Result<u64, Refusal>
         ensures number { IfOk result (λ txn. txn ≡ length self.old.log + 1) }
@@ -68,8 +81,8 @@ impl Tc {
         self.parts.begin()
     }
 
-    /// Logs an operation and answers its number. Refused NotConnected, NotOpen, RollingBack, Unanswered,
-    /// NumbersSpent, NoMemory.
+    /// Logs an operation and answers its number. Refused NotConnected, Redoing, NotOpen, RollingBack,
+    /// Unanswered, NumbersSpent, NoMemory.
     pub fn act(&mut self, txn: u64, op: &Op) -> Result<u64, Refusal>
         ensures acted { IfOk result (λ number. Acts self.old txn op.now number self.new) }
         ensures allowed { OnOk result (act_refusal self.old txn ≡ None) }
@@ -79,7 +92,7 @@ impl Tc {
         self.parts.act(txn, op)
     }
 
-    /// Begins to roll the transaction back. Refused NotConnected, NotOpen, RollingBack, Unanswered.
+    /// Begins to roll the transaction back. Refused NotConnected, Redoing, NotOpen, RollingBack, Unanswered.
     pub fn rollback(&mut self, txn: u64) -> Result<(), Refusal>
         ensures rolls_back { OnOk result (RollsBack self.old txn self.new) }
         ensures refused { IfErr result (λ refusal. rollback_refusal self.old txn ≡ Some refusal) }
@@ -89,11 +102,12 @@ impl Tc {
     }
 
     /// Compensates the latest operation that is left, or ends the rollback where none is. Refused
-    /// NotConnected, NotOpen, Unanswered, NumbersSpent, NoMemory.
+    /// NotConnected, Redoing, NotOpen, Unanswered, NumbersSpent, NoMemory.
     pub fn undo_step(&mut self, txn: u64) -> Result<UndoStep, Refusal>
         ensures undoes { IfOk result (λ step. UndoesStep self.old txn step self.new) }
         ensures allowed { OnOk result (undo_refusal self.old txn ≡ None) }
         ensures refused { IfErr result (RefusesAs (undo_refusal self.old txn)) }
+        ensures memory { is_rolling self.old.open_txn ≡ false → undo_refusal self.old txn ≡ None → IsOk result }
         ensures unchanged { OnErr result (self.new ≡ self.old) }
     {
         self.parts.undo_step(txn)
@@ -107,27 +121,62 @@ impl Tc {
         self.parts.force()
     }
 
-    /// The request that the transaction waits for, first or again. Refused NotConnected, NotOpen, Unsent,
-    /// BeyondStable where its record isn't stable.
+    /// The request that the transaction waits for, first or again. Refused NotConnected, Redoing, NotOpen,
+    /// Unsent, BeyondStable where its record isn't stable.
     pub fn resend(&self, txn: u64) -> Result<Request, Refusal>
-        ensures sent { IfOk result (λ request. IsRequestOf self.now txn request.number request.op) }
+        ensures sent { IfOk result (IsRequestOf self.now txn) }
         ensures refused { IfErr result (λ refusal. resend_refusal self.now txn ≡ Some refusal) }
     {
         self.parts.resend(txn)
     }
 
-    /// Logs the answer of the awaited request and tells it; any other reply changes nothing. Refused
-    /// NumbersSpent, NoMemory; the reply may be given again then.
-    pub fn on_reply(&mut self, number: u64, answer: &Answer) -> Result<Told, Refusal>
-        ensures taken { IfOk result (λ told. TakesReply self.old number answer.now told self.new) }
-        ensures allowed { OnOk result (reply_refusal self.old number ≡ None) }
-        ensures refused { IfErr result (RefusesAs (reply_refusal self.old number)) }
-        ensures unchanged { OnErr result (self.new ≡ self.old) }
+    /// Tells the data component that no number up to `low` is sent again. Refused NotConnected, Redoing,
+    /// BeyondStable where one of these isn't stable or has no stable answer.
+    pub fn low_water(&self, low: u64) -> Result<Request, Refusal>
+        ensures request { IfOk result (λ request. request ≡ Request.LowWater self.now.session low) }
+        ensures announces { OnOk result (Announces self.now low) }
+        ensures refused { IfErr result (RefusesLow self.now low) }
     {
-        self.parts.on_reply(number, answer)
+        self.parts.low_water(low)
     }
 
-    /// The number of the running session, 0 if there is none.
+    /// The greatest number that `low_water` may announce.
+    pub fn greatest_low(&self) -> u64
+        ensures { IsGreatestLow self.now.log self.now.stable result }
+    {
+        self.parts.log.answered_end()
+    }
+
+    /// Takes a reply. The answer of an awaited request is logged and told; a reply that isn't awaited changes
+    /// nothing. Refused Stale, NumbersSpent, NoMemory; the reply may be given again then.
+    pub fn on_reply(&mut self, reply: &Reply) -> Result<Told, Refusal>
+        ensures taken { IfOk result (λ told. TakesReply self.old reply.now told self.new) }
+        ensures allowed { OnOk result (reply_refusal self.old reply.now ≡ None) }
+        ensures refused { IfErr result (RefusesAs (reply_refusal self.old reply.now)) }
+        ensures memory { logs self.old reply.now ≡ false → reply_refusal self.old reply.now ≡ None → IsOk result }
+        ensures unchanged { OnErr result (self.new ≡ self.old) }
+    {
+        self.parts.on_reply(reply)
+    }
+
+    /// The request that recovery sends next, or again while its reply is awaited; nothing where the component
+    /// runs. Refused NotConnected.
+    pub fn recover_step(&mut self) -> Result<RecoverStep, Refusal>
+        ensures recovers { IfOk result (λ step. Recovers self.old step self.new) }
+        ensures refused { IfErr result (λ refusal. recover_refusal self.old ≡ Some refusal) }
+        ensures unchanged { OnErr result (self.new ≡ self.old) }
+    {
+        self.parts.recover_step()
+    }
+
+    /// How far the session has come.
+    pub fn phase(&self) -> Phase
+        ensures { result ≡ self.now.phase }
+    {
+        self.parts.phase
+    }
+
+    /// The number of the latest session, 0 if there is none.
     pub fn session(&self) -> u64
         ensures { result ≡ self.now.session }
     {

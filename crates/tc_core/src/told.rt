@@ -1,18 +1,16 @@
 //! What calls of the transaction component answer.
-use record_key::{Answer, Op};
+use codec::Request;
+use record_key::Answer;
 
-/// What the data component is asked to perform: the operation of the record of this number.
-#[derive(Debug, PartialEq, Eq, Drop)]
-pub struct Request {
-    pub number: u64,
-    pub op: Op,
-}
-
-/// What a client is told of a reply.
+/// What came of a reply.
 #[derive(Debug, PartialEq, Eq, Drop)]
 pub enum Told {
-    /// The reply wasn't awaited.
+    /// The reply wasn't awaited, or nobody is told of it.
     Nothing,
+    /// The session runs at the data component.
+    Connected(u64),
+    /// The session's redo has ended; clients are served.
+    RedoEnded(u64),
     /// The transaction's operation was answered.
     Answered { txn: u64, answer: Answer },
     /// The compensation of this number was performed; no client is told.
@@ -28,4 +26,13 @@ pub enum UndoStep {
     Compensated(u64),
     /// Nothing was left to undo: the transaction is rolled back.
     RolledBack(u64),
+}
+
+/// What one step of recovery gives.
+#[derive(Debug, PartialEq, Eq, Drop)]
+pub enum RecoverStep {
+    /// The component runs: nothing is left to recover.
+    Nothing,
+    /// This is to be sent, first or again.
+    Sends(Request),
 }

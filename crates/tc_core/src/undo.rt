@@ -1,9 +1,9 @@
 //! What is left to undo, found by the links of the records and never by a scan.
 ghost use Rattle.std.specs.Prelude.{◌≡◌};
-ghost use Rattle.history.specs.Log.{record_at, Requests};
+ghost use Rattle.history.specs.Log.{record_at};
 ghost use Rattle.log_laws.specs.Laws.{undo_from as left_from};
 ghost use Rattle.tc_core.specs.Calls.{next_of, inverse_at};
-ghost use Rattle.tc_core.specs.Undo.{IsUndoable, HasRequest};
+ghost use Rattle.tc_core.specs.Undo.{IsUndoable};
 
 use crate::log::Log;
 use history::Record;
@@ -32,22 +32,5 @@ fn undo_from(log: &Log, step: u64) -> u64
         Some(Record::Op { .. }) => step,
         Some(Record::Comp { next, .. }) => *next,
         _ => 0,
-    }
-}
-
-/// What the data component does for the record of this number.
-pub fn request(log: &Log, number: u64) -> Op
-    requires { HasRequest log.now.records number }
-    ensures { Requests log.now.records number result }
-{
-    match log.record(number) {
-        Some(Record::Op { op, .. }) => op.copied(),
-        Some(
-            Record::Comp {
-                inverse: Some(op),
-                ..
-            },
-        ) => op.copied(),
-        _ => unreachable!(),
     }
 }

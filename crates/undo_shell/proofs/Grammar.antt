@@ -4,7 +4,8 @@ use Rattle.std.specs.Prelude.{nat_lt}
 use Rattle.std.specs.List.{slice_split, onto_first, position_or_len}
 use Rattle.std.proofs.lemmas.Bool.{ltb-true, ltb-false}
 use Rattle.std.proofs.lemmas.List.Splits.{slice_split-cons_no, slice_split_first, length-slice_split}
-use Rattle.undo_shell.specs.Script.{command_of, words_of, parts_left}
+use Rattle.undo_shell.specs.Script.{command_of, parts_left}
+use Rattle.undo_shell.specs.Words.{words_of}
 
 whole_step : (p : ℕ → Bool) (x : ℕ) (xs : List ℕ) (b : Bool) → p x ≡ b → (length xs ≤ position_or_len p xs → slice_split p xs ≡ xs ∷ []) → length (x ∷ xs) ≤ cond (not b) (1 + position_or_len p xs) 0 → slice_split p (x ∷ xs) ≡ (x ∷ xs) ∷ []
 whole_step p x xs true e later h = absurd (omega arith)
@@ -42,7 +43,7 @@ too_many name label key value [] h = absurd (omega arith)
 too_many name label key value (x ∷ xs) h = refl
 
 -- five words are no line
-pub five_words : (name label rest key left value more : List ℕ) (o q : Option (List ℕ)) → words_of rest ≡ key ∷ parts_left 32 o → o ≡ Some left → words_of left ≡ value ∷ parts_left 32 q → q ≡ Some more → None ≡ command_of (name ∷ label ∷ words_of rest)
-five_words name label rest key left value more o q first e second f =
-    let words : words_of rest ≡ key ∷ value ∷ words_of more = first ∙ ap (λ v. key ∷ parts_left 32 v) e ∙ ap (λ v. key ∷ v) (second ∙ ap (λ v. value ∷ parts_left 32 v) f) in
-    too_many name label key value (words_of more) (some_part more (λ b. b == 32)) ∙ ap (λ v. command_of (name ∷ label ∷ v)) (sym words)
+pub five_words : (name label key rest value more : List ℕ) (o : Option (List ℕ)) → words_of rest ≡ value ∷ parts_left 32 o → o ≡ Some more → None ≡ command_of (name ∷ label ∷ key ∷ words_of rest)
+five_words name label key rest value more o first e =
+    let words : words_of rest ≡ value ∷ words_of more = first ∙ ap (λ v. value ∷ parts_left 32 v) e in
+    too_many name label key value (words_of more) (some_part more (λ b. b == 32)) ∙ ap (λ v. command_of (name ∷ label ∷ key ∷ v)) (sym words)

@@ -3,3 +3,4 @@ pub mod Records
 pub mod Grammar
 pub mod Bindings
 pub mod Running
+pub mod Numbers

@@ -3,7 +3,8 @@ use Rattle.std.proofs.Common.{◌≡◌, ℕ, ◌+◌, ◌-◌, ◌<◌, zero, s
 use Rattle.std.specs.Io.KnownBytes.{Appends}
 use Rattle.history.specs.declared.record.Record.{Record}
 use Rattle.history.specs.Log.{record_at}
-use Rattle.undo_shell.specs.Printed.{IsCut, lines_to, line_at}
+use Rattle.undo_shell.specs.Printed.{IsCut}
+use Rattle.undo_shell.specs.Logged.{lines_to, line_at}
 use Rattle.undo_shell.proofs.Printing.{cut_longer, cut_later}
 
 lines_grow : (log : List Record) (n k m : ℕ) → m ≡ n + k → (rest : List ℕ) × (lines_to log m ≡ lines_to log n ++ rest)

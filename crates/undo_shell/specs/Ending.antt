@@ -1,13 +1,18 @@
--- How a line ends.
-use Rattle.std.specs.Prelude.{ℕ, Bool, true, false, List, Result, Ok, Err, codes}
+-- What is told while the node settles, and how a line ends.
+use Rattle.std.specs.Prelude.{ℕ, Bool, true, false, List, ◌++◌, Result, Ok, Err, codes, flat_map}
 use Rattle.record_key.specs.declared.refusal.Refusal.{Refusal}
 use Rattle.record_key.specs.declared.refusal.Refusal.TheVariants as refusal
+use Rattle.world.specs.declared.event.Out.{Out}
 use Rattle.undo_shell.specs.Printed.{refusal_line}
+use Rattle.undo_shell.specs.Told.{told_line}
 
 -- `settled`, or why it could not go on
 abbrev pub end_line : Result (Unit {0}) Refusal → List ℕ
 end_line (Ok u) = codes "settled\n"
 end_line (Err r) = refusal_line r
+
+abbrev pub settled_text : List Out → Result (Unit {0}) Refusal → List ℕ
+settled_text outs end = flat_map told_line outs ++ end_line end
 
 -- memory or a device failed
 abbrev pub is_failure : Refusal → Bool

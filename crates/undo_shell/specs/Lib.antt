@@ -1,6 +1,10 @@
+pub mod Words
 pub mod Script
 pub mod Labels
 pub mod Printed
+pub mod Told
+pub mod Logged
+pub mod Stored
 pub mod View
 pub mod Ending
 pub mod Text

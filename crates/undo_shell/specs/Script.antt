@@ -1,60 +1,87 @@
 -- The grammar of scripts, over their bytes.
-use Rattle.std.specs.Prelude.{ℕ, ◌+◌, ◌==◌, ◌||◌, ◌&&◌, Bool, true, not, List, [], ◌∷◌, Option, Some, None, length, codes, bytes_eq, is_none, nat_le, if◌then◌else◌}
-use Rattle.std.specs.List.{slice_split, list_all}
-use Rattle.std.specs.Char.{is_ascii_alphanumeric, is_ascii_lowercase, is_ascii_digit}
-use Rattle.undo_shell.specs.declared.script.Line.{Line}
-use Rattle.undo_shell.specs.declared.script.Line.TheVariants as line
+use Rattle.std.specs.Prelude.{ℕ, ◌+◌, ◌==◌, ◌&&◌, Bool, true, not, List, [], ◌∷◌, Option, Some, None, length, codes, bytes_eq, is_none, if◌then◌else◌}
+use Rattle.std.specs.List.{slice_split}
+use Rattle.world.specs.declared.event.Event.{Event}
+use Rattle.world.specs.declared.event.Event.TheVariants as event
+use Rattle.undo_shell.specs.declared.line.Kind.{Kind}
+use Rattle.undo_shell.specs.declared.line.Kind.TheVariants as kind
+use Rattle.undo_shell.specs.declared.line.Call.{Call}
+use Rattle.undo_shell.specs.declared.line.Call.TheVariants as call
+use Rattle.undo_shell.specs.declared.line.Part.{Part}
+use Rattle.undo_shell.specs.declared.line.Part.TheVariants as part
+use Rattle.undo_shell.specs.declared.line.Line.{Line}
+use Rattle.undo_shell.specs.declared.line.Line.TheVariants as line
+use Rattle.undo_shell.specs.Words.{words_of, label_in, text_in, number_in}
 
 -- what stands between the ends of lines, which are byte 10. A last end leaves an empty line, which is skipped
 abbrev pub lines_of : List ℕ → List (List ℕ)
 lines_of script = slice_split (λ b. b == 10) script
 
--- what stands between spaces: one space at each end of a word, so two in a row have an empty word between them
-abbrev pub words_of : List ℕ → List (List ℕ)
-words_of bytes = slice_split (λ b. b == 32) bytes
-
--- 1 to 8 lower case letters or digits
-abbrev pub is_label : List ℕ → Bool
-is_label word = not (length word == 0) && nat_le (length word) 8 && list_all (λ b. is_ascii_lowercase b || is_ascii_digit b) word
-
--- one or more letters or digits
-abbrev pub is_plain : List ℕ → Bool
-is_plain word = not (length word == 0) && list_all is_ascii_alphanumeric word
-
-abbrev pub label_in : List ℕ → Option (List ℕ)
-label_in word = if is_label word then Some word else None
-
-abbrev pub text_in : List ℕ → Option (List ℕ)
-text_in word = if bytes_eq word (codes ".") then Some [] else (if is_plain word then Some word else None)
-
 -- what a line asks for
 pub data Command : Type 0 where
+  -- a transaction, to be named by this label
   begins : List ℕ → Command
-  inserts : List ℕ → List ℕ → List ℕ → Command
-  rolls_back : List ℕ → Command
+  -- a write of this label's transaction, to a key, of a value
+  writes : List ℕ → Kind → List ℕ → List ℕ → Command
+  -- an event of this label's transaction
+  calls : List ℕ → Call → Command
+  -- an event
+  steps : Event → Command
   settles : Command
-  shows_table : Command
-  shows_log : Command
+  shows : Part → Command
 
-abbrev pub bare_command : List ℕ → Option Command
-bare_command name = if bytes_eq name (codes "settle") then Some settles else (if bytes_eq name (codes "table") then Some shows_table else (if bytes_eq name (codes "log") then Some shows_log else None))
+-- a line of one word
+abbrev pub bare : List ℕ → Option Command
+bare name =
+    if bytes_eq name (codes "settle") then Some settles
+    else (if bytes_eq name (codes "force") then Some (steps event.Force)
+    else (if bytes_eq name (codes "table") then Some (shows part.Table)
+    else (if bytes_eq name (codes "log") then Some (shows part.Log)
+    else (if bytes_eq name (codes "leaves") then Some (shows part.Leaves) else None))))
 
-abbrev pub labelled_command : List ℕ → List ℕ → Option Command
-labelled_command name label = if not (is_label label) then None else (if bytes_eq name (codes "begin") then Some (begins label) else (if bytes_eq name (codes "rollback") then Some (rolls_back label) else None))
+-- a line of two words, the second a label
+abbrev pub with_label : List ℕ → Option (List ℕ) → Option Command
+with_label name None = None
+with_label name (Some label) =
+    if bytes_eq name (codes "begin") then Some (begins label)
+    else (if bytes_eq name (codes "rollback") then Some (calls label call.Rollback)
+    else (if bytes_eq name (codes "send") then Some (calls label call.Send) else None))
 
-abbrev pub insert_of : List ℕ → Option (List ℕ) → Option (List ℕ) → Option Command
-insert_of label None value = None
-insert_of label (Some key) None = None
-insert_of label (Some key) (Some value) = Some (inserts label key value)
+-- a line of two words, the second a number
+abbrev pub with_number : List ℕ → Option ℕ → Option Command
+with_number name None = None
+with_number name (Some n) =
+    if bytes_eq name (codes "low") then Some (steps (event.LowWater n))
+    else (if bytes_eq name (codes "req") then Some (steps (event.Request n))
+    else (if bytes_eq name (codes "rep") then Some (steps (event.Reply n)) else None))
 
-abbrev pub insert_command : List ℕ → List ℕ → List ℕ → List ℕ → Option Command
-insert_command name label key value = if not (is_label label) then None else (if bytes_eq name (codes "insert") then insert_of label (text_in key) (text_in value) else None)
+abbrev pub first_of : Option Command → Option Command → Option Command
+first_of None second = second
+first_of (Some command) second = Some command
+
+-- the name of a write of three words, and of one of four
+abbrev pub kind_without_value : List ℕ → Option Kind
+kind_without_value name = if bytes_eq name (codes "delete") then Some kind.Delete else None
+
+abbrev pub kind_with_value : List ℕ → Option Kind
+kind_with_value name =
+    if bytes_eq name (codes "insert") then Some kind.Insert
+    else (if bytes_eq name (codes "update") then Some kind.Update
+    else (if bytes_eq name (codes "upsert") then Some kind.Upsert else None))
+
+abbrev pub write_of : Option Kind → Option (List ℕ) → Option (List ℕ) → Option (List ℕ) → Option Command
+write_of None label key value = None
+write_of (Some k) None key value = None
+write_of (Some k) (Some label) None value = None
+write_of (Some k) (Some label) (Some key) None = None
+write_of (Some k) (Some label) (Some key) (Some value) = Some (writes label k key value)
 
 -- the grammar: one case for each number of words
 abbrev pub command_of : List (List ℕ) → Option Command
-command_of (name ∷ []) = bare_command name
-command_of (name ∷ label ∷ []) = labelled_command name label
-command_of (name ∷ label ∷ key ∷ value ∷ []) = insert_command name label key value
+command_of (name ∷ []) = bare name
+command_of (name ∷ word ∷ []) = first_of (with_label name (label_in word)) (with_number name (number_in word))
+command_of (name ∷ label ∷ key ∷ []) = write_of (kind_without_value name) (label_in label) (text_in key) (Some [])
+command_of (name ∷ label ∷ key ∷ value ∷ []) = write_of (kind_with_value name) (label_in label) (text_in key) (text_in value)
 command_of _ = None
 
 -- a line that is passed over: an empty one, or one that begins with `#`
@@ -89,11 +116,11 @@ commands_of (bytes ∷ rest) = onto (asked bytes) (commands_of rest)
 -- what a line that was read asks for
 abbrev pub meaning : Line → Command
 meaning (line.Begin label) = begins label
-meaning (line.Insert label key value) = inserts label key.now value.now
-meaning (line.Rollback label) = rolls_back label
+meaning (line.Write label k key value) = writes label k key.now value.now
+meaning (line.Call label c) = calls label c
+meaning (line.Step e) = steps e
 meaning line.Settle = settles
-meaning line.Table = shows_table
-meaning line.Log = shows_log
+meaning (line.Show p) = shows p
 
 -- the parts of what is left, cut at this byte
 abbrev pub parts_left : ℕ → Option (List ℕ) → List (List ℕ)

@@ -1,9 +1,9 @@
 -- The text of a script: what its lines come to, and what is printed of that.
-use Rattle.std.specs.Prelude.{◌≡◌, ◌⊎◌, ℕ, Bool, true, false, ◌||◌, nat_lt, List, [], ◌∷◌, ◌++◌, Option, Some, None, Result, Ok, Err, length, flat_map, ⊤, if◌then◌else◌}
-use Rattle.std.specs.FinMap.{entries}
+use Rattle.std.specs.Prelude.{◌≡◌, ◌⊎◌, ℕ, Bool, true, false, ◌||◌, nat_lt, List, [], ◌∷◌, ◌++◌, Option, Some, None, Result, Ok, Err, length, ⊤, if◌then◌else◌}
 use Rattle.std.specs.Io.KnownBytes.{Appends}
 use Rattle.record_key.specs.declared.refusal.Refusal.{Refusal}
 use Rattle.record_key.specs.declared.refusal.Refusal.TheVariants as refusal
+use Rattle.record_key.specs.declared.op.Op.{Op}
 use Rattle.record_key.specs.declared.op.Op.TheVariants as op
 use Rattle.world.specs.declared.event.Event.{Event}
 use Rattle.world.specs.declared.event.Event.TheVariants as event
@@ -12,12 +12,17 @@ use Rattle.world.specs.declared.event.Out.TheVariants as out
 use Rattle.world.specs.Node.{NodeView, fresh_node, StepsTo}
 use Rattle.world.specs.Rounds.{Settles}
 use Rattle.undo_shell.specs.Labels.{Bindings, unbound, AreSame, IsBound}
+use Rattle.undo_shell.specs.declared.line.Kind.{Kind}
+use Rattle.undo_shell.specs.declared.line.Kind.TheVariants as kind
+use Rattle.undo_shell.specs.declared.line.Call.{Call}
+use Rattle.undo_shell.specs.declared.line.Call.TheVariants as call
 use Rattle.undo_shell.specs.declared.reply.Reply.{Reply}
 use Rattle.undo_shell.specs.declared.reply.Reply.TheVariants as reply
-use Rattle.undo_shell.specs.Script.{Command, begins, inserts, rolls_back, settles, shows_table, shows_log, lines_of, first_fault, commands_of, onto}
-use Rattle.undo_shell.specs.Ending.{end_line, is_failure}
-use Rattle.undo_shell.specs.View.{log_of, rows_of, stable_of}
-use Rattle.undo_shell.specs.Printed.{IsCut, out_line, told_line, refusal_line, table_text, log_text}
+use Rattle.undo_shell.specs.Script.{Command, begins, writes, calls, steps, settles, shows, lines_of, first_fault, commands_of, onto}
+use Rattle.undo_shell.specs.Ending.{is_failure, settled_text}
+use Rattle.undo_shell.specs.View.{part_text}
+use Rattle.undo_shell.specs.Printed.{IsCut, refusal_line}
+use Rattle.undo_shell.specs.Told.{out_line}
 
 -- the label of a `begin` is bound to the transaction that it began
 abbrev pub Rebinds : Out → List ℕ → Bindings → Bindings → Type 0
@@ -42,33 +47,49 @@ abbrev pub StepsUnless : Option Refusal → NodeView → Event → Out → NodeV
 StepsUnless None before e output after = StepsTo before e output after
 StepsUnless (Some r) before e output after = (output ≡ out.Refused r) × (after ≡ before)
 
-abbrev pub Inserts : List ℕ → List ℕ → List ℕ → NodeView → Bindings → Out → NodeView → Type 0
-Inserts label key value before labels output after = StepsUnless (length_fault key value) before (event.Act (labels label) (op.Insert key value)) output after
+-- the operation of a write
+abbrev pub op_of : Kind → List ℕ → List ℕ → Op
+op_of kind.Insert key value = op.Insert key value
+op_of kind.Update key value = op.Update key value
+op_of kind.Upsert key value = op.Upsert key value
+op_of kind.Delete key value = op.Delete key
+
+abbrev pub Writes : List ℕ → Kind → List ℕ → List ℕ → NodeView → Bindings → Out → NodeView → Type 0
+Writes label k key value before labels output after = StepsUnless (length_fault key value) before (event.Act (labels label) (op_of k key value)) output after
+
+-- the event of a transaction
+abbrev pub event_of : Call → ℕ → Event
+event_of call.Rollback txn = event.Rollback txn
+event_of call.Send txn = event.Send txn
 
 -- a reply that is one event's output of which this holds
 abbrev pub IsEvent : (Out → Type 0) → Reply → Type 0
 IsEvent P (reply.Event output) = P output
 IsEvent P _ = ⊥
 
+-- settling that may play as many rounds as there are ends with none left, or is refused
+abbrev pub settling_of : Result (Unit {0}) Refusal → Result Bool Refusal
+settling_of (Ok u) = Ok true
+settling_of (Err r) = Err r
+
 abbrev pub IsSettling : NodeView → Reply → NodeView → Type 0
-IsSettling before (reply.Settled outs end) after = Settles before [] outs.items end after
+IsSettling before (reply.Settled outs end) after = Settles before None [] outs.items (settling_of end) after
 IsSettling before _ after = ⊥
 
 -- what a line may come to, from a node and labels, and what it leaves
 abbrev pub Replies : Command → NodeView → Bindings → Reply → NodeView → Bindings → Type 0
 Replies (begins label) before old r after new = IsEvent (λ output. Begins label before old output after new) r
-Replies (inserts label key value) before old r after new = IsEvent (λ output. Inserts label key value before old output after) r × AreSame old new
-Replies (rolls_back label) before old r after new = IsEvent (λ output. StepsTo before (event.Rollback (old label)) output after) r × AreSame old new
+Replies (writes label k key value) before old r after new = IsEvent (λ output. Writes label k key value before old output after) r × AreSame old new
+Replies (calls label c) before old r after new = IsEvent (λ output. StepsTo before (event_of c (old label)) output after) r × AreSame old new
+Replies (steps e) before old r after new = IsEvent (λ output. StepsTo before e output after) r × AreSame old new
 Replies settles before old r after new = IsSettling before r after × AreSame old new
-Replies shows_table before old r after new = (r ≡ reply.Table) × (after ≡ before) × AreSame old new
-Replies shows_log before old r after new = (r ≡ reply.Log) × (after ≡ before) × AreSame old new
+Replies (shows p) before old r after new = (r ≡ reply.Shown p) × (after ≡ before) × AreSame old new
 
 -- what is printed of a reply, where this is the node after it
 abbrev pub reply_text : Reply → NodeView → List ℕ
 reply_text (reply.Event output) view = out_line output
-reply_text (reply.Settled outs end) view = flat_map told_line outs.items ++ end_line end
-reply_text reply.Table view = table_text (entries (rows_of view))
-reply_text reply.Log view = log_text (log_of view) (stable_of view)
+reply_text (reply.Settled outs end) view = settled_text outs.items end
+reply_text (reply.Shown p) view = part_text p view
 
 abbrev pub out_ends : Out → Bool
 out_ends (out.Refused r) = is_failure r

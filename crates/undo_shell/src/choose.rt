@@ -16,15 +16,25 @@ const LINES: &str = "\
 A script is lines; empty lines and lines that begin with # are skipped.
 
   begin T       begins a transaction and names it by the label T
-  insert T K V  puts the record K=V for transaction T
+  insert T K V  puts the record K=V for transaction T, where there is none
+  update T K V  gives the record K that is there the value V
+  upsert T K V  puts the record K=V, whether there is one or not
+  delete T K    removes the record K that is there
   rollback T    rolls transaction T back
+  force         makes the log stable
+  send T        sends the unanswered request of transaction T, first or again
+  low N         tells the data component that no number up to N is sent again
+  req N         delivers the request numbered N
+  rep N         delivers the reply numbered N
   settle        lets the node work until nothing is left to do
   table         prints each record of the data component
   log           prints each record of the transaction log
+  leaves        prints each leaf of the data component
 
 T is 1 to 8 lower case letters or digits. K and V are letters and digits, or a dot
-for the empty text; a key has 1 to 32 bytes, a value 0 to 120. Words are separated
-by one space. The whole script is checked before its first line is run.
+for the empty text; a key has 1 to 32 bytes, a value 0 to 120. N is a decimal number
+below 2 to the power of 48. Words are separated by one space. The whole script is
+checked before its first line is run.
 
 Exit status: 0; 2 for a line or a command line outside the grammar; 3 where memory
 or a device failed.";

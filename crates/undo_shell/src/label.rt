@@ -5,7 +5,7 @@ ghost use Rattle.std.specs.Cmp.Lexicographic.{slice_cmp, nat_list_cmp_total, tex
 ghost use Rattle.std.specs.List.{list_all};
 ghost use Rattle.std.specs.Char.{is_ascii_lowercase, is_ascii_digit};
 ghost use Rattle.std.specs.BTreeMap.{get};
-ghost use Rattle.undo_shell.specs.Script.{is_label, label_in};
+ghost use Rattle.undo_shell.specs.Words.{is_label, label_in};
 
 use arrayvec::ArrayVec;
 use std::alloc::{AllocError, Global};

@@ -1,6 +1,6 @@
 //! A shell for the node: it reads a script and prints what its lines came to.
 //!
-//! Knows: the grammar of scripts, the text of every answer, record, row and refusal, and the command line.
+//! Knows: the grammar of scripts, the text of every answer, record, row, leaf and refusal, and the command line.
 //! Must not know: how the node keeps its records, its log or its messages.
 //! Promises its user that what is written is the text of the script that was read: a line's text is that
 //! of the node's own answer to it, nothing else is written, and the exit status says how the script ended.
@@ -8,23 +8,33 @@
 
 mod choose;
 mod label;
+mod leaves;
+mod line;
+mod logged;
+mod names;
+mod operations;
 mod output;
+mod parsing;
 mod printed;
 mod reply;
 mod run;
 mod script;
 mod shell;
+mod shown;
+mod told;
+mod words;
 
 use choose::Task;
 use clap::Error;
 use clap::error::ErrorKind;
 use record_key::Refusal;
 use run::{DONE, FAILED, FAULT};
+use std::io::{BufWriter, Write};
 use std::process::ExitCode;
 use std::{env, io};
 
 fn main(rt: HostRuntime) -> ExitCode {
-    let status = match words(&rt) {
+    let status = match arguments(&rt) {
         Ok(words) => start(&rt, words.as_slice()),
         Err(error) => run::refuse(&mut io::writer(&rt), run::refusal_of(&error), FAILED),
     };
@@ -32,15 +42,27 @@ fn main(rt: HostRuntime) -> ExitCode {
 }
 
 /// The command line, the program's name first.
-fn words(rt: &HostRuntime) -> io::Result<Vec<String>> {
+fn arguments(rt: &HostRuntime) -> io::Result<Vec<String>> {
     Ok(env::args(rt)?.collect(rt.alloc())?)
 }
 
 /// Does what the command line asks for. Gives the exit status.
 fn start(rt: &HostRuntime, words: &[String]) -> u8 {
     match choose::choose(rt.alloc(), words) {
-        Ok(Task::Run) => run::run(rt.alloc(), &mut rt.reader(), &mut io::writer(rt)),
+        Ok(Task::Run) => run_script(rt),
         Err(fault) => explain(rt, &fault),
+    }
+}
+
+/// Runs the script that standard input holds. Its text is gathered and written in large pieces.
+fn run_script(rt: &HostRuntime) -> u8 {
+    let Ok(mut writer) = BufWriter::new(rt.alloc(), io::writer(rt)) else {
+        return run::refuse(&mut io::writer(rt), Refusal::NoMemory, FAILED);
+    };
+    let status = run::run(rt.alloc(), &mut rt.reader(), &mut writer);
+    match writer.flush() {
+        Ok(()) => status,
+        Err(_) => FAILED,
     }
 }
 

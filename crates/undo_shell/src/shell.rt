@@ -1,13 +1,13 @@
 //! The node with the labels of a script.
-ghost use Rattle.std.specs.Prelude.{◌≡◌};
+ghost use Rattle.std.specs.Prelude.{◌≡◌, MatchResult, Some, None};
 ghost use Rattle.world.specs.Node.{fresh_node};
 ghost use Rattle.undo_shell.specs.Labels.{number_in, unbound, AreSame};
 ghost use Rattle.undo_shell.specs.Script.{meaning};
-ghost use Rattle.undo_shell.specs.Text.{Replies, Begins, Inserts};
+ghost use Rattle.undo_shell.specs.Text.{Replies, Begins, Writes, IsSettling, event_of, op_of, length_fault};
 
 use crate::label::{Label, Labels};
+use crate::line::{Call, Kind, Line};
 use crate::reply::Reply;
-use crate::script::Line;
 use record_key::{Key, Op, Refusal, Value};
 use std::alloc::Global;
 use world::{Event, Out, World, settle};
@@ -39,18 +39,19 @@ impl Shell {
     {
         match line {
             Line::Begin(label) => Reply::Event(self.begin(label)),
-            Line::Insert { label, key, value } => Reply::Event(self.insert(label, key, value)),
-            Line::Rollback(label) => {
-                let txn = self.labels.number(label);
-                Reply::Event(self.world.step(&Event::Rollback { txn }))
+            Line::Write {
+                label,
+                kind,
+                key,
+                value,
+            } => Reply::Event(self.write(label, *kind, key, value)),
+            Line::Call { label, call } => {
+                let event = event_of(*call, self.labels.number(label));
+                Reply::Event(self.world.step(&event))
             }
-            Line::Settle => {
-                let mut outs = Vec::new(self.alloc);
-                let end = settle(&mut self.world, &mut outs);
-                Reply::Settled { outs, end }
-            }
-            Line::Table => Reply::Table,
-            Line::Log => Reply::Log,
+            Line::Step(event) => Reply::Event(self.world.step(event)),
+            Line::Settle => settled(self.alloc, &mut self.world),
+            Line::Show(part) => Reply::Shown(*part),
         }
     }
 
@@ -68,21 +69,54 @@ impl Shell {
         out
     }
 
-    /// Inserts, where the key and the value have lengths that the node takes.
-    fn insert(&mut self, label: &Label, key: &[u8], value: &[u8]) -> Out
-        ensures event { Inserts label.now key.now value.now self.old.world (number_in self.old.labels) result self.new.world }
+    /// Writes, where the key and the value have lengths that the node takes.
+    fn write(&mut self, label: &Label, kind: Kind, key: &[u8], value: &[u8]) -> Out
+        ensures event { Writes label.now kind key.now value.now self.old.world (number_in self.old.labels) result self.new.world }
         ensures labels { AreSame (number_in self.old.labels) (number_in self.new.labels) }
     {
-        let key = match Key::new(key) {
-            Ok(key) => key,
-            Err(refusal) => return Out::Refused(refusal),
-        };
-        let value = match Value::new(value) {
-            Ok(value) => value,
+        let op = match op_of(kind, key, value) {
+            Ok(op) => op,
             Err(refusal) => return Out::Refused(refusal),
         };
         let txn = self.labels.number(label);
-        let op = Op::Insert(key, value);
         self.world.step(&Event::Act { txn, op })
     }
+}
+
+/// The operation, unless the key or the value has a length that no node takes.
+fn op_of(kind: Kind, key: &[u8], value: &[u8]) -> Result<Op, Refusal>
+    ensures { MatchResult result (λ op. (length_fault key.now value.now ≡ None) × (op ≡ op_of kind key.now value.now)) (λ refusal. length_fault key.now value.now ≡ Some refusal) }
+{
+    let key = Key::new(key)?;
+    let value = Value::new(value)?;
+    Ok(match kind {
+        Kind::Insert => Op::Insert(key, value),
+        Kind::Update => Op::Update(key, value),
+        Kind::Upsert => Op::Upsert(key, value),
+        Kind::Delete => Op::Delete(key),
+    })
+}
+
+/// What is to happen to the transaction of this number.
+fn event_of(call: Call, txn: u64) -> Event
+    ensures { result ≡ event_of call txn }
+{
+    match call {
+        Call::Rollback => Event::Rollback { txn },
+        Call::Send => Event::Send { txn },
+    }
+}
+
+/// Lets the node work until nothing is left to do.
+fn settled(alloc: Global, world: &mut World) -> Reply
+    ensures { IsSettling world.old result world.new }
+{
+    let mut outs = Vec::new(alloc);
+    let end = match settle(world, None, &mut outs) {
+        Ok(true) => Ok(()),
+        // It may play as many rounds as there are.
+        Ok(false) => unreachable!(),
+        Err(refusal) => Err(refusal),
+    };
+    Reply::Settled { outs, end }
 }

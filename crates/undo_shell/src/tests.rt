@@ -5,8 +5,11 @@ use std::process::Abort;
 mod bad_input;
 mod command_line;
 mod failing;
+mod messages;
+mod orders;
 mod printing;
 mod rows;
+mod writes;
 
 /// Runs the script and compares all that was written, and the exit status.
 fn assert_run<R: Abort + AllocGlobal>(rt: &R, script: &str, text: &str, status: u8) {

@@ -2,12 +2,12 @@
 use Rattle.std.proofs.Common.{◌≡◌, ◌≢◌, ℕ, Bool, true, false, [], ◌∷◌, Option, Some, None, is_some, refl, sym, ap, ◌∙◌, subst, inl, inr, true≢false, eq-eqb, eqb-true}
 use Rattle.std.specs.Prelude.{◌⊎◌, not, if◌then◌else◌}
 use Rattle.record_key.specs.declared.refusal.Refusal.{Refusal}
-use Rattle.record_key.specs.declared.refusal.Refusal.TheVariants.{NotConnected, NotOpen, RollingBack, Unanswered, NumbersSpent}
+use Rattle.record_key.specs.declared.refusal.Refusal.TheVariants.{NotConnected, Redoing, NotOpen, RollingBack, Unanswered, NumbersSpent}
 use Rattle.history.specs.ListMachine.{Txn, Waiting, Rolling, Committing, Committed, Losing, Gone, HasCause, Steps, IsRefused}
 use Rattle.tc_core.specs.declared.open_txn.OpenTxn.{OpenTxn}
-use Rattle.tc_core.specs.Refusals.{first_of, or_else, RefusesAs}
+use Rattle.record_key.specs.FirstCause.{first_of, or_else, RefusesAs}
 use Rattle.tc_core.specs.LogView.{is_spent}
-use Rattle.tc_core.specs.TcView.{TcView, is_unconnected, is_txn, is_rolling, is_waiting}
+use Rattle.tc_core.specs.TcView.{TcView, is_unconnected, is_running, is_txn, is_rolling, is_waiting}
 use Rattle.tc_core.specs.Calls.{rollback_refusal, act_refusal}
 use Rattle.tc_core.specs.Kept.{IsTc}
 use Rattle.tc_core.proofs.KeepsTc.{alone_at, waits_at}
@@ -52,15 +52,20 @@ waiting_at w t (Some o) k at here flat waits = by o.waiting refl waits
 
 -- why a call that names a transaction is refused
 pub rollback_cause : (w : TcView) (t : ℕ) (r : Refusal) → IsTc w → rollback_refusal w t ≡ Some r → HasCause (txn_as w.log w.open_txn t) r
-rollback_cause w t r k h = first (is_unconnected w) refl (is_txn t w.open_txn) refl (is_rolling w.open_txn) refl (is_waiting w.open_txn) refl h
+rollback_cause w t r k h =
+    first (is_unconnected w.phase) (is_running w.phase) (is_txn t w.open_txn) refl (is_rolling w.open_txn) refl (is_waiting w.open_txn) refl h
   where
-    first : (a : Bool) → is_unconnected w ≡ a → (b : Bool) → is_txn t w.open_txn ≡ b → (c : Bool) → is_rolling w.open_txn ≡ c → (d : Bool) → is_waiting w.open_txn ≡ d
-        → or_else (first_of ((a, NotConnected) ∷ (not b, NotOpen) ∷ [])) (first_of ((c, RollingBack) ∷ (d, Unanswered) ∷ [])) ≡ Some r → HasCause (txn_as w.log w.open_txn t) r
-    first true ea b eb c ec d ed h = let e : r ≡ NotConnected = cc in let P : Refusal → Type 0 = HasCause (txn_as w.log w.open_txn t) in subst P (sym e) tt
-    first false ea false eb c ec d ed h = let e : r ≡ NotOpen = cc in let P : Refusal → Type 0 = HasCause (txn_as w.log w.open_txn t) in subst P (sym e) (gone_at w t w.open_txn eb)
-    first false ea true eb true ec d ed h = let e : r ≡ RollingBack = cc in let P : Refusal → Type 0 = HasCause (txn_as w.log w.open_txn t) in subst P (sym e) (rolling_cause w t w.open_txn eb ec)
-    first false ea true eb false ec true ed h = let e : r ≡ Unanswered = cc in let P : Refusal → Type 0 = HasCause (txn_as w.log w.open_txn t) in subst P (sym e) (waiting_at w t w.open_txn k refl eb ec ed)
-    first false ea true eb false ec false ed h = absurd (cc)
+    Cause : Refusal → Type 0
+    Cause = HasCause (txn_as w.log w.open_txn t)
+
+    first : (a runs : Bool) → (b : Bool) → is_txn t w.open_txn ≡ b → (c : Bool) → is_rolling w.open_txn ≡ c → (d : Bool) → is_waiting w.open_txn ≡ d
+        → or_else (or_else (first_of ((a, NotConnected) ∷ (not runs, Redoing) ∷ [])) (first_of ((not b, NotOpen) ∷ []))) (first_of ((c, RollingBack) ∷ (d, Unanswered) ∷ [])) ≡ Some r → Cause r
+    first true runs b eb c ec d ed h = let e : r ≡ NotConnected = cc in subst Cause (sym e) tt
+    first false false b eb c ec d ed h = let e : r ≡ Redoing = cc in subst Cause (sym e) tt
+    first false true false eb c ec d ed h = let e : r ≡ NotOpen = cc in subst Cause (sym e) (gone_at w t w.open_txn eb)
+    first false true true eb true ec d ed h = let e : r ≡ RollingBack = cc in subst Cause (sym e) (rolling_cause w t w.open_txn eb ec)
+    first false true true eb false ec true ed h = let e : r ≡ Unanswered = cc in subst Cause (sym e) (waiting_at w t w.open_txn k refl eb ec ed)
+    first false true true eb false ec false ed h = absurd (cc)
 
 pub act_cause : (w : TcView) (t : ℕ) (r : Refusal) → IsTc w → RefusesAs (act_refusal w t) r → HasCause (txn_as w.log w.open_txn t) r
 act_cause w t r k h = by (rollback_refusal w t) refl (is_spent w.log) h

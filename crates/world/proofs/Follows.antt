@@ -1,98 +1,152 @@
--- What a step may do is a step of the list machine, and keeps what holds.
-use Rattle.std.proofs.Common.{◌≡◌, ℕ, ◌+◌, Bool, true, false, cond, [], ◌∷◌, length, Option, Some, None, IsSome, is_some, refl, sym, ap, ◌∙◌, subst, inl, inr, true≢false, ne_eqb}
-use Rattle.std.specs.Prelude.{if◌then◌else◌}
-use Rattle.std.proofs.lemmas.Bool.{cases_eq}
+-- What a step of the transaction component may do is a step of the list machine, and keeps what holds.
+use Rattle.std.proofs.Common.{◌≡◌, ℕ, ◌+◌, Bool, true, false, [], ◌∷◌, length, Option, Some, None, is_some, refl, sym, ap, ◌∙◌, subst, arith, true≢false}
+use Rattle.std.specs.Prelude.{not}
 use Rattle.record_key.specs.declared.op.Op.{Op}
-use Rattle.record_key.specs.declared.op.Answer.{Answer}
-use Rattle.record_key.specs.declared.refusal.Refusal.{Refusal}
+use Rattle.record_key.specs.declared.refusal.Refusal.TheVariants.{NotConnected, Redoing, NotOpen, RollingBack, Unanswered, Full, NumbersSpent}
+use Rattle.record_key.specs.FirstCause.{first_of, or_else}
 use Rattle.history.specs.declared.record.Record.{Record}
 use Rattle.history.specs.declared.record.Record.TheVariants as is
-use Rattle.history.specs.Log.{answer_of, Requests}
-use Rattle.history.specs.ListMachine.{Begins, Steps}
-use Rattle.log_laws.proofs.Records.{ARequest, newest_at, older_at, IsNumber}
-use Rattle.log_laws.proofs.LegalLogs.{step_number}
+use Rattle.history.specs.ListMachine.{Begins, Acts as acts, RollsBack as rolls, TellsRolledBack, Steps}
 use Rattle.tc_core.specs.declared.open_txn.OpenTxn.{OpenTxn}
-use Rattle.tc_core.specs.TcView.{TcView}
-use Rattle.tc_core.specs.Calls.{begin_refusal, reconnected, begun, forced}
-use Rattle.tc_core.specs.Kept.{IsTc}
-use Rattle.tc_core.proofs.KeepsTc.{alone_at, waits_at, none_next, keeps_session, keeps_force, keeps_begin}
-use Rattle.tc_core.proofs.KeepsIdle.{own_request}
+use Rattle.tc_core.specs.TcView.{TcView, is_unconnected, is_running, is_txn, is_rolling, is_waiting}
+use Rattle.tc_core.specs.LogView.{is_spent}
+use Rattle.tc_core.specs.Calls.{rollback_refusal, answered_refusal, begun, acted, rolled, compensated, ended, forced, next_of, inverse_at}
+use Rattle.tc_core.proofs.KeepsTc.{keeps_force, keeps_begin, keeps_act, keeps_rollback, keeps_comp, keeps_end}
 use Rattle.world.specs.declared.event.Event.{Event}
 use Rattle.world.specs.declared.event.Event.TheVariants as event
 use Rattle.world.specs.declared.event.Out.{Out}
 use Rattle.world.specs.declared.event.Out.TheVariants as out
-use Rattle.world.specs.Node.{NodeView}
-use Rattle.world.specs.Kept.{IsKept, captures}
+use Rattle.world.specs.Node.{NodeView, with_tc, BeginsTo, ActsTo, RollsBackTo, UndoesTo, ForcesTo}
+use Rattle.world.specs.Kept.{IsKept}
 use Rattle.world.specs.Simulation.{machine, Happens}
-use Rattle.world.proofs.KeepsNode.{keeps_appended, keeps_same_log}
-use Rattle.world.proofs.Histories.{hist_neutral}
-use Rattle.world.proofs.Machines.{machine_longer}
-use Rattle.world.proofs.Calls.{happens_begin}
+use Rattle.world.proofs.Calls.{happens_begin, happens_act, happens_rollback}
+use Rattle.world.proofs.Tells.{happens_comp, happens_end}
+use Rattle.world.proofs.Causes.{rollback_cause, act_cause, refused}
+use Rattle.world.proofs.Keeps.{still_captured, asked_captured, keeps_appended, keeps_same_log}
 
 pub record Follows (old : NodeView) (e : Event) (output : Out) (new : NodeView) : Type 0 where
   pub happens : Happens (machine old) e output (machine new)
   pub kept : IsKept new
 
--- a record that neither asks nor answers leaves what is answered captured
-pub still_captured : (w : NodeView) (r : Record) → IsKept w → ((o : Op) → ARequest o (Some r) → ⊥) → ((m : ℕ) → answer_of (r ∷ w.tc.log) m ≡ answer_of w.tc.log m)
-    → (m : ℕ) (o : Op) → Requests (r ∷ w.tc.log) m o → IsSome (answer_of (r ∷ w.tc.log) m) → captures w.leaf m ≡ true
-still_captured w r k none same m o asks some =
-    elim (cases_eq m (length w.tc.log + 1)) [
-      | inl e ↦ absurd (none o (newest_at (ARequest o) r w.tc.log m e asks))
-      | inr e ↦ k.answered m o (older_at (ARequest o) r w.tc.log m e asks) (subst IsSome (same m) some)
-    ]
+pub at_new : (old new next : NodeView) (e : Event) (output : Out) → new ≡ next → Follows old e output next → Follows old e output new
+at_new old new next e output same h = subst (Follows old e output) (sym same) h
 
--- one that asks isn't answered yet
-pub asked_captured : (w : NodeView) (r : Record) → IsKept w → ((m : ℕ) → answer_of (r ∷ w.tc.log) m ≡ answer_of w.tc.log m)
-    → (m : ℕ) (o : Op) → Requests (r ∷ w.tc.log) m o → IsSome (answer_of (r ∷ w.tc.log) m) → captures w.leaf m ≡ true
-asked_captured w r k same m o asks some =
-    elim (cases_eq m (length w.tc.log + 1)) [
-      | inl e ↦
-          let none : answer_of (r ∷ w.tc.log) m ≡ None = same m ∙ ap (answer_of w.tc.log) e ∙ none_next w.tc.log k.tc.legal in
-          absurd (true≢false (sym some ∙ ap is_some none))
-      | inr e ↦ k.answered m o (older_at (ARequest o) r w.tc.log m e asks) (subst IsSome (same m) some)
-    ]
+-- nothing changes
+pub unchanged : (old new : NodeView) (e : Event) (output : Out) → IsKept old → new ≡ old → Happens (machine old) e output (machine old) → Follows old e output new
+unchanged old new e output k same h = at_new old new old e output same (record { happens = h; kept = k })
 
--- an answer is of a captured number
-pub answer_captured : (w : NodeView) (n : ℕ) (a : Answer) → IsKept w → captures w.leaf n ≡ true
-    → (m : ℕ) (o : Op) → Requests (is.Answer n a ∷ w.tc.log) m o → IsSome (answer_of (is.Answer n a ∷ w.tc.log) m) → captures w.leaf m ≡ true
-answer_captured w n a k captured m o asks some =
-    let r : Record = is.Answer n a in
-    elim (cases_eq m (length w.tc.log + 1)) [
-      | inl e ↦ let none : ARequest o (Some r) = newest_at (ARequest o) r w.tc.log m e asks in absurd (cc)
-      | inr e ↦ elim (cases_eq m n) [
-        | inl same ↦ subst (λ (z : ℕ). captures w.leaf z ≡ true) (sym same) captured
-        | inr apart ↦ k.answered m o (older_at (ARequest o) r w.tc.log m e asks) (subst (λ (b : Bool). IsSome (cond b (Some a) (answer_of w.tc.log m))) (ne_eqb m n apart) some)
-      ]
-    ]
+-- only the transaction component changed, to this
+at_tc : (old new : NodeView) (tc : TcView) (e : Event) (output : Out) → new ≡ with_tc old new.tc → new.tc ≡ tc → Follows old e output (with_tc old tc) → Follows old e output new
+at_tc old new tc e output left same h = at_new old new (with_tc old tc) e output (left ∙ ap (with_tc old) same) h
 
--- whatever is waited for is a number of the log
-pub awaited_number : (w : TcView) → IsTc w → (o : OpenTxn) (n : ℕ) → w.open_txn ≡ Some o → o.waiting ≡ Some n → IsNumber w.log n
-awaited_number w k o n at some =
-    let own = own_request w.log o n (waits_at w.log o n (alone_at w o k at) some).request in step_number w.log n o.txn own.step
+-- a call that isn't refused found no open transaction
+none_open : (a runs : Bool) (o : Option OpenTxn) (s : Bool)
+    → or_else (first_of ((a, NotConnected) ∷ (not runs, Redoing) ∷ [])) (first_of ((is_some o, Full) ∷ (s, NumbersSpent) ∷ [])) ≡ None → o ≡ None
+none_open true runs o s h = absurd (cc)
+none_open false false o s h = absurd (cc)
+none_open false true None s h = refl
+none_open false true (Some o) s h = absurd (cc)
 
-nothing_changes : (old new : NodeView) (e : Event) (output : Out) → new ≡ old → Follows old e output old → Follows old e output new
-nothing_changes old new e output same h = subst (Follows old e output) (sym same) h
+pub follows_begin : (old new : NodeView) (output : Out) → IsKept old → BeginsTo old output new → Follows old event.Begin output new
+follows_begin old new (out.Begun t) k h =
+    let none : old.tc.open_txn ≡ None = none_open (is_unconnected old.tc.phase) (is_running old.tc.phase) old.tc.open_txn (is_spent old.tc.log) h.0 in
+    let P : ℕ → Type 0 = λ x. Steps (machine old) (Begins x ∷ []) (machine (with_tc old (begun old.tc))) in
+    at_new old new _ event.Begin (out.Begun t) h.2 (record {
+      happens = subst P (sym h.1) (happens_begin old.tc k.tc none);
+      kept = keeps_appended old (begun old.tc) is.Begin k (keeps_begin old.tc k.tc none) refl (omega arith) (omega arith) k.sessions k.right (still_captured old is.Begin k (λ o h. cc) (λ m. refl));
+    })
+follows_begin old new (out.Refused r) k h = unchanged old new event.Begin (out.Refused r) k h.1 refl
+follows_begin old new _ k h = absurd h
 
-pub follows_reconnect : (old : NodeView) (n : ℕ) → IsKept old → Follows old event.Reconnect (out.Connected n) (record old { tc = reconnected old.tc })
-follows_reconnect old n k = record {
-  happens = machine_longer old.tc is.Session (length (is.Session ∷ old.tc.log)) (length old.tc.log + 1) refl (hist_neutral is.Session old.tc.log refl (λ m t o by. (refl, refl))) (awaited_number old.tc k.tc);
-  kept = keeps_appended old (reconnected old.tc) is.Session k (keeps_session old.tc k.tc) refl k.right (still_captured old is.Session k (λ o h. cc) (λ m. refl));
-}
+pub follows_force : (old new : NodeView) (output : Out) → IsKept old → ForcesTo old output new → Follows old event.Force output new
+follows_force old new (out.Stable n) k h =
+    at_new old new _ event.Force (out.Stable n) h.1 (record { happens = refl; kept = keeps_same_log old (forced old.tc) k (keeps_force old.tc k.tc) refl k.tc.within (omega arith) k.sessions })
+follows_force old new _ k h = absurd h
 
-pub follows_force : (old : NodeView) (n : ℕ) → IsKept old → Follows old event.Force (out.Stable n) (record old { tc = forced old.tc })
-follows_force old n k = record { happens = refl; kept = keeps_same_log old (forced old.tc) k (keeps_force old.tc k.tc) refl }
+-- a call that isn't refused found the transaction idle
+pub record IsIdleTxn (o : OpenTxn) : Type 0 where
+  pub rolling : o.rolling ≡ false
+  pub waiting : o.waiting ≡ None
 
-none_open : (o : Option OpenTxn) (a s : Bool) (r q u : Refusal) → (if a then Some r else (if is_some o then Some q else (if s then Some u else None))) ≡ None → o ≡ None
-none_open None a s r q u h = refl
-none_open (Some o) true s r q u h = absurd (cc)
-none_open (Some o) false s r q u h = absurd (cc)
+both_false : (a runs b c d : Bool)
+    → or_else (or_else (first_of ((a, NotConnected) ∷ (not runs, Redoing) ∷ [])) (first_of ((not b, NotOpen) ∷ []))) (first_of ((c, RollingBack) ∷ (d, Unanswered) ∷ [])) ≡ None
+    → (c ≡ false) × (d ≡ false)
+both_false true runs b c d h = absurd (cc)
+both_false false false b c d h = absurd (cc)
+both_false false true false c d h = absurd (cc)
+both_false false true true true d h = absurd (cc)
+both_false false true true false true h = absurd (cc)
+both_false false true true false false h = (refl, refl)
 
-pub follows_begin : (old : NodeView) (t : ℕ) → IsKept old → begin_refusal old.tc ≡ None → t ≡ length old.tc.log + 1 → Follows old event.Begin (out.Begun t) (record old { tc = begun old.tc })
-follows_begin old t k allowed number =
-    let none : old.tc.open_txn ≡ None = none_open old.tc.open_txn _ _ _ _ _ allowed in
-    let P : ℕ → Type 0 = λ x. Steps (machine old) (Begins x ∷ []) (machine (record old { tc = begun old.tc })) in
-    record {
-      happens = subst P (sym number) (happens_begin old.tc k.tc none);
-      kept = keeps_appended old (begun old.tc) is.Begin k (keeps_begin old.tc k.tc none) refl k.right (still_captured old is.Begin k (λ o h. cc) (λ m. refl));
-    }
+one_false : (a runs b d : Bool)
+    → or_else (or_else (first_of ((a, NotConnected) ∷ (not runs, Redoing) ∷ [])) (first_of ((not b, NotOpen) ∷ []))) (first_of ((d, Unanswered) ∷ [])) ≡ None → d ≡ false
+one_false true runs b d h = absurd (cc)
+one_false false false b d h = absurd (cc)
+one_false false true false d h = absurd (cc)
+one_false false true true true h = absurd (cc)
+one_false false true true false h = refl
+
+no_number : (w : Option ℕ) → is_some w ≡ false → w ≡ None
+no_number None h = refl
+no_number (Some n) h = absurd (true≢false h)
+
+idle_found : (w : TcView) (t : ℕ) (o : OpenTxn) → w.open_txn ≡ Some o → rollback_refusal w t ≡ None → IsIdleTxn o
+idle_found w t o at allowed =
+    let both = both_false (is_unconnected w.phase) (is_running w.phase) (is_txn t w.open_txn) (is_rolling w.open_txn) (is_waiting w.open_txn) allowed in
+    record { rolling = sym (ap is_rolling at) ∙ both.0; waiting = no_number o.waiting (sym (ap is_waiting at) ∙ both.1) }
+
+waits_for_none : (w : TcView) (t : ℕ) (o : OpenTxn) → w.open_txn ≡ Some o → answered_refusal w t ≡ None → o.waiting ≡ None
+waits_for_none w t o at allowed =
+    no_number o.waiting (sym (ap is_waiting at) ∙ one_false (is_unconnected w.phase) (is_running w.phase) (is_txn t w.open_txn) (is_waiting w.open_txn) allowed)
+
+pub follows_act : (old new : NodeView) (t : ℕ) (op : Op) (output : Out) → IsKept old → ActsTo old t op output new → Follows old (event.Act t op) output new
+follows_act old new t op (out.Logged n) k h =
+    let a = h.0 in
+    let o = a.open_txn in
+    let idle = idle_found old.tc t o a.at.is a.allowed in
+    let r : Record = is.Op o.txn o.last op in
+    let P : ℕ → Type 0 = λ x. Steps (machine old) (acts x op (length old.tc.log + 1) ∷ []) (machine (with_tc old (acted old.tc o op))) in
+    let Q : ℕ → Type 0 = λ x. Steps (machine old) (acts t op x ∷ []) (machine (with_tc old (acted old.tc o op))) in
+    at_tc old new (acted old.tc o op) (event.Act t op) (out.Logged n) h.1 a.acted (record {
+      happens = subst Q (sym a.number_is) (subst P a.at.number (happens_act old.tc o op k.tc a.at.is idle.waiting idle.rolling));
+      kept = keeps_appended old (acted old.tc o op) r k (keeps_act old.tc o op k.tc a.at.is idle.waiting) refl (omega arith) (omega arith) k.sessions k.right (asked_captured old r k (λ m. refl));
+    })
+follows_act old new t op (out.Refused r) k h = unchanged old new (event.Act t op) (out.Refused r) k h.1 (refused old.tc t r (act_cause old.tc t r k.tc h.0))
+follows_act old new t op _ k h = absurd h
+
+pub follows_rollback : (old new : NodeView) (t : ℕ) (output : Out) → IsKept old → RollsBackTo old t output new → Follows old (event.Rollback t) output new
+follows_rollback old new t out.RollingBack k h =
+    let a = h.0 in
+    let o = a.open_txn in
+    let idle = idle_found old.tc t o a.at.is a.allowed in
+    let P : ℕ → Type 0 = λ x. Steps (machine old) (rolls x ∷ []) (machine (with_tc old (rolled old.tc o))) in
+    at_tc old new (rolled old.tc o) (event.Rollback t) out.RollingBack h.1 a.rolled (record {
+      happens = subst P a.at.number (happens_rollback old.tc o a.at.is idle.waiting idle.rolling);
+      kept = keeps_same_log old (rolled old.tc o) k (keeps_rollback old.tc o k.tc a.at.is idle.waiting) refl (omega arith) (omega arith) k.sessions;
+    })
+follows_rollback old new t (out.Refused r) k h = unchanged old new (event.Rollback t) (out.Refused r) k h.1 (refused old.tc t r (rollback_cause old.tc t r k.tc h.0))
+follows_rollback old new t _ k h = absurd h
+
+pub follows_undo : (old new : NodeView) (t : ℕ) (output : Out) → IsKept old → UndoesTo old t output new → Follows old (event.Undo t) output new
+follows_undo old new t out.Nothing k h = at_tc old new old.tc (event.Undo t) out.Nothing h.1 h.0.undoes.1 (record { happens = refl; kept = k })
+follows_undo old new t (out.Compensated n) k h =
+    let u = h.0 in
+    let o = u.open_txn in
+    let none = waits_for_none old.tc t o u.at.is u.allowed in
+    let r : Record = is.Comp o.txn o.undo (next_of old.tc.log o.undo) (inverse_at old.tc.log o.undo) in
+    at_tc old new (compensated old.tc o) (event.Undo t) (out.Compensated n) h.1 u.undoes.3 (record {
+      happens = happens_comp old.tc o k.tc u.at.is u.undoes.0 u.undoes.1;
+      kept = keeps_appended old (compensated old.tc o) r k (keeps_comp old.tc o k.tc u.at.is none u.undoes.0 u.undoes.1) refl (omega arith) (omega arith) k.sessions k.right (asked_captured old r k (λ m. refl));
+    })
+follows_undo old new t (out.RolledBack v) k h =
+    let u = h.0 in
+    let o = u.open_txn in
+    let none = waits_for_none old.tc t o u.at.is u.allowed in
+    let r : Record = is.End o.txn in
+    let P : ℕ → Type 0 = λ x. Steps (machine old) (TellsRolledBack x ∷ []) (machine (with_tc old (ended old.tc o.txn))) in
+    at_tc old new (ended old.tc o.txn) (event.Undo t) (out.RolledBack v) h.1 u.undoes.3 (record {
+      happens = subst P (sym u.undoes.2) (happens_end old.tc o k.tc u.at.is u.undoes.0 u.undoes.1);
+      kept = keeps_appended old (ended old.tc o.txn) r k (keeps_end old.tc o k.tc u.at.is none u.undoes.1) refl (omega arith) (omega arith) k.sessions k.right (still_captured old r k (λ q asks. cc) (λ m. refl));
+    })
+follows_undo old new t (out.Refused r) k h = unchanged old new (event.Undo t) (out.Refused r) k h.1 refl
+follows_undo old new t _ k h = absurd h

@@ -11,8 +11,7 @@ use Rattle.history.specs.ListMachine.{Txn, Rolling, Gone}
 use Rattle.log_laws.proofs.Records.{AnOp, at_newest, kept_at, record_old, IsNumber, not_newest}
 use Rattle.log_laws.proofs.LegalLogs.{op_number}
 use Rattle.tc_core.specs.declared.open_txn.OpenTxn.{OpenTxn}
-use Rattle.tc_core.specs.TcView.{TcView}
-use Rattle.world.specs.Simulation.{last_of, spans_of, waiting_for, status_waiting, status_open, open_as, gone_as, txn_as, history_as, machine_of}
+use Rattle.world.specs.Simulation.{last_of, spans_of, waiting_for, status_waiting, status_open, open_as, gone_as, txn_as, history_as, machine_in}
 
 -- a record that is no operation changes nobody's last one, nor the spans
 pub last_longer : (r : Record) (log : List Record) (t : ℕ) → op_of r ≡ None → last_of (r ∷ log) t ≡ last_of log t
@@ -59,11 +58,10 @@ history_longer r log None same = same
 history_longer r log (Some o) same = ap (λ h. if o.rolling then cross (λ n. true) o.txn h else h) same
 
 -- so the machine stays, where the history does
-pub machine_longer : (w : TcView) (r : Record) (stable session : ℕ) → op_of r ≡ None → hist (r ∷ w.log) ≡ hist w.log
-    → ((o : OpenTxn) (n : ℕ) → w.open_txn ≡ Some o → o.waiting ≡ Some n → IsNumber w.log n)
-    → machine_of (record { log = r ∷ w.log; stable = stable; session = session; open_txn = w.open_txn }) ≡ machine_of w
-machine_longer w r stable session none same known =
-    λ j. record { h = history_longer r w.log w.open_txn same j; txns = λ t. txn_longer r w.log w.open_txn t none known j }
+pub machine_longer : (log : List Record) (open_txn : Option OpenTxn) (r : Record) → op_of r ≡ None → hist (r ∷ log) ≡ hist log
+    → ((o : OpenTxn) (n : ℕ) → open_txn ≡ Some o → o.waiting ≡ Some n → IsNumber log n) → machine_in (r ∷ log) open_txn ≡ machine_in log open_txn
+machine_longer log open_txn r none same known =
+    λ j. record { h = history_longer r log open_txn same j; txns = λ t. txn_longer r log open_txn t none known j }
 
 -- the open transaction, and the others, as the machine has them
 pub txn_open : (log : List Record) (o : OpenTxn) (t : ℕ) → t ≡ o.txn → txn_as log (Some o) t ≡ open_as log o

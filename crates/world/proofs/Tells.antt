@@ -18,7 +18,7 @@ use Rattle.tc_core.specs.TcView.{TcView}
 use Rattle.tc_core.specs.Calls.{answered, compensated, ended as ends, next_of, inverse_at, waits_for}
 use Rattle.tc_core.specs.Kept.{IsTc, IsRequest}
 use Rattle.tc_core.proofs.KeepsTc.{alone_at, waits_at, nothing_to_undo, left_to_undo}
-use Rattle.world.specs.Simulation.{last_of, spans_of, status_waiting, status_open, open_as, gone_as, txn_as, history_as, machine_of}
+use Rattle.world.specs.Simulation.{last_of, spans_of, status_waiting, status_open, open_as, gone_as, txn_as, history_as, machine_in, machine_of}
 use Rattle.world.proofs.Histories.{hist_neutral}
 use Rattle.world.proofs.Crossings.{hist_answer, hist_undone, hist_comp, cross_all-one, cross_all-none, all_undone}
 use Rattle.world.proofs.Machines.{gone_longer, last_longer, spans_longer, txn_open, txn_other, one_changed}
@@ -99,10 +99,10 @@ happens_answer w o n a k right at some flat is_right =
 rolling_as : (log : List Record) (o : OpenTxn) → o.rolling ≡ true → open_as log o ≡ record { status = Rolling None; saves = []; last = last_of log o.txn; spans = spans_of log o.txn }
 rolling_as log o rolling = ap (λ b. record { status = if b then Rolling None else status_waiting log o.waiting; saves = []; last = last_of log o.txn; spans = spans_of log o.txn }) rolling
 
-pub rolling_same : (w : TcView) (o new : OpenTxn) (r : Record) (stable session : ℕ) → w.open_txn ≡ Some o → o.rolling ≡ true → new.rolling ≡ true → new.txn ≡ o.txn → op_of r ≡ None
+pub rolling_same : (w : TcView) (o new : OpenTxn) (r : Record) → w.open_txn ≡ Some o → o.rolling ≡ true → new.rolling ≡ true → new.txn ≡ o.txn → op_of r ≡ None
     → cross (λ m. true) o.txn (hist (r ∷ w.log)) ≡ cross (λ m. true) o.txn (hist w.log)
-    → machine_of (record { log = r ∷ w.log; stable = stable; session = session; open_txn = Some new }) ≡ machine_of w
-rolling_same w o new r stable session at rolling rolls same none crossed =
+    → machine_in (r ∷ w.log) (Some new) ≡ machine_of w
+rolling_same w o new r at rolling rolls same none crossed =
     (λ j. record {
       h = (ap (λ b. if b then cross (λ m. true) new.txn (hist (r ∷ w.log)) else hist (r ∷ w.log)) rolls
           ∙ ap (λ (t : ℕ). cross (λ m. true) t (hist (r ∷ w.log))) same ∙ crossed ∙ sym (rolled_history w o rolling)) j;
@@ -127,7 +127,7 @@ rolling_same w o new r stable session at rolling rolls same none crossed =
 -- a compensation's answer, and a compensation
 pub happens_undone : (w : TcView) (o : OpenTxn) (n : ℕ) (a : Answer) → IsTc w → w.open_txn ≡ Some o → o.waiting ≡ Some n → o.rolling ≡ true → machine_of (answered w o n a) ≡ machine_of w
 happens_undone w o n a k at some rolling =
-    rolling_same w o (record o { waiting = None }) (is.Answer n a) w.stable w.session at rolling rolling refl refl
+    rolling_same w o (record o { waiting = None }) (is.Answer n a) at rolling rolling refl refl
     (ap (cross (λ m. true) o.txn) (hist_undone w.log n a (comp_waited w.log o n rolling (waits_at w.log o n (alone_at w o k at) some).request)))
 
 pub happens_comp : (w : TcView) (o : OpenTxn) → IsTc w → w.open_txn ≡ Some o → o.rolling ≡ true → o.undo ≢ 0 → machine_of (compensated w o) ≡ machine_of w
@@ -135,7 +135,7 @@ happens_comp w o k at rolling some =
     let latest = left_to_undo w o k at some in
     let next : ℕ = next_of w.log o.undo in
     let inverse : Option Op = inverse_at w.log o.undo in
-    rolling_same w o (record o { last = length w.log + 1; undo = next; waiting = waits_for (length w.log + 1) inverse }) (is.Comp o.txn o.undo next inverse) w.stable w.session at rolling rolling refl refl
+    rolling_same w o (record o { last = length w.log + 1; undo = next; waiting = waits_for (length w.log + 1) inverse }) (is.Comp o.txn o.undo next inverse) at rolling rolling refl refl
     (ap (cross (λ m. true) o.txn) (hist_comp w.log o.txn o.undo next inverse (λ v q by. (op_same v o.txn q latest.is.op (record_at w.log o.undo) by latest.is.is).0))
     ∙ cross_all-one (λ m. m == o.undo) o.txn (hist w.log))
 

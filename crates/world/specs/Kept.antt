@@ -1,29 +1,82 @@
--- What holds of a node at every moment.
-use Rattle.std.specs.Prelude.{◌≡◌, ℕ, Bool, true, Some, IsSome, is_some}
-use Rattle.std.specs.FinMap as map
+-- What holds of a node at every moment. These are the invariants on which the headline rests; docs/PROOF.md
+-- argues why each event keeps them.
+use Rattle.std.specs.Prelude.{◌≡◌, ℕ, ◌≤◌, true, List, Option, Some, None, IsSome}
+use Rattle.std.specs.List.{AllByRecursion}
 use Rattle.record_key.specs.declared.op.Op.{Op}
 use Rattle.record_key.specs.declared.op.Answer.{Answer}
-use Rattle.record_key.specs.Table.{Bytes}
+use Rattle.history.specs.declared.record.Record.{Record}
 use Rattle.history.specs.Log.{answer_of, Requests}
 use Rattle.history.specs.Values.{IsRight, HasRightAnswers}
-use Rattle.history.specs.Honest.{IsHonestAt}
+use Rattle.log_laws.specs.Reading.{AreAnswered}
+use Rattle.codec.specs.declared.request.Request.{Request}
+use Rattle.codec.specs.declared.request.Request.TheVariants as asks
+use Rattle.codec.specs.declared.reply.Reply.{Reply}
+use Rattle.codec.specs.declared.reply.Reply.TheVariants as says
+use Rattle.ab_lsn.specs.declared.entry.Entry.{Entry}
+use Rattle.ab_lsn.specs.AbLsn.{captures}
 use Rattle.page.specs.Leaf.{LeafView}
+use Rattle.page.specs.Honest.{IsHonestLeaf}
+use Rattle.dc_core.specs.DcView.{DcView}
+use Rattle.tc_core.specs.declared.phase.Phase.{Phase}
+use Rattle.tc_core.specs.declared.phase.Phase.TheVariants as phase
+use Rattle.tc_core.specs.TcView.{TcView}
 use Rattle.tc_core.specs.Kept.{IsTc}
 use Rattle.world.specs.Node.{NodeView}
 
--- the leaf has the effect of this number
-abbrev pub captures : LeafView → ℕ → Bool
-captures leaf n = is_some (map.get leaf.saved n)
+-- every request up to a stable number has its answer
+pub record IsAnsweredTo (w : TcView) (l : ℕ) : Type 0 where
+  pub stable : l ≤ w.stable
+  pub answered : AreAnswered w.log l
 
--- an answer that the leaf has saved is that of a request of the log, and right
-pub record IsSaved (w : NodeView) (n : ℕ) (a : Answer) : Type 0 where
+-- what was sent stands: an operation is that of its record, which is stable
+abbrev pub IsSent : TcView → Request → Type 0
+IsSent w (asks.Connect s) = s ≤ w.session
+IsSent w (asks.Perform s n o) = (n ≤ w.stable) × Requests w.log n o
+IsSent w (asks.Get s r k) = Unit {0}
+IsSent w (asks.Scan s r lo hi) = Unit {0}
+IsSent w (asks.LowWater s l) = IsAnsweredTo w l
+IsSent w (asks.Checkpoint s l) = IsAnsweredTo w l
+IsSent w (asks.RedoEnd s) = Unit {0}
+
+-- the answer of a captured request, and the right one
+pub record IsAnswerOf (log : List Record) (leaf : LeafView) (n : ℕ) (a : Answer) : Type 0 where
   pub op : Op
-  pub requests : Requests w.tc.log n op
-  pub right : IsRight w.tc.log n a
+  pub requests : Requests log n op
+  pub right : IsRight log n a
+  pub captured : captures leaf.ab n ≡ true
+
+abbrev pub IsAnswered : List Record → LeafView → ℕ → Option Answer → Type 0
+IsAnswered log leaf n None = n ≤ leaf.ab.low
+IsAnswered log leaf n (Some a) = IsAnswerOf log leaf n a
+
+-- what was replied stays true
+abbrev pub IsGiven : List Record → DcView → Reply → Type 0
+IsGiven log dc (says.Connected s) = s ≤ dc.stored
+IsGiven log dc (says.Answered s n a) = IsAnswered log dc.leaf n a
+IsGiven log dc (says.Row s r v) = Unit {0}
+IsGiven log dc (says.Rows s r rows) = Unit {0}
+IsGiven log dc (says.Checkpointed s l) = Unit {0}
+IsGiven log dc (says.RedoEnded s) = Unit {0}
+
+-- from the reply to Connect on, the data component runs the session
+abbrev pub IsServed : Phase → ℕ → ℕ → Type 0
+IsServed (phase.Redoing next) s running = running ≡ s
+IsServed phase.Running s running = running ≡ s
+IsServed _ s running = Unit {0}
+
+pub record AreSessions (session : ℕ) (at : Phase) (dc : DcView) : Type 0 where
+  pub runs : dc.session ≡ dc.stored
+  pub begun : dc.stored ≤ session
+  pub served : IsServed at session dc.session
 
 pub record IsKept (w : NodeView) : Type 0 where
   pub tc : IsTc w.tc
   pub right : HasRightAnswers w.tc.log
-  pub honest : (k : Bytes) → IsHonestAt w.tc.log (captures w.leaf) k (map.get w.leaf.rows k)
-  pub saved : (n : ℕ) (a : Answer) → map.get w.leaf.saved n ≡ Some a → IsSaved w n a
-  pub answered : (n : ℕ) (o : Op) → Requests w.tc.log n o → IsSome (answer_of w.tc.log n) → captures w.leaf n ≡ true
+  pub whole : (w.dc.leaf.low_fence ≡ None) × (w.dc.leaf.high_fence ≡ None)
+  pub honest : IsHonestLeaf w.tc.log w.dc.leaf
+  pub stable : AllByRecursion (λ (e : Entry). e.number ≤ w.tc.stable) w.dc.leaf.ab.entries
+  pub low : IsAnsweredTo w.tc w.dc.leaf.ab.low
+  pub answered : (n : ℕ) (o : Op) → Requests w.tc.log n o → IsSome (answer_of w.tc.log n) → captures w.dc.leaf.ab n ≡ true
+  pub sent : AllByRecursion (IsSent w.tc) w.requests
+  pub given : AllByRecursion (IsGiven w.tc.log w.dc) w.replies
+  pub sessions : AreSessions w.tc.session w.tc.phase w.dc

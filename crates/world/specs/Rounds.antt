@@ -1,30 +1,50 @@
 -- The rounds of settling.
-use Rattle.std.specs.Prelude.{◌≡◌, ◌≢◌, ◌⊎◌, ℕ, ◌+◌, ◌*◌, ◌<◌, ◌≤◌, ◌==◌, true, List, [], ◌∷◌, ◌++◌, Option, Some, None, Result, MatchResult, length, is_some, nat_lt, if◌then◌else◌}
+use Rattle.std.specs.Prelude.{◌≡◌, ◌≢◌, ◌⊎◌, ℕ, ◌+◌, ◌-◌, ◌<◌, ◌≤◌, Bool, true, false, List, [], ◌∷◌, ◌++◌, Option, Some, None, Result, Ok, Err, length}
 use Rattle.record_key.specs.declared.refusal.Refusal.{Refusal}
-use Rattle.record_key.specs.declared.refusal.Refusal.TheVariants.{NoMemory}
+use Rattle.record_key.specs.declared.refusal.Refusal.TheVariants.{NoMemory, NumbersSpent}
 use Rattle.tc_core.specs.declared.open_txn.OpenTxn.{OpenTxn}
+use Rattle.tc_core.specs.declared.phase.Phase.{Phase}
+use Rattle.tc_core.specs.declared.phase.Phase.TheVariants as phase
 use Rattle.tc_core.specs.TcView.{TcView}
 use Rattle.world.specs.declared.event.Event.{Event}
 use Rattle.world.specs.declared.event.Event.TheVariants as event
 use Rattle.world.specs.declared.event.Out.{Out}
 use Rattle.world.specs.declared.event.Out.TheVariants as out
+use Rattle.world.specs.declared.round.Round.{Round}
+use Rattle.world.specs.declared.round.Round.TheVariants as round
 use Rattle.world.specs.Node.{NodeView, StepsTo}
-use Rattle.world.specs.Simulation.{IsSettled}
+use Rattle.world.specs.Simulation.{IsSettled, IsUnrolled}
+use Rattle.world.specs.Bound.{most_rounds}
 
--- nothing is left to do: a session runs, the node is settled, and every record is stable
+-- the open transaction waits for nothing
+abbrev pub IsIdleTxn : Option OpenTxn → Type 0
+IsIdleTxn None = Unit {0}
+IsIdleTxn (Some o) = o.waiting ≡ None
+
+-- nothing is left to do: the node is settled, nobody waits, and every record is stable
 pub record IsAtRest (w : NodeView) : Type 0 where
-  pub connected : w.tc.session ≢ 0
   pub settled : IsSettled w
-  pub stable : length w.tc.log ≤ w.tc.stable
+  pub idle : IsIdleTxn w.tc.open_txn
+  pub stable : w.tc.stable ≡ length w.tc.log
 
--- the open transaction waits for a stable record's answer
-pub record IsDue (w : TcView) (t : ℕ) : Type 0 where
+-- the transaction component has no session that the data component runs
+abbrev pub IsApart : NodeView → Type 0
+IsApart w = (w.tc.phase ≡ phase.Unconnected) ⊎ (w.tc.phase ≡ phase.Connecting) ⊎ (w.dc.session ≢ w.tc.session)
+
+abbrev pub IsRedoing : Phase → Type 0
+IsRedoing (phase.Redoing next) = Unit {0}
+IsRedoing _ = ⊥
+
+pub record IsServing (w : NodeView) : Type 0 where
+  pub running : w.tc.phase ≡ phase.Running
+  pub session : w.dc.session ≡ w.tc.session
+
+-- the open transaction waits for this record's answer
+pub record IsDue (w : TcView) (t number : ℕ) : Type 0 where
   pub open_txn : OpenTxn
-  pub number : ℕ
   pub is : w.open_txn ≡ Some open_txn
   pub txn : open_txn.txn ≡ t
   pub waiting : open_txn.waiting ≡ Some number
-  pub stable : number ≤ w.stable
 
 -- it is being rolled back and waits for nothing
 pub record IsRolling (w : TcView) (t : ℕ) : Type 0 where
@@ -34,35 +54,116 @@ pub record IsRolling (w : TcView) (t : ℕ) : Type 0 where
   pub rolling : open_txn.rolling ≡ true
   pub waiting : open_txn.waiting ≡ None
 
--- a round that applies; none is a client's call
-abbrev pub IsNext : NodeView → Event → Type 0
-IsNext w event.Reconnect = w.tc.session ≡ 0
-IsNext w event.Force = (w.tc.session ≢ 0) × (w.tc.stable < length w.tc.log)
-IsNext w (event.Deliver t) = (w.tc.session ≢ 0) × IsDue w.tc t
-IsNext w (event.Undo t) = (w.tc.session ≢ 0) × IsRolling w.tc t
-IsNext w _ = ⊥
+-- the log is to be forced: for the request that is waited for, or since nothing else is left to do
+abbrev pub IsForced : TcView → Type 0
+IsForced w =
+    ((t : ℕ) × (n : ℕ) × IsDue w t n × (w.stable < n))
+    ⊎ (IsUnrolled w.open_txn × IsIdleTxn w.open_txn × (w.stable < length w.log))
 
--- events that may follow one another so, each a round
-abbrev pub Rounds : NodeView → List Event → List Out → NodeView → Type 0
-Rounds w [] [] new = new ≡ w
-Rounds w (e ∷ es) (o ∷ os) new = (mid : NodeView) × IsNext w e × StepsTo w e o mid × Rounds mid es os new
-Rounds w _ _ new = ⊥
+-- the first round that applies: to connect; to recover; for an unanswered request to force the log where its
+-- record isn't stable, else to exchange it; to undo; to force what isn't stable
+abbrev pub IsNext : NodeView → Round → Type 0
+IsNext w round.Connect = IsApart w
+IsNext w round.Recover = IsRedoing w.tc.phase × (w.dc.session ≡ w.tc.session)
+IsNext w (round.Exchange t) = IsServing w × ((n : ℕ) × IsDue w.tc t n × (n ≤ w.tc.stable))
+IsNext w (round.Undo t) = IsServing w × IsRolling w.tc t
+IsNext w round.Force = IsServing w × IsForced w.tc
 
--- settling did these rounds and then came to rest, or was refused room for an output, or a round was refused
-pub record Settles (old : NodeView) (before after : List Out) (result : Result (Unit {0}) Refusal) (new : NodeView) : Type 0 where
-  pub events : List Event
+-- an event that sends a request, the request's delivery, and that of its reply
+abbrev pub exchange_of : Event → ℕ → ℕ → List Event
+exchange_of e i j = e ∷ event.Request i ∷ event.Reply j ∷ []
+
+abbrev pub exchange : NodeView → Event → List Event
+exchange w e = exchange_of e (length w.requests + 1) (length w.replies + 1)
+
+abbrev pub events_of : NodeView → Round → List Event
+events_of w round.Connect = exchange w event.Reconnect
+events_of w round.Recover = exchange w event.Recover
+events_of w (round.Exchange t) = exchange w (event.Send t)
+events_of w (round.Undo t) = event.Undo t ∷ []
+events_of w round.Force = event.Force ∷ []
+
+-- the event wasn't refused
+abbrev pub IsDone : Out → Type 0
+IsDone (out.Refused r) = ⊥
+IsDone _ = Unit {0}
+
+-- events with their outputs, one after another, none refused
+abbrev pub Steps : NodeView → List Event → List Out → NodeView → Type 0
+Steps w [] [] new = new ≡ w
+Steps w (e ∷ es) (o ∷ os) new = (mid : NodeView) × StepsTo w e o mid × IsDone o × Steps mid es os new
+Steps w _ _ new = ⊥
+
+-- the same, until room for an output or an event is refused
+abbrev pub StopsAt : NodeView → List Event → List Out → Refusal → NodeView → Type 0
+StopsAt w (e ∷ es) [] r new = ((r ≡ NoMemory) × (new ≡ w)) ⊎ StepsTo w e (out.Refused r) new
+StopsAt w (e ∷ es) (o ∷ os) r new = (mid : NodeView) × StepsTo w e o mid × IsDone o × StopsAt mid es os r new
+StopsAt w _ _ r new = ⊥
+
+-- the events were done, and their outputs stand after those before
+pub record Done (old : NodeView) (events : List Event) (before after : List Out) (new : NodeView) : Type 0 where
   pub outs : List Out
-  pub last : NodeView
   pub appended : after ≡ before ++ outs
-  pub rounds : Rounds old events outs last
-  pub ends : MatchResult result
-      (λ _. (new ≡ last) × IsAtRest new)
-      (λ r. ((r ≡ NoMemory) × (new ≡ last)) ⊎ ((e : Event) × IsNext last e × StepsTo last e (out.Refused r) new))
+  pub steps : Steps old events outs new
 
--- how much is left to do: every round takes some of it
-abbrev pub work_of : Option OpenTxn → ℕ
-work_of None = 0
-work_of (Some o) = (if o.rolling then 4 * o.undo + 2 else 0) + (if is_some o.waiting then 2 else 0)
+pub record Stopped (old : NodeView) (events : List Event) (before after : List Out) (r : Refusal) (new : NodeView) : Type 0 where
+  pub outs : List Out
+  pub appended : after ≡ before ++ outs
+  pub stops : StopsAt old events outs r new
 
-abbrev pub work : TcView → ℕ
-work w = (if w.session == 0 then 2 else 0) + work_of w.open_txn + (if nat_lt w.stable (length w.log) then 1 else 0)
+abbrev pub Does : NodeView → List Event → List Out → List Out → Result (Unit {0}) Refusal → NodeView → Type 0
+Does old events before after (Ok u) new = Done old events before after new
+Does old events before after (Err r) new = Stopped old events before after r new
+
+-- the event sends a request, and the request is replied to
+pub record Asks (w : NodeView) (e : Event) : Type 0 where
+  pub sent : (o : Out) (mid : NodeView) → StepsTo w e o mid → IsDone o → length mid.requests ≡ length w.requests + 1
+  pub replied : (o p : Out) (mid after : NodeView) → StepsTo w e o mid → IsDone o → StepsTo mid (event.Request (length w.requests + 1)) p after → IsDone p
+      → length after.replies ≡ length w.replies + 1
+
+-- only want of memory or of numbers stops a round
+abbrev pub IsWant : Refusal → Type 0
+IsWant r = (r ≡ NoMemory) ⊎ (r ≡ NumbersSpent)
+
+-- rounds that may follow one another so
+abbrev pub Rounds : NodeView → List Round → List Out → NodeView → Type 0
+Rounds w [] outs new = (outs ≡ []) × (new ≡ w)
+Rounds w (r ∷ rs) outs new =
+    (mid : NodeView) × (first : List Out) × (rest : List Out) × (outs ≡ first ++ rest)
+    × IsNext w r × Steps w (events_of w r) first mid × Rounds mid rs rest new
+
+-- these rounds were played
+pub record Played (old : NodeView) (before after : List Out) (last : NodeView) : Type 0 where
+  pub rounds : List Round
+  pub outs : List Out
+  pub appended : after ≡ before ++ outs
+  pub played : Rounds old rounds outs last
+
+-- a round stopped amid its events
+pub record Broken (old : NodeView) (before after : List Out) (r : Refusal) (new : NodeView) : Type 0 where
+  pub last : NodeView
+  pub between : List Out
+  pub rounds : Played old before between last
+  pub round : Round
+  pub next : IsNext last round
+  pub stopped : Stopped last (events_of last round) between after r new
+  pub want : IsWant r
+
+-- so many rounds may be played
+abbrev pub IsAllowed : Option ℕ → ℕ → Type 0
+IsAllowed None n = Unit {0}
+IsAllowed (Some most) n = n ≤ most
+
+-- settling plays rounds until none is left, within the bound; or as many as it may, which is less; or a round
+-- stopped
+abbrev pub Settles : NodeView → Option ℕ → List Out → List Out → Result Bool Refusal → NodeView → Type 0
+Settles old most before after (Ok true) new =
+    (p : Played old before after new) × IsAllowed most (length p.rounds) × (length p.rounds ≤ most_rounds old.tc.log) × IsAtRest new
+Settles old most before after (Ok false) new =
+    (p : Played old before after new) × (most ≡ Some (length p.rounds)) × (length p.rounds < most_rounds old.tc.log) × ((r : Round) × IsNext new r)
+Settles old most before after (Err r) new = (b : Broken old before after r new) × IsAllowed most (length b.rounds.rounds + 1)
+
+-- one round less is left to play
+abbrev pub fewer : Option ℕ → Option ℕ
+fewer None = None
+fewer (Some n) = Some (n - 1)

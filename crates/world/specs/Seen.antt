@@ -1,6 +1,6 @@
--- What is seen of the two components side by side.
+-- What is seen of the two components and their messages.
 use Rattle.world.specs.declared.node.Node.{Node}
 use Rattle.world.specs.Node.{NodeView}
 
 abbrev pub seen : Node → NodeView
-seen n = record { tc = n.tc; leaf = n.leaf }
+seen n = record { tc = n.tc; dc = n.dc; requests = n.requests.items; replies = n.replies.items }

@@ -1,14 +1,15 @@
 -- The list machine that a node stands for, and runs of events.
-use Rattle.std.specs.Prelude.{◌≡◌, ℕ, ◌+◌, ◌==◌, true, false, List, [], ◌∷◌, ◌++◌, Option, Some, None, length, if◌then◌else◌}
+use Rattle.std.specs.Prelude.{◌≡◌, ℕ, ◌+◌, ◌≤◌, ◌==◌, true, false, List, [], ◌∷◌, ◌++◌, Option, Some, None, IsSome, length, if◌then◌else◌}
 use Rattle.record_key.specs.declared.op.Op.{Op}
 use Rattle.record_key.specs.Table.{key_of}
 use Rattle.history.specs.declared.record.Record.{Record}
 use Rattle.history.specs.declared.record.Record.TheVariants as is
 use Rattle.history.specs.History.{Entry, cross}
 use Rattle.history.specs.Spans.{Span, Exclusive, at_key}
-use Rattle.history.specs.Log.{record_at, op_in, hist}
+use Rattle.history.specs.Log.{record_at, op_in, answer_of, Requests, hist}
 use Rattle.history.specs.ListMachine.{Machine, Txn, Status, Open, Waiting, Rolling, Gone, Line, Begins, Acts, TellsAnswer, RollsBack, TellsRolledBack, IsRefused, Steps}
 use Rattle.tc_core.specs.declared.open_txn.OpenTxn.{OpenTxn}
+use Rattle.tc_core.specs.declared.phase.Phase.TheVariants as phase
 use Rattle.tc_core.specs.TcView.{TcView}
 use Rattle.world.specs.Node.{NodeView}
 use Rattle.world.specs.declared.event.Event.{Event}
@@ -55,8 +56,12 @@ abbrev pub history_as : List Record → Option OpenTxn → List Entry
 history_as log None = hist log
 history_as log (Some o) = if o.rolling then cross (λ n. true) o.txn (hist log) else hist log
 
+-- a log with its open transaction stands for this; messages and leaves have no part in it
+abbrev pub machine_in : List Record → Option OpenTxn → Machine
+machine_in log open_txn = record { h = history_as log open_txn; txns = λ t. txn_as log open_txn t }
+
 abbrev pub machine_of : TcView → Machine
-machine_of w = record { h = history_as w.log w.open_txn; txns = λ t. txn_as w.log w.open_txn t }
+machine_of w = machine_in w.log w.open_txn
 
 abbrev pub machine : NodeView → Machine
 machine w = machine_of w.tc
@@ -73,12 +78,24 @@ lines_of (event.Undo t) out.Nothing = Some []
 lines_of (event.Undo t) (out.Compensated n) = Some []
 lines_of (event.Undo t) (out.RolledBack u) = Some (TellsRolledBack u ∷ [])
 lines_of (event.Undo t) (out.Refused r) = Some []
-lines_of (event.Deliver t) (out.Answered u a) = Some (TellsAnswer u a ∷ [])
-lines_of (event.Deliver t) (out.Undone n) = Some []
-lines_of (event.Deliver t) out.Nothing = Some []
-lines_of (event.Deliver t) (out.Refused r) = Some []
-lines_of event.Reconnect (out.Connected n) = Some []
+lines_of (event.Reply i) (out.Answered u a) = Some (TellsAnswer u a ∷ [])
+lines_of (event.Reply i) (out.Connected s) = Some []
+lines_of (event.Reply i) (out.RedoEnded s) = Some []
+lines_of (event.Reply i) (out.Undone n) = Some []
+lines_of (event.Reply i) out.Nothing = Some []
+lines_of (event.Reply i) (out.Refused r) = Some []
+lines_of (event.Request i) (out.Replied j) = Some []
+lines_of (event.Request i) out.Noted = Some []
+lines_of (event.Request i) (out.Refused r) = Some []
+lines_of (event.Send t) (out.Sent i) = Some []
+lines_of (event.Send t) (out.Refused r) = Some []
+lines_of (event.LowWater l) (out.Sent i) = Some []
+lines_of (event.LowWater l) (out.Refused r) = Some []
+lines_of event.Reconnect (out.Sent i) = Some []
 lines_of event.Reconnect (out.Refused r) = Some []
+lines_of event.Recover (out.Sent i) = Some []
+lines_of event.Recover out.Nothing = Some []
+lines_of event.Recover (out.Refused r) = Some []
 lines_of event.Force (out.Stable n) = Some []
 lines_of _ _ = None
 
@@ -97,10 +114,14 @@ Run m (e ∷ es) (o ∷ os) n = (mid : Machine) × Happens m e o mid × Run mid 
 Run m [] (o ∷ os) n = ⊥
 Run m (e ∷ es) [] n = ⊥
 
--- nobody waits or is being rolled back
-abbrev pub IsSettledTxn : Option OpenTxn → Type 0
-IsSettledTxn None = Unit {0}
-IsSettledTxn (Some o) = (o.rolling ≡ false) × (o.waiting ≡ None)
+-- nobody is being rolled back
+abbrev pub IsUnrolled : Option OpenTxn → Type 0
+IsUnrolled None = Unit {0}
+IsUnrolled (Some o) = o.rolling ≡ false
 
-abbrev pub IsSettled : NodeView → Type 0
-IsSettled w = IsSettledTxn w.tc.open_txn
+-- both components run in one session, nobody is being rolled back, and every stable request is answered
+pub record IsSettled (w : NodeView) : Type 0 where
+  pub running : w.tc.phase ≡ phase.Running
+  pub session : w.dc.session ≡ w.tc.session
+  pub unrolled : IsUnrolled w.tc.open_txn
+  pub answered : (n : ℕ) (o : Op) → n ≤ w.tc.stable → Requests w.tc.log n o → IsSome (answer_of w.tc.log n)

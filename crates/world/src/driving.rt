@@ -13,7 +13,7 @@ use std::alloc::Global;
 /// records are what a plain map holds after the operations that stand. Refused NoMemory before any event.
 pub fn drive(alloc: Global, world: &mut World, events: &[Event]) -> Result<Vec<Out>, Refusal>
     ensures run { IfOk result (λ outs. Run (machine world.old) events.now outs.items (machine world.new)) }
-    ensures rows { IsSettled world.new → world.new.leaf.rows ≡ plain (machine world.new).h }
+    ensures rows { IsSettled world.new → world.new.dc.leaf.rows ≡ plain (machine world.new).h }
     ensures refused { OnErr result (world.new ≡ world.old) }
     ensures memory { IsOkUnless result Refusal.NoMemory }
 {

@@ -1,11 +1,13 @@
 //! What may happen to a node, and what comes of it.
 use record_key::{Answer, Op, Refusal};
 
-/// One atomic step.
+/// One atomic step: a call of one of the components, or the delivery of a message that was sent before.
 #[derive(Debug, PartialEq, Eq, Drop)]
 pub enum Event {
     /// The transaction component starts a session.
     Reconnect,
+    /// One step of recovery.
+    Recover,
     Begin,
     Act { txn: u64, op: Op },
     Rollback { txn: u64 },
@@ -13,14 +15,19 @@ pub enum Event {
     Undo { txn: u64 },
     /// The log is made stable.
     Force,
-    /// The transaction's unanswered request is sent and performed, and its reply taken.
-    Deliver { txn: u64 },
+    /// The transaction's unanswered request is sent, first or again.
+    Send { txn: u64 },
+    /// The data component is told that no number up to `low` is sent again.
+    LowWater { low: u64 },
+    /// The request of this number reaches the data component.
+    Request { number: u64 },
+    /// The reply of this number reaches the transaction component.
+    Reply { number: u64 },
 }
 
 /// What an event came to.
 #[derive(Debug, PartialEq, Eq, Drop)]
 pub enum Out {
-    Connected(u64),
     Begun(u64),
     Logged(u64),
     RollingBack,
@@ -28,6 +35,14 @@ pub enum Out {
     Compensated(u64),
     RolledBack(u64),
     Stable(u64),
+    /// A request was sent under this number.
+    Sent(u64),
+    /// A reply was given under this number.
+    Replied(u64),
+    /// The request has no reply.
+    Noted,
+    Connected(u64),
+    RedoEnded(u64),
     Answered { txn: u64, answer: Answer },
     Undone(u64),
     Refused(Refusal),

@@ -1,19 +1,23 @@
-//! The node: one transaction component, one data component, and what passes between them.
+//! The node: one transaction component, one data component, and every message between them.
 //!
 //! Knows: the calls of the two components, and the list machine that clients may rely on.
 //! Must not know: how either component keeps its state.
-//! Promises the next crates the headline: whatever events come, each client's answer is that of one list of
-//! operations with the rolled-back ones crossed out, and a settled node holds what a plain map holds.
+//! Promises the next crates the headline: whatever events come, with messages lost, late or repeated, each
+//! client's answer is that of one list of operations with the rolled-back ones crossed out, and a settled node
+//! holds what a plain map holds.
 #![tactic(auto)]
 
 mod driving;
 mod event;
+mod messages;
 mod node;
+mod round;
 mod settling;
 mod world;
 
 pub use driving::drive;
 pub use event::{Event, Out};
+pub use round::Round;
 pub use settling::settle;
 pub use world::World;
 

@@ -1,19 +1,23 @@
-//! The two components side by side.
-ghost use Rattle.std.specs.Prelude.{◌≡◌, IfOk, OnErr, IsOkUnless};
-ghost use Rattle.world.specs.Node.{fresh_node, StepsTo, DeliversTo, UndoesTo, PerformsAs};
+//! The two components, and the messages between them.
+ghost use Rattle.std.specs.Prelude.{◌≡◌, true};
+ghost use Rattle.world.specs.Node.{fresh_node, StepsTo, out_of, ReconnectsTo, RecoversTo, BeginsTo, ActsTo, RollsBackTo, UndoesTo, SendsTo, LowersTo, ServesTo, TakesTo, as_out, is_replied_to, takes_memory, IsRefused};
 ghost use Rattle.world.specs.Seen.{seen};
 
 use crate::event::{Event, Out};
-use page::{Done, Leaf};
-use record_key::{Answer, Op, Refusal};
+use crate::messages::message;
+use codec::{Reply, Request};
+use dc_core::Dc;
+use record_key::{Op, Refusal};
 use std::alloc::Global;
-use tc_core::{Tc, Told, UndoStep};
+use tc_core::{RecoverStep, Tc, Told, UndoStep};
 
-/// A transaction component and a data component of one leaf.
+/// A transaction component, a data component, and every message ever sent, the oldest first.
 #[derive(Drop)]
 pub struct Node {
     pub tc: Tc,
-    pub leaf: Leaf,
+    pub dc: Dc,
+    pub requests: Vec<Request>,
+    pub replies: Vec<Reply>,
 }
 
 impl Node {
@@ -22,77 +26,162 @@ impl Node {
     {
         Node {
             tc: Tc::new(alloc),
-            leaf: Leaf::new(alloc),
+            dc: Dc::new(alloc),
+            requests: Vec::new(alloc),
+            replies: Vec::new(alloc),
         }
     }
 
     /// One event.
     pub fn step(&mut self, event: &Event) -> Out
-        ensures { StepsTo (seen self.old) event.now result (seen self.new) }
+        ensures step { StepsTo (seen self.old) event.now result (seen self.new) }
+        ensures memory { IsRefused result Refusal.NoMemory → takes_memory (seen self.old) event.now ≡ true }
+    {
+        match self.happen(event) {
+            Ok(out) => out,
+            Err(refusal) => Out::Refused(refusal),
+        }
+    }
+
+    fn happen(&mut self, event: &Event) -> Result<Out, Refusal>
+        ensures done { StepsTo (seen self.old) event.now (out_of result) (seen self.new) }
+        ensures memory { IsRefused (out_of result) Refusal.NoMemory → takes_memory (seen self.old) (event.now) ≡ true }
     {
         match event {
-            Event::Reconnect => match self.tc.reconnect() {
-                Ok(session) => Out::Connected(session),
-                Err(refusal) => Out::Refused(refusal),
-            },
-            Event::Begin => match self.tc.begin() {
-                Ok(txn) => Out::Begun(txn),
-                Err(refusal) => Out::Refused(refusal),
-            },
-            Event::Act { txn, op } => match self.tc.act(*txn, op) {
-                Ok(number) => Out::Logged(number),
-                Err(refusal) => Out::Refused(refusal),
-            },
-            Event::Rollback { txn } => match self.tc.rollback(*txn) {
-                Ok(()) => Out::RollingBack,
-                Err(refusal) => Out::Refused(refusal),
-            },
+            Event::Reconnect => self.reconnect(),
+            Event::Recover => self.recover(),
+            Event::Begin => self.begin(),
+            Event::Act { txn, op } => self.act(*txn, op),
+            Event::Rollback { txn } => self.rollback(*txn),
             Event::Undo { txn } => self.undo(*txn),
-            Event::Force => Out::Stable(self.tc.force()),
-            Event::Deliver { txn } => self.deliver(*txn),
+            Event::Force => Ok(Out::Stable(self.tc.force())),
+            Event::Send { txn } => self.send(*txn),
+            Event::LowWater { low } => self.low_water(*low),
+            Event::Request { number } => self.request(*number),
+            Event::Reply { number } => self.reply(*number),
         }
     }
 
-    fn undo(&mut self, txn: u64) -> Out
-        ensures { UndoesTo (seen self.old) txn result (seen self.new) }
+    fn reconnect(&mut self) -> Result<Out, Refusal>
+        ensures done { ReconnectsTo (seen self.old) (out_of result) (seen self.new) }
+        ensures memory { IsRefused (out_of result) Refusal.NoMemory → takes_memory (seen self.old) (Event.Reconnect) ≡ true }
     {
-        match self.tc.undo_step(txn) {
-            Ok(UndoStep::Idle) => Out::Nothing,
-            Ok(UndoStep::Compensated(number)) => Out::Compensated(number),
-            Ok(UndoStep::RolledBack(txn)) => Out::RolledBack(txn),
-            Err(refusal) => Out::Refused(refusal),
+        self.tc.can_log()?;
+        self.requests.reserve(1)?;
+        let request = self.tc.reconnect()?;
+        self.requests.push_reserved(request);
+        Ok(Out::Sent(self.requests.len() as u64))
+    }
+
+    fn recover(&mut self) -> Result<Out, Refusal>
+        ensures done { RecoversTo (seen self.old) (out_of result) (seen self.new) }
+        ensures memory { IsRefused (out_of result) Refusal.NoMemory → takes_memory (seen self.old) (Event.Recover) ≡ true }
+    {
+        if self.tc.phase().is_recovering() {
+            self.requests.reserve(1)?;
+        }
+        match self.tc.recover_step()? {
+            RecoverStep::Nothing => Ok(Out::Nothing),
+            RecoverStep::Sends(request) => {
+                self.requests.push_reserved(request);
+                Ok(Out::Sent(self.requests.len() as u64))
+            }
         }
     }
 
-    fn deliver(&mut self, txn: u64) -> Out
-        ensures { DeliversTo (seen self.old) txn result (seen self.new) }
+    fn begin(&mut self) -> Result<Out, Refusal>
+        ensures done { BeginsTo (seen self.old) (out_of result) (seen self.new) }
+        ensures memory { IsRefused (out_of result) Refusal.NoMemory → takes_memory (seen self.old) (Event.Begin) ≡ true }
     {
-        let request = match self.tc.resend(txn) {
-            Ok(request) => request,
-            Err(refusal) => return Out::Refused(refusal),
-        };
-        let answer = match self.perform(request.number, &request.op) {
-            Ok(answer) => answer,
-            Err(refusal) => return Out::Refused(refusal),
-        };
-        match self.tc.on_reply(request.number, &answer) {
-            Ok(Told::Nothing) => Out::Nothing,
-            Ok(Told::Answered { txn, answer }) => Out::Answered { txn, answer },
-            Ok(Told::Undone(number)) => Out::Undone(number),
-            Err(refusal) => Out::Refused(refusal),
+        Ok(Out::Begun(self.tc.begin()?))
+    }
+
+    fn act(&mut self, txn: u64, op: &Op) -> Result<Out, Refusal>
+        ensures done { ActsTo (seen self.old) txn op.now (out_of result) (seen self.new) }
+        ensures memory { IsRefused (out_of result) Refusal.NoMemory → takes_memory (seen self.old) (Event.Act txn op.now) ≡ true }
+    {
+        Ok(Out::Logged(self.tc.act(txn, op)?))
+    }
+
+    fn rollback(&mut self, txn: u64) -> Result<Out, Refusal>
+        ensures done { RollsBackTo (seen self.old) txn (out_of result) (seen self.new) }
+        ensures memory { IsRefused (out_of result) Refusal.NoMemory → takes_memory (seen self.old) (Event.Rollback txn) ≡ true }
+    {
+        self.tc.rollback(txn)?;
+        Ok(Out::RollingBack)
+    }
+
+    fn undo(&mut self, txn: u64) -> Result<Out, Refusal>
+        ensures done { UndoesTo (seen self.old) txn (out_of result) (seen self.new) }
+        ensures memory { IsRefused (out_of result) Refusal.NoMemory → takes_memory (seen self.old) (Event.Undo txn) ≡ true }
+    {
+        Ok(match self.tc.undo_step(txn)? {
+            UndoStep::Idle => Out::Nothing,
+            UndoStep::Compensated(number) => Out::Compensated(number),
+            UndoStep::RolledBack(txn) => Out::RolledBack(txn),
+        })
+    }
+
+    fn send(&mut self, txn: u64) -> Result<Out, Refusal>
+        ensures done { SendsTo (seen self.old) txn (out_of result) (seen self.new) }
+        ensures memory { IsRefused (out_of result) Refusal.NoMemory → takes_memory (seen self.old) (Event.Send txn) ≡ true }
+    {
+        let request = self.tc.resend(txn)?;
+        self.requests.push(request)?;
+        Ok(Out::Sent(self.requests.len() as u64))
+    }
+
+    fn low_water(&mut self, low: u64) -> Result<Out, Refusal>
+        ensures done { LowersTo (seen self.old) low (out_of result) (seen self.new) }
+        ensures memory { IsRefused (out_of result) Refusal.NoMemory → takes_memory (seen self.old) (Event.LowWater low) ≡ true }
+    {
+        let request = self.tc.low_water(low)?;
+        self.requests.push(request)?;
+        Ok(Out::Sent(self.requests.len() as u64))
+    }
+
+    fn request(&mut self, number: u64) -> Result<Out, Refusal>
+        ensures done { ServesTo (seen self.old) number (out_of result) (seen self.new) }
+        ensures memory { IsRefused (out_of result) Refusal.NoMemory → takes_memory (seen self.old) (Event.Request number) ≡ true }
+    {
+        let request = message(self.requests.as_slice(), number)?;
+        self.dc.allows(request)?;
+        if has_reply(request) {
+            self.replies.reserve(1)?;
+        }
+        match self.dc.serve(request)? {
+            None => Ok(Out::Noted),
+            Some(reply) => {
+                self.replies.push_reserved(reply);
+                Ok(Out::Replied(self.replies.len() as u64))
+            }
         }
     }
 
-    fn perform(&mut self, number: u64, op: &Op) -> Result<Answer, Refusal>
-        ensures performed { IfOk result (λ answer. PerformsAs self.old.leaf number op.now answer self.new.leaf) }
-        ensures same { self.new.tc ≡ self.old.tc }
-        ensures refused { OnErr result (self.new.leaf ≡ self.old.leaf) }
-        ensures memory { IsOkUnless result Refusal.NoMemory }
+    fn reply(&mut self, number: u64) -> Result<Out, Refusal>
+        ensures done { TakesTo (seen self.old) number (out_of result) (seen self.new) }
+        ensures memory { IsRefused (out_of result) Refusal.NoMemory → takes_memory (seen self.old) (Event.Reply number) ≡ true }
     {
-        match self.leaf.perform(number, op)? {
-            Done::Performed(answer) => Ok(answer),
-            Done::Repeated(Some(answer)) => Ok(answer),
-            Done::Repeated(None) => unreachable!(),
-        }
+        let reply = message(self.replies.as_slice(), number)?;
+        Ok(out_of_told(self.tc.on_reply(reply)?))
+    }
+}
+
+/// Whether the data component replies to it.
+fn has_reply(request: &Request) -> bool
+    ensures { result ≡ is_replied_to request.now }
+{
+    !matches!(request, Request::LowWater { .. })
+}
+
+fn out_of_told(told: Told) -> Out
+    ensures { result ≡ as_out told }
+{
+    match told {
+        Told::Nothing => Out::Nothing,
+        Told::Connected(session) => Out::Connected(session),
+        Told::RedoEnded(session) => Out::RedoEnded(session),
+        Told::Answered { txn, answer } => Out::Answered { txn, answer },
+        Told::Undone(number) => Out::Undone(number),
     }
 }

@@ -1,39 +1,81 @@
 //! Rounds, until none is left.
-ghost use Rattle.std.specs.Prelude.{◌≡◌, ◌++◌, ◌∷◌, ◌<◌, [], vec_len};
-ghost use Rattle.std.specs.Vec.{vec_capacity};
-ghost use Rattle.world.specs.Rounds.{Settles};
+ghost use Rattle.std.specs.Prelude.{◌≡◌, ◌∷◌, []};
+ghost use Rattle.world.specs.Kept.{IsKept};
+ghost use Rattle.world.specs.Rounds.{Settles, Does, IsNext, Asks, events_of, exchange, fewer};
 
-use crate::event::Out;
+use crate::event::{Event, Out};
+use crate::round::Round;
 use crate::world::World;
 use record_key::Refusal;
 
-/// Repeats the first round that applies until none is left: then a session runs, nothing waits, nothing is
-/// being rolled back and every record is stable. Makes no client's call. Refused NoMemory, NumbersSpent; what
-/// was done before stands, with its outputs in `out`.
-pub fn settle(world: &mut World, out: &mut Vec<Out>) -> Result<(), Refusal>
-    ensures { Settles world.old out.old.items out.new.items result world.new }
+/// Plays the first round that applies until none is left, or as many as `most` says: true where none is left.
+/// Then both components run in one session, nothing waits, nothing is being rolled back and every record is
+/// stable. Makes no client's call. Refused NoMemory, NumbersSpent; what was done before stands, with its
+/// outputs in `out`.
+pub fn settle(world: &mut World, most: Option<u64>, out: &mut Vec<Out>) -> Result<bool, Refusal>
+    ensures { Settles world.old most out.old.items out.new.items result world.new }
 {
     world.kept();
+    let mut left = most;
     while let Some(round) = world.next_round() {
-        if out.reserve(1).is_err() {
-            return Err(Refusal::NoMemory);
+        if left == Some(0) {
+            return Ok(false);
         }
-        match world.step(&round) {
-            Out::Refused(refusal) => return Err(refusal),
-            output => push_reserved(out, output),
-        }
+        left = less_one(left);
+        play(world, round, out)?;
         world.kept();
     }
-    Ok(())
+    Ok(true)
 }
 
-/// Pushes where there is room.
-fn push_reserved(out: &mut Vec<Out>, output: Out)
-    requires { vec_len out.old < vec_capacity out.old }
-    ensures { out.new.items ≡ out.old.items ++ output ∷ [] }
+fn less_one(left: Option<u64>) -> Option<u64>
+    ensures { result ≡ fewer left }
 {
-    match out.push(output) {
-        Ok(()) => {}
-        Err(_) => unreachable!(),
+    match left {
+        Some(rounds) if rounds > 0 => Some(rounds - 1),
+        Some(_) => Some(0),
+        None => None,
+    }
+}
+
+fn play(world: &mut World, round: Round, out: &mut Vec<Out>) -> Result<(), Refusal>
+    requires kept { IsKept world.old }
+    requires next { IsNext world.old round }
+    ensures { Does world.old (events_of world.old round) out.old.items out.new.items result world.new }
+{
+    match round {
+        Round::Connect => exchange(world, &Event::Reconnect, out),
+        Round::Recover => exchange(world, &Event::Recover, out),
+        Round::Exchange { txn } => exchange(world, &Event::Send { txn }, out),
+        Round::Force => perform(world, &Event::Force, out),
+        Round::Undo { txn } => perform(world, &Event::Undo { txn }, out),
+    }
+}
+
+/// An event that sends a request, the request's delivery, and that of its reply.
+fn exchange(world: &mut World, event: &Event, out: &mut Vec<Out>) -> Result<(), Refusal>
+    requires { Asks world.old event.now }
+    ensures { Does world.old (exchange world.old event.now) out.old.items out.new.items result world.new }
+{
+    perform(world, event, out)?;
+    let request = world.requests();
+    perform(world, &Event::Request { number: request }, out)?;
+    let reply = world.replies();
+    perform(world, &Event::Reply { number: reply }, out)
+}
+
+/// One event, with its output where it isn't refused.
+fn perform(world: &mut World, event: &Event, out: &mut Vec<Out>) -> Result<(), Refusal>
+    ensures { Does world.old (event.now ∷ []) out.old.items out.new.items result world.new }
+{
+    if out.reserve(1).is_err() {
+        return Err(Refusal::NoMemory);
+    }
+    match world.step(event) {
+        Out::Refused(refusal) => Err(refusal),
+        output => {
+            out.push_reserved(output);
+            Ok(())
+        }
     }
 }

@@ -1,7 +1,16 @@
-//! An insert that is rolled back, event by event, and the same by rounds.
+//! The node, event by event and by rounds, with messages repeated and late, and on a random walk.
+mod allocating;
+mod choosing;
+mod events;
+mod model;
+mod repeating;
+mod rounds;
+mod walking;
+
 use super::*;
 use record_key::{Answer, Key, Op, Refusal, Value};
 use std::alloc::Global;
+use std::process::Abort;
 use std::test::Fail;
 
 fn insert(key: &[u8], value: &[u8]) -> Result<Event, Fail> {
@@ -11,103 +20,65 @@ fn insert(key: &[u8], value: &[u8]) -> Result<Event, Fail> {
     })
 }
 
-const DELIVER: Event = Event::Deliver { txn: 2 };
+const SEND: Event = Event::Send { txn: 2 };
 
 const ROLLBACK: Event = Event::Rollback { txn: 2 };
 
 const UNDO: Event = Event::Undo { txn: 2 };
 
-/// Transaction 2 waits for the answer of its insert, number 3.
-fn waiting(alloc: Global) -> Result<World, Fail> {
+const INSERTED: Out = Out::Answered {
+    txn: 2,
+    answer: Answer::Inserted,
+};
+
+/// The event comes to this.
+fn assert_out(rt: &impl Abort, world: &mut World, event: &Event, out: &Out) {
+    assert_eq!(rt; world.step(event), *out, "{event:?}");
+}
+
+/// Each event comes to what stands beside it.
+fn assert_outs<const N: usize>(rt: &impl Abort, world: &mut World, steps: [(Event, Out); N]) {
+    for (event, out) in &steps {
+        assert_out(rt, world, event, out);
+    }
+}
+
+/// An event that sends a request, the request's delivery, and that of its reply.
+fn exchange(world: &mut World, event: &Event) -> Out {
+    world.step(event);
+    let number = world.requests();
+    world.step(&Event::Request { number });
+    let number = world.replies();
+    world.step(&Event::Reply { number })
+}
+
+/// Session 1 is past its redo; two requests and their replies were sent.
+fn running(alloc: Global) -> World {
     let mut world = World::new(alloc);
-    let _ = world.step(&Event::Reconnect);
-    let _ = world.step(&Event::Begin);
-    let _ = world.step(&insert(b"a", b"1")?);
+    exchange(&mut world, &Event::Reconnect);
+    exchange(&mut world, &Event::Recover);
+    world
+}
+
+/// Transaction 2 waits for the answer of its insert, number 3, which isn't stable.
+fn waiting(alloc: Global) -> Result<World, Fail> {
+    let mut world = running(alloc);
+    world.step(&Event::Begin);
+    world.step(&insert(b"a", b"1")?);
     Ok(world)
 }
 
-/// The answer is there, and the transaction is being rolled back.
-fn rolling(alloc: Global) -> Result<World, Fail> {
+/// The answer is there, record 4; the insert was request 3 and reply 3.
+fn answered(alloc: Global) -> Result<World, Fail> {
     let mut world = waiting(alloc)?;
-    let _ = world.step(&Event::Force);
-    let _ = world.step(&DELIVER);
-    let _ = world.step(&ROLLBACK);
+    world.step(&Event::Force);
+    exchange(&mut world, &SEND);
     Ok(world)
 }
 
-#[test]
-fn a_record_is_logged(rt: HostRuntime) -> Result<(), Fail> {
-    let mut world = World::new(rt.alloc());
-    assert_eq!(rt;
-        world.step(&Event::Begin),
-        Out::Refused(Refusal::NotConnected)
-    );
-    assert_eq!(rt; world.step(&Event::Reconnect), Out::Connected(1));
-    assert_eq!(rt; world.step(&Event::Begin), Out::Begun(2));
-    assert_eq!(rt; world.step(&insert(b"a", b"1")?), Out::Logged(3));
-    assert_eq!(rt; world.records(), 3);
-    assert_eq!(rt; world.record(4), None);
-    Ok(())
-}
-
-#[test]
-fn a_request_is_delivered_once_stable(rt: HostRuntime) -> Result<(), Fail> {
-    let mut world = waiting(rt.alloc())?;
-    let answered = Out::Answered {
-        txn: 2,
-        answer: Answer::Inserted,
-    };
-    assert_eq!(rt; world.step(&DELIVER), Out::Refused(Refusal::BeyondStable));
-    assert_eq!(rt; world.step(&Event::Force), Out::Stable(3));
-    assert_eq!(rt; world.step(&DELIVER), answered);
-    assert_eq!(rt; world.rows().len(), 1);
-    assert_eq!(rt; world.step(&DELIVER), Out::Refused(Refusal::Unsent));
-    Ok(())
-}
-
-#[test]
-fn a_rollback_undoes(rt: HostRuntime) -> Result<(), Fail> {
-    let mut world = rolling(rt.alloc())?;
-    assert_eq!(rt; world.step(&UNDO), Out::Compensated(5));
-    assert_eq!(rt; world.step(&Event::Force), Out::Stable(5));
-    assert_eq!(rt; world.step(&DELIVER), Out::Undone(5));
-    assert_eq!(rt; world.step(&UNDO), Out::RolledBack(2));
-    assert_eq!(rt; world.rows().len(), 0);
-    assert_eq!(rt; world.stable_end(), 5);
-    Ok(())
-}
-
-#[test]
-fn settling_answers(rt: HostRuntime) -> Result<(), Fail> {
-    let mut world = World::new(rt.alloc());
-    let events = [Event::Reconnect, Event::Begin, insert(b"a", b"1")?];
-    let mut outs = drive(rt.alloc(), &mut world, &events)?;
-    let begun = [Out::Connected(1), Out::Begun(2), Out::Logged(3)];
-    assert_eq!(rt; outs.as_slice(), begun.as_slice());
-    outs.clear();
-    settle(&mut world, &mut outs)?;
-    let answered = Out::Answered {
-        txn: 2,
-        answer: Answer::Inserted,
-    };
-    let settled = [Out::Stable(3), answered, Out::Stable(4)];
-    assert_eq!(rt; outs.as_slice(), settled.as_slice());
-    assert_eq!(rt; world.next_round(), None);
-    Ok(())
-}
-
-#[test]
-fn settling_undoes(rt: HostRuntime) -> Result<(), Fail> {
-    let mut world = rolling(rt.alloc())?;
-    let mut outs = Vec::new(rt.alloc());
-    settle(&mut world, &mut outs)?;
-    let settled = [
-        Out::Compensated(5),
-        Out::Stable(5),
-        Out::Undone(5),
-        Out::RolledBack(2),
-        Out::Stable(7),
-    ];
-    assert_eq!(rt; outs.as_slice(), settled.as_slice());
-    Ok(())
+/// The transaction is being rolled back.
+fn rolling(alloc: Global) -> Result<World, Fail> {
+    let mut world = answered(alloc)?;
+    world.step(&ROLLBACK);
+    Ok(world)
 }

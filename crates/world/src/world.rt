@@ -1,21 +1,24 @@
 //! The world: a node, one event at a time.
-ghost use Rattle.std.specs.Prelude.{◌≡◌, length, MatchOption};
+ghost use Rattle.std.specs.Prelude.{◌≡◌, ◌↔◌, true, IsTrue, length, MatchOption};
 ghost use Rattle.std.specs.Option.{option_copied};
 ghost use Rattle.std.specs.FinMap.{entries};
 ghost use Rattle.history.specs.History.{plain};
 ghost use Rattle.history.specs.Log.{record_at};
 ghost use Rattle.history.specs.ListMachine.{fresh};
-ghost use Rattle.world.specs.Node.{fresh_node, StepsTo};
+ghost use Rattle.world.specs.Node.{fresh_node, StepsTo, takes_memory, IsRefused};
 ghost use Rattle.world.specs.Simulation.{machine, Happens, IsSettled};
 ghost use Rattle.world.specs.Kept.{IsKept};
-ghost use Rattle.world.specs.Rounds.{IsNext, IsAtRest};
+ghost use Rattle.world.specs.Rounds.{IsNext, IsAtRest, IsApart};
 
 use crate::event::{Event, Out};
 use crate::node::Node;
+use crate::round::Round;
 use history::Record;
-use record_key::{Key, Value};
+use page::Leaf;
+use record_key::{Key, Refusal, Value};
 use std::alloc::Global;
 use std::marker::Model;
+use tc_core::Phase;
 
 /// A node with what holds of it at every moment.
 #[derive(Drop)]
@@ -26,14 +29,13 @@ pub struct World {
 impl Model for World {
     ghost use Rattle.std.specs.Coded.{codes};
     ghost use Rattle.record_key.specs.Table.{table_code};
-    ghost use Rattle.page.specs.Leaf.{saved_code};
     ghost use Rattle.world.specs.Node.{NodeView};
     ghost use Rattle.world.specs.Kept.{IsKept};
     ghost use Rattle.world.specs.Seen.{seen};
 
     ghost Value = { NodeView };
 
-    ghost coded = { Prim.hlevel (codes, table_code, saved_code) };
+    ghost coded = { Prim.hlevel (codes, table_code) };
 
     ghost view = { λ w. seen w.node };
 
@@ -41,7 +43,7 @@ impl Model for World {
 }
 
 impl World {
-    /// A new node: nothing is logged or stored, and no session runs.
+    /// A new node: nothing is logged, stored or sent, and no session runs.
     pub fn new(alloc: Global) -> World
         ensures node { result ≡ fresh_node }
         ensures machine { machine result ≡ fresh }
@@ -55,6 +57,7 @@ impl World {
     /// the list machine.
     pub fn step(&mut self, event: &Event) -> Out
         ensures step { StepsTo self.old event.now result self.new }
+        ensures memory { IsRefused result Refusal.NoMemory → takes_memory self.old event.now ≡ true }
         ensures happens { Happens (machine self.old) event.now result (machine self.new) }
     {
         self.node.step(event)
@@ -63,16 +66,37 @@ impl World {
     /// What holds at every moment; and where the node is settled, its records are those of a plain map.
     pub fn kept(&self)
         ensures kept { IsKept self.now }
-        ensures rows { IsSettled self.now → self.now.leaf.rows ≡ plain (machine self.now).h }
+        ensures rows { IsSettled self.now → self.now.dc.leaf.rows ≡ plain (machine self.now).h }
     {
         let _ = &self.node;
     }
 
     /// The records of the data component, in key order.
     pub fn rows(&self) -> &[(Key, Value)]
-        ensures { result.now ≡ entries self.now.leaf.rows }
+        ensures { result.now ≡ entries self.now.dc.leaf.rows }
     {
-        self.node.leaf.rows()
+        self.node.dc.rows()
+    }
+
+    /// The leaf of the data component.
+    pub fn leaf(&self) -> &Leaf
+        ensures { result.now ≡ self.now.dc.leaf }
+    {
+        self.node.dc.leaf()
+    }
+
+    /// How many requests were sent.
+    pub fn requests(&self) -> u64
+        ensures { result ≡ length self.now.requests }
+    {
+        self.node.requests.len() as u64
+    }
+
+    /// How many replies were given.
+    pub fn replies(&self) -> u64
+        ensures { result ≡ length self.now.replies }
+    {
+        self.node.replies.len() as u64
     }
 
     /// How many records the log has.
@@ -96,30 +120,44 @@ impl World {
         self.node.tc.stable_end()
     }
 
-    /// The first round of settling that applies, if any is left: connect where there is no session; for an
-    /// unanswered request, force the log where its record isn't stable, else deliver it; undo where a
-    /// transaction is being rolled back; force where records aren't stable.
-    pub fn next_round(&self) -> Option<Event>
+    /// The first round of settling that applies, if any is left: connect where the components have no session
+    /// in common; recover until clients are served; for an unanswered request, force the log where its record
+    /// isn't stable, else exchange it; undo where a transaction is being rolled back; force where records
+    /// aren't stable.
+    pub fn next_round(&self) -> Option<Round>
         ensures { MatchOption result (IsAtRest self.now) (IsNext self.now) }
     {
-        if self.node.tc.session() == 0 {
-            return Some(Event::Reconnect);
+        if self.is_apart() {
+            return Some(Round::Connect);
         }
-        let stable = self.node.tc.stable_end();
-        if let Some(open) = self.node.tc.open_txn() {
+        let tc = &self.node.tc;
+        match tc.phase() {
+            Phase::Running => {}
+            _ => return Some(Round::Recover),
+        }
+        let stable = tc.stable_end();
+        if let Some(open) = tc.open_txn() {
             if let Some(number) = open.waiting {
                 if stable < number {
-                    return Some(Event::Force);
+                    return Some(Round::Force);
                 }
-                return Some(Event::Deliver { txn: open.txn });
+                return Some(Round::Exchange { txn: open.txn });
             }
             if open.rolling {
-                return Some(Event::Undo { txn: open.txn });
+                return Some(Round::Undo { txn: open.txn });
             }
         }
-        if stable < self.node.tc.records() {
-            return Some(Event::Force);
+        if stable < tc.records() {
+            return Some(Round::Force);
         }
         None
+    }
+
+    /// The transaction component has no session that the data component runs.
+    fn is_apart(&self) -> bool
+        ensures { IsTrue result ↔ IsApart self.now }
+    {
+        matches!(self.node.tc.phase(), Phase::Unconnected | Phase::Connecting)
+            || self.node.dc.session() != self.node.tc.session()
     }
 }

@@ -1,5 +1,5 @@
 //! Bytes written as hexadecimal text.
-use record_key::{Key, Value};
+use record_key::{Key, Refusal, Value};
 use std::alloc::Global;
 use std::test::Fail;
 
@@ -12,7 +12,7 @@ fn digit(byte: u8) -> u8 {
 }
 
 /// The bytes of two digits each. Spaces are skipped.
-pub(super) fn bytes_of(alloc: Global, text: &str) -> Result<Vec<u8>, Fail> {
+pub(super) fn bytes_of(alloc: Global, text: &str) -> Result<Vec<u8>, Refusal> {
     let mut bytes = Vec::new(alloc);
     let mut high = None;
     for byte in text.as_bytes() {
@@ -29,6 +29,23 @@ pub(super) fn bytes_of(alloc: Global, text: &str) -> Result<Vec<u8>, Fail> {
         }
     }
     Ok(bytes)
+}
+
+/// The bytes of several texts, one after the other.
+pub(super) fn joined(alloc: Global, texts: &[&str]) -> Result<Vec<u8>, Refusal> {
+    let mut bytes = Vec::new(alloc);
+    for text in texts {
+        bytes.extend_from_slice(&bytes_of(alloc, text)?)?;
+    }
+    Ok(bytes)
+}
+
+/// The same, once more where memory was refused.
+pub(super) fn joined_again(alloc: Global, texts: &[&str]) -> Result<Vec<u8>, Refusal> {
+    match joined(alloc, texts) {
+        Ok(bytes) => Ok(bytes),
+        Err(_) => joined(alloc, texts),
+    }
 }
 
 pub(super) fn key(text: &[u8]) -> Result<Key, Fail> {

@@ -1,5 +1,5 @@
 //! Replies to session 4.
-use super::hex::{bytes_of, key, value};
+use super::hex::{bytes_of, joined_again, key, value};
 use crate::{Reply, Taken, put_reply, reply_spelling_law, take_reply};
 use record_key::{Answer, Key, Refusal, Value};
 use std::alloc::Global;
@@ -85,6 +85,9 @@ fn has_rows<A: Abort>(rt: &A, reply: &Reply, expected: &[(Key, Value)]) {
     }
 }
 
+const ROWS: &str =
+    "0000000000000020 14 0000000000000004 0000000000000001 0000000000000002 01 61 01 31 01 62 00";
+
 #[test]
 fn rows(rt: HostRuntime) -> Result<(), Fail> {
     let alloc = rt.alloc();
@@ -92,10 +95,8 @@ fn rows(rt: HostRuntime) -> Result<(), Fail> {
     has_value(&rt, &reply_of(&rt, alloc, text)?, &Some(value(b"v")?));
     let text = "0000000000000012 13 0000000000000004 0000000000000001 00";
     has_value(&rt, &reply_of(&rt, alloc, text)?, &None);
-    let text =
-        "0000000000000020 14 0000000000000004 0000000000000001 0000000000000002 01 61 01 31 01 62 00";
     let expected = [(key(b"a")?, value(b"1")?), (key(b"b")?, value(b"")?)];
-    has_rows(&rt, &reply_of(&rt, alloc, text)?, &expected);
+    has_rows(&rt, &reply_of(&rt, alloc, ROWS)?, &expected);
     Ok(())
 }
 
@@ -124,4 +125,24 @@ fn memory_refused(rt: HostRuntime) {
             assert_eq!(rt; out.len(), 0);
         }
     }
+}
+
+/// Run with each allocation refused in turn: the next call gives the rows.
+#[test]
+fn memory_refused_for_rows(rt: HostRuntime) -> Result<(), Fail> {
+    let alloc = rt.alloc();
+    let bytes = joined_again(alloc, &[ROWS])?;
+    let taken = match take_reply(alloc, &bytes, 0) {
+        Ok(taken) => taken,
+        Err(refusal) => {
+            assert_eq!(rt; refusal, Refusal::NoMemory);
+            take_reply(alloc, &bytes, 0)?
+        }
+    };
+    let expected = [(key(b"a")?, value(b"1")?), (key(b"b")?, value(b"")?)];
+    match taken {
+        Taken::Record(reply, _) => has_rows(&rt, &reply, &expected),
+        Taken::Short | Taken::Bad(_) => assert!(rt; false),
+    }
+    Ok(())
 }

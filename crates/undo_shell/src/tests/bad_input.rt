@@ -36,11 +36,50 @@ fn words_that_are_no_line(rt: HostRuntime) {
         " ",
         " #",
         "commit t",
-        "update t k v",
+        "update t k",
+        "upsert t k ",
+        "upsert t k v w",
+        "update  k v",
+        "delete t",
+        "delete t k v",
+        "delete T k",
+        "delete t k-",
+        "insert t k",
+        "send",
+        "send T",
+        "force 1",
+        "leaves t",
+        "connect",
+        "get t k",
     ];
     for script in scripts {
         assert_run(&rt, script, "no 17 BadScript 1\n", 2);
     }
+}
+
+#[test]
+fn words_that_are_no_number(rt: HostRuntime) {
+    let scripts = [
+        "req",
+        "req ",
+        "req t",
+        "req 00",
+        "req 01",
+        "rep +1",
+        "rep -1",
+        "rep 1 ",
+        "rep 1 2",
+        "low 1.",
+        "low 1a",
+        "low 281474976710656",
+        "low 2814749767106550",
+        "low 18446744073709551617",
+        "deliver 1",
+    ];
+    for script in scripts {
+        assert_run(&rt, script, "no 17 BadScript 1\n", 2);
+    }
+    assert_eq!(rt; first_fault(b"low 0\nreq 10\nrep 281474976710655"), None);
 }
 
 #[test]
@@ -81,4 +120,27 @@ fn lengths_are_refused_in_order(rt: HostRuntime) {
         "insert t . vvvvvvvvvvvvvvvvvvvvvvvvvvvvvvvvvvvvvvvvvvvvvvvvvvvvvvvvvvvvvvvvvvvvvvvvvvvvvvvvv\
                  vvvvvvvvvvvvvvvvvvvvvvvvvvvvvvvvvvvvvvvvvvvvv\n";
     assert_run(&rt, value, "no 11 EmptyKey\n", 0);
+}
+
+/// Each write's lengths are refused before its own refusals, here that no session runs.
+#[test]
+fn lengths_of_each_write_are_refused_first(rt: HostRuntime) {
+    let long_key = "update t aaaaaaaaaaaaaaaaaaaaaaaaaaaaaaaaa v\n\
+                    upsert t aaaaaaaaaaaaaaaaaaaaaaaaaaaaaaaaa v\n\
+                    delete t aaaaaaaaaaaaaaaaaaaaaaaaaaaaaaaaa\n";
+    assert_run(
+        &rt,
+        long_key,
+        "no 12 TooLong\nno 12 TooLong\nno 12 TooLong\n",
+        0,
+    );
+    let empty_key = "update t . v\nupsert t . v\ndelete t .\n";
+    assert_run(
+        &rt,
+        empty_key,
+        "no 11 EmptyKey\nno 11 EmptyKey\nno 11 EmptyKey\n",
+        0,
+    );
+    let longest_key = "delete t aaaaaaaaaaaaaaaaaaaaaaaaaaaaaaaa\n";
+    assert_run(&rt, longest_key, "no 9 NotConnected\n", 0);
 }

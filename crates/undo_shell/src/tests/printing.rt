@@ -1,5 +1,8 @@
 //! The lines of records, answers and refusals.
-use crate::printed::{print_out, print_record, print_refusal, print_row};
+use crate::logged::print_record;
+use crate::printed::print_refusal;
+use crate::shown::print_row;
+use crate::told::print_out;
 use history::Record;
 use record_key::{Answer, Key, Op, Refusal, Value};
 use std::test::Fail;
@@ -115,11 +118,17 @@ fn outputs(rt: HostRuntime) -> Result<(), Fail> {
         Out::Stable(7),
         Out::Undone(5),
         Out::Nothing,
+        Out::Sent(1),
+        Out::Replied(2),
+        Out::Noted,
+        Out::Connected(4),
+        Out::RedoEnded(4),
     ] {
         print_out(&mut text, &out)?;
     }
     let expected =
-        "txn 2\nlogged 3\nrolling back\ncomp 5\nrolled back 2\nstable 7\nundone 5\nnothing\n";
+        "txn 2\nlogged 3\nrolling back\ncomp 5\nrolled back 2\nstable 7\nundone 5\nnothing\n\
+                    request 1\nreply 2\nnoted\nconnected 4\nredo ended 4\n";
     assert_eq!(rt; text.as_slice(), expected.as_bytes());
     Ok(())
 }

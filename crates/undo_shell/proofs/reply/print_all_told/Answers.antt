@@ -1,5 +1,5 @@
 use Rattle.undo_shell.proofs.Printing.{prints_err, cut_at_item}
-use Rattle.undo_shell.specs.Printed.{told_line}
+use Rattle.undo_shell.specs.Told.{told_line}
 use Rattle.undo_shell.proofs.reply.print_all_told.Goals as goal
 
 pub returns-in_err-print_told : goal.returns-in_err-print_told

@@ -1,6 +1,6 @@
 use Rattle.std.proofs.Common.{take, flat_map}
 use Rattle.std.specs.Io.KnownBytes.{Appends}
-use Rattle.undo_shell.specs.Printed.{told_line}
+use Rattle.undo_shell.specs.Told.{told_line}
 use Rattle.undo_shell.proofs.reply.print_all_told.Given as goal
 
 -- those so far are written

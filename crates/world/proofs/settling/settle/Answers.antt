@@ -1,42 +1,69 @@
-use Rattle.std.proofs.Common.{◌∙◌, ap, refl, inl, inr, List, ◌++◌, ◌∷◌, []}
+use Rattle.std.proofs.Common.{◌≡◌, ℕ, List, length, Bool, true, false, Option, Some, None, Result, Ok, Err, sym, ap, subst, arith, true≢false, eqb-true}
+use Rattle.std.specs.Prelude.{◌==◌}
+use Rattle.std.specs.Option.{option_eq}
+use Rattle.std.specs.Result.{IsErrAnd}
+use Rattle.record_key.specs.declared.refusal.Refusal.{Refusal}
 use Rattle.world.specs.declared.event.Out.{Out}
-use Rattle.world.specs.declared.event.Out.TheVariants as out
-use Rattle.world.specs.Node.{StepsTo}
-use Rattle.world.specs.Rounds.{IsNext, IsAtRest}
-use Rattle.world.proofs.Work.{none_yet, one_more, falls, done_if}
+use Rattle.world.specs.Node.{NodeView}
+use Rattle.world.specs.Rounds.{IsNext, Settles}
+use Rattle.world.proofs.RoundsLeft.{rounds_bound}
+use Rattle.world.proofs.Falls.{falls, some_left}
+use Rattle.world.proofs.Playing.{none_yet, one_more, all_played, allowed, broken}
 use Rattle.world.proofs.settling.settle.Goals as goal
 
 pub loop-round-init : goal.loop-round-init
-loop-round-init c = record { far = none_yet c.args.world.now c.args.out.now.items; kept = c.kept.ensures.kept }
+loop-round-init c = record { far = none_yet c.args.world.now c.args.most c.args.out.now.items; kept = c.kept.ensures.kept }
 
-pub returns-then-is_err : goal.returns-then-is_err
-returns-then-is_err c =
+-- whether a round may still be played
+spent : (left : Option ℕ) → true ≡ option_eq (λ a b. a == b) left (Some 0) → left ≡ Some 0
+spent None h = absurd (cc)
+spent (Some n) h = ap Some (eqb-true n 0 (sym h))
+
+unspent : (left : Option ℕ) → false ≡ option_eq (λ a b. a == b) left (Some 0) → left ≡ Some 0 → ⊥
+unspent left h e = let P : Option ℕ → Type 0 = λ x. false ≡ option_eq (λ a b. a == b) x (Some 0) in true≢false (sym (subst P e h))
+
+pub returns-then-eq : goal.returns-then-eq
+returns-then-eq c =
     let far = c.loop-round.invariant.far in
-    record { events = far.events; outs = far.outs; last = c.loop-round.world; appended = c.reserve.ensures.items ∙ far.appended; rounds = far.rounds; ends = inl (refl, refl) }
+    let next : IsNext c.loop-round.world c.in-Some.round = c.in-Some.ensures in (
+      far.played,
+      all_played c.args.most c.loop-round.left _ far.left_is (spent c.loop-round.left c.if-eq.ensures),
+      omega (arith, far.count, some_left c.loop-round.world c.in-Some.round c.loop-round.invariant.kept next, rounds_bound c.args.world.now.tc),
+      (c.in-Some.round, next),
+    )
 
-pub returns-in-Refused : goal.returns-in-Refused
-returns-in-Refused c =
-    let far = c.loop-round.invariant.far in
-    let next : IsNext c.loop-round.world c.in-Some.round = c.in-Some.ensures in
-    let step : StepsTo c.loop-round.world c.in-Some.round (out.Refused c.in-Refused.refusal) c.step.new.self = c.in-Refused.ensures.step in
-    record { events = far.events; outs = far.outs; last = c.loop-round.world; appended = c.reserve.ensures.items ∙ far.appended; rounds = far.rounds; ends = inr (c.in-Some.round, next, step) }
+-- the refusal of a round is handed on
+refused : (old new : NodeView) (most : Option ℕ) (before after : List Out) (r : Refusal) (result : Result Bool Refusal) → Settles old most before after (Err r) new → IsErrAnd result (λ q. q ≡ r)
+    → Settles old most before after result new
+refused old new most before after r (Ok b) h same = absurd same
+refused old new most before after r (Err q) h same = let P : Refusal → Type 0 = λ x. Settles old most before after (Err x) new in subst P (sym same) h
 
-pub loop-round-preserved : goal.loop-round-preserved
-loop-round-preserved c =
-    let next : IsNext c.loop-round.world c.in-Some.round = c.in-Some.ensures in
-    record {
-      far = one_more c.args.world.now c.args.out.now.items c.loop-round.out.items c.push_reserved.new.out.items c.loop-round.world c.step.new.self c.in-Some.round c.step.result
-          c.loop-round.invariant.far next c.step.ensures.step (c.push_reserved.ensures ∙ ap (λ (xs : List Out). xs ++ c.step.result ∷ []) c.reserve.ensures.items);
-      kept = c.kept-in-Some.ensures.kept;
-    }
+pub returns-in_err-play : goal.returns-in_err-play
+returns-in_err-play c =
+    refused c.args.world.now c.play.new.world c.args.most c.args.out.now.items c.play.new.out.items c.in_err-play.field-0.0 c.from_residual.result
+    (broken c.args.world.now c.loop-round.world c.play.new.world c.args.most c.loop-round.left c.args.out.now.items c.loop-round.out.items c.play.new.out.items c.in-Some.round c.in_err-play.field-0.0
+    c.loop-round.invariant.far (unspent c.loop-round.left c.if-eq.ensures) c.loop-round.invariant.kept c.in-Some.ensures c.in_err-play.ensures)
+    c.from_residual.ensures.1
 
 pub loop-round-smaller : goal.loop-round-smaller
 loop-round-smaller c =
-    let next : IsNext c.loop-round.world c.in-Some.round = c.in-Some.ensures in
-    falls c.loop-round.world c.step.new.self c.in-Some.round c.step.result c.loop-round.invariant.kept next c.step.ensures.step (done_if c.step.result c.in_default-step.not-Refused)
+    let done = c.in_ok-play.ensures in
+    falls c.loop-round.world c.play.new.world c.in-Some.round done.outs c.loop-round.invariant.kept c.in-Some.ensures done.steps
+
+pub loop-round-preserved : goal.loop-round-preserved
+loop-round-preserved c = record {
+  far = rw (c.less_one-left.ensures)
+      (one_more c.args.world.now c.loop-round.world c.play.new.world c.args.most c.loop-round.left c.args.out.now.items c.loop-round.out.items c.play.new.out.items c.in-Some.round
+      c.loop-round.invariant.far (unspent c.loop-round.left c.if-eq.ensures) c.in-Some.ensures c.in_ok-play.ensures
+      (falls c.loop-round.world c.play.new.world c.in-Some.round c.in_ok-play.ensures.outs c.loop-round.invariant.kept c.in-Some.ensures c.in_ok-play.ensures.steps));
+  kept = c.kept-in-Some.ensures.kept;
+}
 
 pub returns : goal.returns
 returns c =
-    let far = c.loop-round.invariant.far in
-    let rest : IsAtRest c.loop-round.world = c.in_default.ensures in
-    record { events = far.events; outs = far.outs; last = c.loop-round.world; appended = far.appended; rounds = far.rounds; ends = (refl, rest) }
+    let far = c.loop-round.invariant.far in (
+      far.played,
+      allowed c.args.most c.loop-round.left (length far.played.rounds) far.left_is,
+      omega (arith, far.count, rounds_bound c.args.world.now.tc),
+      c.in_default.ensures,
+    )

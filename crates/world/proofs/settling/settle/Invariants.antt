@@ -1,13 +1,13 @@
 use Rattle.world.specs.Kept.{IsKept}
-use Rattle.world.specs.Rounds.{work}
-use Rattle.world.proofs.Work.{SoFar}
+use Rattle.world.specs.Bound.{rounds_left}
+use Rattle.world.proofs.Playing.{SoFar}
 use Rattle.world.proofs.settling.settle.Given as goal
 
 abbrev pub invariant-loop-round : goal.invariant-loop-round
 invariant-loop-round l = record {
-  far : SoFar l.initial.world l.initial.out.items l.out.items l.world;
+  far : SoFar l.initial.world l.fn.most l.initial.out.items l.left l.out.items l.world;
   kept : IsKept l.world;
 }
 
 abbrev pub decreases-loop-round : goal.decreases-loop-round
-decreases-loop-round l = work l.world.tc
+decreases-loop-round l = rounds_left l.world.tc

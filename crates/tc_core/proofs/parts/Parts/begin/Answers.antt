@@ -14,4 +14,4 @@ returns-clause-kept c =
     (keeps_begin (seen c.args.self.now) c.requires (isnt_some c.args.self.now.open_txn (sym c.is_some.ensures ∙ c.if-is_some.false)))
 
 pub returns-clause-allowed : goal.returns-clause-allowed
-returns-clause-allowed c = rw (c.in_ok-connected.ensures.ok, sym c.is_some.ensures ∙ c.if-is_some.false, c.in_ok-txn.ensures.appended.unspent) refl
+returns-clause-allowed c = rw (c.in_ok-running.ensures.allowed, sym c.is_some.ensures ∙ c.if-is_some.false, c.in_ok-txn.ensures.appended.unspent) refl

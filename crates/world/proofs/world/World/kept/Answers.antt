@@ -1,5 +1,5 @@
 use Rattle.world.specs.Seen.{seen}
-use Rattle.world.proofs.Headline.{settled_rows}
+use Rattle.world.proofs.Settled.{settled_rows}
 use Rattle.world.proofs.world.World.kept.Goals as goal
 
 pub returns-clause-rows : goal.returns-clause-rows

@@ -1,0 +1,138 @@
+-- What a number more, a greater low number and other entries add to the captured ones.
+use Rattle.std.proofs.Common.{◌≡◌, ℕ, ◌<◌, ◌≤◌, ◌==◌, ◌||◌, Bool, true, false, cond, List, [], ◌∷◌, refl, sym, ap, ◌∙◌, arith, inl, inr, ne_eqb, lt-ltb}
+use Rattle.std.specs.Prelude.{nat_le, nat_lt}
+use Rattle.std.proofs.lemmas.Bool.{cases_lt, le-ltb, le-leb, lt-leb}
+use Rattle.record_key.specs.Table.{Bytes}
+use Rattle.record_key.specs.declared.op.Answer.{Answer}
+use Rattle.ab_lsn.specs.declared.entry.Entry.{Entry}
+use Rattle.ab_lsn.specs.AbLsn.{AbLsnView, RiseAbove, captures, noted, raised, placed, above}
+use Rattle.ab_lsn.specs.Places.{stands_in, placed_above, placed_all, joined}
+use Rattle.ab_lsn.proofs.Rising.{filtered_rises}
+
+or_swap : (a b c : Bool) → (a || (b || c)) ≡ (b || (a || c))
+or_swap true true c = refl
+or_swap true false c = refl
+or_swap false b c = refl
+
+or_assoc : (a b c : Bool) → (a || (b || c)) ≡ ((a || b) || c)
+or_assoc true b c = refl
+or_assoc false b c = refl
+
+or_comm : (a b : Bool) → (a || b) ≡ (b || a)
+or_comm true true = refl
+or_comm true false = refl
+or_comm false true = refl
+or_comm false false = refl
+
+or_true : (a : Bool) → (a || true) ≡ true
+or_true true = refl
+or_true false = refl
+
+or_false : (a : Bool) → (a || false) ≡ a
+or_false true = refl
+or_false false = refl
+
+-- one entry more
+either_side : (b : Bool) (f e : Entry) (es fs : List Entry) (m : ℕ) → stands_in fs m ≡ ((m == f.number) || stands_in es m)
+    → stands_in (cond b (e ∷ fs) (f ∷ e ∷ es)) m ≡ ((m == f.number) || stands_in (e ∷ es) m)
+either_side true f e es fs m h = ap (λ b. (m == e.number) || b) h ∙ or_swap (m == e.number) (m == f.number) (stands_in es m)
+either_side false f e es fs m h = refl
+
+pub placed_stands : (f : Entry) (es : List Entry) (m : ℕ) → stands_in (placed f es) m ≡ ((m == f.number) || stands_in es m)
+placed_stands f [] m = refl
+placed_stands f (e ∷ es) m = either_side (nat_lt e.number f.number) f e es (placed f es) m (placed_stands f es m)
+
+pub noted_captures : (v : AbLsnView) (n : ℕ) (k : Bytes) (a : Answer) (m : ℕ) → captures (noted v n k a) m ≡ (captures v m || m == n)
+noted_captures v n k a m =
+    ap (λ b. nat_le m v.low || b) (placed_stands (record { number = n; key = k; answer = a }) v.entries m ∙ or_comm (m == n) (stands_in v.entries m))
+    ∙ or_assoc (nat_le m v.low) (stands_in v.entries m) (m == n)
+
+-- entries above a number are all that stand above it
+pub above_stands : (l : ℕ) (es : List Entry) (m : ℕ) → l < m → stands_in (above l es) m ≡ stands_in es m
+above_stands l [] m lt = refl
+above_stands l (e ∷ es) m lt =
+    elim (cases_lt l e.number) [
+      | inl less ↦ rw (lt-ltb l e.number less) (ap (λ b. (m == e.number) || b) (above_stands l es m lt))
+      | inr ge ↦ rw (le-ltb l e.number ge, ne_eqb m e.number (λ same. omega (arith, same, ge, lt))) (above_stands l es m lt)
+    ]
+
+pub above_rises : (l k : ℕ) (es : List Entry) → RiseAbove k es → RiseAbove l (above l es)
+above_rises l k [] h = tt
+above_rises l k (e ∷ es) h =
+    elim (cases_lt l e.number) [
+      | inl less ↦ rw (lt-ltb l e.number less) (less, filtered_rises (λ (f : Entry). nat_lt l f.number) e.number es h.1)
+      | inr ge ↦ rw (le-ltb l e.number ge) (above_rises l e.number es h.1)
+    ]
+
+-- every number up to another captured besides
+lifted : (v : AbLsnView) (l m : ℕ) → v.low < l → (nat_le m l || stands_in (above l v.entries) m) ≡ ((nat_le m v.low || stands_in v.entries m) || nat_le m l)
+lifted v l m lt =
+    elim (cases_lt l m) [
+      | inl less ↦
+          rw (lt-leb m l less, lt-leb m v.low (omega (arith, lt, less)))
+          (above_stands l v.entries m less ∙ sym (or_false (stands_in v.entries m)))
+      | inr ge ↦ rw (le-leb m l ge) (sym (or_true (nat_le m v.low || stands_in v.entries m)))
+    ]
+
+stays : (low l m : ℕ) (b : Bool) → l ≤ low → (nat_le m low || b) ≡ ((nat_le m low || b) || nat_le m l)
+stays low l m b le =
+    elim (cases_lt l m) [
+      | inl less ↦ rw (lt-leb m l less) (sym (or_false (nat_le m low || b)))
+      | inr ge ↦ rw (le-leb m low (omega (arith, ge, le))) refl
+    ]
+
+pub raised_captures : (v : AbLsnView) (l m : ℕ) → captures (raised v l) m ≡ (captures v m || nat_le m l)
+raised_captures v l m =
+    elim (cases_lt v.low l) [
+      | inl lt ↦ rw (lt-ltb v.low l lt) (lifted v l m lt)
+      | inr ge ↦ rw (le-ltb v.low l ge) (stays v.low l m (stands_in v.entries m) ge)
+    ]
+
+-- the entries of another, those above a number
+above_stood : (l m : ℕ) (f : Entry) (es : List Entry) → l < m → stands_in (placed_above l f es) m ≡ ((m == f.number) || stands_in es m)
+above_stood l m f es lt =
+    elim (cases_lt l f.number) [
+      | inl less ↦ rw (lt-ltb l f.number less) (placed_stands f es m)
+      | inr ge ↦ rw (le-ltb l f.number ge, ne_eqb m f.number (λ same. omega (arith, same, ge, lt))) refl
+    ]
+
+all_stood : (l m : ℕ) (fs es : List Entry) → l < m → stands_in (placed_all l fs es) m ≡ (stands_in fs m || stands_in es m)
+all_stood l m [] es lt = refl
+all_stood l m (f ∷ fs) es lt =
+    all_stood l m fs (placed_above l f es) lt
+    ∙ ap (λ b. stands_in fs m || b) (above_stood l m f es lt)
+    ∙ or_swap (stands_in fs m) (m == f.number) (stands_in es m)
+    ∙ or_assoc (m == f.number) (stands_in fs m) (stands_in es m)
+
+more_true : (a b c : Bool) → (a || b) ≡ true → (a || (b || c)) ≡ true
+more_true true b c h = refl
+more_true false true c h = refl
+more_true false false c h = absurd (cc)
+
+pub joined_captures : (v w : AbLsnView) (m : ℕ) → captures (joined v w) m ≡ (captures v m || captures w m)
+joined_captures v w m =
+    let u : AbLsnView = raised v w.low in
+    let was : captures u m ≡ (captures v m || nat_le m w.low) = raised_captures v w.low m in
+    elim (cases_lt u.low m) [
+      | inl less ↦
+          let low : nat_le m u.low ≡ false = lt-leb m u.low less in
+          let here : captures u m ≡ stands_in u.entries m = ap (λ b. b || stands_in u.entries m) low in
+          ap (λ b. b || stands_in (placed_all u.low w.entries u.entries) m) low
+          ∙ all_stood u.low m w.entries u.entries less
+          ∙ or_comm (stands_in w.entries m) (stands_in u.entries m)
+          ∙ ap (λ b. b || stands_in w.entries m) (sym here ∙ was)
+          ∙ sym (or_assoc (captures v m) (nat_le m w.low) (stands_in w.entries m))
+      | inr ge ↦
+          let low : nat_le m u.low ≡ true = le-leb m u.low ge in
+          let all : captures u m ≡ true = ap (λ b. b || stands_in u.entries m) low in
+          ap (λ b. b || stands_in (placed_all u.low w.entries u.entries) m) low
+          ∙ sym (more_true (captures v m) (nat_le m w.low) (stands_in w.entries m) (sym was ∙ all))
+    ]
+
+-- the invariant stays where the low number rises
+pub raised_rises : (v : AbLsnView) (l : ℕ) → RiseAbove v.low v.entries → RiseAbove (raised v l).low (raised v l).entries
+raised_rises v l h =
+    elim (cases_lt v.low l) [
+      | inl lt ↦ rw (lt-ltb v.low l lt) (above_rises l v.low v.entries h)
+      | inr ge ↦ rw (le-ltb v.low l ge) h
+    ]

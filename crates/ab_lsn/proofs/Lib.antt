@@ -1,0 +1,6 @@
+pub mod Rising
+pub mod Searching
+pub mod Capturing
+pub mod Noting
+pub mod Kept
+pub mod Placing

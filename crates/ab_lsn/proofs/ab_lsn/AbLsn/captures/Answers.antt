@@ -1,0 +1,12 @@
+use Rattle.std.proofs.Common.{◌∙◌}
+use Rattle.ab_lsn.proofs.Rising.{rises}
+use Rattle.ab_lsn.proofs.Noting.{found_captured}
+use Rattle.ab_lsn.proofs.ab_lsn.AbLsn.captures.Goals as goal
+
+pub place_of-requires : goal.place_of-requires
+place_of-requires c = rw (c.as_slice.ensures) (rises c.self.inside.low c.self.inside.entries.items c.self.invariant)
+
+pub returns-else-number-self : goal.returns-else-number-self
+returns-else-number-self c =
+    rw (← c.self.view_is)
+    (c.is_ok.ensures.value ∙ found_captured c.self.inside.low c.args.number c.self.inside.entries.items c.place_of.result c.if-number-self.false c.self.invariant (rw c.as_slice.ensures at c.place_of.ensures.place))

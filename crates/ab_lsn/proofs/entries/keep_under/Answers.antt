@@ -1,0 +1,7 @@
+use Rattle.std.proofs.Common.{rules}
+use Rattle.ab_lsn.specs.Places.{is_under}
+use Rattle.ab_lsn.proofs.Kept.{retained}
+use Rattle.ab_lsn.proofs.entries.keep_under.Goals as goal
+
+pub returns : goal.returns
+returns c = retained _ (is_under c.args.key.now) _ (λ x b g y called. search rules) c.args.entries.now.items c.retain.new.self.items c.retain.ensures.filtered

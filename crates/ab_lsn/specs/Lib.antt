@@ -1,0 +1,2 @@
+pub mod AbLsn
+pub mod Places

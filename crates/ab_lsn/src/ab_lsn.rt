@@ -1,0 +1,134 @@
+//! The abstract page LSN.
+ghost use Rattle.std.specs.Prelude.{◌≡◌, ℕ, ◌==◌, ◌||◌, false, nat_le, OnOk, OnErr, IfOk, IfErr};
+ghost use Rattle.std.specs.Option.{option_copied};
+ghost use Rattle.ab_lsn.specs.AbLsn.{blank, captures, saved_in, noted, raised};
+ghost use Rattle.ab_lsn.specs.Places.{cut_under, cut_from, joined, AreApart};
+
+use crate::entries::{copied_from, keep_above, keep_under, place_all, place_of};
+use crate::entry::Entry;
+use record_key::{Answer, Key, Refusal};
+use smallvec::SmallVec;
+use std::alloc::Global;
+use std::marker::Model;
+
+/// Every number up to `low` is captured, and each of the entries', which rise from above it.
+#[derive(Debug, Drop)]
+pub struct AbLsn {
+    low: u64,
+    entries: SmallVec<Entry, 4>,
+}
+
+impl Model for AbLsn {
+    ghost use Rattle.ab_lsn.specs.AbLsn.{AbLsnView, RiseAbove};
+
+    ghost Value = { AbLsnView };
+
+    ghost view = { λ a. record { low = a.low; entries = a.entries.items } };
+
+    ghost invariant = { λ a. RiseAbove a.low a.entries.items };
+}
+
+impl AbLsn {
+    /// Captures nothing. Takes no memory; the allocator serves later entries.
+    pub fn new(alloc: Global) -> AbLsn
+        ensures { result ≡ blank }
+    {
+        AbLsn {
+            low: 0,
+            entries: SmallVec::new(alloc),
+        }
+    }
+
+    /// The low number: every number up to it is captured, and their answers are gone.
+    pub fn low(&self) -> u64
+        ensures { result ≡ self.now.low }
+    {
+        self.low
+    }
+
+    /// The captured numbers above the low one, rising, with their answers.
+    pub fn entries(&self) -> &[Entry]
+        ensures { result.now ≡ self.now.entries }
+    {
+        self.entries.as_slice()
+    }
+
+    /// Whether the number's effect is there. Takes no memory.
+    pub fn captures(&self, number: u64) -> bool
+        ensures { result ≡ captures self.now number }
+    {
+        number <= self.low || place_of(self.entries.as_slice(), number).is_ok()
+    }
+
+    /// The answer saved under the number. Takes no memory.
+    pub fn answer_of(&self, number: u64) -> Option<&Answer>
+        ensures { option_copied result ≡ saved_in self.now.entries number }
+    {
+        match place_of(self.entries.as_slice(), number) {
+            Ok(at) => Some(&self.entries.as_slice()[at].answer),
+            Err(_) => None,
+        }
+    }
+
+    /// Captures one number more. Refused NoMemory, and unchanged then.
+    pub fn note(&mut self, number: u64, key: &Key, answer: &Answer) -> Result<(), Refusal>
+        requires { captures self.old number ≡ false }
+        ensures noted { OnOk result (self.new ≡ noted self.old number key.now answer.now) }
+        ensures captured { OnOk result ((m : ℕ) → captures self.new m ≡ (captures self.old m || m == number)) }
+        ensures unchanged { OnErr result (self.new ≡ self.old) }
+        ensures refused { IfErr result (λ refusal. refusal ≡ Refusal.NoMemory) }
+    {
+        let entry = Entry {
+            number,
+            key: key.copied(),
+            answer: answer.copied(),
+        };
+        match place_of(self.entries.as_slice(), number) {
+            Ok(_) => unreachable!(),
+            Err(gap) => self.entries.insert(gap, entry)?,
+        }
+        Ok(())
+    }
+
+    /// Captures every number up to this one, and drops their answers. Takes no memory.
+    pub fn raise(&mut self, low: u64)
+        ensures raised { self.new ≡ raised self.old low }
+        ensures captured { (m : ℕ) → captures self.new m ≡ (captures self.old m || nat_le m low) }
+    {
+        self.low = keep_above(&mut self.entries, self.low, low);
+    }
+
+    /// Gives away the entries whose keys are at or above this one; both sides keep the low number. Refused
+    /// NoMemory, and unchanged then.
+    pub fn cut(&mut self, key: &Key) -> Result<AbLsn, Refusal>
+        ensures upper { IfOk result (λ upper. upper ≡ cut_from self.old key.now) }
+        ensures lower { OnOk result (self.new ≡ cut_under self.old key.now) }
+        // So the two can be joined again.
+        ensures apart { IfOk result (λ upper. AreApart self.new.entries upper.entries) }
+        ensures unchanged { OnErr result (self.new ≡ self.old) }
+        ensures refused { IfErr result (λ refusal. refusal ≡ Refusal.NoMemory) }
+    {
+        let upper = copied_from(*self.entries.allocator(), self.entries.as_slice(), key)?;
+        keep_under(&mut self.entries, key);
+        Ok(AbLsn {
+            low: self.low,
+            entries: upper,
+        })
+    }
+
+    /// Captures what the other captures besides: the low number is the greater of the two, and the entries of
+    /// both above it stay. Refused NoMemory, and unchanged then.
+    pub fn join(&mut self, other: &AbLsn) -> Result<(), Refusal>
+        requires { AreApart self.old.entries other.now.entries }
+        ensures joined { OnOk result (self.new ≡ joined self.old other.now) }
+        ensures captured { OnOk result ((m : ℕ) → captures self.new m ≡ (captures self.old m || captures other.now m)) }
+        ensures unchanged { OnErr result (self.new ≡ self.old) }
+        ensures refused { IfErr result (λ refusal. refusal ≡ Refusal.NoMemory) }
+    {
+        let more = other.entries.as_slice();
+        self.entries.reserve(more.len())?;
+        self.low = keep_above(&mut self.entries, self.low, other.low);
+        place_all(&mut self.entries, self.low, more);
+        Ok(())
+    }
+}

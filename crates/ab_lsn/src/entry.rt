@@ -1,0 +1,41 @@
+//! A captured number with its answer.
+ghost use Rattle.std.specs.Prelude.{◌≡◌};
+
+use record_key::{Answer, Key};
+use std::alloc::Global;
+use std::default::MadeWith;
+
+/// A number above the low one whose effect is there: the key that it is on, and its answer.
+#[derive(Debug, Clone, PartialEq, Eq, Drop)]
+pub struct Entry {
+    pub number: u64,
+    pub key: Key,
+    pub answer: Answer,
+}
+
+impl Entry {
+    /// The same entry again. Takes no memory.
+    pub fn copied(&self) -> Entry
+        ensures { result ≡ self.now }
+    {
+        Entry {
+            number: self.number,
+            key: self.key.copied(),
+            answer: self.answer.copied(),
+        }
+    }
+}
+
+/// Stands in the unused places of a short list.
+impl MadeWith<Global> for Entry {
+    fn made_with(_alloc: Global) -> Entry {
+        match Key::new(&[0]) {
+            Ok(key) => Entry {
+                number: 0,
+                key,
+                answer: Answer::NoRecord,
+            },
+            Err(_) => unreachable!(),
+        }
+    }
+}

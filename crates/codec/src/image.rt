@@ -1,0 +1,230 @@
+//! Images of leaves, each read from all of its page.
+ghost use Rattle.std.specs.Prelude.{◌≡◌, ◌≢◌, ◌+◌, ◌<◌, ◌≤◌, ◌^◌, ◌++◌, ℕ, List, Option, length, vec_len, vec_capacity, OnOk, OnErr, IfOk, IfErr, IfSome, IfNone, OnSome};
+ghost use Rattle.codec.specs.declared.image.LeafImage.{LeafImage};
+ghost use Rattle.codec.specs.Fields.{number, text, optional};
+ghost use Rattle.codec.specs.Frames.{IfTaken, IfBad, IsWhole};
+ghost use Rattle.codec.specs.Images.{is_within, rows_within, entries_within, keeps_bounds, image_bytes, IsOrderedImage, IsImage};
+ghost use Rattle.codec.specs.Writing.{HasRoom, Puts};
+ghost use Rattle.codec.specs.Reading.{Gives, Finds, image_numbers_at, fences_at, image_of, image_parts_at, image_at, mapped, all_of, value_or_bad};
+
+use crate::entries::{Entries, Entry, entries_len, entries_rise, put_entries, take_entries};
+use crate::fault::Fault;
+use crate::frame::HEADER_LEN;
+use crate::lengths::optional_key_len;
+use crate::reading::{take_number, take_optional_key};
+use crate::rows::{Rows, key_is_below, put_rows, rows_len, take_rows};
+use crate::taken::Taken;
+use crate::writing::{put_number, put_optional_key};
+use record_key::{Key, Refusal, Value};
+use std::alloc::Global;
+
+/// A leaf, as its page keeps it.
+#[derive(Debug, Drop)]
+pub struct LeafImage {
+    pub id: u64,
+    /// The last system transaction that changed the leaf.
+    pub last: u64,
+    /// Each operation numbered up to this is done, and has no entry.
+    pub low: u64,
+    /// The first key that belongs to the leaf. None: there is no bound below.
+    pub low_fence: Option<Key>,
+    /// The first key above them that doesn't. None: there is no bound above.
+    pub high_fence: Option<Key>,
+    /// The records, with rising keys.
+    pub rows: Rows,
+    /// The operations above `low` that are done, with rising numbers.
+    pub entries: Entries,
+}
+
+/// Appends the image, its one spelling. Where memory for it is refused nothing is appended.
+pub fn put_leaf_image(out: &mut Vec<u8>, image: &LeafImage) -> Result<(), Refusal>
+    requires { IsOrderedImage image.now }
+    ensures spelling { OnOk result (out.new.items ≡ out.old.items ++ image_bytes image.now) }
+    ensures has_spelling { OnOk result (IsImage image.now) }
+    ensures refused { OnErr result (out.new.items ≡ out.old.items) }
+    ensures cause { IfErr result (λ refusal. refusal ≡ Refusal.NoMemory) }
+    ensures room { OnErr result (vec_capacity out.old < vec_len out.old + length (image_bytes image.now)) }
+{
+    let Some(length) = image_len(image) else {
+        return Err(Refusal::NoMemory);
+    };
+    out.reserve(length)?;
+    put_image(out, image);
+    Ok(())
+}
+
+/// The image that all of a page's bytes are, and their length. Never Short: a page has no more bytes to come.
+pub fn take_leaf_image(alloc: Global, bytes: &[u8]) -> Result<Taken<LeafImage>, Refusal>
+    // What is taken is all of the page.
+    ensures found { IfOk result (λ taken. IfTaken taken (IsWhole LeafImage image_bytes IsImage bytes.now)) }
+    // A page that is an image is taken.
+    ensures only { IfOk result (λ taken. (image : LeafImage) → IsImage image → bytes.now ≡ image_bytes image → taken ≡ Taken.Record image (length bytes.now)) }
+    ensures never_short { IfOk result (λ taken. taken ≢ Taken.Short) }
+    ensures bad { IfOk result (λ taken. IfBad taken (λ place. place ≡ 0)) }
+    ensures cause { IfErr result (λ refusal. refusal ≡ Refusal.NoMemory) }
+{
+    take_page(alloc, bytes)
+}
+
+/// Two images with the same spelling are the same, and none begins another.
+pub fn leaf_image_spelling_law()
+    ensures same { (a b : LeafImage) → IsImage a → IsImage b → image_bytes a ≡ image_bytes b → a ≡ b }
+    ensures begins { (a b : LeafImage) (x y : List ℕ) → IsImage a → IsImage b → image_bytes a ++ x ≡ image_bytes b ++ y → (a ≡ b) × (x ≡ y) }
+{}
+
+fn key_is_within(low: &Option<Key>, high: &Option<Key>, key: &Key) -> bool
+    ensures { result ≡ is_within low.now high.now key.now }
+{
+    if let Some(low) = low
+        && key_is_below(key, low)
+    {
+        return false;
+    }
+    match high {
+        None => true,
+        Some(high) => key_is_below(key, high),
+    }
+}
+
+fn rows_are_within(low: &Option<Key>, high: &Option<Key>, rows: &[(Key, Value)]) -> bool
+    ensures { result ≡ rows_within low.now high.now rows.now }
+{
+    for row in rows {
+        if !key_is_within(low, high, &row.0) {
+            return false;
+        }
+    }
+    true
+}
+
+fn entries_are_within(low: &Option<Key>, high: &Option<Key>, entries: &[Entry]) -> bool
+    ensures { result ≡ entries_within low.now high.now entries.now }
+{
+    for entry in entries {
+        if !key_is_within(low, high, &entry.key) {
+            return false;
+        }
+    }
+    true
+}
+
+/// Whether the keys lie in the fences, and the entries' numbers rise above `low`.
+fn bounds_are_kept(image: &LeafImage) -> bool
+    ensures { result ≡ keeps_bounds image.now }
+{
+    let (low, high) = (&image.low_fence, &image.high_fence);
+    rows_are_within(low, high, image.rows.as_slice())
+        && entries_are_within(low, high, image.entries.as_slice())
+        && entries_rise(image.low, image.entries.as_slice())
+}
+
+/// How many bytes the image takes. None where that is 2 to the power of 64 or more.
+#[tactic(auto, using(crate::proofs::Images::image_length))]
+pub(crate) fn image_len(image: &LeafImage) -> Option<usize>
+    requires { IsOrderedImage image.now }
+    ensures some { IfSome result (λ len. len ≡ length (image_bytes image.now)) }
+    ensures spelled { OnSome result (IsImage image.now) }
+    ensures none { IfNone result (2 ^ 64 ≤ length (image_bytes image.now)) }
+{
+    let fences = optional_key_len(&image.low_fence) + optional_key_len(&image.high_fence);
+    let Some(rows) = rows_len(&image.rows) else {
+        return None;
+    };
+    let Some(entries) = entries_len(&image.entries) else {
+        return None;
+    };
+    let Some(lists) = rows.checked_add(entries) else {
+        return None;
+    };
+    lists.checked_add(3 * HEADER_LEN + fences)
+}
+
+#[tactic(auto, unfolding(crate::specs::Images::image_bytes))]
+pub(crate) fn put_image(out: &mut Vec<u8>, image: &LeafImage)
+    requires { HasRoom out.old (image_bytes image.now) }
+    ensures { Puts out.old out.new (image_bytes image.now) }
+{
+    put_number(out, image.id);
+    put_number(out, image.last);
+    put_number(out, image.low);
+    put_optional_key(out, &image.low_fence);
+    put_optional_key(out, &image.high_fence);
+    put_rows(out, &image.rows);
+    put_entries(out, &image.entries);
+}
+
+#[derive(Clone, Copy)]
+struct Numbers {
+    id: u64,
+    last: u64,
+    low: u64,
+}
+
+fn take_numbers(bytes: &[u8]) -> Option<(Numbers, &[u8])>
+    ensures { Gives (λ x. ((x.0.id, (x.0.last, x.0.low)), x.1.now)) result (image_numbers_at bytes.now) }
+{
+    let (id, rest) = take_number(bytes)?;
+    let (last, rest) = take_number(rest)?;
+    let (low, rest) = take_number(rest)?;
+    Some((Numbers { id, last, low }, rest))
+}
+
+fn take_fences(bytes: &[u8]) -> Option<((Option<Key>, Option<Key>), &[u8])>
+    ensures { Gives (λ x. (x.0, x.1.now)) result (fences_at bytes.now) }
+{
+    let (low, rest) = take_optional_key(bytes)?;
+    let (high, rest) = take_optional_key(rest)?;
+    Some(((low, high), rest))
+}
+
+fn take_parts(alloc: Global, bytes: &[u8]) -> Result<(LeafImage, &[u8]), Fault>
+    ensures { Finds (λ x. (x.0, x.1.now)) result (mapped image_of image_parts_at bytes.now) }
+{
+    let Some((numbers, rest)) = take_numbers(bytes) else {
+        return Err(Fault::Outside);
+    };
+    let Some(((low_fence, high_fence), rest)) = take_fences(rest) else {
+        return Err(Fault::Outside);
+    };
+    let (rows, rest) = take_rows(alloc, rest)?;
+    let (entries, rest) = take_entries(alloc, rest)?;
+    let image = LeafImage {
+        id: numbers.id,
+        last: numbers.last,
+        low: numbers.low,
+        low_fence,
+        high_fence,
+        rows,
+        entries,
+    };
+    Ok((image, rest))
+}
+
+#[tactic(auto, unfolding(crate::specs::Reading::image_at))]
+pub(crate) fn take_image(alloc: Global, bytes: &[u8]) -> Result<(LeafImage, &[u8]), Fault>
+    ensures { Finds (λ x. (x.0, x.1.now)) result (image_at bytes.now) }
+{
+    let (image, rest) = take_parts(alloc, bytes)?;
+    if bounds_are_kept(&image) {
+        Ok((image, rest))
+    } else {
+        Err(Fault::Outside)
+    }
+}
+
+fn take_page(alloc: Global, bytes: &[u8]) -> Result<Taken<LeafImage>, Refusal>
+    ensures value { IfOk result (λ taken. taken ≡ value_or_bad 0 (length bytes.now) (all_of image_at bytes.now)) }
+    ensures cause { IfErr result (λ refusal. refusal ≡ Refusal.NoMemory) }
+{
+    match take_image(alloc, bytes) {
+        Ok((image, rest)) => {
+            if rest.is_empty() {
+                Ok(Taken::Record(image, bytes.len()))
+            } else {
+                Ok(Taken::Bad(0))
+            }
+        }
+        Err(Fault::Outside) => Ok(Taken::Bad(0)),
+        Err(Fault::Memory) => Err(Refusal::NoMemory),
+    }
+}

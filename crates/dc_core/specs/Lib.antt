@@ -1,0 +1,4 @@
+pub mod DcView
+pub mod Serves
+pub mod Kept
+pub mod Seen

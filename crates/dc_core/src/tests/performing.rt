@@ -1,0 +1,83 @@
+//! Numbers that are sent once and again.
+use super::*;
+use record_key::PlainTable;
+
+#[test]
+fn a_number_sent_three_times(rt: HostRuntime) -> Result<(), Fail> {
+    let mut dc = connected(rt.alloc())?;
+    let op = Op::Upsert(key(b"k")?, value(b"v")?);
+    for _ in 0..3 {
+        let answer = answered(&mut dc, 7, &op)?;
+        assert_eq!(rt; answer, Some(Answer::Was(None)));
+    }
+    let answer = answered(&mut dc, 8, &op)?;
+    assert_eq!(rt; answer, Some(Answer::Was(Some(value(b"v")?))));
+    assert_eq!(rt; dc.performed().len(), 2);
+    assert_eq!(rt; dc.rows().len(), 1);
+    Ok(())
+}
+
+#[test]
+fn low_water_drops_answers(rt: HostRuntime) -> Result<(), Fail> {
+    let mut dc = connected(rt.alloc())?;
+    let op = Op::Delete(key(b"k")?);
+    for number in [2, 5] {
+        answered(&mut dc, number, &op)?;
+    }
+    let (session, low) = (4, 3);
+    let reply = dc.serve(&Request::LowWater { session, low })?;
+    assert!(rt; reply.is_none());
+    assert_eq!(rt; dc.leaf().low(), 3);
+    assert_eq!(rt; answered(&mut dc, 2, &op)?, None);
+    assert_eq!(rt; answered(&mut dc, 3, &op)?, None);
+    assert_eq!(rt; answered(&mut dc, 5, &op)?, Some(Answer::NoRecord));
+    assert_eq!(rt; dc.performed().len(), 2);
+    Ok(())
+}
+
+const NAMES: [&[u8]; 5] = [b"m", b"ma", b"a", b"z", b"c"];
+
+/// Four operations on each of a few keys, in an order that mixes them.
+fn nth_op(n: u64) -> Result<Op, Fail> {
+    let k = key(NAMES[(n % 5) as usize])?;
+    let v = value(NAMES[(n / 5 % 5) as usize])?;
+    Ok(match n % 4 {
+        0 => Op::Insert(k, v),
+        1 => Op::Update(k, v),
+        2 => Op::Upsert(k, v),
+        _ => Op::Delete(k),
+    })
+}
+
+#[test]
+fn answers_as_the_plain_table(rt: HostRuntime) -> Result<(), Fail> {
+    let mut dc = connected(rt.alloc())?;
+    let mut table = PlainTable::new(rt.alloc());
+    for number in 1..300u64 {
+        let op = nth_op(number)?;
+        let expected = Some(table.apply(&op)?);
+        assert_eq!(rt; answered(&mut dc, number, &op)?, expected);
+        assert_eq!(rt; answered(&mut dc, number, &op)?, expected);
+        assert_eq!(rt; dc.rows(), table.rows());
+    }
+    assert_eq!(rt; dc.performed().len(), 299);
+    Ok(())
+}
+
+/// Where memory is refused nothing has changed, and the request can be sent again.
+#[test]
+fn a_refused_allocation_changes_nothing(rt: HostRuntime) -> Result<(), Fail> {
+    let mut dc = connected(rt.alloc())?;
+    for number in 1..80u64 {
+        let op = Op::Insert(key(&[number as u8])?, value(b"v")?);
+        let rows = dc.rows().len();
+        if let Err(refusal) = answered(&mut dc, number, &op) {
+            assert_eq!(rt; refusal, Refusal::NoMemory);
+            assert!(rt; !dc.leaf().captures(number));
+            assert_eq!(rt; (dc.rows().len(), dc.performed().len()), (rows, rows));
+            let answer = answered(&mut dc, number, &op)?;
+            assert_eq!(rt; answer, Some(Answer::Inserted));
+        }
+    }
+    Ok(())
+}

@@ -1,0 +1,42 @@
+-- When a leaf is honest for a log, and what keeps it so.
+use Rattle.std.specs.Prelude.{◌≡◌, ℕ, ◌<◌, ◌≤◌, true, false, List}
+use Rattle.std.specs.List.{AllByRecursion}
+use Rattle.std.specs.FinMap.{get}
+use Rattle.record_key.specs.declared.op.Op.{Op}
+use Rattle.record_key.specs.Table.{Bytes, key_of}
+use Rattle.history.specs.declared.record.Record.{Record}
+use Rattle.history.specs.Log.{Requests}
+use Rattle.history.specs.Values.{IsRight}
+use Rattle.history.specs.Honest.{IsHonestAt}
+use Rattle.ab_lsn.specs.declared.entry.Entry.{Entry}
+use Rattle.ab_lsn.specs.AbLsn.{captures}
+use Rattle.page.specs.Leaf.{LeafView, is_in_fences, performed, raised_to}
+
+-- a saved answer is the one given at its place
+pub record IsSavedRight (log : List Record) (e : Entry) : Type 0 where
+  pub op : Op
+  pub requests : Requests log e.number op
+  pub on_key : key_of op ≡ e.key
+  pub right : IsRight log e.number e.answer
+
+-- at each of its keys it has captured a beginning of what the log does there, and holds what that gives
+pub record IsHonestLeaf (log : List Record) (leaf : LeafView) : Type 0 where
+  pub at : (k : Bytes) → is_in_fences leaf k ≡ true → IsHonestAt log (captures leaf.ab) k (get leaf.rows k)
+  pub saved : AllByRecursion (IsSavedRight log) leaf.ab.entries
+
+-- the number is the log's next on its key: it isn't captured, and all before it on the key are
+pub record IsNextOn (log : List Record) (leaf : LeafView) (n : ℕ) (o : Op) : Type 0 where
+  pub requests : Requests log n o
+  pub within : is_in_fences leaf (key_of o) ≡ true
+  pub uncaptured : captures leaf.ab n ≡ false
+  pub others : (m : ℕ) (q : Op) → Requests log m q → key_of q ≡ key_of o → m < n → captures leaf.ab m ≡ true
+
+-- the log's numbers up to this one on the leaf's keys are captured
+pub record IsCapturedTo (log : List Record) (leaf : LeafView) (l : ℕ) : Type 0 where
+  pub all : (n : ℕ) (o : Op) → Requests log n o → is_in_fences leaf (key_of o) ≡ true → n ≤ l → captures leaf.ab n ≡ true
+
+-- a leaf stays honest where it performs the log's next number on a key, and where the low number rises over
+-- captured ones
+pub record LeafLaw : Type 0 where
+  pub performs : (log : List Record) (leaf : LeafView) (n : ℕ) (o : Op) → IsHonestLeaf log leaf → IsNextOn log leaf n o → IsHonestLeaf log (performed leaf n o)
+  pub raises : (log : List Record) (leaf : LeafView) (l : ℕ) → IsHonestLeaf log leaf → IsCapturedTo log leaf l → IsHonestLeaf log (raised_to leaf l)

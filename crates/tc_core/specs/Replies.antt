@@ -1,0 +1,107 @@
+-- What the transaction component makes of a reply.
+use Rattle.std.specs.Prelude.{◌≡◌, ℕ, ◌+◌, ◌==◌, ◌&&◌, ◌||◌, Bool, true, false, not, nat_lt, [], ◌∷◌, Option, Some, None, if◌then◌else◌}
+use Rattle.record_key.specs.declared.op.Answer.{Answer}
+use Rattle.record_key.specs.declared.refusal.Refusal.{Refusal}
+use Rattle.record_key.specs.declared.refusal.Refusal.TheVariants.{Stale, NumbersSpent}
+use Rattle.record_key.specs.FirstCause.{first_of}
+use Rattle.codec.specs.declared.reply.Reply.{Reply}
+use Rattle.codec.specs.declared.reply.Reply.TheVariants as says
+use Rattle.tc_core.specs.declared.open_txn.OpenTxn.{OpenTxn}
+use Rattle.tc_core.specs.declared.phase.Phase.{Phase}
+use Rattle.tc_core.specs.declared.phase.Phase.TheVariants as phase
+use Rattle.tc_core.specs.declared.told.Told.{Told}
+use Rattle.tc_core.specs.declared.told.Told.TheVariants as told
+use Rattle.tc_core.specs.LogView.{is_spent}
+use Rattle.tc_core.specs.TcView.{TcView}
+use Rattle.tc_core.specs.Calls.{answered}
+
+abbrev pub session_of : Reply → ℕ
+session_of (says.Connected s) = s
+session_of (says.Answered s n a) = s
+session_of (says.Row s r v) = s
+session_of (says.Rows s r rows) = s
+session_of (says.Checkpointed s l) = s
+session_of (says.RedoEnded s) = s
+
+-- the reply isn't of the session that runs
+abbrev pub is_stale : TcView → ℕ → Bool
+is_stale w s = (w.session == 0) || not (s == w.session)
+
+-- the answer of this number is taken: clients are served, or it is the one that redo waits for
+abbrev pub takes : ℕ → Phase → ℕ → Bool
+takes s phase.Unconnected n = false
+takes s phase.Connecting n = false
+takes s (phase.Redoing next) n = (next == n) && nat_lt n s
+takes s phase.Running n = true
+
+abbrev pub is_number : Option ℕ → ℕ → Bool
+is_number None n = false
+is_number (Some m) n = m == n
+
+-- the open transaction, where it waits for this answer
+abbrev pub awaiting : Option OpenTxn → ℕ → Option OpenTxn
+awaiting None n = None
+awaiting (Some o) n = if is_number o.waiting n then Some o else None
+
+-- redo goes on after this number
+abbrev pub next_phase : Phase → ℕ → Phase
+next_phase (phase.Redoing next) n = phase.Redoing (n + 1)
+next_phase p n = p
+
+abbrev pub passed : TcView → ℕ → TcView
+passed w n = record w { phase = next_phase w.phase n }
+
+-- what a client is told of an answer: nothing where it is a compensation's
+abbrev pub told_of : OpenTxn → ℕ → Answer → Told
+told_of o n a = if o.rolling then told.Undone n else told.Answered o.txn a
+
+-- what is told, and what is left
+abbrev pub Outcome : Type 0
+Outcome = Told × TcView
+
+-- a transaction that waits for the answer has it logged; without one nothing changes
+abbrev pub on_awaited : TcView → ℕ → Option Answer → Option OpenTxn → Outcome
+on_awaited w n a None = (told.Nothing, passed w n)
+on_awaited w n None (Some o) = (told.Nothing, w)
+on_awaited w n (Some a) (Some o) = (told_of o n a, passed (answered w o n a) n)
+
+abbrev pub on_answered : TcView → ℕ → Option Answer → Outcome
+on_answered w n a = if takes w.session w.phase n then on_awaited w n a (awaiting w.open_txn n) else (told.Nothing, w)
+
+-- the session runs: redo begins at the first number
+abbrev pub on_connected : TcView → Phase → Outcome
+on_connected w phase.Connecting = (told.Connected w.session, record w { phase = phase.Redoing 1 })
+on_connected w _ = (told.Nothing, w)
+
+-- redo has come to the session's own record, and has ended
+abbrev pub on_redo_ended : TcView → Phase → Outcome
+on_redo_ended w (phase.Redoing next) = if next == w.session then (told.RedoEnded w.session, record w { phase = phase.Running }) else (told.Nothing, w)
+on_redo_ended w _ = (told.Nothing, w)
+
+abbrev pub on_reply : TcView → Reply → Outcome
+on_reply w (says.Connected s) = on_connected w w.phase
+on_reply w (says.Answered s n a) = on_answered w n a
+on_reply w (says.RedoEnded s) = on_redo_ended w w.phase
+on_reply w (says.Row s r v) = (told.Nothing, w)
+on_reply w (says.Rows s r rows) = (told.Nothing, w)
+on_reply w (says.Checkpointed s l) = (told.Nothing, w)
+
+pub record TakesReply (old : TcView) (reply : Reply) (what : Told) (new : TcView) : Type 0 where
+  pub told : what ≡ (on_reply old reply).0
+  pub left : new ≡ (on_reply old reply).1
+
+-- the reply's answer is logged
+abbrev pub is_logged : TcView → ℕ → Option Answer → Option OpenTxn → Bool
+is_logged w n (Some a) (Some o) = takes w.session w.phase n
+is_logged w n a o = false
+
+abbrev pub logs : TcView → Reply → Bool
+logs w (says.Answered s n a) = is_logged w n a (awaiting w.open_txn n)
+logs w _ = false
+
+-- the log has no number left for it
+abbrev pub answered_refusal_of : TcView → ℕ → Option Answer → Option Refusal
+answered_refusal_of w n a = first_of ((is_logged w n a (awaiting w.open_txn n) && is_spent w.log, NumbersSpent) ∷ [])
+
+abbrev pub reply_refusal : TcView → Reply → Option Refusal
+reply_refusal w reply = first_of ((is_stale w (session_of reply), Stale) ∷ (logs w reply && is_spent w.log, NumbersSpent) ∷ [])

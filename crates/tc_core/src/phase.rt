@@ -1,0 +1,26 @@
+//! How far a session has come.
+
+/// What the component waits for, or whom it serves.
+#[derive(Debug, Clone, Copy, PartialEq, Eq)]
+pub enum Phase {
+    /// No session was started.
+    Unconnected,
+    /// A session was started, and its Connect awaits the reply.
+    Connecting,
+    /// What earlier sessions logged is sent again, one request at a time, from this number on.
+    Redoing { next: u64 },
+    /// Clients are served.
+    Running,
+}
+
+impl Phase {
+    ghost use Rattle.std.specs.Prelude.{◌≡◌};
+    ghost use Rattle.tc_core.specs.TcView.{is_recovering};
+
+    /// A request of recovery is due or awaits its reply.
+    pub fn is_recovering(self) -> bool
+        ensures { result ≡ is_recovering self }
+    {
+        matches!(self, Phase::Connecting | Phase::Redoing { .. })
+    }
+}

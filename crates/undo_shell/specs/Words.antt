@@ -1,0 +1,36 @@
+-- The words of a line: labels, numbers, and texts.
+use Rattle.std.specs.Prelude.{ℕ, ◌+◌, ◌-◌, ◌*◌, ◌^◌, ◌==◌, ◌||◌, ◌&&◌, Bool, not, List, [], ◌∷◌, Option, Some, None, length, codes, decimal, bytes_eq, nat_le, nat_lt, if◌then◌else◌}
+use Rattle.std.specs.List.{slice_split, list_all}
+use Rattle.std.specs.Char.{is_ascii_alphanumeric, is_ascii_lowercase, is_ascii_digit}
+
+-- what stands between spaces: one space at each end of a word, so two in a row have an empty word between them
+abbrev pub words_of : List ℕ → List (List ℕ)
+words_of bytes = slice_split (λ b. b == 32) bytes
+
+-- 1 to 8 lower case letters or digits
+abbrev pub is_label : List ℕ → Bool
+is_label word = not (length word == 0) && nat_le (length word) 8 && list_all (λ b. is_ascii_lowercase b || is_ascii_digit b) word
+
+abbrev pub label_in : List ℕ → Option (List ℕ)
+label_in word = if is_label word then Some word else None
+
+-- one or more letters or digits
+abbrev pub is_plain : List ℕ → Bool
+is_plain word = not (length word == 0) && list_all is_ascii_alphanumeric word
+
+-- a key or a value: a dot for the empty one
+abbrev pub text_in : List ℕ → Option (List ℕ)
+text_in word = if bytes_eq word (codes ".") then Some [] else (if is_plain word then Some word else None)
+
+-- the number that these digits write behind those of n
+abbrev pub value_behind : ℕ → List ℕ → ℕ
+value_behind n [] = n
+value_behind n (b ∷ bs) = value_behind (n * 10 + (b - 48)) bs
+
+-- this number, where it is below 2 to the power of 48 and the word is what is printed of it
+abbrev pub number_if : List ℕ → ℕ → Option ℕ
+number_if word n = if nat_lt n (2 ^ 48) && bytes_eq (decimal n) word then Some n else None
+
+-- a decimal number below 2 to the power of 48, without leading zeros
+abbrev pub number_in : List ℕ → Option ℕ
+number_in word = number_if word (value_behind 0 word)

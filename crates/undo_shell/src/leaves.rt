@@ -1,0 +1,106 @@
+//! The text of a leaf: its number, its fences, how much it has, and which requests it has captured.
+ghost use Rattle.std.specs.Prelude.{◌≡◌, ◌++◌, flat_map};
+ghost use Rattle.std.specs.Option.{option_copied};
+ghost use Rattle.undo_shell.specs.Printed.{Prints, piece_text};
+ghost use Rattle.undo_shell.specs.Stored.{leaf_line, fences_text, counts_text, fence_text, set_line, more_line, next_number};
+
+use crate::output::{Piece, print};
+use ab_lsn::Entry;
+use page::Leaf;
+use record_key::Key;
+use std::io;
+
+/// The line of a leaf.
+pub fn print_leaf<W: io::Write>(writer: &mut W, leaf: &Leaf) -> io::Result<()>
+    ensures { Prints (W.contents writer.old) (W.contents writer.new) result (leaf_line leaf.now) }
+{
+    print_fences(writer, leaf)?;
+    print_rest(writer, leaf)
+}
+
+/// The leaf's number, and its fences.
+fn print_fences<W: io::Write>(writer: &mut W, leaf: &Leaf) -> io::Result<()>
+    ensures { Prints (W.contents writer.old) (W.contents writer.new) result (fences_text leaf.now) }
+{
+    print(
+        writer,
+        &[
+            Piece::Text("leaf "),
+            Piece::Number(leaf.id()),
+            Piece::Text(" "),
+            fence(leaf.low_fence()),
+            Piece::Text(" "),
+            fence(leaf.high_fence()),
+        ],
+    )
+}
+
+/// A fence, or a dash where there is no bound.
+fn fence(key: Option<&Key>) -> Piece<'_>
+    ensures { piece_text result ≡ fence_text (option_copied key.entry) }
+{
+    match key {
+        Some(key) => Piece::Word(key.as_bytes()),
+        None => Piece::Text("-"),
+    }
+}
+
+/// What stands behind the fences.
+fn print_rest<W: io::Write>(writer: &mut W, leaf: &Leaf) -> io::Result<()>
+    ensures { Prints (W.contents writer.old) (W.contents writer.new) result (counts_text leaf.now ++ set_line leaf.now.ab.entries) }
+{
+    print_counts(writer, leaf)?;
+    print_set(writer, leaf.entries())
+}
+
+fn print_counts<W: io::Write>(writer: &mut W, leaf: &Leaf) -> io::Result<()>
+    ensures { Prints (W.contents writer.old) (W.contents writer.new) result (counts_text leaf.now) }
+{
+    print(
+        writer,
+        &[
+            Piece::Text(" low "),
+            Piece::Number(leaf.low()),
+            Piece::Text(" last "),
+            Piece::Number(leaf.last()),
+            Piece::Text(" n "),
+            Piece::Number(leaf.rows().len() as u64),
+            Piece::Text(" set "),
+        ],
+    )
+}
+
+/// The numbers of the entries, joined by commas, or a dash where there is none.
+fn print_set<W: io::Write>(writer: &mut W, entries: &[Entry]) -> io::Result<()>
+    ensures { Prints (W.contents writer.old) (W.contents writer.new) result (set_line entries.now) }
+{
+    let Some((first, rest)) = entries.split_first() else {
+        return print(writer, &[Piece::Text("-\n")]);
+    };
+    print(writer, &[Piece::Number(first.number)])?;
+    print_more(writer, rest)
+}
+
+/// The numbers behind the first, and the end of the line.
+fn print_more<W: io::Write>(writer: &mut W, entries: &[Entry]) -> io::Result<()>
+    ensures { Prints (W.contents writer.old) (W.contents writer.new) result (more_line entries.now) }
+{
+    print_numbers(writer, entries)?;
+    print(writer, &[Piece::Text("\n")])
+}
+
+fn print_numbers<W: io::Write>(writer: &mut W, entries: &[Entry]) -> io::Result<()>
+    ensures { Prints (W.contents writer.old) (W.contents writer.new) result (flat_map next_number entries.now) }
+{
+    for entry in entries {
+        print_next(writer, entry)?;
+    }
+    Ok(())
+}
+
+/// A comma and the number of an entry.
+fn print_next<W: io::Write>(writer: &mut W, entry: &Entry) -> io::Result<()>
+    ensures { Prints (W.contents writer.old) (W.contents writer.new) result (next_number entry.now) }
+{
+    print(writer, &[Piece::Text(","), Piece::Number(entry.number)])
+}

@@ -1,0 +1,47 @@
+//! The lines of a script that are run.
+use crate::label::Label;
+use world::Event;
+
+/// What a write does at its key.
+#[derive(Debug, Clone, Copy, PartialEq, Eq)]
+pub enum Kind {
+    Insert,
+    Update,
+    Upsert,
+    /// Takes no value: an empty one stands for it.
+    Delete,
+}
+
+/// What happens to a label's transaction.
+#[derive(Debug, Clone, Copy, PartialEq, Eq)]
+pub enum Call {
+    Rollback,
+    Send,
+}
+
+/// What is printed of the node.
+#[derive(Debug, Clone, Copy, PartialEq, Eq)]
+pub enum Part {
+    Table,
+    Log,
+    Leaves,
+}
+
+/// A line that is run. Its keys and values are the script's own bytes, of any length.
+#[derive(Debug, Drop)]
+pub enum Line<'a> {
+    Begin(Label),
+    Write {
+        label: Label,
+        kind: Kind,
+        key: &'a [u8],
+        value: &'a [u8],
+    },
+    Call {
+        label: Label,
+        call: Call,
+    },
+    Step(Event),
+    Settle,
+    Show(Part),
+}

@@ -1,0 +1,88 @@
+//! The names that begin lines, by what follows them.
+ghost use Rattle.std.specs.Prelude.{◌≡◌, option_map};
+ghost use Rattle.undo_shell.specs.Words.{label_in, number_in};
+ghost use Rattle.undo_shell.specs.Script.{bare, with_label, with_number, kind_without_value, kind_with_value, meaning};
+
+use crate::label::Label;
+use crate::line::{Call, Kind, Line, Part};
+use crate::words::number_of;
+use world::Event;
+
+/// A line of one word.
+pub fn bare<'a>(name: &[u8]) -> Option<Line<'a>>
+    ensures { option_map meaning result ≡ bare name.now }
+{
+    if name == b"settle".as_slice() {
+        Some(Line::Settle)
+    } else if name == b"force".as_slice() {
+        Some(Line::Step(Event::Force))
+    } else if name == b"table".as_slice() {
+        Some(Line::Show(Part::Table))
+    } else if name == b"log".as_slice() {
+        Some(Line::Show(Part::Log))
+    } else if name == b"leaves".as_slice() {
+        Some(Line::Show(Part::Leaves))
+    } else {
+        None
+    }
+}
+
+/// A line of a name and a label.
+pub fn with_label<'a>(name: &[u8], word: &[u8]) -> Option<Line<'a>>
+    ensures { option_map meaning result ≡ with_label name.now (label_in word.now) }
+{
+    let label = Label::new(word)?;
+    if name == b"begin".as_slice() {
+        Some(Line::Begin(label))
+    } else if name == b"rollback".as_slice() {
+        let call = Call::Rollback;
+        Some(Line::Call { label, call })
+    } else if name == b"send".as_slice() {
+        let call = Call::Send;
+        Some(Line::Call { label, call })
+    } else {
+        None
+    }
+}
+
+/// A line of a name and a number.
+pub fn with_number<'a>(name: &[u8], word: &[u8]) -> Option<Line<'a>>
+    ensures { option_map meaning result ≡ with_number name.now (number_in word.now) }
+{
+    let number = number_of(word)?;
+    if name == b"low".as_slice() {
+        Some(Line::Step(Event::LowWater { low: number }))
+    } else if name == b"req".as_slice() {
+        Some(Line::Step(Event::Request { number }))
+    } else if name == b"rep".as_slice() {
+        Some(Line::Step(Event::Reply { number }))
+    } else {
+        None
+    }
+}
+
+/// What a write of three words does.
+pub fn kind_without_value(name: &[u8]) -> Option<Kind>
+    ensures { result ≡ kind_without_value name.now }
+{
+    if name == b"delete".as_slice() {
+        Some(Kind::Delete)
+    } else {
+        None
+    }
+}
+
+/// What a write of four words does.
+pub fn kind_with_value(name: &[u8]) -> Option<Kind>
+    ensures { result ≡ kind_with_value name.now }
+{
+    if name == b"insert".as_slice() {
+        Some(Kind::Insert)
+    } else if name == b"update".as_slice() {
+        Some(Kind::Update)
+    } else if name == b"upsert".as_slice() {
+        Some(Kind::Upsert)
+    } else {
+        None
+    }
+}

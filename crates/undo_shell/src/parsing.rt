@@ -1,0 +1,73 @@
+//! The grammar of a line: one place for each number of words.
+ghost use Rattle.std.specs.Prelude.{◌≡◌, ◌∷◌, option_map};
+ghost use Rattle.undo_shell.specs.Words.{words_of, label_in, text_in};
+ghost use Rattle.undo_shell.specs.Script.{command_of, write_of, meaning};
+
+use crate::label::Label;
+use crate::line::{Kind, Line};
+use crate::names::{bare, kind_with_value, kind_without_value, with_label, with_number};
+use crate::script::cut_at;
+use crate::words::text_of;
+
+/// The line that these bytes are, if they are in the grammar.
+pub fn parse(line: &[u8]) -> Option<Line<'_>>
+    ensures { option_map meaning result ≡ command_of (words_of line.now) }
+{
+    let (name, rest) = cut_at(line, b' ');
+    match rest {
+        None => bare(name),
+        Some(rest) => parse_pair(name, rest),
+    }
+}
+
+/// A line of two words or more, of which these are left.
+fn parse_pair<'a>(name: &[u8], rest: &'a [u8]) -> Option<Line<'a>>
+    ensures { option_map meaning result ≡ command_of (name.now ∷ words_of rest.now) }
+{
+    let (word, rest) = cut_at(rest, b' ');
+    match rest {
+        None => match with_label(name, word) {
+            Some(line) => Some(line),
+            None => with_number(name, word),
+        },
+        Some(rest) => parse_write(name, word, rest),
+    }
+}
+
+/// A line of three words or more.
+fn parse_write<'a>(name: &[u8], label: &[u8], rest: &'a [u8]) -> Option<Line<'a>>
+    ensures { option_map meaning result ≡ command_of (name.now ∷ label.now ∷ words_of rest.now) }
+{
+    let (key, rest) = cut_at(rest, b' ');
+    match rest {
+        None => write(kind_without_value(name), label, key, b"."),
+        Some(rest) => parse_row(name, label, key, rest),
+    }
+}
+
+/// A line of four words or more.
+fn parse_row<'a>(name: &[u8], label: &[u8], key: &'a [u8], rest: &'a [u8]) -> Option<Line<'a>>
+    ensures { option_map meaning result ≡ command_of (name.now ∷ label.now ∷ key.now ∷ words_of rest.now) }
+{
+    let (value, rest) = cut_at(rest, b' ');
+    match rest {
+        None => write(kind_with_value(name), label, key, value),
+        Some(_) => None,
+    }
+}
+
+/// A write whose label, key and value are these words.
+fn write<'a>(kind: Option<Kind>, label: &[u8], key: &'a [u8], value: &'a [u8]) -> Option<Line<'a>>
+    ensures { option_map meaning result ≡ write_of kind (label_in label.now) (text_in key.now) (text_in value.now) }
+{
+    let kind = kind?;
+    let label = Label::new(label)?;
+    let key = text_of(key)?;
+    let value = text_of(value)?;
+    Some(Line::Write {
+        label,
+        kind,
+        key,
+        value,
+    })
+}

@@ -1,0 +1,97 @@
+//! What is printed of a node: its table, its log or its leaves.
+ghost use Rattle.std.specs.Prelude.{◌≡◌, flat_map};
+ghost use Rattle.std.specs.FinMap.{entries};
+ghost use Rattle.history.specs.Log.{record_at};
+ghost use Rattle.undo_shell.specs.Printed.{Prints};
+ghost use Rattle.undo_shell.specs.Logged.{line_at, lines_to, log_text};
+ghost use Rattle.undo_shell.specs.Stored.{row_line, table_text};
+ghost use Rattle.undo_shell.specs.View.{log_of, rows_of, stable_of, part_text};
+
+use crate::leaves::print_leaf;
+use crate::line::Part;
+use crate::logged::print_record;
+use crate::output::{Piece, print};
+use crate::printed::print_numbered;
+use record_key::{Key, Value};
+use std::io;
+use world::World;
+
+/// The lines of this part of the world as it is.
+pub fn print_part<W: io::Write>(writer: &mut W, part: Part, world: &World) -> io::Result<()>
+    ensures { Prints (W.contents writer.old) (W.contents writer.new) result (part_text part world.now) }
+{
+    match part {
+        Part::Table => print_table(writer, world),
+        Part::Log => print_log(writer, world),
+        Part::Leaves => print_leaf(writer, world.leaf()),
+    }
+}
+
+fn print_table<W: io::Write>(writer: &mut W, world: &World) -> io::Result<()>
+    ensures { Prints (W.contents writer.old) (W.contents writer.new) result (table_text (entries (rows_of world.now))) }
+{
+    let rows = world.rows();
+    print_rows(writer, rows)?;
+    print_numbered(writer, "rows ", rows.len() as u64)
+}
+
+fn print_rows<W: io::Write>(writer: &mut W, rows: &[(Key, Value)]) -> io::Result<()>
+    ensures { Prints (W.contents writer.old) (W.contents writer.new) result (flat_map row_line rows.now) }
+{
+    for row in rows {
+        print_row(writer, &row.0, &row.1)?;
+    }
+    Ok(())
+}
+
+fn print_log<W: io::Write>(writer: &mut W, world: &World) -> io::Result<()>
+    ensures { Prints (W.contents writer.old) (W.contents writer.new) result (log_text (log_of world.now) (stable_of world.now)) }
+{
+    let count = world.records();
+    print_records(writer, world, count)?;
+    print(
+        writer,
+        &[
+            Piece::Text("records "),
+            Piece::Number(count),
+            Piece::Text(" stable "),
+            Piece::Number(world.stable_end()),
+            Piece::Text("\n"),
+        ],
+    )
+}
+
+/// The lines of the first records, so many of them.
+fn print_records<W: io::Write>(writer: &mut W, world: &World, count: u64) -> io::Result<()>
+    ensures { Prints (W.contents writer.old) (W.contents writer.new) result (lines_to (log_of world.now) count) }
+{
+    for before in 0..count {
+        print_at(writer, world, before + 1)?;
+    }
+    Ok(())
+}
+
+/// The line of the record of this number.
+fn print_at<W: io::Write>(writer: &mut W, world: &World, lsn: u64) -> io::Result<()>
+    ensures { Prints (W.contents writer.old) (W.contents writer.new) result (line_at lsn (record_at (log_of world.now) lsn)) }
+{
+    match world.record(lsn) {
+        Some(entry) => print_record(writer, lsn, entry),
+        None => Ok(()),
+    }
+}
+
+/// The line of a row of the table.
+pub fn print_row<'a, W: io::Write>(writer: &mut W, key: &'a Key, value: &'a Value) -> io::Result<()>
+    ensures { Prints (W.contents writer.old) (W.contents writer.new) result (row_line (key.now, value.now)) }
+{
+    print(
+        writer,
+        &[
+            Piece::Word(key.as_bytes()),
+            Piece::Text("="),
+            Piece::Word(value.as_bytes()),
+            Piece::Text("\n"),
+        ],
+    )
+}

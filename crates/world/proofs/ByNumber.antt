@@ -1,0 +1,33 @@
+-- Messages by their numbers, and what holds of each.
+use Rattle.std.proofs.Common.{◌≡◌, ℕ, ◌+◌, zero, suc, List, [], ◌∷◌, ◌++◌, length, Some, slice_get, refl, ap, ◌∙◌, subst, arith}
+use Rattle.std.specs.List.{AllByRecursion}
+use Rattle.world.specs.Messages.{message_at}
+
+pub all_map : {A : Type 0} (P Q : A → Type 0) → ((x : A) → P x → Q x) → (xs : List A) → AllByRecursion P xs → AllByRecursion Q xs
+all_map P Q each [] all = tt
+all_map P Q each (x ∷ xs) all = (each x all.0, all_map P Q each xs all.1)
+
+pub all_push : {A : Type 0} (P : A → Type 0) (xs : List A) (x : A) → AllByRecursion P xs → P x → AllByRecursion P (xs ++ x ∷ [])
+all_push P [] x all last = (last, tt)
+all_push P (y ∷ xs) x all last = (all.0, all_push P xs x all.1 last)
+
+some_same : {A : Type 0} (P : A → Type 0) (x y : A) → Some y ≡ Some x → P y → P x
+some_same P x y e h = let same : y ≡ x = cc in subst P same h
+
+all_get : {A : Type 0} (P : A → Type 0) (xs : List A) (n : ℕ) (x : A) → AllByRecursion P xs → slice_get xs n ≡ Some x → P x
+all_get P [] n x all found = absurd (cc)
+all_get P (y ∷ xs) zero x all found = some_same P x y found all.0
+all_get P (y ∷ xs) (suc n) x all found = all_get P xs n x all.1 found
+
+-- it holds of the message of any number
+pub all_at : {A : Type 0} (P : A → Type 0) (xs : List A) (i : ℕ) (x : A) → AllByRecursion P xs → message_at xs i ≡ Some x → P x
+all_at P xs zero x all found = absurd (cc)
+all_at P xs (suc n) x all found = all_get P xs n x all found
+
+get_last : {A : Type 0} (xs : List A) (x : A) → slice_get (xs ++ x ∷ []) (length xs) ≡ Some x
+get_last [] x = refl
+get_last (y ∷ xs) x = get_last xs x
+
+-- the message that was added last has the number of their count
+pub last_at : {A : Type 0} (xs : List A) (x : A) → message_at (xs ++ x ∷ []) (length xs + 1) ≡ Some x
+last_at xs x = let e : length xs + 1 ≡ suc (length xs) = omega arith in ap (message_at (xs ++ x ∷ [])) e ∙ get_last xs x

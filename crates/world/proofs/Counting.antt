@@ -1,0 +1,173 @@
+-- How many requests a log has, and how many operations are left to undo.
+use Rattle.std.proofs.Common.{◌≡◌, ◌≢◌, ℕ, ◌+◌, ◌<◌, ◌≤◌, Bool, true, false, List, [], ◌∷◌, length, Option, Some, None, refl, sym, ap, ◌∙◌, subst, arith, inl, inr, true≢false, eq-eqb, ne_eqb}
+use Rattle.std.specs.Prelude.{◌==◌, ◌&&◌, ◌||◌, not, nat_le, nat_lt, if◌then◌else◌}
+use Rattle.std.proofs.lemmas.Bool.{cases_eq}
+use Rattle.std.proofs.lemmas.Bool.Decides.{nat_tests}
+use Rattle.record_key.specs.declared.op.Op.{Op}
+use Rattle.history.specs.declared.record.Record.{Record}
+use Rattle.history.specs.declared.record.Record.TheVariants as is
+use Rattle.history.specs.Log.{is_crossed, request_of, op_of, Requests, IsOpBy}
+use Rattle.log_laws.proofs.Records.{ARequest, AnOp, newest_at, older_at, no_request}
+use Rattle.world.specs.Bound.{asked, requests_in, left_in, steps_in}
+
+-- requests: fewer from a later number on
+flag_le : (a b m : ℕ) (c : Bool) (n : ℕ) → a ≤ b → (if nat_le b m && c then n else 0) ≤ (if nat_le a m && c then n else 0)
+flag_le a b m c n le = pick (nat_le b m) (nat_le a m) refl refl c
+  where
+    pick : (x y : Bool) → nat_le b m ≡ x → nat_le a m ≡ y → (c : Bool) → (if x && c then n else 0) ≤ (if y && c then n else 0)
+    pick false y ex ey c = omega arith
+    pick true true ex ey c = omega arith
+    pick true false ex ey c = absurd (true≢false (sym (grind (arith, nat_tests, ex, le)) ∙ ey))
+
+pub fewer_later : (a b below : ℕ) (log : List Record) → a ≤ b → requests_in b below log ≤ requests_in a below log
+fewer_later a b below [] le = omega arith
+fewer_later a b below (r ∷ log) le =
+    let rest = fewer_later a b below log le in
+    let here = flag_le a b (length log + 1) (nat_lt (length log + 1) below) (asked (request_of r)) le in omega (arith, rest, here)
+
+-- the request itself counts
+pub one_fewer : (from n below : ℕ) (o : Op) (log : List Record) → from ≤ n → n < below → Requests log n o → requests_in (n + 1) below log + 1 ≤ requests_in from below log
+one_fewer from n below o [] le lt asks = absurd (no_request o asks)
+one_fewer from n below o (r ∷ log) le lt asks =
+    elim (cases_eq n (length log + 1)) [
+      | inl e ↦
+          let here : request_of r ≡ Some o = newest_at (ARequest o) r log n e asks in
+          let a : nat_le from (length log + 1) ≡ true = grind (arith, nat_tests, e, le) in
+          let b : nat_lt (length log + 1) below ≡ true = grind (arith, nat_tests, e, lt) in
+          let c : nat_le (n + 1) (length log + 1) ≡ false = grind (arith, nat_tests, e) in
+          let rest = fewer_later from (n + 1) below log (omega (arith, le)) in
+          rw (a, b, c, here) (omega (arith, rest))
+      | inr apart ↦
+          let rest = one_fewer from n below o log le lt (older_at (ARequest o) r log n apart asks) in
+          let here = flag_le from (n + 1) (length log + 1) (nat_lt (length log + 1) below) (asked (request_of r)) (omega (arith, le)) in omega (arith, rest, here)
+    ]
+
+-- a record at or above the bound doesn't count, nor one that asks for nothing
+pub none_above : (from below : ℕ) (r : Record) (log : List Record) → below ≤ length log + 1 → requests_in from below (r ∷ log) ≡ requests_in from below log
+none_above from below r log le =
+    let lt : nat_lt (length log + 1) below ≡ false = grind (arith, nat_tests, le) in
+    pick (nat_le from (length log + 1)) (nat_lt (length log + 1) below) lt
+  where
+    pick : (a b : Bool) → b ≡ false → (if a && b then asked (request_of r) else 0) + requests_in from below log ≡ requests_in from below log
+    pick true true e = absurd (true≢false e)
+    pick true false e = omega arith
+    pick false b e = omega arith
+
+-- operations that are left: only who is crossed counts
+pub same_left : (a b : List Record) (t : ℕ) (log : List Record) → ((n : ℕ) → is_crossed a n ≡ is_crossed b n) → left_in a t log ≡ left_in b t log
+same_left a b t [] same = refl
+same_left a b t (is.Op u p o ∷ log) same =
+    ap (λ (c : Bool). (if u == t && not c then 1 else 0) + left_in a t log) (same (length log + 1))
+    ∙ ap (λ (n : ℕ). (if u == t && not (is_crossed b (length log + 1)) then 1 else 0) + n) (same_left a b t log same)
+same_left a b t (is.Session ∷ log) same = same_left a b t log same
+same_left a b t (is.Begin ∷ log) same = same_left a b t log same
+same_left a b t (is.Answer n x ∷ log) same = same_left a b t log same
+same_left a b t (is.Comp u m n i ∷ log) same = same_left a b t log same
+same_left a b t (is.Commit u ∷ log) same = same_left a b t log same
+same_left a b t (is.End u ∷ log) same = same_left a b t log same
+same_left a b t (is.Checkpoint l ∷ log) same = same_left a b t log same
+
+-- a compensation crosses one: those above it and below it stay
+module _ (whole : List Record) (t v u x : ℕ) (i : Option Op) where
+  abbrev crossed : List Record
+  crossed = is.Comp v u x i ∷ whole
+
+  op_apart : (w p : ℕ) (o : Op) (log : List Record) (n : ℕ) → u ≢ length log + 1
+      → (if w == t && not (is_crossed crossed (length log + 1)) then 1 else 0) + n ≡ (if w == t && not (is_crossed whole (length log + 1)) then 1 else 0) + n
+  op_apart w p o log n apart =
+      ap (λ (b : Bool). (if w == t && not (b || is_crossed whole (length log + 1)) then 1 else 0) + n) (ne_eqb (length log + 1) u (λ e. apart (sym e)))
+
+  below_left : (log : List Record) → length log < u → left_in crossed t log ≡ left_in whole t log
+  below_left [] lt = refl
+  below_left (is.Op w p o ∷ log) lt =
+      op_apart w p o log (left_in crossed t log) (λ e. omega (arith, e, lt))
+      ∙ ap (λ (n : ℕ). (if w == t && not (is_crossed whole (length log + 1)) then 1 else 0) + n) (below_left log (omega arith))
+  below_left (is.Session ∷ log) lt = below_left log (omega arith)
+  below_left (is.Begin ∷ log) lt = below_left log (omega arith)
+  below_left (is.Answer n a ∷ log) lt = below_left log (omega arith)
+  below_left (is.Comp w m n j ∷ log) lt = below_left log (omega arith)
+  below_left (is.Commit w ∷ log) lt = below_left log (omega arith)
+  below_left (is.End w ∷ log) lt = below_left log (omega arith)
+  below_left (is.Checkpoint l ∷ log) lt = below_left log (omega arith)
+
+  -- the crossed one was left
+  newest_left : (r : Record) (o : Op) (log : List Record) → op_of r ≡ Some (t, o) → u ≡ length log + 1 → is_crossed whole u ≡ false
+      → left_in crossed t (r ∷ log) + 1 ≡ left_in whole t (r ∷ log)
+  newest_left (is.Op w p q) o log by e stands =
+      let both : (w, q) ≡ (t, o) = cc in
+      let same : w ≡ t = ap (λ (z : ℕ × Op). z.0) both in
+      let here : (w == t) ≡ true = eq-eqb w t same in
+      let is_it : (length log + 1 == u) ≡ true = eq-eqb (length log + 1) u (sym e) in
+      let was : is_crossed whole (length log + 1) ≡ false = subst (λ (n : ℕ). is_crossed whole n ≡ false) e stands in
+      let rest = below_left log (omega (arith, e)) in
+      rw (here, is_it, was) (omega (arith, rest))
+  newest_left is.Session o log by e stands = absurd (cc)
+  newest_left is.Begin o log by e stands = absurd (cc)
+  newest_left (is.Answer n a) o log by e stands = absurd (cc)
+  newest_left (is.Comp w m n j) o log by e stands = absurd (cc)
+  newest_left (is.Commit w) o log by e stands = absurd (cc)
+  newest_left (is.End w) o log by e stands = absurd (cc)
+  newest_left (is.Checkpoint l) o log by e stands = absurd (cc)
+
+  above_left : (r : Record) (log : List Record) → u ≢ length log + 1 → left_in crossed t log + 1 ≡ left_in whole t log → left_in crossed t (r ∷ log) + 1 ≡ left_in whole t (r ∷ log)
+  above_left (is.Op w p q) log apart rest =
+      let here = op_apart w p q log (left_in crossed t log) apart in omega (arith, here, rest)
+  above_left is.Session log apart rest = rest
+  above_left is.Begin log apart rest = rest
+  above_left (is.Answer n a) log apart rest = rest
+  above_left (is.Comp w m n j) log apart rest = rest
+  above_left (is.Commit w) log apart rest = rest
+  above_left (is.End w) log apart rest = rest
+  above_left (is.Checkpoint l) log apart rest = rest
+
+  one_crossed : (o : Op) (log : List Record) → IsOpBy log u t o → is_crossed whole u ≡ false → left_in crossed t log + 1 ≡ left_in whole t log
+  one_crossed o [] by stands = absurd (cc)
+  one_crossed o (r ∷ log) by stands =
+      elim (cases_eq u (length log + 1)) [
+        | inl e ↦ newest_left r o log (newest_at (AnOp t o) r log u e by) e stands
+        | inr apart ↦ above_left r log apart (one_crossed o log (older_at (AnOp t o) r log u apart by) stands)
+      ]
+
+pub one_less_left : (log : List Record) (t u x : ℕ) (i : Option Op) (o : Op) → IsOpBy log u t o → is_crossed log u ≡ false
+    → left_in (is.Comp t u x i ∷ log) t (is.Comp t u x i ∷ log) + 1 ≡ left_in log t log
+one_less_left log t u x i o by stands = one_crossed log t t u x i o log by stands
+
+-- each request, and each operation that is left, is a step
+pub requests_are_steps : (from below : ℕ) (log : List Record) → requests_in from below log ≤ steps_in log
+requests_are_steps from below [] = omega arith
+requests_are_steps from below (r ∷ log) = by r (nat_le from (length log + 1) && nat_lt (length log + 1) below) (requests_are_steps from below log)
+  where
+    one : (q : Option Op) (b : Bool) → (if b then asked q else 0) ≤ 1
+    one None true = omega arith
+    one (Some o) true = omega arith
+    one q false = omega arith
+
+    none : (b : Bool) → (if b then asked None else 0) ≤ 0
+    none true = omega arith
+    none false = omega arith
+
+    by : (r : Record) (b : Bool) → requests_in from below log ≤ steps_in log → (if b then asked (request_of r) else 0) + requests_in from below log ≤ steps_in (r ∷ log)
+    by (is.Op t p o) b rest = omega (arith, rest, one (Some o) b)
+    by (is.Comp t u x i) b rest = omega (arith, rest, one i b)
+    by is.Session b rest = omega (arith, rest, none b)
+    by is.Begin b rest = omega (arith, rest, none b)
+    by (is.Answer n a) b rest = omega (arith, rest, none b)
+    by (is.Commit t) b rest = omega (arith, rest, none b)
+    by (is.End t) b rest = omega (arith, rest, none b)
+    by (is.Checkpoint l) b rest = omega (arith, rest, none b)
+
+pub left_are_steps : (whole : List Record) (t : ℕ) (log : List Record) → left_in whole t log ≤ steps_in log
+left_are_steps whole t [] = omega arith
+left_are_steps whole t (is.Op u p o ∷ log) =
+    let rest = left_are_steps whole t log in let here = one (u == t && not (is_crossed whole (length log + 1))) in omega (arith, rest, here)
+  where
+    one : (b : Bool) → (if b then 1 else 0) ≤ 1
+    one true = omega arith
+    one false = omega arith
+left_are_steps whole t (is.Comp u m n i ∷ log) = let rest = left_are_steps whole t log in omega (arith, rest)
+left_are_steps whole t (is.Session ∷ log) = left_are_steps whole t log
+left_are_steps whole t (is.Begin ∷ log) = left_are_steps whole t log
+left_are_steps whole t (is.Answer n x ∷ log) = left_are_steps whole t log
+left_are_steps whole t (is.Commit u ∷ log) = left_are_steps whole t log
+left_are_steps whole t (is.End u ∷ log) = left_are_steps whole t log
+left_are_steps whole t (is.Checkpoint l ∷ log) = left_are_steps whole t log

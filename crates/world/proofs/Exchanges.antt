@@ -1,0 +1,148 @@
+-- An exchange: a request is sent, served and answered, with no other message between.
+use Rattle.std.proofs.Common.{◌≡◌, ◌⊎◌, ℕ, ◌+◌, List, [], ◌∷◌, ◌++◌, length, Option, Some, None, sym, ap, ◌∙◌, subst, inl, inr}
+use Rattle.record_key.specs.declared.refusal.Refusal.{Refusal}
+use Rattle.record_key.specs.declared.refusal.Refusal.TheVariants.{NoMemory}
+use Rattle.record_key.specs.FirstCause.{RefusesAs}
+use Rattle.codec.specs.declared.request.Request.{Request}
+use Rattle.codec.specs.declared.reply.Reply.{Reply}
+use Rattle.dc_core.specs.DcView.{DcView}
+use Rattle.dc_core.specs.Serves.{Serves, serve_refusal}
+use Rattle.tc_core.specs.TcView.{TcView}
+use Rattle.tc_core.specs.Replies.{on_reply, reply_refusal}
+use Rattle.world.specs.declared.event.Event.TheVariants as event
+use Rattle.world.specs.declared.event.Out.{Out}
+use Rattle.world.specs.declared.event.Out.TheVariants as out
+use Rattle.world.specs.Messages.{message_at}
+use Rattle.world.specs.Node.{NodeView, Sends, Served, ServesTo, Taken, TakesTo}
+use Rattle.world.specs.Rounds.{IsDone, Steps, StopsAt}
+use Rattle.world.proofs.ByNumber.{last_at}
+
+some_one : {A : Type 0} (x : Option A) (a b : A) → x ≡ Some a → x ≡ Some b → a ≡ b
+some_one x a b h k = let e : Some a ≡ Some b = sym h ∙ k in cc
+
+no_message : {A : Type 0} (xs : List A) (x : A) → message_at (xs ++ x ∷ []) (length xs + 1) ≡ None → ⊥
+no_message xs x none = let e : None ≡ Some x = sym none ∙ last_at xs x in cc
+
+-- the node just after the request was sent
+abbrev pub asked : NodeView → TcView → Request → NodeView
+asked w tc q = record w { tc = tc; requests = w.requests ++ q ∷ [] }
+
+-- and just after it was served
+abbrev pub told : NodeView → TcView → Request → DcView → Reply → NodeView
+told w tc q dc reply = record w { tc = tc; dc = dc; requests = w.requests ++ q ∷ []; replies = w.replies ++ reply ∷ [] }
+
+-- the request was served, and its reply taken
+pub record Exchanged (w : NodeView) (tc : TcView) (q : Request) (new : NodeView) : Type 0 where
+  pub dc : DcView
+  pub reply : Reply
+  pub allowed : serve_refusal w.dc q ≡ None
+  pub served : Serves w.dc q (Some reply) dc
+  pub left : new.tc ≡ (on_reply tc reply).1
+
+-- what is served when the last request arrives
+pub served_last : (w : NodeView) (tc : TcView) (q : Request) (reply : Option Reply) (dc : DcView) → Served (asked w tc q) (length w.requests + 1) reply dc
+    → (serve_refusal w.dc q ≡ None) × Serves w.dc q reply dc
+served_last w tc q reply dc h =
+    let same : h.request ≡ q = some_one (message_at (w.requests ++ q ∷ []) (length w.requests + 1)) h.request q h.found (last_at w.requests q) in
+    let P : Request → Type 0 = λ x. (serve_refusal w.dc x ≡ None) × Serves w.dc x reply dc in
+    subst P same (h.allowed, h.served)
+
+taken_last : (w : NodeView) (tc : TcView) (q : Request) (dc : DcView) (reply : Reply) (output : Out) (new : NodeView)
+    → Taken (told w tc q dc reply) (length w.replies + 1) output new → new.tc ≡ (on_reply tc reply).1
+taken_last w tc q dc reply output new h =
+    let same : h.reply ≡ reply = some_one (message_at (w.replies ++ reply ∷ []) (length w.replies + 1)) h.reply reply h.found (last_at w.replies reply) in
+    h.taken.left ∙ ap (λ x. (on_reply tc x).1) same
+
+-- the last reply arrives
+took : (w : NodeView) (tc : TcView) (q : Request) (dc : DcView) (reply : Reply) (output : Out) (new : NodeView)
+    → TakesTo (told w tc q dc reply) (length w.replies + 1) output new → IsDone output → new.tc ≡ (on_reply tc reply).1
+took w tc q dc reply (out.Refused r) new h d = absurd d
+took w tc q dc reply (out.Begun t) new h d = taken_last w tc q dc reply (out.Begun t) new h
+took w tc q dc reply (out.Logged n) new h d = taken_last w tc q dc reply (out.Logged n) new h
+took w tc q dc reply out.RollingBack new h d = taken_last w tc q dc reply out.RollingBack new h
+took w tc q dc reply out.Nothing new h d = taken_last w tc q dc reply out.Nothing new h
+took w tc q dc reply (out.Compensated n) new h d = taken_last w tc q dc reply (out.Compensated n) new h
+took w tc q dc reply (out.RolledBack t) new h d = taken_last w tc q dc reply (out.RolledBack t) new h
+took w tc q dc reply (out.Stable n) new h d = taken_last w tc q dc reply (out.Stable n) new h
+took w tc q dc reply (out.Sent j) new h d = taken_last w tc q dc reply (out.Sent j) new h
+took w tc q dc reply (out.Replied j) new h d = taken_last w tc q dc reply (out.Replied j) new h
+took w tc q dc reply out.Noted new h d = taken_last w tc q dc reply out.Noted new h
+took w tc q dc reply (out.Connected s) new h d = taken_last w tc q dc reply (out.Connected s) new h
+took w tc q dc reply (out.RedoEnded s) new h d = taken_last w tc q dc reply (out.RedoEnded s) new h
+took w tc q dc reply (out.Answered t a) new h d = taken_last w tc q dc reply (out.Answered t a) new h
+took w tc q dc reply (out.Undone n) new h d = taken_last w tc q dc reply (out.Undone n) new h
+
+-- these requests have replies
+abbrev pub HasReply : Request → Type 0
+HasReply q = (old new : DcView) → Serves old q None new → ⊥
+
+rest_of : (w : NodeView) (tc : TcView) (q : Request) (os : List Out) (new : NodeView) → HasReply q
+    → Steps (asked w tc q) (event.Request (length w.requests + 1) ∷ event.Reply (length w.replies + 1) ∷ []) os new → Exchanged w tc q new
+rest_of w tc q [] new has h = absurd h
+rest_of w tc q (o ∷ []) new has h = absurd h.3
+rest_of w tc q (o ∷ p ∷ r ∷ os) new has h = absurd h.3.3
+rest_of w tc q (o ∷ p ∷ []) new has h = by o h.1 h.2
+  where
+    rest : (mid : NodeView) → Type 0
+    rest mid = (last : NodeView) × TakesTo mid (length w.replies + 1) p last × IsDone p × (new ≡ last)
+
+    by : (o : Out) → ServesTo (asked w tc q) (length w.requests + 1) o h.0 → IsDone o → Exchanged w tc q new
+    by (out.Replied j) s d =
+        let served = served_last w tc q (Some s.0) h.0.dc s.1 in
+        let last = subst rest s.3 h.3 in
+        record { dc = h.0.dc; reply = s.0; allowed = served.0; served = served.1; left = ap (λ (x : NodeView). x.tc) last.3 ∙ took w tc q h.0.dc s.0 p last.0 last.1 last.2 }
+    by out.Noted s d = absurd (has w.dc h.0.dc (served_last w tc q None h.0.dc s.0).1)
+    by (out.Refused r) s d = absurd d
+    by _ s d = absurd s
+
+-- the whole exchange, from a step that sends
+pub exchanged : (w mid : NodeView) (tc : TcView) (q : Request) (i : ℕ) (os : List Out) (new : NodeView) → HasReply q → Sends w tc q i mid
+    → Steps mid (event.Request (length w.requests + 1) ∷ event.Reply (length w.replies + 1) ∷ []) os new → Exchanged w tc q new
+exchanged w mid tc q i os new has sends h =
+    let P : NodeView → Type 0 = λ m. Steps m (event.Request (length w.requests + 1) ∷ event.Reply (length w.replies + 1) ∷ []) os new in
+    rest_of w tc q os new has (subst P sends.left h)
+
+-- why an exchange stops after its request was sent: as the data component refuses it, or the reply is refused
+abbrev pub Stops : NodeView → TcView → Request → Refusal → Type 0
+Stops w tc q r =
+    (r ≡ NoMemory) ⊎ RefusesAs (serve_refusal w.dc q) r
+    ⊎ ((dc : DcView) × (reply : Reply) × Serves w.dc q (Some reply) dc × RefusesAs (reply_refusal tc reply) r)
+
+stops_of : (w : NodeView) (tc : TcView) (q : Request) (os : List Out) (r : Refusal) (new : NodeView) → HasReply q
+    → StopsAt (asked w tc q) (event.Request (length w.requests + 1) ∷ event.Reply (length w.replies + 1) ∷ []) os r new → Stops w tc q r
+stops_of w tc q [] r new has (inl h) = inl h.0
+stops_of w tc q [] r new has (inr h) = elim h.0 [
+  | inl none ↦ absurd (no_message w.requests q none.1)
+  | inr refused ↦
+      let same : refused.0 ≡ q = some_one (message_at (w.requests ++ q ∷ []) (length w.requests + 1)) refused.0 q refused.1 (last_at w.requests q) in
+      let P : Request → Type 0 = λ x. RefusesAs (serve_refusal w.dc x) r in
+      inr (inl (subst P same refused.2))
+]
+stops_of w tc q (o ∷ p ∷ os) r new has h = absurd h.3.3
+stops_of w tc q (o ∷ []) r new has h = by o h.1 h.2
+  where
+    rest : (mid : NodeView) → Type 0
+    rest mid = ((r ≡ NoMemory) × (new ≡ mid)) ⊎ TakesTo mid (length w.replies + 1) (out.Refused r) new
+
+    by : (o : Out) → ServesTo (asked w tc q) (length w.requests + 1) o h.0 → IsDone o → Stops w tc q r
+    by (out.Replied j) s d =
+        let served = served_last w tc q (Some s.0) h.0.dc s.1 in
+        elim (subst rest s.3 h.3) [
+          | inl memory ↦ inl memory.0
+          | inr refused ↦ elim refused.0 [
+            | inl none ↦ absurd (no_message w.replies s.0 none.1)
+            | inr found ↦
+                let same : found.0 ≡ s.0 = some_one (message_at (w.replies ++ s.0 ∷ []) (length w.replies + 1)) found.0 s.0 found.1 (last_at w.replies s.0) in
+                let P : Reply → Type 0 = λ x. RefusesAs (reply_refusal tc x) r in
+                inr (inr (h.0.dc, s.0, served.1, subst P same found.2))
+          ]
+        ]
+    by out.Noted s d = absurd (has w.dc h.0.dc (served_last w tc q None h.0.dc s.0).1)
+    by (out.Refused r) s d = absurd d
+    by _ s d = absurd s
+
+pub stops : (w mid : NodeView) (tc : TcView) (q : Request) (i : ℕ) (os : List Out) (r : Refusal) (new : NodeView) → HasReply q → Sends w tc q i mid
+    → StopsAt mid (event.Request (length w.requests + 1) ∷ event.Reply (length w.replies + 1) ∷ []) os r new → Stops w tc q r
+stops w mid tc q i os r new has sends h =
+    let P : NodeView → Type 0 = λ m. StopsAt m (event.Request (length w.requests + 1) ∷ event.Reply (length w.replies + 1) ∷ []) os r new in
+    stops_of w tc q os r new has (subst P sends.left h)

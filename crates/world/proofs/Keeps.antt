@@ -1,0 +1,107 @@
+-- What the transaction component does by itself keeps what holds of a node.
+use Rattle.std.proofs.Common.{◌≡◌, ℕ, ◌+◌, ◌≤◌, Bool, true, cond, List, [], ◌∷◌, ◌++◌, length, Some, None, IsSome, is_some, sym, ap, ◌∙◌, subst, inl, inr, true≢false, ne_eqb}
+use Rattle.std.specs.List.{AllByRecursion}
+use Rattle.std.proofs.lemmas.Bool.{cases_eq}
+use Rattle.record_key.specs.declared.op.Op.{Op}
+use Rattle.record_key.specs.declared.op.Answer.{Answer}
+use Rattle.history.specs.declared.record.Record.{Record}
+use Rattle.history.specs.declared.record.Record.TheVariants as is
+use Rattle.history.specs.Log.{answer_of, Requests}
+use Rattle.history.specs.Values.{HasRightAnswers}
+use Rattle.log_laws.proofs.Records.{ARequest, newest_at, older_at, IsNumber}
+use Rattle.log_laws.proofs.LegalLogs.{step_number}
+use Rattle.codec.specs.declared.request.Request.{Request}
+use Rattle.codec.specs.declared.reply.Reply.{Reply}
+use Rattle.ab_lsn.specs.AbLsn.{captures}
+use Rattle.tc_core.specs.declared.open_txn.OpenTxn.{OpenTxn}
+use Rattle.tc_core.specs.TcView.{TcView}
+use Rattle.tc_core.specs.Kept.{IsTc}
+use Rattle.tc_core.proofs.KeepsTc.{alone_at, waits_at, none_next}
+use Rattle.tc_core.proofs.KeepsIdle.{own_request}
+use Rattle.world.specs.Node.{NodeView, with_tc}
+use Rattle.world.specs.Kept.{IsKept, IsSent, IsGiven, AreSessions}
+use Rattle.world.proofs.ByNumber.{all_push}
+use Rattle.world.proofs.Grows.{keeps_on}
+
+-- what is answered in this log is captured
+abbrev pub AnsweredCaptured : NodeView → List Record → Type 0
+AnsweredCaptured w log = (m : ℕ) (o : Op) → Requests log m o → IsSome (answer_of log m) → captures w.dc.leaf.ab m ≡ true
+
+-- a record that neither asks nor answers leaves what is answered captured
+pub still_captured : (w : NodeView) (r : Record) → IsKept w → ((o : Op) → ARequest o (Some r) → ⊥) → ((m : ℕ) → answer_of (r ∷ w.tc.log) m ≡ answer_of w.tc.log m) → AnsweredCaptured w (r ∷ w.tc.log)
+still_captured w r k none same m o asks some =
+    elim (cases_eq m (length w.tc.log + 1)) [
+      | inl e ↦ absurd (none o (newest_at (ARequest o) r w.tc.log m e asks))
+      | inr e ↦ k.answered m o (older_at (ARequest o) r w.tc.log m e asks) (subst IsSome (same m) some)
+    ]
+
+-- one that asks isn't answered yet
+pub asked_captured : (w : NodeView) (r : Record) → IsKept w → ((m : ℕ) → answer_of (r ∷ w.tc.log) m ≡ answer_of w.tc.log m) → AnsweredCaptured w (r ∷ w.tc.log)
+asked_captured w r k same m o asks some =
+    elim (cases_eq m (length w.tc.log + 1)) [
+      | inl e ↦
+          let none : answer_of (r ∷ w.tc.log) m ≡ None = same m ∙ ap (answer_of w.tc.log) e ∙ none_next w.tc.log k.tc.legal in
+          absurd (true≢false (sym some ∙ ap is_some none))
+      | inr e ↦ k.answered m o (older_at (ARequest o) r w.tc.log m e asks) (subst IsSome (same m) some)
+    ]
+
+-- an answer is of a captured number
+pub answer_captured : (w : NodeView) (n : ℕ) (a : Answer) → IsKept w → captures w.dc.leaf.ab n ≡ true → AnsweredCaptured w (is.Answer n a ∷ w.tc.log)
+answer_captured w n a k captured m o asks some =
+    let r : Record = is.Answer n a in
+    elim (cases_eq m (length w.tc.log + 1)) [
+      | inl e ↦ let none : ARequest o (Some r) = newest_at (ARequest o) r w.tc.log m e asks in absurd (cc)
+      | inr e ↦ elim (cases_eq m n) [
+        | inl same ↦ subst (λ (z : ℕ). captures w.dc.leaf.ab z ≡ true) (sym same) captured
+        | inr apart ↦ k.answered m o (older_at (ARequest o) r w.tc.log m e asks) (subst (λ (b : Bool). IsSome (cond b (Some a) (answer_of w.tc.log m))) (ne_eqb m n apart) some)
+      ]
+    ]
+
+-- whatever is waited for is a number of the log
+pub awaited_number : (w : TcView) → IsTc w → (o : OpenTxn) (n : ℕ) → w.open_txn ≡ Some o → o.waiting ≡ Some n → IsNumber w.log n
+awaited_number w k o n at some =
+    let own = own_request w.log o n (waits_at w.log o n (alone_at w o k at) some).request in step_number w.log n o.txn own.step
+
+-- one record more
+pub keeps_appended : (w : NodeView) (tc : TcView) (r : Record) → IsKept w → IsTc tc → tc.log ≡ r ∷ w.tc.log → w.tc.stable ≤ tc.stable → w.tc.session ≤ tc.session
+    → AreSessions tc.session tc.phase w.dc → HasRightAnswers (r ∷ w.tc.log) → AnsweredCaptured w (r ∷ w.tc.log) → IsKept (with_tc w tc)
+keeps_appended w tc r k is log stable session sessions right answered =
+    keeps_on w tc k is (record { within = k.tc.within; log = inr (r, log); stable = stable; session = session }) sessions (subst HasRightAnswers (sym log) right)
+    (subst (AnsweredCaptured w) (sym log) answered)
+
+-- the same log
+pub keeps_same_log : (w : NodeView) (tc : TcView) → IsKept w → IsTc tc → tc.log ≡ w.tc.log → w.tc.stable ≤ tc.stable → w.tc.session ≤ tc.session
+    → AreSessions tc.session tc.phase w.dc → IsKept (with_tc w tc)
+keeps_same_log w tc k is log stable session sessions =
+    keeps_on w tc k is (record { within = k.tc.within; log = inl log; stable = stable; session = session }) sessions (subst HasRightAnswers (sym log) k.right)
+    (subst (AnsweredCaptured w) (sym log) k.answered)
+
+-- messages that were sent and given stand beside it
+keeps_messages : (w : NodeView) (requests : List Request) (replies : List Reply) → IsKept w → AllByRecursion (IsSent w.tc) requests → AllByRecursion (IsGiven w.tc.log w.dc) replies
+    → IsKept (record w { requests = requests; replies = replies })
+keeps_messages w requests replies k sent given = record {
+  tc = k.tc;
+  right = k.right;
+  whole = k.whole;
+  honest = k.honest;
+  stable = k.stable;
+  low = k.low;
+  answered = k.answered;
+  sent = sent;
+  given = given;
+  sessions = k.sessions;
+}
+
+-- one request more
+abbrev pub with_request : NodeView → Request → NodeView
+with_request w q = record w { requests = w.requests ++ q ∷ [] }
+
+pub keeps_sent : (w : NodeView) (q : Request) → IsKept w → IsSent w.tc q → IsKept (with_request w q)
+keeps_sent w q k sent = keeps_messages w (w.requests ++ q ∷ []) w.replies k (all_push (IsSent w.tc) w.requests q k.sent sent) k.given
+
+-- one reply more
+abbrev pub with_reply : NodeView → Reply → NodeView
+with_reply w reply = record w { replies = w.replies ++ reply ∷ [] }
+
+pub keeps_given : (w : NodeView) (reply : Reply) → IsKept w → IsGiven w.tc.log w.dc reply → IsKept (with_reply w reply)
+keeps_given w reply k given = keeps_messages w w.requests (w.replies ++ reply ∷ []) k k.sent (all_push (IsGiven w.tc.log w.dc) w.replies reply k.given given)

@@ -1,0 +1,171 @@
+-- A round stops only for want of memory or of numbers.
+use Rattle.std.proofs.Common.{◌≡◌, ℕ, ◌+◌, ◌<◌, ◌≤◌, Bool, true, false, List, [], ◌∷◌, length, Option, Some, None, refl, sym, ap, ◌∙◌, subst, arith, inl, inr, true≢false, eq-eqb, ne_eqb}
+use Rattle.std.specs.Prelude.{◌==◌, ◌&&◌, ◌||◌, not, nat_lt}
+use Rattle.std.proofs.lemmas.Bool.Decides.{nat_tests}
+use Rattle.record_key.specs.declared.op.Op.{Op}
+use Rattle.record_key.specs.declared.refusal.Refusal.{Refusal}
+use Rattle.record_key.specs.declared.refusal.Refusal.TheVariants.{Stale, NumbersSpent}
+use Rattle.record_key.specs.FirstCause.{first_of, RefusesAs}
+use Rattle.codec.specs.declared.request.Request.{Request}
+use Rattle.codec.specs.declared.request.Request.TheVariants as asks
+use Rattle.codec.specs.declared.reply.Reply.{Reply}
+use Rattle.codec.specs.declared.reply.Reply.TheVariants as says
+use Rattle.dc_core.specs.DcView.{DcView}
+use Rattle.dc_core.specs.Serves.{session_refusal, connect_refusal, runs}
+use Rattle.tc_core.specs.declared.open_txn.OpenTxn.{OpenTxn}
+use Rattle.tc_core.specs.declared.phase.Phase.{Phase}
+use Rattle.tc_core.specs.declared.phase.Phase.TheVariants as phase
+use Rattle.tc_core.specs.LogView.{is_spent}
+use Rattle.tc_core.specs.TcView.{TcView}
+use Rattle.tc_core.specs.Calls.{resend_refusal, undo_refusal, reconnected}
+use Rattle.tc_core.specs.Recovery.{SendsAt, recover_refusal, redo_request, redo_place, redoing}
+use Rattle.tc_core.specs.Replies.{session_of, logs, reply_refusal}
+use Rattle.tc_core.specs.Kept.{IsPhase}
+use Rattle.tc_core.specs.Undo.{FindsRequest}
+use Rattle.history.specs.Log.{Requests}
+use Rattle.world.specs.declared.event.Event.TheVariants as event
+use Rattle.world.specs.declared.event.Out.{Out}
+use Rattle.world.specs.declared.event.Out.TheVariants as out
+use Rattle.world.specs.declared.round.Round.{Round}
+use Rattle.world.specs.declared.round.Round.TheVariants as round
+use Rattle.world.specs.Node.{NodeView, ReconnectsTo, RecoversTo, SendsTo}
+use Rattle.world.specs.Kept.{IsKept}
+use Rattle.world.specs.Rounds.{IsDone, IsServing, IsDue, IsRolling, IsNext, IsWant, StopsAt, events_of}
+use Rattle.world.proofs.Sends.{redoing_phase}
+use Rattle.world.proofs.Exchanges.{HasReply, Stops, stops}
+use Rattle.world.proofs.Falls.{some_reply, sound_reply, perform_replied, connect_replied, redo_replied, redoing_at}
+
+no_cause : (x : Option Refusal) (r : Refusal) → x ≡ None → RefusesAs x r → IsWant r
+no_cause None r e h = inl h
+no_cause (Some c) r e h = absurd (cc)
+
+spent_want : (b : Bool) (r : Refusal) → RefusesAs (first_of ((b, NumbersSpent) ∷ [])) r → IsWant r
+spent_want true r h = inr h
+spent_want false r h = inl h
+
+-- a reply of the session that runs
+reply_want : (w : TcView) (reply : Reply) (r : Refusal) → session_of reply ≡ w.session → 0 < w.session → RefusesAs (reply_refusal w reply) r → IsWant r
+reply_want w reply r same some h =
+    let a : (w.session == 0) ≡ false = ne_eqb w.session 0 (λ e. omega (arith, e, some)) in
+    let b : (session_of reply == w.session) ≡ true = eq-eqb (session_of reply) w.session same in
+    fresh (w.session == 0) (session_of reply == w.session) (logs w reply && is_spent w.log) a b h
+  where
+    fresh : (a b c : Bool) → a ≡ false → b ≡ true → RefusesAs (first_of ((a || not b, Stale) ∷ (c, NumbersSpent) ∷ [])) r → IsWant r
+    fresh true b c e f h = absurd (true≢false e)
+    fresh false false c e f h = absurd (true≢false (sym f))
+    fresh false true true e f h = inr h
+    fresh false true false e f h = inl h
+
+-- a request of the session that runs
+serves_session : (dc : DcView) (s : ℕ) → dc.session ≡ s → 0 < s → session_refusal dc s ≡ None
+serves_session dc s same some =
+    let a : (dc.session == 0) ≡ false = ne_eqb dc.session 0 (λ e. omega (arith, e, some, same)) in
+    let b : (dc.session == s) ≡ true = eq-eqb dc.session s same in rw (a, b) refl
+
+connects : (dc : DcView) (s : ℕ) → dc.stored < s → connect_refusal dc s ≡ None
+connects dc s less =
+    let greater : nat_lt dc.stored s ≡ true = grind (arith, nat_tests, less) in either (runs dc s) (nat_lt dc.stored s) greater
+  where
+    either : (a b : Bool) → b ≡ true → first_of ((not a && not b, Stale) ∷ []) ≡ None
+    either true b e = refl
+    either false true e = refl
+    either false false e = absurd (true≢false (sym e))
+
+-- after a request was sent
+stops_connect : (w : NodeView) (r : Refusal) → IsKept w → Stops w (reconnected w.tc) (asks.Connect (length w.tc.log + 1)) r → IsWant r
+stops_connect w r k (inl h) = inl h
+stops_connect w r k (inr (inl h)) =
+    no_cause (connect_refusal w.dc (length w.tc.log + 1)) r (connects w.dc (length w.tc.log + 1) (omega (arith, k.sessions.begun, k.tc.session, k.tc.within))) h
+stops_connect w r k (inr (inr h)) =
+    let reply : h.1 ≡ says.Connected (length w.tc.log + 1) = some_reply h.1 (says.Connected (length w.tc.log + 1)) h.2.0 in
+    reply_want (reconnected w.tc) h.1 r (ap session_of reply) (omega arith) h.3
+
+stops_perform : (w : NodeView) (tc : TcView) (n : ℕ) (o : Op) (r : Refusal) → IsKept w → tc.session ≡ w.tc.session → w.dc.session ≡ w.tc.session → 0 < w.tc.session
+    → Requests w.tc.log n o → Stops w tc (asks.Perform w.tc.session n o) r → IsWant r
+stops_perform w tc n o r k session same some requests (inl h) = inl h
+stops_perform w tc n o r k session same some requests (inr (inl h)) = no_cause (session_refusal w.dc w.tc.session) r (serves_session w.dc w.tc.session same some) h
+stops_perform w tc n o r k session same some requests (inr (inr h)) =
+    let sound = sound_reply w w.tc.session n o h.1 h.0 k requests h.2 in
+    reply_want tc h.1 r (ap session_of sound.reply_is ∙ sym session) (omega (arith, some, session)) h.3
+
+stops_redo_end : (w : NodeView) (tc : TcView) (r : Refusal) → tc.session ≡ w.tc.session → w.dc.session ≡ w.tc.session → 0 < w.tc.session
+    → Stops w tc (asks.RedoEnd w.tc.session) r → IsWant r
+stops_redo_end w tc r session same some (inl h) = inl h
+stops_redo_end w tc r session same some (inr (inl h)) = no_cause (session_refusal w.dc w.tc.session) r (serves_session w.dc w.tc.session same some) h
+stops_redo_end w tc r session same some (inr (inr h)) =
+    let reply : h.1 ≡ says.RedoEnded w.tc.session = some_reply h.1 (says.RedoEnded w.tc.session) h.2.0 in
+    reply_want tc h.1 r (ap session_of reply ∙ sym session) (omega (arith, some, session)) h.3
+
+-- each round
+want_connect : (old new mid : NodeView) (o : Out) (os : List Out) (r : Refusal) → IsKept old → ReconnectsTo old o mid → IsDone o
+    → StopsAt mid (event.Request (length old.requests + 1) ∷ event.Reply (length old.replies + 1) ∷ []) os r new → IsWant r
+want_connect old new mid (out.Sent i) os r k h d rest =
+    let s : ℕ = length old.tc.log + 1 in stops_connect old r k (stops old mid (reconnected old.tc) (asks.Connect s) i os r new (connect_replied s) h.1 rest)
+want_connect old new mid (out.Refused q) os r k h d rest = absurd d
+want_connect old new mid _ os r k h d rest = absurd h
+
+stops_redo : (w : NodeView) (next : ℕ) (found : Option (ℕ × Op)) (r : Refusal) → IsKept w → w.dc.session ≡ w.tc.session → 0 < w.tc.session
+    → FindsRequest w.tc.log next w.tc.session found → Stops w (redoing w.tc (redo_place w.tc.session found)) (redo_request w.tc.session found) r → IsWant r
+stops_redo w next None r k same some finds h = stops_redo_end w (redoing w.tc w.tc.session) r refl same some h
+stops_redo w next (Some x) r k same some finds h = stops_perform w (redoing w.tc x.0) x.0 x.1 r k refl same some finds.2 h
+
+want_recover : (old new mid : NodeView) (o : Out) (os : List Out) (r : Refusal) (next : ℕ) → IsKept old → old.tc.phase ≡ phase.Redoing next → old.dc.session ≡ old.tc.session
+    → RecoversTo old o mid → IsDone o → StopsAt mid (event.Request (length old.requests + 1) ∷ event.Reply (length old.replies + 1) ∷ []) os r new → IsWant r
+want_recover old new mid (out.Sent i) os r next k at same h d rest =
+    let P : Phase → Type 0 = λ p. SendsAt old.tc p h.0 mid.tc in
+    let redo = subst P at h.1 in
+    let Q : Request → Type 0 = HasReply in
+    let bounds = redoing_phase old next k at in
+    let stop = stops old mid mid.tc h.0 i os r new (subst Q (sym redo.request_is) (redo_replied old.tc.session redo.found)) h.2 rest in
+    let S : TcView → Type 0 = λ tc. Stops old tc h.0 r in
+    let R : Request → Type 0 = λ q. Stops old (redoing old.tc (redo_place old.tc.session redo.found)) q r in
+    stops_redo old next redo.found r k same (omega (arith, bounds.0, bounds.1)) redo.finds (subst R redo.request_is (subst S redo.left stop))
+want_recover old new mid out.Nothing os r next k at same h d rest = let no : phase.Redoing next ≡ phase.Running = sym at ∙ h.0 in absurd (cc)
+want_recover old new mid (out.Refused q) os r next k at same h d rest = absurd d
+want_recover old new mid _ os r next k at same h d rest = absurd h
+
+running_some : (w : NodeView) → IsKept w → w.tc.phase ≡ phase.Running → 0 < w.tc.session
+running_some w k running = let P : Phase → Type 0 = IsPhase w.tc.session in subst P running k.tc.phase
+
+want_exchange : (old new mid : NodeView) (o : Out) (os : List Out) (r : Refusal) (t : ℕ) → IsKept old → IsServing old → SendsTo old t o mid → IsDone o
+    → StopsAt mid (event.Request (length old.requests + 1) ∷ event.Reply (length old.replies + 1) ∷ []) os r new → IsWant r
+want_exchange old new mid (out.Sent i) os r t k serving h d rest =
+    let q = h.1 in
+    let Q : Request → Type 0 = HasReply in
+    let stop = stops old mid old.tc h.0 i os r new (subst Q (sym q.is) (perform_replied old.tc.session q.number q.op)) h.2 rest in
+    let R : Request → Type 0 = λ x. Stops old old.tc x r in
+    stops_perform old old.tc q.number q.op r k refl serving.session (running_some old k serving.running) q.requests (subst R q.is stop)
+want_exchange old new mid (out.Refused q) os r t k serving h d rest = absurd d
+want_exchange old new mid _ os r t k serving h d rest = absurd h
+
+-- the first event of a round
+resends : (w : TcView) (t n : ℕ) → w.phase ≡ phase.Running → IsDue w t n → n ≤ w.stable → resend_refusal w t ≡ None
+resends w t n running due stable =
+    let o : OpenTxn = due.open_txn in
+    let here : (o.txn == t) ≡ true = eq-eqb o.txn t due.txn in
+    let within : nat_lt w.stable n ≡ false = grind (arith, nat_tests, stable) in rw (running, due.is, here, due.waiting, within) refl
+
+undo_want : (w : TcView) (t : ℕ) (r : Refusal) → w.phase ≡ phase.Running → IsRolling w t → RefusesAs (undo_refusal w t) r → IsWant r
+undo_want w t r running rolls h =
+    let o : OpenTxn = rolls.open_txn in
+    let here : (o.txn == t) ≡ true = eq-eqb o.txn t rolls.txn in
+    let same : undo_refusal w t ≡ first_of ((is_spent w.log, NumbersSpent) ∷ []) = rw (running, rolls.is, here, rolls.waiting, rolls.rolling) refl in
+    let P : Option Refusal → Type 0 = λ x. RefusesAs x r in spent_want (is_spent w.log) r (subst P same h)
+
+pub wants : (old new : NodeView) (round : Round) (outs : List Out) (r : Refusal) → IsKept old → IsNext old round → StopsAt old (events_of old round) outs r new → IsWant r
+wants old new round.Connect [] r k next (inl h) = inl h.0
+wants old new round.Connect [] r k next (inr h) = spent_want (is_spent old.tc.log) r h.0
+wants old new round.Connect (o ∷ os) r k next h = want_connect old new h.0 o os r k h.1 h.2 h.3
+wants old new round.Recover [] r k next (inl h) = inl h.0
+wants old new round.Recover [] r k next (inr h) =
+    let at = redoing_at old old.tc.phase refl next.0 in no_cause (recover_refusal old.tc) r (rw at.1 refl) h.0
+wants old new round.Recover (o ∷ os) r k next h = let at = redoing_at old old.tc.phase refl next.0 in want_recover old new h.0 o os r at.0 k at.1 next.1 h.1 h.2 h.3
+wants old new (round.Exchange t) [] r k next (inl h) = inl h.0
+wants old new (round.Exchange t) [] r k next (inr h) = no_cause (resend_refusal old.tc t) r (resends old.tc t next.1.0 next.0.running next.1.1 next.1.2) h.0
+wants old new (round.Exchange t) (o ∷ os) r k next h = want_exchange old new h.0 o os r t k next.0 h.1 h.2 h.3
+wants old new (round.Undo t) [] r k next (inl h) = inl h.0
+wants old new (round.Undo t) [] r k next (inr h) = undo_want old.tc t r next.0.running next.1 h.0
+wants old new (round.Undo t) (o ∷ os) r k next h = absurd h.3
+wants old new round.Force [] r k next (inl h) = inl h.0
+wants old new round.Force [] r k next (inr h) = absurd h
+wants old new round.Force (o ∷ os) r k next h = absurd h.3

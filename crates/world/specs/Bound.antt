@@ -1,0 +1,73 @@
+-- How many rounds of settling are left, and a bound on them.
+use Rattle.std.specs.Prelude.{ℕ, ◌+◌, ◌*◌, ◌==◌, ◌&&◌, ◌||◌, Bool, false, not, List, [], ◌∷◌, Option, Some, None, length, is_some, nat_le, nat_lt, if◌then◌else◌}
+use Rattle.record_key.specs.declared.op.Op.{Op}
+use Rattle.history.specs.declared.record.Record.{Record}
+use Rattle.history.specs.declared.record.Record.TheVariants as is
+use Rattle.history.specs.Log.{request_of, is_crossed}
+use Rattle.tc_core.specs.declared.open_txn.OpenTxn.{OpenTxn}
+use Rattle.tc_core.specs.declared.phase.Phase.{Phase}
+use Rattle.tc_core.specs.declared.phase.Phase.TheVariants as phase
+use Rattle.tc_core.specs.TcView.{TcView}
+
+-- how many of these numbers ask for something
+abbrev pub asked : Option Op → ℕ
+asked None = 0
+asked (Some o) = 1
+
+abbrev pub requests_in : ℕ → ℕ → List Record → ℕ
+requests_in from below [] = 0
+requests_in from below (r ∷ log) = (if nat_le from (length log + 1) && nat_lt (length log + 1) below then asked (request_of r) else 0) + requests_in from below log
+
+-- how many operations of the transaction no compensation of the whole log names
+abbrev pub left_in : List Record → ℕ → List Record → ℕ
+left_in whole t [] = 0
+left_in whole t (is.Op txn prev op ∷ log) = (if txn == t && not (is_crossed whole (length log + 1)) then 1 else 0) + left_in whole t log
+left_in whole t (r ∷ log) = left_in whole t log
+
+-- how many rounds are left: for an answer, a force unless its record is stable, and an exchange
+abbrev pub waiting_rounds : ℕ → Option ℕ → ℕ
+waiting_rounds stable None = 0
+waiting_rounds stable (Some n) = if nat_lt stable n then 2 else 1
+
+-- for a rollback, three for each operation that is left, and one for the end
+abbrev pub rolling_rounds : List Record → OpenTxn → ℕ
+rolling_rounds log o = if o.rolling then 3 * left_in log o.txn log + 1 else 0
+
+abbrev pub txn_rounds : List Record → ℕ → Option OpenTxn → ℕ
+txn_rounds log stable None = 0
+txn_rounds log stable (Some o) = rolling_rounds log o + waiting_rounds stable o.waiting
+
+-- to connect, to send each earlier request again, to end redo
+abbrev pub phase_rounds : List Record → ℕ → Phase → ℕ
+phase_rounds log s phase.Unconnected = requests_in 1 (length log + 1) log + 2
+phase_rounds log s phase.Connecting = requests_in 1 (length log + 1) log + 2
+phase_rounds log s (phase.Redoing next) = requests_in next s log + 1
+phase_rounds log s phase.Running = 0
+
+-- a last force, where something isn't stable or will be logged
+abbrev pub is_busy : Option OpenTxn → Bool
+is_busy None = false
+is_busy (Some o) = o.rolling || is_some o.waiting
+
+abbrev pub force_rounds : TcView → ℕ
+force_rounds w = if is_busy w.open_txn || nat_lt w.stable (length w.log) then 1 else 0
+
+-- every round takes one of them at least
+abbrev pub rounds_left : TcView → ℕ
+rounds_left w = phase_rounds w.log w.session w.phase + txn_rounds w.log w.stable w.open_txn + force_rounds w
+
+-- records of operations and compensations, and of beginnings
+abbrev pub steps_in : List Record → ℕ
+steps_in [] = 0
+steps_in (is.Op t p o ∷ log) = 1 + steps_in log
+steps_in (is.Comp t u x i ∷ log) = 1 + steps_in log
+steps_in (r ∷ log) = steps_in log
+
+abbrev pub begins_in : List Record → ℕ
+begins_in [] = 0
+begins_in (is.Begin ∷ log) = 1 + begins_in log
+begins_in (r ∷ log) = begins_in log
+
+-- no settling takes more rounds
+abbrev pub most_rounds : List Record → ℕ
+most_rounds log = 8 + 4 * steps_in log + 4 * begins_in log

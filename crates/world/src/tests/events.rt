@@ -1,0 +1,115 @@
+//! An event of each kind, with its output.
+use super::*;
+use history::Record;
+
+#[test]
+fn a_session_begins(rt: HostRuntime) {
+    let mut world = World::new(rt.alloc());
+    let steps = [
+        (Event::Begin, Out::Refused(Refusal::NotConnected)),
+        (Event::Recover, Out::Refused(Refusal::NotConnected)),
+        (Event::Reconnect, Out::Sent(1)),
+        (Event::Begin, Out::Refused(Refusal::Redoing)),
+        (Event::Request { number: 1 }, Out::Replied(1)),
+        (Event::Reply { number: 1 }, Out::Connected(1)),
+        (Event::Begin, Out::Refused(Refusal::Redoing)),
+        (Event::Recover, Out::Sent(2)),
+        (Event::Request { number: 2 }, Out::Replied(2)),
+        (Event::Reply { number: 2 }, Out::RedoEnded(1)),
+        (Event::Recover, Out::Nothing),
+        (Event::Begin, Out::Begun(2)),
+        (Event::Begin, Out::Refused(Refusal::Full)),
+    ];
+    assert_outs(&rt, &mut world, steps);
+}
+
+#[test]
+fn an_operation_is_answered(rt: HostRuntime) -> Result<(), Fail> {
+    let mut world = running(rt.alloc());
+    world.step(&Event::Begin);
+    let steps = [
+        (SEND, Out::Refused(Refusal::Unsent)),
+        (insert(b"a", b"1")?, Out::Logged(3)),
+        (SEND, Out::Refused(Refusal::BeyondStable)),
+        (Event::Force, Out::Stable(3)),
+        (SEND, Out::Sent(3)),
+        (insert(b"b", b"1")?, Out::Refused(Refusal::Unanswered)),
+        (Event::Request { number: 3 }, Out::Replied(3)),
+        (ROLLBACK, Out::Refused(Refusal::Unanswered)),
+        (Event::Reply { number: 3 }, INSERTED),
+        (SEND, Out::Refused(Refusal::Unsent)),
+        (UNDO, Out::Nothing),
+    ];
+    assert_outs(&rt, &mut world, steps);
+    assert_eq!(rt; (world.records(), world.stable_end()), (4, 3));
+    assert_eq!(rt; world.rows().len(), 1);
+    Ok(())
+}
+
+#[test]
+fn a_transaction_is_rolled_back(rt: HostRuntime) -> Result<(), Fail> {
+    let mut world = answered(rt.alloc())?;
+    let steps = [
+        (ROLLBACK, Out::RollingBack),
+        (ROLLBACK, Out::Refused(Refusal::RollingBack)),
+        (insert(b"b", b"1")?, Out::Refused(Refusal::RollingBack)),
+        (UNDO, Out::Compensated(5)),
+        (UNDO, Out::Refused(Refusal::Unanswered)),
+        (Event::Force, Out::Stable(5)),
+        (SEND, Out::Sent(4)),
+        (Event::Request { number: 4 }, Out::Replied(4)),
+        (Event::Reply { number: 4 }, Out::Undone(5)),
+        (UNDO, Out::RolledBack(2)),
+        (UNDO, Out::Refused(Refusal::NotOpen)),
+    ];
+    assert_outs(&rt, &mut world, steps);
+    assert_eq!(rt; world.rows().len(), 0);
+    assert_eq!(rt; world.record(7), Some(&Record::End { txn: 2 }));
+    assert_eq!(rt; world.record(8), None);
+    Ok(())
+}
+
+#[test]
+fn low_water_is_told(rt: HostRuntime) -> Result<(), Fail> {
+    let mut world = answered(rt.alloc())?;
+    let beyond = Refusal::BeyondStable;
+    let steps = [
+        (Event::LowWater { low: 3 }, Out::Refused(beyond)),
+        (Event::LowWater { low: 2 }, Out::Sent(4)),
+        (Event::Request { number: 4 }, Out::Noted),
+        (Event::Force, Out::Stable(4)),
+        (Event::LowWater { low: 5 }, Out::Refused(beyond)),
+        (Event::LowWater { low: 4 }, Out::Sent(5)),
+        (Event::Request { number: 5 }, Out::Noted),
+        (Event::Request { number: 4 }, Out::Noted),
+    ];
+    assert_outs(&rt, &mut world, steps);
+    assert_eq!(rt; world.leaf().low(), 4);
+    assert_eq!(rt; (world.requests(), world.replies()), (5, 3));
+    Ok(())
+}
+
+/// A list of events is driven to the same outputs.
+#[test]
+fn events_are_driven(rt: HostRuntime) -> Result<(), Fail> {
+    let mut world = running(rt.alloc());
+    let events = [
+        Event::Begin,
+        insert(b"a", b"1")?,
+        Event::Force,
+        SEND,
+        Event::Request { number: 3 },
+        Event::Reply { number: 3 },
+    ];
+    let outs = drive(rt.alloc(), &mut world, &events)?;
+    let expected = [
+        Out::Begun(2),
+        Out::Logged(3),
+        Out::Stable(3),
+        Out::Sent(3),
+        Out::Replied(3),
+        INSERTED,
+    ];
+    assert_eq!(rt; outs.as_slice(), expected.as_slice());
+    Ok(())
+}

@@ -1,0 +1,121 @@
+//! Messages that come again, late, or not at all.
+use super::*;
+
+/// The insert's request reached the data component three times: replies 3, 4 and 5.
+fn served_three_times(alloc: Global) -> Result<World, Fail> {
+    let mut world = waiting(alloc)?;
+    world.step(&Event::Force);
+    world.step(&SEND);
+    for _ in 0..3 {
+        world.step(&Event::Request { number: 3 });
+    }
+    Ok(world)
+}
+
+/// Each of the replies has the answer of the first, and it is told once, by whichever comes first.
+#[test]
+fn a_request_that_comes_again(rt: HostRuntime) -> Result<(), Fail> {
+    for first in 3..6 {
+        let mut world = served_three_times(rt.alloc())?;
+        assert_eq!(rt; (world.replies(), world.rows().len()), (5, 1));
+        assert_out(&rt, &mut world, &Event::Reply { number: first }, &INSERTED);
+        for number in 3..6 {
+            assert_out(&rt, &mut world, &Event::Reply { number }, &Out::Nothing);
+        }
+        assert_eq!(rt; world.records(), 4);
+    }
+    Ok(())
+}
+
+/// The request is sent again under another number; it is still performed once.
+#[test]
+fn a_request_that_is_sent_again(rt: HostRuntime) -> Result<(), Fail> {
+    let mut world = waiting(rt.alloc())?;
+    let steps = [
+        (Event::Force, Out::Stable(3)),
+        (SEND, Out::Sent(3)),
+        (SEND, Out::Sent(4)),
+        (Event::Request { number: 4 }, Out::Replied(3)),
+        (Event::Request { number: 3 }, Out::Replied(4)),
+        (Event::Reply { number: 4 }, INSERTED),
+        (Event::Reply { number: 3 }, Out::Nothing),
+    ];
+    assert_outs(&rt, &mut world, steps);
+    assert_eq!(rt; world.leaf().entries().len(), 1);
+    Ok(())
+}
+
+#[test]
+fn a_message_that_is_not_there(rt: HostRuntime) -> Result<(), Fail> {
+    let mut world = answered(rt.alloc())?;
+    let unsent = Out::Refused(Refusal::Unsent);
+    for number in [0, 4, u64::MAX] {
+        assert_out(&rt, &mut world, &Event::Request { number }, &unsent);
+        assert_out(&rt, &mut world, &Event::Reply { number }, &unsent);
+    }
+    Ok(())
+}
+
+/// A request that comes once its answer is no longer kept: the reply has none, and nobody is told.
+#[test]
+fn a_request_below_the_low_water(rt: HostRuntime) -> Result<(), Fail> {
+    let mut world = answered(rt.alloc())?;
+    assert_eq!(rt; world.leaf().entries().len(), 1);
+    let steps = [
+        (Event::Force, Out::Stable(4)),
+        (Event::LowWater { low: 4 }, Out::Sent(4)),
+        (Event::Request { number: 4 }, Out::Noted),
+        (Event::Request { number: 3 }, Out::Replied(4)),
+        (Event::Reply { number: 4 }, Out::Nothing),
+    ];
+    assert_outs(&rt, &mut world, steps);
+    assert_eq!(rt; world.leaf().entries().len(), 0);
+    assert_eq!(rt; (world.rows().len(), world.records()), (1, 4));
+    Ok(())
+}
+
+/// Redo passes a request whose answer is no longer kept.
+#[test]
+fn redo_below_the_low_water(rt: HostRuntime) -> Result<(), Fail> {
+    let mut world = answered(rt.alloc())?;
+    world.step(&Event::Force);
+    world.step(&Event::LowWater { low: 4 });
+    world.step(&Event::Request { number: 4 });
+    assert_eq!(rt; exchange(&mut world, &Event::Reconnect), Out::Connected(5));
+    assert_eq!(rt; exchange(&mut world, &Event::Recover), Out::Nothing);
+    assert_eq!(rt; exchange(&mut world, &Event::Recover), Out::RedoEnded(5));
+    assert_eq!(rt; world.rows().len(), 1);
+    Ok(())
+}
+
+/// Messages of session 1 once session 4 is connected; its insert waits.
+#[test]
+fn messages_of_the_session_before(rt: HostRuntime) -> Result<(), Fail> {
+    let mut world = served_three_times(rt.alloc())?;
+    assert_eq!(rt; exchange(&mut world, &Event::Reconnect), Out::Connected(4));
+    let stale = Out::Refused(Refusal::Stale);
+    for number in 1..4 {
+        assert_out(&rt, &mut world, &Event::Request { number }, &stale);
+        assert_out(&rt, &mut world, &Event::Reply { number }, &stale);
+    }
+    assert_eq!(rt; exchange(&mut world, &Event::Recover), INSERTED);
+    assert_eq!(rt; world.rows().len(), 1);
+    Ok(())
+}
+
+/// Session 1 is given up for session 2 before its Connect arrives: that comes too late, and a Connect that
+/// comes again is answered again.
+#[test]
+fn a_connect_that_comes_late(rt: HostRuntime) {
+    let mut world = World::new(rt.alloc());
+    let steps = [
+        (Event::Reconnect, Out::Sent(1)),
+        (Event::Reconnect, Out::Sent(2)),
+        (Event::Request { number: 2 }, Out::Replied(1)),
+        (Event::Request { number: 1 }, Out::Refused(Refusal::Stale)),
+        (Event::Request { number: 2 }, Out::Replied(2)),
+        (Event::Reply { number: 2 }, Out::Connected(2)),
+        (Event::Reply { number: 1 }, Out::Nothing),
+    ];
+    assert_outs(&rt, &mut world, steps);
+}

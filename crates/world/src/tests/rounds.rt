@@ -1,0 +1,137 @@
+//! Settling, round by round.
+use super::*;
+
+/// Settling plays these events, and leaves no round.
+fn assert_settles(
+    rt: &impl Abort,
+    alloc: Global,
+    world: &mut World,
+    expected: &[Out],
+) -> Result<(), Fail> {
+    let mut outs = Vec::new(alloc);
+    assert!(rt; settle(world, None, &mut outs)?);
+    assert_eq!(rt; outs.as_slice(), expected);
+    assert_eq!(rt; world.next_round(), None);
+    Ok(())
+}
+
+const CONNECTED: [Out; 3] = [Out::Sent(1), Out::Replied(1), Out::Connected(1)];
+
+#[test]
+fn a_fresh_node(rt: HostRuntime) -> Result<(), Fail> {
+    let mut world = World::new(rt.alloc());
+    assert_eq!(rt; world.next_round(), Some(Round::Connect));
+    let expected = [
+        Out::Sent(1),
+        Out::Replied(1),
+        Out::Connected(1),
+        Out::Sent(2),
+        Out::Replied(2),
+        Out::RedoEnded(1),
+    ];
+    assert_settles(&rt, rt.alloc(), &mut world, &expected)?;
+    assert_settles(&rt, rt.alloc(), &mut world, &[])
+}
+
+#[test]
+fn no_more_rounds_than_allowed(rt: HostRuntime) -> Result<(), Fail> {
+    let mut world = World::new(rt.alloc());
+    let mut outs = Vec::new(rt.alloc());
+    assert!(rt; !settle(&mut world, Some(0), &mut outs)?);
+    assert_eq!(rt; (outs.len(), world.requests()), (0, 0));
+    assert!(rt; !settle(&mut world, Some(1), &mut outs)?);
+    assert_eq!(rt; outs.as_slice(), CONNECTED.as_slice());
+    assert_eq!(rt; world.next_round(), Some(Round::Recover));
+    assert!(rt; settle(&mut world, Some(1), &mut outs)?, "the last round");
+    assert!(rt; settle(&mut world, Some(0), &mut outs)?, "no round");
+    assert_eq!(rt; outs.len(), 6);
+    Ok(())
+}
+
+/// A Connect that was never answered is given up for another session.
+#[test]
+fn a_session_that_did_not_come_up(rt: HostRuntime) -> Result<(), Fail> {
+    let mut world = World::new(rt.alloc());
+    world.step(&Event::Reconnect);
+    let expected = [
+        Out::Sent(2),
+        Out::Replied(1),
+        Out::Connected(2),
+        Out::Sent(3),
+        Out::Replied(2),
+        Out::RedoEnded(2),
+    ];
+    assert_settles(&rt, rt.alloc(), &mut world, &expected)
+}
+
+#[test]
+fn an_operation_that_is_not_stable(rt: HostRuntime) -> Result<(), Fail> {
+    let mut world = waiting(rt.alloc())?;
+    assert_eq!(rt; world.next_round(), Some(Round::Force));
+    let expected = [
+        Out::Stable(3),
+        Out::Sent(3),
+        Out::Replied(3),
+        INSERTED,
+        Out::Stable(4),
+    ];
+    assert_settles(&rt, rt.alloc(), &mut world, &expected)?;
+    assert_eq!(rt; world.rows().len(), 1);
+    Ok(())
+}
+
+/// A request that was lost is sent again.
+#[test]
+fn a_request_that_was_lost(rt: HostRuntime) -> Result<(), Fail> {
+    let mut world = waiting(rt.alloc())?;
+    world.step(&Event::Force);
+    world.step(&SEND);
+    assert_eq!(rt; world.next_round(), Some(Round::Exchange { txn: 2 }));
+    let expected = [Out::Sent(4), Out::Replied(3), INSERTED, Out::Stable(4)];
+    assert_settles(&rt, rt.alloc(), &mut world, &expected)
+}
+
+#[test]
+fn a_rollback_that_is_under_way(rt: HostRuntime) -> Result<(), Fail> {
+    let mut world = rolling(rt.alloc())?;
+    assert_eq!(rt; world.next_round(), Some(Round::Undo { txn: 2 }));
+    let expected = [
+        Out::Compensated(5),
+        Out::Stable(5),
+        Out::Sent(4),
+        Out::Replied(4),
+        Out::Undone(5),
+        Out::RolledBack(2),
+        Out::Stable(7),
+    ];
+    assert_settles(&rt, rt.alloc(), &mut world, &expected)?;
+    assert_eq!(rt; world.rows().len(), 0);
+    Ok(())
+}
+
+/// A session is started amid a rollback, and settling another one: what was logged before is sent again.
+#[test]
+fn a_session_amid_a_rollback(rt: HostRuntime) -> Result<(), Fail> {
+    let mut world = rolling(rt.alloc())?;
+    world.step(&UNDO);
+    assert_out(&rt, &mut world, &Event::Reconnect, &Out::Sent(4));
+    let expected = [
+        Out::Sent(5),
+        Out::Replied(4),
+        Out::Connected(7),
+        Out::Sent(6),
+        Out::Replied(5),
+        Out::Nothing,
+        Out::Sent(7),
+        Out::Replied(6),
+        Out::Undone(5),
+        Out::Sent(8),
+        Out::Replied(7),
+        Out::RedoEnded(7),
+        Out::RolledBack(2),
+        Out::Stable(9),
+    ];
+    assert_settles(&rt, rt.alloc(), &mut world, &expected)?;
+    assert_eq!(rt; world.rows().len(), 0);
+    Ok(())
+}
