@@ -1,0 +1,47 @@
+#!/bin/sh
+# Usage: bench/shell.sh. Proves and builds crates/undo_shell and measures it on scripts of 1,000, 10,000 and 100,000
+# upserts in transactions of ten, each answered before the next and every transaction rolled back.
+# Prints operations a second, each the best of five runs, and the ratio of the last to the first.
+# The first line is the machine's.
+set -eu
+cd "$(dirname "$0")/../crates/undo_shell"
+model=$(sed -n 's/^model name[^:]*: //p' /proc/cpuinfo | head -n 1)
+printf 'machine: %s processors, %s\n' "$(nproc)" "$model"
+folder=$(mktemp -d)
+trap 'rm -rf "$folder"' EXIT
+if ! rt run -- run --help >"$folder/log" 2>&1; then
+    cat "$folder/log" >&2
+    exit 1
+fi
+
+script() {
+    awk -v operations="$1" 'BEGIN {
+        print "settle"
+        for (done = 0; done < operations; done += 10) {
+            print "begin t"
+            for (one = 0; one < 10; one++)
+                printf "upsert t k%d %d\nsettle\n", (done + one) % 1000, one
+            print "rollback t\nsettle"
+        }
+    }'
+}
+
+best() {
+    least=
+    for run in 1 2 3 4 5; do
+        before=$(date +%s%N)
+        ./out/undo_shell run <"$1" >"$folder/text"
+        took=$(($(date +%s%N) - before))
+        if [ -z "$least" ] || [ "$took" -lt "$least" ]; then least=$took; fi
+    done
+    echo "$least"
+}
+
+first=
+for operations in 1000 10000 100000; do
+    script "$operations" >"$folder/script"
+    rate=$((operations * 1000000000 / $(best "$folder/script")))
+    printf '%s operations: %s a second\n' "$operations" "$rate"
+    first=${first:-$rate}
+done
+awk -v first="$first" -v last="$rate" 'BEGIN { printf "ratio of the last to the first: %.2f\n", last / first }'
