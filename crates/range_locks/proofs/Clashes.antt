@@ -1,0 +1,138 @@
+-- The test of two spans finds exactly what conflicts.
+use Rattle.std.proofs.Common.{◌≡◌, ◌&&◌, ◌||◌, Bool, true, false, cond, List, [], ◌∷◌, Option, Some, None, refl, ap, ◌∙◌, inl, inr, ◌⊎◌}
+use Rattle.std.specs.Prelude.{not, T}
+use Rattle.std.specs.List.{list_any}
+use Rattle.std.specs.Ordering.{is_lt, ordering_reverse}
+use Rattle.std.specs.declared.cmp.Ordering.{Ordering}
+use Rattle.std.specs.declared.cmp.Ordering.TheVariants.{Less, Equal, Greater}
+use Rattle.std.proofs.lemmas.Cmp.{nat_list_cmp_total, tied_itself}
+use Rattle.record_key.specs.Table.{Bytes}
+use Rattle.record_key.specs.Laws.{key_cmp}
+use Rattle.history.specs.Spans.{Span, is_below, ends_above, is_within, do_conflict, Conflict, AnyConflict}
+use Rattle.range_locks.specs.Meant.{later, clash}
+
+pub and_first : (a b : Bool) → T (a && b) → T a
+and_first true b h = tt
+and_first false b h = h
+
+pub and_second : (a b : Bool) → T (a && b) → T b
+and_second true b h = h
+and_second false b h = absurd h
+
+both : (a b : Bool) → T a → T b → T (a && b)
+both true b x y = y
+both false b x y = x
+
+not_both : (b : Bool) → T b → T (not b) → ⊥
+not_both true x y = y
+not_both false x y = x
+
+pub is_lt-Less : (o : Ordering) → T (is_lt o) → o ≡ Less
+is_lt-Less Less h = refl
+is_lt-Less Equal h = absurd h
+is_lt-Less Greater h = absurd h
+
+-- a key below another is at most it
+pub not_below_itself : (a : Bytes) → T (not (is_below a a))
+not_below_itself a = rw (tied_itself nat_list_cmp_total a) tt
+
+reversed : (o : Ordering) → T (is_lt o) → T (not (is_lt (ordering_reverse o)))
+reversed Less h = tt
+reversed Equal h = absurd h
+reversed Greater h = absurd h
+
+pub not_below_lower : (a b : Bytes) → T (is_below a b) → T (not (is_below b a))
+not_below_lower a b h = rw (nat_list_cmp_total.antisymm b a) (reversed (key_cmp a b) h)
+
+not_below : (b : Bool) → b ≡ false → T (not b)
+not_below b e = rw e tt
+
+pub as_T : (b : Bool) → b ≡ true → T b
+as_T b e = rw e tt
+
+pub from_T : (b : Bool) → T b → b ≡ true
+from_T true h = refl
+from_T false h = absurd h
+
+-- the later of two keys is below neither
+late_first : (a b : Bytes) (t : Bool) → is_below a b ≡ t → T (not (is_below (cond t b a) a))
+late_first a b true e = not_below_lower a b (as_T _ e)
+late_first a b false e = not_below_itself a
+
+pub late_second : (a b : Bytes) (t : Bool) → is_below a b ≡ t → T (not (is_below (cond t b a) b))
+late_second a b true e = not_below_itself b
+late_second a b false e = not_below _ e
+
+-- what an upper end is above, it is above what comes before
+at_most : (l k h : Bytes) (o : Ordering) → key_cmp l k ≡ o → T (not (is_below k l)) → key_cmp k h ≡ Less → T (is_below l h)
+at_most l k h Less e not_under above = rw (nat_list_cmp_total.trans l k h e above) tt
+at_most l k h Equal e not_under above = rw (nat_list_cmp_total.congr l k h e ∙ above) tt
+at_most l k h Greater e not_under above =
+    let under : key_cmp k l ≡ Less = nat_list_cmp_total.antisymm k l ∙ ap ordering_reverse e in
+    absurd (rw under at not_under)
+
+pub ends_lower : (h : Option Bytes) (l k : Bytes) → T (not (is_below k l)) → T (ends_above h k) → T (ends_above h l)
+ends_lower None l k not_under above = tt
+ends_lower (Some h) l k not_under above = at_most l k h (key_cmp l k) refl not_under (is_lt-Less _ above)
+
+late_at_most : (a b k : Bytes) (t : Bool) → T (not (is_below k a)) → T (not (is_below k b)) → T (not (is_below k (cond t b a)))
+late_at_most a b k true x y = y
+late_at_most a b k false x y = x
+
+pub conflict_from_clash : (s r : Span) → T (clash s r) → Conflict s r
+conflict_from_clash s r h =
+    let k : Bytes = later s.lo r.lo in
+    let modes : T (do_conflict s.mode r.mode) = and_first (do_conflict s.mode r.mode) _ h in
+    let ends : T (ends_above s.hi k && ends_above r.hi k) = and_second (do_conflict s.mode r.mode) _ h in (
+      k,
+      from_T (is_within s k) (both (not (is_below k s.lo)) _ (late_first s.lo r.lo (is_below s.lo r.lo) refl) (and_first (ends_above s.hi k) _ ends)),
+      from_T (is_within r k) (both (not (is_below k r.lo)) _ (late_second s.lo r.lo (is_below s.lo r.lo) refl) (and_second (ends_above s.hi k) _ ends)),
+      from_T _ modes,
+    )
+
+pub clash_from_conflict : (s r : Span) → Conflict s r → T (clash s r)
+clash_from_conflict s r c =
+    let k : Bytes = c.0 in
+    let in_s : T (is_within s k) = as_T (is_within s k) c.1 in
+    let in_r : T (is_within r k) = as_T (is_within r k) c.2 in
+    let late : T (not (is_below k (later s.lo r.lo))) =
+    late_at_most s.lo r.lo k (is_below s.lo r.lo) (and_first (not (is_below k s.lo)) _ in_s) (and_first (not (is_below k r.lo)) _ in_r) in
+    both (do_conflict s.mode r.mode) _ (as_T _ c.3)
+    (both (ends_above s.hi (later s.lo r.lo)) _
+    (ends_lower s.hi (later s.lo r.lo) k late (and_second (not (is_below k s.lo)) _ in_s))
+    (ends_lower r.hi (later s.lo r.lo) k late (and_second (not (is_below k r.lo)) _ in_r)))
+
+-- the same of a list
+either : (b c : Bool) → T (b || c) → T b ⊎ T c
+either true c h = inl tt
+either false c h = inr h
+
+or_first : (b c : Bool) → T b → T (b || c)
+or_first true c h = tt
+or_first false c h = absurd h
+
+or_second : (b c : Bool) → T c → T (b || c)
+or_second true c h = tt
+or_second false c h = h
+
+conflicts_from : (s : Span) (rs : List Span) → T (list_any (clash s) rs) → AnyConflict s rs
+conflicts_from s [] h = h
+conflicts_from s (r ∷ rs) h =
+    elim (either (clash s r) (list_any (clash s) rs) h) [
+      | inl here ↦ inl (conflict_from_clash s r here)
+      | inr there ↦ inr (conflicts_from s rs there)
+    ]
+
+clashes_from : (s : Span) (rs : List Span) → AnyConflict s rs → T (list_any (clash s) rs)
+clashes_from s [] c = c
+clashes_from s (r ∷ rs) c =
+    elim c [
+      | inl here ↦ or_first (clash s r) (list_any (clash s) rs) (clash_from_conflict s r here)
+      | inr there ↦ or_second (clash s r) (list_any (clash s) rs) (clashes_from s rs there)
+    ]
+
+pub conflicts_from_clashes : (s : Span) (rs : List Span) → list_any (clash s) rs ≡ true → AnyConflict s rs
+conflicts_from_clashes s rs h = conflicts_from s rs (as_T _ h)
+
+pub clashes_from_conflicts : (s : Span) (rs : List Span) → AnyConflict s rs → list_any (clash s) rs ≡ true
+clashes_from_conflicts s rs c = from_T _ (clashes_from s rs c)

@@ -1,0 +1,113 @@
+-- What a change at one transaction leaves to each.
+use Rattle.std.proofs.Common.{◌≡◌, ◌≢◌, ℕ, ◌<◌, length, Bool, true, false, cond, List, [], ◌∷◌, ◌++◌, Option, Some, refl, sym, ap, ◌∙◌, subst, drop, map, reverse, arith, true≢false, Result, Ok, Err, OnErr}
+use Rattle.std.specs.Global.{Vec}
+use Rattle.std.specs.BTreeMap.{BTreeMap, get, Updates, is_at}
+use Rattle.std.specs.Map.{lookup, set_value}
+use Rattle.std.specs.Ordering.{is_eq, nat_cmp}
+use Rattle.std.proofs.lemmas.Bool.Decides.{nat_tests}
+use Rattle.std.specs.Prelude.{not}
+use Rattle.std.specs.Bool.{MatchBool}
+use Rattle.std.proofs.lemmas.List.{reverse-append, length-map, length-reverse}
+use Rattle.std.proofs.lemmas.Option.{same_Some}
+use Rattle.history.specs.Spans.{Span}
+use Rattle.range_locks.specs.declared.span.Lock.{Lock}
+use Rattle.range_locks.specs.declared.held.Held.{Held}
+use Rattle.range_locks.specs.Locks.{LocksView, spans_of, Leaves}
+use Rattle.range_locks.specs.Meant.{span_of, newest_first, seen, items_of, locks_in, Lists}
+
+read_first : (b : Bool) (locks : Vec Lock) (o : Option (Vec Lock)) (rest : List Span) → rest ≡ newest_first (items_of o)
+    → cond b (newest_first locks.items) rest ≡ newest_first (items_of (cond b (Some locks) o))
+read_first true locks o rest h = refl
+read_first false locks o rest h = h
+
+read_entries : (es : List (ℕ × Vec Lock)) (t : ℕ) → spans_of (map (λ (e : ℕ × Vec Lock). (e.0, newest_first e.1.items)) es) t ≡ newest_first (items_of (lookup (is_at (nat_cmp t)) es))
+read_entries [] t = refl
+read_entries (e ∷ es) t = read_first (is_eq (nat_cmp t e.0)) e.1 (lookup (is_at (nat_cmp t)) es) _ (read_entries es t)
+
+-- a transaction's spans are those of its locks
+pub read : (h : Held) (t : ℕ) → spans_of (seen h) t ≡ newest_first (locks_in h t)
+read h t = read_entries h.by_txn.entries t
+
+pub apart : (t u : ℕ) → u ≢ t → is_eq (nat_cmp t u) ≡ false
+apart t u other = grind (arith, nat_tests)
+
+pub lists : (old new : BTreeMap ℕ (Vec Lock)) (t : ℕ) (locks : Option (Vec Lock)) → Updates nat_cmp old new t locks
+    → Lists (record { by_txn = old }) t (items_of locks) (record { by_txn = new })
+lists old new t locks h = record { own = ap items_of h.1; others = λ u other. ap items_of (h.2 u (apart t u other)) }
+
+pub leaves : (old new : Held) (t : ℕ) (locks : List Lock) → Lists old t locks new → Leaves (seen old) t (newest_first locks) (seen new)
+leaves old new t locks h = record {
+  own = read new t ∙ ap newest_first h.own;
+  others = λ u other. read new u ∙ ap newest_first (h.others u other) ∙ sym (read old u);
+}
+
+pub newest : (locks : List Lock) (lock : Lock) → newest_first (locks ++ lock ∷ []) ≡ span_of lock ∷ newest_first locks
+newest locks lock = ap (map span_of) (reverse-append locks (lock ∷ []))
+
+-- a lock more
+pub taken : (old new : Held) (t : ℕ) (lock : Lock) → Lists old t (locks_in old t ++ lock ∷ []) new → Leaves (seen old) t (span_of lock ∷ spans_of (seen old) t) (seen new)
+taken old new t lock h =
+    let more : newest_first (locks_in old t ++ lock ∷ []) ≡ span_of lock ∷ spans_of (seen old) t =
+    newest (locks_in old t) lock ∙ ap (λ spans. span_of lock ∷ spans) (sym (read old t)) in
+    subst (λ spans. Leaves (seen old) t spans (seen new)) more (leaves old new t (locks_in old t ++ lock ∷ []) h)
+
+-- the newest lock less
+pub untaken : (old new : Held) (t : ℕ) (lock : Lock) → locks_in old t ≡ locks_in new t ++ lock ∷ [] → ((u : ℕ) → u ≢ t → locks_in new u ≡ locks_in old u)
+    → Leaves (seen old) t (drop 1 (spans_of (seen old) t)) (seen new)
+untaken old new t lock was others =
+    let had : spans_of (seen old) t ≡ span_of lock ∷ spans_of (seen new) t =
+    read old t ∙ ap newest_first was ∙ newest (locks_in new t) lock ∙ ap (λ spans. span_of lock ∷ spans) (sym (read new t)) in
+    record {
+      own = sym (ap (drop 1) had);
+      others = λ u other. read new u ∙ ap newest_first (others u other) ∙ sym (read old u);
+    }
+
+pub has_one : (h : Held) (t : ℕ) → spans_of (seen h) t ≢ [] → locks_in h t ≢ []
+has_one h t some none = some (read h t ∙ ap newest_first none)
+
+pub pushed : (old new : BTreeMap ℕ (Vec Lock)) (t : ℕ) (locks : Vec Lock) (was : List Lock) (lock : Lock) → Updates nat_cmp old new t (Some locks)
+    → locks.items ≡ was ++ lock ∷ [] → was ≡ locks_in (record { by_txn = old }) t
+    → Lists (record { by_txn = old }) t (locks_in (record { by_txn = old }) t ++ lock ∷ []) (record { by_txn = new })
+pushed old new t locks was lock updates items had =
+    subst (λ all. Lists (record { by_txn = old }) t all (record { by_txn = new })) (items ∙ ap (λ all. all ++ lock ∷ []) had) (lists old new t (Some locks) updates)
+
+-- what is written back with the same locks is seen as it was
+seen_entries : List (ℕ × Vec Lock) → LocksView
+seen_entries es = map (λ (e : ℕ × Vec Lock). (e.0, newest_first e.1.items)) es
+
+kept_first : (b : Bool) (e : ℕ × Vec Lock) (o : Option (Vec Lock)) (v w : Vec Lock) (es fs : List (ℕ × Vec Lock)) → cond b (Some e.1) o ≡ Some v → w.items ≡ v.items
+    → (o ≡ Some v → seen_entries fs ≡ seen_entries es) → seen_entries (cond b ((e.0, w) ∷ es) (e ∷ fs)) ≡ seen_entries (e ∷ es)
+unfolding seen_entries
+kept_first true e o v w es fs found items later =
+    let one : e.1 ≡ v = same_Some e.1 v found in
+    ap (λ (locks : List Lock). (e.0, newest_first locks) ∷ seen_entries es) (items ∙ ap (λ (x : Vec Lock). x.items) (sym one))
+kept_first false e o v w es fs found items later = ap (λ rest. (e.0, newest_first e.1.items) ∷ rest) (later found)
+
+kept_entries : (es : List (ℕ × Vec Lock)) (t : ℕ) (v w : Vec Lock) → lookup (is_at (nat_cmp t)) es ≡ Some v → w.items ≡ v.items
+    → seen_entries (set_value (is_at (nat_cmp t)) es w) ≡ seen_entries es
+unfolding seen_entries
+kept_entries [] t v w found items = refl
+kept_entries (e ∷ es) t v w found items =
+    kept_first (is_eq (nat_cmp t e.0)) e (lookup (is_at (nat_cmp t)) es) v w es (set_value (is_at (nat_cmp t)) es w) found items (λ there. kept_entries es t v w there items)
+
+pub kept : (old new : BTreeMap ℕ (Vec Lock)) (t : ℕ) (v w : Vec Lock) → new.entries ≡ set_value (is_at (nat_cmp t)) old.entries w → Some v ≡ get nat_cmp old t → w.items ≡ v.items
+    → seen (record { by_txn = new }) ≡ seen (record { by_txn = old })
+unfolding seen_entries
+kept old new t v w is found items = ap seen_entries is ∙ kept_entries old.entries t v w (sym found) items
+
+pub on_err : {A E : Type 0} (r : Result A E) {P : Type 0} → P → OnErr r P
+on_err (Ok x) p = tt
+on_err (Err e) p = p
+
+pub nonempty : (locks : List Lock) → locks ≢ [] → 0 < length locks
+nonempty [] some = absurd (some refl)
+nonempty (lock ∷ locks) some = omega arith
+
+-- whether there is a lock
+pub any_held : (h : Held) (t : ℕ) (locks : List Lock) (empty : Bool) → locks ≡ locks_in h t → (empty ≡ true → length locks ≡ 0) → (length locks ≡ 0 → empty ≡ true)
+    → MatchBool (not empty) (spans_of (seen h) t ≢ []) (spans_of (seen h) t ≡ [])
+any_held h t [] true is none empty = read h t ∙ ap newest_first (sym is)
+any_held h t (lock ∷ locks) true is none empty = absurd (omega (arith, none refl))
+any_held h t locks false is none empty = λ spans.
+    let long : length (newest_first locks) ≡ length locks = length-map (reverse locks) span_of ∙ length-reverse locks in
+    true≢false (sym (empty (sym long ∙ ap length (ap newest_first is ∙ sym (read h t) ∙ spans))))

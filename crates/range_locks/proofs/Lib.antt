@@ -1,0 +1,12 @@
+pub mod KeyEnds
+pub mod Clashes
+pub mod Leaving
+pub mod Least
+pub mod Blocking
+pub mod Orders
+pub mod Indexing
+pub mod Searching
+pub mod Derived
+pub mod Placing
+pub mod Returning
+pub mod Forgetting

@@ -1,0 +1,37 @@
+-- The lock law: who holds which spans, when another is taken, and what a refusal says.
+use Rattle.std.specs.Prelude.{◌≡◌, ◌≢◌, ℕ, ◌≤◌, List, [], ◌∷◌, if◌then◌else◌}
+use Rattle.std.specs.Ordering.{is_eq, nat_cmp}
+use Rattle.record_key.specs.declared.refusal.Refusal.{Refusal}
+use Rattle.record_key.specs.declared.refusal.Refusal.TheVariants.{BadRange, Busy, NoMemory}
+use Rattle.history.specs.Spans.{Span, IsRange, AnyConflict}
+
+-- by transaction its spans, the newest first
+abbrev pub LocksView : Type 0
+LocksView = List (ℕ × List Span)
+
+-- the spans of a transaction, none where it isn't listed
+abbrev pub spans_of : LocksView → ℕ → List Span
+spans_of [] t = []
+spans_of (e ∷ es) t = if is_eq (nat_cmp t e.0) then e.1 else spans_of es t
+
+-- afterwards the transaction holds these spans, and each other one what it held
+pub record Leaves (old : LocksView) (t : ℕ) (spans : List Span) (new : LocksView) : Type 0 where
+  pub own : spans_of new t ≡ spans
+  pub others : (u : ℕ) → u ≢ t → spans_of new u ≡ spans_of old u
+
+-- no other transaction holds a conflicting span
+abbrev pub IsFree : LocksView → ℕ → Span → Type 0
+IsFree v t s = (u : ℕ) → u ≢ t → AnyConflict s (spans_of v u) → ⊥
+
+-- of the other transactions that hold a conflicting span, this one has the least number
+pub record IsLeastHolder (v : LocksView) (t : ℕ) (s : Span) (u : ℕ) : Type 0 where
+  pub other : u ≢ t
+  pub conflict : AnyConflict s (spans_of v u)
+  pub least : (w : ℕ) → w ≢ t → AnyConflict s (spans_of v w) → u ≤ w
+
+-- a take is refused for the first of these causes: no range, another's lock, no memory
+abbrev pub Refuses : LocksView → ℕ → Span → Refusal → Type 0
+Refuses v t s BadRange = IsRange s → ⊥
+Refuses v t s (Busy u) = IsRange s × IsLeastHolder v t s u
+Refuses v t s NoMemory = IsRange s × IsFree v t s
+Refuses v t s _ = ⊥

@@ -1,0 +1,69 @@
+-- What the locks of the code mean, and the tests that it makes of them.
+use Rattle.std.specs.Prelude.{◌≡◌, ◌≢◌, ℕ, ◌==◌, ◌&&◌, Bool, not, List, [], ◌∷◌, ◌++◌, Option, Some, None, map, reverse, if◌then◌else◌}
+use Rattle.std.specs.BTreeMap.{get}
+use Rattle.std.specs.List.{list_any}
+use Rattle.std.specs.Ordering.{nat_cmp}
+use Rattle.std.specs.Global.{Vec}
+use Rattle.record_key.specs.Table.{Bytes}
+use Rattle.history.specs.Spans as law
+use Rattle.history.specs.Spans.{ends_above, is_below, do_conflict}
+use Rattle.range_locks.specs.declared.span.Mode.{Mode}
+use Rattle.range_locks.specs.declared.span.Mode.TheVariants.{Shared, Exclusive}
+use Rattle.range_locks.specs.declared.span.Span.{Span}
+use Rattle.range_locks.specs.declared.span.Span.TheVariants.{Key, Range}
+use Rattle.range_locks.specs.declared.span.Lock.{Lock}
+use Rattle.range_locks.specs.declared.held.Held.{Held}
+use Rattle.range_locks.specs.Locks.{LocksView}
+
+abbrev pub mode_of : Mode → law.Mode
+mode_of Shared = law.Shared
+mode_of Exclusive = law.Exclusive
+
+abbrev pub low_of : Span → Bytes
+low_of (Key k) = k
+low_of (Range low high) = low
+
+abbrev pub high_of : Span → Option Bytes
+high_of (Key k) = Some (k ++ 0 ∷ [])
+high_of (Range low high) = high
+
+-- one key is the keys from it to the next text
+abbrev pub meant : Mode → Span → law.Span
+meant m s = record { lo = low_of s; hi = high_of s; mode = mode_of m }
+
+abbrev pub span_of : Lock → law.Span
+span_of l = meant l.mode l.span
+
+abbrev pub later : Bytes → Bytes → Bytes
+later a b = if is_below a b then b else a
+
+-- the later of the two lower ends is below both upper ones, and the modes conflict
+abbrev pub clash : law.Span → law.Span → Bool
+clash s r = do_conflict s.mode r.mode && (ends_above s.hi (later s.lo r.lo) && ends_above r.hi (later s.lo r.lo))
+
+abbrev pub clashes_with : Lock → Lock → Bool
+clashes_with lock held = clash (span_of lock) (span_of held)
+
+-- another transaction holds one of these, and the lock conflicts with it
+abbrev pub blocks : ℕ → Lock → ℕ × Vec Lock → Bool
+blocks t lock e = not (e.0 == t) && list_any (clashes_with lock) e.1.items
+
+-- a transaction's locks, the oldest first, as its spans
+abbrev pub newest_first : List Lock → List law.Span
+newest_first locks = map span_of (reverse locks)
+
+abbrev pub seen : Held → LocksView
+seen h = map (λ (e : ℕ × Vec Lock). (e.0, newest_first e.1.items)) h.by_txn.entries
+
+-- the same by the locks themselves, the oldest first
+abbrev pub items_of : Option (Vec Lock) → List Lock
+items_of None = []
+items_of (Some locks) = locks.items
+
+abbrev pub locks_in : Held → ℕ → List Lock
+locks_in h t = items_of (get nat_cmp h.by_txn t)
+
+-- afterwards the transaction has these locks, and each other one what it had
+pub record Lists (old : Held) (t : ℕ) (locks : List Lock) (new : Held) : Type 0 where
+  pub own : locks_in new t ≡ locks
+  pub others : (u : ℕ) → u ≢ t → locks_in new u ≡ locks_in old u

@@ -1,0 +1,55 @@
+//! Where in the index a conflict with a lock can be.
+ghost use Rattle.std.specs.Prelude.{◌≡◌, ◌&&◌, not, filter};
+ghost use Rattle.std.specs.List.{list_any};
+ghost use Rattle.std.specs.Bound.{IsForward};
+ghost use Rattle.std.specs.BTreeSet.{contains};
+ghost use Rattle.std.specs.BTreeMap.Range.{range_contains, IsLeBy, IsLtBy};
+ghost use Rattle.range_locks.specs.declared.entry.Entry.{Entry};
+ghost use Rattle.range_locks.specs.Order.{entry_cmp};
+ghost use Rattle.range_locks.specs.Least.{least_of};
+ghost use Rattle.range_locks.specs.Index.{txn_of, stops, is_entry_of};
+
+use crate::entry::Entry;
+use crate::held::lesser;
+use crate::span::Lock;
+use std::collections::BTreeSet;
+use std::ops::Bound;
+
+/// The least of the other transactions with a conflicting lock between the two bounds, or the one before.
+pub fn search(
+    index: &BTreeSet<Entry>,
+    from: Bound<Entry>,
+    to: Bound<Entry>,
+    txn: u64,
+    lock: &Lock,
+    before: Option<u64>,
+) -> Option<u64>
+    requires { IsForward (IsLeBy entry_cmp) (IsLtBy entry_cmp) from to }
+    ensures { result ≡ least_of txn_of (stops txn lock.now) before (filter (range_contains entry_cmp from to) index.now.keys) }
+{
+    let mut least = before;
+    for entry in index.range((from, to)) {
+        if stops(txn, lock, entry) {
+            least = Some(lesser(least, entry.txn));
+        }
+    }
+    least
+}
+
+fn stops(txn: u64, lock: &Lock, entry: &Entry) -> bool
+    ensures { result ≡ stops txn lock.now entry.now }
+{
+    entry.txn != txn && lock.conflicts(&entry.lock)
+}
+
+/// Takes these locks of the transaction out of the index.
+pub fn forget(index: &mut BTreeSet<Entry>, txn: u64, locks: &[Lock])
+    ensures { (e : Entry) → contains entry_cmp index.new e ≡ (contains entry_cmp index.old e && not (list_any (is_entry_of txn e) locks.now)) }
+{
+    for lock in locks {
+        index.remove(&Entry {
+            lock: lock.copied(),
+            txn,
+        });
+    }
+}
