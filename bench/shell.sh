@@ -1,7 +1,8 @@
 #!/bin/sh
 # Usage: bench/shell.sh. Proves and builds crates/undo_shell and measures it on scripts of 1,000, 10,000 and 100,000
-# upserts in transactions of ten, each answered before the next and every transaction rolled back.
-# Prints operations a second, each the best of five runs, and the ratio of the last to the first.
+# operations in transactions of ten, each answered before the next and every transaction rolled back. They are
+# upserts, and then reads where no record is: in each transaction nine keys and a range of nine.
+# Prints operations a second, each the best of five runs, and for both kinds the ratio of the last to the first.
 # The first line is the machine's.
 set -eu
 cd "$(dirname "$0")/../crates/undo_shell"
@@ -15,12 +16,17 @@ if ! rt run -- run --help >"$folder/log" 2>&1; then
 fi
 
 script() {
-    awk -v operations="$1" 'BEGIN {
+    awk -v kind="$1" -v operations="$2" 'BEGIN {
         print "settle"
         for (done = 0; done < operations; done += 10) {
             print "begin t"
-            for (one = 0; one < 10; one++)
-                printf "upsert t k%d %d\nsettle\n", (done + one) % 1000, one
+            for (one = 0; one < 10; one++) {
+                key = sprintf("k%d", (done + one) % 1000)
+                if (kind == "upserts") print "upsert t " key, one
+                else if (one < 9) print "get t " key
+                else printf "scan t k%d %s\n", done % 1000, key
+                print "settle"
+            }
             print "rollback t\nsettle"
         }
     }'
@@ -37,11 +43,14 @@ best() {
     echo "$least"
 }
 
-first=
-for operations in 1000 10000 100000; do
-    script "$operations" >"$folder/script"
-    rate=$((operations * 1000000000 / $(best "$folder/script")))
-    printf '%s operations: %s a second\n' "$operations" "$rate"
-    first=${first:-$rate}
+for kind in upserts reads; do
+    first=
+    for operations in 1000 10000 100000; do
+        script "$kind" "$operations" >"$folder/script"
+        rate=$((operations * 1000000000 / $(best "$folder/script")))
+        printf '%s %s: %s a second\n' "$operations" "$kind" "$rate"
+        first=${first:-$rate}
+    done
+    awk -v kind="$kind" -v first="$first" -v last="$rate" \
+        'BEGIN { printf "%s, ratio of the last to the first: %.2f\n", kind, last / first }'
 done
-awk -v first="$first" -v last="$rate" 'BEGIN { printf "ratio of the last to the first: %.2f\n", last / first }'

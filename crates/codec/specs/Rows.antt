@@ -1,6 +1,8 @@
 -- Rows and the order of their keys.
-use Rattle.std.specs.Prelude.{◌≡◌, ℕ, ◌<◌, ◌^◌, Bool, true, false, List, [], ◌∷◌, ◌++◌, length, if◌then◌else◌}
+use Rattle.std.specs.Prelude.{◌≡◌, ℕ, ◌<◌, ◌^◌, ◌==◌, Bool, true, false, List, [], ◌∷◌, ◌++◌, length, if◌then◌else◌}
 use Rattle.std.specs.List.{AllByRecursion}
+use Rattle.std.specs.Cmp.Lexicographic.{pointwise}
+use Rattle.std.specs.Ordering.{eq_of_both, on}
 use Rattle.std.specs.declared.cmp.Ordering.{Ordering}
 use Rattle.std.specs.declared.cmp.Ordering.TheVariants.{Less, Equal, Greater}
 use Rattle.record_key.specs.Table.{Bytes}
@@ -24,6 +26,13 @@ rises_after before (row ∷ rows) = if is_below before.0 row.0 then rises_after 
 abbrev pub rises : List Row → Bool
 rises [] = true
 rises (row ∷ rows) = rises_after row rows
+
+-- whether both have the same rows
+abbrev pub same_row : Row → Row → Bool
+same_row = eq_of_both (on (λ r. r.0) (pointwise ◌==◌)) (on (λ r. r.1) (pointwise ◌==◌))
+
+abbrev pub same_rows : List Row → List Row → Bool
+same_rows = pointwise same_row
 
 -- a key, then a value
 abbrev pub row_bytes : Row → List ℕ

@@ -1,7 +1,9 @@
 //! Rows: keys with their values.
-ghost use Rattle.std.specs.Prelude.{◌≡◌, ◌≤◌, ◌<◌, ◌+◌, ◌^◌, length, IfSome, OnSome, IfNone};
+ghost use Rattle.std.specs.Prelude.{◌≡◌, ◌≤◌, ◌<◌, ◌+◌, ◌^◌, length, IfOk, IfSome, OnSome, IfNone};
+ghost use Rattle.std.specs.Cmp.Rules.{comparing};
+ghost use Rattle.std.proofs.Common.{rules};
 ghost use Rattle.std.specs.List.{flat_map, AllByRecursion};
-ghost use Rattle.codec.specs.Rows.{rises, rises_after, is_below, row_bytes, rows_bytes, IsRow};
+ghost use Rattle.codec.specs.Rows.{rises, rises_after, is_below, same_rows, row_bytes, rows_bytes, IsRow};
 ghost use Rattle.codec.specs.Writing.{HasRoom, Puts};
 ghost use Rattle.codec.specs.Reading.{Finds, rows_at, counted_at, items_at, row_at};
 
@@ -11,7 +13,7 @@ use crate::lengths::row_len;
 use crate::reading::{take_count, take_row};
 use crate::writing::{put_number, put_row};
 use record_key::{Key, Value};
-use std::alloc::Global;
+use std::alloc::{AllocError, Global};
 use std::cmp::Ordering;
 use std::marker::Model;
 
@@ -42,6 +44,27 @@ impl Rows {
     {
         self.rows.as_slice()
     }
+
+    /// The same rows again.
+    pub fn copied(&self) -> Result<Rows, AllocError>
+        ensures { IfOk result (λ rows. rows ≡ self.now) }
+    {
+        Ok(Rows::new(self.rows.clone()?))
+    }
+}
+
+impl PartialEq for Rows {
+    ghost eq = { same_rows };
+
+    ghost laws = { Prim.search (comparing, rules) };
+
+    fn eq(&self, other: &Rows) -> bool {
+        self.as_slice() == other.as_slice()
+    }
+}
+
+impl Eq for Rows {
+    ghost laws = { Prim.search (comparing, rules) };
 }
 
 pub(crate) fn key_is_below(low: &Key, high: &Key) -> bool

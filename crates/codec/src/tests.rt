@@ -5,3 +5,4 @@ mod images;
 mod records;
 mod replies;
 mod requests;
+mod rows;

@@ -3,6 +3,7 @@
 -- that a client is told, or a crash of the transaction component.
 use Rattle.std.specs.Prelude.{◌≡◌, ◌≢◌, ◌⊎◌, ℕ, ◌+◌, ◌-◌, ◌<◌, ◌≤◌, ◌==◌, ◌||◌, Bool, true, false, not, List, [], ◌∷◌, ◌++◌, Option, Some, None, length, map, slice_get, take, if◌then◌else◌}
 use Rattle.std.specs.List.{AllByRecursion, list_any}
+use Rattle.std.specs.FinMap.{get}
 use Rattle.record_key.specs.declared.op.Op.{Op}
 use Rattle.record_key.specs.declared.op.Answer.{Answer}
 use Rattle.record_key.specs.declared.refusal.Refusal.{Refusal}
@@ -40,6 +41,7 @@ pub data Line : Type 0 where
   Acts : (t : ℕ) → (op : Op) → (number : ℕ) → Line
   TellsAnswer : (t : ℕ) → (answer : Answer) → Line
   Reads : (t : ℕ) → (span : Span) → Line
+  TellsRow : (t : ℕ) → (value : Option Bytes) → Line
   TellsRows : (t : ℕ) → (rows : List (Bytes × Bytes)) → Line
   Saves : (t : ℕ) → (savepoint : ℕ) → Line
   GoesBack : (t : ℕ) → (savepoint : ℕ) → Line
@@ -132,13 +134,15 @@ Step m (Begins t) n =
     × (n ≡ with_txn m t (blank Open))
 Step m (Acts t o k) n =
     HasStatus m t Open × IsFree m t (at_key Exclusive (key_of o)) × (t < k) × IsAboveAll k m
-    × (n ≡ with_txn m t (record (m.txns t) { status = Waiting k o; last = Some (k, o); spans = (m.txns t).spans ++ at_key Exclusive (key_of o) ∷ [] }))
+    × (n ≡ with_txn m t (record (m.txns t) { status = Waiting k o; last = Some (k, o); spans = at_key Exclusive (key_of o) ∷ (m.txns t).spans }))
 Step m (TellsAnswer t a) n =
     (k : ℕ) × (o : Op) × HasStatus m t (Waiting k o) × (a ≡ answer_in (plain m.h) o)
     × (n ≡ record (with_status m t Open) { h = placed (record { number = k; txn = t; op = o; answer = a; crossed = false }) m.h })
 Step m (Reads t s) n =
     HasStatus m t Open × (s.mode ≡ Shared) × IsRange s × IsFree m t s
-    × (n ≡ with_txn m t (record (m.txns t) { status = Reading s; spans = (m.txns t).spans ++ s ∷ [] }))
+    × (n ≡ with_txn m t (record (m.txns t) { status = Reading s; spans = s ∷ (m.txns t).spans }))
+Step m (TellsRow t value) n =
+    (k : Bytes) × HasStatus m t (Reading (at_key Shared k)) × (value ≡ get (plain m.h) k) × (n ≡ with_status m t Open)
 Step m (TellsRows t rows) n =
     (s : Span) × HasStatus m t (Reading s) × (rows ≡ rows_in s (plain m.h)) × (n ≡ with_status m t Open)
 Step m (Saves t s) n =

@@ -20,7 +20,7 @@ begun = with_txn fresh 2 (blank Open)
 
 abbrev acted : Machine → Op → ℕ → Machine
 acted m o k =
-    with_txn m 2 (record (m.txns 2) { status = Waiting k o; last = Some (k, o); spans = (m.txns 2).spans ++ at_key Exclusive (key_of o) ∷ [] })
+    with_txn m 2 (record (m.txns 2) { status = Waiting k o; last = Some (k, o); spans = at_key Exclusive (key_of o) ∷ (m.txns 2).spans })
 
 abbrev told : Machine → Op → ℕ → Answer → Machine
 told m o k a = record (with_status m 2 Open) { h = placed (record { number = k; txn = 2; op = o; answer = a; crossed = false }) m.h }

@@ -202,7 +202,7 @@ on_key (r ∷ log) h n t o s asks =
     ]
 
 -- a request of a transaction that has ended is answered
-ended_answered : (log : List Record) (t n : ℕ) (o : Op) → IsLegal log → has_ended log t ≡ true → IsStepOf log t n → Requests log n o → IsSome (answer_of log n)
+pub ended_answered : (log : List Record) (t n : ℕ) (o : Op) → IsLegal log → has_ended log t ≡ true → IsStepOf log t n → Requests log n o → IsSome (answer_of log n)
 ended_answered [] t n o h ended s asks = absurd (cc)
 ended_answered (r ∷ log) t n o h ended s asks =
     elim (which r log n (step_number (r ∷ log) n t s)) [

@@ -1,5 +1,5 @@
 -- What a change at one transaction leaves to each.
-use Rattle.std.proofs.Common.{◌≡◌, ◌≢◌, ℕ, ◌<◌, length, Bool, true, false, cond, List, [], ◌∷◌, ◌++◌, Option, Some, refl, sym, ap, ◌∙◌, subst, drop, map, reverse, arith, true≢false, Result, Ok, Err, OnErr}
+use Rattle.std.proofs.Common.{◌≡◌, ◌≢◌, ℕ, ◌<◌, length, Bool, true, false, cond, List, [], ◌∷◌, ◌++◌, Option, Some, refl, sym, ap, ◌∙◌, subst, map, reverse, arith, true≢false, Result, Ok, Err, OnErr}
 use Rattle.std.specs.Global.{Vec}
 use Rattle.std.specs.BTreeMap.{BTreeMap, get, Updates, is_at}
 use Rattle.std.specs.Map.{lookup, set_value}
@@ -12,7 +12,7 @@ use Rattle.std.proofs.lemmas.Option.{same_Some}
 use Rattle.history.specs.Spans.{Span}
 use Rattle.range_locks.specs.declared.span.Lock.{Lock}
 use Rattle.range_locks.specs.declared.held.Held.{Held}
-use Rattle.range_locks.specs.Locks.{LocksView, spans_of, Leaves}
+use Rattle.range_locks.specs.Locks.{LocksView, spans_of}
 use Rattle.range_locks.specs.Meant.{span_of, newest_first, seen, items_of, locks_in, Lists}
 
 read_first : (b : Bool) (locks : Vec Lock) (o : Option (Vec Lock)) (rest : List Span) → rest ≡ newest_first (items_of o)
@@ -35,32 +35,8 @@ pub lists : (old new : BTreeMap ℕ (Vec Lock)) (t : ℕ) (locks : Option (Vec L
     → Lists (record { by_txn = old }) t (items_of locks) (record { by_txn = new })
 lists old new t locks h = record { own = ap items_of h.1; others = λ u other. ap items_of (h.2 u (apart t u other)) }
 
-pub leaves : (old new : Held) (t : ℕ) (locks : List Lock) → Lists old t locks new → Leaves (seen old) t (newest_first locks) (seen new)
-leaves old new t locks h = record {
-  own = read new t ∙ ap newest_first h.own;
-  others = λ u other. read new u ∙ ap newest_first (h.others u other) ∙ sym (read old u);
-}
-
 pub newest : (locks : List Lock) (lock : Lock) → newest_first (locks ++ lock ∷ []) ≡ span_of lock ∷ newest_first locks
 newest locks lock = ap (map span_of) (reverse-append locks (lock ∷ []))
-
--- a lock more
-pub taken : (old new : Held) (t : ℕ) (lock : Lock) → Lists old t (locks_in old t ++ lock ∷ []) new → Leaves (seen old) t (span_of lock ∷ spans_of (seen old) t) (seen new)
-taken old new t lock h =
-    let more : newest_first (locks_in old t ++ lock ∷ []) ≡ span_of lock ∷ spans_of (seen old) t =
-    newest (locks_in old t) lock ∙ ap (λ spans. span_of lock ∷ spans) (sym (read old t)) in
-    subst (λ spans. Leaves (seen old) t spans (seen new)) more (leaves old new t (locks_in old t ++ lock ∷ []) h)
-
--- the newest lock less
-pub untaken : (old new : Held) (t : ℕ) (lock : Lock) → locks_in old t ≡ locks_in new t ++ lock ∷ [] → ((u : ℕ) → u ≢ t → locks_in new u ≡ locks_in old u)
-    → Leaves (seen old) t (drop 1 (spans_of (seen old) t)) (seen new)
-untaken old new t lock was others =
-    let had : spans_of (seen old) t ≡ span_of lock ∷ spans_of (seen new) t =
-    read old t ∙ ap newest_first was ∙ newest (locks_in new t) lock ∙ ap (λ spans. span_of lock ∷ spans) (sym (read new t)) in
-    record {
-      own = sym (ap (drop 1) had);
-      others = λ u other. read new u ∙ ap newest_first (others u other) ∙ sym (read old u);
-    }
 
 pub has_one : (h : Held) (t : ℕ) → spans_of (seen h) t ≢ [] → locks_in h t ≢ []
 has_one h t some none = some (read h t ∙ ap newest_first none)

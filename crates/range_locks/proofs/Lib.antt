@@ -1,6 +1,7 @@
 pub mod KeyEnds
 pub mod Clashes
 pub mod Leaving
+pub mod Setting
 pub mod Least
 pub mod Blocking
 pub mod Orders
@@ -10,3 +11,4 @@ pub mod Derived
 pub mod Placing
 pub mod Returning
 pub mod Forgetting
+pub mod Tables

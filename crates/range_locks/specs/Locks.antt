@@ -1,5 +1,7 @@
 -- The lock law: who holds which spans, when another is taken, and what a refusal says.
-use Rattle.std.specs.Prelude.{◌≡◌, ◌≢◌, ℕ, ◌≤◌, List, [], ◌∷◌, if◌then◌else◌}
+use Rattle.std.specs.Prelude.{◌≢◌, ℕ, suc, ◌≤◌, List, [], ◌∷◌, if◌then◌else◌}
+use Rattle.std.specs.BTreeMap.{insert_entry, is_at}
+use Rattle.std.specs.Map.{remove_entry}
 use Rattle.std.specs.Ordering.{is_eq, nat_cmp}
 use Rattle.record_key.specs.declared.refusal.Refusal.{Refusal}
 use Rattle.record_key.specs.declared.refusal.Refusal.TheVariants.{BadRange, Busy, NoMemory}
@@ -14,10 +16,19 @@ abbrev pub spans_of : LocksView → ℕ → List Span
 spans_of [] t = []
 spans_of (e ∷ es) t = if is_eq (nat_cmp t e.0) then e.1 else spans_of es t
 
--- afterwards the transaction holds these spans, and each other one what it held
-pub record Leaves (old : LocksView) (t : ℕ) (spans : List Span) (new : LocksView) : Type 0 where
-  pub own : spans_of new t ≡ spans
-  pub others : (u : ℕ) → u ≢ t → spans_of new u ≡ spans_of old u
+-- with these spans of the transaction, at its place by the numbers; it isn't listed where there are none
+abbrev pub set_spans : ℕ → List Span → LocksView → LocksView
+set_spans t [] v = remove_entry (is_at (nat_cmp t)) v
+set_spans t (s ∷ ss) v = insert_entry nat_cmp v t (s ∷ ss)
+
+-- the numbers rise, the first is at least this one, and nobody is listed without a span
+abbrev pub RisesFrom : ℕ → LocksView → Type 0
+RisesFrom low [] = Unit {0}
+RisesFrom low (e ∷ es) = (low ≤ e.0) × (e.1 ≢ []) × RisesFrom (suc e.0) es
+
+-- the numbers rise, and nobody is listed without a span
+abbrev pub IsTable : LocksView → Type 0
+IsTable v = RisesFrom 0 v
 
 -- no other transaction holds a conflicting span
 abbrev pub IsFree : LocksView → ℕ → Span → Type 0

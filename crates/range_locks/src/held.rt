@@ -2,7 +2,7 @@
 ghost use Rattle.std.specs.Prelude.{◌≡◌, ◌≢◌, ℕ, ◌∷◌, ◌++◌, [], drop, IfErr, IfSome, IfNone, OnOk, OnErr};
 ghost use Rattle.std.specs.Bool.{MatchBool};
 ghost use Rattle.std.specs.List.{list_any};
-ghost use Rattle.range_locks.specs.Locks.{spans_of, Leaves, IsFree, IsLeastHolder};
+ghost use Rattle.range_locks.specs.Locks.{spans_of, set_spans, IsFree, IsLeastHolder};
 ghost use Rattle.range_locks.specs.Meant.{span_of, seen, items_of, locks_in, Lists, clashes_with, blocks};
 ghost use Rattle.range_locks.specs.Index.{stands};
 ghost use Rattle.range_locks.specs.Least.{lesser};
@@ -31,7 +31,7 @@ impl Held {
     /// Adds the newest lock of a transaction. Refused NoMemory.
     pub fn push(&mut self, alloc: Global, txn: u64, lock: Lock) -> Result<(), Refusal>
         ensures listed { OnOk result (Lists self.old txn (locks_in self.old txn ++ lock ∷ []) self.new) }
-        ensures taken { OnOk result (Leaves (seen self.old) txn (span_of lock ∷ spans_of (seen self.old) txn) (seen self.new)) }
+        ensures taken { OnOk result (seen self.new ≡ set_spans txn (span_of lock ∷ spans_of (seen self.old) txn) (seen self.old)) }
         ensures refused { IfErr result (λ refusal. refusal ≡ Refusal.NoMemory) }
         ensures unchanged { OnErr result (seen self.new ≡ seen self.old) }
         ensures unlisted { OnErr result ((u : ℕ) → locks_in self.new u ≡ locks_in self.old u) }
@@ -52,11 +52,16 @@ impl Held {
         requires { spans_of (seen self.old) txn ≢ [] }
         ensures was { locks_in self.old txn ≡ locks_in self.new txn ++ result ∷ [] }
         ensures others { (u : ℕ) → u ≢ txn → locks_in self.new u ≡ locks_in self.old u }
-        ensures untaken { Leaves (seen self.old) txn (drop 1 (spans_of (seen self.old) txn)) (seen self.new) }
+        ensures untaken { seen self.new ≡ set_spans txn (drop 1 (spans_of (seen self.old) txn)) (seen self.old) }
     {
         match self.by_txn.get_mut(&txn) {
             Some(locks) => match locks.pop() {
-                Some(lock) => lock,
+                Some(lock) => {
+                    if locks.is_empty() {
+                        self.by_txn.remove(&txn);
+                    }
+                    lock
+                }
                 None => unreachable!(),
             },
             None => unreachable!(),
@@ -67,7 +72,7 @@ impl Held {
     pub fn drop_all(&mut self, txn: u64) -> Option<Vec<Lock>>
         ensures was { items_of result ≡ locks_in self.old txn }
         ensures listed { Lists self.old txn [] self.new }
-        ensures released { Leaves (seen self.old) txn [] (seen self.new) }
+        ensures released { seen self.new ≡ set_spans txn [] (seen self.old) }
     {
         self.by_txn.remove(&txn)
     }

@@ -1,7 +1,7 @@
 //! The locks and their index together.
 ghost use Rattle.std.specs.Prelude.{◌≡◌, ◌≢◌, ◌∷◌, [], drop, true, IfErr, IfSome, IfNone, OnOk, OnErr};
 ghost use Rattle.history.specs.Spans.{ends_above, IsRange};
-ghost use Rattle.range_locks.specs.Locks.{spans_of, Leaves, IsFree, IsLeastHolder, Refuses};
+ghost use Rattle.range_locks.specs.Locks.{spans_of, set_spans, IsFree, IsLeastHolder, Refuses};
 ghost use Rattle.range_locks.specs.Meant.{low_of, high_of, meant, span_of, seen};
 ghost use Rattle.range_locks.specs.Index.{IsIndexed};
 
@@ -41,7 +41,7 @@ impl Parts {
         ensures kept { IsIndexed self.new.held self.new.index }
         ensures range { OnOk result (IsRange (meant mode span.now)) }
         ensures free { OnOk result (IsFree (seen self.old.held) txn (meant mode span.now)) }
-        ensures taken { OnOk result (Leaves (seen self.old.held) txn (meant mode span.now ∷ spans_of (seen self.old.held) txn) (seen self.new.held)) }
+        ensures taken { OnOk result (seen self.new.held ≡ set_spans txn (meant mode span.now ∷ spans_of (seen self.old.held) txn) (seen self.old.held)) }
         ensures refused { IfErr result (Refuses (seen self.old.held) txn (meant mode span.now)) }
         ensures unchanged { OnErr result (seen self.new.held ≡ seen self.old.held) }
     {
@@ -82,7 +82,7 @@ impl Parts {
     pub fn add(&mut self, txn: u64, lock: Lock) -> Result<(), Refusal>
         requires { IsIndexed self.old.held self.old.index }
         ensures kept { IsIndexed self.new.held self.new.index }
-        ensures taken { OnOk result (Leaves (seen self.old.held) txn (span_of lock ∷ spans_of (seen self.old.held) txn) (seen self.new.held)) }
+        ensures taken { OnOk result (seen self.new.held ≡ set_spans txn (span_of lock ∷ spans_of (seen self.old.held) txn) (seen self.old.held)) }
         ensures refused { IfErr result (λ refusal. refusal ≡ Refusal.NoMemory) }
         ensures unchanged { OnErr result (seen self.new.held ≡ seen self.old.held) }
     {
@@ -107,7 +107,7 @@ impl Parts {
         requires indexed { IsIndexed self.old.held self.old.index }
         requires some { spans_of (seen self.old.held) txn ≢ [] }
         ensures kept { IsIndexed self.new.held self.new.index }
-        ensures untaken { Leaves (seen self.old.held) txn (drop 1 (spans_of (seen self.old.held) txn)) (seen self.new.held) }
+        ensures untaken { seen self.new.held ≡ set_spans txn (drop 1 (spans_of (seen self.old.held) txn)) (seen self.old.held) }
     {
         let lock = self.held.pop(txn);
         let entry = Entry { lock, txn };
@@ -120,7 +120,7 @@ impl Parts {
     pub fn release(&mut self, txn: u64)
         requires { IsIndexed self.old.held self.old.index }
         ensures kept { IsIndexed self.new.held self.new.index }
-        ensures released { Leaves (seen self.old.held) txn [] (seen self.new.held) }
+        ensures released { seen self.new.held ≡ set_spans txn [] (seen self.old.held) }
     {
         if let Some(locks) = self.held.drop_all(txn) {
             forget(&mut self.index, txn, locks.as_slice());

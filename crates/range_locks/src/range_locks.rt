@@ -2,7 +2,7 @@
 ghost use Rattle.std.specs.Prelude.{◌≡◌, ◌≢◌, ◌∷◌, [], drop, IfErr, OnOk, OnErr};
 ghost use Rattle.std.specs.Bool.{MatchBool};
 ghost use Rattle.history.specs.Spans.{IsRange};
-ghost use Rattle.range_locks.specs.Locks.{spans_of, Leaves, IsFree, Refuses};
+ghost use Rattle.range_locks.specs.Locks.{spans_of, set_spans, IsFree, Refuses};
 ghost use Rattle.range_locks.specs.Meant.{meant};
 
 use crate::parts::Parts;
@@ -45,7 +45,7 @@ impl RangeLocks {
     pub fn take(&mut self, txn: u64, mode: Mode, span: &Span) -> Result<(), Refusal>
         ensures range { OnOk result (IsRange (meant mode span.now)) }
         ensures free { OnOk result (IsFree self.old txn (meant mode span.now)) }
-        ensures taken { OnOk result (Leaves self.old txn (meant mode span.now ∷ spans_of self.old txn) self.new) }
+        ensures taken { OnOk result (self.new ≡ set_spans txn (meant mode span.now ∷ spans_of self.old txn) self.old) }
         ensures refused { IfErr result (Refuses self.old txn (meant mode span.now)) }
         ensures unchanged { OnErr result (self.new ≡ self.old) }
     {
@@ -62,14 +62,14 @@ impl RangeLocks {
     /// Gives back the transaction's newest span and nothing else. It has one. Takes no memory.
     pub fn untake(&mut self, txn: u64)
         requires { spans_of self.old txn ≢ [] }
-        ensures { Leaves self.old txn (drop 1 (spans_of self.old txn)) self.new }
+        ensures { self.new ≡ set_spans txn (drop 1 (spans_of self.old txn)) self.old }
     {
         self.parts.untake(txn);
     }
 
     /// Gives back all spans of the transaction and no others. Takes no memory.
     pub fn release(&mut self, txn: u64)
-        ensures { Leaves self.old txn [] self.new }
+        ensures { self.new ≡ set_spans txn [] self.old }
     {
         self.parts.release(txn);
     }

@@ -1,20 +1,20 @@
--- Each record that is appended keeps what is kept of the open transaction.
-use Rattle.std.proofs.Common.{◌≡◌, ◌≢◌, ℕ, ◌+◌, false, List, ◌∷◌, length, Option, Some, None, refl, sym, ap, ◌∙◌, arith, inl, inr, ◌⊎◌}
+-- Each record that is appended keeps what is kept of an open transaction that it isn't about.
+use Rattle.std.proofs.Common.{◌≡◌, ◌≢◌, ℕ, ◌+◌, false, List, ◌∷◌, length, Option, Some, refl, sym, ap, ◌∙◌, arith, inl, inr, ◌⊎◌}
 use Rattle.std.proofs.lemmas.Bool.{cases_eq, cases_Bool}
 use Rattle.record_key.specs.declared.op.Op.{Op}
 use Rattle.history.specs.declared.record.Record.{Record}
 use Rattle.history.specs.declared.record.Record.TheVariants as is
 use Rattle.history.specs.Log.{has_ended, IsOpen, IsStepOf, Requests}
-use Rattle.history.specs.Legal.{Fits, IsLegal, IsLatestOrNone}
+use Rattle.history.specs.Legal.{IsLegal, IsLatestOrNone}
 use Rattle.log_laws.specs.Laws.{undo_from}
 use Rattle.log_laws.proofs.Records.{AStep, ARequest, newest_at, older_at, kept_at, record_old, not_newest}
 use Rattle.log_laws.proofs.LegalLogs.{begun_number, ended_push, falls, step_number}
 use Rattle.log_laws.proofs.Named.{ended_begun}
 use Rattle.log_laws.proofs.Undo.{latest_as, latest_number}
 use Rattle.tc_core.specs.declared.open_txn.OpenTxn.{OpenTxn}
-use Rattle.tc_core.specs.Kept.{IsOpenTxn, IsAlone, Waits}
+use Rattle.tc_core.specs.Kept.{IsOpenTxn, Waits}
 
-abbrev pub ABegin : Option Record → Type 0
+abbrev ABegin : Option Record → Type 0
 ABegin r = r ≡ Some is.Begin
 
 -- a transaction that is open with one record more is the newest record or was open
@@ -24,6 +24,10 @@ open_had r log t h =
       | inl e ↦ let same : Some r ≡ Some is.Begin = newest_at ABegin r log t e h.begun in inl (e, cc)
       | inr e ↦ inr (record { begun = older_at ABegin r log t e h.begun; goes_on = falls (has_ended log t) (has_ended (r ∷ log) t) (ended_push t r log) h.goes_on })
     ]
+
+-- so it was open, where no transaction begins
+pub open_was : (r : Record) (log : List Record) → r ≢ is.Begin → (t : ℕ) → IsOpen (r ∷ log) t → IsOpen log t
+open_was r log no_begin t h = elim (open_had r log t h) [ inl new ↦ absurd (no_begin new.1) | inr was ↦ was ]
 
 pub open_kept : (r : Record) (log : List Record) (t : ℕ) → has_ended (r ∷ log) t ≡ has_ended log t → IsOpen log t → IsOpen (r ∷ log) t
 open_kept r log t same h = record {
@@ -39,37 +43,29 @@ unended_next log legal =
       | inr h ↦ h
     ]
 
--- a record that is nobody's step, and no answer, leaves what is kept of the open transaction
-pub record IsNeutral (r : Record) (log : List Record) : Type 0 where
-  pub fits : Fits log r
-  pub no_begin : r ≢ is.Begin
-  pub no_step : (t : ℕ) → AStep t (Some r) → ⊥
-  pub ends_none : (t : ℕ) → has_ended (r ∷ log) t ≡ has_ended log t
+-- a record that is neither a step nor an end of the transaction leaves what is kept of it
+pub record IsNeutral (r : Record) (log : List Record) (t : ℕ) : Type 0 where
+  pub no_step : AStep t (Some r) → ⊥
+  pub ends_not : has_ended (r ∷ log) t ≡ has_ended log t
 
-module _ (r : Record) (log : List Record) (neutral : IsNeutral r log) where
-  pub open_was : (t : ℕ) → IsOpen (r ∷ log) t → IsOpen log t
-  open_was t h = elim (open_had r log t h) [ inl new ↦ absurd (neutral.no_begin new.1) | inr was ↦ was ]
+module _ (r : Record) (log : List Record) (t : ℕ) (neutral : IsNeutral r log t) where
+  pub step_was : (n : ℕ) → IsStepOf (r ∷ log) t n → IsStepOf log t n
+  step_was n h = elim (cases_eq n (length log + 1)) [ inl e ↦ absurd (neutral.no_step (newest_at (AStep t) r log n e h)) | inr e ↦ older_at (AStep t) r log n e h ]
 
-  pub step_was : (t n : ℕ) → IsStepOf (r ∷ log) t n → IsStepOf log t n
-  step_was t n h = elim (cases_eq n (length log + 1)) [ inl e ↦ absurd (neutral.no_step t (newest_at (AStep t) r log n e h)) | inr e ↦ older_at (AStep t) r log n e h ]
+  step_is : (n : ℕ) → IsStepOf log t n → IsStepOf (r ∷ log) t n
+  step_is n h = kept_at (AStep t) r log n (step_number log n t h) h
 
-  step_is : (t n : ℕ) → IsStepOf log t n → IsStepOf (r ∷ log) t n
-  step_is t n h = kept_at (AStep t) r log n (step_number log n t h) h
+  last_is : (s : ℕ) → IsLatestOrNone (IsStepOf log t) s → IsLatestOrNone (IsStepOf (r ∷ log) t) s
+  last_is s h = latest_as (IsStepOf log t) (IsStepOf (r ∷ log) t) step_is step_was s h
 
-  last_is : (t s : ℕ) → IsLatestOrNone (IsStepOf log t) s → IsLatestOrNone (IsStepOf (r ∷ log) t) s
-  last_is t s h = latest_as (IsStepOf log t) (IsStepOf (r ∷ log) t) (step_is t) (step_was t) s h
+  pub request_was : (m : ℕ) (o : Op) → IsStepOf (r ∷ log) t m → Requests (r ∷ log) m o → Requests log m o
+  request_was m o step h = older_at (ARequest o) r log m (not_newest log m (step_number log m t (step_was m step))) h
 
-  pub request_was : (t m : ℕ) (o : Op) → IsStepOf (r ∷ log) t m → Requests (r ∷ log) m o → Requests log m o
-  request_was t m o step h = older_at (ARequest o) r log m (not_newest log m (step_number log m t (step_was t m step))) h
-
-  pub still_alone : IsAlone log None → IsAlone (r ∷ log) None
-  still_alone alone t h = alone t (open_was t h)
-
-  pub still_open : (o : OpenTxn) (w : Option ℕ) → IsOpenTxn log o → Waits (r ∷ log) (record o { waiting = w }) w → IsOpenTxn (r ∷ log) (record o { waiting = w })
-  still_open o w h waits = record {
-    is = open_kept r log o.txn (neutral.ends_none o.txn) h.is;
-    only = λ t open_now. h.only t (open_was t open_now);
-    last = last_is o.txn o.last h.last;
-    undo = h.undo ∙ ap (λ x. undo_from x o.last) (sym (record_old r log o.last (λ e. omega (arith, e, latest_number log o.txn o.last h.last))));
-    waits = waits;
-  }
+pub still_open : (r : Record) (log : List Record) (o : OpenTxn) (w : Option ℕ) → IsNeutral r log o.txn → IsOpenTxn log o
+    → Waits (r ∷ log) (record o { waiting = w }) w → IsOpenTxn (r ∷ log) (record o { waiting = w })
+still_open r log o w neutral h waits = record {
+  is = open_kept r log o.txn neutral.ends_not h.is;
+  last = last_is r log o.txn neutral o.last h.last;
+  undo = h.undo ∙ ap (λ x. undo_from x o.last) (sym (record_old r log o.last (λ e. omega (arith, e, latest_number log o.txn o.last h.last))));
+  waits = waits;
+}

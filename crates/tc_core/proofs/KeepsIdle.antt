@@ -1,4 +1,4 @@
--- What the open transaction waits for, when one record more is appended.
+-- What an open transaction waits for, when one record more is appended.
 use Rattle.std.proofs.Common.{◌≡◌, ℕ, ◌+◌, Bool, true, false, cond, List, ◌∷◌, length, Option, Some, None, IsSome, refl, ◌∙◌, subst, inl, inr, eq-eqb, MatchBool}
 use Rattle.std.specs.Prelude.{◌==◌}
 use Rattle.std.proofs.lemmas.Bool.{cases_eq}
@@ -11,8 +11,8 @@ use Rattle.history.specs.Legal.{IsIdle}
 use Rattle.log_laws.proofs.Records.{AStep, ARequest, newest_at, older_at, kept_at, within, IsNumber}
 use Rattle.log_laws.proofs.LegalLogs.{answered_push}
 use Rattle.tc_core.specs.declared.open_txn.OpenTxn.{OpenTxn}
-use Rattle.tc_core.specs.Kept.{IsRequest, IsWaiting, Waits}
-use Rattle.tc_core.proofs.Keeps.{IsNeutral, step_was, request_was}
+use Rattle.tc_core.specs.Kept.{IsRequest, IsWaiting, IsOpenTxn, Waits}
+use Rattle.tc_core.proofs.Keeps.{IsNeutral, step_was, request_was, still_open}
 
 -- the record that is waited for stays
 a_record : (log : List Record) (n : ℕ) (q : Record) → record_at log n ≡ Some q → IsNumber log n
@@ -26,7 +26,7 @@ request_at true r log o n h =
 request_at false r log o n h =
     let q : Record = is.Op o.txn h.0 h.1 in (h.0, h.1, kept_at (λ x. x ≡ Some q) r log n (a_record log n q h.2) h.2)
 
-pub request_kept : (r : Record) (log : List Record) (o : OpenTxn) (n : ℕ) → IsRequest log o n → IsRequest (r ∷ log) o n
+request_kept : (r : Record) (log : List Record) (o : OpenTxn) (n : ℕ) → IsRequest log o n → IsRequest (r ∷ log) o n
 request_kept r log o n h = request_at o.rolling r log o n h
 
 -- what is waited for is a request of the transaction
@@ -44,18 +44,23 @@ own_at false log o n h = record { op = h.1; step = rw h.2 refl; requests = rw h.
 pub own_request : (log : List Record) (o : OpenTxn) (n : ℕ) → IsRequest log o n → IsOwnRequest log o.txn n
 own_request log o n h = own_at o.rolling log o n h
 
-module _ (r : Record) (log : List Record) (neutral : IsNeutral r log) where
-  -- nothing is answered by it: whoever waits waits still
-  pub still_idle : (t : ℕ) → IsIdle log t → IsIdle (r ∷ log) t
-  still_idle t idle n o step requests = answered_push n r log (idle n o (step_was r log neutral t n step) (request_was r log neutral t n o step requests))
+module _ (r : Record) (log : List Record) where
+  -- nothing of the transaction is answered by it: who waits waits still
+  still_idle : (t : ℕ) → IsNeutral r log t → IsIdle log t → IsIdle (r ∷ log) t
+  still_idle t neutral idle n o step requests = answered_push n r log (idle n o (step_was r log t neutral n step) (request_was r log t neutral n o step requests))
 
-  pub still_waits : (o : OpenTxn) (w : Option ℕ) → ((n : ℕ) → answer_of (r ∷ log) n ≡ answer_of log n) → Waits log o w → Waits (r ∷ log) o w
-  still_waits o None same h = still_idle o.txn h
-  still_waits o (Some n) same h = record {
+  still_waits : (o : OpenTxn) (w : Option ℕ) → IsNeutral r log o.txn → ((n : ℕ) → w ≡ Some n → answer_of (r ∷ log) n ≡ answer_of log n) → Waits log o w → Waits (r ∷ log) o w
+  still_waits o None neutral same h = still_idle o.txn neutral h
+  still_waits o (Some n) neutral same h = record {
     request = request_kept r log o n h.request;
-    unanswered = same n ∙ h.unanswered;
-    only = λ m op step requests apart. answered_push m r log (h.only m op (step_was r log neutral o.txn m step) (request_was r log neutral o.txn m op step requests) apart);
+    unanswered = same n refl ∙ h.unanswered;
+    only = λ m op step requests apart. answered_push m r log
+        (h.only m op (step_was r log o.txn neutral m step) (request_was r log o.txn neutral m op step requests) apart);
   }
+
+  -- so it leaves another transaction's
+  pub leaves_open : (o : OpenTxn) → IsNeutral r log o.txn → ((n : ℕ) → o.waiting ≡ Some n → answer_of (r ∷ log) n ≡ answer_of log n) → IsOpenTxn log o → IsOpenTxn (r ∷ log) o
+  leaves_open o neutral same h = still_open r log o o.waiting neutral h (still_waits o o.waiting neutral same h.waits)
 
 some_answer : (b : Bool) (a : Answer) (o : Option Answer) → b ≡ true → IsSome (cond b (Some a) o)
 some_answer true a o h = refl

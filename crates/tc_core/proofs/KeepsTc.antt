@@ -1,74 +1,89 @@
 -- Each call keeps what holds of the transaction component.
-use Rattle.std.proofs.Common.{◌≡◌, ◌≢◌, ℕ, ◌+◌, Bool, true, false, List, ◌∷◌, length, Option, Some, None, IsSome, refl, sym, ap, ◌∙◌, subst, arith, inl, inr, true≢false, eq-eqb, eqb-true}
-use Rattle.std.specs.Prelude.{◌||◌, ◌==◌, if◌then◌else◌}
-use Rattle.std.proofs.lemmas.Bool.{cases_eq}
+use Rattle.std.proofs.Common.{◌≡◌, ◌≢◌, ℕ, ◌+◌, ◌<◌, Bool, true, false, List, [], ◌∷◌, length, Option, Some, None, IsSome, refl, sym, ap, ◌∙◌, subst, arith, inl, inr, eq-eqb, eqb-true, true≢false}
+use Rattle.std.specs.Prelude.{if◌then◌else◌}
 use Rattle.std.proofs.lemmas.Bool.Decides.{nat_tests}
+use Rattle.std.proofs.lemmas.Bool.{cases_eq}
 use Rattle.record_key.specs.declared.op.Op.{Op}
 use Rattle.record_key.specs.declared.op.Answer.{Answer}
+use Rattle.record_key.specs.Table.{Bytes, key_of}
 use Rattle.history.specs.declared.record.Record.{Record}
 use Rattle.history.specs.declared.record.Record.TheVariants as is
-use Rattle.history.specs.Log.{record_at, answer_of, has_ended, op_in, request_in, IsStepOf}
-use Rattle.history.specs.Legal.{Fits, IsLegal, IsIdle, IsLatest, IsLatestOrNone, Stands}
-use Rattle.log_laws.specs.Laws.{undo_from}
-use Rattle.log_laws.proofs.Records.{AStep, at_newest, newest_at, older_at, record_new, not_newest}
-use Rattle.log_laws.proofs.LegalLogs.{begun_number, begun, step_number, stands_number, stands_step, unanswered_next}
+use Rattle.history.specs.Log.{record_at, answer_of, op_in, request_in, step_in, IsOpen, IsOpBy}
+use Rattle.history.specs.Legal.{Fits, IsLegal, IsIdle, IsLatest, IsLatestOrNone, IsKeyFree, Stands}
+use Rattle.history.specs.Spans.{Exclusive, Span, at_key, Conflict, AnyConflict}
+use Rattle.log_laws.proofs.LegalLogs.{stands_number, stands_step, unanswered_next}
 use Rattle.log_laws.proofs.Undo.{latest_found, earlier_found, op_record}
 use Rattle.tc_core.specs.declared.open_txn.OpenTxn.{OpenTxn}
-use Rattle.tc_core.specs.TcView.{TcView}
-use Rattle.tc_core.specs.Calls.{reconnected, begun as begins, acted, rolled, forced, compensated, ended, answered, next_of, inverse_at, waits_for}
-use Rattle.tc_core.specs.Replies.{takes, is_number, awaiting, next_phase, passed}
+use Rattle.tc_core.specs.declared.open_txn.Read.{Read}
+use Rattle.tc_core.specs.OpenTxns.{find, AreBelow}
+use Rattle.range_locks.specs.Locks.{spans_of, IsFree}
+use Rattle.range_locks.proofs.Tables.{empty_table, set_other}
+use Rattle.tc_core.specs.TcView.{TcView, fresh}
+use Rattle.tc_core.specs.Calls.{reconnected, begun_txn, begun, acted_txn, acted, rolled, forced, compensated_txn, compensated, ended, answered_txn, answered, next_of, inverse_at}
+use Rattle.tc_core.specs.Replies.{takes, is_number, if_awaits, asker, awaiting, next_phase, passed}
 use Rattle.tc_core.specs.declared.phase.Phase.{Phase}
 use Rattle.tc_core.specs.declared.phase.Phase.TheVariants as phase
-use Rattle.tc_core.specs.Kept.{IsTc, IsAlone, IsOpenTxn, IsWaiting, Waits, IsPhase}
+use Rattle.tc_core.specs.Kept.{IsTc, IsOpenTxn, IsWaiting, Waits, IsReading, IsPhase}
 use Rattle.tc_core.specs.Undo.{IsUndoable, HasRequest}
-use Rattle.tc_core.proofs.Index.{record_at-zero, nothing_answered}
-use Rattle.tc_core.proofs.Keeps.{IsNeutral, open_had, open_kept, unended_next, still_alone, still_open}
-use Rattle.tc_core.proofs.KeepsIdle.{own_request, still_waits, idle_now, waits_now, idle_after}
+use Rattle.tc_core.proofs.Finding.{found_own}
+use Rattle.tc_core.proofs.Index.{nothing_answered}
+use Rattle.tc_core.proofs.Keeps.{open_had, open_was}
+use Rattle.tc_core.proofs.KeepsIdle.{own_request}
+use Rattle.tc_core.proofs.KeepsOpen.{open_below, same_open, replaced_open, added_open, without_open}
+use Rattle.tc_core.proofs.KeepsSteps.{session_leaves, begin_leaves, step_leaves, end_leaves, answer_leaves, opens, acts, answer_comes, compensates, ends}
+use Rattle.tc_core.proofs.HeldSpans.{held_is, op_spans_has, conflicts_itself}
+use Rattle.tc_core.proofs.LocksHeld.{any_held, begins, takes as takes_key, longer, replaced, gives_back}
+use Rattle.tc_core.proofs.Readings.{no_reading, reads_replaced, reads_begun, reads_ended}
 
 pub none_next : (log : List Record) → IsLegal log → answer_of log (length log + 1) ≡ None
 none_next log legal = nothing_answered (answer_of log (length log + 1)) (unanswered_next log legal)
 
--- a new session
-session_neutral : (log : List Record) → IsNeutral is.Session log
-session_neutral log = record { fits = tt; no_begin = λ e. cc; no_step = λ t s. cc; ends_none = λ t. refl }
-
-still_so : (log : List Record) (o : Option OpenTxn) → IsAlone log o → IsAlone (is.Session ∷ log) o
-still_so log None alone = still_alone is.Session log (session_neutral log) alone
-still_so log (Some o) h =
-    still_open is.Session log (session_neutral log) o o.waiting h (still_waits is.Session log (session_neutral log) o o.waiting (λ n. refl) h.waits)
-
-pub keeps_session : (w : TcView) → IsTc w → IsTc (reconnected w)
-keeps_session w k = record { legal = (tt, k.legal); within = omega arith; session = omega arith; phase = omega arith; alone = still_so w.log w.open_txn k.alone }
-
-pub keeps_force : (w : TcView) → IsTc w → IsTc (forced w)
-keeps_force w k = record { legal = k.legal; within = omega arith; session = omega (arith, k.session, k.within); phase = k.phase; alone = k.alone }
-
--- a transaction begins
-no_steps_yet : (log : List Record) (n : ℕ) → IsLegal log → IsStepOf (is.Begin ∷ log) (length log + 1) n → ⊥
-no_steps_yet log n legal step =
-    let r : Record = is.Begin in
-    elim (cases_eq n (length log + 1)) [
-      | inl e ↦ let none : AStep (length log + 1) (Some r) = newest_at (AStep (length log + 1)) r log n e step in cc
-      | inr e ↦ not_newest log (length log + 1) (begun_number log (length log + 1) (begun log (length log + 1) n legal (older_at (AStep (length log + 1)) r log n e step))) refl
-    ]
-
-opens : (log : List Record) → IsLegal log → IsAlone log None → IsOpenTxn (is.Begin ∷ log) (record { txn = length log + 1; last = 0; undo = 0; waiting = None; rolling = false })
-opens log legal alone = record {
-  is = record { begun = record_new is.Begin log; goes_on = unended_next log legal };
-  only = λ t h. elim (open_had is.Begin log t h) [ inl new ↦ new.0 | inr was ↦ absurd (alone t was) ];
-  last = inr (refl, λ n step. no_steps_yet log n legal step);
-  undo = sym (ap (λ x. undo_from x 0) (record_at-zero (is.Begin ∷ log)));
-  waits = λ n o step requests. absurd (no_steps_yet log n legal step);
+-- nothing is open at first
+pub fresh_tc : IsTc fresh
+fresh_tc = record {
+  legal = tt;
+  within = omega arith;
+  session = omega arith;
+  phase = refl;
+  open_txns = record { each = λ t o at. absurd (cc); all = λ t h. absurd (let none = h.begun in cc); order = tt; few = omega arith };
+  locks = record { table = empty_table; exclusive = λ t. refl; others = λ t none. refl; apart = λ t u differ. tt };
+  reading = record { each = λ t o r at. absurd (cc); apart = λ t u o p r q at. absurd (cc) };
 }
 
-pub keeps_begin : (w : TcView) → IsTc w → w.open_txn ≡ None → IsTc (begins w)
-keeps_begin w k none =
-    let P : Option OpenTxn → Type 0 = λ o. IsAlone w.log o in
-    record { legal = (tt, k.legal); within = omega (arith, k.within); session = k.session; phase = k.phase; alone = opens w.log k.legal (subst P none k.alone) }
+-- a new session
+pub keeps_session : (w : TcView) → IsTc w → IsTc (reconnected w)
+keeps_session w k = record {
+  legal = (tt, k.legal);
+  within = omega arith;
+  session = omega arith;
+  phase = omega arith;
+  open_txns = same_open w.log (is.Session ∷ w.log) w.open_txns k.open_txns (session_leaves w.log) (open_was is.Session w.log (λ e. cc));
+  locks = longer w.log w.open_txns w.locks k.locks is.Session refl;
+  reading = k.reading;
+}
 
--- what is known where a transaction is open
-pub alone_at : (w : TcView) (o : OpenTxn) → IsTc w → w.open_txn ≡ Some o → IsOpenTxn w.log o
-alone_at w o k is = let P : Option OpenTxn → Type 0 = λ x. IsAlone w.log x in subst P is k.alone
+pub keeps_force : (w : TcView) → IsTc w → IsTc (forced w)
+keeps_force w k = record { legal = k.legal; within = omega arith; session = omega (arith, k.session, k.within); phase = k.phase; open_txns = k.open_txns; locks = k.locks; reading = k.reading }
+
+-- a transaction begins, above all that are open
+pub all_below : (w : TcView) → IsTc w → AreBelow (length w.log + 1) w.open_txns
+all_below w k = open_below w.log w.open_txns k.open_txns
+
+pub keeps_begin : (w : TcView) → IsTc w → length w.open_txns < 64 → IsTc (begun w)
+keeps_begin w k less = record {
+  legal = (tt, k.legal);
+  within = omega (arith, k.within);
+  session = k.session;
+  phase = k.phase;
+  open_txns = added_open w.log (is.Begin ∷ w.log) w.open_txns k.open_txns (begun_txn (length w.log + 1)) refl less (opens w.log k.legal) (begin_leaves w.log)
+      (λ t now. elim (open_had is.Begin w.log t now) [ inl new ↦ inl new.0 | inr was ↦ inr was ]);
+  locks = begins w.log w.open_txns w.locks k.locks (begun_txn (length w.log + 1)) k.legal refl (all_below w k);
+  reading = reads_begun w.reads w.open_txns w.locks k.reading (begun_txn (length w.log + 1)) refl;
+}
+
+-- what is known of an open transaction
+pub open_at : (w : TcView) (o : OpenTxn) → IsTc w → find o.txn w.open_txns ≡ Some o → IsOpenTxn w.log o
+open_at w o k at = k.open_txns.each o.txn o at
 
 pub idle_at : (log : List Record) (o : OpenTxn) → IsOpenTxn log o → o.waiting ≡ None → IsIdle log o.txn
 idle_at log o h none = let P : Option ℕ → Type 0 = λ x. Waits log o x in subst P none h.waits
@@ -76,86 +91,107 @@ idle_at log o h none = let P : Option ℕ → Type 0 = λ x. Waits log o x in su
 pub waits_at : (log : List Record) (o : OpenTxn) (n : ℕ) → IsOpenTxn log o → o.waiting ≡ Some n → IsWaiting log o n
 waits_at log o n h some = let P : Option ℕ → Type 0 = λ x. Waits log o x in subst P some h.waits
 
--- an operation
-pub fits_op : (w : TcView) (o : OpenTxn) (op : Op) → IsTc w → w.open_txn ≡ Some o → o.waiting ≡ None → Fits w.log (is.Op o.txn o.last op)
-fits_op w o op k is none =
-    let h = alone_at w o k is in
-    record { open_txn = h.is; idle = idle_at w.log o h none; prev = h.last; free = λ n u q by same open_u. h.only u open_u }
+pub reading_at : (w : TcView) (o : OpenTxn) (r : Read) → IsTc w → find o.txn w.open_txns ≡ Some o → o.reading ≡ Some r → IsReading w.reads w.locks o r
+reading_at w o r k at some = k.reading.each o.txn o r at some
 
-newest_step : (r : Record) (log : List Record) (t : ℕ) → AStep t (Some r) → IsLatestOrNone (IsStepOf (r ∷ log) t) (length log + 1)
-newest_step r log t step = inl (record { is = at_newest (AStep t) r log (length log + 1) refl step; greatest = λ m h. omega (arith, (step_number (r ∷ log) m t h).bounded) })
+-- who isn't open holds nothing
+pub unheld : (w : TcView) (t : ℕ) → IsTc w → find t w.open_txns ≡ None → spans_of w.locks t ≡ []
+unheld w t k none = k.locks.others t none
 
-acts : (log : List Record) (o : OpenTxn) (op : Op) → IsLegal log → IsOpenTxn log o → IsIdle log o.txn
-    → IsOpenTxn (is.Op o.txn o.last op ∷ log) (record { txn = o.txn; last = length log + 1; undo = length log + 1; waiting = Some (length log + 1); rolling = false })
-acts log o op legal h idle =
+-- an operation of an open transaction holds its key
+pub held_by : (w : TcView) (n u : ℕ) (q : Op) (s : Span) → IsTc w → IsOpBy w.log n u q → IsOpen w.log u → Conflict s (at_key Exclusive (key_of q)) → AnyConflict s (spans_of w.locks u)
+held_by w n u q s k by open_u clash =
+    let P : List Span → Type 0 = AnyConflict s in
+    any_held w.log w.open_txns w.locks k.locks u s
+    (subst P (sym (held_is w.log w.open_txns u (k.open_txns.all u open_u))) (op_spans_has s w.log n u q by clash))
+
+-- so a key that nobody else holds has no operation of another open transaction
+pub key_free : (w : TcView) (t : ℕ) (op : Op) → IsTc w → IsFree w.locks t (at_key Exclusive (key_of op)) → IsKeyFree w.log t (key_of op)
+key_free w t op k free n u o by key open_u =
+    elim (cases_eq u t) [
+      | inl same ↦ same
+      | inr apart ↦
+          let P : Bytes → Type 0 = λ x. Conflict (at_key Exclusive x) (at_key Exclusive (key_of o)) in
+          absurd (free u apart (held_by w n u o (at_key Exclusive (key_of op)) k by open_u (subst P key (conflicts_itself (key_of o)))))
+    ]
+
+-- an operation on a key that nobody else holds
+pub fits_op : (w : TcView) (o : OpenTxn) (op : Op) → IsTc w → find o.txn w.open_txns ≡ Some o → o.waiting ≡ None → IsFree w.locks o.txn (at_key Exclusive (key_of op))
+    → Fits w.log (is.Op o.txn o.last op)
+fits_op w o op k at none free =
+    let h = open_at w o k at in
+    record { open_txn = h.is; idle = idle_at w.log o h none; prev = h.last; free = key_free w o.txn op k free }
+
+pub keeps_act : (w : TcView) (o : OpenTxn) (op : Op) → IsTc w → find o.txn w.open_txns ≡ Some o → o.waiting ≡ None → IsFree w.locks o.txn (at_key Exclusive (key_of op))
+    → IsTc (acted w o op)
+keeps_act w o op k at none free =
     let r : Record = is.Op o.txn o.last op in
-    let new : OpenTxn = record { txn = o.txn; last = length log + 1; undo = length log + 1; waiting = Some (length log + 1); rolling = false } in
+    let h = open_at w o k at in
     record {
-      is = open_kept r log o.txn refl h.is;
-      only = λ t now. elim (open_had r log t now) [ inl b ↦ absurd (let e : r ≡ is.Begin = b.1 in cc) | inr was ↦ h.only t was ];
-      last = newest_step r log o.txn refl;
-      undo = sym (ap (λ x. undo_from x (length log + 1)) (record_new r log));
-      waits = waits_now r log o.txn new refl idle (o.last, op, record_new r log) (none_next log legal);
-    }
-
-pub keeps_act : (w : TcView) (o : OpenTxn) (op : Op) → IsTc w → w.open_txn ≡ Some o → o.waiting ≡ None → IsTc (acted w o op)
-keeps_act w o op k is none =
-    let h = alone_at w o k is in
-    record {
-      legal = (fits_op w o op k is none, k.legal);
+      legal = (fits_op w o op k at none free, k.legal);
       within = omega (arith, k.within);
       session = k.session;
       phase = k.phase;
-      alone = acts w.log o op k.legal h (idle_at w.log o h none);
+      open_txns = replaced_open w.log (r ∷ w.log) w.open_txns k.open_txns (acted_txn o (length w.log + 1)) o at (acts w.log o op (none_next w.log k.legal) h (idle_at w.log o h none))
+          (step_leaves r w.log o.txn refl (λ n. refl)) (open_was r w.log (λ e. cc));
+      locks = takes_key w.log w.open_txns w.locks k.locks (acted_txn o (length w.log + 1)) o o.last op at free;
+      reading = reads_replaced w.reads w.open_txns w.locks k.reading (acted_txn o (length w.log + 1)) o _ at refl (λ u apart. set_other o.txn (at_key Exclusive (key_of op) ∷ spans_of w.locks o.txn) w.locks u k.locks.table apart);
     }
 
 -- a rollback begins
-pub keeps_rollback : (w : TcView) (o : OpenTxn) → IsTc w → w.open_txn ≡ Some o → o.waiting ≡ None → IsTc (rolled w o)
-keeps_rollback w o k is none =
-    let h = alone_at w o k is in
-    let P : Option ℕ → Type 0 = λ x. Waits w.log (record o { rolling = true }) x in
+pub keeps_rollback : (w : TcView) (o : OpenTxn) → IsTc w → find o.txn w.open_txns ≡ Some o → o.waiting ≡ None → o.reading ≡ None → IsTc (rolled w o)
+keeps_rollback w o k at none still =
+    let h = open_at w o k at in
+    let rolling : OpenTxn = record o { rolling = true } in
+    let P : Option ℕ → Type 0 = λ x. Waits w.log rolling x in
     record {
       legal = k.legal;
       within = k.within;
       session = k.session;
       phase = k.phase;
-      alone = record { is = h.is; only = h.only; last = h.last; undo = h.undo; waits = subst P (sym none) (idle_at w.log o h none) };
+      open_txns = replaced_open w.log w.log w.open_txns k.open_txns rolling o at
+          (record { is = h.is; last = h.last; undo = h.undo; waits = subst P (sym none) (idle_at w.log o h none) })
+          (λ p apart same. same) (λ t same. same);
+      locks = replaced w.log w.open_txns w.locks k.locks rolling o at;
+      reading = reads_replaced w.reads w.open_txns w.locks k.reading rolling o w.locks at still (λ u apart. refl);
     }
 
 -- an answer
-pub fits_answer : (w : TcView) (o : OpenTxn) (n : ℕ) (a : Answer) → IsTc w → w.open_txn ≡ Some o → o.waiting ≡ Some n → Fits w.log (is.Answer n a)
-fits_answer w o n a k is some =
-    let waits = waits_at w.log o n (alone_at w o k is) some in
+pub fits_answer : (w : TcView) (o : OpenTxn) (n : ℕ) (a : Answer) → IsTc w → find o.txn w.open_txns ≡ Some o → o.waiting ≡ Some n → Fits w.log (is.Answer n a)
+fits_answer w o n a k at some =
+    let waits = waits_at w.log o n (open_at w o k at) some in
     let own = own_request w.log o n waits.request in
     record { op = own.op; requested = own.requests; unanswered = waits.unanswered }
 
-pub keeps_answer : (w : TcView) (o : OpenTxn) (n : ℕ) (a : Answer) → IsTc w → w.open_txn ≡ Some o → o.waiting ≡ Some n → IsTc (answered w o n a)
+pub keeps_answer : (w : TcView) (o : OpenTxn) (n : ℕ) (a : Answer) → IsTc w → find o.txn w.open_txns ≡ Some o → o.waiting ≡ Some n → IsTc (answered w o n a)
 keeps_answer w o n a k at some =
     let r : Record = is.Answer n a in
-    let h = alone_at w o k at in
-    let fits = fits_answer w o n a k at some in
+    let h = open_at w o k at in
+    let waits = waits_at w.log o n h some in
     record {
-      legal = (fits, k.legal);
+      legal = (fits_answer w o n a k at some, k.legal);
       within = omega (arith, k.within);
       session = k.session;
       phase = k.phase;
-      alone = still_open r w.log (record { fits = fits; no_begin = λ e. cc; no_step = λ t s. cc; ends_none = λ t. refl }) o None h (idle_now w.log o n a (waits_at w.log o n h some));
+      open_txns = replaced_open w.log (r ∷ w.log) w.open_txns k.open_txns (answered_txn o) o at (answer_comes w.log o n a h waits)
+          (answer_leaves w.log o n a waits) (open_was r w.log (λ e. cc));
+      locks = replaced (r ∷ w.log) w.open_txns w.locks (longer w.log w.open_txns w.locks k.locks r refl) (answered_txn o) o at;
+      reading = reads_replaced w.reads w.open_txns w.locks k.reading (answered_txn o) o w.locks at
+          (no_reading o.reading (λ q reads. let idle : o.waiting ≡ None = (reading_at w o q k at reads).idle in absurd (cc))) (λ u apart. refl);
     }
 
 -- what is left to undo is an answered operation, the latest that stands
-pub left_to_undo : (w : TcView) (o : OpenTxn) → IsTc w → w.open_txn ≡ Some o → o.undo ≢ 0 → IsLatest (Stands w.log o.txn) o.undo
-left_to_undo w o k at some =
-    let h = alone_at w o k at in
-    let found : IsLatestOrNone (Stands w.log o.txn) o.undo =
-    let P : ℕ → Type 0 = IsLatestOrNone (Stands w.log o.txn) in subst P (sym h.undo) (latest_found w.log o.txn k.legal o.last h.last) in
-    elim found [ inl latest ↦ latest | inr none ↦ absurd (some none.0) ]
+undo_found : (w : TcView) (o : OpenTxn) → IsTc w → find o.txn w.open_txns ≡ Some o → IsLatestOrNone (Stands w.log o.txn) o.undo
+undo_found w o k at =
+    let h = open_at w o k at in
+    let P : ℕ → Type 0 = IsLatestOrNone (Stands w.log o.txn) in subst P (sym h.undo) (latest_found w.log o.txn k.legal o.last h.last)
 
-pub nothing_to_undo : (w : TcView) (o : OpenTxn) → IsTc w → w.open_txn ≡ Some o → o.undo ≡ 0 → (n : ℕ) → Stands w.log o.txn n → ⊥
+pub left_to_undo : (w : TcView) (o : OpenTxn) → IsTc w → find o.txn w.open_txns ≡ Some o → o.undo ≢ 0 → IsLatest (Stands w.log o.txn) o.undo
+left_to_undo w o k at some = elim (undo_found w o k at) [ inl latest ↦ latest | inr none ↦ absurd (some none.0) ]
+
+pub nothing_to_undo : (w : TcView) (o : OpenTxn) → IsTc w → find o.txn w.open_txns ≡ Some o → o.undo ≡ 0 → (n : ℕ) → Stands w.log o.txn n → ⊥
 nothing_to_undo w o k at zero n stands =
-    let h = alone_at w o k at in
-    let found : IsLatestOrNone (Stands w.log o.txn) o.undo =
-    let P : ℕ → Type 0 = IsLatestOrNone (Stands w.log o.txn) in subst P (sym h.undo) (latest_found w.log o.txn k.legal o.last h.last) in
-    elim found [
+    elim (undo_found w o k at) [
       | inl latest ↦ omega (arith, zero, (stands_number w.log o.txn o.undo latest.is).positive)
       | inr none ↦ none.1 n stands
     ]
@@ -164,18 +200,18 @@ an_answer : (o : Option Answer) → IsSome o → (a : Answer) × (o ≡ Some a)
 an_answer None h = absurd (cc)
 an_answer (Some a) h = (a, refl)
 
-pub undoable : (w : TcView) (o : OpenTxn) → IsTc w → w.open_txn ≡ Some o → o.waiting ≡ None → o.undo ≢ 0 → IsUndoable w.log o.undo
+pub undoable : (w : TcView) (o : OpenTxn) → IsTc w → find o.txn w.open_txns ≡ Some o → o.waiting ≡ None → o.undo ≢ 0 → IsUndoable w.log o.undo
 undoable w o k at none some =
     let stands = (left_to_undo w o k at some).is in
     let the_op = op_record o.txn stands.op (record_at w.log o.undo) stands.is in
     let the_answer = an_answer (answer_of w.log o.undo)
-    (idle_at w.log o (alone_at w o k at) none o.undo stands.op (stands_step w.log o.txn o.undo stands) (let P : Option Record → Type 0 = λ r. request_in r ≡ Some stands.op in subst P (sym the_op.1) refl)) in
+    (idle_at w.log o (open_at w o k at) none o.undo stands.op (stands_step w.log o.txn o.undo stands) (let P : Option Record → Type 0 = λ r. request_in r ≡ Some stands.op in subst P (sym the_op.1) refl)) in
     record { txn = o.txn; prev = the_op.0; op = stands.op; answer = the_answer.0; is = the_op.1; answered = the_answer.1 }
 
-pub fits_comp : (w : TcView) (o : OpenTxn) → IsTc w → w.open_txn ≡ Some o → o.waiting ≡ None → o.undo ≢ 0
+pub fits_comp : (w : TcView) (o : OpenTxn) → IsTc w → find o.txn w.open_txns ≡ Some o → o.waiting ≡ None → o.undo ≢ 0
     → Fits w.log (is.Comp o.txn o.undo (next_of w.log o.undo) (inverse_at w.log o.undo))
 fits_comp w o k at none some =
-    let h = alone_at w o k at in
+    let h = open_at w o k at in
     let latest = left_to_undo w o k at some in
     let found = undoable w o k at none some in
     let by : op_in (record_at w.log o.undo) ≡ Some (found.txn, found.op) = rw found.is refl in
@@ -187,72 +223,73 @@ fits_comp w o k at none some =
       inverse = record { txn = found.txn; op = found.op; answer = found.answer; is = by; answered = found.answered; inverse = rw (by, found.answered) refl };
     }
 
-compensates : (i : Option Op) (log : List Record) (o : OpenTxn) (x : ℕ) → IsLegal log → IsOpenTxn log o → IsIdle log o.txn → o.rolling ≡ true
-    → IsOpenTxn (is.Comp o.txn o.undo x i ∷ log) (record o { last = length log + 1; undo = x; waiting = waits_for (length log + 1) i })
-compensates i log o x legal h idle rolling =
-    let r : Record = is.Comp o.txn o.undo x i in
-    record {
-      is = open_kept r log o.txn refl h.is;
-      only = λ t now. elim (open_had r log t now) [ inl b ↦ absurd (let e : r ≡ is.Begin = b.1 in cc) | inr was ↦ h.only t was ];
-      last = newest_step r log o.txn refl;
-      undo = sym (ap (λ y. undo_from y (length log + 1)) (record_new r log));
-      waits = waits_then i log o x legal idle rolling;
-    }
-  where
-    waits_then : (i : Option Op) (log : List Record) (o : OpenTxn) (x : ℕ) → IsLegal log → IsIdle log o.txn → o.rolling ≡ true
-        → Waits (is.Comp o.txn o.undo x i ∷ log) (record o { last = length log + 1; undo = x; waiting = waits_for (length log + 1) i }) (waits_for (length log + 1) i)
-    waits_then None log o x legal idle rolling = idle_after (is.Comp o.txn o.undo x None) log o.txn (λ q h. cc) idle
-    waits_then (Some i) log o x legal idle rolling =
-        let r : Record = is.Comp o.txn o.undo x (Some i) in
-        let new : OpenTxn = record o { last = length log + 1; undo = x; waiting = Some (length log + 1) } in
-        waits_now r log o.txn new refl idle (rw rolling (o.undo, x, i, record_new r log)) (none_next log legal)
-
-pub keeps_comp : (w : TcView) (o : OpenTxn) → IsTc w → w.open_txn ≡ Some o → o.waiting ≡ None → o.rolling ≡ true → o.undo ≢ 0 → IsTc (compensated w o)
+pub keeps_comp : (w : TcView) (o : OpenTxn) → IsTc w → find o.txn w.open_txns ≡ Some o → o.waiting ≡ None → o.rolling ≡ true → o.undo ≢ 0 → IsTc (compensated w o)
 keeps_comp w o k at none rolling some =
-    let h = alone_at w o k at in
+    let h = open_at w o k at in
+    let next : ℕ = next_of w.log o.undo in
+    let i : Option Op = inverse_at w.log o.undo in
+    let r : Record = is.Comp o.txn o.undo next i in
     record {
       legal = (fits_comp w o k at none some, k.legal);
       within = omega (arith, k.within);
       session = k.session;
       phase = k.phase;
-      alone = compensates (inverse_at w.log o.undo) w.log o (next_of w.log o.undo) k.legal h (idle_at w.log o h none) rolling;
+      open_txns = replaced_open w.log (r ∷ w.log) w.open_txns k.open_txns (compensated_txn o (length w.log + 1) next i) o at
+          (compensates i w.log o next (none_next w.log k.legal) h (idle_at w.log o h none) rolling)
+          (step_leaves r w.log o.txn refl (λ n. refl)) (open_was r w.log (λ e. cc));
+      locks = replaced (r ∷ w.log) w.open_txns w.locks (longer w.log w.open_txns w.locks k.locks r refl) (compensated_txn o (length w.log + 1) next i) o at;
+      reading = reads_replaced w.reads w.open_txns w.locks k.reading (compensated_txn o (length w.log + 1) next i) o w.locks at
+          (no_reading o.reading (λ q reads. true≢false (sym rolling ∙ (reading_at w o q k at reads).flat))) (λ u apart. refl);
     }
 
 -- an end
-pub fits_end : (w : TcView) (o : OpenTxn) → IsTc w → w.open_txn ≡ Some o → o.waiting ≡ None → o.undo ≡ 0 → Fits w.log (is.End o.txn)
+pub fits_end : (w : TcView) (o : OpenTxn) → IsTc w → find o.txn w.open_txns ≡ Some o → o.waiting ≡ None → o.undo ≡ 0 → Fits w.log (is.End o.txn)
 fits_end w o k at none zero =
-    let h = alone_at w o k at in record { open_txn = h.is; idle = idle_at w.log o h none; undone = nothing_to_undo w o k at zero }
+    let h = open_at w o k at in record { open_txn = h.is; idle = idle_at w.log o h none; undone = nothing_to_undo w o k at zero }
 
-ends : (log : List Record) (o : OpenTxn) → IsOpenTxn log o → IsAlone (is.End o.txn ∷ log) None
-ends log o h t now =
-    let r : Record = is.End o.txn in
-    elim (open_had r log t now) [
-      | inl b ↦ let e : r ≡ is.Begin = b.1 in cc
-      | inr was ↦
-          let same : (t == o.txn) ≡ true = eq-eqb t o.txn (h.only t was) in
-          true≢false (sym (ap (λ b. b || has_ended log t) same) ∙ now.goes_on)
-    ]
+pub keeps_end : (w : TcView) (o : OpenTxn) → IsTc w → find o.txn w.open_txns ≡ Some o → o.waiting ≡ None → o.undo ≡ 0 → IsTc (ended w o.txn)
+keeps_end w o k at none zero = record {
+  legal = (fits_end w o k at none zero, k.legal);
+  within = omega (arith, k.within);
+  session = k.session;
+  phase = k.phase;
+  open_txns = without_open w.log (is.End o.txn ∷ w.log) w.open_txns k.open_txns o.txn (end_leaves w.log o.txn) (ends w.log o.txn);
+  locks = gives_back w.log w.open_txns w.locks k.locks o.txn;
+  reading = reads_ended w.reads w.open_txns w.locks k.reading o.txn _ (λ u apart. set_other o.txn [] w.locks u k.locks.table apart);
+}
 
-pub keeps_end : (w : TcView) (o : OpenTxn) → IsTc w → w.open_txn ≡ Some o → o.waiting ≡ None → o.undo ≡ 0 → IsTc (ended w o.txn)
-keeps_end w o k at none zero =
-    record { legal = (fits_end w o k at none zero, k.legal); within = omega (arith, k.within); session = k.session; phase = k.phase; alone = ends w.log o (alone_at w o k at) }
-
--- whoever waits for an answer is the open transaction
-pub awaited_is : (x : Option OpenTxn) (n : ℕ) (o : OpenTxn) → awaiting x n ≡ Some o → (x ≡ Some o) × (o.waiting ≡ Some n)
-awaited_is None n o h = absurd (cc)
-awaited_is (Some p) n o h = pick p.waiting refl (is_number p.waiting n) refl h
+-- whoever waits for an answer is an open transaction
+awaited_in : (x : Option OpenTxn) (n : ℕ) (o : OpenTxn) → if_awaits n x ≡ Some o → (x ≡ Some o) × (o.waiting ≡ Some n)
+awaited_in None n o h = absurd (cc)
+awaited_in (Some p) n o h = pick (is_number p.waiting n) refl h
   where
     number : (m : Option ℕ) → is_number m n ≡ true → m ≡ Some n
     number None h = absurd (cc)
     number (Some m) h = ap Some (eqb-true m n h)
 
-    pick : (m : Option ℕ) → p.waiting ≡ m → (b : Bool) → is_number p.waiting n ≡ b → (if b then Some p else None) ≡ Some o → (Some p ≡ Some o) × (o.waiting ≡ Some n)
-    pick m is true test same = (same, let e : p ≡ o = cc in ap (λ (x : OpenTxn). x.waiting) (sym e) ∙ number p.waiting test)
-    pick m is false test same = absurd (cc)
+    pick : (b : Bool) → is_number p.waiting n ≡ b → (if b then Some p else None) ≡ Some o → (Some p ≡ Some o) × (o.waiting ≡ Some n)
+    pick true test same = (same, let e : p ≡ o = cc in ap (λ (x : OpenTxn). x.waiting) (sym e) ∙ number p.waiting test)
+    pick false test same = absurd (cc)
+
+pub awaited_is : (w : TcView) (n : ℕ) (o : OpenTxn) → awaiting w n ≡ Some o → (find o.txn w.open_txns ≡ Some o) × (o.waiting ≡ Some n)
+awaited_is w n o h =
+    let found = awaited_in (asker (step_in (record_at w.log n)) w.open_txns) n o h in
+    (asked (step_in (record_at w.log n)) found.0, found.1)
+  where
+    asked : (x : Option ℕ) → asker x w.open_txns ≡ Some o → find o.txn w.open_txns ≡ Some o
+    asked None is = absurd (cc)
+    asked (Some t) is = found_own t w.open_txns o is
+
+-- and each open transaction that waits is found by what it waits for
+pub awaits : (w : TcView) (o : OpenTxn) (n : ℕ) → IsTc w → find o.txn w.open_txns ≡ Some o → o.waiting ≡ Some n → awaiting w n ≡ Some o
+awaits w o n k at some =
+    let own = own_request w.log o n (waits_at w.log o n (open_at w o k at) some).request in
+    ap (λ (x : Option ℕ). if_awaits n (asker x w.open_txns)) own.step ∙ ap (if_awaits n) at
+    ∙ ap (λ (x : Option ℕ). if is_number x n then Some o else None) some ∙ ap (λ b. if b then Some o else None) (eq-eqb n n refl)
 
 -- redo goes on
 pub keeps_passed : (w : TcView) (n : ℕ) → takes w.session w.phase n ≡ true → IsTc w → IsTc (passed w n)
-keeps_passed w n taken k = record { legal = k.legal; within = k.within; session = k.session; phase = by w.phase taken k.phase; alone = k.alone }
+keeps_passed w n taken k = record { legal = k.legal; within = k.within; session = k.session; phase = by w.phase taken k.phase; open_txns = k.open_txns; locks = k.locks; reading = k.reading }
   where
     by : (p : Phase) → takes w.session p n ≡ true → IsPhase w.session p → IsPhase w.session (next_phase p n)
     by phase.Unconnected test h = absurd (cc)
@@ -261,6 +298,6 @@ keeps_passed w n taken k = record { legal = k.legal; within = k.within; session 
     by phase.Running test h = h
 
 -- what is sent is what was logged
-pub has_request : (w : TcView) (o : OpenTxn) (n : ℕ) → IsTc w → w.open_txn ≡ Some o → o.waiting ≡ Some n → HasRequest w.log n
+pub has_request : (w : TcView) (o : OpenTxn) (n : ℕ) → IsTc w → find o.txn w.open_txns ≡ Some o → o.waiting ≡ Some n → HasRequest w.log n
 has_request w o n k at some =
-    let own = own_request w.log o n (waits_at w.log o n (alone_at w o k at) some).request in record { op = own.op; is = own.requests }
+    let own = own_request w.log o n (waits_at w.log o n (open_at w o k at) some).request in record { op = own.op; is = own.requests }

@@ -1,5 +1,5 @@
 -- What holds of the transaction component at every moment.
-use Rattle.std.specs.Prelude.{◌≡◌, ◌≢◌, ℕ, ◌<◌, ◌≤◌, List, Option, Some, None, IsSome, length}
+use Rattle.std.specs.Prelude.{◌≡◌, ◌≢◌, ℕ, ◌<◌, ◌≤◌, false, List, ◌∷◌, Option, Some, None, IsSome, length}
 use Rattle.std.specs.Bool.{MatchBool}
 use Rattle.record_key.specs.declared.op.Op.{Op}
 use Rattle.history.specs.declared.record.Record.{Record}
@@ -7,9 +7,15 @@ use Rattle.history.specs.declared.record.Record.TheVariants as is
 use Rattle.history.specs.Log.{record_at, answer_of, IsOpen, Requests, IsStepOf}
 use Rattle.history.specs.Legal.{IsLatestOrNone, IsIdle, IsLegal}
 use Rattle.log_laws.specs.Laws.{undo_from}
+use Rattle.history.specs.Spans.{Span, IsRange}
+use Rattle.range_locks.specs.Locks.{LocksView, spans_of}
 use Rattle.tc_core.specs.declared.open_txn.OpenTxn.{OpenTxn}
+use Rattle.tc_core.specs.declared.open_txn.Read.{Read}
 use Rattle.tc_core.specs.declared.phase.Phase.{Phase}
 use Rattle.tc_core.specs.declared.phase.Phase.TheVariants as phase
+use Rattle.tc_core.specs.OpenTxns.{find, AreFalling}
+use Rattle.tc_core.specs.Locking.{AreHeld}
+use Rattle.tc_core.specs.Calls.{shared}
 use Rattle.tc_core.specs.TcView.{TcView}
 
 -- the record that is waited for: an operation, or in a rollback a compensation with an inverse
@@ -29,17 +35,33 @@ abbrev pub Waits : List Record → OpenTxn → Option ℕ → Type 0
 Waits log o None = IsIdle log o.txn
 Waits log o (Some n) = IsWaiting log o n
 
--- what is kept of the open transaction is what the log says of it
+-- what is kept of an open transaction is what the log says of it
 pub record IsOpenTxn (log : List Record) (o : OpenTxn) : Type 0 where
   pub is : IsOpen log o.txn
-  pub only : (t : ℕ) → IsOpen log t → t ≡ o.txn
   pub last : IsLatestOrNone (IsStepOf log o.txn) o.last
   pub undo : o.undo ≡ undo_from (record_at log o.last) o.last
   pub waits : Waits log o o.waiting
 
-abbrev pub IsAlone : List Record → Option OpenTxn → Type 0
-IsAlone log None = (t : ℕ) → IsOpen log t → ⊥
-IsAlone log (Some o) = IsOpenTxn log o
+-- just the open transactions of the log are kept, the newest first, and no more than 64
+pub record AreOpen (log : List Record) (os : List OpenTxn) : Type 0 where
+  pub each : (t : ℕ) (o : OpenTxn) → find t os ≡ Some o → IsOpenTxn log o
+  pub all : (t : ℕ) → IsOpen log t → IsSome (find t os)
+  pub order : AreFalling os
+  pub few : length os ≤ 64
+
+-- a read that is waited for is the newest thing that its transaction did, and its span is held
+pub record IsReading (reads : ℕ) (locks : LocksView) (o : OpenTxn) (r : Read) : Type 0 where
+  pub idle : o.waiting ≡ None
+  pub flat : o.rolling ≡ false
+  pub asked : r.number ≤ reads
+  pub range : IsRange (shared r.span)
+  pub before : List Span
+  pub held : spans_of locks o.txn ≡ shared r.span ∷ before
+
+pub record AreReading (reads : ℕ) (os : List OpenTxn) (locks : LocksView) : Type 0 where
+  pub each : (t : ℕ) (o : OpenTxn) (r : Read) → find t os ≡ Some o → o.reading ≡ Some r → IsReading reads locks o r
+  pub apart : (t u : ℕ) (o p : OpenTxn) (r q : Read) → find t os ≡ Some o → find u os ≡ Some p → o.reading ≡ Some r → p.reading ≡ Some q
+      → r.number ≡ q.number → t ≡ u
 
 -- a session runs from its start on, and redo never passes its record
 abbrev pub IsPhase : ℕ → Phase → Type 0
@@ -48,11 +70,13 @@ IsPhase s phase.Connecting = 0 < s
 IsPhase s (phase.Redoing next) = (0 < next) × (next ≤ s)
 IsPhase s phase.Running = 0 < s
 
--- the log is legal, a beginning of it with the session's record is stable, and the open transaction is the
--- only one
+-- the log is legal, a beginning of it with the session's record is stable, the open transactions are its, and
+-- the lock table is theirs
 pub record IsTc (w : TcView) : Type 0 where
   pub legal : IsLegal w.log
   pub within : w.stable ≤ length w.log
   pub session : w.session ≤ w.stable
   pub phase : IsPhase w.session w.phase
-  pub alone : IsAlone w.log w.open_txn
+  pub open_txns : AreOpen w.log w.open_txns
+  pub locks : AreHeld w.log w.open_txns w.locks
+  pub reading : AreReading w.reads w.open_txns w.locks

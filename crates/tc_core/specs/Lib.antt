@@ -1,5 +1,8 @@
 pub mod LogView
 pub mod TcView
+pub mod OpenTxns
+pub mod Slots
+pub mod Locking
 pub mod Calls
 pub mod Replies
 pub mod Recovery

@@ -1,19 +1,26 @@
 -- What the transaction component makes of a reply.
-use Rattle.std.specs.Prelude.{◌≡◌, ℕ, ◌+◌, ◌==◌, ◌&&◌, ◌||◌, Bool, true, false, not, nat_lt, [], ◌∷◌, Option, Some, None, if◌then◌else◌}
+use Rattle.std.specs.Prelude.{◌≡◌, ℕ, ◌+◌, ◌==◌, ◌&&◌, ◌||◌, Bool, true, false, not, nat_lt, [], ◌∷◌, List, Option, Some, None, is_some, if◌then◌else◌}
 use Rattle.record_key.specs.declared.op.Answer.{Answer}
+use Rattle.record_key.specs.Table.{Bytes}
+use Rattle.range_locks.specs.declared.span.Span.{Span}
+use Rattle.range_locks.specs.declared.span.Span.TheVariants.{Key, Range}
 use Rattle.record_key.specs.declared.refusal.Refusal.{Refusal}
 use Rattle.record_key.specs.declared.refusal.Refusal.TheVariants.{Stale, NumbersSpent}
 use Rattle.record_key.specs.FirstCause.{first_of}
 use Rattle.codec.specs.declared.reply.Reply.{Reply}
 use Rattle.codec.specs.declared.reply.Reply.TheVariants as says
 use Rattle.tc_core.specs.declared.open_txn.OpenTxn.{OpenTxn}
+use Rattle.tc_core.specs.declared.open_txn.Read.{Read}
+use Rattle.tc_core.specs.declared.open_txns.Wanted.TheVariants.{Reader}
 use Rattle.tc_core.specs.declared.phase.Phase.{Phase}
 use Rattle.tc_core.specs.declared.phase.Phase.TheVariants as phase
 use Rattle.tc_core.specs.declared.told.Told.{Told}
 use Rattle.tc_core.specs.declared.told.Told.TheVariants as told
+use Rattle.history.specs.Log.{record_at, step_in}
 use Rattle.tc_core.specs.LogView.{is_spent}
+use Rattle.tc_core.specs.OpenTxns.{find, oldest, wants}
 use Rattle.tc_core.specs.TcView.{TcView}
-use Rattle.tc_core.specs.Calls.{answered}
+use Rattle.tc_core.specs.Calls.{answered, was_told}
 
 abbrev pub session_of : Reply → ℕ
 session_of (says.Connected s) = s
@@ -38,10 +45,17 @@ abbrev pub is_number : Option ℕ → ℕ → Bool
 is_number None n = false
 is_number (Some m) n = m == n
 
--- the open transaction, where it waits for this answer
-abbrev pub awaiting : Option OpenTxn → ℕ → Option OpenTxn
-awaiting None n = None
-awaiting (Some o) n = if is_number o.waiting n then Some o else None
+abbrev pub if_awaits : ℕ → Option OpenTxn → Option OpenTxn
+if_awaits n None = None
+if_awaits n (Some o) = if is_number o.waiting n then Some o else None
+
+abbrev pub asker : Option ℕ → List OpenTxn → Option OpenTxn
+asker None os = None
+asker (Some t) os = find t os
+
+-- the open transaction whose record it is, where it waits for the answer
+abbrev pub awaiting : TcView → ℕ → Option OpenTxn
+awaiting w n = if_awaits n (asker (step_in (record_at w.log n)) w.open_txns)
 
 -- redo goes on after this number
 abbrev pub next_phase : Phase → ℕ → Phase
@@ -66,7 +80,7 @@ on_awaited w n None (Some o) = (told.Nothing, w)
 on_awaited w n (Some a) (Some o) = (told_of o n a, passed (answered w o n a) n)
 
 abbrev pub on_answered : TcView → ℕ → Option Answer → Outcome
-on_answered w n a = if takes w.session w.phase n then on_awaited w n a (awaiting w.open_txn n) else (told.Nothing, w)
+on_answered w n a = if takes w.session w.phase n then on_awaited w n a (awaiting w n) else (told.Nothing, w)
 
 -- the session runs: redo begins at the first number
 abbrev pub on_connected : TcView → Phase → Outcome
@@ -78,12 +92,37 @@ abbrev pub on_redo_ended : TcView → Phase → Outcome
 on_redo_ended w (phase.Redoing next) = if next == w.session then (told.RedoEnded w.session, record w { phase = phase.Running }) else (told.Nothing, w)
 on_redo_ended w _ = (told.Nothing, w)
 
+-- who asked the read of this number and waits for it still
+abbrev pub reader : TcView → ℕ → Option OpenTxn
+reader w n = oldest (wants (Reader n)) w.open_txns
+
+abbrev pub span_read : Option Read → Option Span
+span_read None = None
+span_read (Some r) = Some r.span
+
+abbrev pub is_key : Option Span → Bool
+is_key (Some (Key k)) = true
+is_key _ = false
+
+abbrev pub is_range : Option Span → Bool
+is_range (Some (Range low high)) = true
+is_range _ = false
+
+-- it is told where the reply is of the kind that it asked for
+abbrev pub on_row : TcView → Option Bytes → Option OpenTxn → Outcome
+on_row w v None = (told.Nothing, w)
+on_row w v (Some o) = if is_key (span_read o.reading) then (told.Row o.txn v, was_told w o) else (told.Nothing, w)
+
+abbrev pub on_rows : TcView → List (Bytes × Bytes) → Option OpenTxn → Outcome
+on_rows w rows None = (told.Nothing, w)
+on_rows w rows (Some o) = if is_range (span_read o.reading) then (told.Rows o.txn rows, was_told w o) else (told.Nothing, w)
+
 abbrev pub on_reply : TcView → Reply → Outcome
 on_reply w (says.Connected s) = on_connected w w.phase
 on_reply w (says.Answered s n a) = on_answered w n a
 on_reply w (says.RedoEnded s) = on_redo_ended w w.phase
-on_reply w (says.Row s r v) = (told.Nothing, w)
-on_reply w (says.Rows s r rows) = (told.Nothing, w)
+on_reply w (says.Row s r v) = on_row w v (reader w r)
+on_reply w (says.Rows s r rows) = on_rows w rows (reader w r)
 on_reply w (says.Checkpointed s l) = (told.Nothing, w)
 
 pub record TakesReply (old : TcView) (reply : Reply) (what : Told) (new : TcView) : Type 0 where
@@ -96,12 +135,17 @@ is_logged w n (Some a) (Some o) = takes w.session w.phase n
 is_logged w n a o = false
 
 abbrev pub logs : TcView → Reply → Bool
-logs w (says.Answered s n a) = is_logged w n a (awaiting w.open_txn n)
+logs w (says.Answered s n a) = is_logged w n a (awaiting w n)
 logs w _ = false
+
+-- what is logged or handed on takes memory
+abbrev pub takes_memory : TcView → Reply → Bool
+takes_memory w (says.Rows s r rows) = is_some (reader w r)
+takes_memory w reply = logs w reply
 
 -- the log has no number left for it
 abbrev pub answered_refusal_of : TcView → ℕ → Option Answer → Option Refusal
-answered_refusal_of w n a = first_of ((is_logged w n a (awaiting w.open_txn n) && is_spent w.log, NumbersSpent) ∷ [])
+answered_refusal_of w n a = first_of ((is_logged w n a (awaiting w n) && is_spent w.log, NumbersSpent) ∷ [])
 
 abbrev pub reply_refusal : TcView → Reply → Option Refusal
 reply_refusal w reply = first_of ((is_stale w (session_of reply), Stale) ∷ (logs w reply && is_spent w.log, NumbersSpent) ∷ [])

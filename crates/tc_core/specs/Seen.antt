@@ -3,4 +3,12 @@ use Rattle.tc_core.specs.declared.parts.Parts.{Parts}
 use Rattle.tc_core.specs.TcView.{TcView}
 
 abbrev pub seen : Parts → TcView
-seen p = record { log = p.log.records; stable = p.log.stable; session = p.session; phase = p.phase; open_txn = p.open_txn }
+seen p = record {
+  log = p.log.records;
+  stable = p.log.stable;
+  session = p.session;
+  phase = p.phase;
+  reads = p.reads;
+  open_txns = p.open_txns;
+  locks = p.locks;
+}

@@ -1,18 +1,21 @@
 -- What is seen of the transaction component.
-use Rattle.std.specs.Prelude.{ℕ, ◌==◌, Bool, true, false, List, [], Option, Some, None, is_some}
+use Rattle.std.specs.Prelude.{ℕ, ◌||◌, Bool, true, false, List, [], Option, Some, None, is_some}
 use Rattle.history.specs.declared.record.Record.{Record}
+use Rattle.range_locks.specs.Locks.{LocksView}
 use Rattle.tc_core.specs.declared.open_txn.OpenTxn.{OpenTxn}
 use Rattle.tc_core.specs.declared.phase.Phase.{Phase}
 use Rattle.tc_core.specs.declared.phase.Phase.TheVariants.{Unconnected, Connecting, Redoing, Running}
 
--- its log, the newest record first, how many are stable, its session, 0 if none, how far that has come, and
--- the open transaction
+-- its log, the newest record first, how many are stable, its session, 0 if none, how far that has come, how many
+-- reads were asked, the open transactions, the newest first, and what each transaction holds
 pub record TcView : Type 0 where
   pub log : List Record
   pub stable : ℕ
   pub session : ℕ
   pub phase : Phase
-  pub open_txn : Option OpenTxn
+  pub reads : ℕ
+  pub open_txns : List OpenTxn
+  pub locks : LocksView
 
 abbrev pub is_unconnected : Phase → Bool
 is_unconnected Unconnected = true
@@ -28,18 +31,18 @@ is_recovering Connecting = true
 is_recovering (Redoing next) = true
 is_recovering _ = false
 
-abbrev pub is_txn : ℕ → Option OpenTxn → Bool
-is_txn t None = false
-is_txn t (Some o) = o.txn == t
-
 abbrev pub is_rolling : Option OpenTxn → Bool
 is_rolling None = false
 is_rolling (Some o) = o.rolling
 
+-- it waits for an answer, or for what it reads
+abbrev pub waits : OpenTxn → Bool
+waits o = is_some o.waiting || is_some o.reading
+
 abbrev pub is_waiting : Option OpenTxn → Bool
 is_waiting None = false
-is_waiting (Some o) = is_some o.waiting
+is_waiting (Some o) = waits o
 
 -- nothing is logged, and nobody is connected
 abbrev pub fresh : TcView
-fresh = record { log = []; stable = 0; session = 0; phase = Unconnected; open_txn = None }
+fresh = record { log = []; stable = 0; session = 0; phase = Unconnected; reads = 0; open_txns = []; locks = [] }

@@ -6,17 +6,22 @@
 //! a stated function of what was seen before; a refused call changes nothing and names the first cause.
 #![tactic(auto)]
 
+mod calls;
+mod locking;
 mod log;
 mod open_txn;
+mod open_txns;
 mod parts;
 mod phase;
 mod replies;
 mod requests;
+mod sessions;
+mod taking;
 mod tc;
 mod told;
 mod undo;
 
-pub use open_txn::OpenTxn;
+pub use open_txn::{OpenTxn, Read};
 pub use phase::Phase;
 pub use tc::Tc;
 pub use told::{RecoverStep, Told, UndoStep};

@@ -1,12 +1,15 @@
-//! What a reply is to a session and to the open transaction.
+//! What a reply is to a session and to a transaction.
 ghost use Rattle.std.specs.Prelude.{◌≡◌};
-ghost use Rattle.tc_core.specs.Replies.{session_of as session_named, takes as is_taken, awaiting as awaits_it, told_of as tells};
+ghost use Rattle.history.specs.Log.{step_of};
+ghost use Rattle.tc_core.specs.Replies.{session_of as session_named, takes as is_taken, told_of as tells, span_read, is_key, is_range};
 
 use crate::open_txn::OpenTxn;
 use crate::phase::Phase;
 use crate::told::Told;
 use codec::Reply;
-use record_key::Answer;
+use history::Record;
+use range_locks::Span;
+use record_key::{Answer, Value};
 
 /// The session that the reply belongs to.
 pub fn session_of(reply: &Reply) -> u64
@@ -33,13 +36,37 @@ pub fn takes(session: u64, phase: Phase, number: u64) -> bool
     }
 }
 
-/// The open transaction, where it waits for this answer.
-pub fn awaiting(open_txn: Option<OpenTxn>, number: u64) -> Option<OpenTxn>
-    ensures { result ≡ awaits_it open_txn number }
+/// The transaction whose Op or Comp record it is.
+pub fn step_txn(item: &Record) -> Option<u64>
+    ensures { result ≡ step_of item.now }
 {
-    match open_txn {
-        Some(open) if open.waiting == Some(number) => Some(open),
+    match item {
+        Record::Op { txn, .. } | Record::Comp { txn, .. } => Some(*txn),
         _ => None,
+    }
+}
+
+/// Whether it waits for the value of one key.
+pub fn reads_key(asker: &OpenTxn) -> bool
+    ensures { result ≡ is_key (span_read asker.now.reading) }
+{
+    matches!(&asker.reading, Some(read) if matches!(&read.span, Span::Key(_)))
+}
+
+/// Whether it waits for the rows of a range.
+pub fn reads_range(asker: &OpenTxn) -> bool
+    ensures { result ≡ is_range (span_read asker.now.reading) }
+{
+    matches!(&asker.reading, Some(read) if matches!(&read.span, Span::Range { .. }))
+}
+
+/// The same value again, if there is one. Takes no memory.
+pub fn copied(value: &Option<Value>) -> Option<Value>
+    ensures { result ≡ value.now }
+{
+    match value {
+        Some(value) => Some(value.copied()),
+        None => None,
     }
 }
 

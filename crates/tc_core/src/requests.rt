@@ -1,11 +1,15 @@
-//! What the data component is to do for the records of a log.
+//! What the data component is asked for: the records of a log, and reads.
 ghost use Rattle.std.specs.Prelude.{◌≡◌};
 ghost use Rattle.history.specs.Log.{record_at, Requests, request_in};
 ghost use Rattle.tc_core.specs.Undo.{HasRequest, FindsRequest};
+ghost use Rattle.tc_core.specs.Calls.{read_request as asks_for};
 
 use crate::log::Log;
+use crate::open_txn::Read;
+use codec::Request;
 use history::Record;
-use record_key::Op;
+use range_locks::Span;
+use record_key::{Key, Op};
 
 /// What the record of this number asks for, if anything.
 fn request_at(log: &Log, number: u64) -> Option<Op>
@@ -46,4 +50,34 @@ pub fn first_request(log: &Log, from: u64, below: u64) -> Option<(u64, Op)>
         number += 1;
     }
     None
+}
+
+/// What asks for the read.
+pub fn read_request(session: u64, read: &Read) -> Request
+    ensures { result ≡ asks_for session read.now.number read.now.span }
+{
+    let read_number = read.number;
+    match &read.span {
+        Span::Key(key) => Request::Get {
+            session,
+            read: read_number,
+            key: key.copied(),
+        },
+        Span::Range { low, high } => Request::Scan {
+            session,
+            read: read_number,
+            low: low.copied(),
+            high: copied(high),
+        },
+    }
+}
+
+/// The same upper end again. Takes no memory.
+pub fn copied(high: &Option<Key>) -> Option<Key>
+    ensures { result ≡ high.now }
+{
+    match high {
+        Some(key) => Some(key.copied()),
+        None => None,
+    }
 }

@@ -5,23 +5,27 @@ ghost use Rattle.history.specs.Log.{record_at};
 ghost use Rattle.record_key.specs.FirstCause.{RefusesAs};
 ghost use Rattle.tc_core.specs.LogView.{spent_refusal};
 ghost use Rattle.tc_core.specs.TcView.{TcView, fresh, is_rolling};
-ghost use Rattle.tc_core.specs.Calls.{begin_refusal, act_refusal, rollback_refusal, undo_refusal, resend_refusal, reconnected, begun, forced, Acts, RollsBack, UndoesStep, IsRequestOf};
-ghost use Rattle.tc_core.specs.Replies.{TakesReply, reply_refusal, logs};
+ghost use Rattle.tc_core.specs.OpenTxns.{find, oldest, wants};
+ghost use Rattle.tc_core.specs.Calls.{begin_refusal, rollback_refusal, undo_refusal, resend_refusal, reconnected, begun, forced, shared, RefusesAct, RefusesRead, Acts, Asks, RollsBack, UndoesStep, IsRequestOf};
+ghost use Rattle.tc_core.specs.Replies.{TakesReply, reply_refusal, takes_memory};
 ghost use Rattle.tc_core.specs.Recovery.{Recovers, recover_refusal};
 ghost use Rattle.tc_core.specs.LowWater.{Announces, RefusesLow, IsGreatestLow};
 ghost use Rattle.tc_core.specs.Kept.{IsTc};
 
 use crate::open_txn::OpenTxn;
+use crate::open_txns::Wanted;
 use crate::parts::Parts;
 use crate::phase::Phase;
+use crate::requests::copied;
 use crate::told::{RecoverStep, Told, UndoStep};
 use codec::{Reply, Request};
 use history::Record;
-use record_key::{Answer, Op, Refusal};
+use range_locks::Span;
+use record_key::{Answer, Key, Op, Refusal};
 use std::alloc::Global;
 use std::marker::Model;
 
-/// A log, a session and at most one open transaction.
+/// A log, a session, and at most 64 open transactions with their locks and reads.
 #[derive(Debug, Drop)]
 pub struct Tc {
     parts: Parts,
@@ -69,8 +73,8 @@ impl Tc {
         self.parts.reconnect()
     }
 
-    /// Begins a transaction and answers its number. Refused NotConnected, Redoing, Full while one is open,
-    /// NumbersSpent, NoMemory.
+    /// Begins a transaction and answers its number. Refused NotConnected, Redoing, Full while 64 are
+    /// open, NumbersSpent, NoMemory.
     pub fn begin(&mut self) -> Result<u64, Refusal>
         ensures number { IfOk result (λ txn. txn ≡ length self.old.log + 1) }
         ensures begun { OnOk result (self.new ≡ begun self.old) }
@@ -81,15 +85,37 @@ impl Tc {
         self.parts.begin()
     }
 
-    /// Logs an operation and answers its number. Refused NotConnected, Redoing, NotOpen, RollingBack,
-    /// Unanswered, NumbersSpent, NoMemory.
+    /// Locks the key, logs the operation and answers its number. Refused NotConnected, Redoing, NotOpen,
+    /// RollingBack, Unanswered, Busy with the least other holder of the key, NumbersSpent, NoMemory.
     pub fn act(&mut self, txn: u64, op: &Op) -> Result<u64, Refusal>
         ensures acted { IfOk result (λ number. Acts self.old txn op.now number self.new) }
-        ensures allowed { OnOk result (act_refusal self.old txn ≡ None) }
-        ensures refused { IfErr result (RefusesAs (act_refusal self.old txn)) }
+        ensures refused { IfErr result (RefusesAct self.old txn op.now) }
         ensures unchanged { OnErr result (self.new ≡ self.old) }
     {
         self.parts.act(txn, op)
+    }
+
+    /// Locks the key for reading and asks for its value. Answers the number of the read; `resend` gives its
+    /// request. Refused NotConnected, Redoing, NotOpen, RollingBack, Unanswered, Busy with the least other
+    /// holder of the key, NumbersSpent, NoMemory.
+    pub fn get(&mut self, txn: u64, key: &Key) -> Result<u64, Refusal>
+        ensures asked { IfOk result (λ number. Asks self.old txn (Span.Key key.now) number self.new) }
+        ensures refused { IfErr result (RefusesRead self.old txn (shared (Span.Key key.now))) }
+        ensures unchanged { OnErr result (self.new ≡ self.old) }
+    {
+        self.parts.read(txn, Span::Key(key.copied()))
+    }
+
+    /// The same for the keys from `low` on and below `high`, or to the end. Refused BadRange first, where
+    /// `high` isn't above `low`.
+    pub fn scan(&mut self, txn: u64, low: &Key, high: &Option<Key>) -> Result<u64, Refusal>
+        ensures asked { IfOk result (λ number. Asks self.old txn (Span.Range low.now high.now) number self.new) }
+        ensures refused { IfErr result (RefusesRead self.old txn (shared (Span.Range low.now high.now))) }
+        ensures unchanged { OnErr result (self.new ≡ self.old) }
+    {
+        let low = low.copied();
+        let high = copied(high);
+        self.parts.read(txn, Span::Range { low, high })
     }
 
     /// Begins to roll the transaction back. Refused NotConnected, Redoing, NotOpen, RollingBack, Unanswered.
@@ -107,7 +133,7 @@ impl Tc {
         ensures undoes { IfOk result (λ step. UndoesStep self.old txn step self.new) }
         ensures allowed { OnOk result (undo_refusal self.old txn ≡ None) }
         ensures refused { IfErr result (RefusesAs (undo_refusal self.old txn)) }
-        ensures memory { is_rolling self.old.open_txn ≡ false → undo_refusal self.old txn ≡ None → IsOk result }
+        ensures memory { is_rolling (find txn self.old.open_txns) ≡ false → undo_refusal self.old txn ≡ None → IsOk result }
         ensures unchanged { OnErr result (self.new ≡ self.old) }
     {
         self.parts.undo_step(txn)
@@ -125,6 +151,7 @@ impl Tc {
     /// Unsent, BeyondStable where its record isn't stable.
     pub fn resend(&self, txn: u64) -> Result<Request, Refusal>
         ensures sent { IfOk result (IsRequestOf self.now txn) }
+        ensures allowed { OnOk result (resend_refusal self.now txn ≡ None) }
         ensures refused { IfErr result (λ refusal. resend_refusal self.now txn ≡ Some refusal) }
     {
         self.parts.resend(txn)
@@ -147,13 +174,13 @@ impl Tc {
         self.parts.log.answered_end()
     }
 
-    /// Takes a reply. The answer of an awaited request is logged and told; a reply that isn't awaited changes
-    /// nothing. Refused Stale, NumbersSpent, NoMemory; the reply may be given again then.
+    /// Takes a reply. The answer of an awaited request is logged and told, what was read is told; a reply
+    /// that isn't awaited changes nothing. Refused Stale, NumbersSpent, NoMemory; the reply may be given again then.
     pub fn on_reply(&mut self, reply: &Reply) -> Result<Told, Refusal>
         ensures taken { IfOk result (λ told. TakesReply self.old reply.now told self.new) }
         ensures allowed { OnOk result (reply_refusal self.old reply.now ≡ None) }
         ensures refused { IfErr result (RefusesAs (reply_refusal self.old reply.now)) }
-        ensures memory { logs self.old reply.now ≡ false → reply_refusal self.old reply.now ≡ None → IsOk result }
+        ensures memory { takes_memory self.old reply.now ≡ false → reply_refusal self.old reply.now ≡ None → IsOk result }
         ensures unchanged { OnErr result (self.new ≡ self.old) }
     {
         self.parts.on_reply(reply)
@@ -183,11 +210,25 @@ impl Tc {
         self.parts.session
     }
 
-    /// The open transaction.
-    pub fn open_txn(&self) -> Option<OpenTxn>
-        ensures { result ≡ self.now.open_txn }
+    /// The open transaction of this number.
+    pub fn open_txn(&self, txn: u64) -> Option<OpenTxn>
+        ensures { result ≡ find txn self.now.open_txns }
     {
-        self.parts.open_txn
+        self.parts.open_txns.find(txn)
+    }
+
+    /// The least transaction that waits for an answer, or for what it reads.
+    pub fn first_unanswered(&self) -> Option<OpenTxn>
+        ensures { result ≡ oldest (wants Wanted.Unanswered) self.now.open_txns }
+    {
+        self.parts.open_txns.oldest(Wanted::Unanswered)
+    }
+
+    /// The least transaction that is being rolled back.
+    pub fn first_rolling(&self) -> Option<OpenTxn>
+        ensures { result ≡ oldest (wants Wanted.Rolling) self.now.open_txns }
+    {
+        self.parts.open_txns.oldest(Wanted::Rolling)
     }
 
     /// How many records the log has.
@@ -211,8 +252,8 @@ impl Tc {
         self.parts.log.stable_end()
     }
 
-    /// What holds at every moment: the log is legal, a beginning of it is stable, and the open transaction
-    /// is the only one.
+    /// What holds at every moment: the log is legal, a beginning of it is stable, and just its open
+    /// transactions are kept.
     pub fn kept(&self)
         ensures { IsTc self.now }
     {

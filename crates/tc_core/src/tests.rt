@@ -1,13 +1,16 @@
 //! The transaction component by itself: its calls in their order, and replies that are made by hand.
 mod allocating;
+mod locking;
 mod low_numbers;
+mod many;
+mod reading;
 mod recovering;
 mod refusing;
 mod replying;
 mod rolling_back;
 
 use super::*;
-use codec::{Reply, Request};
+use codec::{Reply, Request, Rows};
 use history::Record;
 use record_key::{Answer, Key, Op, Refusal, Value};
 use std::alloc::Global;
@@ -15,6 +18,10 @@ use std::test::Fail;
 
 fn insert(key: &[u8], value: &[u8]) -> Result<Op, Fail> {
     Ok(Op::Insert(Key::new(key)?, Value::new(value)?))
+}
+
+fn delete(key: &[u8]) -> Result<Op, Fail> {
+    Ok(Op::Delete(Key::new(key)?))
 }
 
 fn answered(session: u64, number: u64, answer: Answer) -> Reply {
@@ -25,9 +32,13 @@ fn answered(session: u64, number: u64, answer: Answer) -> Reply {
     }
 }
 
-/// The numbers and states that a client can see.
+/// The numbers and states that a client of transaction 2 can see.
 fn sight(tc: &Tc) -> (u64, u64, Phase, Option<OpenTxn>) {
-    (tc.records(), tc.stable_end(), tc.phase(), tc.open_txn())
+    (tc.records(), tc.stable_end(), tc.phase(), tc.open_txn(2))
+}
+
+fn key(bytes: &[u8]) -> Result<Key, Fail> {
+    Ok(Key::new(bytes)?)
 }
 
 /// Session 1 is started, and its Connect awaits the reply.

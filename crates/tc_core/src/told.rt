@@ -1,6 +1,6 @@
 //! What calls of the transaction component answer.
-use codec::Request;
-use record_key::Answer;
+use codec::{Request, Rows};
+use record_key::{Answer, Value};
 
 /// What came of a reply.
 #[derive(Debug, PartialEq, Eq, Drop)]
@@ -13,6 +13,10 @@ pub enum Told {
     RedoEnded(u64),
     /// The transaction's operation was answered.
     Answered { txn: u64, answer: Answer },
+    /// The key that the transaction reads has this value.
+    Row { txn: u64, value: Option<Value> },
+    /// The range that the transaction reads has these rows.
+    Rows { txn: u64, rows: Rows },
     /// The compensation of this number was performed; no client is told.
     Undone(u64),
 }

@@ -13,6 +13,11 @@ abbrev pub shown : List ℕ → List ℕ
 shown [] = codes "."
 shown (b ∷ bs) = b ∷ bs
 
+-- a dash where there is none
+abbrev pub shown_if : Option (List ℕ) → List ℕ
+shown_if None = codes "-"
+shown_if (Some word) = shown word
+
 abbrev pub piece_text : Piece → List ℕ
 piece_text (piece.Text text) = text.now
 piece_text (piece.Word word) = shown word.now

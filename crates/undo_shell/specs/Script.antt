@@ -1,5 +1,5 @@
 -- The grammar of scripts, over their bytes.
-use Rattle.std.specs.Prelude.{ℕ, ◌+◌, ◌==◌, ◌&&◌, Bool, true, not, List, [], ◌∷◌, Option, Some, None, length, codes, bytes_eq, is_none, if◌then◌else◌}
+use Rattle.std.specs.Prelude.{ℕ, ◌+◌, ◌==◌, ◌&&◌, Bool, true, not, List, [], ◌∷◌, Option, Some, None, length, codes, bytes_eq, is_none, option_map, if◌then◌else◌}
 use Rattle.std.specs.List.{slice_split}
 use Rattle.world.specs.declared.event.Event.{Event}
 use Rattle.world.specs.declared.event.Event.TheVariants as event
@@ -11,7 +11,7 @@ use Rattle.undo_shell.specs.declared.line.Part.{Part}
 use Rattle.undo_shell.specs.declared.line.Part.TheVariants as part
 use Rattle.undo_shell.specs.declared.line.Line.{Line}
 use Rattle.undo_shell.specs.declared.line.Line.TheVariants as line
-use Rattle.undo_shell.specs.Words.{words_of, label_in, text_in, number_in}
+use Rattle.undo_shell.specs.Words.{words_of, label_in, text_in, end_in, number_in}
 
 -- what stands between the ends of lines, which are byte 10. A last end leaves an empty line, which is skipped
 abbrev pub lines_of : List ℕ → List (List ℕ)
@@ -23,6 +23,10 @@ pub data Command : Type 0 where
   begins : List ℕ → Command
   -- a write of this label's transaction, to a key, of a value
   writes : List ℕ → Kind → List ℕ → List ℕ → Command
+  -- the value at a key, for this label's transaction
+  gets : List ℕ → List ℕ → Command
+  -- the rows from a key on, below another or to the end, for this label's transaction
+  scans : List ℕ → List ℕ → Option (List ℕ) → Command
   -- an event of this label's transaction
   calls : List ℕ → Call → Command
   -- an event
@@ -59,10 +63,15 @@ abbrev pub first_of : Option Command → Option Command → Option Command
 first_of None second = second
 first_of (Some command) second = Some command
 
--- the name of a write of three words, and of one of four
-abbrev pub kind_without_value : List ℕ → Option Kind
-kind_without_value name = if bytes_eq name (codes "delete") then Some kind.Delete else None
+-- a line of three words, a label and a key behind its name
+abbrev pub with_key : List ℕ → Option (List ℕ) → Option (List ℕ) → Option Command
+with_key name None key = None
+with_key name (Some label) None = None
+with_key name (Some label) (Some key) =
+    if bytes_eq name (codes "get") then Some (gets label key)
+    else (if bytes_eq name (codes "delete") then Some (writes label kind.Delete key []) else None)
 
+-- the name of a write of four words
 abbrev pub kind_with_value : List ℕ → Option Kind
 kind_with_value name =
     if bytes_eq name (codes "insert") then Some kind.Insert
@@ -76,12 +85,20 @@ write_of (Some k) (Some label) None value = None
 write_of (Some k) (Some label) (Some key) None = None
 write_of (Some k) (Some label) (Some key) (Some value) = Some (writes label k key value)
 
+abbrev pub scan_of : Option (List ℕ) → Option (List ℕ) → Option (Option (List ℕ)) → Option Command
+scan_of None low high = None
+scan_of (Some label) None high = None
+scan_of (Some label) (Some low) None = None
+scan_of (Some label) (Some low) (Some high) = Some (scans label low high)
+
 -- the grammar: one case for each number of words
 abbrev pub command_of : List (List ℕ) → Option Command
 command_of (name ∷ []) = bare name
 command_of (name ∷ word ∷ []) = first_of (with_label name (label_in word)) (with_number name (number_in word))
-command_of (name ∷ label ∷ key ∷ []) = write_of (kind_without_value name) (label_in label) (text_in key) (Some [])
-command_of (name ∷ label ∷ key ∷ value ∷ []) = write_of (kind_with_value name) (label_in label) (text_in key) (text_in value)
+command_of (name ∷ label ∷ key ∷ []) = with_key name (label_in label) (text_in key)
+command_of (name ∷ label ∷ key ∷ last ∷ []) =
+    if bytes_eq name (codes "scan") then scan_of (label_in label) (text_in key) (end_in last)
+    else write_of (kind_with_value name) (label_in label) (text_in key) (text_in last)
 command_of _ = None
 
 -- a line that is passed over: an empty one, or one that begins with `#`
@@ -117,6 +134,8 @@ commands_of (bytes ∷ rest) = onto (asked bytes) (commands_of rest)
 abbrev pub meaning : Line → Command
 meaning (line.Begin label) = begins label
 meaning (line.Write label k key value) = writes label k key.now value.now
+meaning (line.Get label key) = gets label key.now
+meaning (line.Scan label low high) = scans label low.now (option_map (λ text. text.now) high)
 meaning (line.Call label c) = calls label c
 meaning (line.Step e) = steps e
 meaning line.Settle = settles

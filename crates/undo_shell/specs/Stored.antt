@@ -1,11 +1,11 @@
 -- The exact bytes of the table and of a leaf.
-use Rattle.std.specs.Prelude.{ℕ, List, [], ◌∷◌, ◌++◌, Option, Some, None, codes, decimal, length, flat_map}
+use Rattle.std.specs.Prelude.{ℕ, List, [], ◌∷◌, ◌++◌, codes, decimal, length, flat_map}
 use Rattle.std.specs.List.{concat}
 use Rattle.std.specs.FinMap.{entries}
 use Rattle.record_key.specs.Rows.{Row}
 use Rattle.ab_lsn.specs.declared.entry.Entry.{Entry}
 use Rattle.page.specs.Leaf.{LeafView}
-use Rattle.undo_shell.specs.Printed.{shown, numbered}
+use Rattle.undo_shell.specs.Printed.{shown, shown_if, numbered}
 
 abbrev pub row_line : Row → List ℕ
 row_line row = concat (shown row.0 ∷ codes "=" ∷ shown row.1 ∷ codes "\n" ∷ [])
@@ -13,13 +13,9 @@ row_line row = concat (shown row.0 ∷ codes "=" ∷ shown row.1 ∷ codes "\n" 
 abbrev pub table_text : List Row → List ℕ
 table_text rows = flat_map row_line rows ++ numbered (codes "rows ") (length rows)
 
--- a fence, or a dash where there is no bound
-abbrev pub fence_text : Option (List ℕ) → List ℕ
-fence_text None = codes "-"
-fence_text (Some key) = shown key
-
+-- its fences, a dash where there is no bound
 abbrev pub fences_text : LeafView → List ℕ
-fences_text leaf = concat (codes "leaf " ∷ decimal leaf.id ∷ codes " " ∷ fence_text leaf.low_fence ∷ codes " " ∷ fence_text leaf.high_fence ∷ [])
+fences_text leaf = concat (codes "leaf " ∷ decimal leaf.id ∷ codes " " ∷ shown_if leaf.low_fence ∷ codes " " ∷ shown_if leaf.high_fence ∷ [])
 
 -- the low number, the last system transaction, and how many records there are
 abbrev pub counts_text : LeafView → List ℕ

@@ -3,6 +3,7 @@ use Rattle.std.specs.Prelude.{◌≡◌, ◌⊎◌, ℕ, Bool, true, false, ◌|
 use Rattle.std.specs.Io.KnownBytes.{Appends}
 use Rattle.record_key.specs.declared.refusal.Refusal.{Refusal}
 use Rattle.record_key.specs.declared.refusal.Refusal.TheVariants as refusal
+use Rattle.record_key.specs.FirstCause.{first_of}
 use Rattle.record_key.specs.declared.op.Op.{Op}
 use Rattle.record_key.specs.declared.op.Op.TheVariants as op
 use Rattle.world.specs.declared.event.Event.{Event}
@@ -18,7 +19,7 @@ use Rattle.undo_shell.specs.declared.line.Call.{Call}
 use Rattle.undo_shell.specs.declared.line.Call.TheVariants as call
 use Rattle.undo_shell.specs.declared.reply.Reply.{Reply}
 use Rattle.undo_shell.specs.declared.reply.Reply.TheVariants as reply
-use Rattle.undo_shell.specs.Script.{Command, begins, writes, calls, steps, settles, shows, lines_of, first_fault, commands_of, onto}
+use Rattle.undo_shell.specs.Script.{Command, begins, writes, gets, scans, calls, steps, settles, shows, lines_of, first_fault, commands_of, onto}
 use Rattle.undo_shell.specs.Ending.{is_failure, settled_text}
 use Rattle.undo_shell.specs.View.{part_text}
 use Rattle.undo_shell.specs.Printed.{IsCut, refusal_line}
@@ -57,6 +58,24 @@ op_of kind.Delete key value = op.Delete key
 abbrev pub Writes : List ℕ → Kind → List ℕ → List ℕ → NodeView → Bindings → Out → NodeView → Type 0
 Writes label k key value before labels output after = StepsUnless (length_fault key value) before (event.Act (labels label) (op_of k key value)) output after
 
+abbrev pub is_empty : List ℕ → Bool
+is_empty [] = true
+is_empty (b ∷ bs) = false
+
+abbrev pub is_long : List ℕ → Bool
+is_long key = nat_lt 32 (length key)
+
+-- what is wrong with the lengths of one or two keys: an empty one first, then one that is too long
+abbrev pub keys_fault : List ℕ → Option (List ℕ) → Option Refusal
+keys_fault low None = first_of ((is_empty low, refusal.EmptyKey) ∷ (is_long low, refusal.TooLong) ∷ [])
+keys_fault low (Some high) = first_of ((is_empty low || is_empty high, refusal.EmptyKey) ∷ (is_long low || is_long high, refusal.TooLong) ∷ [])
+
+abbrev pub Gets : List ℕ → List ℕ → NodeView → Bindings → Out → NodeView → Type 0
+Gets label key before labels output after = StepsUnless (keys_fault key None) before (event.Get (labels label) key) output after
+
+abbrev pub Scans : List ℕ → List ℕ → Option (List ℕ) → NodeView → Bindings → Out → NodeView → Type 0
+Scans label low high before labels output after = StepsUnless (keys_fault low high) before (event.Scan (labels label) low high) output after
+
 -- the event of a transaction
 abbrev pub event_of : Call → ℕ → Event
 event_of call.Rollback txn = event.Rollback txn
@@ -80,6 +99,8 @@ IsSettling before _ after = ⊥
 abbrev pub Replies : Command → NodeView → Bindings → Reply → NodeView → Bindings → Type 0
 Replies (begins label) before old r after new = IsEvent (λ output. Begins label before old output after new) r
 Replies (writes label k key value) before old r after new = IsEvent (λ output. Writes label k key value before old output after) r × AreSame old new
+Replies (gets label key) before old r after new = IsEvent (λ output. Gets label key before old output after) r × AreSame old new
+Replies (scans label low high) before old r after new = IsEvent (λ output. Scans label low high before old output after) r × AreSame old new
 Replies (calls label c) before old r after new = IsEvent (λ output. StepsTo before (event_of c (old label)) output after) r × AreSame old new
 Replies (steps e) before old r after new = IsEvent (λ output. StepsTo before e output after) r × AreSame old new
 Replies settles before old r after new = IsSettling before r after × AreSame old new

@@ -1,5 +1,5 @@
 -- The words of a line: labels, numbers, and texts.
-use Rattle.std.specs.Prelude.{ℕ, ◌+◌, ◌-◌, ◌*◌, ◌^◌, ◌==◌, ◌||◌, ◌&&◌, Bool, not, List, [], ◌∷◌, Option, Some, None, length, codes, decimal, bytes_eq, nat_le, nat_lt, if◌then◌else◌}
+use Rattle.std.specs.Prelude.{ℕ, ◌+◌, ◌-◌, ◌*◌, ◌^◌, ◌==◌, ◌||◌, ◌&&◌, Bool, not, List, [], ◌∷◌, Option, Some, None, length, codes, decimal, bytes_eq, option_map, nat_le, nat_lt, if◌then◌else◌}
 use Rattle.std.specs.List.{slice_split, list_all}
 use Rattle.std.specs.Char.{is_ascii_alphanumeric, is_ascii_lowercase, is_ascii_digit}
 
@@ -21,6 +21,10 @@ is_plain word = not (length word == 0) && list_all is_ascii_alphanumeric word
 -- a key or a value: a dot for the empty one
 abbrev pub text_in : List ℕ → Option (List ℕ)
 text_in word = if bytes_eq word (codes ".") then Some [] else (if is_plain word then Some word else None)
+
+-- an upper end: a star for none
+abbrev pub end_in : List ℕ → Option (Option (List ℕ))
+end_in word = if bytes_eq word (codes "*") then Some None else option_map Some (text_in word)
 
 -- the number that these digits write behind those of n
 abbrev pub value_behind : ℕ → List ℕ → ℕ

@@ -20,6 +20,9 @@ A script is lines; empty lines and lines that begin with # are skipped.
   update T K V  gives the record K that is there the value V
   upsert T K V  puts the record K=V, whether there is one or not
   delete T K    removes the record K that is there
+  get T K       asks for the value of the record K
+  scan T K K    asks for the records from the first key on, below the second
+  scan T K *    asks for the records from K on
   rollback T    rolls transaction T back
   force         makes the log stable
   send T        sends the unanswered request of transaction T, first or again

@@ -1,8 +1,8 @@
 //! The text of a leaf: its number, its fences, how much it has, and which requests it has captured.
 ghost use Rattle.std.specs.Prelude.{◌≡◌, ◌++◌, flat_map};
 ghost use Rattle.std.specs.Option.{option_copied};
-ghost use Rattle.undo_shell.specs.Printed.{Prints, piece_text};
-ghost use Rattle.undo_shell.specs.Stored.{leaf_line, fences_text, counts_text, fence_text, set_line, more_line, next_number};
+ghost use Rattle.undo_shell.specs.Printed.{Prints, piece_text, shown_if};
+ghost use Rattle.undo_shell.specs.Stored.{leaf_line, fences_text, counts_text, set_line, more_line, next_number};
 
 use crate::output::{Piece, print};
 use ab_lsn::Entry;
@@ -37,7 +37,7 @@ fn print_fences<W: io::Write>(writer: &mut W, leaf: &Leaf) -> io::Result<()>
 
 /// A fence, or a dash where there is no bound.
 fn fence(key: Option<&Key>) -> Piece<'_>
-    ensures { piece_text result ≡ fence_text (option_copied key.entry) }
+    ensures { piece_text result ≡ shown_if (option_copied key.entry) }
 {
     match key {
         Some(key) => Piece::Word(key.as_bytes()),

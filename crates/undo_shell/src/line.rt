@@ -37,6 +37,16 @@ pub enum Line<'a> {
         key: &'a [u8],
         value: &'a [u8],
     },
+    Get {
+        label: Label,
+        key: &'a [u8],
+    },
+    /// The keys from `low` on, below `high` where there is one.
+    Scan {
+        label: Label,
+        low: &'a [u8],
+        high: Option<&'a [u8]>,
+    },
     Call {
         label: Label,
         call: Call,

@@ -17,6 +17,7 @@ mod output;
 mod parsing;
 mod printed;
 mod reply;
+mod rows;
 mod run;
 mod script;
 mod shell;

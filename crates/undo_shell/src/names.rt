@@ -1,11 +1,11 @@
 //! The names that begin lines, by what follows them.
 ghost use Rattle.std.specs.Prelude.{◌≡◌, option_map};
-ghost use Rattle.undo_shell.specs.Words.{label_in, number_in};
-ghost use Rattle.undo_shell.specs.Script.{bare, with_label, with_number, kind_without_value, kind_with_value, meaning};
+ghost use Rattle.undo_shell.specs.Words.{label_in, number_in, text_in};
+ghost use Rattle.undo_shell.specs.Script.{bare, with_label, with_number, with_key, kind_with_value, meaning};
 
 use crate::label::Label;
 use crate::line::{Call, Kind, Line, Part};
-use crate::words::number_of;
+use crate::words::{number_of, text_of};
 use world::Event;
 
 /// A line of one word.
@@ -61,12 +61,21 @@ pub fn with_number<'a>(name: &[u8], word: &[u8]) -> Option<Line<'a>>
     }
 }
 
-/// What a write of three words does.
-pub fn kind_without_value(name: &[u8]) -> Option<Kind>
-    ensures { result ≡ kind_without_value name.now }
+/// A line of a name, a label and a key.
+pub fn with_key<'a>(name: &[u8], label: &[u8], key: &'a [u8]) -> Option<Line<'a>>
+    ensures { option_map meaning result ≡ with_key name.now (label_in label.now) (text_in key.now) }
 {
-    if name == b"delete".as_slice() {
-        Some(Kind::Delete)
+    let label = Label::new(label)?;
+    let key = text_of(key)?;
+    if name == b"get".as_slice() {
+        Some(Line::Get { label, key })
+    } else if name == b"delete".as_slice() {
+        Some(Line::Write {
+            label,
+            kind: Kind::Delete,
+            key,
+            value: &key[..0],
+        })
     } else {
         None
     }

@@ -1,13 +1,13 @@
 //! The grammar of a line: one place for each number of words.
 ghost use Rattle.std.specs.Prelude.{◌≡◌, ◌∷◌, option_map};
-ghost use Rattle.undo_shell.specs.Words.{words_of, label_in, text_in};
-ghost use Rattle.undo_shell.specs.Script.{command_of, write_of, meaning};
+ghost use Rattle.undo_shell.specs.Words.{words_of, label_in, text_in, end_in};
+ghost use Rattle.undo_shell.specs.Script.{command_of, write_of, scan_of, meaning};
 
 use crate::label::Label;
 use crate::line::{Kind, Line};
-use crate::names::{bare, kind_with_value, kind_without_value, with_label, with_number};
+use crate::names::{bare, kind_with_value, with_key, with_label, with_number};
 use crate::script::cut_at;
-use crate::words::text_of;
+use crate::words::{end_of, text_of};
 
 /// The line that these bytes are, if they are in the grammar.
 pub fn parse(line: &[u8]) -> Option<Line<'_>>
@@ -30,17 +30,17 @@ fn parse_pair<'a>(name: &[u8], rest: &'a [u8]) -> Option<Line<'a>>
             Some(line) => Some(line),
             None => with_number(name, word),
         },
-        Some(rest) => parse_write(name, word, rest),
+        Some(rest) => parse_keyed(name, word, rest),
     }
 }
 
 /// A line of three words or more.
-fn parse_write<'a>(name: &[u8], label: &[u8], rest: &'a [u8]) -> Option<Line<'a>>
+fn parse_keyed<'a>(name: &[u8], label: &[u8], rest: &'a [u8]) -> Option<Line<'a>>
     ensures { option_map meaning result ≡ command_of (name.now ∷ label.now ∷ words_of rest.now) }
 {
     let (key, rest) = cut_at(rest, b' ');
     match rest {
-        None => write(kind_without_value(name), label, key, b"."),
+        None => with_key(name, label, key),
         Some(rest) => parse_row(name, label, key, rest),
     }
 }
@@ -49,9 +49,10 @@ fn parse_write<'a>(name: &[u8], label: &[u8], rest: &'a [u8]) -> Option<Line<'a>
 fn parse_row<'a>(name: &[u8], label: &[u8], key: &'a [u8], rest: &'a [u8]) -> Option<Line<'a>>
     ensures { option_map meaning result ≡ command_of (name.now ∷ label.now ∷ key.now ∷ words_of rest.now) }
 {
-    let (value, rest) = cut_at(rest, b' ');
+    let (last, rest) = cut_at(rest, b' ');
     match rest {
-        None => write(kind_with_value(name), label, key, value),
+        None if name == b"scan".as_slice() => scan(label, key, last),
+        None => write(kind_with_value(name), label, key, last),
         Some(_) => None,
     }
 }
@@ -70,4 +71,14 @@ fn write<'a>(kind: Option<Kind>, label: &[u8], key: &'a [u8], value: &'a [u8]) -
         key,
         value,
     })
+}
+
+/// A scan whose label and keys are these words.
+fn scan<'a>(label: &[u8], low: &'a [u8], high: &'a [u8]) -> Option<Line<'a>>
+    ensures { option_map meaning result ≡ scan_of (label_in label.now) (text_in low.now) (end_in high.now) }
+{
+    let label = Label::new(label)?;
+    let low = text_of(low)?;
+    let high = end_of(high)?;
+    Some(Line::Scan { label, low, high })
 }

@@ -1,9 +1,10 @@
 //! The node with the labels of a script.
 ghost use Rattle.std.specs.Prelude.{◌≡◌, MatchResult, Some, None};
+ghost use Rattle.std.specs.Option.{option_copied};
 ghost use Rattle.world.specs.Node.{fresh_node};
 ghost use Rattle.undo_shell.specs.Labels.{number_in, unbound, AreSame};
 ghost use Rattle.undo_shell.specs.Script.{meaning};
-ghost use Rattle.undo_shell.specs.Text.{Replies, Begins, Writes, IsSettling, event_of, op_of, length_fault};
+ghost use Rattle.undo_shell.specs.Text.{Replies, Begins, Writes, Gets, Scans, IsSettling, event_of, op_of, length_fault, keys_fault};
 
 use crate::label::{Label, Labels};
 use crate::line::{Call, Kind, Line};
@@ -45,6 +46,8 @@ impl Shell {
                 key,
                 value,
             } => Reply::Event(self.write(label, *kind, key, value)),
+            Line::Get { label, key } => Reply::Event(self.get(label, key)),
+            Line::Scan { label, low, high } => Reply::Event(self.scan(label, low, *high)),
             Line::Call { label, call } => {
                 let event = event_of(*call, self.labels.number(label));
                 Reply::Event(self.world.step(&event))
@@ -81,6 +84,32 @@ impl Shell {
         let txn = self.labels.number(label);
         self.world.step(&Event::Act { txn, op })
     }
+
+    /// Asks for the value at a key that has a length that the node takes.
+    fn get(&mut self, label: &Label, key: &[u8]) -> Out
+        ensures event { Gets label.now key.now self.old.world (number_in self.old.labels) result self.new.world }
+        ensures labels { AreSame (number_in self.old.labels) (number_in self.new.labels) }
+    {
+        let key = match Key::new(key) {
+            Ok(key) => key,
+            Err(refusal) => return Out::Refused(refusal),
+        };
+        let txn = self.labels.number(label);
+        self.world.step(&Event::Get { txn, key })
+    }
+
+    /// Asks for the rows between keys that have lengths that the node takes.
+    fn scan(&mut self, label: &Label, low: &[u8], high: Option<&[u8]>) -> Out
+        ensures event { Scans label.now low.now (option_copied high.entry) self.old.world (number_in self.old.labels) result self.new.world }
+        ensures labels { AreSame (number_in self.old.labels) (number_in self.new.labels) }
+    {
+        let (low, high) = match ends_of(low, high) {
+            Ok(ends) => ends,
+            Err(refusal) => return Out::Refused(refusal),
+        };
+        let txn = self.labels.number(label);
+        self.world.step(&Event::Scan { txn, low, high })
+    }
 }
 
 /// The operation, unless the key or the value has a length that no node takes.
@@ -95,6 +124,21 @@ fn op_of(kind: Kind, key: &[u8], value: &[u8]) -> Result<Op, Refusal>
         Kind::Upsert => Op::Upsert(key, value),
         Kind::Delete => Op::Delete(key),
     })
+}
+
+/// The keys of a scan, unless one has a length that no key has.
+fn ends_of(low: &[u8], high: Option<&[u8]>) -> Result<(Key, Option<Key>), Refusal>
+    ensures { MatchResult result (λ ends. (keys_fault low.now (option_copied high.entry) ≡ None) × (ends.0 ≡ low.now) × (ends.1 ≡ option_copied high.entry)) (λ refusal. keys_fault low.now (option_copied high.entry) ≡ Some refusal) }
+{
+    match high {
+        None => Ok((Key::new(low)?, None)),
+        // An empty key is told before one that is too long.
+        Some([]) => Err(Refusal::EmptyKey),
+        Some(high) => {
+            let low = Key::new(low)?;
+            Ok((low, Some(Key::new(high)?)))
+        }
+    }
 }
 
 /// What is to happen to the transaction of this number.

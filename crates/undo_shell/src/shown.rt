@@ -1,10 +1,10 @@
 //! What is printed of a node: its table, its log or its leaves.
-ghost use Rattle.std.specs.Prelude.{◌≡◌, flat_map};
+ghost use Rattle.std.specs.Prelude.{◌≡◌};
 ghost use Rattle.std.specs.FinMap.{entries};
 ghost use Rattle.history.specs.Log.{record_at};
 ghost use Rattle.undo_shell.specs.Printed.{Prints};
 ghost use Rattle.undo_shell.specs.Logged.{line_at, lines_to, log_text};
-ghost use Rattle.undo_shell.specs.Stored.{row_line, table_text};
+ghost use Rattle.undo_shell.specs.Stored.{table_text};
 ghost use Rattle.undo_shell.specs.View.{log_of, rows_of, stable_of, part_text};
 
 use crate::leaves::print_leaf;
@@ -12,7 +12,7 @@ use crate::line::Part;
 use crate::logged::print_record;
 use crate::output::{Piece, print};
 use crate::printed::print_numbered;
-use record_key::{Key, Value};
+use crate::rows::print_rows;
 use std::io;
 use world::World;
 
@@ -33,15 +33,6 @@ fn print_table<W: io::Write>(writer: &mut W, world: &World) -> io::Result<()>
     let rows = world.rows();
     print_rows(writer, rows)?;
     print_numbered(writer, "rows ", rows.len() as u64)
-}
-
-fn print_rows<W: io::Write>(writer: &mut W, rows: &[(Key, Value)]) -> io::Result<()>
-    ensures { Prints (W.contents writer.old) (W.contents writer.new) result (flat_map row_line rows.now) }
-{
-    for row in rows {
-        print_row(writer, &row.0, &row.1)?;
-    }
-    Ok(())
 }
 
 fn print_log<W: io::Write>(writer: &mut W, world: &World) -> io::Result<()>
@@ -79,19 +70,4 @@ fn print_at<W: io::Write>(writer: &mut W, world: &World, lsn: u64) -> io::Result
         Some(entry) => print_record(writer, lsn, entry),
         None => Ok(()),
     }
-}
-
-/// The line of a row of the table.
-pub fn print_row<'a, W: io::Write>(writer: &mut W, key: &'a Key, value: &'a Value) -> io::Result<()>
-    ensures { Prints (W.contents writer.old) (W.contents writer.new) result (row_line (key.now, value.now)) }
-{
-    print(
-        writer,
-        &[
-            Piece::Word(key.as_bytes()),
-            Piece::Text("="),
-            Piece::Word(value.as_bytes()),
-            Piece::Text("\n"),
-        ],
-    )
 }

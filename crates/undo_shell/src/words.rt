@@ -2,7 +2,7 @@
 ghost use Rattle.std.specs.Prelude.{◌≡◌, ◌+◌, ◌*◌, ◌-◌, ◌^◌, ◌<◌, option_map, nat_lt, Some, None, if◌then◌else◌};
 ghost use Rattle.std.specs.List.{list_all};
 ghost use Rattle.std.specs.Char.{is_ascii_alphanumeric};
-ghost use Rattle.undo_shell.specs.Words.{is_plain, text_in, value_behind, number_in};
+ghost use Rattle.undo_shell.specs.Words.{is_plain, text_in, end_in, value_behind, number_in};
 
 use itoa::Buffer;
 
@@ -43,6 +43,17 @@ pub fn text_of(word: &[u8]) -> Option<&[u8]>
         return Some(&word[..0]);
     }
     if is_plain(word) { Some(word) } else { None }
+}
+
+/// The upper end that a word stands for: a star for none, or a text.
+pub fn end_of(word: &[u8]) -> Option<Option<&[u8]>>
+    ensures { option_map (λ end. option_map (λ text. text.now) end) result ≡ end_in word.now }
+{
+    if word == b"*".as_slice() {
+        return Some(None);
+    }
+    let text = text_of(word)?;
+    Some(Some(text))
 }
 
 /// Whether the word is one or more letters or digits.

@@ -15,7 +15,8 @@ use Rattle.world.specs.declared.event.Out.TheVariants as out
 use Rattle.world.specs.Node.{NodeView, Sends, ServesTo, StepsTo, ReconnectsTo, RecoversTo, SendsTo}
 use Rattle.world.specs.Rounds.{IsDone, IsRedoing, Asks}
 use Rattle.world.proofs.Exchanges.{HasReply, asked, served_last}
-use Rattle.world.proofs.Falls.{connect_replied, redo_replied, perform_replied, redoing_at}
+use Rattle.world.proofs.Replied.{connect_replied, redo_replied, request_replied}
+use Rattle.world.proofs.Falls.{redoing_at}
 
 -- what a step sent
 record Sent (w : NodeView) (mid : NodeView) : Type 0 where
@@ -69,8 +70,6 @@ pub asks_send : (w : NodeView) (t : ℕ) → Asks w (event.Send t)
 asks_send w t = asking w (event.Send t) by
   where
     by : (o : Out) (mid : NodeView) → SendsTo w t o mid → IsDone o → Sent w mid
-    by (out.Sent i) mid h d =
-        let Q : Request → Type 0 = HasReply in
-        record { tc = w.tc; request = h.0; number = i; sends = h.2; has = subst Q (sym h.1.is) (perform_replied w.tc.session h.1.number h.1.op) }
+    by (out.Sent i) mid h d = record { tc = w.tc; request = h.0; number = i; sends = h.2; has = request_replied w.tc t h.0 h.1 }
     by (out.Refused r) mid h d = absurd d
     by _ mid h d = absurd h

@@ -1,137 +1,220 @@
 -- What a client's call is to the list machine.
-use Rattle.std.proofs.Common.{◌≡◌, ℕ, ◌+◌, ◌<◌, Bool, true, false, List, [], ◌∷◌, ◌++◌, length, Option, Some, None, refl, sym, ap, ◌∙◌, subst, arith, eq-eqb, ne_eqb}
-use Rattle.std.specs.Prelude.{◌==◌, if◌then◌else◌}
+use Rattle.std.proofs.Common.{◌≡◌, ◌≢◌, ℕ, ◌+◌, ◌<◌, Bool, true, false, List, [], ◌∷◌, length, Option, Some, None, refl, sym, ap, ◌∙◌, subst, arith, inl, inr, eq-eqb, ne_eqb}
+use Rattle.std.specs.Prelude.{map, if◌then◌else◌}
 use Rattle.std.specs.List.{AllByRecursion}
+use Rattle.std.proofs.lemmas.Bool.{cases_eq}
 use Rattle.record_key.specs.declared.op.Op.{Op}
 use Rattle.record_key.specs.Table.{key_of}
 use Rattle.history.specs.declared.record.Record.{Record}
 use Rattle.history.specs.declared.record.Record.TheVariants as is
-use Rattle.history.specs.History.{Entry, cross}
-use Rattle.history.specs.Spans.{Exclusive, at_key, AnyConflict}
-use Rattle.history.specs.Log.{record_at, IsOpBy, hist}
+use Rattle.history.specs.Spans.{Span, Exclusive, IsRange, at_key, AnyConflict}
+use Rattle.history.specs.Log.{record_at, op_in, IsOpBy, hist}
 use Rattle.history.specs.Legal.{IsLegal}
-use Rattle.history.specs.ListMachine.{Machine, Txn, Open, Waiting, Rolling, Gone, Begins, Acts as acts, RollsBack as rolls, Step, Steps, IsAbove, blank}
+use Rattle.history.specs.ListMachine.{Txn, Open, Waiting, Reading, Rolling, Gone, Begins, Acts as acts, Reads, RollsBack as rolls_back, Step, Steps, IsAbove, IsAboveAll, blank, fallen}
 use Rattle.log_laws.proofs.Records.{op_step, record_new, not_newest}
-use Rattle.log_laws.proofs.LegalLogs.{begun, begun_number}
+use Rattle.log_laws.proofs.LegalLogs.{begun as has_begun, begun_number}
 use Rattle.tc_core.specs.declared.open_txn.OpenTxn.{OpenTxn}
-use Rattle.tc_core.specs.TcView.{TcView}
-use Rattle.tc_core.specs.Calls.{begun as begins, acted, rolled}
+use Rattle.tc_core.specs.OpenTxns.{find, replace}
+use Rattle.range_locks.specs.declared.span.Span as locked
+use Rattle.range_locks.specs.Locks.{LocksView, spans_of, set_spans, IsFree}
+use Rattle.range_locks.proofs.Tables.{set_own, set_other}
+use Rattle.tc_core.specs.declared.open_txn.Read.{Read}
+use Rattle.tc_core.specs.TcView.{TcView, is_rolling}
+use Rattle.tc_core.specs.Calls.{begun, begun_txn, acted, acted_txn, rolled, shared, asked, asked_txn}
 use Rattle.tc_core.specs.Kept.{IsTc}
-use Rattle.tc_core.proofs.KeepsTc.{alone_at, none_next}
-use Rattle.world.specs.Simulation.{last_of, spans_of, status_waiting, status_open, open_as, gone_as, txn_as, history_as, machine_of}
+use Rattle.tc_core.proofs.Finding.{found_number, find_here, find_there, find_above, replaced_other, replaced_same}
+use Rattle.tc_core.proofs.KeepsTc.{unheld, open_at, all_below, none_next}
+use Rattle.world.specs.Simulation.{last_of, waiting_for, status_waiting, status_reading, status_open, open_as, txn_by, txn_as, rolls, history_as, machine_of}
 use Rattle.world.proofs.Histories.{hist_below, hist_neutral, hist_op}
-use Rattle.world.proofs.Machines.{last_none, gone_longer, txn_open, txn_other, one_changed}
+use Rattle.world.proofs.Rollbacks.{rolls_replaced, fallen_same, fallen_below, fallen_more}
+use Rattle.world.proofs.Machines.{last_none, status_longer, txn_longer, waits_number, txn_open, locks_same, spans_held, one_changed}
 
 -- every number of the history is below the next
-below_next : (w : TcView) (o : Option OpenTxn) → AllByRecursion (λ e. e.number < length w.log + 1) (history_as w.log o)
-below_next w None = hist_below w.log w.log
-below_next w (Some o) = pick o.rolling
-  where
-    crossed_below : (p : ℕ → Bool) (t m : ℕ) (h : List Entry) → AllByRecursion (λ e. e.number < m) h → AllByRecursion (λ e. e.number < m) (cross p t h)
-    crossed_below p t m [] all = tt
-    crossed_below p t m (e ∷ h) all = (all.0, crossed_below p t m h all.1)
+below_next : (w : TcView) → AllByRecursion (λ e. e.number < length w.log + 1) (history_as w.log w.open_txns)
+below_next w = fallen_below (rolls w.open_txns) (length w.log + 1) (hist w.log) (hist_below w.log w.log)
 
-    pick : (b : Bool) → AllByRecursion (λ e. e.number < length w.log + 1) (if b then cross (λ n. true) o.txn (hist w.log) else hist w.log)
-    pick true = crossed_below (λ n. true) o.txn (length w.log + 1) (hist w.log) (hist_below w.log w.log)
-    pick false = hist_below w.log w.log
+-- whoever isn't gone has a number of the log
+open_below : (w : TcView) (u : ℕ) → IsTc w → (txn_as w.log w.open_txns w.locks u).status ≢ Gone → u < length w.log + 1
+open_below w u k busy = by (find u w.open_txns) refl busy
+  where
+    by : (x : Option OpenTxn) → find u w.open_txns ≡ x → (txn_by w.log w.locks u x).status ≢ Gone → u < length w.log + 1
+    by None e busy = absurd (busy refl)
+    by (Some o) e busy =
+        let number = begun_number w.log o.txn (k.open_txns.each u o e).is.begun in
+        omega (arith, number.bounded, found_number u w.open_txns o e)
 
 -- a transaction begins
-begin_history : (log : List Record) → hist (is.Begin ∷ log) ≡ hist log
-begin_history log = hist_neutral is.Begin log refl (λ n t o by. (refl, refl))
-
 unbegun : (log : List Record) (n : ℕ) (o : Op) → IsLegal log → IsOpBy log n (length log + 1) o → ⊥
 unbegun log n o legal by =
-    not_newest log (length log + 1) (begun_number log (length log + 1) (begun log (length log + 1) n legal (op_step (length log + 1) o (record_at log n) by))) refl
+    not_newest log (length log + 1) (begun_number log (length log + 1) (has_begun log (length log + 1) n legal (op_step (length log + 1) o (record_at log n) by))) refl
 
-begins_at : (w : TcView) (none : Option OpenTxn) → none ≡ None → IsTc w → Step (record { h = history_as w.log none; txns = λ t. txn_as w.log none t }) (Begins (length w.log + 1)) (machine_of (begins w))
-begins_at w (Some o) e k = absurd (cc)
-begins_at w None e k =
+begun_rolls : (w : TcView) → IsTc w → (u : ℕ) → rolls (begun w).open_txns u ≡ rolls w.open_txns u
+begun_rolls w k u =
     let n : ℕ = length w.log + 1 in
-    let nothing = last_none w.log n (λ m o by. unbegun w.log m o k.legal by) in
-    let new : OpenTxn = record { txn = n; last = 0; undo = 0; waiting = None; rolling = false } in
-    let here : open_as (is.Begin ∷ w.log) new ≡ blank Open = λ j. record { status = Open; saves = []; last = nothing.0 j; spans = nothing.1 j } in (
-      hist_below w.log w.log,
-      λ u busy. absurd (busy refl),
-      λ j. record { h = begin_history w.log j; txns = λ u. if u == n then here j else gone_longer is.Begin w.log u refl j },
-    )
+    elim (cases_eq u n) [
+      | inl e ↦ ap is_rolling (find_here (begun_txn n) w.open_txns u (sym e)) ∙ sym (ap (rolls w.open_txns) e ∙ ap is_rolling (find_above n w.open_txns (all_below w k)))
+      | inr apart ↦ ap is_rolling (find_there (begun_txn n) w.open_txns u (λ e. apart (sym e)))
+    ]
 
-pub happens_begin : (w : TcView) → IsTc w → w.open_txn ≡ None → Steps (machine_of w) (Begins (length w.log + 1) ∷ []) (machine_of (begins w))
-happens_begin w k none = (machine_of (begins w), begins_at w w.open_txn none k, refl)
+pub happens_begin : (w : TcView) → IsTc w → Steps (machine_of w) (Begins (length w.log + 1) ∷ []) (machine_of (begun w))
+happens_begin w k =
+    let n : ℕ = length w.log + 1 in
+    let new : OpenTxn = begun_txn n in
+    let log : List Record = is.Begin ∷ w.log in
+    let os : List OpenTxn = new ∷ w.open_txns in
+    let no_op : (m : ℕ) (o : Op) → IsOpBy w.log m n o → ⊥ = λ m o by. unbegun w.log m o k.legal by in
+    let here : txn_as log os w.locks n ≡ blank Open = txn_open log os w.locks new n (find_here new w.open_txns n refl)
+    ∙ (λ j. record { status = Open; saves = []; last = last_none w.log n no_op j; spans = unheld w n k (find_above n w.open_txns (all_below w k)) j }) in
+    let step : Step (machine_of w) (Begins n) (machine_of (begun w)) = (
+      below_next w,
+      λ u busy. open_below w u k busy,
+      λ j. record {
+        h = (ap (map (fallen (rolls os))) (hist_neutral is.Begin w.log refl (λ m t o by. (refl, refl))) ∙ fallen_same (rolls os) (rolls w.open_txns) (hist w.log) (begun_rolls w k)) j;
+        txns = λ u. one_changed (λ t. txn_as log os w.locks t) (λ t. txn_as w.log w.open_txns w.locks t) n (blank Open) here
+            (λ v apart. ap (txn_by log w.locks v) (find_there new w.open_txns v (λ e. apart (sym e)))
+            ∙ txn_longer is.Begin w.log w.locks v (find v w.open_txns) refl (λ o m. waits_number w v o m k)) u j;
+      },
+    ) in
+    (machine_of (begun w), step, refl)
+
+-- the next number is above all
+numbers_above : (w : TcView) → IsTc w → IsAboveAll (length w.log + 1) (machine_of w)
+numbers_above w k = (below_next w, λ u. by u (find u w.open_txns) refl)
+  where
+    at_op : (m : ℕ) (x : Option (ℕ × Op)) → m < length w.log + 1 → IsAbove (length w.log + 1) (waiting_for m x)
+    at_op m None less = tt
+    at_op m (Some x) less = less
+
+    at_waiting : (x : Option ℕ) → ((m : ℕ) → x ≡ Some m → m < length w.log + 1) → IsAbove (length w.log + 1) (status_waiting w.log x)
+    at_waiting None less = tt
+    at_waiting (Some m) less = at_op m (op_in (record_at w.log m)) (less m refl)
+
+    at_status : (b : Bool) (r : Option Read) (x : Option ℕ) → ((m : ℕ) → x ≡ Some m → m < length w.log + 1)
+        → IsAbove (length w.log + 1) (if b then Rolling None else status_reading r (status_waiting w.log x))
+    at_status true r x less = tt
+    at_status false (Some r) x less = tt
+    at_status false None x less = at_waiting x less
+
+    by : (u : ℕ) (x : Option OpenTxn) → find u w.open_txns ≡ x → IsAbove (length w.log + 1) (txn_by w.log w.locks u x).status
+    by u None e = tt
+    by u (Some o) e = at_status o.rolling o.reading o.waiting (λ m some. let number = waits_number w u o m k e some in omega (arith, number.bounded))
 
 -- an operation
-numbers_above : (log : List Record) (o : OpenTxn) (n u : ℕ) → o.waiting ≡ None → IsAbove n (txn_as log (Some o) u).status
-numbers_above log o n u none = pick (u == o.txn)
-  where
-    at_status : (b : Bool) (w : Option ℕ) → w ≡ None → IsAbove n (if b then Rolling None else status_waiting log w)
-    at_status true w e = tt
-    at_status false None e = tt
-    at_status false (Some m) e = absurd (cc)
+module _ (w : TcView) (o : OpenTxn) (op : Op) (k : IsTc w) (at : find o.txn w.open_txns ≡ Some o) where
+  abbrev next : ℕ
+  next = length w.log + 1
 
-    pick : (b : Bool) → IsAbove n (if b then open_as log o else gone_as log u).status
-    pick true = at_status o.rolling o.waiting none
-    pick false = tt
+  abbrev log : List Record
+  log = is.Op o.txn o.last op ∷ w.log
 
-acts_from : (w : TcView) (o : OpenTxn) (op : Op) → IsTc w → w.open_txn ≡ Some o → o.waiting ≡ None → o.rolling ≡ false
-    → Step (record { h = history_as w.log (Some o); txns = λ t. txn_as w.log (Some o) t }) (acts o.txn op (length w.log + 1)) (machine_of (acted w o op))
-acts_from w o op k at none flat =
-    let n : ℕ = length w.log + 1 in
-    let r : Record = is.Op o.txn o.last op in
-    let new : OpenTxn = record { txn = o.txn; last = n; undo = n; waiting = Some n; rolling = false } in
-    let old : Txn = txn_as w.log (Some o) o.txn in
-    let is_open : old ≡ open_as w.log o = txn_open w.log o o.txn refl in
-    let opened : status_open w.log o ≡ Open = rw (flat, none) refl in
-    let h = alone_at w o k at in
-    let waits : status_open (r ∷ w.log) new ≡ Waiting n op = rw (record_new r w.log) refl in
-    let lasts : last_of (r ∷ w.log) o.txn ≡ Some (n, op) = ap (λ b. if b then Some (n, op) else last_of w.log o.txn) (eq-eqb o.txn o.txn refl) in
-    let spans : spans_of (r ∷ w.log) o.txn ≡ old.spans ++ at_key Exclusive (key_of op) ∷ [] =
-    ap (λ b. if b then spans_of w.log o.txn ++ at_key Exclusive (key_of op) ∷ [] else spans_of w.log o.txn) (eq-eqb o.txn o.txn refl)
-    ∙ ap (λ x. x.spans ++ at_key Exclusive (key_of op) ∷ []) (sym is_open) in
-    let saves : [] ≡ old.saves = ap (λ x. x.saves) (sym is_open) in
-    let changed : Txn = record old { status = Waiting n op; last = Some (n, op); spans = old.spans ++ at_key Exclusive (key_of op) ∷ [] } in
-    let here : txn_as (r ∷ w.log) (Some new) o.txn ≡ changed =
-    txn_open (r ∷ w.log) new o.txn refl ∙ (λ j. record { status = waits j; saves = saves j; last = lasts j; spans = spans j }) in (
-      ap (λ x. x.status) is_open ∙ opened,
-      λ u apart conflict. let P : Txn → Type 0 = λ x. AnyConflict (at_key Exclusive (key_of op)) x.spans in subst P (txn_other w.log o u apart) conflict,
-      omega (arith, (begun_number w.log o.txn h.is.begun).bounded),
-      (below_next w (Some o), λ u. numbers_above w.log o n u none),
-      λ j. record {
-        h = (hist_op w.log o.txn o.last op (none_next w.log k.legal) ∙ sym (ap (λ b. if b then cross (λ m. true) o.txn (hist w.log) else hist w.log) flat)) j;
-        txns = λ u. one_changed (λ t. txn_as (r ∷ w.log) (Some new) t) (λ t. txn_as w.log (Some o) t) o.txn changed here
-            (λ v apart. txn_other (r ∷ w.log) new v apart
-            ∙ ap (λ l. record { status = Gone; saves = []; last = l; spans = [] }) (ap (λ b. if b then Some (n, op) else last_of w.log v) (ne_eqb v o.txn apart))
-            ∙ sym (txn_other w.log o v apart)) u j;
-      },
-    )
+  abbrev new : OpenTxn
+  new = acted_txn o next
 
--- the machine, where this transaction is open
-pub machine_at : (w : TcView) (o : OpenTxn) → w.open_txn ≡ Some o → machine_of w ≡ record { h = history_as w.log (Some o); txns = λ t. txn_as w.log (Some o) t }
-machine_at w o at = ap (λ x. record { h = history_as w.log x; txns = λ t. txn_as w.log x t }) at
+  abbrev span : Span
+  span = at_key Exclusive (key_of op)
 
-pub happens_act : (w : TcView) (o : OpenTxn) (op : Op) → IsTc w → w.open_txn ≡ Some o → o.waiting ≡ None → o.rolling ≡ false
-    → Steps (machine_of w) (acts o.txn op (length w.log + 1) ∷ []) (machine_of (acted w o op))
-happens_act w o op k at none flat =
-    let P : Machine → Type 0 = λ m. Step m (acts o.txn op (length w.log + 1)) (machine_of (acted w o op)) in
-    (machine_of (acted w o op), subst P (sym (machine_at w o at)) (acts_from w o op k at none flat), refl)
+  abbrev locks : LocksView
+  locks = set_spans o.txn (span ∷ spans_of w.locks o.txn) w.locks
+
+  abbrev old : Txn
+  old = txn_as w.log w.open_txns w.locks o.txn
+
+  is_open : old ≡ open_as w.log w.locks o
+  is_open = txn_open w.log w.open_txns w.locks o o.txn at
+
+  last_apart : (u : ℕ) → u ≢ o.txn → last_of log u ≡ last_of w.log u
+  last_apart u apart = ap (λ b. if b then Some (next, op) else last_of w.log u) (ne_eqb u o.txn apart)
+
+  -- the others stay
+  acts_apart : (u : ℕ) → u ≢ o.txn → txn_as log (replace new w.open_txns) locks u ≡ txn_as w.log w.open_txns w.locks u
+  acts_apart u apart = ap (txn_by log locks u) (replaced_other new w.open_txns u apart) ∙ by (find u w.open_txns) refl
+    where
+      by : (x : Option OpenTxn) → find u w.open_txns ≡ x → txn_by log locks u x ≡ txn_by w.log w.locks u x
+      by None e = λ j. record { status = Gone; saves = []; last = last_apart u apart j; spans = [] }
+      by (Some p) e =
+          let other : p.txn ≢ o.txn = λ f. apart (sym (found_number u w.open_txns p e) ∙ f) in
+          λ j. record {
+            status = status_longer (is.Op o.txn o.last op) w.log p (λ n. waits_number w u p n k e) j;
+            saves = [];
+            last = last_apart p.txn other j;
+            spans = set_other o.txn (span ∷ spans_of w.locks o.txn) w.locks p.txn k.locks.table other j;
+          }
+
+  -- its own has the operation
+  acts_here : txn_as log (replace new w.open_txns) locks o.txn ≡ record old { status = Waiting next op; last = Some (next, op); spans = span ∷ old.spans }
+  acts_here =
+      let waits : status_open log new ≡ Waiting next op = rw (record_new (is.Op o.txn o.last op) w.log) refl in
+      let last : last_of log o.txn ≡ Some (next, op) = ap (λ b. if b then Some (next, op) else last_of w.log o.txn) (eq-eqb o.txn o.txn refl) in
+      let spans : spans_of locks o.txn ≡ span ∷ old.spans = set_own o.txn (span ∷ spans_of w.locks o.txn) w.locks k.locks.table ∙ ap (λ x. span ∷ x.spans) (sym is_open) in
+      let saves : [] ≡ old.saves = ap (λ x. x.saves) (sym is_open) in
+      txn_open log (replace new w.open_txns) locks new o.txn (replaced_same new o w.open_txns at) ∙ (λ j. record { status = waits j; saves = saves j; last = last j; spans = spans j })
+
+  pub happens_act : o.waiting ≡ None → o.reading ≡ None → o.rolling ≡ false → IsFree w.locks o.txn (at_key Exclusive (key_of op))
+      → Steps (machine_of w) (acts o.txn op (length w.log + 1) ∷ []) (machine_of (acted w o op))
+  happens_act none unread flat free =
+      let number = begun_number w.log o.txn (open_at w o k at).is.begun in
+      let step : Step (machine_of w) (acts o.txn op next) (machine_of (acted w o op)) = (
+        ap (λ x. x.status) is_open ∙ rw (flat, unread, none) refl,
+        λ u apart conflict. free u apart (subst (AnyConflict span) (spans_held w u k) conflict),
+        omega (arith, number.bounded),
+        numbers_above w k,
+        λ j. record {
+          h = (ap (map (fallen (rolls (replace new w.open_txns)))) (hist_op w.log o.txn o.last op (none_next w.log k.legal))
+              ∙ fallen_same (rolls (replace new w.open_txns)) (rolls w.open_txns) (hist w.log) (rolls_replaced new o w.open_txns at (sym flat))) j;
+          txns = λ u. one_changed (λ t. txn_as log (replace new w.open_txns) locks t) (λ t. txn_as w.log w.open_txns w.locks t) o.txn _ acts_here acts_apart u j;
+        },
+      ) in
+      (machine_of (acted w o op), step, refl)
 
 -- a rollback begins
-rolls_from : (w : TcView) (o : OpenTxn) → o.waiting ≡ None → o.rolling ≡ false
-    → Step (record { h = history_as w.log (Some o); txns = λ t. txn_as w.log (Some o) t }) (rolls o.txn) (machine_of (rolled w o))
-rolls_from w o none flat =
+pub happens_rollback : (w : TcView) (o : OpenTxn) → IsTc w → find o.txn w.open_txns ≡ Some o → o.waiting ≡ None → o.reading ≡ None → o.rolling ≡ false
+    → Steps (machine_of w) (rolls_back o.txn ∷ []) (machine_of (rolled w o))
+happens_rollback w o k at none unread flat =
     let new : OpenTxn = record o { rolling = true } in
-    let old : Txn = txn_as w.log (Some o) o.txn in
-    let is_open : old ≡ open_as w.log o = txn_open w.log o o.txn refl in
+    let os : List OpenTxn = replace new w.open_txns in
+    let old : Txn = txn_as w.log w.open_txns w.locks o.txn in
+    let is_open : old ≡ open_as w.log w.locks o = txn_open w.log w.open_txns w.locks o o.txn at in
     let changed : Txn = record old { status = Rolling None } in
     let rolling_as : Txn → Txn = λ x. record x { status = Rolling None } in
-    let here : txn_as w.log (Some new) o.txn ≡ changed = txn_open w.log new o.txn refl ∙ ap rolling_as (sym is_open) in (
-      ap (λ x. x.status) is_open ∙ rw (flat, none) refl,
+    let now : find o.txn os ≡ Some new = replaced_same new o w.open_txns at in
+    let here : txn_as w.log os w.locks o.txn ≡ changed = txn_open w.log os w.locks new o.txn now ∙ ap rolling_as (sym is_open) in
+    let step : Step (machine_of w) (rolls_back o.txn) (machine_of (rolled w o)) = (
+      ap (λ x. x.status) is_open ∙ rw (flat, unread, none) refl,
       λ j. record {
-        h = ap (cross (λ m. true) o.txn) (sym (ap (λ b. if b then cross (λ m. true) o.txn (hist w.log) else hist w.log) flat)) j;
-        txns = λ u. one_changed (λ t. txn_as w.log (Some new) t) (λ t. txn_as w.log (Some o) t) o.txn changed here
-            (λ v apart. txn_other w.log new v apart ∙ sym (txn_other w.log o v apart)) u j;
+        h = fallen_more (rolls w.open_txns) (rolls os) o.txn (hist w.log) (ap is_rolling now) (λ u apart. ap is_rolling (replaced_other new w.open_txns u apart)) j;
+        txns = λ u. one_changed (λ t. txn_as w.log os w.locks t) (λ t. txn_as w.log w.open_txns w.locks t) o.txn changed here
+            (λ v apart. ap (txn_by w.log w.locks v) (replaced_other new w.open_txns v apart)) u j;
       },
-    )
+    ) in
+    (machine_of (rolled w o), step, refl)
 
-pub happens_rollback : (w : TcView) (o : OpenTxn) → w.open_txn ≡ Some o → o.waiting ≡ None → o.rolling ≡ false → Steps (machine_of w) (rolls o.txn ∷ []) (machine_of (rolled w o))
-happens_rollback w o at none flat =
-    let P : Machine → Type 0 = λ m. Step m (rolls o.txn) (machine_of (rolled w o)) in
-    (machine_of (rolled w o), subst P (sym (machine_at w o at)) (rolls_from w o none flat), refl)
+-- a read is asked
+pub happens_ask : (w : TcView) (o : OpenTxn) (s : locked.Span) → IsTc w → find o.txn w.open_txns ≡ Some o → o.waiting ≡ None → o.reading ≡ None → o.rolling ≡ false
+    → IsRange (shared s) → IsFree w.locks o.txn (shared s) → Steps (machine_of w) (Reads o.txn (shared s) ∷ []) (machine_of (asked w o s))
+happens_ask w o s k at none unread flat range free =
+    let new : OpenTxn = asked_txn o (w.reads + 1) s in
+    let os : List OpenTxn = replace new w.open_txns in
+    let ss : List Span = shared s ∷ spans_of w.locks o.txn in
+    let locks : LocksView = set_spans o.txn ss w.locks in
+    let old : Txn = txn_as w.log w.open_txns w.locks o.txn in
+    let is_open : old ≡ open_as w.log w.locks o = txn_open w.log w.open_txns w.locks o o.txn at in
+    let changed : Txn = record old { status = Reading (shared s); spans = shared s ∷ old.spans } in
+    let reads_as : Txn → Txn = λ x. record x { status = Reading (shared s); spans = shared s ∷ x.spans } in
+    let status : status_open w.log new ≡ Reading (shared s) = rw flat refl in
+    let spans : spans_of locks o.txn ≡ ss = set_own o.txn ss w.locks k.locks.table in
+    let here : txn_as w.log os locks o.txn ≡ changed = txn_open w.log os locks new o.txn (replaced_same new o w.open_txns at)
+    ∙ (λ j. record { status = status j; saves = []; last = last_of w.log o.txn; spans = spans j }) ∙ ap reads_as (sym is_open) in
+    let step : Step (machine_of w) (Reads o.txn (shared s)) (machine_of (asked w o s)) = (
+      ap (λ x. x.status) is_open ∙ rw (flat, unread, none) refl,
+      refl,
+      range,
+      λ u apart conflict. free u apart (subst (AnyConflict (shared s)) (spans_held w u k) conflict),
+      λ j. record {
+        h = fallen_same (rolls os) (rolls w.open_txns) (hist w.log) (rolls_replaced new o w.open_txns at refl) j;
+        txns = λ u. one_changed (λ t. txn_as w.log os locks t) (λ t. txn_as w.log w.open_txns w.locks t) o.txn changed here
+            (λ v apart. ap (txn_by w.log locks v) (replaced_other new w.open_txns v apart)
+            ∙ locks_same w.log w.locks locks v (find v w.open_txns)
+            (λ p e. set_other o.txn ss w.locks p.txn k.locks.table (λ f. apart (sym (found_number v w.open_txns p e) ∙ f)))) u j;
+      },
+    ) in
+    (machine_of (asked w o s), step, refl)

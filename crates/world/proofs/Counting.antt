@@ -1,4 +1,4 @@
--- How many requests a log has, and how many operations are left to undo.
+-- How many requests a log has, and how many operations of a transaction are left to undo.
 use Rattle.std.proofs.Common.{◌≡◌, ◌≢◌, ℕ, ◌+◌, ◌<◌, ◌≤◌, Bool, true, false, List, [], ◌∷◌, length, Option, Some, None, refl, sym, ap, ◌∙◌, subst, arith, inl, inr, true≢false, eq-eqb, ne_eqb}
 use Rattle.std.specs.Prelude.{◌==◌, ◌&&◌, ◌||◌, not, nat_le, nat_lt, if◌then◌else◌}
 use Rattle.std.proofs.lemmas.Bool.{cases_eq}
@@ -7,7 +7,8 @@ use Rattle.record_key.specs.declared.op.Op.{Op}
 use Rattle.history.specs.declared.record.Record.{Record}
 use Rattle.history.specs.declared.record.Record.TheVariants as is
 use Rattle.history.specs.Log.{is_crossed, request_of, op_of, Requests, IsOpBy}
-use Rattle.log_laws.proofs.Records.{ARequest, AnOp, newest_at, older_at, no_request}
+use Rattle.log_laws.proofs.Records.{ARequest, AnOp, newest_at, older_at, both_same, no_request}
+use Rattle.log_laws.proofs.LegalLogs.{crossed_push}
 use Rattle.world.specs.Bound.{asked, requests_in, left_in, steps_in}
 
 -- requests: fewer from a later number on
@@ -53,19 +54,39 @@ none_above from below r log le =
     pick true false e = omega arith
     pick false b e = omega arith
 
--- operations that are left: only who is crossed counts
-pub same_left : (a b : List Record) (t : ℕ) (log : List Record) → ((n : ℕ) → is_crossed a n ≡ is_crossed b n) → left_in a t log ≡ left_in b t log
-same_left a b t [] same = refl
-same_left a b t (is.Op u p o ∷ log) same =
-    ap (λ (c : Bool). (if u == t && not c then 1 else 0) + left_in a t log) (same (length log + 1))
-    ∙ ap (λ (n : ℕ). (if u == t && not (is_crossed b (length log + 1)) then 1 else 0) + n) (same_left a b t log same)
-same_left a b t (is.Session ∷ log) same = same_left a b t log same
-same_left a b t (is.Begin ∷ log) same = same_left a b t log same
-same_left a b t (is.Answer n x ∷ log) same = same_left a b t log same
-same_left a b t (is.Comp u m n i ∷ log) same = same_left a b t log same
-same_left a b t (is.Commit u ∷ log) same = same_left a b t log same
-same_left a b t (is.End u ∷ log) same = same_left a b t log same
-same_left a b t (is.Checkpoint l ∷ log) same = same_left a b t log same
+-- operations that are left: what is crossed stays so
+flag_left : (t x y : Bool) → (y ≡ true → x ≡ true) → (if t && not x then 1 else 0) ≤ (if t && not y then 1 else 0)
+flag_left t x y more = pick t x y refl refl
+  where
+    pick : (t a b : Bool) → x ≡ a → y ≡ b → (if t && not a then 1 else 0) ≤ (if t && not b then 1 else 0)
+    pick false a b ea eb = omega arith
+    pick true true b ea eb = omega arith
+    pick true false false ea eb = omega arith
+    pick true false true ea eb = absurd (true≢false (sym (more eb) ∙ ea))
+
+fewer_left : (a b : List Record) (t : ℕ) (log : List Record) → ((n : ℕ) → is_crossed b n ≡ true → is_crossed a n ≡ true) → left_in a t log ≤ left_in b t log
+fewer_left a b t [] more = omega arith
+fewer_left a b t (is.Op u p o ∷ log) more =
+    let here = flag_left (u == t) (is_crossed a (length log + 1)) (is_crossed b (length log + 1)) (more (length log + 1)) in
+    omega (arith, here, fewer_left a b t log more)
+fewer_left a b t (is.Session ∷ log) more = fewer_left a b t log more
+fewer_left a b t (is.Begin ∷ log) more = fewer_left a b t log more
+fewer_left a b t (is.Answer n x ∷ log) more = fewer_left a b t log more
+fewer_left a b t (is.Comp u m n i ∷ log) more = fewer_left a b t log more
+fewer_left a b t (is.Commit u ∷ log) more = fewer_left a b t log more
+fewer_left a b t (is.End u ∷ log) more = fewer_left a b t log more
+fewer_left a b t (is.Checkpoint l ∷ log) more = fewer_left a b t log more
+
+-- so no record but an operation adds to what is left of anyone
+pub left_later : (r : Record) (log : List Record) (t : ℕ) → op_of r ≡ None → left_in (r ∷ log) t (r ∷ log) ≤ left_in log t log
+left_later (is.Op u p o) log t none = absurd (cc)
+left_later is.Session log t none = fewer_left (is.Session ∷ log) log t log (λ n. crossed_push n is.Session log)
+left_later is.Begin log t none = fewer_left (is.Begin ∷ log) log t log (λ n. crossed_push n is.Begin log)
+left_later (is.Answer m x) log t none = fewer_left (is.Answer m x ∷ log) log t log (λ n. crossed_push n (is.Answer m x) log)
+left_later (is.Comp u m x i) log t none = fewer_left (is.Comp u m x i ∷ log) log t log (λ n. crossed_push n (is.Comp u m x i) log)
+left_later (is.Commit u) log t none = fewer_left (is.Commit u ∷ log) log t log (λ n. crossed_push n (is.Commit u) log)
+left_later (is.End u) log t none = fewer_left (is.End u ∷ log) log t log (λ n. crossed_push n (is.End u) log)
+left_later (is.Checkpoint l) log t none = fewer_left (is.Checkpoint l ∷ log) log t log (λ n. crossed_push n (is.Checkpoint l) log)
 
 -- a compensation crosses one: those above it and below it stay
 module _ (whole : List Record) (t v u x : ℕ) (i : Option Op) where
@@ -94,9 +115,7 @@ module _ (whole : List Record) (t v u x : ℕ) (i : Option Op) where
   newest_left : (r : Record) (o : Op) (log : List Record) → op_of r ≡ Some (t, o) → u ≡ length log + 1 → is_crossed whole u ≡ false
       → left_in crossed t (r ∷ log) + 1 ≡ left_in whole t (r ∷ log)
   newest_left (is.Op w p q) o log by e stands =
-      let both : (w, q) ≡ (t, o) = cc in
-      let same : w ≡ t = ap (λ (z : ℕ × Op). z.0) both in
-      let here : (w == t) ≡ true = eq-eqb w t same in
+      let here : (w == t) ≡ true = eq-eqb w t (both_same w t q o by).0 in
       let is_it : (length log + 1 == u) ≡ true = eq-eqb (length log + 1) u (sym e) in
       let was : is_crossed whole (length log + 1) ≡ false = subst (λ (n : ℕ). is_crossed whole n ≡ false) e stands in
       let rest = below_left log (omega (arith, e)) in
@@ -132,7 +151,7 @@ pub one_less_left : (log : List Record) (t u x : ℕ) (i : Option Op) (o : Op) �
     → left_in (is.Comp t u x i ∷ log) t (is.Comp t u x i ∷ log) + 1 ≡ left_in log t log
 one_less_left log t u x i o by stands = one_crossed log t t u x i o log by stands
 
--- each request, and each operation that is left, is a step
+-- each request is a step
 pub requests_are_steps : (from below : ℕ) (log : List Record) → requests_in from below log ≤ steps_in log
 requests_are_steps from below [] = omega arith
 requests_are_steps from below (r ∷ log) = by r (nat_le from (length log + 1) && nat_lt (length log + 1) below) (requests_are_steps from below log)
@@ -155,19 +174,3 @@ requests_are_steps from below (r ∷ log) = by r (nat_le from (length log + 1) &
     by (is.Commit t) b rest = omega (arith, rest, none b)
     by (is.End t) b rest = omega (arith, rest, none b)
     by (is.Checkpoint l) b rest = omega (arith, rest, none b)
-
-pub left_are_steps : (whole : List Record) (t : ℕ) (log : List Record) → left_in whole t log ≤ steps_in log
-left_are_steps whole t [] = omega arith
-left_are_steps whole t (is.Op u p o ∷ log) =
-    let rest = left_are_steps whole t log in let here = one (u == t && not (is_crossed whole (length log + 1))) in omega (arith, rest, here)
-  where
-    one : (b : Bool) → (if b then 1 else 0) ≤ 1
-    one true = omega arith
-    one false = omega arith
-left_are_steps whole t (is.Comp u m n i ∷ log) = let rest = left_are_steps whole t log in omega (arith, rest)
-left_are_steps whole t (is.Session ∷ log) = left_are_steps whole t log
-left_are_steps whole t (is.Begin ∷ log) = left_are_steps whole t log
-left_are_steps whole t (is.Answer n x ∷ log) = left_are_steps whole t log
-left_are_steps whole t (is.Commit u ∷ log) = left_are_steps whole t log
-left_are_steps whole t (is.End u ∷ log) = left_are_steps whole t log
-left_are_steps whole t (is.Checkpoint l ∷ log) = left_are_steps whole t log

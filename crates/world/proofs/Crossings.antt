@@ -80,17 +80,6 @@ or_swap false true false h = refl
 or_swap false false true h = refl
 or_swap false false false h = refl
 
-cross_once : (c b d : Bool) → ((c || (b && d)) || (b && true)) ≡ (c || (b && true))
-cross_once true b d = refl
-cross_once false true true = refl
-cross_once false true false = refl
-cross_once false false d = refl
-
-cross_none : (c b : Bool) → (b ≡ true → c ≡ true) → (c || (b && true)) ≡ c
-cross_none true b h = refl
-cross_none false true h = absurd (true≢false (sym (h refl)))
-cross_none false false h = refl
-
 -- a compensation crosses out the operation that it names
 module _ (log : List Record) (t u x : ℕ) (i : Option Op) (own : (v : ℕ) (o : Op) → IsOpBy log u v o → v ≡ t) where
   abbrev more : List Record
@@ -118,18 +107,6 @@ module _ (log : List Record) (t u x : ℕ) (i : Option Op) (own : (v : ℕ) (o :
 
   pub hist_comp : hist more ≡ cross (λ k. k == u) t (hist log)
   hist_comp = crossed_in log (λ m v o by e. own v o (let P : ℕ → Type 0 = λ z. IsOpBy log z v o in subst P e by))
-
--- to cross out one and then all is to cross out all
-pub cross_all-one : (p : ℕ → Bool) (t : ℕ) (h : List Entry) → cross (λ n. true) t (cross p t h) ≡ cross (λ n. true) t h
-cross_all-one p t [] = refl
-cross_all-one p t (e ∷ h) =
-    λ j. record { number = e.number; txn = e.txn; op = e.op; answer = e.answer; crossed = cross_once e.crossed (e.txn == t) (p e.number) j } ∷ cross_all-one p t h j
-
--- where all of a transaction is crossed out, nothing is left to cross
-pub cross_all-none : (t : ℕ) (h : List Entry) → AllByRecursion (λ e. e.txn ≡ t → e.crossed ≡ true) h → cross (λ n. true) t h ≡ h
-cross_all-none t [] all = refl
-cross_all-none t (e ∷ h) all =
-    λ j. record { number = e.number; txn = e.txn; op = e.op; answer = e.answer; crossed = cross_none e.crossed (e.txn == t) (λ same. all.0 (eqb-true e.txn t same)) j } ∷ cross_all-none t h all.1 j
 
 -- what nobody has left to undo is all crossed out
 pub all_undone : (log : List Record) (t : ℕ) → ((n : ℕ) → Stands log t n → ⊥) → AllByRecursion (λ e. e.txn ≡ t → e.crossed ≡ true) (hist log)

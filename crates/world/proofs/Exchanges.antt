@@ -59,6 +59,7 @@ took : (w : NodeView) (tc : TcView) (q : Request) (dc : DcView) (reply : Reply) 
 took w tc q dc reply (out.Refused r) new h d = absurd d
 took w tc q dc reply (out.Begun t) new h d = taken_last w tc q dc reply (out.Begun t) new h
 took w tc q dc reply (out.Logged n) new h d = taken_last w tc q dc reply (out.Logged n) new h
+took w tc q dc reply (out.Asked n) new h d = taken_last w tc q dc reply (out.Asked n) new h
 took w tc q dc reply out.RollingBack new h d = taken_last w tc q dc reply out.RollingBack new h
 took w tc q dc reply out.Nothing new h d = taken_last w tc q dc reply out.Nothing new h
 took w tc q dc reply (out.Compensated n) new h d = taken_last w tc q dc reply (out.Compensated n) new h
@@ -70,6 +71,8 @@ took w tc q dc reply out.Noted new h d = taken_last w tc q dc reply out.Noted ne
 took w tc q dc reply (out.Connected s) new h d = taken_last w tc q dc reply (out.Connected s) new h
 took w tc q dc reply (out.RedoEnded s) new h d = taken_last w tc q dc reply (out.RedoEnded s) new h
 took w tc q dc reply (out.Answered t a) new h d = taken_last w tc q dc reply (out.Answered t a) new h
+took w tc q dc reply (out.Row t v) new h d = taken_last w tc q dc reply (out.Row t v) new h
+took w tc q dc reply (out.Rows t rows) new h d = taken_last w tc q dc reply (out.Rows t rows) new h
 took w tc q dc reply (out.Undone n) new h d = taken_last w tc q dc reply (out.Undone n) new h
 
 -- these requests have replies

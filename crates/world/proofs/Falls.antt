@@ -1,29 +1,28 @@
 -- Each round of settling is one less of those that are left.
-use Rattle.std.proofs.Common.{◌≡◌, ◌⊎◌, ℕ, ◌+◌, ◌*◌, ◌<◌, ◌≤◌, Bool, true, false, List, [], ◌∷◌, length, MatchBool, Option, Some, None, refl, sym, ap, ◌∙◌, subst, arith, inl, inr, eq-eqb}
+use Rattle.std.proofs.Common.{◌≡◌, ◌⊎◌, ℕ, ◌+◌, ◌<◌, ◌≤◌, Bool, true, false, List, [], ◌∷◌, length, Option, Some, None, refl, sym, ap, ◌∙◌, subst, arith, inl, inr, eq-eqb}
 use Rattle.std.specs.Prelude.{◌==◌, ◌||◌, nat_lt, if◌then◌else◌}
-use Rattle.std.proofs.lemmas.Bool.{cases_lt}
+use Rattle.std.specs.List.{list_any}
 use Rattle.record_key.specs.declared.op.Op.{Op}
-use Rattle.record_key.specs.declared.op.Answer.{Answer}
 use Rattle.history.specs.declared.record.Record.{Record}
 use Rattle.history.specs.declared.record.Record.TheVariants as is
 use Rattle.history.specs.Log.{Requests}
 use Rattle.codec.specs.declared.request.Request.{Request}
 use Rattle.codec.specs.declared.request.Request.TheVariants as asks
-use Rattle.codec.specs.declared.reply.Reply.{Reply}
 use Rattle.codec.specs.declared.reply.Reply.TheVariants as says
-use Rattle.record_key.specs.Table.{answer_in}
-use Rattle.ab_lsn.specs.AbLsn.{captures, saved_in}
-use Rattle.dc_core.specs.DcView.{DcView}
-use Rattle.dc_core.specs.Serves.{Serves, performs}
+use Rattle.dc_core.specs.Serves.{Serves}
 use Rattle.tc_core.specs.declared.open_txn.OpenTxn.{OpenTxn}
+use Rattle.tc_core.specs.declared.open_txn.Read.{Read}
 use Rattle.tc_core.specs.declared.phase.Phase.{Phase}
 use Rattle.tc_core.specs.declared.phase.Phase.TheVariants as phase
 use Rattle.tc_core.specs.declared.told.Told.TheVariants as told
+use Rattle.tc_core.specs.OpenTxns.{find}
 use Rattle.tc_core.specs.TcView.{TcView}
-use Rattle.tc_core.specs.Calls.{reconnected}
-use Rattle.tc_core.specs.Replies.{takes, awaiting, is_number, on_awaited, on_reply}
+use Rattle.tc_core.specs.Calls.{reconnected, read_request}
+use Rattle.tc_core.specs.Replies.{takes, awaiting, on_awaited, on_reply}
 use Rattle.tc_core.specs.Recovery.{SendsAt, redo_request, redo_place, redoing}
 use Rattle.tc_core.specs.Undo.{FindsRequest}
+use Rattle.tc_core.proofs.Finding.{found_own}
+use Rattle.tc_core.proofs.KeepsTc.{awaits}
 use Rattle.world.specs.declared.event.Event.TheVariants as event
 use Rattle.world.specs.declared.event.Out.{Out}
 use Rattle.world.specs.declared.event.Out.TheVariants as out
@@ -31,72 +30,32 @@ use Rattle.world.specs.declared.round.Round.{Round}
 use Rattle.world.specs.declared.round.Round.TheVariants as round
 use Rattle.world.specs.Node.{NodeView, ReconnectsTo, RecoversTo, SendsTo}
 use Rattle.world.specs.Kept.{IsKept, IsServed}
-use Rattle.world.specs.Rounds.{IsDone, IsApart, IsRedoing, IsNext, Steps, events_of}
-use Rattle.world.specs.Bound.{requests_in, waiting_rounds, rolling_rounds, txn_rounds, phase_rounds, is_busy, force_rounds, rounds_left}
-use Rattle.world.proofs.Serves.{unsaved_low}
-use Rattle.world.proofs.Counting.{none_above, same_left}
+use Rattle.world.specs.Rounds.{IsDone, IsApart, IsRedoing, IsDue, IsReader, IsNext, Steps, events_of}
+use Rattle.world.specs.Bound.{requests_in, txn_rounds, phase_rounds, is_busy, force_rounds, rounds_left}
+use Rattle.world.proofs.Totals.{total_most, total_share}
+use Rattle.world.proofs.Counting.{none_above}
 use Rattle.world.proofs.Exchanges.{HasReply, Exchanged, exchanged}
-use Rattle.world.proofs.RoundsLeft.{unstable_now, stable_now, same_rounds, txn_waiting, falls_force, txn_rolling, falls_undo, IsSound, some_round, falls_redone, falls_answered}
+use Rattle.world.proofs.TxnRounds.{unstable_now, stable_now, txn_later, txn_waiting, txn_reading, txn_rolling, some_round}
+use Rattle.world.proofs.RoundsLeft.{same_rounds, falls_force, falls_undo, falls_redone, falls_answered, falls_told}
+use Rattle.world.proofs.Replied.{some_reply, sound_reply, read_reply, told_read, connect_replied, redo_replied, request_replied}
 
--- what the data component replies to an operation of the log
-pub record IsSoundReply (w : NodeView) (s n : ℕ) (reply : Reply) : Type 0 where
-  pub answer : Option Answer
-  pub reply_is : reply ≡ says.Answered s n answer
-  pub sound : IsSound w.tc n answer
-
-pub some_reply : (a b : Reply) → Some a ≡ Some b → a ≡ b
-some_reply a b e = cc
-
-pub sound_reply : (w : NodeView) (s n : ℕ) (o : Op) (reply : Reply) (dc : DcView) → IsKept w → Requests w.tc.log n o → Serves w.dc (asks.Perform s n o) (Some reply) dc → IsSoundReply w s n reply
-sound_reply w s n o reply dc k requests h = pick (captures w.dc.leaf.ab n) refl h
-  where
-    pick : (b : Bool) → captures w.dc.leaf.ab n ≡ b
-        → MatchBool b ((Some reply ≡ Some (says.Answered s n (saved_in w.dc.leaf.ab.entries n))) × (dc ≡ w.dc))
-        ((Some reply ≡ Some (says.Answered s n (Some (answer_in w.dc.leaf.rows o)))) × (dc ≡ performs w.dc n o)) → IsSoundReply w s n reply
-    pick true captured h = record {
-      answer = saved_in w.dc.leaf.ab.entries n;
-      reply_is = some_reply reply (says.Answered s n (saved_in w.dc.leaf.ab.entries n)) h.0;
-      sound = λ none. k.low.answered n o (unsaved_low w.dc.leaf.ab n captured none) requests;
-    }
-    pick false new h = record {
-      answer = Some (answer_in w.dc.leaf.rows o);
-      reply_is = some_reply reply (says.Answered s n (Some (answer_in w.dc.leaf.rows o))) h.0;
-      sound = λ none. absurd (cc);
-    }
-
--- these requests have replies
-pub connect_replied : (s : ℕ) → HasReply (asks.Connect s)
-connect_replied s old new h = let e : None ≡ Some (says.Connected s) = h.0 in cc
-
-redo_end_replied : (s : ℕ) → HasReply (asks.RedoEnd s)
-redo_end_replied s old new h = let e : None ≡ Some (says.RedoEnded s) = h.0 in cc
-
-pub perform_replied : (s n : ℕ) (o : Op) → HasReply (asks.Perform s n o)
-perform_replied s n o old new h = pick (captures old.leaf.ab n) h
-  where
-    pick : (b : Bool) → MatchBool b ((None ≡ Some (says.Answered s n (saved_in old.leaf.ab.entries n))) × (new ≡ old))
-        ((None ≡ Some (says.Answered s n (Some (answer_in old.leaf.rows o)))) × (new ≡ performs old n o)) → ⊥
-    pick true h = let e : None ≡ Some (says.Answered s n (saved_in old.leaf.ab.entries n)) = h.0 in cc
-    pick false h = let e : None ≡ Some (says.Answered s n (Some (answer_in old.leaf.rows o))) = h.0 in cc
-
--- the session's request is taken, and its reply
 -- where the components have no session in common, redo hasn't begun
 apart_phase : (w : NodeView) → IsKept w → IsApart w → (p : Phase) → w.tc.phase ≡ p → (p ≡ phase.Unconnected) ⊎ (p ≡ phase.Connecting)
 apart_phase w k apart phase.Unconnected at = inl refl
 apart_phase w k apart phase.Connecting at = inr refl
 apart_phase w k apart (phase.Redoing next) at =
-    let P : Phase → Type 0 = λ p. IsServed p w.tc.session w.dc.session in
+    let P : Phase → Type 0 = λ p. IsServed p w.tc.session w.dc in
     elim apart [
       | inl e ↦ let no : phase.Redoing next ≡ phase.Unconnected = sym at ∙ e in absurd (cc)
       | inr (inl e) ↦ let no : phase.Redoing next ≡ phase.Connecting = sym at ∙ e in absurd (cc)
       | inr (inr e) ↦ absurd (e (subst P at k.sessions.served))
     ]
 apart_phase w k apart phase.Running at =
-    let P : Phase → Type 0 = λ p. IsServed p w.tc.session w.dc.session in
+    let P : Phase → Type 0 = λ p. IsServed p w.tc.session w.dc in
     elim apart [
       | inl e ↦ let no : phase.Running ≡ phase.Unconnected = sym at ∙ e in absurd (cc)
       | inr (inl e) ↦ let no : phase.Running ≡ phase.Connecting = sym at ∙ e in absurd (cc)
-      | inr (inr e) ↦ absurd (e (subst P at k.sessions.served))
+      | inr (inr e) ↦ absurd (e (subst P at k.sessions.served).0)
     ]
 
 apart_rounds : (w : NodeView) → IsKept w → IsApart w → phase_rounds w.tc.log w.tc.session w.tc.phase ≡ requests_in 1 (length w.tc.log + 1) w.tc.log + 2
@@ -106,20 +65,6 @@ apart_rounds w k apart = elim (apart_phase w k apart w.tc.phase refl) [
 ]
 
 -- a session that begins leaves no more to do besides
-waiting_later : (a b : ℕ) (m : Option ℕ) → a ≤ b → waiting_rounds b m ≤ waiting_rounds a m
-waiting_later a b None le = omega arith
-waiting_later a b (Some n) le = elim (cases_lt b n) [
-  | inl less ↦ rw (unstable_now b n less, unstable_now a n (omega (arith, le, less))) (omega arith)
-  | inr most ↦ rw (stable_now b n most) (some_round a n)
-]
-
-txn_later : (log : List Record) (a b : ℕ) (x : Option OpenTxn) → a ≤ b → txn_rounds (is.Session ∷ log) b x ≤ txn_rounds log a x
-txn_later log a b None le = omega arith
-txn_later log a b (Some o) le =
-    let rolls : rolling_rounds (is.Session ∷ log) o ≡ rolling_rounds log o =
-    ap (λ (m : ℕ). if o.rolling then 3 * m + 1 else 0) (same_left (is.Session ∷ log) log o.txn log (λ m. refl)) in
-    omega (arith, rolls, waiting_later a b o.waiting le)
-
 less_force : (b s : Bool) → (if b || false then 1 else 0) ≤ (if b || s then 1 else 0)
 less_force true s = omega arith
 less_force false true = omega arith
@@ -128,10 +73,11 @@ less_force false false = omega arith
 begins_session : (w : NodeView) → IsKept w → IsApart w → rounds_left (record (reconnected w.tc) { phase = phase.Redoing 1 }) < rounds_left w.tc
 begins_session w k apart =
     let log : List Record = is.Session ∷ w.tc.log in
+    let os : List OpenTxn = w.tc.open_txns in
     let above = none_above 1 (length w.tc.log + 1) is.Session w.tc.log (omega arith) in
-    let txn = txn_later w.tc.log w.tc.stable (length log) w.tc.open_txn (omega (arith, k.tc.within)) in
-    let force = less_force (is_busy w.tc.open_txn) (nat_lt w.tc.stable (length w.tc.log)) in
-    rw (apart_rounds w k apart, stable_now (length log) (length log) (omega arith)) (omega (arith, above, txn, force))
+    let txns = total_most (txn_rounds log (length log)) (txn_rounds w.tc.log w.tc.stable) os (λ o. txn_later is.Session w.tc.log w.tc.stable (length log) o refl (omega (arith, k.tc.within))) in
+    let force = less_force (list_any is_busy os) (nat_lt w.tc.stable (length w.tc.log)) in
+    rw (apart_rounds w k apart, stable_now (length log) (length log) (omega arith)) (omega (arith, above, txns, force))
 
 falls_connected : (old new : NodeView) (q : Request) → IsKept old → IsApart old → q ≡ asks.Connect (length old.tc.log + 1) → Exchanged old (reconnected old.tc) q new → rounds_left new.tc < rounds_left old.tc
 falls_connected old new q k apart same h =
@@ -156,25 +102,33 @@ falls_redo old new next (Some x) q k at finds is h =
     let P : Request → Type 0 = λ y. Serves old.dc y (Some h.reply) h.dc in
     let sound = sound_reply old s n x.1 h.reply h.dc k finds.2 (subst P is h.served) in
     let taken : takes s (phase.Redoing n) n ≡ true = rw (eq-eqb n n refl) (unstable_now n s finds.1) in
-    let left : new.tc ≡ (on_awaited w n sound.answer (awaiting old.tc.open_txn n)).1 =
-    h.left ∙ ap (λ y. (on_reply w y).1) sound.reply_is ∙ ap (λ (b : Bool). (if b then on_awaited w n sound.answer (awaiting old.tc.open_txn n) else (told.Nothing, w)).1) taken in
-    same_rounds new.tc _ (rounds_left old.tc) left (falls_redone old.tc next n x.1 sound.answer (awaiting old.tc.open_txn n) k.tc at finds.0 finds.1 finds.2 refl sound.sound)
+    let left : new.tc ≡ (on_awaited w n sound.answer (awaiting old.tc n)).1 =
+    h.left ∙ ap (λ y. (on_reply w y).1) sound.reply_is ∙ ap (λ (b : Bool). (if b then on_awaited w n sound.answer (awaiting old.tc n) else (told.Nothing, w)).1) taken in
+    same_rounds new.tc _ (rounds_left old.tc) left (falls_redone old.tc next n x.1 sound.answer (awaiting old.tc n) k.tc at finds.0 finds.1 finds.2 refl sound.sound)
 
 -- an unanswered request is served and answered
-falls_exchange : (old new : NodeView) (n : ℕ) (o : Op) (x : OpenTxn) (q : Request) → IsKept old → old.tc.phase ≡ phase.Running → old.tc.open_txn ≡ Some x → x.waiting ≡ Some n
+falls_exchange : (old new : NodeView) (n : ℕ) (o : Op) (x : OpenTxn) (q : Request) → IsKept old → old.tc.phase ≡ phase.Running → find x.txn old.tc.open_txns ≡ Some x → x.waiting ≡ Some n
     → Requests old.tc.log n o → q ≡ asks.Perform old.tc.session n o → Exchanged old old.tc q new → rounds_left new.tc < rounds_left old.tc
 falls_exchange old new n o x q k running at some requests is h =
     let s : ℕ = old.tc.session in
     let P : Request → Type 0 = λ y. Serves old.dc y (Some h.reply) h.dc in
     let sound = sound_reply old s n o h.reply h.dc k requests (subst P is h.served) in
     let taken : takes s old.tc.phase n ≡ true = ap (λ (p : Phase). takes s p n) running in
-    let number : is_number x.waiting n ≡ true = ap (λ (m : Option ℕ). is_number m n) some ∙ eq-eqb n n refl in
-    let waits : awaiting old.tc.open_txn n ≡ Some x = ap (λ (y : Option OpenTxn). awaiting y n) at ∙ ap (λ (b : Bool). if b then Some x else None) number in
+    let waits : awaiting old.tc n ≡ Some x = awaits old.tc x n k.tc at some in
     let left : new.tc ≡ (on_awaited old.tc n sound.answer (Some x)).1 =
     h.left ∙ ap (λ y. (on_reply old.tc y).1) sound.reply_is
-    ∙ ap (λ (b : Bool). (if b then on_awaited old.tc n sound.answer (awaiting old.tc.open_txn n) else (told.Nothing, old.tc)).1) taken
+    ∙ ap (λ (b : Bool). (if b then on_awaited old.tc n sound.answer (awaiting old.tc n) else (told.Nothing, old.tc)).1) taken
     ∙ ap (λ (y : Option OpenTxn). (on_awaited old.tc n sound.answer y).1) waits in
     same_rounds new.tc _ (rounds_left old.tc) left (falls_answered old.tc n sound.answer x k.tc running at some sound.sound)
+
+-- a read is served and told
+falls_read : (old new : NodeView) (o : OpenTxn) (r : Read) (q : Request) → IsKept old → find o.txn old.tc.open_txns ≡ Some o → o.reading ≡ Some r
+    → q ≡ read_request old.tc.session r.number r.span → Exchanged old old.tc q new → rounds_left new.tc < rounds_left old.tc
+falls_read old new o r q k at some is h =
+    let s : ℕ = old.tc.session in
+    let P : Request → Type 0 = λ x. Serves old.dc x (Some h.reply) h.dc in
+    let reply = read_reply s r.number r.span old.dc h.dc h.reply (subst P is h.served) in
+    same_rounds new.tc _ (rounds_left old.tc) (h.left ∙ told_read old.tc o s r.number r.span h.reply k.tc at some reply) (falls_told old.tc o r k.tc at some)
 
 -- what a round's first event sent, and the rest of the round
 falls_connect_round : (old new mid : NodeView) (o : Out) (os : List Out) → IsKept old → IsApart old → ReconnectsTo old o mid → IsDone o
@@ -184,10 +138,6 @@ falls_connect_round old new mid (out.Sent i) os k apart h d rest =
     falls_connected old new q k apart refl (exchanged old mid (reconnected old.tc) q i os new (connect_replied (length old.tc.log + 1)) h.1 rest)
 falls_connect_round old new mid (out.Refused r) os k apart h d rest = absurd d
 falls_connect_round old new mid _ os k apart h d rest = absurd h
-
-pub redo_replied : (s : ℕ) (found : Option (ℕ × Op)) → HasReply (redo_request s found)
-redo_replied s None = redo_end_replied s
-redo_replied s (Some x) = perform_replied s x.0 x.1
 
 falls_recover_round : (old new mid : NodeView) (o : Out) (os : List Out) (next : ℕ) → IsKept old → old.tc.phase ≡ phase.Redoing next → RecoversTo old o mid → IsDone o
     → Steps mid (event.Request (length old.requests + 1) ∷ event.Reply (length old.replies + 1) ∷ []) os new → rounds_left new.tc < rounds_left old.tc
@@ -205,10 +155,11 @@ falls_recover_round old new mid _ os next k at h d rest = absurd h
 falls_exchange_round : (old new mid : NodeView) (o : Out) (os : List Out) (t : ℕ) → IsKept old → old.tc.phase ≡ phase.Running → SendsTo old t o mid → IsDone o
     → Steps mid (event.Request (length old.requests + 1) ∷ event.Reply (length old.replies + 1) ∷ []) os new → rounds_left new.tc < rounds_left old.tc
 falls_exchange_round old new mid (out.Sent i) os t k running h d rest =
-    let r = h.1 in
-    let Q : Request → Type 0 = HasReply in
-    falls_exchange old new r.number r.op r.open_txn h.0 k running r.at.is r.waiting r.requests r.is
-    (exchanged old mid old.tc h.0 i os new (subst Q (sym r.is) (perform_replied old.tc.session r.number r.op)) h.2 rest)
+    let exchange = exchanged old mid old.tc h.0 i os new (request_replied old.tc t h.0 h.1) h.2 rest in
+    elim h.1 [
+      | inl r ↦ falls_exchange old new r.number r.op r.open_txn h.0 k running r.at.is r.waiting r.requests r.is exchange
+      | inr r ↦ falls_read old new r.open_txn r.read h.0 k r.at.is r.reading r.is exchange
+    ]
 falls_exchange_round old new mid (out.Refused r) os t k running h d rest = absurd d
 falls_exchange_round old new mid _ os t k running h d rest = absurd h
 
@@ -241,19 +192,34 @@ forced_once : (b : Bool) → 1 ≤ (if b || true then 1 else 0)
 forced_once true = omega arith
 forced_once false = omega arith
 
+waits_left : (w : NodeView) (t n : ℕ) → IsKept w → IsDue w.tc t n → 0 < rounds_left w.tc
+waits_left w t n k due =
+    let o : OpenTxn = due.open_txn in
+    let e = txn_waiting w.tc.log w.tc.stable n o due.waiting in
+    let share = total_share (txn_rounds w.tc.log w.tc.stable) o w.tc.open_txns k.tc.open_txns.order (found_own t w.tc.open_txns o due.is) in
+    omega (arith, e, share, some_round w.tc.stable n)
+
+read_left : (w : NodeView) (t : ℕ) → IsKept w → IsReader w.tc t → 0 < rounds_left w.tc
+read_left w t k reader =
+    let o : OpenTxn = reader.open_txn in
+    let e = txn_reading w.tc.log w.tc.stable reader.read o reader.reading in
+    let share = total_share (txn_rounds w.tc.log w.tc.stable) o w.tc.open_txns k.tc.open_txns.order (found_own t w.tc.open_txns o reader.is) in
+    omega (arith, e, share)
+
 -- where a round applies, one at least is left
 pub some_left : (w : NodeView) (r : Round) → IsKept w → IsNext w r → 0 < rounds_left w.tc
 some_left w round.Connect k next = let e = apart_rounds w k next in omega (arith, e)
 some_left w round.Recover k next =
     let at = redoing_at w w.tc.phase refl next.0 in let e : phase_rounds w.tc.log w.tc.session w.tc.phase ≡ requests_in at.0 w.tc.session w.tc.log + 1 = ap (phase_rounds w.tc.log w.tc.session) at.1 in omega (arith, e)
-some_left w (round.Exchange t) k next =
-    let due = next.1.1 in
-    let e = txn_waiting w.tc.log w.tc.stable next.1.0 w.tc.open_txn due.open_txn due.is due.waiting in omega (arith, e, some_round w.tc.stable next.1.0)
-some_left w (round.Undo t) k next = let e = txn_rolling w.tc.log w.tc.stable w.tc.open_txn next.1.open_txn next.1.is next.1.rolling in omega (arith, e)
+some_left w (round.Exchange t) k next = elim next.1 [ inl due ↦ waits_left w t due.0 k due.1 | inr reader ↦ read_left w t k reader ]
+some_left w (round.Undo t) k next =
+    let o : OpenTxn = next.1.open_txn in
+    let e = txn_rolling w.tc.log w.tc.stable o next.1.rolling in
+    omega (arith, e, total_share (txn_rounds w.tc.log w.tc.stable) o w.tc.open_txns k.tc.open_txns.order (found_own t w.tc.open_txns o next.1.is))
 some_left w round.Force k next = elim next.1 [
-  | inl due ↦
-      let e = txn_waiting w.tc.log w.tc.stable due.1 w.tc.open_txn due.2.open_txn due.2.is due.2.waiting in omega (arith, e, some_round w.tc.stable due.1)
+  | inl due ↦ waits_left w due.0 due.1 k due.2
   | inr idle ↦
-      let e : force_rounds w.tc ≡ (if is_busy w.tc.open_txn || true then 1 else 0) = ap (λ (b : Bool). if is_busy w.tc.open_txn || b then 1 else 0) (unstable_now w.tc.stable (length w.tc.log) idle.2) in
-      omega (arith, e, forced_once (is_busy w.tc.open_txn))
+      let busy : Bool = list_any is_busy w.tc.open_txns in
+      let e : force_rounds w.tc ≡ (if busy || true then 1 else 0) = ap (λ (b : Bool). if busy || b then 1 else 0) (unstable_now w.tc.stable (length w.tc.log) idle.2) in
+      omega (arith, e, forced_once busy)
 ]

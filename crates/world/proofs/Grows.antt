@@ -12,6 +12,8 @@ use Rattle.history.specs.Values.{HasRightAnswers}
 use Rattle.log_laws.specs.Reading.{AreAnswered}
 use Rattle.log_laws.proofs.Records.{ARequest, kept_at, older_at}
 use Rattle.log_laws.proofs.LegalLogs.{answered_push, request_number}
+use Rattle.range_locks.specs.declared.span.Span.{Span}
+use Rattle.range_locks.specs.declared.span.Span.TheVariants.{Key, Range}
 use Rattle.codec.specs.declared.request.Request.{Request}
 use Rattle.codec.specs.declared.request.Request.TheVariants as asks
 use Rattle.codec.specs.declared.reply.Reply.{Reply}
@@ -24,8 +26,9 @@ use Rattle.dc_core.specs.DcView.{DcView}
 use Rattle.tc_core.specs.TcView.{TcView}
 use Rattle.tc_core.specs.Kept.{IsTc}
 use Rattle.world.specs.Node.{NodeView, with_tc}
-use Rattle.world.specs.Kept.{IsKept, IsAnsweredTo, IsSent, IsAnswered, IsGiven, AreSessions}
+use Rattle.world.specs.Kept.{IsKept, IsAnsweredTo, IsReadTrue, IsSent, IsAnswered, IsValue, AreRows, IsGiven, AreSessions}
 use Rattle.world.proofs.ByNumber.{all_map}
+use Rattle.world.proofs.Readers.{NoneAnew}
 
 -- the same log, or with one record more
 abbrev pub Extends : List Record → List Record → Type 0
@@ -42,17 +45,14 @@ request_longer r log n o h = kept_at (ARequest o) r log n (request_number log n 
 answers_longer : (r : Record) (log : List Record) (l : ℕ) → l ≤ length log → AreAnswered log l → AreAnswered (r ∷ log) l
 answers_longer r log l within h n o below asks = answered_push n r log (h n o below (older_at (ARequest o) r log n (λ e. omega (arith, e, within, below)) asks))
 
-given_longer : (r : Record) (log : List Record) (dc : DcView) (reply : Reply) → IsGiven log dc reply → IsGiven (r ∷ log) dc reply
-given_longer r log dc (says.Answered s n a) h = by a h
-  where
-    by : (a : Option Answer) → IsAnswered log dc.leaf n a → IsAnswered (r ∷ log) dc.leaf n a
-    by None h = h
-    by (Some a) h = record { op = h.op; requests = request_longer r log n h.op h.requests; right = right_longer r log n h.op a h.requests h.right; captured = h.captured }
-given_longer r log dc (says.Connected s) h = h
-given_longer r log dc (says.Row s n v) h = h
-given_longer r log dc (says.Rows s n rows) h = h
-given_longer r log dc (says.Checkpointed s l) h = h
-given_longer r log dc (says.RedoEnded s) h = h
+answer_longer : (r : Record) (log : List Record) (dc : DcView) (n : ℕ) (a : Option Answer) → IsAnswered log dc.leaf n a → IsAnswered (r ∷ log) dc.leaf n a
+answer_longer r log dc n None h = h
+answer_longer r log dc n (Some a) h = record {
+  op = h.op;
+  requests = request_longer r log n h.op h.requests;
+  right = right_longer r log n h.op a h.requests h.right;
+  captured = h.captured;
+}
 
 -- the transaction component went on
 pub record GoesOn (old new : TcView) : Type 0 where
@@ -60,6 +60,8 @@ pub record GoesOn (old new : TcView) : Type 0 where
   pub log : Extends old.log new.log
   pub stable : old.stable ≤ new.stable
   pub session : old.session ≤ new.session
+  pub reads : old.reads ≤ new.reads
+  pub none_anew : NoneAnew old.reads old.open_txns new.open_txns
 
 answered_on : (old new : TcView) (l : ℕ) → GoesOn old new → IsAnsweredTo old l → IsAnsweredTo new l
 answered_on old new l on h = record {
@@ -67,14 +69,26 @@ answered_on old new l on h = record {
   answered = extend (λ log. AreAnswered log l) old.log new.log on.log (λ r. answers_longer r old.log l (omega (arith, h.stable, on.within))) h.answered;
 }
 
+read_on : (old new : TcView) (n : ℕ) (P : Span → Type 0) → GoesOn old new → IsReadTrue old n P → IsReadTrue new n P
+read_on old new n P on h =
+    (omega (arith, h.0, on.reads), λ t o q found reading. let was = on.none_anew t o n q found reading h.0 in h.1 was.txn was.open_txn q was.is was.reading)
+
 pub sent_on : (old new : TcView) → GoesOn old new → (q : Request) → IsSent old q → IsSent new q
 sent_on old new on (asks.Connect s) h = omega (arith, h, on.session)
 sent_on old new on (asks.Perform s n o) h = (omega (arith, h.0, on.stable), extend (λ log. Requests log n o) old.log new.log on.log (λ r. request_longer r old.log n o) h.1)
-sent_on old new on (asks.Get s r k) h = h
-sent_on old new on (asks.Scan s r lo hi) h = h
+sent_on old new on (asks.Get s n k) h = read_on old new n (λ q. q ≡ Key k) on h
+sent_on old new on (asks.Scan s n low high) h = read_on old new n (λ q. q ≡ Range low high) on h
 sent_on old new on (asks.LowWater s l) h = answered_on old new l on h
 sent_on old new on (asks.Checkpoint s l) h = answered_on old new l on h
 sent_on old new on (asks.RedoEnd s) h = h
+
+given_on : (old new : TcView) (dc : DcView) → GoesOn old new → (reply : Reply) → IsGiven old dc reply → IsGiven new dc reply
+given_on old new dc on (says.Connected s) h = h
+given_on old new dc on (says.Answered s n a) h = extend (λ log. IsAnswered log dc.leaf n a) old.log new.log on.log (λ r. answer_longer r old.log dc n a) h
+given_on old new dc on (says.Row s n v) h = read_on old new n (IsValue dc v) on h
+given_on old new dc on (says.Rows s n rows) h = read_on old new n (AreRows dc rows) on h
+given_on old new dc on (says.Checkpointed s l) h = h
+given_on old new dc on (says.RedoEnded s) h = h
 
 -- whatever is captured is stable
 any_bounded : (n bound : ℕ) (es : List Entry) → list_any (λ m. n == m) (numbers es) ≡ true → AllByRecursion (λ (e : Entry). e.number ≤ bound) es → n ≤ bound
@@ -115,7 +129,6 @@ keeps_on w tc k is on sessions right answered = record {
   low = answered_on w.tc tc w.dc.leaf.ab.low on k.low;
   answered = answered;
   sent = all_map (IsSent w.tc) (IsSent tc) (sent_on w.tc tc on) w.requests k.sent;
-  given = all_map (IsGiven w.tc.log w.dc) (IsGiven tc.log w.dc)
-      (λ reply. extend (λ log. IsGiven log w.dc reply) w.tc.log tc.log on.log (λ r. given_longer r w.tc.log w.dc reply)) w.replies k.given;
+  given = all_map (IsGiven w.tc w.dc) (IsGiven tc w.dc) (given_on w.tc tc w.dc on) w.replies k.given;
   sessions = sessions;
 }

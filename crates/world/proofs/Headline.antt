@@ -4,8 +4,6 @@ use Rattle.std.specs.Ordering.{nat_cmp}
 use Rattle.std.specs.Cmp.Lexicographic.{slice_cmp}
 use Rattle.std.specs.FinMap.{get-empty}
 use Rattle.std.proofs.lemmas.List.{take_more}
-use Rattle.history.specs.declared.record.Record.TheVariants as is
-use Rattle.history.specs.Log.{IsOpen}
 use Rattle.history.specs.ListMachine.{Machine}
 use Rattle.codec.specs.declared.reply.Reply.{Reply}
 use Rattle.dc_core.specs.DcView.{DcView}
@@ -16,10 +14,11 @@ use Rattle.world.specs.declared.event.Out.TheVariants as out
 use Rattle.world.specs.Node.{NodeView, StepsTo, ServesTo, Served, fresh_node}
 use Rattle.world.specs.Kept.{IsKept, IsSent}
 use Rattle.world.specs.Simulation.{Happens, Run}
+use Rattle.tc_core.proofs.KeepsTc.{fresh_tc}
 use Rattle.world.proofs.ByNumber.{all_at}
 use Rattle.world.proofs.Serves.{IsServing, with_dc, serves}
 use Rattle.world.proofs.Keeps.{keeps_given}
-use Rattle.world.proofs.Follows.{Follows, at_new, unchanged, follows_begin, follows_act, follows_rollback, follows_undo, follows_force}
+use Rattle.world.proofs.Follows.{Follows, at_new, unchanged, follows_begin, follows_act, follows_get, follows_scan, follows_rollback, follows_undo, follows_force}
 use Rattle.world.proofs.Sends.{follows_reconnect, follows_recover, follows_send, follows_low_water}
 use Rattle.world.proofs.Replies.{follows_reply}
 
@@ -41,6 +40,8 @@ follows old new event.Reconnect output k h = follows_reconnect old new output k 
 follows old new event.Recover output k h = follows_recover old new output k h
 follows old new event.Begin output k h = follows_begin old new output k h
 follows old new (event.Act t op) output k h = follows_act old new t op output k h
+follows old new (event.Get t key) output k h = follows_get old new t key output k h
+follows old new (event.Scan t low high) output k h = follows_scan old new t low high output k h
 follows old new (event.Rollback t) output k h = follows_rollback old new t output k h
 follows old new (event.Undo t) output k h = follows_undo old new t output k h
 follows old new event.Force output k h = follows_force old new output k h
@@ -50,12 +51,9 @@ follows old new (event.Request i) output k h = follows_request old new i output 
 follows old new (event.Reply i) output k h = follows_reply old new i output k h
 
 -- a new node
-no_begin : (t : ℕ) → IsOpen [] t → ⊥
-no_begin t h = let e : None ≡ Some is.Begin = h.begun in cc
-
 pub kept_fresh : IsKept fresh_node
 kept_fresh = record {
-  tc = record { legal = tt; within = omega arith; session = omega arith; phase = refl; alone = no_begin };
+  tc = fresh_tc;
   right = tt;
   whole = (refl, refl);
   honest = record { at = λ k within. record { beginning = tt; right = get-empty (slice_cmp nat_cmp) k }; saved = tt };

@@ -14,13 +14,16 @@ use Rattle.codec.specs.declared.request.Request.{Request}
 use Rattle.codec.specs.declared.reply.Reply.{Reply}
 use Rattle.ab_lsn.specs.AbLsn.{captures}
 use Rattle.tc_core.specs.declared.open_txn.OpenTxn.{OpenTxn}
+use Rattle.tc_core.specs.OpenTxns.{find}
 use Rattle.tc_core.specs.TcView.{TcView}
 use Rattle.tc_core.specs.Kept.{IsTc}
-use Rattle.tc_core.proofs.KeepsTc.{alone_at, waits_at, none_next}
+use Rattle.tc_core.proofs.KeepsTc.{open_at, waits_at, none_next}
 use Rattle.tc_core.proofs.KeepsIdle.{own_request}
+use Rattle.tc_core.proofs.Finding.{found_own}
 use Rattle.world.specs.Node.{NodeView, with_tc}
 use Rattle.world.specs.Kept.{IsKept, IsSent, IsGiven, AreSessions}
 use Rattle.world.proofs.ByNumber.{all_push}
+use Rattle.world.proofs.Readers.{NoneAnew}
 use Rattle.world.proofs.Grows.{keeps_on}
 
 -- what is answered in this log is captured
@@ -58,26 +61,26 @@ answer_captured w n a k captured m o asks some =
     ]
 
 -- whatever is waited for is a number of the log
-pub awaited_number : (w : TcView) → IsTc w → (o : OpenTxn) (n : ℕ) → w.open_txn ≡ Some o → o.waiting ≡ Some n → IsNumber w.log n
-awaited_number w k o n at some =
-    let own = own_request w.log o n (waits_at w.log o n (alone_at w o k at) some).request in step_number w.log n o.txn own.step
+pub awaited_number : (w : TcView) → IsTc w → (t : ℕ) (o : OpenTxn) (n : ℕ) → find t w.open_txns ≡ Some o → o.waiting ≡ Some n → IsNumber w.log n
+awaited_number w k t o n found some =
+    let own = own_request w.log o n (waits_at w.log o n (open_at w o k (found_own t w.open_txns o found)) some).request in step_number w.log n o.txn own.step
 
 -- one record more
-pub keeps_appended : (w : NodeView) (tc : TcView) (r : Record) → IsKept w → IsTc tc → tc.log ≡ r ∷ w.tc.log → w.tc.stable ≤ tc.stable → w.tc.session ≤ tc.session
-    → AreSessions tc.session tc.phase w.dc → HasRightAnswers (r ∷ w.tc.log) → AnsweredCaptured w (r ∷ w.tc.log) → IsKept (with_tc w tc)
-keeps_appended w tc r k is log stable session sessions right answered =
-    keeps_on w tc k is (record { within = k.tc.within; log = inr (r, log); stable = stable; session = session }) sessions (subst HasRightAnswers (sym log) right)
+pub keeps_appended : (w : NodeView) (tc : TcView) (r : Record) → IsKept w → IsTc tc → tc.log ≡ r ∷ w.tc.log → w.tc.stable ≤ tc.stable → w.tc.session ≤ tc.session → w.tc.reads ≤ tc.reads
+    → NoneAnew w.tc.reads w.tc.open_txns tc.open_txns → AreSessions tc.session tc.phase w.dc → HasRightAnswers (r ∷ w.tc.log) → AnsweredCaptured w (r ∷ w.tc.log) → IsKept (with_tc w tc)
+keeps_appended w tc r k is log stable session reads none_anew sessions right answered =
+    keeps_on w tc k is (record { within = k.tc.within; log = inr (r, log); stable = stable; session = session; reads = reads; none_anew = none_anew }) sessions (subst HasRightAnswers (sym log) right)
     (subst (AnsweredCaptured w) (sym log) answered)
 
 -- the same log
-pub keeps_same_log : (w : NodeView) (tc : TcView) → IsKept w → IsTc tc → tc.log ≡ w.tc.log → w.tc.stable ≤ tc.stable → w.tc.session ≤ tc.session
-    → AreSessions tc.session tc.phase w.dc → IsKept (with_tc w tc)
-keeps_same_log w tc k is log stable session sessions =
-    keeps_on w tc k is (record { within = k.tc.within; log = inl log; stable = stable; session = session }) sessions (subst HasRightAnswers (sym log) k.right)
+pub keeps_same_log : (w : NodeView) (tc : TcView) → IsKept w → IsTc tc → tc.log ≡ w.tc.log → w.tc.stable ≤ tc.stable → w.tc.session ≤ tc.session → w.tc.reads ≤ tc.reads
+    → NoneAnew w.tc.reads w.tc.open_txns tc.open_txns → AreSessions tc.session tc.phase w.dc → IsKept (with_tc w tc)
+keeps_same_log w tc k is log stable session reads none_anew sessions =
+    keeps_on w tc k is (record { within = k.tc.within; log = inl log; stable = stable; session = session; reads = reads; none_anew = none_anew }) sessions (subst HasRightAnswers (sym log) k.right)
     (subst (AnsweredCaptured w) (sym log) k.answered)
 
 -- messages that were sent and given stand beside it
-keeps_messages : (w : NodeView) (requests : List Request) (replies : List Reply) → IsKept w → AllByRecursion (IsSent w.tc) requests → AllByRecursion (IsGiven w.tc.log w.dc) replies
+keeps_messages : (w : NodeView) (requests : List Request) (replies : List Reply) → IsKept w → AllByRecursion (IsSent w.tc) requests → AllByRecursion (IsGiven w.tc w.dc) replies
     → IsKept (record w { requests = requests; replies = replies })
 keeps_messages w requests replies k sent given = record {
   tc = k.tc;
@@ -103,5 +106,5 @@ keeps_sent w q k sent = keeps_messages w (w.requests ++ q ∷ []) w.replies k (a
 abbrev pub with_reply : NodeView → Reply → NodeView
 with_reply w reply = record w { replies = w.replies ++ reply ∷ [] }
 
-pub keeps_given : (w : NodeView) (reply : Reply) → IsKept w → IsGiven w.tc.log w.dc reply → IsKept (with_reply w reply)
-keeps_given w reply k given = keeps_messages w w.requests (w.replies ++ reply ∷ []) k k.sent (all_push (IsGiven w.tc.log w.dc) w.replies reply k.given given)
+pub keeps_given : (w : NodeView) (reply : Reply) → IsKept w → IsGiven w.tc w.dc reply → IsKept (with_reply w reply)
+keeps_given w reply k given = keeps_messages w w.requests (w.replies ++ reply ∷ []) k k.sent (all_push (IsGiven w.tc w.dc) w.replies reply k.given given)

@@ -19,6 +19,7 @@ pub done_if : (o : Out) → ((r : Refusal) → o ≡ out.Refused r → ⊥) → 
 done_if (out.Refused r) h = h r refl
 done_if (out.Begun n) h = tt
 done_if (out.Logged n) h = tt
+done_if (out.Asked n) h = tt
 done_if out.RollingBack h = tt
 done_if out.Nothing h = tt
 done_if (out.Compensated n) h = tt
@@ -30,6 +31,8 @@ done_if out.Noted h = tt
 done_if (out.Connected n) h = tt
 done_if (out.RedoEnded n) h = tt
 done_if (out.Answered u a) h = tt
+done_if (out.Row u v) h = tt
+done_if (out.Rows u rows) h = tt
 done_if (out.Undone n) h = tt
 
 -- one event
@@ -164,7 +167,7 @@ one_more old now new most left before after grown r far some next h less =
 
 -- all the rounds that were allowed
 pub all_played : (most left : Option ℕ) (n : ℕ) → LeftAfter most n left → left ≡ Some 0 → most ≡ Some n
-all_played None left n h spent = let e : None ≡ Some 0 = sym h ∙ spent in absurd (cc)
+all_played None left n h spent = let e = sym h ∙ spent in absurd (cc)
 all_played (Some m) left n h spent =
     let e : Some (m - n) ≡ Some 0 = sym h.1 ∙ spent in let none : m - n ≡ 0 = cc in ap Some (omega (arith, none, h.0))
 

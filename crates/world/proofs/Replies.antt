@@ -1,5 +1,5 @@
 -- A reply is a told line or nothing to the list machine.
-use Rattle.std.proofs.Common.{◌≡◌, ℕ, ◌<◌, ◌≤◌, Bool, true, false, [], ◌∷◌, Option, Some, None, refl, sym, ap, ◌∙◌, subst, arith, eqb-true}
+use Rattle.std.proofs.Common.{◌≡◌, ℕ, ◌<◌, ◌≤◌, Bool, true, false, List, [], ◌∷◌, Option, Some, None, refl, sym, ap, ◌∙◌, subst, arith, eqb-true}
 use Rattle.std.specs.Prelude.{◌==◌, ◌&&◌, ◌||◌, not, if◌then◌else◌}
 use Rattle.record_key.specs.declared.op.Answer.{Answer}
 use Rattle.record_key.specs.declared.refusal.Refusal.TheVariants.{Stale, NumbersSpent}
@@ -7,23 +7,32 @@ use Rattle.record_key.specs.FirstCause.{first_of}
 use Rattle.history.specs.declared.record.Record.TheVariants as is
 use Rattle.codec.specs.declared.reply.Reply.{Reply}
 use Rattle.codec.specs.declared.reply.Reply.TheVariants as says
+use Rattle.record_key.specs.Table.{Bytes}
+use Rattle.range_locks.specs.declared.span.Span.{Span}
+use Rattle.range_locks.specs.declared.span.Span.TheVariants.{Key, Range}
+use Rattle.dc_core.specs.DcView.{DcView}
 use Rattle.tc_core.specs.declared.open_txn.OpenTxn.{OpenTxn}
+use Rattle.tc_core.specs.declared.open_txn.Read.{Read}
 use Rattle.tc_core.specs.declared.phase.Phase.{Phase}
 use Rattle.tc_core.specs.declared.phase.Phase.TheVariants as phase
 use Rattle.tc_core.specs.declared.told.Told.TheVariants as told
 use Rattle.tc_core.specs.LogView.{is_spent}
-use Rattle.tc_core.specs.Calls.{answered}
-use Rattle.tc_core.specs.Replies.{Outcome, takes, awaiting, next_phase, passed, on_awaited, on_answered, on_connected, on_redo_ended, on_reply, logs, reply_refusal}
+use Rattle.tc_core.specs.OpenTxns.{find}
+use Rattle.tc_core.specs.Calls.{answered, answered_txn, was_told, told_txn}
+use Rattle.tc_core.specs.Replies.{Outcome, takes, awaiting, next_phase, passed, on_awaited, on_answered, on_connected, on_redo_ended, on_reply, on_row, on_rows, is_key, is_range, span_read, reader, logs, reply_refusal}
 use Rattle.tc_core.specs.Kept.{IsPhase}
+use Rattle.tc_core.proofs.KeepsReads.{keeps_told, reader_is}
 use Rattle.tc_core.proofs.KeepsTc.{keeps_answer, keeps_passed, awaited_is}
 use Rattle.world.specs.declared.event.Event.TheVariants as event
 use Rattle.world.specs.declared.event.Out.{Out}
 use Rattle.world.specs.declared.event.Out.TheVariants as out
 use Rattle.world.specs.Node.{NodeView, with_tc, as_out, Taken, TakesTo}
-use Rattle.world.specs.Kept.{IsKept, IsAnswered, IsAnswerOf, IsGiven, IsServed}
+use Rattle.world.specs.Kept.{IsKept, IsReadTrue, IsValue, AreRows, IsAnswered, IsAnswerOf, IsGiven, IsServed}
 use Rattle.world.specs.Simulation.{machine, Happens}
 use Rattle.world.proofs.ByNumber.{all_at}
 use Rattle.world.proofs.Tells.{happens_answer, happens_undone}
+use Rattle.world.proofs.TellsReads.{happens_row, happens_rows}
+use Rattle.world.proofs.Readers.{none_same, none_replaced, reads_same, reads_none}
 use Rattle.world.proofs.Keeps.{answer_captured, keeps_appended, keeps_same_log}
 use Rattle.world.proofs.Follows.{Follows, at_new, unchanged}
 
@@ -35,34 +44,35 @@ nothing : (w : NodeView) (i : ℕ) → IsKept w → Goes w i (told.Nothing, w.tc
 nothing w i k = record { happens = refl; kept = k }
 
 -- redo goes on
-served_next : (p : Phase) (n s running : ℕ) → IsServed p s running → IsServed (next_phase p n) s running
-served_next phase.Unconnected n s running h = h
-served_next phase.Connecting n s running h = h
-served_next (phase.Redoing next) n s running h = h
-served_next phase.Running n s running h = h
+served_next : (p : Phase) (n s : ℕ) (dc : DcView) → IsServed p s dc → IsServed (next_phase p n) s dc
+served_next phase.Unconnected n s dc h = h
+served_next phase.Connecting n s dc h = h
+served_next (phase.Redoing next) n s dc h = h
+served_next phase.Running n s dc h = h
 
 passes : (w : NodeView) (n : ℕ) → IsKept w → takes w.tc.session w.tc.phase n ≡ true → IsKept (with_tc w (passed w.tc n))
 passes w n k taken =
-    keeps_same_log w (passed w.tc n) k (keeps_passed w.tc n taken k.tc) refl (omega arith) (omega arith)
-    (record { runs = k.sessions.runs; begun = k.sessions.begun; served = served_next w.tc.phase n w.tc.session w.dc.session k.sessions.served })
+    keeps_same_log w (passed w.tc n) k (keeps_passed w.tc n taken k.tc) refl (omega arith) (omega arith) (omega arith) (none_same w.tc.reads w.tc.open_txns)
+    (record { runs = k.sessions.runs; begun = k.sessions.begun; served = served_next w.tc.phase n w.tc.session w.dc k.sessions.served })
 
 -- the answer that is waited for
-answers : (w : NodeView) (o : OpenTxn) (n : ℕ) (a : Answer) → IsKept w → w.tc.open_txn ≡ Some o → o.waiting ≡ Some n → IsAnswerOf w.tc.log w.dc.leaf n a → IsKept (with_tc w (answered w.tc o n a))
+answers : (w : NodeView) (o : OpenTxn) (n : ℕ) (a : Answer) → IsKept w → find o.txn w.tc.open_txns ≡ Some o → o.waiting ≡ Some n → IsAnswerOf w.tc.log w.dc.leaf n a → IsKept (with_tc w (answered w.tc o n a))
 answers w o n a k at some given =
-    keeps_appended w (answered w.tc o n a) (is.Answer n a) k (keeps_answer w.tc o n a k.tc at some) refl (omega arith) (omega arith) k.sessions
+    keeps_appended w (answered w.tc o n a) (is.Answer n a) k (keeps_answer w.tc o n a k.tc at some) refl (omega arith) (omega arith) (omega arith)
+    (none_replaced w.tc.reads w.tc.open_txns o (answered_txn o) at (reads_same w.tc.reads o (answered_txn o) refl)) k.sessions
     (given.right, k.right) (answer_captured w n a k given.captured)
 
-tells : (w : NodeView) (i : ℕ) (o : OpenTxn) (n : ℕ) (a : Answer) → IsKept w → w.tc.open_txn ≡ Some o → o.waiting ≡ Some n → IsAnswerOf w.tc.log w.dc.leaf n a
+tells : (w : NodeView) (i : ℕ) (o : OpenTxn) (n : ℕ) (a : Answer) → IsKept w → find o.txn w.tc.open_txns ≡ Some o → o.waiting ≡ Some n → IsAnswerOf w.tc.log w.dc.leaf n a
     → (b : Bool) → o.rolling ≡ b → Happens (machine w) (event.Reply i) (as_out (if b then told.Undone n else told.Answered o.txn a)) (machine (with_tc w (answered w.tc o n a)))
 tells w i o n a k at some given true rolling = happens_undone w.tc o n a k.tc at some rolling
 tells w i o n a k at some given false flat = happens_answer w.tc o n a k.tc k.right at some flat given.right
 
-awaited_goes : (w : NodeView) (i n : ℕ) (a : Option Answer) (x : Option OpenTxn) → IsKept w → takes w.tc.session w.tc.phase n ≡ true → awaiting w.tc.open_txn n ≡ x
+awaited_goes : (w : NodeView) (i n : ℕ) (a : Option Answer) (x : Option OpenTxn) → IsKept w → takes w.tc.session w.tc.phase n ≡ true → awaiting w.tc n ≡ x
     → IsAnswered w.tc.log w.dc.leaf n a → Goes w i (on_awaited w.tc n a x)
 awaited_goes w i n a None k taken none given = record { happens = refl; kept = passes w n k taken }
 awaited_goes w i n None (Some o) k taken some given = nothing w i k
 awaited_goes w i n (Some a) (Some o) k taken some given =
-    let at = awaited_is w.tc.open_txn n o some in
+    let at = awaited_is w.tc n o some in
     record {
       happens = tells w i o n a k at.0 at.1 given o.rolling refl;
       kept = passes (with_tc w (answered w.tc o n a)) n (answers w o n a k at.0 at.1 given) taken;
@@ -71,8 +81,8 @@ awaited_goes w i n (Some a) (Some o) k taken some given =
 answered_goes : (w : NodeView) (i n : ℕ) (a : Option Answer) → IsKept w → IsAnswered w.tc.log w.dc.leaf n a → Goes w i (on_answered w.tc n a)
 answered_goes w i n a k given = pick (takes w.tc.session w.tc.phase n) refl
   where
-    pick : (b : Bool) → takes w.tc.session w.tc.phase n ≡ b → Goes w i (if b then on_awaited w.tc n a (awaiting w.tc.open_txn n) else (told.Nothing, w.tc))
-    pick true taken = awaited_goes w i n a (awaiting w.tc.open_txn n) k taken refl given
+    pick : (b : Bool) → takes w.tc.session w.tc.phase n ≡ b → Goes w i (if b then on_awaited w.tc n a (awaiting w.tc n) else (told.Nothing, w.tc))
+    pick true taken = awaited_goes w i n a (awaiting w.tc n) k taken refl given
     pick false not_taken = nothing w i k
 
 -- the reply to Connect comes from the session that runs
@@ -84,31 +94,32 @@ connected_goes w i s phase.Connecting at k same given =
     record {
       happens = refl;
       kept = keeps_same_log w (record w.tc { phase = phase.Redoing 1 }) k
-          (record { legal = k.tc.legal; within = k.tc.within; session = k.tc.session; phase = (omega arith, omega (arith, some)); alone = k.tc.alone })
-          refl (omega arith) (omega arith) (record { runs = k.sessions.runs; begun = k.sessions.begun; served = omega (arith, same, given, k.sessions.runs, k.sessions.begun) });
+          (record { legal = k.tc.legal; within = k.tc.within; session = k.tc.session; phase = (omega arith, omega (arith, some)); open_txns = k.tc.open_txns; locks = k.tc.locks; reading = k.tc.reading })
+          refl (omega arith) (omega arith) (omega arith) (none_same w.tc.reads w.tc.open_txns) (record { runs = k.sessions.runs; begun = k.sessions.begun; served = omega (arith, same, given, k.sessions.runs, k.sessions.begun) });
     }
 connected_goes w i s (phase.Redoing next) at k same given = nothing w i k
 connected_goes w i s phase.Running at k same given = nothing w i k
 
 -- redo ends
-redo_ended_goes : (w : NodeView) (i : ℕ) (p : Phase) → w.tc.phase ≡ p → IsKept w → Goes w i (on_redo_ended w.tc p)
-redo_ended_goes w i phase.Unconnected at k = nothing w i k
-redo_ended_goes w i phase.Connecting at k = nothing w i k
-redo_ended_goes w i (phase.Redoing next) at k = pick (next == w.tc.session) refl
+redo_ended_goes : (w : NodeView) (i : ℕ) (p : Phase) → w.tc.phase ≡ p → IsKept w → (w.tc.session ≡ w.dc.session → w.dc.redo ≡ false) → Goes w i (on_redo_ended w.tc p)
+redo_ended_goes w i phase.Unconnected at k past = nothing w i k
+redo_ended_goes w i phase.Connecting at k past = nothing w i k
+redo_ended_goes w i (phase.Redoing next) at k past = pick (next == w.tc.session) refl
   where
     pick : (b : Bool) → (next == w.tc.session) ≡ b → Goes w i (if b then (told.RedoEnded w.tc.session, record w.tc { phase = phase.Running }) else (told.Nothing, w.tc))
     pick true same =
         let P : Phase → Type 0 = IsPhase w.tc.session in
-        let Q : Phase → Type 0 = λ p. IsServed p w.tc.session w.dc.session in
+        let Q : Phase → Type 0 = λ p. IsServed p w.tc.session w.dc in
+        let runs : w.dc.session ≡ w.tc.session = subst Q at k.sessions.served in
         let bounds = subst P at k.tc.phase in
         record {
           happens = refl;
           kept = keeps_same_log w (record w.tc { phase = phase.Running }) k
-              (record { legal = k.tc.legal; within = k.tc.within; session = k.tc.session; phase = omega (arith, bounds.0, bounds.1); alone = k.tc.alone })
-              refl (omega arith) (omega arith) (record { runs = k.sessions.runs; begun = k.sessions.begun; served = subst Q at k.sessions.served });
+              (record { legal = k.tc.legal; within = k.tc.within; session = k.tc.session; phase = omega (arith, bounds.0, bounds.1); open_txns = k.tc.open_txns; locks = k.tc.locks; reading = k.tc.reading })
+              refl (omega arith) (omega arith) (omega arith) (none_same w.tc.reads w.tc.open_txns) (record { runs = k.sessions.runs; begun = k.sessions.begun; served = (runs, past (sym runs)) });
         }
     pick false apart = nothing w i k
-redo_ended_goes w i phase.Running at k = nothing w i k
+redo_ended_goes w i phase.Running at k past = nothing w i k
 
 -- a reply that isn't refused is of the session
 fresh_session : (s session : ℕ) (c : Bool) → first_of (((session == 0) || not (s == session), Stale) ∷ (c, NumbersSpent) ∷ []) ≡ None → s ≡ session
@@ -119,19 +130,59 @@ fresh_session s session c h = pick (session == 0) (s == session) refl h
     pick false true e h = eqb-true s session e
     pick false false e h = absurd (cc)
 
-replied : (w : NodeView) (i : ℕ) (reply : Reply) → IsKept w → IsGiven w.tc.log w.dc reply → reply_refusal w.tc reply ≡ None → Goes w i (on_reply w.tc reply)
+-- what was read is told to who waits for it
+kept_told : (w : NodeView) (o : OpenTxn) → IsKept w → find o.txn w.tc.open_txns ≡ Some o → IsKept (with_tc w (was_told w.tc o))
+kept_told w o k at =
+    keeps_same_log w (was_told w.tc o) k (keeps_told w.tc o k.tc at) refl (omega arith) (omega arith) (omega arith)
+    (none_replaced w.tc.reads w.tc.open_txns o (told_txn o) at (reads_none w.tc.reads o (told_txn o) refl)) k.sessions
+
+row_goes : (w : NodeView) (i n : ℕ) (v : Option Bytes) (x : Option OpenTxn) → IsKept w → reader w.tc n ≡ x → IsReadTrue w.tc n (IsValue w.dc v) → Goes w i (on_row w.tc v x)
+row_goes w i n v None k is given = nothing w i k
+row_goes w i n v (Some o) k is given =
+    let found = reader_is w.tc n o k.tc is in
+    by found.1.0 found.1.1 (given.1 o.txn o found.1.0 found.0 found.1.1)
+  where
+    told_if : Bool → Outcome
+    told_if b = if b then (told.Row o.txn v, was_told w.tc o) else (told.Nothing, w.tc)
+
+    by : (q : Span) → o.reading ≡ Some (record { number = n; span = q }) → IsValue w.dc v q → Goes w i (told_if (is_key (span_read o.reading)))
+    by (Key key) reads value =
+        let P : Option Read → Type 0 = λ x. Goes w i (told_if (is_key (span_read x))) in
+        let at = (reader_is w.tc n o k.tc is).0 in
+        subst P (sym reads) (record { happens = happens_row w o n key k at reads v value; kept = kept_told w o k at })
+    by (Range low high) reads value = let P : Option Read → Type 0 = λ x. Goes w i (told_if (is_key (span_read x))) in subst P (sym reads) (nothing w i k)
+
+rows_goes : (w : NodeView) (i n : ℕ) (rows : List (Bytes × Bytes)) (x : Option OpenTxn) → IsKept w → reader w.tc n ≡ x → IsReadTrue w.tc n (AreRows w.dc rows) → Goes w i (on_rows w.tc rows x)
+rows_goes w i n rows None k is given = nothing w i k
+rows_goes w i n rows (Some o) k is given =
+    let found = reader_is w.tc n o k.tc is in
+    by found.1.0 found.1.1 (given.1 o.txn o found.1.0 found.0 found.1.1)
+  where
+    told_if : Bool → Outcome
+    told_if b = if b then (told.Rows o.txn rows, was_told w.tc o) else (told.Nothing, w.tc)
+
+    by : (q : Span) → o.reading ≡ Some (record { number = n; span = q }) → AreRows w.dc rows q → Goes w i (told_if (is_range (span_read o.reading)))
+    by (Key key) reads these = let P : Option Read → Type 0 = λ x. Goes w i (told_if (is_range (span_read x))) in subst P (sym reads) (nothing w i k)
+    by (Range low high) reads these =
+        let P : Option Read → Type 0 = λ x. Goes w i (told_if (is_range (span_read x))) in
+        let at = (reader_is w.tc n o k.tc is).0 in
+        subst P (sym reads) (record { happens = happens_rows w o n low high k at reads rows these; kept = kept_told w o k at })
+
+replied : (w : NodeView) (i : ℕ) (reply : Reply) → IsKept w → IsGiven w.tc w.dc reply → reply_refusal w.tc reply ≡ None → Goes w i (on_reply w.tc reply)
 replied w i (says.Connected s) k given allowed =
     connected_goes w i s w.tc.phase refl k (fresh_session s w.tc.session (logs w.tc (says.Connected s) && is_spent w.tc.log) allowed) given
 replied w i (says.Answered s n a) k given allowed = answered_goes w i n a k given
-replied w i (says.Row s r v) k given allowed = nothing w i k
-replied w i (says.Rows s r rows) k given allowed = nothing w i k
+replied w i (says.Row s n v) k given allowed = row_goes w i n v (reader w.tc n) k refl given
+replied w i (says.Rows s n rows) k given allowed = rows_goes w i n rows (reader w.tc n) k refl given
 replied w i (says.Checkpointed s l) k given allowed = nothing w i k
-replied w i (says.RedoEnded s) k given allowed = redo_ended_goes w i w.tc.phase refl k
+replied w i (says.RedoEnded s) k given allowed =
+    let same : s ≡ w.tc.session = fresh_session s w.tc.session (logs w.tc (says.RedoEnded s) && is_spent w.tc.log) allowed in
+    redo_ended_goes w i w.tc.phase refl k (λ runs. given.1 (same ∙ runs))
 
 pub taken : (old new : NodeView) (i : ℕ) (output : Out) → IsKept old → Taken old i output new → Follows old (event.Reply i) output new
 taken old new i output k t =
     let x : Outcome = on_reply old.tc t.reply in
-    let given = all_at (IsGiven old.tc.log old.dc) old.replies i t.reply k.given t.found in
+    let given = all_at (IsGiven old.tc old.dc) old.replies i t.reply k.given t.found in
     let P : Out → Type 0 = λ o. Follows old (event.Reply i) o new in
     subst P (sym (t.output_is ∙ ap as_out t.taken.told))
     (at_new old new (with_tc old x.1) (event.Reply i) (as_out x.0) (t.left ∙ ap (with_tc old) t.taken.left) (replied old i t.reply k given t.allowed))
@@ -151,4 +202,7 @@ follows_reply old new i out.Noted k h = taken old new i out.Noted k h
 follows_reply old new i (out.Connected s) k h = taken old new i (out.Connected s) k h
 follows_reply old new i (out.RedoEnded s) k h = taken old new i (out.RedoEnded s) k h
 follows_reply old new i (out.Answered t a) k h = taken old new i (out.Answered t a) k h
+follows_reply old new i (out.Asked n) k h = taken old new i (out.Asked n) k h
+follows_reply old new i (out.Row t v) k h = taken old new i (out.Row t v) k h
+follows_reply old new i (out.Rows t rows) k h = taken old new i (out.Rows t rows) k h
 follows_reply old new i (out.Undone n) k h = taken old new i (out.Undone n) k h

@@ -1,26 +1,30 @@
 -- A round stops only for want of memory or of numbers.
-use Rattle.std.proofs.Common.{◌≡◌, ℕ, ◌+◌, ◌<◌, ◌≤◌, Bool, true, false, List, [], ◌∷◌, length, Option, Some, None, refl, sym, ap, ◌∙◌, subst, arith, inl, inr, true≢false, eq-eqb, ne_eqb}
+use Rattle.std.proofs.Common.{◌≡◌, ◌⊎◌, ℕ, ◌+◌, ◌<◌, ◌≤◌, Bool, true, false, List, [], ◌∷◌, length, Option, Some, None, refl, sym, ap, ◌∙◌, subst, arith, inl, inr, true≢false, eq-eqb, ne_eqb}
 use Rattle.std.specs.Prelude.{◌==◌, ◌&&◌, ◌||◌, not, nat_lt}
 use Rattle.std.proofs.lemmas.Bool.Decides.{nat_tests}
 use Rattle.record_key.specs.declared.op.Op.{Op}
 use Rattle.record_key.specs.declared.refusal.Refusal.{Refusal}
 use Rattle.record_key.specs.declared.refusal.Refusal.TheVariants.{Stale, NumbersSpent}
 use Rattle.record_key.specs.FirstCause.{first_of, RefusesAs}
+use Rattle.range_locks.specs.declared.span.Span.{Span}
+use Rattle.range_locks.specs.declared.span.Span.TheVariants.{Key, Range}
 use Rattle.codec.specs.declared.request.Request.{Request}
 use Rattle.codec.specs.declared.request.Request.TheVariants as asks
 use Rattle.codec.specs.declared.reply.Reply.{Reply}
 use Rattle.codec.specs.declared.reply.Reply.TheVariants as says
 use Rattle.dc_core.specs.DcView.{DcView}
-use Rattle.dc_core.specs.Serves.{session_refusal, connect_refusal, runs}
+use Rattle.dc_core.specs.Serves.{session_refusal, after_redo_refusal, connect_refusal, serve_refusal, runs}
 use Rattle.tc_core.specs.declared.open_txn.OpenTxn.{OpenTxn}
 use Rattle.tc_core.specs.declared.phase.Phase.{Phase}
 use Rattle.tc_core.specs.declared.phase.Phase.TheVariants as phase
 use Rattle.tc_core.specs.LogView.{is_spent}
-use Rattle.tc_core.specs.TcView.{TcView}
-use Rattle.tc_core.specs.Calls.{resend_refusal, undo_refusal, reconnected}
+use Rattle.tc_core.specs.TcView.{TcView, is_waiting, waits}
+use Rattle.tc_core.specs.Calls.{resend_refusal, undo_refusal, reconnected, read_request}
 use Rattle.tc_core.specs.Recovery.{SendsAt, recover_refusal, redo_request, redo_place, redoing}
 use Rattle.tc_core.specs.Replies.{session_of, logs, reply_refusal}
-use Rattle.tc_core.specs.Kept.{IsPhase}
+use Rattle.tc_core.specs.Kept.{IsPhase, IsTc}
+use Rattle.tc_core.proofs.Finding.{found_own}
+use Rattle.tc_core.proofs.KeepsTc.{reading_at}
 use Rattle.tc_core.specs.Undo.{FindsRequest}
 use Rattle.history.specs.Log.{Requests}
 use Rattle.world.specs.declared.event.Event.TheVariants as event
@@ -29,11 +33,12 @@ use Rattle.world.specs.declared.event.Out.TheVariants as out
 use Rattle.world.specs.declared.round.Round.{Round}
 use Rattle.world.specs.declared.round.Round.TheVariants as round
 use Rattle.world.specs.Node.{NodeView, ReconnectsTo, RecoversTo, SendsTo}
-use Rattle.world.specs.Kept.{IsKept}
-use Rattle.world.specs.Rounds.{IsDone, IsServing, IsDue, IsRolling, IsNext, IsWant, StopsAt, events_of}
+use Rattle.world.specs.Kept.{IsKept, IsServed}
+use Rattle.world.specs.Rounds.{IsDone, IsServing, IsDue, IsReader, IsRolling, IsNext, IsWant, StopsAt, events_of}
 use Rattle.world.proofs.Sends.{redoing_phase}
 use Rattle.world.proofs.Exchanges.{HasReply, Stops, stops}
-use Rattle.world.proofs.Falls.{some_reply, sound_reply, perform_replied, connect_replied, redo_replied, redoing_at}
+use Rattle.world.proofs.Replied.{some_reply, sound_reply, read_reply, read_session, connect_replied, redo_replied, request_replied}
+use Rattle.world.proofs.Falls.{redoing_at}
 
 no_cause : (x : Option Refusal) (r : Refusal) → x ≡ None → RefusesAs x r → IsWant r
 no_cause None r e h = inl h
@@ -96,6 +101,26 @@ stops_redo_end w tc r session same some (inr (inr h)) =
     let reply : h.1 ≡ says.RedoEnded w.tc.session = some_reply h.1 (says.RedoEnded w.tc.session) h.2.0 in
     reply_want tc h.1 r (ap session_of reply ∙ sym session) (omega (arith, some, session)) h.3
 
+-- reads are served once redo has ended
+serves_read : (dc : DcView) (s n : ℕ) (q : Span) → dc.session ≡ s → 0 < s → dc.redo ≡ false → serve_refusal dc (read_request s n q) ≡ None
+serves_read dc s n q same some done = by q
+  where
+    either : after_redo_refusal dc s ≡ None
+    either = rw (serves_session dc s same some, done) refl
+
+    by : (q : Span) → serve_refusal dc (read_request s n q) ≡ None
+    by (Key k) = either
+    by (Range low high) = either
+
+stops_read : (w : NodeView) (n : ℕ) (q : Span) (r : Refusal) → IsKept w → IsServing w → 0 < w.tc.session → Stops w w.tc (read_request w.tc.session n q) r → IsWant r
+stops_read w n q r k serving some (inl h) = inl h
+stops_read w n q r k serving some (inr (inl h)) =
+    let P : Phase → Type 0 = λ p. IsServed p w.tc.session w.dc in
+    let served = subst P serving.running k.sessions.served in
+    no_cause (serve_refusal w.dc (read_request w.tc.session n q)) r (serves_read w.dc w.tc.session n q serving.session some served.1) h
+stops_read w n q r k serving some (inr (inr h)) =
+    reply_want w.tc h.1 r (read_session w.tc.session n q h.1 (read_reply w.tc.session n q w.dc h.0 h.1 h.2)) some h.3
+
 -- each round
 want_connect : (old new mid : NodeView) (o : Out) (os : List Out) (r : Refusal) → IsKept old → ReconnectsTo old o mid → IsDone o
     → StopsAt mid (event.Request (length old.requests + 1) ∷ event.Reply (length old.replies + 1) ∷ []) os r new → IsWant r
@@ -130,26 +155,36 @@ running_some w k running = let P : Phase → Type 0 = IsPhase w.tc.session in su
 want_exchange : (old new mid : NodeView) (o : Out) (os : List Out) (r : Refusal) (t : ℕ) → IsKept old → IsServing old → SendsTo old t o mid → IsDone o
     → StopsAt mid (event.Request (length old.requests + 1) ∷ event.Reply (length old.replies + 1) ∷ []) os r new → IsWant r
 want_exchange old new mid (out.Sent i) os r t k serving h d rest =
-    let q = h.1 in
-    let Q : Request → Type 0 = HasReply in
-    let stop = stops old mid old.tc h.0 i os r new (subst Q (sym q.is) (perform_replied old.tc.session q.number q.op)) h.2 rest in
+    let stop = stops old mid old.tc h.0 i os r new (request_replied old.tc t h.0 h.1) h.2 rest in
     let R : Request → Type 0 = λ x. Stops old old.tc x r in
-    stops_perform old old.tc q.number q.op r k refl serving.session (running_some old k serving.running) q.requests (subst R q.is stop)
+    let some = running_some old k serving.running in
+    elim h.1 [
+      | inl q ↦ stops_perform old old.tc q.number q.op r k refl serving.session some q.requests (subst R q.is stop)
+      | inr q ↦ stops_read old q.read.number q.read.span r k serving some (subst R q.is stop)
+    ]
 want_exchange old new mid (out.Refused q) os r t k serving h d rest = absurd d
 want_exchange old new mid _ os r t k serving h d rest = absurd h
 
 -- the first event of a round
 resends : (w : TcView) (t n : ℕ) → w.phase ≡ phase.Running → IsDue w t n → n ≤ w.stable → resend_refusal w t ≡ None
 resends w t n running due stable =
-    let o : OpenTxn = due.open_txn in
-    let here : (o.txn == t) ≡ true = eq-eqb o.txn t due.txn in
-    let within : nat_lt w.stable n ≡ false = grind (arith, nat_tests, stable) in rw (running, due.is, here, due.waiting, within) refl
+    let within : nat_lt w.stable n ≡ false = grind (arith, nat_tests, stable) in rw (running, due.is, due.waiting, within) refl
+
+resends_read : (w : TcView) (t : ℕ) → IsTc w → w.phase ≡ phase.Running → IsReader w t → resend_refusal w t ≡ None
+resends_read w t k running reader =
+    let o : OpenTxn = reader.open_txn in
+    let idle : o.waiting ≡ None = (reading_at w o reader.read k (found_own t w.open_txns o reader.is) reader.reading).idle in
+    let within : nat_lt w.stable 0 ≡ false = grind (arith, nat_tests) in rw (running, reader.is, idle, reader.reading, within) refl
+
+resends_any : (w : TcView) (t : ℕ) → IsTc w → w.phase ≡ phase.Running → ((n : ℕ) × IsDue w t n × (n ≤ w.stable)) ⊎ IsReader w t → resend_refusal w t ≡ None
+resends_any w t k running (inl due) = resends w t due.0 running due.1 due.2
+resends_any w t k running (inr reader) = resends_read w t k running reader
 
 undo_want : (w : TcView) (t : ℕ) (r : Refusal) → w.phase ≡ phase.Running → IsRolling w t → RefusesAs (undo_refusal w t) r → IsWant r
 undo_want w t r running rolls h =
     let o : OpenTxn = rolls.open_txn in
-    let here : (o.txn == t) ≡ true = eq-eqb o.txn t rolls.txn in
-    let same : undo_refusal w t ≡ first_of ((is_spent w.log, NumbersSpent) ∷ []) = rw (running, rolls.is, here, rolls.waiting, rolls.rolling) refl in
+    let none : waits o ≡ false = sym (ap is_waiting rolls.is) ∙ rolls.idle t in
+    let same : undo_refusal w t ≡ first_of ((is_spent w.log, NumbersSpent) ∷ []) = rw (running, rolls.is, none, rolls.rolling) refl in
     let P : Option Refusal → Type 0 = λ x. RefusesAs x r in spent_want (is_spent w.log) r (subst P same h)
 
 pub wants : (old new : NodeView) (round : Round) (outs : List Out) (r : Refusal) → IsKept old → IsNext old round → StopsAt old (events_of old round) outs r new → IsWant r
@@ -161,7 +196,7 @@ wants old new round.Recover [] r k next (inr h) =
     let at = redoing_at old old.tc.phase refl next.0 in no_cause (recover_refusal old.tc) r (rw at.1 refl) h.0
 wants old new round.Recover (o ∷ os) r k next h = let at = redoing_at old old.tc.phase refl next.0 in want_recover old new h.0 o os r at.0 k at.1 next.1 h.1 h.2 h.3
 wants old new (round.Exchange t) [] r k next (inl h) = inl h.0
-wants old new (round.Exchange t) [] r k next (inr h) = no_cause (resend_refusal old.tc t) r (resends old.tc t next.1.0 next.0.running next.1.1 next.1.2) h.0
+wants old new (round.Exchange t) [] r k next (inr h) = no_cause (resend_refusal old.tc t) r (resends_any old.tc t k.tc next.0.running next.1) h.0
 wants old new (round.Exchange t) (o ∷ os) r k next h = want_exchange old new h.0 o os r t k next.0 h.1 h.2 h.3
 wants old new (round.Undo t) [] r k next (inl h) = inl h.0
 wants old new (round.Undo t) [] r k next (inr h) = undo_want old.tc t r next.0.running next.1 h.0

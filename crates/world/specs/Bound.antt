@@ -1,13 +1,15 @@
 -- How many rounds of settling are left, and a bound on them.
-use Rattle.std.specs.Prelude.{ℕ, ◌+◌, ◌*◌, ◌==◌, ◌&&◌, ◌||◌, Bool, false, not, List, [], ◌∷◌, Option, Some, None, length, is_some, nat_le, nat_lt, if◌then◌else◌}
+use Rattle.std.specs.Prelude.{ℕ, ◌+◌, ◌*◌, ◌==◌, ◌&&◌, ◌||◌, Bool, not, List, [], ◌∷◌, Option, Some, None, length, nat_le, nat_lt, if◌then◌else◌}
+use Rattle.std.specs.List.{list_any}
 use Rattle.record_key.specs.declared.op.Op.{Op}
 use Rattle.history.specs.declared.record.Record.{Record}
 use Rattle.history.specs.declared.record.Record.TheVariants as is
 use Rattle.history.specs.Log.{request_of, is_crossed}
 use Rattle.tc_core.specs.declared.open_txn.OpenTxn.{OpenTxn}
+use Rattle.tc_core.specs.declared.open_txn.Read.{Read}
 use Rattle.tc_core.specs.declared.phase.Phase.{Phase}
 use Rattle.tc_core.specs.declared.phase.Phase.TheVariants as phase
-use Rattle.tc_core.specs.TcView.{TcView}
+use Rattle.tc_core.specs.TcView.{TcView, waits}
 
 -- how many of these numbers ask for something
 abbrev pub asked : Option Op → ℕ
@@ -33,9 +35,18 @@ waiting_rounds stable (Some n) = if nat_lt stable n then 2 else 1
 abbrev pub rolling_rounds : List Record → OpenTxn → ℕ
 rolling_rounds log o = if o.rolling then 3 * left_in log o.txn log + 1 else 0
 
-abbrev pub txn_rounds : List Record → ℕ → Option OpenTxn → ℕ
-txn_rounds log stable None = 0
-txn_rounds log stable (Some o) = rolling_rounds log o + waiting_rounds stable o.waiting
+-- for a read, an exchange
+abbrev pub reading_rounds : Option Read → ℕ
+reading_rounds None = 0
+reading_rounds (Some r) = 1
+
+abbrev pub txn_rounds : List Record → ℕ → OpenTxn → ℕ
+txn_rounds log stable o = rolling_rounds log o + waiting_rounds stable o.waiting + reading_rounds o.reading
+
+-- over all of these
+abbrev pub total : (OpenTxn → ℕ) → List OpenTxn → ℕ
+total count [] = 0
+total count (o ∷ os) = count o + total count os
 
 -- to connect, to send each earlier request again, to end redo
 abbrev pub phase_rounds : List Record → ℕ → Phase → ℕ
@@ -45,16 +56,15 @@ phase_rounds log s (phase.Redoing next) = requests_in next s log + 1
 phase_rounds log s phase.Running = 0
 
 -- a last force, where something isn't stable or will be logged
-abbrev pub is_busy : Option OpenTxn → Bool
-is_busy None = false
-is_busy (Some o) = o.rolling || is_some o.waiting
+abbrev pub is_busy : OpenTxn → Bool
+is_busy o = o.rolling || waits o
 
 abbrev pub force_rounds : TcView → ℕ
-force_rounds w = if is_busy w.open_txn || nat_lt w.stable (length w.log) then 1 else 0
+force_rounds w = if list_any is_busy w.open_txns || nat_lt w.stable (length w.log) then 1 else 0
 
 -- every round takes one of them at least
 abbrev pub rounds_left : TcView → ℕ
-rounds_left w = phase_rounds w.log w.session w.phase + txn_rounds w.log w.stable w.open_txn + force_rounds w
+rounds_left w = phase_rounds w.log w.session w.phase + total (txn_rounds w.log w.stable) w.open_txns + force_rounds w
 
 -- records of operations and compensations, and of beginnings
 abbrev pub steps_in : List Record → ℕ

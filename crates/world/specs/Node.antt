@@ -5,6 +5,8 @@ use Rattle.record_key.specs.declared.op.Op.{Op}
 use Rattle.record_key.specs.declared.refusal.Refusal.{Refusal}
 use Rattle.record_key.specs.declared.refusal.Refusal.TheVariants.{NoMemory, Unsent}
 use Rattle.record_key.specs.FirstCause.{RefusesAs}
+use Rattle.range_locks.specs.declared.span.Span.{Span}
+use Rattle.range_locks.specs.declared.span.Span.TheVariants.{Key, Range}
 use Rattle.codec.specs.declared.request.Request.{Request}
 use Rattle.codec.specs.declared.request.Request.TheVariants as asks
 use Rattle.codec.specs.declared.reply.Reply.{Reply}
@@ -16,9 +18,10 @@ use Rattle.tc_core.specs.declared.told.Told.TheVariants as told
 use Rattle.tc_core.specs.declared.told.UndoStep.TheVariants as undo
 use Rattle.tc_core.specs.declared.told.RecoverStep.TheVariants as recovery
 use Rattle.tc_core.specs.LogView.{spent_refusal}
+use Rattle.tc_core.specs.OpenTxns.{find}
 use Rattle.tc_core.specs.TcView.{TcView, fresh, is_recovering, is_rolling}
-use Rattle.tc_core.specs.Calls.{begin_refusal, act_refusal, rollback_refusal, undo_refusal, resend_refusal, reconnected, begun, forced, Acts, RollsBack, UndoesStep, IsRequestOf}
-use Rattle.tc_core.specs.Replies.{TakesReply, reply_refusal, logs}
+use Rattle.tc_core.specs.Calls.{begin_refusal, rollback_refusal, undo_refusal, resend_refusal, reconnected, begun, forced, shared, RefusesAct, RefusesRead, Acts, Asks, RollsBack, UndoesStep, IsRequestOf}
+use Rattle.tc_core.specs.Replies.{TakesReply, reply_refusal, takes_memory as takes}
 use Rattle.tc_core.specs.Recovery.{Recovers, recover_refusal}
 use Rattle.tc_core.specs.LowWater.{Announces, RefusesLow}
 use Rattle.world.specs.declared.event.Event.{Event}
@@ -69,8 +72,13 @@ BeginsTo old _ new = ⊥
 
 abbrev pub ActsTo : NodeView → ℕ → Op → Out → NodeView → Type 0
 ActsTo old t op (out.Logged n) new = Acts old.tc t op n new.tc × (new ≡ with_tc old new.tc)
-ActsTo old t op (out.Refused r) new = RefusesAs (act_refusal old.tc t) r × (new ≡ old)
+ActsTo old t op (out.Refused r) new = RefusesAct old.tc t op r × (new ≡ old)
 ActsTo old t op _ new = ⊥
+
+abbrev pub AsksTo : NodeView → ℕ → Span → Out → NodeView → Type 0
+AsksTo old t span (out.Asked n) new = Asks old.tc t span n new.tc × (new ≡ with_tc old new.tc)
+AsksTo old t span (out.Refused r) new = RefusesRead old.tc t (shared span) r × (new ≡ old)
+AsksTo old t span _ new = ⊥
 
 abbrev pub RollsBackTo : NodeView → ℕ → Out → NodeView → Type 0
 RollsBackTo old t out.RollingBack new = RollsBack old.tc t new.tc × (new ≡ with_tc old new.tc)
@@ -126,6 +134,8 @@ as_out told.Nothing = out.Nothing
 as_out (told.Connected s) = out.Connected s
 as_out (told.RedoEnded s) = out.RedoEnded s
 as_out (told.Answered t a) = out.Answered t a
+as_out (told.Row t v) = out.Row t v
+as_out (told.Rows t rows) = out.Rows t rows
 as_out (told.Undone n) = out.Undone n
 
 -- the reply of this number reaches the transaction component
@@ -143,14 +153,14 @@ TakesTo old i (out.Refused r) new =
     (IsUnsent old.replies i r ⊎ ((reply : Reply) × (message_at old.replies i ≡ Some reply) × RefusesAs (reply_refusal old.tc reply) r)) × (new ≡ old)
 TakesTo old i output new = Taken old i output new
 
--- a message is served with a reply, or a reply is logged
+-- a message is served with a reply, or a reply is logged or handed on
 abbrev pub adds_reply : Option Request → Bool
 adds_reply None = false
 adds_reply (Some request) = is_replied_to request
 
 abbrev pub adds_record : TcView → Option Reply → Bool
 adds_record w None = false
-adds_record w (Some reply) = logs w reply
+adds_record w (Some reply) = takes w reply
 
 -- only an event that adds a record or a message takes memory
 abbrev pub takes_memory : NodeView → Event → Bool
@@ -158,8 +168,10 @@ takes_memory w event.Reconnect = true
 takes_memory w event.Recover = is_recovering w.tc.phase
 takes_memory w event.Begin = true
 takes_memory w (event.Act t op) = true
+takes_memory w (event.Get t k) = true
+takes_memory w (event.Scan t low high) = true
 takes_memory w (event.Rollback t) = false
-takes_memory w (event.Undo t) = is_rolling w.tc.open_txn
+takes_memory w (event.Undo t) = is_rolling (find t w.tc.open_txns)
 takes_memory w event.Force = false
 takes_memory w (event.Send t) = true
 takes_memory w (event.LowWater l) = true
@@ -176,6 +188,8 @@ StepsTo old event.Reconnect output new = ReconnectsTo old output new
 StepsTo old event.Recover output new = RecoversTo old output new
 StepsTo old event.Begin output new = BeginsTo old output new
 StepsTo old (event.Act t op) output new = ActsTo old t op output new
+StepsTo old (event.Get t k) output new = AsksTo old t (Key k) output new
+StepsTo old (event.Scan t low high) output new = AsksTo old t (Range low high) output new
 StepsTo old (event.Rollback t) output new = RollsBackTo old t output new
 StepsTo old (event.Undo t) output new = UndoesTo old t output new
 StepsTo old event.Force output new = ForcesTo old output new

@@ -1,11 +1,13 @@
 -- The rounds of settling.
-use Rattle.std.specs.Prelude.{◌≡◌, ◌≢◌, ◌⊎◌, ℕ, ◌+◌, ◌-◌, ◌<◌, ◌≤◌, Bool, true, false, List, [], ◌∷◌, ◌++◌, Option, Some, None, Result, Ok, Err, length}
+use Rattle.std.specs.Prelude.{◌≡◌, ◌≢◌, ◌⊎◌, ℕ, ◌+◌, ◌-◌, ◌<◌, ◌≤◌, Bool, true, false, List, [], ◌∷◌, ◌++◌, Option, Some, None, Result, Ok, Err, length, nat_lt, if◌then◌else◌}
 use Rattle.record_key.specs.declared.refusal.Refusal.{Refusal}
 use Rattle.record_key.specs.declared.refusal.Refusal.TheVariants.{NoMemory, NumbersSpent}
 use Rattle.tc_core.specs.declared.open_txn.OpenTxn.{OpenTxn}
+use Rattle.tc_core.specs.declared.open_txn.Read.{Read}
 use Rattle.tc_core.specs.declared.phase.Phase.{Phase}
 use Rattle.tc_core.specs.declared.phase.Phase.TheVariants as phase
-use Rattle.tc_core.specs.TcView.{TcView}
+use Rattle.tc_core.specs.OpenTxns.{find}
+use Rattle.tc_core.specs.TcView.{TcView, is_waiting}
 use Rattle.world.specs.declared.event.Event.{Event}
 use Rattle.world.specs.declared.event.Event.TheVariants as event
 use Rattle.world.specs.declared.event.Out.{Out}
@@ -13,18 +15,17 @@ use Rattle.world.specs.declared.event.Out.TheVariants as out
 use Rattle.world.specs.declared.round.Round.{Round}
 use Rattle.world.specs.declared.round.Round.TheVariants as round
 use Rattle.world.specs.Node.{NodeView, StepsTo}
-use Rattle.world.specs.Simulation.{IsSettled, IsUnrolled}
+use Rattle.world.specs.Simulation.{IsSettled, AreUnrolled, rolls}
 use Rattle.world.specs.Bound.{most_rounds}
 
--- the open transaction waits for nothing
-abbrev pub IsIdleTxn : Option OpenTxn → Type 0
-IsIdleTxn None = Unit {0}
-IsIdleTxn (Some o) = o.waiting ≡ None
+-- nobody waits for anything
+abbrev pub AreIdle : List OpenTxn → Type 0
+AreIdle os = (t : ℕ) → is_waiting (find t os) ≡ false
 
 -- nothing is left to do: the node is settled, nobody waits, and every record is stable
 pub record IsAtRest (w : NodeView) : Type 0 where
   pub settled : IsSettled w
-  pub idle : IsIdleTxn w.tc.open_txn
+  pub idle : AreIdle w.tc.open_txns
   pub stable : w.tc.stable ≡ length w.tc.log
 
 -- the transaction component has no session that the data component runs
@@ -39,35 +40,48 @@ pub record IsServing (w : NodeView) : Type 0 where
   pub running : w.tc.phase ≡ phase.Running
   pub session : w.dc.session ≡ w.tc.session
 
--- the open transaction waits for this record's answer
+-- of those that wait, the transaction with the least number waits for this record's answer
 pub record IsDue (w : TcView) (t number : ℕ) : Type 0 where
   pub open_txn : OpenTxn
-  pub is : w.open_txn ≡ Some open_txn
-  pub txn : open_txn.txn ≡ t
+  pub is : find t w.open_txns ≡ Some open_txn
   pub waiting : open_txn.waiting ≡ Some number
+  pub least : (u : ℕ) → is_waiting (find u w.open_txns) ≡ true → t ≤ u
 
--- it is being rolled back and waits for nothing
+-- of those that wait, the transaction with the least number waits for a read
+pub record IsReader (w : TcView) (t : ℕ) : Type 0 where
+  pub open_txn : OpenTxn
+  pub read : Read
+  pub is : find t w.open_txns ≡ Some open_txn
+  pub reading : open_txn.reading ≡ Some read
+  pub least : (u : ℕ) → is_waiting (find u w.open_txns) ≡ true → t ≤ u
+
+-- nobody waits, and of those that are being rolled back this one has the least number
 pub record IsRolling (w : TcView) (t : ℕ) : Type 0 where
   pub open_txn : OpenTxn
-  pub is : w.open_txn ≡ Some open_txn
-  pub txn : open_txn.txn ≡ t
+  pub is : find t w.open_txns ≡ Some open_txn
   pub rolling : open_txn.rolling ≡ true
-  pub waiting : open_txn.waiting ≡ None
+  pub idle : AreIdle w.open_txns
+  pub least : (u : ℕ) → rolls w.open_txns u ≡ true → t ≤ u
 
 -- the log is to be forced: for the request that is waited for, or since nothing else is left to do
 abbrev pub IsForced : TcView → Type 0
 IsForced w =
     ((t : ℕ) × (n : ℕ) × IsDue w t n × (w.stable < n))
-    ⊎ (IsUnrolled w.open_txn × IsIdleTxn w.open_txn × (w.stable < length w.log))
+    ⊎ (AreUnrolled w.open_txns × AreIdle w.open_txns × (w.stable < length w.log))
 
 -- the first round that applies: to connect; to recover; for an unanswered request to force the log where its
--- record isn't stable, else to exchange it; to undo; to force what isn't stable
+-- record isn't stable, else to exchange it, as a read always is; to undo; to force what isn't stable
 abbrev pub IsNext : NodeView → Round → Type 0
 IsNext w round.Connect = IsApart w
 IsNext w round.Recover = IsRedoing w.tc.phase × (w.dc.session ≡ w.tc.session)
-IsNext w (round.Exchange t) = IsServing w × ((n : ℕ) × IsDue w.tc t n × (n ≤ w.tc.stable))
+IsNext w (round.Exchange t) = IsServing w × (((n : ℕ) × IsDue w.tc t n × (n ≤ w.tc.stable)) ⊎ IsReader w.tc t)
 IsNext w (round.Undo t) = IsServing w × IsRolling w.tc t
 IsNext w round.Force = IsServing w × IsForced w.tc
+
+-- the round of a transaction that waits for this record's answer, or for a read
+abbrev pub round_for : ℕ → ℕ → Option ℕ → Round
+round_for t stable None = round.Exchange t
+round_for t stable (Some n) = if nat_lt stable n then round.Force else round.Exchange t
 
 -- an event that sends a request, the request's delivery, and that of its reply
 abbrev pub exchange_of : Event → ℕ → ℕ → List Event

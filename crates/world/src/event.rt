@@ -1,5 +1,6 @@
 //! What may happen to a node, and what comes of it.
-use record_key::{Answer, Op, Refusal};
+use codec::Rows;
+use record_key::{Answer, Key, Op, Refusal, Value};
 
 /// One atomic step: a call of one of the components, or the delivery of a message that was sent before.
 #[derive(Debug, PartialEq, Eq, Drop)]
@@ -9,20 +10,46 @@ pub enum Event {
     /// One step of recovery.
     Recover,
     Begin,
-    Act { txn: u64, op: Op },
-    Rollback { txn: u64 },
+    Act {
+        txn: u64,
+        op: Op,
+    },
+    /// The value at a key is asked for.
+    Get {
+        txn: u64,
+        key: Key,
+    },
+    /// The rows from `low` on, below `high` or to the end, are asked for.
+    Scan {
+        txn: u64,
+        low: Key,
+        high: Option<Key>,
+    },
+    Rollback {
+        txn: u64,
+    },
     /// One step of a rollback.
-    Undo { txn: u64 },
+    Undo {
+        txn: u64,
+    },
     /// The log is made stable.
     Force,
     /// The transaction's unanswered request is sent, first or again.
-    Send { txn: u64 },
+    Send {
+        txn: u64,
+    },
     /// The data component is told that no number up to `low` is sent again.
-    LowWater { low: u64 },
+    LowWater {
+        low: u64,
+    },
     /// The request of this number reaches the data component.
-    Request { number: u64 },
+    Request {
+        number: u64,
+    },
     /// The reply of this number reaches the transaction component.
-    Reply { number: u64 },
+    Reply {
+        number: u64,
+    },
 }
 
 /// What an event came to.
@@ -44,6 +71,10 @@ pub enum Out {
     Connected(u64),
     RedoEnded(u64),
     Answered { txn: u64, answer: Answer },
+    /// A read was given this number.
+    Asked(u64),
+    Row { txn: u64, value: Option<Value> },
+    Rows { txn: u64, rows: Rows },
     Undone(u64),
     Refused(Refusal),
 }

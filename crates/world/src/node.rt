@@ -1,13 +1,14 @@
 //! The two components, and the messages between them.
 ghost use Rattle.std.specs.Prelude.{◌≡◌, true};
-ghost use Rattle.world.specs.Node.{fresh_node, StepsTo, out_of, ReconnectsTo, RecoversTo, BeginsTo, ActsTo, RollsBackTo, UndoesTo, SendsTo, LowersTo, ServesTo, TakesTo, as_out, is_replied_to, takes_memory, IsRefused};
+ghost use Rattle.world.specs.Node.{fresh_node, StepsTo, out_of, ReconnectsTo, RecoversTo, BeginsTo, ActsTo, AsksTo, RollsBackTo, UndoesTo, SendsTo, LowersTo, ServesTo, TakesTo, as_out, is_replied_to, takes_memory, IsRefused};
 ghost use Rattle.world.specs.Seen.{seen};
 
 use crate::event::{Event, Out};
 use crate::messages::message;
 use codec::{Reply, Request};
 use dc_core::Dc;
-use record_key::{Op, Refusal};
+use range_locks::Span;
+use record_key::{Key, Op, Refusal};
 use std::alloc::Global;
 use tc_core::{RecoverStep, Tc, Told, UndoStep};
 
@@ -52,6 +53,8 @@ impl Node {
             Event::Recover => self.recover(),
             Event::Begin => self.begin(),
             Event::Act { txn, op } => self.act(*txn, op),
+            Event::Get { txn, key } => self.get(*txn, key),
+            Event::Scan { txn, low, high } => self.scan(*txn, low, high),
             Event::Rollback { txn } => self.rollback(*txn),
             Event::Undo { txn } => self.undo(*txn),
             Event::Force => Ok(Out::Stable(self.tc.force())),
@@ -101,6 +104,20 @@ impl Node {
         ensures memory { IsRefused (out_of result) Refusal.NoMemory → takes_memory (seen self.old) (Event.Act txn op.now) ≡ true }
     {
         Ok(Out::Logged(self.tc.act(txn, op)?))
+    }
+
+    fn get(&mut self, txn: u64, key: &Key) -> Result<Out, Refusal>
+        ensures done { AsksTo (seen self.old) txn (Span.Key key.now) (out_of result) (seen self.new) }
+        ensures memory { IsRefused (out_of result) Refusal.NoMemory → takes_memory (seen self.old) (Event.Get txn key.now) ≡ true }
+    {
+        Ok(Out::Asked(self.tc.get(txn, key)?))
+    }
+
+    fn scan(&mut self, txn: u64, low: &Key, high: &Option<Key>) -> Result<Out, Refusal>
+        ensures done { AsksTo (seen self.old) txn (Span.Range low.now high.now) (out_of result) (seen self.new) }
+        ensures memory { IsRefused (out_of result) Refusal.NoMemory → takes_memory (seen self.old) (Event.Scan txn low.now high.now) ≡ true }
+    {
+        Ok(Out::Asked(self.tc.scan(txn, low, high)?))
     }
 
     fn rollback(&mut self, txn: u64) -> Result<Out, Refusal>
@@ -182,6 +199,8 @@ fn out_of_told(told: Told) -> Out
         Told::Connected(session) => Out::Connected(session),
         Told::RedoEnded(session) => Out::RedoEnded(session),
         Told::Answered { txn, answer } => Out::Answered { txn, answer },
+        Told::Row { txn, value } => Out::Row { txn, value },
+        Told::Rows { txn, rows } => Out::Rows { txn, rows },
         Told::Undone(number) => Out::Undone(number),
     }
 }

@@ -8,7 +8,7 @@ ghost use Rattle.history.specs.ListMachine.{fresh};
 ghost use Rattle.world.specs.Node.{fresh_node, StepsTo, takes_memory, IsRefused};
 ghost use Rattle.world.specs.Simulation.{machine, Happens, IsSettled};
 ghost use Rattle.world.specs.Kept.{IsKept};
-ghost use Rattle.world.specs.Rounds.{IsNext, IsAtRest, IsApart};
+ghost use Rattle.world.specs.Rounds.{IsNext, IsAtRest, IsApart, round_for};
 
 use crate::event::{Event, Out};
 use crate::node::Node;
@@ -18,7 +18,7 @@ use page::Leaf;
 use record_key::{Key, Refusal, Value};
 use std::alloc::Global;
 use std::marker::Model;
-use tc_core::Phase;
+use tc_core::{OpenTxn, Phase};
 
 /// A node with what holds of it at every moment.
 #[derive(Drop)]
@@ -121,9 +121,9 @@ impl World {
     }
 
     /// The first round of settling that applies, if any is left: connect where the components have no session
-    /// in common; recover until clients are served; for an unanswered request, force the log where its record
-    /// isn't stable, else exchange it; undo where a transaction is being rolled back; force where records
-    /// aren't stable.
+    /// in common; recover until clients are served; for the least transaction with an unanswered request, force
+    /// the log where its record isn't stable, else exchange it; undo for the least one that is being rolled
+    /// back; force where records aren't stable.
     pub fn next_round(&self) -> Option<Round>
         ensures { MatchOption result (IsAtRest self.now) (IsNext self.now) }
     {
@@ -136,16 +136,11 @@ impl World {
             _ => return Some(Round::Recover),
         }
         let stable = tc.stable_end();
-        if let Some(open) = tc.open_txn() {
-            if let Some(number) = open.waiting {
-                if stable < number {
-                    return Some(Round::Force);
-                }
-                return Some(Round::Exchange { txn: open.txn });
-            }
-            if open.rolling {
-                return Some(Round::Undo { txn: open.txn });
-            }
+        if let Some(open) = tc.first_unanswered() {
+            return Some(answer_round(&open, stable));
+        }
+        if let Some(open) = tc.first_rolling() {
+            return Some(Round::Undo { txn: open.txn });
         }
         if stable < tc.records() {
             return Some(Round::Force);
@@ -159,5 +154,15 @@ impl World {
     {
         matches!(self.node.tc.phase(), Phase::Unconnected | Phase::Connecting)
             || self.node.dc.session() != self.node.tc.session()
+    }
+}
+
+/// The round of a transaction that waits: a force where it waits for a record that isn't stable, else an exchange.
+fn answer_round(asker: &OpenTxn, stable: u64) -> Round
+    ensures { result ≡ round_for asker.now.txn stable asker.now.waiting }
+{
+    match asker.waiting {
+        Some(number) if stable < number => Round::Force,
+        _ => Round::Exchange { txn: asker.txn },
     }
 }

@@ -86,3 +86,21 @@ fn refused_memory_changes_nothing(rt: HostRuntime) -> Result<(), Fail> {
     tc.kept();
     Ok(())
 }
+
+/// The key of a refused operation is free, and that of a logged one isn't.
+#[test]
+fn a_refused_operation_holds_nothing(rt: HostRuntime) -> Result<(), Fail> {
+    let mut tc = begun(rt.alloc())?;
+    tc.begin()?;
+    for place in 0..20 {
+        let op = insert(&[place], b"v")?;
+        let (mut first, mut second) = (2, 3);
+        if tc.act(first, &op).is_err() {
+            (first, second) = (3, 2);
+            tc.act(first, &op)?;
+        }
+        assert_eq!(rt; tc.act(second, &op), Err(Refusal::Busy(first)));
+        tc.on_reply(&answered(1, tc.records(), Answer::Inserted))?;
+    }
+    Ok(())
+}

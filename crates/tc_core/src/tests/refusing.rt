@@ -62,14 +62,6 @@ fn not_open(rt: HostRuntime) -> Result<(), Fail> {
 }
 
 #[test]
-fn one_at_a_time(rt: HostRuntime) -> Result<(), Fail> {
-    let mut tc = begun(rt.alloc())?;
-    assert_eq!(rt; tc.begin(), Err(Refusal::Full));
-    assert_eq!(rt; tc.records(), 2);
-    Ok(())
-}
-
-#[test]
 fn an_answer_is_awaited(rt: HostRuntime) -> Result<(), Fail> {
     let mut tc = waiting(rt.alloc())?;
     let unanswered = Some(Refusal::Unanswered);

@@ -1,10 +1,6 @@
 //! A transaction rolled back, call by call.
 use super::*;
 
-fn delete(key: &[u8]) -> Result<Op, Fail> {
-    Ok(Op::Delete(Key::new(key)?))
-}
-
 #[test]
 fn a_session_comes_first(rt: HostRuntime) -> Result<(), Fail> {
     let mut tc = Tc::new(rt.alloc());
@@ -81,7 +77,7 @@ fn its_rollback_ends(rt: HostRuntime) -> Result<(), Fail> {
     let deleted = Answer::Deleted(Value::new(b"1")?);
     assert_eq!(rt; tc.on_reply(&answered(1, 5, deleted))?, Told::Undone(5));
     assert_eq!(rt; tc.undo_step(2)?, UndoStep::RolledBack(2));
-    assert_eq!(rt; tc.open_txn(), None);
+    assert_eq!(rt; tc.open_txn(2), None);
     assert_eq!(rt; tc.record(7), Some(&Record::End { txn: 2 }));
     assert_eq!(rt; tc.record(8), None);
     assert_eq!(rt; tc.begin()?, 8);

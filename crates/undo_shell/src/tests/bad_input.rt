@@ -50,7 +50,21 @@ fn words_that_are_no_line(rt: HostRuntime) {
         "force 1",
         "leaves t",
         "connect",
-        "get t k",
+        "get t",
+        "get t a b",
+        "get t *",
+        "get T a",
+        "get t a-",
+        "scan t a",
+        "scan t a b c",
+        "scan t a * *",
+        "scan t * b",
+        "scan t * *",
+        "scan t a ",
+        "scan t a **",
+        "scan T a b",
+        "insert t * v",
+        "insert t k *",
     ];
     for script in scripts {
         assert_run(&rt, script, "no 17 BadScript 1\n", 2);
@@ -109,6 +123,10 @@ fn words_of_any_length(rt: HostRuntime) {
         first_fault(b"insert t aZ09aZ09aZ09aZ09aZ09aZ09aZ09aZ09aZ09 v"),
         None
     );
+    assert_eq!(rt;
+        first_fault(b"insert t get 1\nget t scan\nscan t get get\nscan t . *"),
+        None
+    );
 }
 
 /// The first of the faults of a line's words: an empty key before a word that is too long.
@@ -143,4 +161,37 @@ fn lengths_of_each_write_are_refused_first(rt: HostRuntime) {
     );
     let longest_key = "delete t aaaaaaaaaaaaaaaaaaaaaaaaaaaaaaaa\n";
     assert_run(&rt, longest_key, "no 9 NotConnected\n", 0);
+}
+
+/// The lengths of a read's keys are refused before its own refusals, an empty key before one that is too long.
+#[test]
+fn lengths_of_keys_that_are_read(rt: HostRuntime) {
+    assert_run(&rt, "get t .\n", "no 11 EmptyKey\n", 0);
+    let long_key = "get t aaaaaaaaaaaaaaaaaaaaaaaaaaaaaaaaa\n\
+                    scan t aaaaaaaaaaaaaaaaaaaaaaaaaaaaaaaaa *\n\
+                    scan t a aaaaaaaaaaaaaaaaaaaaaaaaaaaaaaaaa\n";
+    assert_run(
+        &rt,
+        long_key,
+        "no 12 TooLong\nno 12 TooLong\nno 12 TooLong\n",
+        0,
+    );
+    let empty_key = "scan t . *\n\
+                     scan t a .\n\
+                     scan t aaaaaaaaaaaaaaaaaaaaaaaaaaaaaaaaa .\n\
+                     scan t . aaaaaaaaaaaaaaaaaaaaaaaaaaaaaaaaa\n";
+    assert_run(
+        &rt,
+        empty_key,
+        "no 11 EmptyKey\nno 11 EmptyKey\nno 11 EmptyKey\nno 11 EmptyKey\n",
+        0,
+    );
+    let longest_key =
+        "get t aaaaaaaaaaaaaaaaaaaaaaaaaaaaaaaa\nscan t aaaaaaaaaaaaaaaaaaaaaaaaaaaaaaaa *\n";
+    assert_run(
+        &rt,
+        longest_key,
+        "no 9 NotConnected\nno 9 NotConnected\n",
+        0,
+    );
 }

@@ -146,3 +146,37 @@ fn numbers_are_joined_by_commas(rt: HostRuntime) {
         leaf 1 - - low 0 last 0 n 2 set 3,5,7\n";
     assert_run(&rt, script, text, 0);
 }
+
+/// A read is answered by its first reply, and a reply that comes again is nobody's.
+#[test]
+fn reply_to_a_read_repeated(rt: HostRuntime) {
+    let script = "\
+        settle\n\
+        begin t\n\
+        get t k\n\
+        get t k\n\
+        send t\n\
+        req 3\n\
+        req 3\n\
+        rep 3\n\
+        rep 4\n\
+        scan t a c\n\
+        send t\n\
+        req 4\n\
+        rep 5\n";
+    let text = "\
+        settled\n\
+        txn 2\n\
+        asked 1\n\
+        no 4 Unanswered\n\
+        request 3\n\
+        reply 3\n\
+        reply 4\n\
+        row 2 -\n\
+        nothing\n\
+        asked 2\n\
+        request 4\n\
+        reply 5\n\
+        rows 2 0\n";
+    assert_run(&rt, script, text, 0);
+}

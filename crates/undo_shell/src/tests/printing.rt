@@ -1,8 +1,9 @@
 //! The lines of records, answers and refusals.
 use crate::logged::print_record;
 use crate::printed::print_refusal;
-use crate::shown::print_row;
+use crate::rows::print_row;
 use crate::told::print_out;
+use codec::Rows;
 use history::Record;
 use record_key::{Answer, Key, Op, Refusal, Value};
 use std::test::Fail;
@@ -129,6 +130,42 @@ fn outputs(rt: HostRuntime) -> Result<(), Fail> {
     let expected =
         "txn 2\nlogged 3\nrolling back\ncomp 5\nrolled back 2\nstable 7\nundone 5\nnothing\n\
                     request 1\nreply 2\nnoted\nconnected 4\nredo ended 4\n";
+    assert_eq!(rt; text.as_slice(), expected.as_bytes());
+    Ok(())
+}
+
+#[test]
+fn values_and_rows(rt: HostRuntime) -> Result<(), Fail> {
+    let mut text = Vec::new(rt.alloc());
+    let mut rows = Vec::new(rt.alloc());
+    rows.push((Key::new(b"a")?, Value::new(b"1")?))?;
+    rows.push((Key::new(b"b")?, Value::new(b"")?))?;
+    for out in [
+        Out::Asked(1),
+        Out::Row {
+            txn: 2,
+            value: Some(Value::new(b"v")?),
+        },
+        Out::Row {
+            txn: 2,
+            value: Some(Value::new(b"")?),
+        },
+        Out::Row {
+            txn: 2,
+            value: None,
+        },
+        Out::Rows {
+            txn: 3,
+            rows: Rows::new(Vec::new(rt.alloc())),
+        },
+        Out::Rows {
+            txn: 3,
+            rows: Rows::new(rows),
+        },
+    ] {
+        print_out(&mut text, &out)?;
+    }
+    let expected = "asked 1\nrow 2 v\nrow 2 .\nrow 2 -\nrows 3 0\nrows 3 2\na=1\nb=.\n";
     assert_eq!(rt; text.as_slice(), expected.as_bytes());
     Ok(())
 }

@@ -161,3 +161,140 @@ fn lengths_at_the_limits(rt: HostRuntime) {
         rows 2\n";
     assert_run(&rt, script, text, 0);
 }
+
+/// A key that another transaction has changed is busy until that one's rollback has ended.
+#[test]
+fn lock_held_until_rollback_ends(rt: HostRuntime) {
+    let script = "\
+        settle\n\
+        begin t\n\
+        begin u\n\
+        insert t a 1\n\
+        insert u a 2\n\
+        settle\n\
+        rollback t\n\
+        insert u a 2\n\
+        settle\n\
+        insert u a 2\n\
+        settle\n\
+        table\n";
+    let text = "\
+        settled\n\
+        txn 2\n\
+        txn 3\n\
+        logged 4\n\
+        no 2 Busy 2\n\
+        answer 2 inserted\n\
+        settled\n\
+        rolling back\n\
+        no 2 Busy 2\n\
+        rolled back 2\n\
+        settled\n\
+        logged 9\n\
+        answer 3 inserted\n\
+        settled\n\
+        a=2\n\
+        rows 1\n";
+    assert_run(&rt, script, text, 0);
+}
+
+/// A range that was scanned is locked up to its upper end, which is not in it.
+#[test]
+fn range_lock_and_scan(rt: HostRuntime) {
+    let script = "\
+        settle\n\
+        begin t\n\
+        begin u\n\
+        scan t b d\n\
+        settle\n\
+        insert u c 1\n\
+        insert u d 1\n\
+        scan t b b\n\
+        settle\n";
+    let text = "\
+        settled\n\
+        txn 2\n\
+        txn 3\n\
+        asked 1\n\
+        rows 2 0\n\
+        settled\n\
+        no 2 Busy 2\n\
+        logged 4\n\
+        no 13 BadRange\n\
+        answer 3 inserted\n\
+        settled\n";
+    assert_run(&rt, script, text, 0);
+}
+
+/// A transaction reads what it wrote, and no other reads it before the rollback has ended.
+#[test]
+fn reads_of_own_rows(rt: HostRuntime) {
+    let script = "\
+        settle\n\
+        begin t\n\
+        insert t a 1\n\
+        settle\n\
+        insert t b .\n\
+        settle\n\
+        get t a\n\
+        settle\n\
+        get t zz\n\
+        settle\n\
+        get t b\n\
+        settle\n\
+        scan t a *\n\
+        settle\n\
+        scan t a b\n\
+        settle\n\
+        begin u\n\
+        get u a\n\
+        scan u a *\n\
+        rollback t\n\
+        settle\n\
+        get u a\n\
+        settle\n\
+        scan u . b\n\
+        scan u 0 *\n\
+        settle\n";
+    let text = "\
+        settled\n\
+        txn 2\n\
+        logged 3\n\
+        answer 2 inserted\n\
+        settled\n\
+        logged 5\n\
+        answer 2 inserted\n\
+        settled\n\
+        asked 1\n\
+        row 2 1\n\
+        settled\n\
+        asked 2\n\
+        row 2 -\n\
+        settled\n\
+        asked 3\n\
+        row 2 .\n\
+        settled\n\
+        asked 4\n\
+        rows 2 2\n\
+        a=1\n\
+        b=.\n\
+        settled\n\
+        asked 5\n\
+        rows 2 1\n\
+        a=1\n\
+        settled\n\
+        txn 7\n\
+        no 2 Busy 2\n\
+        no 2 Busy 2\n\
+        rolling back\n\
+        rolled back 2\n\
+        settled\n\
+        asked 6\n\
+        row 7 -\n\
+        settled\n\
+        no 11 EmptyKey\n\
+        asked 7\n\
+        rows 7 0\n\
+        settled\n";
+    assert_run(&rt, script, text, 0);
+}

@@ -3,12 +3,17 @@ use super::*;
 use rand_pcg::Pcg32;
 use rand_pcg::rand_core::Rng;
 
+/// How many transactions are open at a time.
+const LABELS: usize = 8;
+
 /// What a choice goes by.
 #[derive(Drop)]
 pub struct Chooser {
     random: Pcg32,
-    /// The open transaction, 0 if none.
-    open: u64,
+    /// The open transaction of each label, 0 if none.
+    open: [u64; LABELS],
+    /// The label that goes on.
+    label: usize,
     /// What the event came to that the next useful one goes on from.
     last: Out,
 }
@@ -17,7 +22,8 @@ impl Chooser {
     pub fn new(seed: u64) -> Chooser {
         Chooser {
             random: Pcg32::new(seed, 7),
-            open: 0,
+            open: [0; LABELS],
+            label: 0,
             last: Out::Nothing,
         }
     }
@@ -34,9 +40,13 @@ impl Chooser {
         count.saturating_sub(back)
     }
 
-    /// An operation on one of four keys.
+    /// One of twelve keys.
+    fn key(&mut self) -> Result<Key, Fail> {
+        Ok(Key::new(&[b'a' + (self.below(12) % 12) as u8])?)
+    }
+
     fn op(&mut self) -> Result<Op, Fail> {
-        let key = Key::new(&[b'a' + (self.below(4) % 4) as u8])?;
+        let key = self.key()?;
         let value = Value::new(&[b'0' + (self.below(10) % 10) as u8])?;
         Ok(match self.below(4) {
             0 => Op::Insert(key, value),
@@ -46,25 +56,49 @@ impl Chooser {
         })
     }
 
-    /// A client's call: where a transaction is open, an operation, or seldom its rollback.
+    /// The transaction of the label that goes on.
+    fn txn(&self) -> u64 {
+        self.open[self.label % LABELS]
+    }
+
+    /// The rows between two keys, seldom to the end.
+    fn scan(&mut self, txn: u64) -> Result<Event, Fail> {
+        let low = self.key()?;
+        let high = if self.below(4) == 0 {
+            None
+        } else {
+            Some(self.key()?)
+        };
+        Ok(Event::Scan { txn, low, high })
+    }
+
+    /// A client's call of any label: where its transaction is open, an operation or a read, or its rollback.
     fn call(&mut self) -> Result<Event, Fail> {
-        let txn = self.open;
+        self.label = self.below(LABELS as u64) as usize;
+        let txn = self.txn();
         if txn == 0 {
             return Ok(Event::Begin);
         }
-        if self.below(10) == 0 {
-            return Ok(Event::Rollback { txn });
+        match self.below(16) {
+            0 | 1 => Ok(Event::Rollback { txn }),
+            2..=4 => {
+                let key = self.key()?;
+                Ok(Event::Get { txn, key })
+            }
+            5 => self.scan(txn),
+            _ => {
+                let op = self.op()?;
+                Ok(Event::Act { txn, op })
+            }
         }
-        let op = self.op()?;
-        Ok(Event::Act { txn, op })
     }
 
     /// What would go on from the last event.
     pub fn useful(&mut self) -> Result<Event, Fail> {
-        let txn = self.open;
+        let txn = self.txn();
         Ok(match &self.last {
             Out::Logged(_) | Out::Compensated(_) => Event::Force,
-            Out::Stable(_) => Event::Send { txn },
+            Out::Stable(_) | Out::Asked(_) => Event::Send { txn },
             Out::Sent(number) => Event::Request { number: *number },
             Out::Replied(number) => Event::Reply { number: *number },
             Out::RollingBack | Out::Undone(_) => Event::Undo { txn },
@@ -78,7 +112,7 @@ impl Chooser {
 
     /// Any event, where the world has so many requests, replies and stable records.
     pub fn any(&mut self, requests: u64, replies: u64, stable: u64) -> Result<Event, Fail> {
-        let txn = self.open;
+        let txn = self.txn();
         Ok(match self.below(200) {
             0..=79 => Event::Request {
                 number: self.earlier(requests),
@@ -100,11 +134,17 @@ impl Chooser {
         })
     }
 
-    /// Takes note of which transaction is open.
+    /// Takes note of which transactions are open. One that is begun beside a label's goes on without a label.
     pub fn note(&mut self, out: &Out) {
         match out {
-            Out::Begun(txn) => self.open = *txn,
-            Out::RolledBack(_) => self.open = 0,
+            Out::Begun(txn) => self.open[self.label % LABELS] = *txn,
+            Out::RolledBack(ended) => {
+                for place in 0..LABELS {
+                    if self.open[place] == *ended {
+                        self.open[place] = 0;
+                    }
+                }
+            }
             _ => {}
         }
     }

@@ -1,5 +1,6 @@
 //! An event of each kind, with its output.
 use super::*;
+use codec::Rows;
 use history::Record;
 
 #[test]
@@ -18,7 +19,7 @@ fn a_session_begins(rt: HostRuntime) {
         (Event::Reply { number: 2 }, Out::RedoEnded(1)),
         (Event::Recover, Out::Nothing),
         (Event::Begin, Out::Begun(2)),
-        (Event::Begin, Out::Refused(Refusal::Full)),
+        (Event::Begin, Out::Begun(3)),
     ];
     assert_outs(&rt, &mut world, steps);
 }
@@ -66,6 +67,67 @@ fn a_transaction_is_rolled_back(rt: HostRuntime) -> Result<(), Fail> {
     assert_eq!(rt; world.rows().len(), 0);
     assert_eq!(rt; world.record(7), Some(&Record::End { txn: 2 }));
     assert_eq!(rt; world.record(8), None);
+    Ok(())
+}
+
+/// A key of another transaction, until that has ended.
+#[test]
+fn a_key_is_held(rt: HostRuntime) -> Result<(), Fail> {
+    let mut world = answered(rt.alloc())?;
+    let key = Key::new(b"a")?;
+    let other = Event::Act {
+        txn: 5,
+        op: Op::Delete(key),
+    };
+    let busy = Refusal::Busy(2);
+    let steps = [
+        (Event::Begin, Out::Begun(5)),
+        (other, Out::Refused(busy)),
+        (ROLLBACK, Out::RollingBack),
+    ];
+    assert_outs(&rt, &mut world, steps);
+    Ok(())
+}
+
+/// A key and a range are read: what a reply says is told once, and only to the read that is waited for.
+#[test]
+fn reads_are_told(rt: HostRuntime) -> Result<(), Fail> {
+    let mut world = answered(rt.alloc())?;
+    let get = Event::Get {
+        txn: 2,
+        key: Key::new(b"a")?,
+    };
+    let row = Out::Row {
+        txn: 2,
+        value: Some(Value::new(b"1")?),
+    };
+    let scan = Event::Scan {
+        txn: 2,
+        low: Key::new(b"b")?,
+        high: None,
+    };
+    let rows = Out::Rows {
+        txn: 2,
+        rows: Rows::new(Vec::new(rt.alloc())),
+    };
+    let steps = [
+        (get, Out::Asked(1)),
+        (ROLLBACK, Out::Refused(Refusal::Unanswered)),
+        (SEND, Out::Sent(4)),
+        (SEND, Out::Sent(5)),
+        (Event::Request { number: 5 }, Out::Replied(4)),
+        (Event::Request { number: 4 }, Out::Replied(5)),
+        (Event::Reply { number: 5 }, row),
+        (Event::Reply { number: 4 }, Out::Nothing),
+        (scan, Out::Asked(2)),
+        (SEND, Out::Sent(6)),
+        (Event::Request { number: 6 }, Out::Replied(6)),
+        (Event::Reply { number: 4 }, Out::Nothing),
+        (Event::Reply { number: 6 }, rows),
+        (ROLLBACK, Out::RollingBack),
+    ];
+    assert_outs(&rt, &mut world, steps);
+    assert_eq!(rt; world.records(), 4);
     Ok(())
 }
 

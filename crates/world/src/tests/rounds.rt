@@ -109,6 +109,43 @@ fn a_rollback_that_is_under_way(rt: HostRuntime) -> Result<(), Fail> {
     Ok(())
 }
 
+/// The least transaction comes first, whatever it waits for; reads are sent without a force.
+#[test]
+fn the_least_comes_first(rt: HostRuntime) -> Result<(), Fail> {
+    let mut world = answered(rt.alloc())?;
+    world.step(&Event::Begin);
+    world.step(&Event::Act {
+        txn: 5,
+        op: Op::Delete(Key::new(b"b")?),
+    });
+    world.step(&Event::Get {
+        txn: 2,
+        key: Key::new(b"c")?,
+    });
+    assert_eq!(rt; world.next_round(), Some(Round::Exchange { txn: 2 }));
+    let expected = [
+        Out::Sent(4),
+        Out::Replied(4),
+        Out::Row {
+            txn: 2,
+            value: None,
+        },
+        Out::Stable(6),
+        Out::Sent(5),
+        Out::Replied(5),
+        Out::Answered {
+            txn: 5,
+            answer: Answer::NoRecord,
+        },
+        Out::Stable(7),
+    ];
+    assert_settles(&rt, rt.alloc(), &mut world, &expected)?;
+    world.step(&Event::Rollback { txn: 5 });
+    world.step(&ROLLBACK);
+    assert_eq!(rt; world.next_round(), Some(Round::Undo { txn: 2 }));
+    Ok(())
+}
+
 /// A session is started amid a rollback, and settling another one: what was logged before is sent again.
 #[test]
 fn a_session_amid_a_rollback(rt: HostRuntime) -> Result<(), Fail> {

@@ -1,6 +1,6 @@
 //! A random walk, with messages late, repeated and lost, beside the plain slow model.
 use super::choosing::Chooser;
-use super::model::Lines;
+use super::model::{Lines, Span};
 use super::*;
 use history::Record;
 use log_laws::{is_legal, plain_history};
@@ -14,6 +14,8 @@ struct Walk {
     answers: u64,
     undone: u64,
     rolled_back: u64,
+    busy: u64,
+    read: u64,
     sessions: u64,
 }
 
@@ -26,6 +28,8 @@ impl Walk {
             answers: 0,
             undone: 0,
             rolled_back: 0,
+            busy: 0,
+            read: 0,
             sessions: 0,
         }
     }
@@ -35,6 +39,8 @@ impl Walk {
             Out::Answered { .. } => &mut self.answers,
             Out::Undone(_) => &mut self.undone,
             Out::RolledBack(_) => &mut self.rolled_back,
+            Out::Refused(Refusal::Busy(_)) => &mut self.busy,
+            Out::Row { .. } | Out::Rows { .. } => &mut self.read,
             Out::RedoEnded(_) => &mut self.sessions,
             _ => return,
         };
@@ -46,11 +52,61 @@ impl Walk {
         self.chooser.note(out);
         self.count(out);
         match out {
-            Out::Compensated(_) => self.lines.cross(),
-            Out::Answered { answer, .. } => {
-                let (_, expected) = self.lines.replay(alloc)?;
+            Out::RolledBack(txn) => self.lines.end(*txn),
+            Out::Answered { txn, answer } => {
+                let expected = self.lines.answer(alloc, *txn)?;
                 assert_eq!(rt; Some(answer.copied()), expected);
             }
+            Out::Row { txn, value } => {
+                let rows = self.lines.rows(alloc, *txn)?;
+                let expected = rows.first().map(|row| &row.1);
+                assert_eq!(rt; value.as_ref(), expected);
+            }
+            Out::Rows { txn, rows } => {
+                let expected = self.lines.rows(alloc, *txn)?;
+                assert_eq!(rt; rows.as_slice(), expected.as_slice());
+            }
+            _ => {}
+        }
+        Ok(())
+    }
+
+    /// Takes a call with its output to the model. A key is busy just where another transaction holds it.
+    fn take_call(&mut self, rt: &impl Abort, event: &Event, out: &Out) -> Result<(), Fail> {
+        match (event, out) {
+            (Event::Act { txn, op }, Out::Logged(_)) => {
+                assert_eq!(rt; self.lines.holder(*txn, op.key()), None);
+                self.lines.add(*txn, op)?;
+            }
+            (Event::Act { txn, op }, Out::Refused(Refusal::Busy(holder))) => {
+                assert_eq!(rt; self.lines.holder(*txn, op.key()), Some(*holder));
+            }
+            (Event::Get { txn, key }, out) => {
+                self.take_read(rt, *txn, Span::Key(key.copied()), out)?;
+            }
+            (Event::Scan { txn, low, high }, out) => {
+                let low = low.copied();
+                let high = high.as_ref().map(|high| high.copied());
+                self.take_read(rt, *txn, Span::Range { low, high }, out)?;
+            }
+            (Event::Rollback { txn }, Out::RollingBack) => self.lines.cross(*txn),
+            _ => {}
+        }
+        Ok(())
+    }
+
+    /// A span is busy just where another transaction has changed one of its keys.
+    fn take_read(&mut self, rt: &impl Abort, txn: u64, span: Span, out: &Out) -> Result<(), Fail> {
+        match out {
+            Out::Asked(_) => {
+                assert!(rt; !span.is_empty());
+                assert_eq!(rt; self.lines.writer(txn, &span), None);
+                self.lines.ask(txn, span)?;
+            }
+            Out::Refused(Refusal::Busy(holder)) => {
+                assert_eq!(rt; self.lines.writer(txn, &span), Some(*holder));
+            }
+            Out::Refused(Refusal::BadRange) => assert!(rt; span.is_empty()),
             _ => {}
         }
         Ok(())
@@ -70,9 +126,7 @@ impl Walk {
         let goes_on = self.chooser.below(3) > 0;
         let event = self.event(goes_on)?;
         let out = self.world.step(&event);
-        if let (Event::Act { op, .. }, Out::Logged(_)) = (&event, &out) {
-            self.lines.add(op)?;
-        }
+        self.take_call(rt, &event, &out)?;
         self.take(rt, alloc, &out)?;
         if goes_on || is_step(&out) {
             self.chooser.go_on_from(out);
@@ -88,7 +142,7 @@ impl Walk {
             self.take(rt, alloc, out)?;
         }
         self.chooser.go_on_from(Out::Nothing);
-        let (table, _) = self.lines.replay(alloc)?;
+        let table = self.lines.replay(alloc)?;
         assert_eq!(rt; self.world.rows(), table.rows());
         Ok(())
     }
@@ -125,10 +179,10 @@ fn is_step(out: &Out) -> bool {
     )
 }
 
-/// Two thousand events. The node is settled and compared after each hundred.
+/// Four thousand events. The node is settled and compared after each hundred.
 fn walked(rt: &impl Abort, alloc: Global, seed: u64) -> Result<Walk, Fail> {
     let mut walk = Walk::new(alloc, seed);
-    for _ in 0..20 {
+    for _ in 0..40 {
         for _ in 0..100 {
             walk.walk(rt, alloc)?;
         }
@@ -144,9 +198,11 @@ fn as_the_plain_model(rt: HostRuntime) -> Result<(), Fail> {
     for seed in 1..5 {
         let walk = walked(&rt, rt.alloc(), seed)?;
         assert!(rt; is_legal(&walk.log(rt.alloc())?), "seed {seed}");
-        assert!(rt; walk.answers > 100, "{} answers", walk.answers);
-        assert!(rt; walk.undone > 50, "{} undone", walk.undone);
+        assert!(rt; walk.answers > 60, "{} answers", walk.answers);
+        assert!(rt; walk.undone > 15, "{} undone", walk.undone);
         assert!(rt; walk.rolled_back > 10, "{} ends", walk.rolled_back);
+        assert!(rt; walk.busy > 50, "{} busy", walk.busy);
+        assert!(rt; walk.read > 40, "{} read", walk.read);
         assert!(rt; walk.sessions > 3, "{} sessions", walk.sessions);
     }
     Ok(())

@@ -28,7 +28,7 @@ returns-then-eq c =
     let next : IsNext c.loop-round.world c.in-Some.round = c.in-Some.ensures in (
       far.played,
       all_played c.args.most c.loop-round.left _ far.left_is (spent c.loop-round.left c.if-eq.ensures),
-      omega (arith, far.count, some_left c.loop-round.world c.in-Some.round c.loop-round.invariant.kept next, rounds_bound c.args.world.now.tc),
+      omega (arith, far.count, some_left c.loop-round.world c.in-Some.round c.loop-round.invariant.kept next, rounds_bound c.args.world.now.tc c.kept.ensures.kept.tc),
       (c.in-Some.round, next),
     )
 
@@ -64,6 +64,6 @@ returns c =
     let far = c.loop-round.invariant.far in (
       far.played,
       allowed c.args.most c.loop-round.left (length far.played.rounds) far.left_is,
-      omega (arith, far.count, rounds_bound c.args.world.now.tc),
+      omega (arith, far.count, rounds_bound c.args.world.now.tc c.kept.ensures.kept.tc),
       c.in_default.ensures,
     )

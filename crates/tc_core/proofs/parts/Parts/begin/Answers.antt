@@ -1,17 +1,31 @@
-use Rattle.std.proofs.Common.{◌≡◌, ◌∙◌, sym, false, Option, Some, None, is_some, refl}
-use Rattle.tc_core.specs.declared.open_txn.OpenTxn.{OpenTxn}
+use Rattle.std.proofs.Common.{◌≡◌, ◌∙◌, ◌∷◌, ◌+◌, ◌<◌, length, ap, arith, refl}
+use Rattle.tc_core.specs.OpenTxns.{AreBelow, without}
 use Rattle.tc_core.specs.Seen.{seen}
-use Rattle.tc_core.proofs.KeepsTc.{keeps_begin}
+use Rattle.tc_core.proofs.Finding.{without_new}
+use Rattle.tc_core.proofs.KeepsTc.{all_below, keeps_begin}
 use Rattle.tc_core.proofs.parts.Parts.begin.Goals as goal
 
-isnt_some : (o : Option OpenTxn) → is_some o ≡ false → o ≡ None
-isnt_some None h = refl
-isnt_some (Some o) h = absurd (cc)
+pub add-requires : goal.add-requires
+add-requires c = rw (c.begun.ensures, c.len-txn.ensures) (all_below (seen c.args.self.now) c.requires)
 
-pub returns-clause-kept : goal.returns-clause-kept
-returns-clause-kept c =
-    rw (c.in_ok-txn.ensures.appended.log, c.in_ok-txn.ensures.appended.number_is)
-    (keeps_begin (seen c.args.self.now) c.requires (isnt_some c.args.self.now.open_txn (sym c.is_some.ensures ∙ c.if-is_some.false)))
+pub returns-in-Ok-clause-kept : goal.returns-in-Ok-clause-kept
+returns-in-Ok-clause-kept c =
+    let old = c.args.self.now in
+    let less : length old.open_txns < 64 = omega (arith, c.len.ensures, c.if-len-ge-MOST_OPEN.false) in
+    rw (c.in-Ok.ensures.appended.log, c.in_ok-add.ensures.added, c.begun.ensures, c.len-txn.ensures)
+    (keeps_begin (seen old) c.requires less)
 
-pub returns-clause-allowed : goal.returns-clause-allowed
-returns-clause-allowed c = rw (c.in_ok-running.ensures.allowed, sym c.is_some.ensures ∙ c.if-is_some.false, c.in_ok-txn.ensures.appended.unspent) refl
+-- the one that was added is removed again
+left : (c : goal.After-remove) → c.remove.new.self ≡ c.args.self.now.open_txns
+left c =
+    let old = c.args.self.now in
+    let below : AreBelow c.begun.result.txn old.open_txns = rw (c.begun.ensures, c.len-txn.ensures) (all_below (seen old) c.requires) in
+    let number : c.len-txn.result + 1 ≡ c.begun.result.txn = rw c.begun.ensures refl in
+    c.remove.ensures ∙ ap (without (c.len-txn.result + 1)) c.in_ok-add.ensures.added
+    ∙ ap (λ t. without t (c.begun.result ∷ old.open_txns)) number ∙ without_new c.begun.result old.open_txns below
+
+pub returns-in-Err-clause-kept : goal.returns-in-Err-clause-kept
+returns-in-Err-clause-kept c = rw (c.in-Err.ensures.unchanged, left c) c.requires
+
+pub returns-in-Err-clause-unchanged : goal.returns-in-Err-clause-unchanged
+returns-in-Err-clause-unchanged c = rw (c.in-Err.ensures.unchanged, left c) refl

@@ -14,7 +14,8 @@ append-requires c =
 pub returns-then-open-eq0-clause-kept : goal.returns-then-open-eq0-clause-kept
 returns-then-open-eq0-clause-kept c =
     let found = c.in_ok-open.ensures.found in
-    rw (c.in_ok-append.ensures.appended.log, ← found.at.number) (keeps_end (seen c.args.self.now) c.in_ok-open.open c.requires found.at.is found.waiting c.if-open-eq0.true)
+    rw (c.remove.ensures, c.release.ensures, c.in_ok-append.ensures.appended.log, ← found.at.number)
+    (keeps_end (seen c.args.self.now) c.in_ok-open.open c.requires found.at.is found.waiting c.if-open-eq0.true)
 
 pub compensation-next-requires : goal.compensation-next-requires
 compensation-next-requires c =
@@ -37,10 +38,10 @@ rests (Some i) b n h e = absurd (cc)
 pub returns-clause-kept : goal.returns-clause-kept
 returns-clause-kept c =
     let found = c.in_ok-open.ensures.found in
-    let waits : c.if-sends.self ≡ waits_for c.in_ok-number.number c.compensation-next.result.1 =
+    let waits : c.if-sends.replace ≡ waits_for c.in_ok-number.number c.compensation-next.result.1 =
     elim c.if-sends.branch [
-      | then-sends w ↦ sends c.compensation-next.result.1 c.if-sends.self c.in_ok-number.number (sym c.is_some-sends.ensures ∙ w.if-sends.true) w.self-is
-      | else-sends w ↦ rests c.compensation-next.result.1 c.if-sends.self c.in_ok-number.number (sym c.is_some-sends.ensures ∙ w.if-sends.false) w.self-is
+      | then-sends w ↦ sends c.compensation-next.result.1 c.if-sends.replace c.in_ok-number.number (sym c.is_some-sends.ensures ∙ w.if-sends.true) w.replace-is
+      | else-sends w ↦ rests c.compensation-next.result.1 c.if-sends.replace c.in_ok-number.number (sym c.is_some-sends.ensures ∙ w.if-sends.false) w.replace-is
     ] in
-    rw (c.in_ok-number.ensures.appended.log, waits, c.compensation-next.ensures.next, c.compensation-next.ensures.inverse, c.in_ok-number.ensures.appended.number_is, ← found.at.number)
+    rw (c.replace.ensures, c.in_ok-number.ensures.appended.log, waits, c.compensation-next.ensures.next, c.compensation-next.ensures.inverse, c.in_ok-number.ensures.appended.number_is, ← found.at.number)
     (keeps_comp (seen c.args.self.now) c.in_ok-open.open c.requires found.at.is found.waiting c.if-not-open.false c.if-open-eq0.false)

@@ -1,46 +1,46 @@
-use Rattle.std.proofs.Common.{◌≡◌, ◌∙◌, Bool, false, sym, subst, ◌<◌, arith, refl, inl, true≢false, Option, Some, None}
+use Rattle.std.proofs.Common.{◌≡◌, ◌∙◌, Bool, false, sym, ◌<◌, ◌≤◌, length, arith, inr, true≢false, Some, None}
 use Rattle.std.specs.Prelude.{◌↔◌, IsTrue}
-use Rattle.tc_core.specs.declared.open_txn.OpenTxn.{OpenTxn}
-use Rattle.tc_core.specs.declared.phase.Phase.TheVariants as phase
-use Rattle.tc_core.specs.TcView.{TcView}
+use Rattle.tc_core.specs.declared.open_txns.Wanted.TheVariants.{Unanswered, Rolling}
+use Rattle.tc_core.specs.OpenTxns.{oldest, wants}
 use Rattle.world.specs.Node.{NodeView}
-use Rattle.world.specs.Rounds.{IsApart, IsIdleTxn}
-use Rattle.world.specs.Simulation.{IsUnrolled}
+use Rattle.world.specs.Rounds.{IsApart}
 use Rattle.world.specs.Seen.{seen}
 use Rattle.world.proofs.Settled.{at_rest, serving}
+use Rattle.world.proofs.Rounds.{next_for, idle_all, rolling_first, unrolled_all}
 use Rattle.world.proofs.world.World.next_round.Goals as goal
-use Rattle.world.proofs.world.World.next_round.Goals.{in-Some+in_default-waiting+else-open, in_default-open_txn}
 
 together : (w : NodeView) (r : Bool) → (IsTrue r ↔ IsApart w) → r ≡ false → IsApart w → ⊥
 together w r test isnt apart = true≢false (sym (test.1 apart) ∙ isnt)
 
-pub returns-then-stable-number : goal.returns-then-stable-number
-returns-then-stable-number c =
-    let tc : TcView = c.self.inside.node.tc in
-    let at : tc.open_txn ≡ Some c.in-Some.open = sym c.open_txn.ensures ∙ c.in-Some.is in
-    let less : tc.stable < c.in-Some-waiting.number = omega (arith, c.stable_end-stable.ensures, c.if-stable-number.true) in
-    let running : tc.phase ≡ phase.Running = sym c.phase.ensures ∙ c.in-Running.is in
-    rw (← c.self.view_is) (
-      serving (seen c.self.inside.node) (together (seen c.self.inside.node) c.is_apart.result (rw (← c.self.view_is) at c.is_apart.ensures) c.if-is_apart.false) running,
-      inl (c.in-Some.open.txn, c.in-Some-waiting.number, record { open_txn = c.in-Some.open; is = at; txn = refl; waiting = c.in-Some-waiting.is }, less),
-    )
+pub returns-in-Some : goal.returns-in-Some
+returns-in-Some c =
+    let w : NodeView = seen c.self.inside.node in
+    let serves = serving w (together w c.is_apart.result (rw (← c.self.view_is) at c.is_apart.ensures) c.if-is_apart.false) (sym c.phase.ensures ∙ c.in-Running.is) in
+    let at : oldest (wants Unanswered) w.tc.open_txns ≡ Some c.in-Some.open = sym c.first_unanswered.ensures ∙ c.in-Some.is in
+    rw (← c.self.view_is, c.answer_round.ensures, c.stable_end-stable.ensures) (next_for w c.in-Some.open serves c.self.invariant.tc at)
+
+pub returns-in-Some-first_rolling : goal.returns-in-Some-first_rolling
+returns-in-Some-first_rolling c =
+    let w : NodeView = seen c.self.inside.node in
+    let serves = serving w (together w c.is_apart.result (rw (← c.self.view_is) at c.is_apart.ensures) c.if-is_apart.false) (sym c.phase.ensures ∙ c.in-Running.is) in
+    let none : oldest (wants Unanswered) w.tc.open_txns ≡ None = sym c.first_unanswered.ensures ∙ c.in_default-first_unanswered.is in
+    let at : oldest (wants Rolling) w.tc.open_txns ≡ Some c.in-Some-first_rolling.open = sym c.first_rolling.ensures ∙ c.in-Some-first_rolling.is in
+    rw (← c.self.view_is) (serves, rolling_first w.tc c.in-Some-first_rolling.open c.self.invariant.tc none at)
+
+pub returns-then-stable-records : goal.returns-then-stable-records
+returns-then-stable-records c =
+    let w : NodeView = seen c.self.inside.node in
+    let serves = serving w (together w c.is_apart.result (rw (← c.self.view_is) at c.is_apart.ensures) c.if-is_apart.false) (sym c.phase.ensures ∙ c.in-Running.is) in
+    let none : oldest (wants Unanswered) w.tc.open_txns ≡ None = sym c.first_unanswered.ensures ∙ c.in_default-first_unanswered.is in
+    let flat : oldest (wants Rolling) w.tc.open_txns ≡ None = sym c.first_rolling.ensures ∙ c.in_default-first_rolling.is in
+    let less : w.tc.stable < length w.tc.log = omega (arith, c.records.ensures, c.stable_end-stable.ensures, c.if-stable-records.true) in
+    rw (← c.self.view_is) (serves, inr (unrolled_all w.tc flat, idle_all w.tc none, less))
 
 pub returns : goal.returns
 returns c =
     let w : NodeView = seen c.self.inside.node in
-    let running : w.tc.phase ≡ phase.Running = sym c.phase.ensures ∙ c.in-Running.is in
-    let serves = serving w (together w c.is_apart.result (rw (← c.self.view_is) at c.is_apart.ensures) c.if-is_apart.false) running in
-    let P : Option OpenTxn → Type 0 = IsUnrolled in
-    let Q : Option OpenTxn → Type 0 = IsIdleTxn in
-    elim c.match-open_txn.branch [
-      | in-Some+in_default-waiting+else-open b ↦
-          let at : w.tc.open_txn ≡ Some b.in-Some.open = sym c.open_txn.ensures ∙ b.in-Some.is in
-          rw (← c.self.view_is)
-          (at_rest w c.self.invariant running serves.session (subst P (sym at) b.if-open.false) (subst Q (sym at) b.in_default-waiting.is)
-          (omega (arith, c.records.ensures, c.stable_end-stable.ensures, c.if-stable-records.false)))
-      | in_default-open_txn b ↦
-          let at : w.tc.open_txn ≡ None = sym c.open_txn.ensures ∙ b.in_default-open_txn.is in
-          rw (← c.self.view_is)
-          (at_rest w c.self.invariant running serves.session (subst P (sym at) tt) (subst Q (sym at) tt)
-          (omega (arith, c.records.ensures, c.stable_end-stable.ensures, c.if-stable-records.false)))
-    ]
+    let serves = serving w (together w c.is_apart.result (rw (← c.self.view_is) at c.is_apart.ensures) c.if-is_apart.false) (sym c.phase.ensures ∙ c.in-Running.is) in
+    let none : oldest (wants Unanswered) w.tc.open_txns ≡ None = sym c.first_unanswered.ensures ∙ c.in_default-first_unanswered.is in
+    let flat : oldest (wants Rolling) w.tc.open_txns ≡ None = sym c.first_rolling.ensures ∙ c.in_default-first_rolling.is in
+    let most : length w.tc.log ≤ w.tc.stable = omega (arith, c.records.ensures, c.stable_end-stable.ensures, c.if-stable-records.false) in
+    rw (← c.self.view_is) (at_rest w c.self.invariant serves.running serves.session (unrolled_all w.tc flat) (idle_all w.tc none) most)

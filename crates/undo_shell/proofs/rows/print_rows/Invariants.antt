@@ -1,7 +1,7 @@
 use Rattle.std.proofs.Common.{take, flat_map}
 use Rattle.std.specs.Io.KnownBytes.{Appends}
 use Rattle.undo_shell.specs.Stored.{row_line}
-use Rattle.undo_shell.proofs.shown.print_rows.Given as goal
+use Rattle.undo_shell.proofs.rows.print_rows.Given as goal
 
 -- those so far are written
 abbrev pub invariant-loop-row : goal.invariant-loop-row

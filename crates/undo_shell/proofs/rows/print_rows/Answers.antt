@@ -1,6 +1,6 @@
 use Rattle.undo_shell.proofs.Printing.{prints_err, cut_at_item}
 use Rattle.undo_shell.specs.Stored.{row_line}
-use Rattle.undo_shell.proofs.shown.print_rows.Goals as goal
+use Rattle.undo_shell.proofs.rows.print_rows.Goals as goal
 
 pub returns-in_err-print_row : goal.returns-in_err-print_row
 returns-in_err-print_row g c =

@@ -1,0 +1,144 @@
+-- What transactions hold by the log, and what a record more makes of it.
+use Rattle.std.proofs.Common.{◌≡◌, ◌≢◌, ℕ, ◌+◌, Bool, true, false, List, [], ◌∷◌, ◌++◌, length, Option, Some, None, IsSome, is_some, refl, sym, ap, ◌∙◌, subst, inl, inr, eq-eqb, ne_eqb}
+use Rattle.std.specs.Prelude.{◌==◌, not, ◌&&◌, if◌then◌else◌}
+use Rattle.std.specs.Ordering.{is_lt}
+use Rattle.std.specs.declared.cmp.Ordering.TheVariants.{Equal}
+use Rattle.std.proofs.lemmas.Bool.{cases_eq}
+use Rattle.std.proofs.lemmas.Cmp.{nat_list_cmp_total, tied_itself}
+use Rattle.record_key.specs.declared.op.Op.{Op}
+use Rattle.record_key.specs.Table.{Bytes, key_of}
+use Rattle.record_key.specs.Laws.{key_cmp}
+use Rattle.record_key.proofs.KeyOrder.{key_cmp-beginning}
+use Rattle.history.specs.declared.record.Record.{Record}
+use Rattle.history.specs.declared.record.Record.TheVariants as is
+use Rattle.history.specs.Log.{record_at, op_of, IsOpBy}
+use Rattle.history.specs.Legal.{IsLegal}
+use Rattle.history.specs.Spans.{Span, Exclusive, at_key, is_within, Conflict, AnyConflict}
+use Rattle.log_laws.proofs.Records.{AnOp, op_step, both_same, newest_at, older_at, at_newest, at_older, not_newest}
+use Rattle.log_laws.proofs.LegalLogs.{begun, begun_number, op_number}
+use Rattle.tc_core.specs.declared.open_txn.OpenTxn.{OpenTxn}
+use Rattle.tc_core.specs.OpenTxns.{find, replace, without}
+use Rattle.tc_core.specs.Locking.{op_spans, held_spans}
+use Rattle.tc_core.proofs.Finding.{find_here, find_there, replaced_same, replaced_other, without_same, without_other}
+
+-- a key conflicts with itself
+pub within_itself : (k : Bytes) → is_within (at_key Exclusive k) k ≡ true
+within_itself k =
+    let same : key_cmp k k ≡ Equal = tied_itself nat_list_cmp_total k in
+    let below = key_cmp-beginning k (0 ∷ []) (λ e. cc) in
+    ap (λ o. not (is_lt o) && is_lt (key_cmp k (k ++ 0 ∷ []))) same ∙ ap is_lt below
+
+pub conflicts_itself : (k : Bytes) → Conflict (at_key Exclusive k) (at_key Exclusive k)
+conflicts_itself k = (k, within_itself k, within_itself k, refl)
+
+-- the keys of the records before are held on
+any_if : (b : Bool) (s x : Span) (xs : List Span) → AnyConflict s xs → AnyConflict s (if b then x ∷ xs else xs)
+any_if true s x xs any = inr any
+any_if false s x xs any = any
+
+any_longer : (s : Span) (r : Record) (log : List Record) (t : ℕ) → AnyConflict s (op_spans log t) → AnyConflict s (op_spans (r ∷ log) t)
+any_longer s (is.Op u p op) log t any = any_if (t == u) s (at_key Exclusive (key_of op)) (op_spans log t) any
+any_longer s _ log t any = any
+
+-- and the key of the newest operation
+any_newest : (s : Span) (r : Record) (log : List Record) (t : ℕ) (o : Op) → op_of r ≡ Some (t, o) → Conflict s (at_key Exclusive (key_of o)) → AnyConflict s (op_spans (r ∷ log) t)
+any_newest s (is.Op u p op) log t o by clash = pick (t == u) (eq-eqb t u (sym same.0))
+  where
+    same : (u ≡ t) × (op ≡ o)
+    same = both_same u t op o by
+
+    pick : (b : Bool) → b ≡ true → AnyConflict s (if b then at_key Exclusive (key_of op) ∷ op_spans log t else op_spans log t)
+    pick true h = let P : Op → Type 0 = λ x. Conflict s (at_key Exclusive (key_of x)) in inl (subst P (sym same.1) clash)
+    pick false h = absurd (cc)
+any_newest s _ log t o by clash = absurd (cc)
+
+-- each operation of a transaction holds its key
+pub op_spans_has : (s : Span) (log : List Record) (n t : ℕ) (o : Op) → IsOpBy log n t o → Conflict s (at_key Exclusive (key_of o)) → AnyConflict s (op_spans log t)
+op_spans_has s [] n t o by clash = absurd (cc)
+op_spans_has s (r ∷ log) n t o by clash =
+    elim (cases_eq n (length log + 1)) [
+      | inl e ↦ any_newest s r log t o (newest_at (AnOp t o) r log n e by) clash
+      | inr e ↦ any_longer s r log t (op_spans_has s log n t o (older_at (AnOp t o) r log n e by) clash)
+    ]
+
+-- an open transaction holds the keys of its operations, any other nothing
+pub held_is : (log : List Record) (os : List OpenTxn) (t : ℕ) → IsSome (find t os) → held_spans log os t ≡ op_spans log t
+held_is log os t some = ap (λ b. if b then op_spans log t else []) some
+
+pub held_open : (log : List Record) (os : List OpenTxn) (t : ℕ) (o : OpenTxn) → find t os ≡ Some o → held_spans log os t ≡ op_spans log t
+held_open log os t o is = held_is log os t (ap is_some is)
+
+pub held_none : (log : List Record) (os : List OpenTxn) (t : ℕ) → find t os ≡ None → held_spans log os t ≡ []
+held_none log os t none = ap (λ (x : Option OpenTxn). if is_some x then op_spans log t else []) none
+
+-- a record that is no operation takes nothing
+pub op_spans_longer : (r : Record) (log : List Record) (t : ℕ) → op_of r ≡ None → op_spans (r ∷ log) t ≡ op_spans log t
+op_spans_longer (is.Op u p op) log t none = absurd (cc)
+op_spans_longer _ log t none = refl
+
+-- an operation takes its key for its transaction, and nothing for another
+op_spans_own : (t p : ℕ) (op : Op) (log : List Record) → op_spans (is.Op t p op ∷ log) t ≡ at_key Exclusive (key_of op) ∷ op_spans log t
+op_spans_own t p op log = ap (λ b. if b then at_key Exclusive (key_of op) ∷ op_spans log t else op_spans log t) (eq-eqb t t refl)
+
+op_spans_other : (t p : ℕ) (op : Op) (log : List Record) (u : ℕ) → u ≢ t → op_spans (is.Op t p op ∷ log) u ≡ op_spans log u
+op_spans_other t p op log u apart = ap (λ b. if b then at_key Exclusive (key_of op) ∷ op_spans log u else op_spans log u) (ne_eqb u t apart)
+
+-- who has no operation holds nothing
+pub op_spans_none : (log : List Record) (t : ℕ) → ((n : ℕ) (o : Op) → IsOpBy log n t o → ⊥) → op_spans log t ≡ []
+op_spans_none [] t none = refl
+op_spans_none (r ∷ log) t none =
+    newest r (λ o by. none (length log + 1) o (at_newest (AnOp t o) r log (length log + 1) refl by))
+    ∙ op_spans_none log t (λ n o by. none n o (at_older (AnOp t o) r log n (not_newest log n (op_number log n t o by)) by))
+  where
+    newest : (r : Record) → ((o : Op) → op_of r ≡ Some (t, o) → ⊥) → op_spans (r ∷ log) t ≡ op_spans log t
+    newest (is.Op u p op) no_op = op_spans_other u p op log t (λ e. no_op op (ap (λ x. Some (x, op)) (sym e)))
+    newest _ no_op = refl
+
+held_alike : (log log2 : List Record) (os os2 : List OpenTxn) (t : ℕ) → is_some (find t os2) ≡ is_some (find t os) → op_spans log2 t ≡ op_spans log t → held_spans log2 os2 t ≡ held_spans log os t
+held_alike log log2 os os2 t same_open same_spans =
+    ap (λ b. if b then op_spans log2 t else []) same_open ∙ ap (λ (x : List Span). if is_some (find t os) then x else []) same_spans
+
+-- held is the same where the same are open and have the same operations
+pub held_same : (log log2 : List Record) (os os2 : List OpenTxn) → ((t : ℕ) → is_some (find t os2) ≡ is_some (find t os)) → ((t : ℕ) → op_spans log2 t ≡ op_spans log t)
+    → (t : ℕ) → held_spans log2 os2 t ≡ held_spans log os t
+held_same log log2 os os2 same_open same_spans t = held_alike log log2 os os2 t (same_open t) (same_spans t)
+
+-- who is open stays so when one is put in another's place
+pub is_some_replaced : (new o : OpenTxn) (os : List OpenTxn) → find new.txn os ≡ Some o → (t : ℕ) → is_some (find t (replace new os)) ≡ is_some (find t os)
+is_some_replaced new o os is t =
+    elim (cases_eq t new.txn) [
+      | inl same ↦ let P : ℕ → Type 0 = λ u. is_some (find u (replace new os)) ≡ is_some (find u os) in
+          subst P (sym same) (ap is_some (replaced_same new o os is) ∙ sym (ap is_some is))
+      | inr apart ↦ ap is_some (replaced_other new os t apart)
+    ]
+
+-- what one transaction holds now, and each other what it held
+abbrev pub Holds : List Record → List OpenTxn → ℕ → List Span → List Record → List OpenTxn → Type 0
+Holds log os t spans log2 os2 = (held_spans log2 os2 t ≡ spans) × ((u : ℕ) → u ≢ t → held_spans log2 os2 u ≡ held_spans log os u)
+
+-- an operation takes its key
+pub held_acted : (log : List Record) (os : List OpenTxn) (new o : OpenTxn) (p : ℕ) (op : Op) → find new.txn os ≡ Some o
+    → Holds log os new.txn (at_key Exclusive (key_of op) ∷ held_spans log os new.txn) (is.Op new.txn p op ∷ log) (replace new os)
+held_acted log os new o p op at =
+    let r : Record = is.Op new.txn p op in (
+      held_open (r ∷ log) (replace new os) new.txn new (replaced_same new o os at) ∙ op_spans_own new.txn p op log
+          ∙ ap (λ (x : List Span). at_key Exclusive (key_of op) ∷ x) (sym (held_open log os new.txn o at)),
+      λ u apart. held_alike log (r ∷ log) os (replace new os) u (is_some_replaced new o os at u) (op_spans_other new.txn p op log u apart),
+    )
+
+-- one that begins holds nothing
+pub held_begun : (log : List Record) (os : List OpenTxn) (new : OpenTxn) → IsLegal log → new.txn ≡ length log + 1 → Holds log os new.txn [] (is.Begin ∷ log) (new ∷ os)
+held_begun log os new legal number = (
+  held_open (is.Begin ∷ log) (new ∷ os) new.txn new (find_here new os new.txn refl) ∙ op_spans_none log new.txn no_op,
+  λ u apart. held_alike log (is.Begin ∷ log) os (new ∷ os) u (ap is_some (find_there new os u (λ e. apart (sym e)))) refl,
+)
+  where
+    no_op : (n : ℕ) (o : Op) → IsOpBy log n new.txn o → ⊥
+    no_op n o by = not_newest log new.txn (begun_number log new.txn (begun log new.txn n legal (op_step new.txn o (record_at log n) by))) number
+
+-- one that ends holds nothing any more
+pub held_ended : (log : List Record) (os : List OpenTxn) (t : ℕ) → Holds log os t [] (is.End t ∷ log) (without t os)
+held_ended log os t = (
+  held_none (is.End t ∷ log) (without t os) t (without_same t os),
+  λ u apart. held_alike log (is.End t ∷ log) os (without t os) u (ap is_some (without_other t os u apart)) refl,
+)

@@ -1,0 +1,54 @@
+-- What transactions hold, and when another may take a span.
+use Rattle.std.specs.Prelude.{◌≡◌, ◌≢◌, ◌⊎◌, ℕ, ◌==◌, Bool, true, false, List, [], ◌∷◌, Option, Some, None, is_some, filter, if◌then◌else◌}
+use Rattle.std.specs.List.{AllByRecursion}
+use Rattle.record_key.specs.declared.refusal.Refusal.{Refusal}
+use Rattle.record_key.specs.declared.refusal.Refusal.TheVariants.{NoMemory, Busy, NumbersSpent}
+use Rattle.record_key.specs.FirstCause.{first_of, RefusesAs}
+use Rattle.record_key.specs.Table.{key_of}
+use Rattle.history.specs.declared.record.Record.{Record}
+use Rattle.history.specs.declared.record.Record.TheVariants as is
+use Rattle.history.specs.Spans.{Mode, Shared, Exclusive, Span, at_key, AnyConflict}
+use Rattle.range_locks.specs.Locks.{LocksView, spans_of, IsFree, IsLeastHolder, IsTable}
+use Rattle.tc_core.specs.declared.open_txn.OpenTxn.{OpenTxn}
+use Rattle.tc_core.specs.OpenTxns.{find}
+
+-- the keys of a transaction's operations, exclusive, the newest first
+abbrev pub op_spans : List Record → ℕ → List Span
+op_spans [] t = []
+op_spans (is.Op txn prev op ∷ log) t = if t == txn then at_key Exclusive (key_of op) ∷ op_spans log t else op_spans log t
+op_spans (r ∷ log) t = op_spans log t
+
+-- a transaction holds them from its Begin to its End, undone or not (strict two-phase locking)
+abbrev pub held_spans : List Record → List OpenTxn → ℕ → List Span
+held_spans log os t = if is_some (find t os) then op_spans log t else []
+
+abbrev pub excludes : Mode → Bool
+excludes Shared = false
+excludes Exclusive = true
+
+abbrev pub is_exclusive : Span → Bool
+is_exclusive s = excludes s.mode
+
+-- no span of these conflicts with one of those
+abbrev pub AreApart : List Span → List Span → Type 0
+AreApart xs ys = AllByRecursion (λ x. AnyConflict x ys → ⊥) xs
+
+-- the lock table: exclusive just the keys of the open transactions' operations, shared what they have read; only
+-- open transactions hold anything, and no two of them hold what conflicts
+pub record AreHeld (log : List Record) (os : List OpenTxn) (locks : LocksView) : Type 0 where
+  pub table : IsTable locks
+  pub exclusive : (t : ℕ) → filter is_exclusive (spans_of locks t) ≡ held_spans log os t
+  pub others : (t : ℕ) → find t os ≡ None → spans_of locks t ≡ []
+  pub apart : (t u : ℕ) → t ≢ u → AreApart (spans_of locks t) (spans_of locks u)
+
+-- why a span isn't taken for a call: it is busy; else no number is left for the call, or no memory
+abbrev pub RefusesLock : LocksView → ℕ → Span → Option Refusal → Refusal → Type 0
+RefusesLock locks t s spent r = ((u : ℕ) × (r ≡ Busy u) × IsLeastHolder locks t s u) ⊎ (IsFree locks t s × RefusesAs spent r)
+
+abbrev pub spent_of : Bool → Option Refusal
+spent_of spent = first_of ((spent, NumbersSpent) ∷ [])
+
+-- that no number is left stands before want of memory
+abbrev pub first_cause : Option Refusal → Refusal → Refusal
+first_cause (Some spent) NoMemory = spent
+first_cause spent r = r

@@ -1,0 +1,138 @@
+//! The open transactions, each in a slot of its own, found by their numbers.
+ghost use Rattle.std.specs.Prelude.{◌≡◌, [], ◌∷◌, length, IsSome, IfErr, OnOk, OnErr};
+ghost use Rattle.std.specs.Option.{option_copied};
+ghost use Rattle.tc_core.specs.OpenTxns.{find, replace, without, AreBelow, oldest, wants as is_wanted};
+
+use crate::open_txn::OpenTxn;
+use record_key::Refusal;
+use slab::Slab;
+use std::alloc::Global;
+use std::collections::BTreeMap;
+use std::marker::Model;
+
+/// Who is looked for.
+#[derive(Debug, Clone, Copy, PartialEq, Eq)]
+pub enum Wanted {
+    /// One that waits for an answer, or for what it reads.
+    Unanswered,
+    /// One that is being rolled back.
+    Rolling,
+    /// The one that waits for the read of this number.
+    Reader(u64),
+}
+
+/// Open transactions in slots, and by number the slot of each.
+#[derive(Debug, Drop)]
+pub struct OpenTxns {
+    txns: Slab<OpenTxn>,
+    slots: BTreeMap<u64, usize>,
+}
+
+impl Model for OpenTxns {
+    ghost use Rattle.std.specs.Prelude.{List};
+    ghost use Rattle.tc_core.specs.declared.open_txn.OpenTxn.{OpenTxn};
+    ghost use Rattle.tc_core.specs.Slots.{in_slots, AreSlots};
+
+    ghost Value = { List OpenTxn };
+
+    ghost view = { λ o. in_slots o.txns o.slots.entries };
+
+    ghost invariant = { λ o. AreSlots o.txns o.slots.entries };
+}
+
+impl OpenTxns {
+    /// No transaction is open. Takes no memory; the allocator serves later ones.
+    pub fn new(alloc: Global) -> OpenTxns
+        ensures { result ≡ [] }
+    {
+        OpenTxns {
+            txns: Slab::new(alloc),
+            slots: BTreeMap::new(alloc),
+        }
+    }
+
+    /// How many are open.
+    pub fn len(&self) -> usize
+        ensures { result ≡ length self.now }
+    {
+        self.slots.len()
+    }
+
+    /// The transaction of this number.
+    pub fn find(&self, txn: u64) -> Option<OpenTxn>
+        ensures { result ≡ find txn self.now }
+    {
+        match self.slots.get(&txn) {
+            Some(slot) => copied(self.txns.get(*slot)),
+            None => None,
+        }
+    }
+
+    /// Adds the newest transaction. Refused NoMemory.
+    pub fn add(&mut self, opened: OpenTxn) -> Result<(), Refusal>
+        requires { AreBelow opened.txn self.old }
+        ensures added { OnOk result (self.new ≡ opened ∷ self.old) }
+        ensures refused { IfErr result (λ refusal. refusal ≡ Refusal.NoMemory) }
+        ensures unchanged { OnErr result (self.new ≡ self.old) }
+    {
+        self.txns.reserve(1)?;
+        self.slots.insert(opened.txn, self.txns.vacant_key())?;
+        self.txns.insert_reserved(opened);
+        Ok(())
+    }
+
+    /// Puts this in the place of the transaction of its number, which is open. Takes no memory.
+    pub fn replace(&mut self, opened: OpenTxn)
+        requires { IsSome (find opened.txn self.old) }
+        ensures { self.new ≡ replace opened self.old }
+    {
+        if let Some(slot) = self.slots.get(&opened.txn) {
+            if let Some(place) = self.txns.get_mut(*slot) {
+                *place = opened;
+            }
+        }
+    }
+
+    /// Removes the transaction of this number, which is open. Takes no memory.
+    pub fn remove(&mut self, txn: u64)
+        requires { IsSome (find txn self.old) }
+        ensures { self.new ≡ without txn self.old }
+    {
+        if let Some(slot) = self.slots.remove(&txn) {
+            self.txns.try_remove(slot);
+        }
+    }
+
+    /// Of those that are wanted, the one with the least number. Looks at each open transaction.
+    pub fn oldest(&self, wanted: Wanted) -> Option<OpenTxn>
+        ensures { result ≡ oldest (is_wanted wanted) self.now }
+    {
+        for (_, slot) in &self.slots {
+            if let Some(opened) = self.txns.get(*slot) {
+                if wants(wanted, opened) {
+                    return Some(opened.copied());
+                }
+            }
+        }
+        None
+    }
+}
+
+fn wants(wanted: Wanted, opened: &OpenTxn) -> bool
+    ensures { result ≡ is_wanted wanted opened.now }
+{
+    match wanted {
+        Wanted::Unanswered => opened.waits(),
+        Wanted::Rolling => opened.rolling,
+        Wanted::Reader(number) => matches!(&opened.reading, Some(read) if read.number == number),
+    }
+}
+
+fn copied(found: Option<&OpenTxn>) -> Option<OpenTxn>
+    ensures { result ≡ option_copied found.entry }
+{
+    match found {
+        Some(opened) => Some(opened.copied()),
+        None => None,
+    }
+}

@@ -1,0 +1,33 @@
+//! The text of rows, one after another.
+ghost use Rattle.std.specs.Prelude.{◌≡◌, flat_map};
+ghost use Rattle.undo_shell.specs.Printed.{Prints};
+ghost use Rattle.undo_shell.specs.Stored.{row_line};
+
+use crate::output::{Piece, print};
+use record_key::{Key, Value};
+use std::io;
+
+/// The lines of the rows.
+pub fn print_rows<W: io::Write>(writer: &mut W, rows: &[(Key, Value)]) -> io::Result<()>
+    ensures { Prints (W.contents writer.old) (W.contents writer.new) result (flat_map row_line rows.now) }
+{
+    for row in rows {
+        print_row(writer, &row.0, &row.1)?;
+    }
+    Ok(())
+}
+
+/// The line of a row.
+pub fn print_row<'a, W: io::Write>(writer: &mut W, key: &'a Key, value: &'a Value) -> io::Result<()>
+    ensures { Prints (W.contents writer.old) (W.contents writer.new) result (row_line (key.now, value.now)) }
+{
+    print(
+        writer,
+        &[
+            Piece::Word(key.as_bytes()),
+            Piece::Text("="),
+            Piece::Word(value.as_bytes()),
+            Piece::Text("\n"),
+        ],
+    )
+}

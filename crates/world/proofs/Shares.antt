@@ -1,0 +1,99 @@
+-- The open transactions share the operations of the log, and each has its Begin record.
+use Rattle.std.proofs.Common.{◌≡◌, ℕ, ◌+◌, ◌<◌, ◌≤◌, Bool, true, false, List, [], ◌∷◌, length, Some, None, refl, sym, ap, ◌∙◌, subst, arith, inl, inr, ne_eqb}
+use Rattle.std.specs.Prelude.{◌==◌, ◌&&◌, not, if◌then◌else◌}
+use Rattle.std.proofs.lemmas.Bool.{cases_eq}
+use Rattle.history.specs.declared.record.Record.{Record}
+use Rattle.history.specs.declared.record.Record.TheVariants as is
+use Rattle.history.specs.Log.{record_at, is_crossed}
+use Rattle.log_laws.proofs.Records.{newest_at, older_at, within}
+use Rattle.tc_core.specs.declared.open_txn.OpenTxn.{OpenTxn}
+use Rattle.tc_core.specs.OpenTxns.{find, AreBelow, AreFalling}
+use Rattle.tc_core.proofs.Finding.{find_here, find_above}
+use Rattle.world.specs.Bound.{left_in, total, steps_in, begins_in}
+use Rattle.world.proofs.Totals.{total_sum, found_still}
+
+-- an operation is of this transaction, and counts
+abbrev counts : ℕ → Bool → OpenTxn → ℕ
+counts u c o = if u == o.txn && c then 1 else 0
+
+-- at most what a flag is worth
+pub worth : (b : Bool) → (if b then 1 else 0) ≤ 1
+worth true = omega arith
+worth false = omega arith
+
+-- it is of nobody below its own
+none_else : (u : ℕ) (c : Bool) (os : List OpenTxn) → AreBelow u os → total (counts u c) os ≡ 0
+none_else u c [] below = refl
+none_else u c (p ∷ os) below = let rest = none_else u c os below.1 in rw (ne_eqb u p.txn (λ e. omega (arith, e, below.0))) (omega (arith, rest))
+
+-- so it is of one at most
+one_at_most : (u : ℕ) (c : Bool) (os : List OpenTxn) → AreFalling os → total (counts u c) os ≤ 1
+one_at_most u c [] falls = omega arith
+one_at_most u c (p ∷ os) falls = elim (cases_eq u p.txn) [
+  | inl same ↦
+      let P : ℕ → Type 0 = λ t. AreBelow t os in
+      let rest = none_else u c os (subst P (sym same) falls.0) in
+      omega (arith, rest, worth (u == p.txn && c))
+  | inr apart ↦ let rest = one_at_most u c os falls.1 in rw (ne_eqb u p.txn apart) (omega (arith, rest))
+]
+
+nothing_left : (os : List OpenTxn) → total (λ o. 0) os ≡ 0
+nothing_left [] = refl
+nothing_left (o ∷ os) = let rest = nothing_left os in omega (arith, rest)
+
+-- the operations that are left to undo, of all of them
+pub left_are_steps : (whole log : List Record) (os : List OpenTxn) → AreFalling os → total (λ o. left_in whole o.txn log) os ≤ steps_in log
+left_are_steps whole [] os falls = omega (arith, nothing_left os)
+left_are_steps whole (is.Op u p q ∷ log) os falls =
+    let c : Bool = not (is_crossed whole (length log + 1)) in
+    let sum = total_sum (counts u c) (λ o. left_in whole o.txn log) os in
+    omega (arith, sum, one_at_most u c os falls, left_are_steps whole log os falls)
+left_are_steps whole (is.Comp u m n i ∷ log) os falls = let rest = left_are_steps whole log os falls in omega (arith, rest)
+left_are_steps whole (is.Session ∷ log) os falls = left_are_steps whole log os falls
+left_are_steps whole (is.Begin ∷ log) os falls = left_are_steps whole log os falls
+left_are_steps whole (is.Answer n x ∷ log) os falls = left_are_steps whole log os falls
+left_are_steps whole (is.Commit u ∷ log) os falls = left_are_steps whole log os falls
+left_are_steps whole (is.End u ∷ log) os falls = left_are_steps whole log os falls
+left_are_steps whole (is.Checkpoint l ∷ log) os falls = left_are_steps whole log os falls
+
+-- each has begun
+abbrev pub HaveBegun : List Record → List OpenTxn → Type 0
+HaveBegun log os = (t : ℕ) (o : OpenTxn) → find t os ≡ Some o → record_at log t ≡ Some is.Begin
+
+begins_longer : (r : Record) (log : List Record) → begins_in log ≤ begins_in (r ∷ log)
+begins_longer is.Session log = omega arith
+begins_longer is.Begin log = omega arith
+begins_longer (is.Op t p o) log = omega arith
+begins_longer (is.Answer n x) log = omega arith
+begins_longer (is.Comp u m n i) log = omega arith
+begins_longer (is.Commit u) log = omega arith
+begins_longer (is.End u) log = omega arith
+begins_longer (is.Checkpoint l) log = omega arith
+
+below_more : (t u : ℕ) (os : List OpenTxn) → t ≤ u → AreBelow t os → AreBelow u os
+below_more t u [] le below = tt
+below_more t u (o ∷ os) le below = (omega (arith, le, below.0), below_more t u os le below.1)
+
+-- those below a number have begun before it
+older_begun : (r : Record) (log : List Record) (os : List OpenTxn) → AreBelow (length log + 1) os → HaveBegun (r ∷ log) os → HaveBegun log os
+older_begun r log os below begun t o h =
+    older_at (λ x. x ≡ Some is.Begin) r log t (λ e. let none : None ≡ Some o = sym (find_above (length log + 1) os below) ∙ ap (λ (u : ℕ). find u os) (sym e) ∙ h in cc) (begun t o h)
+
+-- no more of them are open than have begun
+pub are_begun : (log : List Record) (os : List OpenTxn) → AreFalling os → HaveBegun log os → length os ≤ begins_in log
+are_begun log [] falls begun = omega arith
+are_begun [] (p ∷ os) falls begun = let none : None ≡ Some is.Begin = begun p.txn p (find_here p os p.txn refl) in absurd (cc)
+are_begun (r ∷ log) (p ∷ os) falls begun =
+    let here : record_at (r ∷ log) p.txn ≡ Some is.Begin = begun p.txn p (find_here p os p.txn refl) in
+    elim (cases_eq p.txn (length log + 1)) [
+      | inl newest ↦
+          let P : ℕ → Type 0 = λ t. AreBelow t os in
+          let rest = are_begun log os falls.1 (older_begun r log os (subst P newest falls.0) (λ t o h. begun t o (found_still p os t o falls.0 h))) in
+          let one : Some r ≡ Some is.Begin = newest_at (λ x. x ≡ Some is.Begin) r log p.txn newest here in
+          let same : r ≡ is.Begin = cc in rw (same) (omega (arith, rest))
+      | inr apart ↦
+          let number = within (λ x. x ≡ Some is.Begin) (λ e. cc) (r ∷ log) p.txn here in
+          let less : p.txn < length log + 1 = omega (arith, number.bounded, apart) in
+          let below : AreBelow (length log + 1) (p ∷ os) = (less, below_more p.txn (length log + 1) os (omega (arith, less)) falls.0) in
+          omega (arith, are_begun log (p ∷ os) falls (older_begun r log (p ∷ os) below begun), begins_longer r log)
+    ]
