@@ -16,4 +16,5 @@ pub mod KeepsIdle
 pub mod KeepsOpen
 pub mod KeepsSteps
 pub mod KeepsTc
+pub mod KeepsUndo
 pub mod KeepsReads

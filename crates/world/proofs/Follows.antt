@@ -21,7 +21,8 @@ use Rattle.tc_core.specs.TcView.{TcView, is_unconnected, is_running, is_rolling,
 use Rattle.tc_core.specs.LogView.{is_spent}
 use Rattle.tc_core.specs.Calls.{IsAt, is_full, shared, asked, Asks, range_refusal, acted_txn, asked_txn, compensated_txn, rollback_refusal, answered_refusal, begun, acted, rolled, compensated, ended, forced, next_of, inverse_at}
 use Rattle.tc_core.proofs.KeepsReads.{keeps_ask}
-use Rattle.tc_core.proofs.KeepsTc.{keeps_force, keeps_begin, keeps_act, keeps_rollback, keeps_comp, keeps_end}
+use Rattle.tc_core.proofs.KeepsTc.{keeps_force, keeps_begin, keeps_act, keeps_rollback}
+use Rattle.tc_core.proofs.KeepsUndo.{keeps_comp, keeps_end}
 use Rattle.world.specs.declared.event.Event.{Event}
 use Rattle.world.specs.declared.event.Event.TheVariants as event
 use Rattle.world.specs.declared.event.Out.{Out}

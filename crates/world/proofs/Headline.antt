@@ -16,7 +16,8 @@ use Rattle.world.specs.Kept.{IsKept, IsSent}
 use Rattle.world.specs.Simulation.{Happens, Run}
 use Rattle.tc_core.proofs.KeepsTc.{fresh_tc}
 use Rattle.world.proofs.ByNumber.{all_at}
-use Rattle.world.proofs.Serves.{IsServing, with_dc, serves}
+use Rattle.world.proofs.Performs.{IsServing, with_dc}
+use Rattle.world.proofs.Serves.{serves}
 use Rattle.world.proofs.Keeps.{keeps_given}
 use Rattle.world.proofs.Follows.{Follows, at_new, unchanged, follows_begin, follows_act, follows_get, follows_scan, follows_rollback, follows_undo, follows_force}
 use Rattle.world.proofs.Sends.{follows_reconnect, follows_recover, follows_send, follows_low_water}

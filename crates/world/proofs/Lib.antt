@@ -35,3 +35,5 @@ pub mod Unread
 pub mod Unrolled
 pub mod Waited
 pub mod Wants
+pub mod Repeats
+pub mod Performs

@@ -25,7 +25,7 @@ use Rattle.tc_core.specs.Kept.{IsTc}
 use Rattle.tc_core.proofs.KeepsReads.{reads}
 use Rattle.world.specs.Node.{NodeView}
 use Rattle.world.specs.Kept.{IsKept}
-use Rattle.world.proofs.Serves.{unsaved_low}
+use Rattle.world.proofs.Repeats.{unsaved_low}
 use Rattle.world.proofs.Exchanges.{HasReply}
 use Rattle.world.proofs.RoundsLeft.{IsSound}
 

@@ -18,7 +18,8 @@ use Rattle.tc_core.specs.Replies.{awaiting, next_phase, on_awaited}
 use Rattle.tc_core.specs.Recovery.{redoing}
 use Rattle.tc_core.specs.Kept.{IsTc}
 use Rattle.tc_core.proofs.Finding.{found_number, found_own}
-use Rattle.tc_core.proofs.KeepsTc.{open_at, waits_at, left_to_undo, awaited_is}
+use Rattle.tc_core.proofs.KeepsTc.{open_at, waits_at, awaited_is}
+use Rattle.tc_core.proofs.KeepsUndo.{left_to_undo}
 use Rattle.world.specs.declared.event.Out.{Out}
 use Rattle.world.specs.declared.event.Out.TheVariants as out
 use Rattle.world.specs.Node.{NodeView, UndoesTo, ForcesTo}

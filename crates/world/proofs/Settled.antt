@@ -33,7 +33,7 @@ use Rattle.world.specs.Rounds.{AreIdle, IsAtRest, IsApart, IsRedoing, IsServing}
 use Rattle.world.proofs.Told.{plain_there}
 use Rattle.world.proofs.Tells.{IsOpOf, op_waited}
 use Rattle.world.proofs.Grows.{captured_stable}
-use Rattle.world.proofs.Serves.{in_fences}
+use Rattle.world.proofs.Repeats.{in_fences}
 use Rattle.world.proofs.PlainAt.{plain_at}
 use Rattle.world.proofs.Waited.{IsAwaited, answered_or}
 

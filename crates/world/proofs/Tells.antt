@@ -21,7 +21,8 @@ use Rattle.tc_core.specs.TcView.{TcView, is_rolling}
 use Rattle.tc_core.specs.Calls.{answered, answered_txn, compensated, compensated_txn, ended, next_of, inverse_at}
 use Rattle.tc_core.specs.Kept.{IsTc, IsRequest}
 use Rattle.tc_core.proofs.Finding.{found_number, replaced_other, replaced_same, without_same, without_other}
-use Rattle.tc_core.proofs.KeepsTc.{open_at, waits_at, reading_at, nothing_to_undo, left_to_undo}
+use Rattle.tc_core.proofs.KeepsTc.{open_at, waits_at, reading_at}
+use Rattle.tc_core.proofs.KeepsUndo.{nothing_to_undo, left_to_undo}
 use Rattle.world.specs.Simulation.{last_of, status_waiting, status_reading, status_open, open_as, txn_by, txn_as, rolls, machine_in, machine_of}
 use Rattle.world.proofs.Histories.{hist_neutral}
 use Rattle.world.proofs.Crossings.{hist_answer, hist_undone, hist_comp, all_undone}

@@ -10,25 +10,34 @@ fn two_wait(alloc: Global) -> Result<Tc, Fail> {
     Ok(tc)
 }
 
-/// Sixty-four are open, numbers 2 to 65, and no more.
+/// Sixty-four transactions are open, numbers 2 to 65.
+fn full(alloc: Global) -> Result<Tc, Fail> {
+    let mut tc = running(alloc)?;
+    for _ in 0..64 {
+        tc.begin()?;
+    }
+    Ok(tc)
+}
+
 #[test]
 fn at_most_sixty_four(rt: HostRuntime) -> Result<(), Fail> {
-    let mut tc = running(rt.alloc())?;
-    for txn in 2..66 {
-        assert_eq!(rt; tc.begin()?, txn);
-    }
+    let mut tc = full(rt.alloc())?;
+    assert_eq!(rt; tc.records(), 65);
     assert_eq!(rt; tc.begin(), Err(Refusal::Full));
     assert_eq!(rt; tc.records(), 65);
-    for txn in [2, 33, 65] {
-        assert!(rt; tc.open_txn(txn).is_some(), "{txn}");
-        tc.rollback(txn)?;
-        assert_eq!(rt; tc.begin(), Err(Refusal::Full), "{txn} rolls back");
-        assert_eq!(rt; tc.undo_step(txn)?, UndoStep::RolledBack(txn));
-        assert!(rt; tc.open_txn(txn).is_none(), "{txn}");
-        assert_eq!(rt; tc.begin()?, tc.records(), "in the place of {txn}");
-        assert_eq!(rt; tc.begin(), Err(Refusal::Full));
-    }
-    tc.kept();
+    Ok(())
+}
+
+/// One that is being rolled back counts too, until its end.
+#[test]
+fn another_in_its_place(rt: HostRuntime) -> Result<(), Fail> {
+    let mut tc = full(rt.alloc())?;
+    tc.rollback(33)?;
+    assert_eq!(rt; tc.begin(), Err(Refusal::Full));
+    assert_eq!(rt; tc.undo_step(33)?, UndoStep::RolledBack(33));
+    assert_eq!(rt; tc.open_txn(33), None);
+    assert_eq!(rt; tc.begin(), Ok(67));
+    assert_eq!(rt; tc.begin(), Err(Refusal::Full));
     Ok(())
 }
 

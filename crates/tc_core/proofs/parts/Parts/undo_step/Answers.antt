@@ -2,7 +2,7 @@ use Rattle.std.proofs.Common.{◌≡◌, ◌∙◌, ℕ, sym, Some, None, Option
 use Rattle.record_key.specs.declared.op.Op.{Op}
 use Rattle.tc_core.specs.Calls.{waits_for}
 use Rattle.tc_core.specs.Seen.{seen}
-use Rattle.tc_core.proofs.KeepsTc.{keeps_end, keeps_comp, fits_end, fits_comp, undoable}
+use Rattle.tc_core.proofs.KeepsUndo.{keeps_end, keeps_comp, fits_end, fits_comp, undoable}
 use Rattle.tc_core.proofs.parts.Parts.undo_step.Goals as goal
 use Rattle.tc_core.proofs.parts.Parts.undo_step.Goals.{then-sends, else-sends}
 
