@@ -59,8 +59,11 @@ impl Walk {
             }
             Out::Row { txn, value } => {
                 let rows = self.lines.rows(alloc, *txn)?;
-                let expected = rows.first().map(|row| &row.1);
-                assert_eq!(rt; value.as_ref(), expected);
+                match (value, rows.first()) {
+                    (Some(value), Some(row)) => assert_eq!(rt; *value, row.1),
+                    (None, None) => {}
+                    _ => assert!(rt; false, "{txn}"),
+                }
             }
             Out::Rows { txn, rows } => {
                 let expected = self.lines.rows(alloc, *txn)?;
@@ -86,7 +89,10 @@ impl Walk {
             }
             (Event::Scan { txn, low, high }, out) => {
                 let low = low.copied();
-                let high = high.as_ref().map(|high| high.copied());
+                let high = match high {
+                    Some(high) => Some(high.copied()),
+                    None => None,
+                };
                 self.take_read(rt, *txn, Span::Range { low, high }, out)?;
             }
             (Event::Rollback { txn }, Out::RollingBack) => self.lines.cross(*txn),
