@@ -52,20 +52,15 @@ fn the_holder_goes_on(rt: HostRuntime) -> Result<(), Fail> {
     Ok(())
 }
 
-/// A key is held until the End record, also while it is undone, and also where its operation was refused.
+/// A key is held while its operation is undone, and free after the End record.
 #[test]
 fn held_until_the_end(rt: HostRuntime) -> Result<(), Fail> {
-    let mut tc = two_hold(rt.alloc())?;
-    let op = insert(b"a", b"2")?;
-    tc.rollback(4)?;
-    assert_eq!(rt; tc.act(2, &op), Err(Refusal::Busy(4)), "rolling back");
-    assert_eq!(rt; tc.undo_step(4)?, UndoStep::Compensated(9));
-    assert_eq!(rt; tc.act(2, &op), Err(Refusal::Busy(4)), "compensated");
-    let deleted = Answer::Deleted(Value::new(b"1")?);
-    assert_eq!(rt; tc.on_reply(&answered(1, 9, deleted))?, Told::Undone(9));
-    assert_eq!(rt; tc.act(2, &op), Err(Refusal::Busy(4)), "undone");
-    assert_eq!(rt; tc.undo_step(4)?, UndoStep::RolledBack(4));
-    assert_eq!(rt; tc.act(2, &op), Ok(12));
+    let mut tc = compensating(rt.alloc())?;
+    assert_eq!(rt; tc.begin()?, 6);
+    assert_eq!(rt; tc.act(6, &insert(b"a", b"2")?), Err(Refusal::Busy(2)));
+    tc.on_reply(&answered(1, 5, Answer::Deleted(Value::new(b"1")?)))?;
+    assert_eq!(rt; tc.undo_step(2)?, UndoStep::RolledBack(2));
+    assert_eq!(rt; tc.act(6, &insert(b"a", b"2")?), Ok(9));
     Ok(())
 }
 
