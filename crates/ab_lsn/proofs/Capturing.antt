@@ -1,36 +1,20 @@
 -- What a number more, a greater low number and other entries add to the captured ones.
 use Rattle.std.proofs.Common.{◌≡◌, ℕ, ◌<◌, ◌≤◌, ◌==◌, ◌||◌, Bool, true, false, cond, List, [], ◌∷◌, refl, sym, ap, ◌∙◌, arith, inl, inr, ne_eqb, lt-ltb}
-use Rattle.std.specs.Prelude.{nat_le, nat_lt}
-use Rattle.std.proofs.lemmas.Bool.{cases_lt, le-ltb, le-leb, lt-leb}
+use Rattle.std.specs.Prelude.{not, ◌&&◌, nat_le, nat_lt}
+use Rattle.std.proofs.Math.Bool.{or_comm, or_assoc, or-true, or-false, and-true, and-false}
+use Rattle.std.proofs.lemmas.Bool.{cases_lt, cases_Bool, le-ltb, le-leb, lt-leb, eqb-true, or_left}
 use Rattle.record_key.specs.Table.{Bytes}
 use Rattle.record_key.specs.declared.op.Answer.{Answer}
-use Rattle.ab_lsn.specs.declared.entry.Entry.{Entry}
-use Rattle.ab_lsn.specs.AbLsn.{AbLsnView, RiseAbove, captures, noted, raised, placed, above}
-use Rattle.ab_lsn.specs.Places.{stands_in, placed_above, placed_all, joined}
+use Rattle.record_key.specs.declared.entry.Entry.{Entry}
+use Rattle.record_key.specs.Entries.{RiseAbove}
+use Rattle.ab_lsn.specs.AbLsn.{AbLsnView, stands_in, captures, noted, raised, placed, above}
+use Rattle.ab_lsn.specs.Parting.{entries_with, stands_with, placed_above, placed_all, joined}
 use Rattle.ab_lsn.proofs.Rising.{filtered_rises}
 
 or_swap : (a b c : Bool) → (a || (b || c)) ≡ (b || (a || c))
 or_swap true true c = refl
 or_swap true false c = refl
 or_swap false b c = refl
-
-or_assoc : (a b c : Bool) → (a || (b || c)) ≡ ((a || b) || c)
-or_assoc true b c = refl
-or_assoc false b c = refl
-
-or_comm : (a b : Bool) → (a || b) ≡ (b || a)
-or_comm true true = refl
-or_comm true false = refl
-or_comm false true = refl
-or_comm false false = refl
-
-or_true : (a : Bool) → (a || true) ≡ true
-or_true true = refl
-or_true false = refl
-
-or_false : (a : Bool) → (a || false) ≡ a
-or_false true = refl
-or_false false = refl
 
 -- one entry more
 either_side : (b : Bool) (f e : Entry) (es fs : List Entry) (m : ℕ) → stands_in fs m ≡ ((m == f.number) || stands_in es m)
@@ -45,7 +29,7 @@ placed_stands f (e ∷ es) m = either_side (nat_lt e.number f.number) f e es (pl
 pub noted_captures : (v : AbLsnView) (n : ℕ) (k : Bytes) (a : Answer) (m : ℕ) → captures (noted v n k a) m ≡ (captures v m || m == n)
 noted_captures v n k a m =
     ap (λ b. nat_le m v.low || b) (placed_stands (record { number = n; key = k; answer = a }) v.entries m ∙ or_comm (m == n) (stands_in v.entries m))
-    ∙ or_assoc (nat_le m v.low) (stands_in v.entries m) (m == n)
+    ∙ sym (or_assoc (nat_le m v.low) (stands_in v.entries m) (m == n))
 
 -- entries above a number are all that stand above it
 pub above_stands : (l : ℕ) (es : List Entry) (m : ℕ) → l < m → stands_in (above l es) m ≡ stands_in es m
@@ -70,14 +54,14 @@ lifted v l m lt =
     elim (cases_lt l m) [
       | inl less ↦
           rw (lt-leb m l less, lt-leb m v.low (omega (arith, lt, less)))
-          (above_stands l v.entries m less ∙ sym (or_false (stands_in v.entries m)))
-      | inr ge ↦ rw (le-leb m l ge) (sym (or_true (nat_le m v.low || stands_in v.entries m)))
+          (above_stands l v.entries m less ∙ sym (or-false (stands_in v.entries m)))
+      | inr ge ↦ rw (le-leb m l ge) (sym (or-true (nat_le m v.low || stands_in v.entries m)))
     ]
 
 stays : (low l m : ℕ) (b : Bool) → l ≤ low → (nat_le m low || b) ≡ ((nat_le m low || b) || nat_le m l)
 stays low l m b le =
     elim (cases_lt l m) [
-      | inl less ↦ rw (lt-leb m l less) (sym (or_false (nat_le m low || b)))
+      | inl less ↦ rw (lt-leb m l less) (sym (or-false (nat_le m low || b)))
       | inr ge ↦ rw (le-leb m low (omega (arith, ge, le))) refl
     ]
 
@@ -88,11 +72,21 @@ raised_captures v l m =
       | inr ge ↦ rw (le-ltb v.low l ge) (stays v.low l m (stands_in v.entries m) ge)
     ]
 
+-- what stands there once an entry was put at its place, where its own number doesn't stand there yet
+put_stood : (m : ℕ) (f : Entry) (es : List Entry) (b : Bool) → stands_in es f.number ≡ b
+    → stands_in (cond (not b) (placed f es) es) m ≡ ((m == f.number) || stands_in es m)
+put_stood m f es false out = placed_stands f es m
+put_stood m f es true there =
+    elim (cases_Bool (m == f.number)) [
+      | inl same ↦ ap (stands_in es) (eqb-true m f.number same) ∙ there ∙ ap (λ b. b || stands_in es m) (sym same)
+      | inr apart ↦ ap (λ b. b || stands_in es m) (sym apart)
+    ]
+
 -- the entries of another, those above a number
 above_stood : (l m : ℕ) (f : Entry) (es : List Entry) → l < m → stands_in (placed_above l f es) m ≡ ((m == f.number) || stands_in es m)
 above_stood l m f es lt =
     elim (cases_lt l f.number) [
-      | inl less ↦ rw (lt-ltb l f.number less) (placed_stands f es m)
+      | inl less ↦ rw (lt-ltb l f.number less) (put_stood m f es (stands_in es f.number) refl)
       | inr ge ↦ rw (le-ltb l f.number ge, ne_eqb m f.number (λ same. omega (arith, same, ge, lt))) refl
     ]
 
@@ -102,12 +96,7 @@ all_stood l m (f ∷ fs) es lt =
     all_stood l m fs (placed_above l f es) lt
     ∙ ap (λ b. stands_in fs m || b) (above_stood l m f es lt)
     ∙ or_swap (stands_in fs m) (m == f.number) (stands_in es m)
-    ∙ or_assoc (m == f.number) (stands_in fs m) (stands_in es m)
-
-more_true : (a b c : Bool) → (a || b) ≡ true → (a || (b || c)) ≡ true
-more_true true b c h = refl
-more_true false true c h = refl
-more_true false false c h = absurd (cc)
+    ∙ sym (or_assoc (m == f.number) (stands_in fs m) (stands_in es m))
 
 pub joined_captures : (v w : AbLsnView) (m : ℕ) → captures (joined v w) m ≡ (captures v m || captures w m)
 joined_captures v w m =
@@ -121,12 +110,12 @@ joined_captures v w m =
           ∙ all_stood u.low m w.entries u.entries less
           ∙ or_comm (stands_in w.entries m) (stands_in u.entries m)
           ∙ ap (λ b. b || stands_in w.entries m) (sym here ∙ was)
-          ∙ sym (or_assoc (captures v m) (nat_le m w.low) (stands_in w.entries m))
+          ∙ or_assoc (captures v m) (nat_le m w.low) (stands_in w.entries m)
       | inr ge ↦
           let low : nat_le m u.low ≡ true = le-leb m u.low ge in
           let all : captures u m ≡ true = ap (λ b. b || stands_in u.entries m) low in
           ap (λ b. b || stands_in (placed_all u.low w.entries u.entries) m) low
-          ∙ sym (more_true (captures v m) (nat_le m w.low) (stands_in w.entries m) (sym was ∙ all))
+          ∙ sym (sym (or_assoc (captures v m) (nat_le m w.low) (stands_in w.entries m)) ∙ or_left _ (stands_in w.entries m) (sym was ∙ all))
     ]
 
 -- the invariant stays where the low number rises
@@ -136,3 +125,18 @@ raised_rises v l h =
       | inl lt ↦ rw (lt-ltb v.low l lt) (above_rises l v.low v.entries h)
       | inr ge ↦ rw (le-ltb v.low l ge) h
     ]
+
+-- what stands in the entries whose keys pass a test
+either_with : (m : ℕ) (e : Entry) (es fs : List Entry) (b : Bool) (rest : Bool) → stands_in fs m ≡ rest
+    → stands_in (cond b (e ∷ fs) fs) m ≡ (((m == e.number) && b) || rest)
+either_with m e es fs true rest is = ap (λ (r : Bool). (m == e.number) || r) is ∙ ap (λ (r : Bool). r || rest) (sym (and-true (m == e.number)))
+either_with m e es fs false rest is = is ∙ ap (λ (r : Bool). r || rest) (sym (and-false (m == e.number)))
+
+pub parted_stands : (test : Bytes → Bool) (es : List Entry) (m : ℕ) → stands_in (entries_with test es) m ≡ stands_with test es m
+parted_stands test [] m = refl
+parted_stands test (e ∷ es) m =
+    either_with m e es (entries_with test es) (test e.key) (stands_with test es m) (parted_stands test es m)
+
+pub parted_captures : (low : ℕ) (es : List Entry) (test : Bytes → Bool) (m : ℕ)
+    → captures (record { low = low; entries = entries_with test es }) m ≡ (nat_le m low || stands_with test es m)
+parted_captures low es test m = ap (λ (b : Bool). nat_le m low || b) (parted_stands test es m)

@@ -1,5 +1,4 @@
 pub mod Rising
-pub mod Searching
 pub mod Capturing
 pub mod Noting
 pub mod Kept

@@ -1,10 +1,23 @@
 -- Entries whose numbers rise: what stands in them, and what a place among them tells.
-use Rattle.std.proofs.Common.{◌≡◌, ◌≢◌, ℕ, zero, suc, ◌<◌, ◌≤◌, ◌==◌, ◌||◌, Bool, true, false, cond, List, [], ◌∷◌, get_or, Some, None, refl, sym, ap, ◌∙◌, arith, inl, inr, true≢false, eq-eqb, ne_eqb, lt-ltb, filter}
+use Rattle.std.proofs.Common.{◌≡◌, ◌≢◌, ℕ, zero, suc, ◌<◌, ◌≤◌, ◌==◌, Bool, true, false, cond, List, [], ◌∷◌, get_or, Some, None, refl, sym, ap, ◌∙◌, arith, inl, inr, true≢false, eq-eqb, ne_eqb, lt-ltb, filter}
 use Rattle.std.specs.List.{insert}
-use Rattle.std.proofs.lemmas.Bool.{cases_lt, le-ltb}
-use Rattle.ab_lsn.specs.declared.entry.Entry.{Entry}
-use Rattle.ab_lsn.specs.AbLsn.{RiseAbove, saved_in, placed}
-use Rattle.ab_lsn.specs.Places.{IsAt, IsGapFor, stands_in}
+use Rattle.std.specs.Ordering.{nat_cmp}
+use Rattle.std.specs.declared.cmp.Ordering.TheVariants.{Less, Equal, Greater}
+use Rattle.std.proofs.lemmas.Bool.{cases_lt, le-ltb, or_parts}
+use Rattle.std.proofs.lemmas.Bool.Decides.{nat_tests}
+use Rattle.record_key.specs.declared.entry.Entry.{Entry}
+use Rattle.record_key.specs.Entries.{RiseAbove, HasNumberAt, IsGapForNumber}
+use Rattle.ab_lsn.specs.AbLsn.{stands_in, saved_in, placed}
+
+-- how two numbers compare
+tie : (m n : ℕ) → nat_cmp m n ≡ Equal → m ≡ n
+tie m n h = grind (arith, nat_tests)
+
+less : (m n : ℕ) → nat_cmp m n ≡ Less → m < n
+less m n h = grind (arith, nat_tests)
+
+greater : (m n : ℕ) → nat_cmp m n ≡ Greater → n < m
+greater m n h = grind (arith, nat_tests)
 
 pub rises_from : (k l : ℕ) (es : List Entry) → k ≤ l → RiseAbove l es → RiseAbove k es
 rises_from k l [] le h = tt
@@ -23,50 +36,58 @@ filtered_rises p l [] h = tt
 filtered_rises p l (e ∷ es) h = kept_rises (p e) l e (filter p es) h.0 (filtered_rises p e.number es h.1)
 
 -- at a place the number stands, and in a gap it doesn't
-pub at_stands : (n : ℕ) (es : List Entry) (p : ℕ) → IsAt n es p → stands_in es n ≡ true
+pub at_stands : (n : ℕ) (es : List Entry) (p : ℕ) → HasNumberAt n es p → stands_in es n ≡ true
 at_stands n [] p at = absurd at
-at_stands n (e ∷ es) zero at = rw (eq-eqb n e.number (sym at)) refl
-at_stands n (e ∷ es) (suc p) at = rw (ne_eqb n e.number (λ same. omega (arith, same, at.0))) (at_stands n es p at.1)
+at_stands n (e ∷ es) zero at = rw (eq-eqb n e.number (tie n e.number at)) refl
+at_stands n (e ∷ es) (suc p) at =
+    let above : e.number < n = greater n e.number at.0 in
+    rw (ne_eqb n e.number (λ same. omega (arith, same, above))) (at_stands n es p at.1)
 
 pub below_stands : (n l : ℕ) (es : List Entry) → n ≤ l → RiseAbove l es → stands_in es n ≡ false
 below_stands n l [] le h = refl
-below_stands n l (e ∷ es) le h = rw (ne_eqb n e.number (λ same. omega (arith, same, le, h.0))) (below_stands n e.number es (omega (arith, le, h.0)) h.1)
+below_stands n l (e ∷ es) le h =
+    rw (ne_eqb n e.number (λ same. omega (arith, same, le, h.0))) (below_stands n e.number es (omega (arith, le, h.0)) h.1)
 
-pub gap_stands : (n l : ℕ) (es : List Entry) (p : ℕ) → RiseAbove l es → IsGapFor n es p → stands_in es n ≡ false
+pub gap_stands : (n l : ℕ) (es : List Entry) (p : ℕ) → RiseAbove l es → IsGapForNumber n es p → stands_in es n ≡ false
 gap_stands n l [] p h gap = refl
-gap_stands n l (e ∷ es) zero h gap = rw (ne_eqb n e.number (λ same. omega (arith, same, gap))) (below_stands n e.number es (omega (arith, gap)) h.1)
-gap_stands n l (e ∷ es) (suc p) h gap = rw (ne_eqb n e.number (λ same. omega (arith, same, gap.0))) (gap_stands n e.number es p h.1 gap.1)
-
--- neither of two
-pub either : (a b : Bool) → (a || b) ≡ false → (a ≡ false) × (b ≡ false)
-either true b h = absurd (cc)
-either false b h = (refl, h)
+gap_stands n l (e ∷ es) zero h gap =
+    let below : n < e.number = less n e.number gap in
+    rw (ne_eqb n e.number (λ same. omega (arith, same, below))) (below_stands n e.number es (omega (arith, below)) h.1)
+gap_stands n l (e ∷ es) (suc p) h gap =
+    let above : e.number < n = greater n e.number gap.0 in
+    rw (ne_eqb n e.number (λ same. omega (arith, same, above))) (gap_stands n e.number es p h.1 gap.1)
 
 -- the answer that is saved at a place, and none in a gap
-pub at_saved : (n : ℕ) (es : List Entry) (p : ℕ) (d : Entry) → IsAt n es p → saved_in es n ≡ Some (get_or es p d).answer
+pub at_saved : (n : ℕ) (es : List Entry) (p : ℕ) (d : Entry) → HasNumberAt n es p → saved_in es n ≡ Some (get_or es p d).answer
 at_saved n [] p d at = absurd at
-at_saved n (e ∷ es) zero d at = rw (eq-eqb e.number n at) refl
-at_saved n (e ∷ es) (suc p) d at = rw (ne_eqb e.number n (λ same. omega (arith, same, at.0))) (at_saved n es p d at.1)
+at_saved n (e ∷ es) zero d at = rw (eq-eqb e.number n (sym (tie n e.number at))) refl
+at_saved n (e ∷ es) (suc p) d at =
+    let above : e.number < n = greater n e.number at.0 in
+    rw (ne_eqb e.number n (λ same. omega (arith, same, above))) (at_saved n es p d at.1)
 
 pub unsaved : (n : ℕ) (es : List Entry) → stands_in es n ≡ false → saved_in es n ≡ None
 unsaved n [] h = refl
 unsaved n (e ∷ es) h =
-    let no = either (n == e.number) (stands_in es n) h in
+    let no = or_parts (n == e.number) (stands_in es n) h in
     let apart : e.number ≢ n = λ same. true≢false (sym (eq-eqb n e.number (sym same)) ∙ no.0) in
     rw (ne_eqb e.number n apart) (unsaved n es no.1)
 
 -- an entry goes into its gap
-pub gap_placed : (f : Entry) (es : List Entry) (p : ℕ) → IsGapFor f.number es p → placed f es ≡ insert es p f
+pub gap_placed : (f : Entry) (es : List Entry) (p : ℕ) → IsGapForNumber f.number es p → placed f es ≡ insert es p f
 gap_placed f [] zero gap = refl
 gap_placed f [] (suc p) gap = absurd (omega (arith, gap))
-gap_placed f (e ∷ es) zero gap = rw (le-ltb e.number f.number (omega (arith, gap))) refl
-gap_placed f (e ∷ es) (suc p) gap = rw (lt-ltb e.number f.number gap.0) (ap (λ rest. e ∷ rest) (gap_placed f es p gap.1))
+gap_placed f (e ∷ es) zero gap =
+    let below : f.number < e.number = less f.number e.number gap in
+    rw (le-ltb e.number f.number (omega (arith, below))) refl
+gap_placed f (e ∷ es) (suc p) gap =
+    rw (lt-ltb e.number f.number (greater f.number e.number gap.0)) (ap (λ rest. e ∷ rest) (gap_placed f es p gap.1))
 
 -- and the numbers rise still
-pub placed_rises : (f : Entry) (l : ℕ) (es : List Entry) → l < f.number → RiseAbove l es → stands_in es f.number ≡ false → RiseAbove l (placed f es)
+pub placed_rises : (f : Entry) (l : ℕ) (es : List Entry) → l < f.number → RiseAbove l es → stands_in es f.number ≡ false
+    → RiseAbove l (placed f es)
 placed_rises f l [] lt h out = (lt, tt)
 placed_rises f l (e ∷ es) lt h out =
-    let no = either (f.number == e.number) (stands_in es f.number) out in
+    let no = or_parts (f.number == e.number) (stands_in es f.number) out in
     elim (cases_lt e.number f.number) [
       | inl less ↦ rw (lt-ltb e.number f.number less) (h.0, placed_rises f e.number es less h.1 no.1)
       | inr ge ↦

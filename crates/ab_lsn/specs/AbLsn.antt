@@ -1,33 +1,30 @@
 -- An abstract page LSN: of which numbers a leaf has the effect. It has that of every number up to the low
 -- one, and that of each number in a set above it (the form is this project's; the notion is that of the
 -- CIDR 2009 paper on unbundled transaction services).
-use Rattle.std.specs.Prelude.{ℕ, ◌<◌, ◌==◌, Bool, List, [], ◌∷◌, Option, Some, None, map, filter, nat_lt, if◌then◌else◌}
+use Rattle.std.specs.Prelude.{ℕ, ◌==◌, ◌||◌, Bool, List, [], ◌∷◌, Option, Some, None, filter, nat_le, nat_lt, if◌then◌else◌}
+use Rattle.std.specs.List.{list_any}
 use Rattle.record_key.specs.declared.op.Answer.{Answer}
+use Rattle.record_key.specs.declared.entry.Entry.{Entry}
 use Rattle.record_key.specs.Table.{Bytes}
-use Rattle.history.specs.Honest.{captured}
-use Rattle.ab_lsn.specs.declared.entry.Entry.{Entry}
+use Rattle.record_key.specs.Entries.{numbers}
 
 -- the low number, and the entries above it, their numbers rising
 pub record AbLsnView : Type 0 where
   pub low : ℕ
   pub entries : List Entry
 
-abbrev pub numbers : List Entry → List ℕ
-numbers entries = map (λ (e : Entry). e.number) entries
+-- the number stands in one of them
+abbrev pub stands_in : List Entry → ℕ → Bool
+stands_in es n = list_any (λ m. n == m) (numbers es)
 
--- the effect of this number is there
+-- the effect of this number is there: it is at most the low number, or stands in the set
 abbrev pub captures : AbLsnView → ℕ → Bool
-captures v n = captured v.low (numbers v.entries) n
+captures v n = nat_le n v.low || stands_in v.entries n
 
 -- the answer that is saved under a number
 abbrev pub saved_in : List Entry → ℕ → Option Answer
 saved_in [] n = None
 saved_in (e ∷ es) n = if e.number == n then Some e.answer else saved_in es n
-
--- numbers strictly rise, the first from above this one
-abbrev pub RiseAbove : ℕ → List Entry → Type 0
-RiseAbove low [] = Unit {0}
-RiseAbove low (e ∷ es) = (low < e.number) × RiseAbove e.number es
 
 -- the entries with one more at its place
 abbrev pub placed : Entry → List Entry → List Entry

@@ -1,2 +1,2 @@
 pub mod AbLsn
-pub mod Places
+pub mod Parting

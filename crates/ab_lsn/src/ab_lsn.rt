@@ -1,12 +1,12 @@
 //! The abstract page LSN.
 ghost use Rattle.std.specs.Prelude.{◌≡◌, ℕ, ◌==◌, ◌||◌, false, nat_le, OnOk, OnErr, IfOk, IfErr};
 ghost use Rattle.std.specs.Option.{option_copied};
+ghost use Rattle.record_key.specs.Entries.{RiseAbove};
 ghost use Rattle.ab_lsn.specs.AbLsn.{blank, captures, saved_in, noted, raised};
-ghost use Rattle.ab_lsn.specs.Places.{cut_under, cut_from, joined, AreApart};
+ghost use Rattle.ab_lsn.specs.Parting.{is_under, is_from, stands_with, cut_under, cut_from, joined};
 
-use crate::entries::{copied_from, keep_above, keep_under, place_all, place_of};
-use crate::entry::Entry;
-use record_key::{Answer, Key, Refusal};
+use crate::entries::{copied_all, copied_from, keep_above, keep_under, place_all, place_of};
+use record_key::{Answer, Entry, Key, Refusal};
 use smallvec::SmallVec;
 use std::alloc::Global;
 use std::marker::Model;
@@ -19,7 +19,8 @@ pub struct AbLsn {
 }
 
 impl Model for AbLsn {
-    ghost use Rattle.ab_lsn.specs.AbLsn.{AbLsnView, RiseAbove};
+    ghost use Rattle.record_key.specs.Entries.{RiseAbove};
+    ghost use Rattle.ab_lsn.specs.AbLsn.{AbLsnView};
 
     ghost Value = { AbLsnView };
 
@@ -48,7 +49,8 @@ impl AbLsn {
 
     /// The captured numbers above the low one, rising, with their answers.
     pub fn entries(&self) -> &[Entry]
-        ensures { result.now ≡ self.now.entries }
+        ensures entries { result.now ≡ self.now.entries }
+        ensures rising { RiseAbove self.now.low self.now.entries }
     {
         self.entries.as_slice()
     }
@@ -98,30 +100,66 @@ impl AbLsn {
         self.low = keep_above(&mut self.entries, self.low, low);
     }
 
-    /// Gives away the entries whose keys are at or above this one; both sides keep the low number. Refused
-    /// NoMemory, and unchanged then.
-    pub fn cut(&mut self, key: &Key) -> Result<AbLsn, Refusal>
-        ensures upper { IfOk result (λ upper. upper ≡ cut_from self.old key.now) }
-        ensures lower { OnOk result (self.new ≡ cut_under self.old key.now) }
-        // So the two can be joined again.
-        ensures apart { IfOk result (λ upper. AreApart self.new.entries upper.entries) }
-        ensures unchanged { OnErr result (self.new ≡ self.old) }
+    /// The same again. Refused NoMemory.
+    pub fn copied(&self) -> Result<AbLsn, Refusal>
+        ensures copied { IfOk result (λ copied. copied ≡ self.now) }
+        ensures refused { IfErr result (λ refusal. refusal ≡ Refusal.NoMemory) }
+    {
+        let entries = copied_all(*self.entries.allocator(), self.entries.as_slice())?;
+        Ok(AbLsn {
+            low: self.low,
+            entries,
+        })
+    }
+
+    /// A copy of what stands at or above the key: the low number, and the entries there. Refused NoMemory.
+    pub fn upper(&self, key: &Key) -> Result<AbLsn, Refusal>
+        ensures upper { IfOk result (λ upper. upper ≡ cut_from self.now key.now) }
+        // A captured number stays so on the side of its entry's key, and up to the low one on both sides.
+        ensures captured { IfOk result (λ upper. (m : ℕ) →
+            captures upper m ≡ (nat_le m self.now.low || stands_with (is_from key.now) self.now.entries m)) }
         ensures refused { IfErr result (λ refusal. refusal ≡ Refusal.NoMemory) }
     {
         let upper = copied_from(*self.entries.allocator(), self.entries.as_slice(), key)?;
-        keep_under(&mut self.entries, key);
         Ok(AbLsn {
             low: self.low,
             entries: upper,
         })
     }
 
+    /// Drops the entries at or above the key. Takes no memory.
+    pub fn drop_from(&mut self, key: &Key)
+        ensures lower { self.new ≡ cut_under self.old key.now }
+        ensures captured { (m : ℕ) →
+            captures self.new m ≡ (nat_le m self.old.low || stands_with (is_under key.now) self.old.entries m) }
+    {
+        keep_under(&mut self.entries, key);
+    }
+
+    /// Gives away the entries whose keys are at or above this one; both sides keep the low number. Refused
+    /// NoMemory, and unchanged then.
+    pub fn cut(&mut self, key: &Key) -> Result<AbLsn, Refusal>
+        ensures upper { IfOk result (λ upper. upper ≡ cut_from self.old key.now) }
+        ensures lower { OnOk result (self.new ≡ cut_under self.old key.now) }
+        ensures captured_below { OnOk result ((m : ℕ) →
+            captures self.new m ≡ (nat_le m self.old.low || stands_with (is_under key.now) self.old.entries m)) }
+        ensures captured_from { IfOk result (λ upper. (m : ℕ) →
+            captures upper m ≡ (nat_le m self.old.low || stands_with (is_from key.now) self.old.entries m)) }
+        ensures unchanged { OnErr result (self.new ≡ self.old) }
+        ensures refused { IfErr result (λ refusal. refusal ≡ Refusal.NoMemory) }
+    {
+        let upper = self.upper(key)?;
+        self.drop_from(key);
+        Ok(upper)
+    }
+
     /// Captures what the other captures besides: the low number is the greater of the two, and the entries of
-    /// both above it stay. Refused NoMemory, and unchanged then.
+    /// both above it stay. Where a number stands in both, its own entry stays. Refused NoMemory, and unchanged
+    /// then.
     pub fn join(&mut self, other: &AbLsn) -> Result<(), Refusal>
-        requires { AreApart self.old.entries other.now.entries }
         ensures joined { OnOk result (self.new ≡ joined self.old other.now) }
-        ensures captured { OnOk result ((m : ℕ) → captures self.new m ≡ (captures self.old m || captures other.now m)) }
+        ensures captured { OnOk result ((m : ℕ) →
+            captures self.new m ≡ (captures self.old m || captures other.now m)) }
         ensures unchanged { OnErr result (self.new ≡ self.old) }
         ensures refused { IfErr result (λ refusal. refusal ≡ Refusal.NoMemory) }
     {

@@ -8,10 +8,8 @@
 
 mod ab_lsn;
 mod entries;
-mod entry;
 
 pub use ab_lsn::AbLsn;
-pub use entry::Entry;
 
 #[cfg(test)]
 mod tests;

@@ -90,3 +90,23 @@ fn a_cut_and_a_join_lose_nothing(rt: HostRuntime) -> Result<(), Fail> {
     lower.join(&upper)?;
     expect(&rt, &lower, 9, &numbers)
 }
+
+/// One number, on a key of its own in each of two.
+fn one(alloc: Global, number: u64, place: &[u8]) -> Result<AbLsn, Fail> {
+    let mut ab = AbLsn::new(alloc);
+    if !ab.captures(number) {
+        ab.note(number, &key(place)?, &answer(number)?)?;
+    }
+    Ok(ab)
+}
+
+#[test]
+fn of_two_with_one_number_one_stays(rt: HostRuntime) -> Result<(), Fail> {
+    let mut lower = one(rt.alloc(), 7, &[1])?;
+    let upper = one(rt.alloc(), 7, &[2])?;
+    lower.join(&upper)?;
+    assert_eq!(rt; lower.entries().len(), 1);
+    assert_eq!(rt; lower.entries()[0].key, key(&[1])?);
+    assert!(rt; lower.captures(7));
+    Ok(())
+}

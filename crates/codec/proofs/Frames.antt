@@ -1,7 +1,9 @@
 -- Frames: what is taken stands there, what stands there is taken, and Short and Bad are told apart by the length.
-use Rattle.std.proofs.Common.{◌≡◌, ℕ, zero, suc, ◌^◌, ◌<◌, ◌≤◌, ◌+◌, Bool, true, false, cond, ltb, eqb, List, [], ◌++◌, length, take, drop, Option, Some, None, refl, sym, ap, subst, ◌∙◌, append_assoc, arith, inl, inr, ◌⊎◌}
+use Rattle.std.proofs.Common.{◌≡◌, ℕ, zero, suc, ◌^◌, ◌<◌, ◌≤◌, ◌+◌, false, cond, ltb, eqb, List, [], ◌∷◌, ◌++◌, length, take, drop, Option, Some, None, refl, sym, ap, subst, ◌∙◌, append_assoc, arith, inl, inr}
 use Rattle.std.specs.Prelude.{◌↔◌}
-use Rattle.std.proofs.lemmas.Bool.{ltb-false, ltb-true, eqb-true}
+use Rattle.std.specs.List.{flat_map, AllByRecursion}
+use Rattle.std.proofs.lemmas.List.Concat.{flat_map-cons}
+use Rattle.std.proofs.lemmas.Bool.{ltb-false, ltb-true, eqb-true, cases_Bool}
 use Rattle.std.proofs.lemmas.List.{take_at, drop_at, take-append-drop, length-append, length-take, length-drop, append-nil, nil_from_length}
 use Rattle.std.proofs.lemmas.Option.{cond_some}
 use Rattle.record_key.specs.Table.{Bytes}
@@ -34,7 +36,7 @@ all_again X spell Fits read law x fits =
 -- ---- the cases of a frame
 
 -- why a frame's reading is what it is
-data Why (limit place : ℕ) (left : List ℕ) (taken : Taken Bytes) : Type 0 where
+pub data Why (limit place : ℕ) (left : List ℕ) (taken : Taken Bytes) : Type 0 where
   few : length left < 8 → taken ≡ took.Short → Why limit place left taken
   empty : 8 ≤ length left → first_number left ≡ 0 → taken ≡ took.Bad place → Why limit place left taken
   above : 8 ≤ length left → limit < first_number left → taken ≡ took.Bad place → Why limit place left taken
@@ -42,24 +44,20 @@ data Why (limit place : ℕ) (left : List ℕ) (taken : Taken Bytes) : Type 0 wh
   whole : 8 ≤ length left → 0 < first_number left → first_number left ≤ limit → 8 + first_number left ≤ length left
       → taken ≡ took.Record (take (first_number left) (drop 8 left)) (place + (8 + first_number left)) → Why limit place left taken
 
-test : (b : Bool) → (b ≡ true) ⊎ (b ≡ false)
-test true = inl refl
-test false = inr refl
-
 eqb-no : (n : ℕ) → eqb n 0 ≡ false → 0 < n
 eqb-no zero e = absurd cc
 eqb-no (suc n) e = omega arith
 
-why : (limit place : ℕ) (left : List ℕ) → Why limit place left (frame_at limit place left)
+pub why : (limit place : ℕ) (left : List ℕ) → Why limit place left (frame_at limit place left)
 unfolding frame_at
 why limit place left =
-    elim (test (ltb (length left) 8)) [
+    elim (cases_Bool (ltb (length left) 8)) [
       | inl short ↦ few (ltb-true _ _ short) (rw short refl)
-      | inr long ↦ elim (test (eqb (first_number left) 0)) [
+      | inr long ↦ elim (cases_Bool (eqb (first_number left) 0)) [
         | inl none ↦ empty (ltb-false _ _ long) (eqb-true _ _ none) (rw (long, none) refl)
-        | inr some ↦ elim (test (ltb limit (first_number left))) [
+        | inr some ↦ elim (cases_Bool (ltb limit (first_number left))) [
           | inl much ↦ above (ltb-false _ _ long) (ltb-true _ _ much) (rw (long, some, much) refl)
-          | inr fits ↦ elim (test (ltb (length left) (8 + first_number left))) [
+          | inr fits ↦ elim (cases_Bool (ltb (length left) (8 + first_number left))) [
             | inl ends ↦ cut (ltb-false _ _ long) (eqb-no _ some) (ltb-false _ _ fits) (ltb-true _ _ ends) (rw (long, some, fits, ends) refl)
             | inr there ↦ whole (ltb-false _ _ long) (eqb-no _ some) (ltb-false _ _ fits) (ltb-false _ _ there) (rw (long, some, fits, there) refl)
           ]
@@ -244,3 +242,23 @@ pub one_frame : (X : Type 0) (spell : X → List ℕ) (Fits : X → Type 0) (rea
     (limit : ℕ) → ((x : X) → Fits x → (0 < length (spell x)) × (length (spell x) ≤ limit)) → limit < 2 ^ 64
     → (a b : X) (x y : List ℕ) → Fits a → Fits b → frame (spell a) ++ x ≡ frame (spell b) ++ y → (a ≡ b) × (x ≡ y)
 one_frame X spell Fits read law limit bounds small a b x y p q e = one_frame_of X spell Fits read law limit small a b x y p q (bounds a p) (bounds b q) e
+
+-- frames one after another spell one list
+pub one_list : (X : Type 0) (spell : X → List ℕ) (Fits : X → Type 0) (read : Reader X) → IsReader X spell Fits read →
+    (limit : ℕ) → limit < 2 ^ 64 → (Framed : X → Type 0) → ((x : X) → Framed x → Fits x)
+    → ((x : X) → Framed x → (0 < length (spell x)) × (length (spell x) ≤ limit))
+    → (xs ys : List X) → AllByRecursion Framed xs → AllByRecursion Framed ys
+    → flat_map (λ x. frame (spell x)) xs ≡ flat_map (λ x. frame (spell x)) ys → xs ≡ ys
+one_list X spell Fits read law limit small Framed fits bounds [] [] all_x all_y e = refl
+one_list X spell Fits read law limit small Framed fits bounds [] (y ∷ ys) all_x all_y e =
+    absurd (let none : 0 ≡ length (frame (spell y) ++ flat_map (λ x. frame (spell x)) ys) = ap length (e ∙ flat_map-cons (λ x. frame (spell x)) y ys) in
+    omega (arith, none, length-append (frame (spell y)) (flat_map (λ x. frame (spell x)) ys), length-frame (spell y)))
+one_list X spell Fits read law limit small Framed fits bounds (x ∷ xs) [] all_x all_y e =
+    absurd (let none : 0 ≡ length (frame (spell x) ++ flat_map (λ x. frame (spell x)) xs) = ap length (sym e ∙ flat_map-cons (λ x. frame (spell x)) x xs) in
+    omega (arith, none, length-append (frame (spell x)) (flat_map (λ x. frame (spell x)) xs), length-frame (spell x)))
+one_list X spell Fits read law limit small Framed fits bounds (x ∷ xs) (y ∷ ys) all_x all_y e =
+    let parts : frame (spell x) ++ flat_map (λ x. frame (spell x)) xs ≡ frame (spell y) ++ flat_map (λ x. frame (spell x)) ys =
+    sym (flat_map-cons (λ x. frame (spell x)) x xs) ∙ e ∙ flat_map-cons (λ x. frame (spell x)) y ys in
+    let one = one_frame_of X spell Fits read law limit small x y _ _ (fits x all_x.0) (fits y all_y.0) (bounds x all_x.0) (bounds y all_y.0) parts in
+    let rest : xs ≡ ys = one_list X spell Fits read law limit small Framed fits bounds xs ys all_x.1 all_y.1 one.1 in
+    λ i. one.0 i ∷ rest i

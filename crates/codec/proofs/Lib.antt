@@ -3,11 +3,13 @@ pub mod Fields
 pub mod Records
 pub mod Requests
 pub mod Items
+pub mod Rising
 pub mod ItemLoops
 pub mod Lists
 pub mod Replies
 pub mod Images
 pub mod DcRecords
 pub mod Frames
+pub mod Ends
 pub mod Results
 pub mod Numbered

@@ -1,16 +1,20 @@
--- Rows and entries: what is read is spelled so, and what has a spelling is read again.
-use Rattle.std.proofs.Common.{◌≡◌, ◌<◌, ◌+◌, ◌^◌, List, [], ◌∷◌, ◌++◌, length, refl, arith}
+-- Numbers, rows and entries: what is read is spelled so, and what has a spelling is read again.
+use Rattle.std.proofs.Common.{◌≡◌, ℕ, ◌<◌, ◌+◌, ◌^◌, List, [], ◌∷◌, ◌++◌, length, refl, arith}
 use Rattle.std.specs.List.{AllByRecursion}
 use Rattle.std.proofs.lemmas.List.{length-append}
-use Rattle.record_key.specs.Rows.{Row}
-use Rattle.codec.specs.declared.entries.Entry.{Entry}
-use Rattle.codec.specs.Fields.{text, answer_bytes, counted}
-use Rattle.codec.specs.Rows.{row_bytes, IsRow, rows_bytes, rises, AreRows}
+use Rattle.record_key.specs.Rows.{Row, rises}
+use Rattle.record_key.specs.declared.entry.Entry.{Entry}
+use Rattle.codec.specs.Fields.{number, IsNumber, text, answer_bytes, counted}
+use Rattle.codec.specs.Rows.{row_bytes, IsRow, rows_bytes, AreRows}
 use Rattle.codec.specs.Entries.{entry_bytes, HasEntryNumber, IsEntry, entries_bytes, AreEntries}
-use Rattle.codec.specs.Reading.{row_at, rows_at, counted_at, entry_at, entries_at}
+use Rattle.codec.specs.Reading.{pair, number_at, row_at, rows_at, counted_at, entry_at, entries_at}
 use Rattle.codec.proofs.Readers.{IsReader, both, mapped_reads, where_reads}
 use Rattle.codec.proofs.Fields.{numbers_length, number_reads, key_reads, answer_reads, row_reads}
 use Rattle.codec.proofs.Items.{counted_reads}
+
+-- two numbers
+pub numbers_read : IsReader (ℕ × ℕ) (λ p. number p.0 ++ number p.1) (λ p. IsNumber p.0 × IsNumber p.1) (pair number_at number_at)
+numbers_read = both number_reads number_reads
 
 pub rows_read : IsReader (List Row) rows_bytes AreRows rows_at
 unfolding rows_bytes rows_at

@@ -12,10 +12,7 @@ use Rattle.codec.specs.Replies.{reply_bytes, IsOrdered, IsReply}
 use Rattle.codec.specs.Reading.{pair, number_at, rows_at, optional_at, value_at, answer_at, reply_choices, reply_at}
 use Rattle.codec.proofs.Readers.{IsReader, both, made_again, choice, one_of_takes}
 use Rattle.codec.proofs.Fields.{number_reads, optional_reads, value_reads, answer_reads}
-use Rattle.codec.proofs.Lists.{rows_read}
-
-numbers_read : IsReader (ℕ × ℕ) (λ p. number p.0 ++ number p.1) (λ p. IsNumber p.0 × IsNumber p.1) (pair number_at number_at)
-numbers_read = both number_reads number_reads
+use Rattle.codec.proofs.Lists.{numbers_read, rows_read}
 
 answered_reads : IsReader (ℕ × (ℕ × Option Answer)) (λ p. number p.0 ++ (number p.1.0 ++ optional answer_bytes p.1.1)) (λ p. IsNumber p.0 × (IsNumber p.1.0 × IfSome p.1.1 IsAnswer)) (pair number_at (pair number_at (optional_at answer_at)))
 answered_reads = both number_reads (both number_reads (optional_reads Answer answer_bytes IsAnswer answer_at answer_reads))

@@ -11,10 +11,8 @@ use Rattle.codec.specs.Frames.{any_length}
 use Rattle.codec.specs.Requests.{request_bytes, IsRequest}
 use Rattle.codec.specs.Reading.{pair, mapped, number_at, optional_at, key_at, op_at, request_at}
 use Rattle.codec.proofs.Readers.{IsReader, both, made_again, choice, one_of_takes}
+use Rattle.codec.proofs.Lists.{numbers_read}
 use Rattle.codec.proofs.Fields.{length-number, numbers_length, number_reads, optional_reads, key_reads, op_reads, op_length}
-
-numbers_read : IsReader (ℕ × ℕ) (λ p. number p.0 ++ number p.1) (λ p. IsNumber p.0 × IsNumber p.1) (pair number_at number_at)
-numbers_read = both number_reads number_reads
 
 perform_reads : IsReader (ℕ × (ℕ × Op)) (λ p. number p.0 ++ (number p.1.0 ++ op_bytes p.1.1)) (λ p. IsNumber p.0 × (IsNumber p.1.0 × IsOp p.1.1)) (pair number_at (pair number_at op_at))
 perform_reads = both number_reads (both number_reads op_reads)

@@ -1,9 +1,17 @@
 -- The one spelling of each record of the data component's log, and which records have one.
-use Rattle.std.specs.Prelude.{◌≡◌, ℕ, List, ◌∷◌, ◌++◌}
+use Rattle.std.specs.Prelude.{◌≡◌, ℕ, ◌<◌, ◌^◌, List, ◌∷◌, ◌++◌, length}
 use Rattle.codec.specs.declared.dc_record.DcRecord.{DcRecord}
 use Rattle.codec.specs.declared.dc_record.DcRecord.TheVariants as is
 use Rattle.codec.specs.Fields.{number, IsNumber, text, IsKey}
-use Rattle.codec.specs.Images.{image_bytes, IsOrderedImage, IsImage}
+use Rattle.codec.specs.declared.dc_record.DcRecordRef.{DcRecordRef}
+use Rattle.codec.specs.declared.dc_record.DcRecordRef.TheVariants as parts
+use Rattle.codec.specs.Images.{image_in, image_bytes, IsOrderedImage, IsImage}
+
+-- the record of borrowed parts
+abbrev pub record_in : DcRecordRef → DcRecord
+record_in (parts.Accept session) = is.Accept session
+record_in (parts.Split left cut right) = is.Split left cut.now (image_in right)
+record_in (parts.Merge left right merged) = is.Merge left right (image_in merged)
 
 -- the kind, and the fields in order
 unfoldable pub dc_record_bytes : DcRecord → List ℕ
@@ -22,3 +30,7 @@ abbrev pub IsDcRecord : DcRecord → Type 0
 IsDcRecord (is.Accept session) = IsNumber session
 IsDcRecord (is.Split left cut right) = IsNumber left × (IsKey cut × IsImage right)
 IsDcRecord (is.Merge left right merged) = (IsNumber left × (IsNumber right × IsImage merged)) × (merged.id ≡ left)
+
+-- it has a spelling, and a frame has room for it
+abbrev pub FitsFrame : DcRecord → Type 0
+FitsFrame r = IsDcRecord r × (length (dc_record_bytes r) < 2 ^ 64)

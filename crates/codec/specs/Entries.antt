@@ -1,13 +1,8 @@
--- Entries: what a leaf keeps of operations that are done, and the order of their numbers.
-use Rattle.std.specs.Prelude.{ℕ, ◌<◌, ◌^◌, Bool, true, false, List, [], ◌∷◌, ◌++◌, length, nat_lt, if◌then◌else◌}
+-- Entries, and their one spelling.
+use Rattle.std.specs.Prelude.{ℕ, ◌<◌, ◌^◌, List, ◌++◌, length}
 use Rattle.std.specs.List.{AllByRecursion}
-use Rattle.codec.specs.declared.entries.Entry.{Entry}
+use Rattle.record_key.specs.declared.entry.Entry.{Entry}
 use Rattle.codec.specs.Fields.{number, IsNumber, text, IsKey, answer_bytes, IsAnswer, counted}
-
--- each number is above the one before it, the first above low
-abbrev pub numbers_rise : ℕ → List Entry → Bool
-numbers_rise low [] = true
-numbers_rise low (entry ∷ entries) = if nat_lt low entry.number then numbers_rise entry.number entries else false
 
 -- a number, a key and an answer
 abbrev pub entry_bytes : Entry → List ℕ

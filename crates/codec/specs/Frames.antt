@@ -1,5 +1,5 @@
 -- Frames: a length and that many bytes, and what is read of them.
-use Rattle.std.specs.Prelude.{◌≡◌, ◌⊎◌, ℕ, ◌+◌, ◌-◌, ◌^◌, ◌<◌, ◌≤◌, List, ◌++◌, length, drop}
+use Rattle.std.specs.Prelude.{◌≡◌, ◌⊎◌, ℕ, ◌+◌, ◌-◌, ◌^◌, ◌<◌, ◌≤◌, List, [], ◌∷◌, ◌++◌, length, take, drop}
 use Rattle.codec.specs.Fields.{number, first_number}
 use Rattle.codec.specs.declared.taken.Taken.{Taken}
 use Rattle.codec.specs.declared.taken.Taken.TheVariants.{Record, Short, Bad}
@@ -14,7 +14,30 @@ any_length = 2 ^ 64 - 1
 
 -- the bytes end within a frame whose length, if it is there, is from 1 to the limit
 abbrev pub IsCut : ℕ → List ℕ → Type 0
-IsCut limit bytes = (length bytes < 8) ⊎ ((0 < first_number bytes) × (first_number bytes ≤ limit) × (8 ≤ length bytes) × (length bytes < 8 + first_number bytes))
+IsCut limit bytes =
+    (length bytes < 8)
+    ⊎ ((0 < first_number bytes) × (first_number bytes ≤ limit) × (8 ≤ length bytes) × (length bytes < 8 + first_number bytes))
+
+-- the bytes begin with a whole frame, whose length is from 1 to the limit
+pub record IsWholeFrame (limit : ℕ) (left : List ℕ) : Type 0 where
+  pub header : 8 ≤ length left
+  pub some : 0 < first_number left
+  pub allowed : first_number left ≤ limit
+  pub there : 8 + first_number left ≤ length left
+
+-- a length stands there that no frame has
+abbrev pub IsNoLength : ℕ → List ℕ → Type 0
+IsNoLength limit left = (8 ≤ length left) × ((first_number left ≡ 0) ⊎ (limit < first_number left))
+
+-- a body begins with this kind
+abbrev pub HasKind : ℕ → List ℕ → Type 0
+HasKind kind [] = ⊥
+HasKind kind (b ∷ body) = b ≡ kind
+
+-- the bytes begin with a whole frame, of whose body this holds
+pub record IsFrameOf (limit : ℕ) (Holds : List ℕ → Type 0) (left : List ℕ) : Type 0 where
+  pub whole : IsWholeFrame limit left
+  pub body : Holds (take (first_number left) (drop 8 left))
 
 -- what holds of a value that was taken, and of the place after it
 abbrev pub IfTaken : {X : Type 0} → Taken X → (X → ℕ → Type 0) → Type 0

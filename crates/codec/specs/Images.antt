@@ -1,44 +1,32 @@
 -- The one spelling of a leaf's image, and which images have one.
-use Rattle.std.specs.Prelude.{◌≡◌, ℕ, Bool, true, false, List, [], ◌∷◌, ◌++◌, Option, Some, None, IfSome, if◌then◌else◌}
+use Rattle.std.specs.Prelude.{ℕ, List, ◌++◌, IfSome}
 use Rattle.std.specs.List.{AllByRecursion}
-use Rattle.record_key.specs.Table.{Bytes}
-use Rattle.record_key.specs.Rows.{Row}
-use Rattle.codec.specs.declared.entries.Entry.{Entry}
+use Rattle.std.specs.Option.{option_copied}
+use Rattle.record_key.specs.Rows.{AreInOrder, LieBetween}
+use Rattle.record_key.specs.Entries.{RiseAbove, StandBetween}
 use Rattle.codec.specs.declared.image.LeafImage.{LeafImage}
+use Rattle.codec.specs.declared.image.LeafImageRef.{LeafImageRef}
 use Rattle.codec.specs.Fields.{number, IsNumber, text, IsKey, optional}
-use Rattle.codec.specs.Rows.{is_below, rows_bytes, rises, AreRows}
-use Rattle.codec.specs.Entries.{entries_bytes, numbers_rise, HasEntryNumber, AreEntries}
+use Rattle.codec.specs.Rows.{rows_bytes, AreRows}
+use Rattle.codec.specs.Entries.{entries_bytes, HasEntryNumber, AreEntries}
 
--- the low fence belongs to the leaf
-abbrev pub is_from : Option Bytes → Bytes → Bool
-is_from None key = true
-is_from (Some low) key = if is_below key low then false else true
-
--- the high fence doesn't
-abbrev pub is_before : Option Bytes → Bytes → Bool
-is_before None key = true
-is_before (Some high) key = is_below key high
-
-abbrev pub is_within : Option Bytes → Option Bytes → Bytes → Bool
-is_within low high key = if is_from low key then is_before high key else false
-
--- each of them passes the test
-abbrev pub each_passes : {X : Type 0} → (X → Bool) → List X → Bool
-each_passes test [] = true
-each_passes test (x ∷ xs) = if test x then each_passes test xs else false
-
-abbrev pub rows_within : Option Bytes → Option Bytes → List Row → Bool
-rows_within low high rows = each_passes (λ row. is_within low high row.0) rows
-
-abbrev pub entries_within : Option Bytes → Option Bytes → List Entry → Bool
-entries_within low high entries = each_passes (λ entry. is_within low high entry.key) entries
+-- the image of borrowed parts
+abbrev pub image_in : LeafImageRef → LeafImage
+image_in parts = record {
+  id = parts.id;
+  last = parts.last;
+  low = parts.low;
+  low_fence = option_copied parts.low_fence;
+  high_fence = option_copied parts.high_fence;
+  rows = parts.rows.now;
+  entries = parts.entries.now;
+}
 
 -- the keys lie in the fences, and the entries' numbers rise above low
-abbrev pub keeps_bounds : LeafImage → Bool
-keeps_bounds image =
-    if rows_within image.low_fence image.high_fence image.rows
-    then (if entries_within image.low_fence image.high_fence image.entries then numbers_rise image.low image.entries else false)
-    else false
+pub record KeepsBounds (image : LeafImage) : Type 0 where
+  pub rows : LieBetween image.low_fence image.high_fence image.rows
+  pub entries : StandBetween image.low_fence image.high_fence image.entries
+  pub rising : RiseAbove image.low image.entries
 
 -- three numbers, two fences, the records and the entries
 unfoldable pub image_bytes : LeafImage → List ℕ
@@ -51,9 +39,9 @@ pub record IsOrderedImage (image : LeafImage) : Type 0 where
   pub id : IsNumber image.id
   pub last : IsNumber image.last
   pub low : IsNumber image.low
-  pub rows : rises image.rows ≡ true
+  pub rows : AreInOrder image.rows
   pub numbers : AllByRecursion HasEntryNumber image.entries
-  pub bounds : keeps_bounds image ≡ true
+  pub bounds : KeepsBounds image
 
 -- what has a spelling
 pub record IsImage (image : LeafImage) : Type 0 where
@@ -64,4 +52,4 @@ pub record IsImage (image : LeafImage) : Type 0 where
   pub high_fence : IfSome image.high_fence IsKey
   pub rows : AreRows image.rows
   pub entries : AreEntries image.entries
-  pub bounds : keeps_bounds image ≡ true
+  pub bounds : KeepsBounds image

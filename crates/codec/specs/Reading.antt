@@ -1,5 +1,6 @@
 -- Reading from left to right: a value and the bytes after it, or nothing.
-use Rattle.std.specs.Prelude.{◌≡◌, ℕ, zero, suc, ◌+◌, ◌^◌, List, [], ◌∷◌, length, take, drop, Option, Some, None, Result, Ok, Err, Bool, true, false, nat_lt, ◌==◌, if◌then◌else◌}
+use Rattle.std.specs.Prelude.{◌≡◌, ℕ, zero, suc, ◌+◌, ◌^◌, List, [], ◌∷◌, length, take, drop, Option, Some, None, IsSome, Result, Ok, Err, Bool, true, false, ◌&&◌, nat_lt, ◌==◌, if◌then◌else◌}
+use Rattle.std.specs.List.{list_all}
 use Rattle.record_key.specs.Table.{Bytes}
 use Rattle.record_key.specs.declared.op.Op.{Op}
 use Rattle.record_key.specs.declared.op.Op.TheVariants.{Insert, Update, Upsert, Delete}
@@ -11,16 +12,15 @@ use Rattle.codec.specs.declared.request.Request.{Request}
 use Rattle.codec.specs.declared.request.Request.TheVariants as asks
 use Rattle.codec.specs.declared.taken.Taken.{Taken}
 use Rattle.codec.specs.declared.taken.Taken.TheVariants as took
-use Rattle.record_key.specs.Rows.{Row}
+use Rattle.record_key.specs.Rows.{Row, rises}
+use Rattle.record_key.specs.Order.{is_between}
 use Rattle.codec.specs.declared.reply.Reply.{Reply}
 use Rattle.codec.specs.declared.reply.Reply.TheVariants as says
 use Rattle.codec.specs.declared.fault.Fault.{Fault}
 use Rattle.codec.specs.declared.fault.Fault.TheVariants as faults
 use Rattle.codec.specs.Fields.{first_number}
-use Rattle.codec.specs.Rows.{rises}
-use Rattle.codec.specs.declared.entries.Entry.{Entry}
+use Rattle.record_key.specs.declared.entry.Entry.{Entry}
 use Rattle.codec.specs.declared.image.LeafImage.{LeafImage}
-use Rattle.codec.specs.Images.{keeps_bounds}
 use Rattle.codec.specs.declared.dc_record.DcRecord.{DcRecord}
 use Rattle.codec.specs.declared.dc_record.DcRecord.TheVariants as notes
 
@@ -39,6 +39,12 @@ abbrev pub Finds : {X Y : Type 0} → (X → Y) → Result X Fault → Option Y 
 Finds view (Ok x) read = read ≡ Some (view x)
 Finds view (Err faults.Memory) read = Unit {0}
 Finds view (Err faults.Outside) read = read ≡ None
+
+-- memory was refused, and this holds then
+abbrev pub IfRefused : {X : Type 0} → Result X Fault → Type 0 → Type 0
+IfRefused (Ok x) P = Unit {0}
+IfRefused (Err faults.Memory) P = P
+IfRefused (Err faults.Outside) P = Unit {0}
 
 abbrev pub Reader : Type 0 → Type 0
 Reader X = List ℕ → Option (X × List ℕ)
@@ -186,6 +192,10 @@ image_numbers_at = pair number_at (pair number_at number_at)
 abbrev pub fences_at : Reader (Option Bytes × Option Bytes)
 fences_at = pair (optional_at key_at) (optional_at key_at)
 
+-- the bytes begin with the numbers and the fences of an image
+abbrev pub BeginsAsImage : List ℕ → Type 0
+BeginsAsImage bytes = IsSome (pair image_numbers_at fences_at bytes)
+
 abbrev pub ImageParts : Type 0
 ImageParts = (ℕ × (ℕ × ℕ)) × ((Option Bytes × Option Bytes) × (List Row × List Entry))
 
@@ -194,6 +204,23 @@ image_parts_at = pair image_numbers_at (pair fences_at (pair rows_at entries_at)
 
 abbrev pub image_of : ImageParts → LeafImage
 image_of p = record { id = p.0.0; last = p.0.1.0; low = p.0.1.1; low_fence = p.1.0.0; high_fence = p.1.0.1; rows = p.1.1.0; entries = p.1.1.1 }
+
+-- whether each entry's number is above the one before it, the first above low
+abbrev pub numbers_rise : ℕ → List Entry → Bool
+numbers_rise low [] = true
+numbers_rise low (entry ∷ entries) = if nat_lt low entry.number then numbers_rise entry.number entries else false
+
+abbrev pub rows_lie : Option Bytes → Option Bytes → List Row → Bool
+rows_lie low high rows = list_all (λ (row : Row). is_between low high row.0) rows
+
+abbrev pub entries_stand : Option Bytes → Option Bytes → List Entry → Bool
+entries_stand low high entries = list_all (λ (entry : Entry). is_between low high entry.key) entries
+
+-- whether the keys lie in the fences, and the entries' numbers rise above low
+abbrev pub keeps_bounds : LeafImage → Bool
+keeps_bounds image =
+    rows_lie image.low_fence image.high_fence image.rows
+    && (entries_stand image.low_fence image.high_fence image.entries && numbers_rise image.low image.entries)
 
 unfoldable pub image_at : Reader LeafImage
 image_at = where_ keeps_bounds (mapped image_of image_parts_at)

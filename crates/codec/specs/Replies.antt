@@ -1,9 +1,10 @@
 -- The one spelling of each reply of the data component, and which replies have one.
-use Rattle.std.specs.Prelude.{◌≡◌, ℕ, true, List, ◌∷◌, ◌++◌, IfSome}
+use Rattle.std.specs.Prelude.{ℕ, List, ◌∷◌, ◌++◌, IfSome}
 use Rattle.codec.specs.declared.reply.Reply.{Reply}
 use Rattle.codec.specs.declared.reply.Reply.TheVariants as is
 use Rattle.codec.specs.Fields.{number, IsNumber, text, IsValue, optional, answer_bytes, IsAnswer}
-use Rattle.codec.specs.Rows.{rows_bytes, rises, AreRows}
+use Rattle.record_key.specs.Rows.{AreInOrder}
+use Rattle.codec.specs.Rows.{rows_bytes, AreRows}
 
 -- the kind, and the fields in order
 unfoldable pub reply_bytes : Reply → List ℕ
@@ -19,7 +20,7 @@ abbrev pub IsOrdered : Reply → Type 0
 IsOrdered (is.Connected session) = IsNumber session
 IsOrdered (is.Answered session n a) = IsNumber session × IsNumber n
 IsOrdered (is.Row session read value) = IsNumber session × IsNumber read
-IsOrdered (is.Rows session read rows) = IsNumber session × IsNumber read × (rises rows ≡ true)
+IsOrdered (is.Rows session read rows) = IsNumber session × IsNumber read × (AreInOrder rows)
 IsOrdered (is.Checkpointed session low) = IsNumber session × IsNumber low
 IsOrdered (is.RedoEnded session) = IsNumber session
 

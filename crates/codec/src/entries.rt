@@ -1,26 +1,18 @@
 //! Entries: what a leaf keeps of operations that are done.
 ghost use Rattle.std.specs.Prelude.{◌≡◌, ◌≤◌, ◌<◌, ◌^◌, length, drop, IfSome, OnSome, IfNone};
 ghost use Rattle.std.specs.List.{flat_map, AllByRecursion};
-ghost use Rattle.codec.specs.Entries.{entry_bytes, entries_bytes, numbers_rise, HasEntryNumber, IsEntry};
+ghost use Rattle.codec.specs.Entries.{entry_bytes, entries_bytes, HasEntryNumber, IsEntry};
 ghost use Rattle.codec.specs.Writing.{HasRoom, Puts};
-ghost use Rattle.codec.specs.Reading.{Gives, Finds, counted_at, items_at, entry_at, entries_at};
+ghost use Rattle.codec.specs.Reading.{Gives, Finds, numbers_rise, counted_at, items_at, entry_at, entries_at};
 
 use crate::fault::Fault;
 use crate::frame::HEADER_LEN;
 use crate::lengths::{answer_len, key_len};
 use crate::reading::{take_answer, take_count, take_key, take_number};
 use crate::writing::{put_answer, put_number, put_text};
-use record_key::{Answer, Key};
+use record_key::Entry;
 use std::alloc::Global;
 use std::marker::Model;
-
-/// An operation that is done: its number, the key that it was on, and what it was answered.
-#[derive(Debug, Clone, PartialEq, Eq, Drop)]
-pub struct Entry {
-    pub number: u64,
-    pub key: Key,
-    pub answer: Answer,
-}
 
 /// Entries, as a leaf's image lists them.
 #[derive(Debug, Drop)]
@@ -30,7 +22,7 @@ pub struct Entries {
 
 impl Model for Entries {
     ghost use Rattle.std.specs.Prelude.{List};
-    ghost use Rattle.codec.specs.declared.entries.Entry.{Entry};
+    ghost use Rattle.record_key.specs.declared.entry.Entry.{Entry};
 
     ghost Value = { List Entry };
 
@@ -156,25 +148,25 @@ fn put_each(out: &mut Vec<u8>, entries: &[Entry])
 
 /// How many bytes the entries take, with their count. None where that is 2 to the power of 64 or more.
 #[tactic(auto, unfolding(crate::specs::Entries::entries_bytes), using(crate::proofs::Numbered::number_lengths))]
-pub(crate) fn entries_len(entries: &Entries) -> Option<usize>
+pub(crate) fn entries_len(entries: &[Entry]) -> Option<usize>
     requires { AllByRecursion HasEntryNumber entries.now }
     ensures some { IfSome result (λ len. len ≡ length (entries_bytes entries.now)) }
     ensures few { length entries.now < 2 ^ 64 }
     ensures spelled { OnSome result (AllByRecursion IsEntry entries.now) }
     ensures none { IfNone result (2 ^ 64 ≤ length (entries_bytes entries.now)) }
 {
-    let _count = entries.as_slice().len();
-    let Some(len) = each_len(entries.as_slice()) else {
+    let _count = entries.len();
+    let Some(len) = each_len(entries) else {
         return None;
     };
     len.checked_add(HEADER_LEN)
 }
 
 #[tactic(auto, unfolding(crate::specs::Entries::entries_bytes), using(crate::proofs::Numbered::number_lengths))]
-pub(crate) fn put_entries(out: &mut Vec<u8>, entries: &Entries)
+pub(crate) fn put_entries(out: &mut Vec<u8>, entries: &[Entry])
     requires { HasRoom out.old (entries_bytes entries.now) }
     ensures { Puts out.old out.new (entries_bytes entries.now) }
 {
-    put_number(out, entries.as_slice().len() as u64);
-    put_each(out, entries.as_slice());
+    put_number(out, entries.len() as u64);
+    put_each(out, entries);
 }

@@ -1,7 +1,7 @@
 //! How many bytes each part of a frame takes. A value of its type has a spelling, by the lengths that the type keeps.
-ghost use Rattle.std.specs.Prelude.{◌≡◌, ◌≤◌, ◌++◌, length};
+ghost use Rattle.std.specs.Prelude.{◌≡◌, ◌≤◌, ◌++◌, length, IfSome};
+ghost use Rattle.std.specs.Option.{option_copied};
 ghost use Rattle.codec.specs.Fields.{text, IsKey, IsValue, optional, op_bytes, IsOp, answer_bytes, IsAnswer};
-ghost use Rattle.std.specs.Prelude.{IfSome};
 
 use record_key::{Answer, Key, Op, Value};
 
@@ -32,11 +32,11 @@ pub(crate) fn row_len(key: &Key, value: &Value) -> usize
 }
 
 /// A key, then a key or none.
-pub(crate) fn range_len(low: &Key, high: &Option<Key>) -> usize
-    ensures len { result ≡ length (text low.now ++ optional text high.now) }
+pub(crate) fn range_len(low: &Key, high: Option<&Key>) -> usize
+    ensures len { result ≡ length (text low.now ++ optional text (option_copied high.entry)) }
     ensures bounded { result ≤ 67 }
     ensures low { IsKey low.now }
-    ensures high { IfSome high.now IsKey }
+    ensures high { IfSome (option_copied high.entry) IsKey }
 {
     key_len(low) + optional_key_len(high)
 }
@@ -55,10 +55,10 @@ pub(crate) fn op_len(op: &Op) -> usize
     }
 }
 
-pub(crate) fn optional_key_len(key: &Option<Key>) -> usize
-    ensures len { result ≡ length (optional text key.now) }
+pub(crate) fn optional_key_len(key: Option<&Key>) -> usize
+    ensures len { result ≡ length (optional text (option_copied key.entry)) }
     ensures bounded { result ≤ 34 }
-    ensures spelled { IfSome key.now IsKey }
+    ensures spelled { IfSome (option_copied key.entry) IsKey }
 {
     match key {
         None => 1,

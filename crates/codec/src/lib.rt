@@ -11,6 +11,7 @@ mod dc_record;
 mod entries;
 mod fault;
 mod frame;
+mod framed;
 mod image;
 mod lengths;
 mod reading;
@@ -21,9 +22,13 @@ mod rows;
 mod taken;
 mod writing;
 
-pub use dc_record::{DcRecord, dc_record_spelling_law, put_dc_record, take_dc_record};
-pub use entries::{Entries, Entry};
-pub use image::{LeafImage, leaf_image_spelling_law, put_leaf_image, take_leaf_image};
+pub use dc_record::{DcRecord, DcRecordRef, dc_record_spelling_law, put_dc_record, take_dc_record};
+pub use entries::Entries;
+pub use frame::{FrameEnd, frame_end};
+pub use image::{
+    LeafImage, LeafImageRef, leaf_image_len, leaf_image_spelling_law, put_leaf_image,
+    take_leaf_image,
+};
 pub use record::{put_record, record_spelling_law, take_record};
 pub use reply::{Reply, put_reply, reply_spelling_law, take_reply};
 pub use request::{Request, put_request, request_spelling_law, take_request};

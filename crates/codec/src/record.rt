@@ -3,16 +3,19 @@ ghost use Rattle.std.specs.Prelude.{◌≡◌, ◌↔◌, ◌+◌, ◌<◌, ◌�
 ghost use Rattle.history.specs.declared.record.Record.{Record};
 ghost use Rattle.codec.specs.Records.{record_bytes, HasNumbers, IsRecord};
 ghost use Rattle.codec.specs.Frames.{frame, IfTaken, IfBad, IsThere, IsCut};
+ghost use Rattle.std.specs.List.{flat_map, AllByRecursion};
 ghost use Rattle.codec.specs.Writing.{HasRoom, Puts};
-ghost use Rattle.codec.specs.Reading.{Gives, record_at, all_of, frame_at, within};
+ghost use Rattle.codec.specs.Reading.{Gives, pair, mapped, optional_at, number_at, op_at, record_at};
 
-use crate::frame::{HEADER_LEN, take_body};
+use crate::frame::{HEADER_LEN, take_framed};
+use crate::framed::Framed;
 use crate::lengths::{answer_len, op_len, optional_op_len};
 use crate::reading::{take_answer, take_number, take_op, take_optional_op};
 use crate::taken::Taken;
 use crate::writing::{put_answer, put_byte, put_number, put_op, put_optional_op};
 use history::Record;
 use record_key::Refusal;
+use std::convert::Infallible;
 
 /// Appends the record's frame, its one spelling. Where memory for it is refused nothing is appended.
 #[tactic(auto, using(crate::proofs::Numbered::number_lengths))]
@@ -36,16 +39,22 @@ pub fn take_record(bytes: &[u8], at: usize) -> Taken<Record>
     // What is taken stands there.
     ensures found { IfTaken result (IsThere Record record_bytes IsRecord at (drop at bytes.now)) }
     // What stands there is taken, whatever follows.
-    ensures only { (r : Record) (rest : List ℕ) → IsRecord r → drop at bytes.now ≡ frame (record_bytes r) ++ rest → result ≡ Taken.Record r (at + length (frame (record_bytes r))) }
+    ensures only { (r : Record) (rest : List ℕ) → IsRecord r → drop at bytes.now ≡ frame (record_bytes r) ++ rest
+        → result ≡ Taken.Record r (at + length (frame (record_bytes r))) }
     ensures short { (result ≡ Taken.Short) ↔ IsCut 181 (drop at bytes.now) }
     ensures bad { IfBad result (λ place. place ≡ at) }
 {
-    take_exact(bytes, at)
+    let Ok(taken) = take_framed((), bytes, at, RECORD_LIMIT);
+    taken
 }
 
 /// No record's frame begins another's, so what was written is read back, whatever follows it.
 pub fn record_spelling_law()
-    ensures { (a b : Record) (x y : List ℕ) → IsRecord a → IsRecord b → frame (record_bytes a) ++ x ≡ frame (record_bytes b) ++ y → (a ≡ b) × (x ≡ y) }
+    ensures one { (a b : Record) (x y : List ℕ) → IsRecord a → IsRecord b
+        → frame (record_bytes a) ++ x ≡ frame (record_bytes b) ++ y → (a ≡ b) × (x ≡ y) }
+    // A log's bytes are those of one list of records.
+    ensures all { (rs qs : List Record) → AllByRecursion IsRecord rs → AllByRecursion IsRecord qs
+        → flat_map (λ r. frame (record_bytes r)) rs ≡ flat_map (λ r. frame (record_bytes r)) qs → rs ≡ qs }
 {}
 
 #[tactic(auto, unfolding(crate::specs::Records::record_bytes), using(crate::proofs::Numbered::number_lengths))]
@@ -113,6 +122,23 @@ fn put_body(out: &mut Vec<u8>, record: &Record)
 /// The longest body of a record, in bytes: a Comp whose inverse has a key and a value of the greatest lengths.
 const RECORD_LIMIT: u64 = 181;
 
+fn take_comp(bytes: &[u8]) -> Option<(Record, &[u8])>
+    ensures { Gives (λ x. (x.0, x.1.now)) result (mapped (λ p. Record.Comp p.0 p.1.0 p.1.1.0 p.1.1.1)
+        (pair number_at (pair number_at (pair number_at (optional_at op_at)))) bytes.now) }
+{
+    let (txn, rest) = take_number(bytes)?;
+    let (undoes, rest) = take_number(rest)?;
+    let (next, rest) = take_number(rest)?;
+    let (inverse, rest) = take_optional_op(rest)?;
+    let comp = Record::Comp {
+        txn,
+        undoes,
+        next,
+        inverse,
+    };
+    Some((comp, rest))
+}
+
 #[tactic(auto, unfolding(crate::specs::Reading::record_at))]
 fn take_fields(bytes: &[u8]) -> Option<(Record, &[u8])>
     ensures { Gives (λ x. (x.0, x.1.now)) result (record_at bytes.now) }
@@ -132,21 +158,7 @@ fn take_fields(bytes: &[u8]) -> Option<(Record, &[u8])>
             let (answer, rest) = take_answer(rest)?;
             Some((Record::Answer { of, answer }, rest))
         }
-        5 => {
-            let (txn, rest) = take_number(rest)?;
-            let (undoes, rest) = take_number(rest)?;
-            let (next, rest) = take_number(rest)?;
-            let (inverse, rest) = take_optional_op(rest)?;
-            Some((
-                Record::Comp {
-                    txn,
-                    undoes,
-                    next,
-                    inverse,
-                },
-                rest,
-            ))
-        }
+        5 => take_comp(rest),
         6 => {
             let (txn, rest) = take_number(rest)?;
             Some((Record::Commit { txn }, rest))
@@ -163,23 +175,21 @@ fn take_fields(bytes: &[u8]) -> Option<(Record, &[u8])>
     }
 }
 
-/// The record that all of a body spells.
-fn take_all(body: &[u8]) -> Option<Record>
-    ensures { result ≡ all_of record_at body.now }
-{
-    let (record, rest) = take_fields(body)?;
-    if rest.is_empty() { Some(record) } else { None }
-}
+impl Framed for Record {
+    ghost use Rattle.codec.specs.Reading.{record_at};
 
-fn take_exact(bytes: &[u8], at: usize) -> Taken<Record>
-    ensures { result ≡ within at record_at (frame_at 181 at (drop at bytes.now)) }
-{
-    match take_body(bytes, at, RECORD_LIMIT) {
-        Taken::Record(body, next) => match take_all(body) {
-            Some(record) => Taken::Record(record, next),
-            None => Taken::Bad(at as u64),
-        },
-        Taken::Short => Taken::Short,
-        Taken::Bad(place) => Taken::Bad(place),
+    ghost read_at = { record_at };
+
+    ghost takes_memory = { λ _. ⊥ };
+
+    type Memory = ();
+
+    type Refused = Infallible;
+
+    fn take_all(_memory: (), body: &[u8]) -> Result<Option<Record>, Infallible> {
+        match take_fields(body) {
+            Some((record, rest)) if rest.is_empty() => Ok(Some(record)),
+            _ => Ok(None),
+        }
     }
 }

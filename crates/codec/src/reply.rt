@@ -2,19 +2,21 @@
 ghost use Rattle.std.specs.Prelude.{◌≡◌, ◌≢◌, ◌↔◌, ◌+◌, ◌<◌, ◌≤◌, ◌^◌, ◌++◌, ℕ, List, length, drop, vec_len, vec_capacity, slice_index, OnOk, OnErr, IfOk, IfErr, IsErrOf, IfSome, IfNone, OnSome};
 ghost use Rattle.codec.specs.declared.reply.Reply.{Reply};
 ghost use Rattle.codec.specs.Replies.{reply_bytes, IsOrdered, IsReply};
-ghost use Rattle.codec.specs.Frames.{frame, any_length, IfTaken, IfBad, IsThere, IsCut};
+ghost use Rattle.codec.specs.Frames.{frame, any_length, IfTaken, IfBad, IsThere, IsCut, IsFrameOf, HasKind};
 ghost use Rattle.codec.specs.Writing.{HasRoom, Puts};
-ghost use Rattle.codec.specs.Reading.{Gives, Finds, pair, number_at, choose, reply_choices, reply_at, all_of, frame_at, within};
+ghost use Rattle.codec.specs.Reading.{Gives, Finds, IfRefused, pair, mapped, optional_at, number_at, answer_at};
+ghost use Rattle.codec.specs.Reading.{choose, reply_choices, reply_at};
 
 use crate::fault::Fault;
-use crate::frame::{HEADER_LEN, take_body};
+use crate::frame::{HEADER_LEN, take_framed};
+use crate::framed::Framed;
 use crate::lengths::{optional_answer_len, optional_value_len};
 use crate::reading::{take_number, take_optional_answer, take_optional_value};
 use crate::rows::{Rows, put_rows, rows_len, take_rows};
 use crate::taken::Taken;
 use crate::writing::{put_byte, put_number, put_optional_answer, put_optional_value};
 use record_key::{Answer, Refusal, Value};
-use std::alloc::Global;
+use std::alloc::{AllocError, Global};
 
 /// A reply to a request of the same session.
 #[derive(Debug, Drop)]
@@ -76,12 +78,17 @@ pub fn take_reply(alloc: Global, bytes: &[u8], at: usize) -> Result<Taken<Reply>
     // What is taken stands there.
     ensures found { IfOk result (λ taken. IfTaken taken (IsThere Reply reply_bytes IsReply at (drop at bytes.now))) }
     // What stands there is taken, whatever follows.
-    ensures only { IfOk result (λ taken. (r : Reply) (rest : List ℕ) → IsReply r → drop at bytes.now ≡ frame (reply_bytes r) ++ rest → taken ≡ Taken.Record r (at + length (frame (reply_bytes r)))) }
+    ensures only { IfOk result (λ taken. (r : Reply) (rest : List ℕ) → IsReply r
+        → drop at bytes.now ≡ frame (reply_bytes r) ++ rest
+        → taken ≡ Taken.Record r (at + length (frame (reply_bytes r)))) }
     ensures short { IfOk result (λ taken. (taken ≡ Taken.Short) ↔ IsCut any_length (drop at bytes.now)) }
     ensures bad { IfOk result (λ taken. IfBad taken (λ place. place ≡ at)) }
     ensures cause { IfErr result (λ refusal. refusal ≡ Refusal.NoMemory) }
+    // Memory is refused only for a whole frame of the kind that has rows.
+    ensures memory { IfErr result (λ _. IsFrameOf any_length (HasKind 20) (drop at bytes.now)) }
 {
-    take_exact(alloc, bytes, at)
+    let taken = take_framed(alloc, bytes, at, u64::MAX)?;
+    Ok(taken)
 }
 
 /// How many bytes the reply's frame takes. None where that is 2 to the power of 64 or more.
@@ -97,7 +104,7 @@ fn frame_len(reply: &Reply) -> Option<usize>
         Reply::Answered { answer, .. } => Some(25 + optional_answer_len(answer)),
         Reply::Row { value, .. } => Some(25 + optional_value_len(value)),
         Reply::Rows { rows, .. } => {
-            let Some(len) = rows_len(rows) else {
+            let Some(len) = rows_len(rows.as_slice()) else {
                 return None;
             };
             len.checked_add(25)
@@ -144,7 +151,7 @@ fn put_body(out: &mut Vec<u8>, reply: &Reply)
             put_byte(out, ROWS);
             put_number(out, *session);
             put_number(out, *read);
-            put_rows(out, rows);
+            put_rows(out, rows.as_slice());
         }
         Reply::Checkpointed { session, low } => {
             put_byte(out, 0x15);
@@ -161,6 +168,21 @@ fn put_body(out: &mut Vec<u8>, reply: &Reply)
 /// The kind of a reply that has rows.
 const ROWS: u8 = 0x14;
 
+fn take_answered(bytes: &[u8]) -> Option<(Reply, &[u8])>
+    ensures { Gives (λ x. (x.0, x.1.now)) result (mapped (λ p. Reply.Answered p.0 p.1.0 p.1.1)
+        (pair number_at (pair number_at (optional_at answer_at))) bytes.now) }
+{
+    let (session, rest) = take_number(bytes)?;
+    let (number, rest) = take_number(rest)?;
+    let (answer, rest) = take_optional_answer(rest)?;
+    let answered = Reply::Answered {
+        session,
+        number,
+        answer,
+    };
+    Some((answered, rest))
+}
+
 /// The fields of a kind that takes no memory.
 fn take_plain(kind: u8, bytes: &[u8]) -> Option<(Reply, &[u8])>
     requires { kind ≢ 20 }
@@ -171,19 +193,7 @@ fn take_plain(kind: u8, bytes: &[u8]) -> Option<(Reply, &[u8])>
             let (session, rest) = take_number(bytes)?;
             Some((Reply::Connected { session }, rest))
         }
-        0x12 => {
-            let (session, rest) = take_number(bytes)?;
-            let (number, rest) = take_number(rest)?;
-            let (answer, rest) = take_optional_answer(rest)?;
-            Some((
-                Reply::Answered {
-                    session,
-                    number,
-                    answer,
-                },
-                rest,
-            ))
-        }
+        0x12 => take_answered(bytes),
         0x13 => {
             let (session, rest) = take_number(bytes)?;
             let (read, rest) = take_number(rest)?;
@@ -221,13 +231,15 @@ fn take_read(bytes: &[u8]) -> Option<((u64, u64), &[u8])>
 
 /// No reply's frame begins another's, so what was written is read back, whatever follows it.
 pub fn reply_spelling_law()
-    ensures { (a b : Reply) (x y : List ℕ) → IsReply a → IsReply b → length (reply_bytes a) < 2 ^ 64 → length (reply_bytes b) < 2 ^ 64
+    ensures { (a b : Reply) (x y : List ℕ) → IsReply a → IsReply b
+        → length (reply_bytes a) < 2 ^ 64 → length (reply_bytes b) < 2 ^ 64
         → frame (reply_bytes a) ++ x ≡ frame (reply_bytes b) ++ y → (a ≡ b) × (x ≡ y) }
 {}
 
 #[tactic(auto, unfolding(crate::specs::Reading::reply_at))]
 fn take_fields(alloc: Global, bytes: &[u8]) -> Result<(Reply, &[u8]), Fault>
-    ensures { Finds (λ x. (x.0, x.1.now)) result (reply_at bytes.now) }
+    ensures found { Finds (λ x. (x.0, x.1.now)) result (reply_at bytes.now) }
+    ensures memory { IfRefused result (HasKind 20 bytes.now) }
 {
     let Some((kind, rest)) = bytes.split_first() else {
         return Err(Fault::Outside);
@@ -252,35 +264,24 @@ fn take_fields(alloc: Global, bytes: &[u8]) -> Result<(Reply, &[u8]), Fault>
     ))
 }
 
-/// The reply that all of a body spells.
-fn take_all(alloc: Global, body: &[u8]) -> Result<Option<Reply>, Refusal>
-    ensures value { IfOk result (λ reply. reply ≡ all_of reply_at body.now) }
-    ensures cause { IfErr result (λ refusal. refusal ≡ Refusal.NoMemory) }
-{
-    match take_fields(alloc, body) {
-        Ok((reply, rest)) => {
-            if rest.is_empty() {
-                Ok(Some(reply))
-            } else {
-                Ok(None)
-            }
-        }
-        Err(Fault::Outside) => Ok(None),
-        Err(Fault::Memory) => Err(Refusal::NoMemory),
-    }
-}
+impl Framed for Reply {
+    ghost use Rattle.codec.specs.Frames.{HasKind};
+    ghost use Rattle.codec.specs.Reading.{reply_at};
 
-fn take_exact(alloc: Global, bytes: &[u8], at: usize) -> Result<Taken<Reply>, Refusal>
-    ensures value { IfOk result (λ taken. taken ≡ within at reply_at (frame_at any_length at (drop at bytes.now))) }
-    ensures fits { length bytes.now < 2 ^ 64 }
-    ensures cause { IfErr result (λ refusal. refusal ≡ Refusal.NoMemory) }
-{
-    match take_body(bytes, at, u64::MAX) {
-        Taken::Record(body, next) => match take_all(alloc, body)? {
-            Some(reply) => Ok(Taken::Record(reply, next)),
-            None => Ok(Taken::Bad(at as u64)),
-        },
-        Taken::Short => Ok(Taken::Short),
-        Taken::Bad(place) => Ok(Taken::Bad(place)),
+    ghost read_at = { reply_at };
+
+    ghost takes_memory = { HasKind 20 };
+
+    type Memory = Global;
+
+    type Refused = AllocError;
+
+    fn take_all(memory: Global, body: &[u8]) -> Result<Option<Reply>, AllocError> {
+        match take_fields(memory, body) {
+            Ok((reply, rest)) if rest.is_empty() => Ok(Some(reply)),
+            Ok(_) => Ok(None),
+            Err(Fault::Outside) => Ok(None),
+            Err(Fault::Memory) => Err(AllocError),
+        }
     }
 }

@@ -4,14 +4,16 @@ ghost use Rattle.codec.specs.declared.request.Request.{Request};
 ghost use Rattle.codec.specs.Requests.{request_bytes, HasRequestNumbers, IsRequest};
 ghost use Rattle.codec.specs.Frames.{frame, any_length, IfTaken, IfBad, IsThere, IsCut};
 ghost use Rattle.codec.specs.Writing.{HasRoom, Puts};
-ghost use Rattle.codec.specs.Reading.{Gives, request_at, all_of, frame_at, within};
+ghost use Rattle.codec.specs.Reading.{Gives, pair, mapped, optional_at, number_at, key_at, op_at, request_at};
 
-use crate::frame::{HEADER_LEN, take_body};
+use crate::frame::{HEADER_LEN, take_framed};
+use crate::framed::Framed;
 use crate::lengths::{key_len, op_len, range_len};
 use crate::reading::{take_key, take_number, take_op, take_optional_key};
 use crate::taken::Taken;
 use crate::writing::{put_byte, put_number, put_op, put_optional_key, put_text};
 use record_key::{Key, Op, Refusal};
+use std::convert::Infallible;
 
 /// A request of a session. Requests of other sessions than the last that connected are stale.
 #[derive(Debug, Clone, PartialEq, Eq, Drop)]
@@ -77,16 +79,19 @@ pub fn take_request(bytes: &[u8], at: usize) -> Taken<Request>
     // What is taken stands there.
     ensures found { IfTaken result (IsThere Request request_bytes IsRequest at (drop at bytes.now)) }
     // What stands there is taken, whatever follows.
-    ensures only { (r : Request) (rest : List ℕ) → IsRequest r → drop at bytes.now ≡ frame (request_bytes r) ++ rest → result ≡ Taken.Record r (at + length (frame (request_bytes r))) }
+    ensures only { (r : Request) (rest : List ℕ) → IsRequest r → drop at bytes.now ≡ frame (request_bytes r) ++ rest
+        → result ≡ Taken.Record r (at + length (frame (request_bytes r))) }
     ensures short { (result ≡ Taken.Short) ↔ IsCut any_length (drop at bytes.now) }
     ensures bad { IfBad result (λ place. place ≡ at) }
 {
-    take_exact(bytes, at)
+    let Ok(taken) = take_framed((), bytes, at, u64::MAX);
+    taken
 }
 
 /// No request's frame begins another's, so what was written is read back, whatever follows it.
 pub fn request_spelling_law()
-    ensures { (a b : Request) (x y : List ℕ) → IsRequest a → IsRequest b → frame (request_bytes a) ++ x ≡ frame (request_bytes b) ++ y → (a ≡ b) × (x ≡ y) }
+    ensures { (a b : Request) (x y : List ℕ) → IsRequest a → IsRequest b
+        → frame (request_bytes a) ++ x ≡ frame (request_bytes b) ++ y → (a ≡ b) × (x ≡ y) }
 {}
 
 #[tactic(auto, unfolding(crate::specs::Requests::request_bytes), using(crate::proofs::Numbered::number_lengths))]
@@ -100,7 +105,7 @@ fn body_len(request: &Request) -> usize
         Request::Connect { .. } | Request::RedoEnd { .. } => 9,
         Request::Perform { op, .. } => 17 + op_len(op),
         Request::Get { key, .. } => 17 + key_len(key),
-        Request::Scan { low, high, .. } => 17 + range_len(low, high),
+        Request::Scan { low, high, .. } => 17 + range_len(low, high.as_ref()),
         Request::LowWater { .. } | Request::Checkpoint { .. } => 17,
     }
 }
@@ -141,7 +146,7 @@ fn put_body(out: &mut Vec<u8>, request: &Request)
             put_number(out, *session);
             put_number(out, *read);
             put_text(out, low.as_bytes());
-            put_optional_key(out, high);
+            put_optional_key(out, high.as_ref());
         }
         Request::LowWater { session, low } => {
             put_byte(out, 5);
@@ -160,6 +165,38 @@ fn put_body(out: &mut Vec<u8>, request: &Request)
     }
 }
 
+fn take_perform(bytes: &[u8]) -> Option<(Request, &[u8])>
+    ensures { Gives (λ x. (x.0, x.1.now)) result
+        (mapped (λ p. Request.Perform p.0 p.1.0 p.1.1) (pair number_at (pair number_at op_at)) bytes.now) }
+{
+    let (session, rest) = take_number(bytes)?;
+    let (number, rest) = take_number(rest)?;
+    let (op, rest) = take_op(rest)?;
+    let perform = Request::Perform {
+        session,
+        number,
+        op,
+    };
+    Some((perform, rest))
+}
+
+fn take_scan(bytes: &[u8]) -> Option<(Request, &[u8])>
+    ensures { Gives (λ x. (x.0, x.1.now)) result (mapped (λ p. Request.Scan p.0 p.1.0 p.1.1.0 p.1.1.1)
+        (pair number_at (pair number_at (pair key_at (optional_at key_at)))) bytes.now) }
+{
+    let (session, rest) = take_number(bytes)?;
+    let (read, rest) = take_number(rest)?;
+    let (low, rest) = take_key(rest)?;
+    let (high, rest) = take_optional_key(rest)?;
+    let scan = Request::Scan {
+        session,
+        read,
+        low,
+        high,
+    };
+    Some((scan, rest))
+}
+
 #[tactic(auto, unfolding(crate::specs::Reading::request_at))]
 fn take_fields(bytes: &[u8]) -> Option<(Request, &[u8])>
     ensures { Gives (λ x. (x.0, x.1.now)) result (request_at bytes.now) }
@@ -170,40 +207,14 @@ fn take_fields(bytes: &[u8]) -> Option<(Request, &[u8])>
             let (session, rest) = take_number(rest)?;
             Some((Request::Connect { session }, rest))
         }
-        2 => {
-            let (session, rest) = take_number(rest)?;
-            let (number, rest) = take_number(rest)?;
-            let (op, rest) = take_op(rest)?;
-            Some((
-                Request::Perform {
-                    session,
-                    number,
-                    op,
-                },
-                rest,
-            ))
-        }
+        2 => take_perform(rest),
         3 => {
             let (session, rest) = take_number(rest)?;
             let (read, rest) = take_number(rest)?;
             let (key, rest) = take_key(rest)?;
             Some((Request::Get { session, read, key }, rest))
         }
-        4 => {
-            let (session, rest) = take_number(rest)?;
-            let (read, rest) = take_number(rest)?;
-            let (low, rest) = take_key(rest)?;
-            let (high, rest) = take_optional_key(rest)?;
-            Some((
-                Request::Scan {
-                    session,
-                    read,
-                    low,
-                    high,
-                },
-                rest,
-            ))
-        }
+        4 => take_scan(rest),
         5 => {
             let (session, rest) = take_number(rest)?;
             let (low, rest) = take_number(rest)?;
@@ -222,23 +233,21 @@ fn take_fields(bytes: &[u8]) -> Option<(Request, &[u8])>
     }
 }
 
-/// The request that all of a body spells.
-fn take_all(body: &[u8]) -> Option<Request>
-    ensures { result ≡ all_of request_at body.now }
-{
-    let (request, rest) = take_fields(body)?;
-    if rest.is_empty() { Some(request) } else { None }
-}
+impl Framed for Request {
+    ghost use Rattle.codec.specs.Reading.{request_at};
 
-fn take_exact(bytes: &[u8], at: usize) -> Taken<Request>
-    ensures { result ≡ within at request_at (frame_at any_length at (drop at bytes.now)) }
-{
-    match take_body(bytes, at, u64::MAX) {
-        Taken::Record(body, next) => match take_all(body) {
-            Some(request) => Taken::Record(request, next),
-            None => Taken::Bad(at as u64),
-        },
-        Taken::Short => Taken::Short,
-        Taken::Bad(place) => Taken::Bad(place),
+    ghost read_at = { request_at };
+
+    ghost takes_memory = { λ _. ⊥ };
+
+    type Memory = ();
+
+    type Refused = Infallible;
+
+    fn take_all(_memory: (), body: &[u8]) -> Result<Option<Request>, Infallible> {
+        match take_fields(body) {
+            Some((request, rest)) if rest.is_empty() => Ok(Some(request)),
+            _ => Ok(None),
+        }
     }
 }

@@ -1,9 +1,11 @@
 //! Rows: keys with their values.
-ghost use Rattle.std.specs.Prelude.{◌≡◌, ◌≤◌, ◌<◌, ◌+◌, ◌^◌, length, IfOk, IfSome, OnSome, IfNone};
+ghost use Rattle.std.specs.Prelude.{◌≡◌, ◌≤◌, ◌<◌, ◌+◌, ◌^◌, ◌∷◌, length, IfOk, IfSome, OnSome, IfNone};
 ghost use Rattle.std.specs.Cmp.Rules.{comparing};
 ghost use Rattle.std.proofs.Common.{rules};
 ghost use Rattle.std.specs.List.{flat_map, AllByRecursion};
-ghost use Rattle.codec.specs.Rows.{rises, rises_after, is_below, same_rows, row_bytes, rows_bytes, IsRow};
+ghost use Rattle.record_key.specs.Order.{is_below};
+ghost use Rattle.record_key.specs.Rows.{rises};
+ghost use Rattle.codec.specs.Rows.{same_rows, row_bytes, rows_bytes, IsRow};
 ghost use Rattle.codec.specs.Writing.{HasRoom, Puts};
 ghost use Rattle.codec.specs.Reading.{Finds, rows_at, counted_at, items_at, row_at};
 
@@ -77,8 +79,9 @@ pub(crate) fn key_is_below(low: &Key, high: &Key) -> bool
 }
 
 /// Whether each row's key is above the one before it, the first row's above that of `first`.
+#[tactic(auto, using(crate::proofs::Rising::next_row))]
 fn keys_rise_after(first: &(Key, Value), rows: &[(Key, Value)]) -> bool
-    ensures { result ≡ rises_after first.now rows.now }
+    ensures { result ≡ rises (first.now ∷ rows.now) }
 {
     let mut before = first;
     for row in rows {
@@ -91,7 +94,7 @@ fn keys_rise_after(first: &(Key, Value), rows: &[(Key, Value)]) -> bool
 }
 
 /// Whether each row's key is above the one before it.
-pub(crate) fn keys_rise(rows: &[(Key, Value)]) -> bool
+fn keys_rise(rows: &[(Key, Value)]) -> bool
     ensures { result ≡ rises rows.now }
 {
     match rows {
@@ -164,24 +167,24 @@ fn put_each(out: &mut Vec<u8>, rows: &[(Key, Value)])
 
 /// How many bytes the rows take, with their count. None where that is 2 to the power of 64 or more.
 #[tactic(auto, unfolding(crate::specs::Rows::rows_bytes), using(crate::proofs::Numbered::number_lengths))]
-pub(crate) fn rows_len(rows: &Rows) -> Option<usize>
+pub(crate) fn rows_len(rows: &[(Key, Value)]) -> Option<usize>
     ensures some { IfSome result (λ len. len ≡ length (rows_bytes rows.now)) }
     ensures few { length rows.now < 2 ^ 64 }
     ensures spelled { OnSome result (AllByRecursion IsRow rows.now) }
     ensures none { IfNone result (2 ^ 64 ≤ length (rows_bytes rows.now)) }
 {
-    let _count = rows.as_slice().len();
-    let Some(len) = each_len(rows.as_slice()) else {
+    let _count = rows.len();
+    let Some(len) = each_len(rows) else {
         return None;
     };
     len.checked_add(HEADER_LEN)
 }
 
 #[tactic(auto, unfolding(crate::specs::Rows::rows_bytes), using(crate::proofs::Numbered::number_lengths))]
-pub(crate) fn put_rows(out: &mut Vec<u8>, rows: &Rows)
+pub(crate) fn put_rows(out: &mut Vec<u8>, rows: &[(Key, Value)])
     requires { HasRoom out.old (rows_bytes rows.now) }
     ensures { Puts out.old out.new (rows_bytes rows.now) }
 {
-    put_number(out, rows.as_slice().len() as u64);
-    put_each(out, rows.as_slice());
+    put_number(out, rows.len() as u64);
+    put_each(out, rows);
 }

@@ -1,6 +1,7 @@
 //! The writers of a frame's parts, at the end of a vector that has room for them.
 ghost use Rattle.codec.specs.Fields.{number, text, optional, op_bytes, answer_bytes};
 ghost use Rattle.codec.specs.Writing.{HasRoom, Puts};
+ghost use Rattle.std.specs.Option.{option_copied};
 ghost use Rattle.std.specs.Prelude.{◌∷◌, [], ◌<◌, ◌++◌, length};
 
 use byteorder::{BigEndian, ByteOrder};
@@ -78,9 +79,9 @@ pub(crate) fn put_op(out: &mut Vec<u8>, op: &Op)
     }
 }
 
-pub(crate) fn put_optional_key(out: &mut Vec<u8>, key: &Option<Key>)
-    requires { HasRoom out.old (optional text key.now) }
-    ensures { Puts out.old out.new (optional text key.now) }
+pub(crate) fn put_optional_key(out: &mut Vec<u8>, key: Option<&Key>)
+    requires { HasRoom out.old (optional text (option_copied key)) }
+    ensures { Puts out.old out.new (optional text (option_copied key.entry)) }
 {
     match key {
         None => put_byte(out, 0),

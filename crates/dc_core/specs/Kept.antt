@@ -1,9 +1,9 @@
 -- What holds of the data component at every moment.
-use Rattle.std.specs.Prelude.{◌≡◌, ◌≢◌, ◌⊎◌, true, List, [], ◌∷◌}
+use Rattle.std.specs.Prelude.{◌≡◌, ◌≢◌, ◌⊎◌, true, List, [], ◌∷◌, None}
 use Rattle.std.specs.List.{AllByRecursion}
 use Rattle.std.specs.FinMap as map
 use Rattle.record_key.specs.Table.{Table, after}
-use Rattle.ab_lsn.specs.declared.entry.Entry.{Entry}
+use Rattle.record_key.specs.declared.entry.Entry.{Entry}
 use Rattle.ab_lsn.specs.AbLsn.{captures}
 use Rattle.dc_core.specs.declared.performance.Performance.{Performance}
 use Rattle.dc_core.specs.DcView.{DcView}
@@ -23,6 +23,7 @@ abbrev pub IsListed : List Performance → Entry → Type 0
 IsListed performed e = AllByRecursion (λ (p : Performance). p.number ≡ e.number → p.answer ≡ e.answer) performed
 
 pub record IsDc (w : DcView) : Type 0 where
+  pub whole : (w.leaf.low_fence ≡ None) × (w.leaf.high_fence ≡ None)
   pub rows : w.leaf.rows ≡ replayed w.performed
   pub once : IsOnce w.performed
   pub captured : AllByRecursion (λ (p : Performance). captures w.leaf.ab p.number ≡ true) w.performed

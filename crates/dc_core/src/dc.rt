@@ -62,7 +62,8 @@ impl Dc {
         ensures served { IfOk result (λ reply. Serves self.old request.now reply self.new) }
         ensures allowed { OnOk result (serve_refusal self.old request.now ≡ None) }
         ensures refused { IfErr result (RefusesAs (serve_refusal self.old request.now)) }
-        ensures memory { takes_memory self.old request.now ≡ false → serve_refusal self.old request.now ≡ None → IsOk result }
+        ensures memory { takes_memory self.old request.now ≡ false
+            → serve_refusal self.old request.now ≡ None → IsOk result }
         ensures unchanged { OnErr result (self.new ≡ self.old) }
     {
         self.parts.serve(request)

@@ -1,7 +1,9 @@
 //! Numbers that are sent once and again.
 ghost use Rattle.std.specs.Prelude.{◌≡◌, ◌<◌, ◌∷◌, true, reverse, vec_len, IsOk, IfOk, IfErr, OnErr};
 ghost use Rattle.std.specs.Vec.{vec_capacity};
+ghost use Rattle.record_key.specs.Table.{key_of};
 ghost use Rattle.ab_lsn.specs.AbLsn.{captures, saved_in};
+ghost use Rattle.page.specs.Leaf.{is_in_fences};
 ghost use Rattle.dc_core.specs.Kept.{IsDc};
 ghost use Rattle.dc_core.specs.Seen.{seen, Performs, Answers};
 
@@ -51,7 +53,8 @@ impl Parts {
     }
 
     fn repeat(&mut self, number: u64, op: &Op) -> Option<Answer>
-        requires { captures self.old.leaf.ab number ≡ true }
+        requires within { is_in_fences self.old.leaf (key_of op.now) ≡ true }
+        requires captured { captures self.old.leaf.ab number ≡ true }
         ensures answer { result ≡ saved_in self.old.leaf.ab.entries number }
         ensures unchanged { seen self.new ≡ seen self.old }
     {
@@ -66,7 +69,8 @@ impl Parts {
 /// Notes what was performed. There is room for it.
 fn add(performed: &mut Vec<Performance>, number: u64, op: &Op, answer: &Answer)
     requires { vec_len performed.old < vec_capacity performed.old }
-    ensures { reverse performed.new.items ≡ record { number = number; op = op.now; answer = answer.now } ∷ reverse performed.old.items }
+    ensures { reverse performed.new.items
+        ≡ record { number = number; op = op.now; answer = answer.now } ∷ reverse performed.old.items }
 {
     let performance = Performance {
         number,

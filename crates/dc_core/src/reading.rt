@@ -32,7 +32,8 @@ impl Parts {
         low: &Key,
         high: Option<&Key>,
     ) -> Result<Reply, Refusal>
-        ensures found { IfOk result (λ reply. reply ≡ Reply.Rows session read (rows_in (range low.now (option_copied high.entry)) self.now.leaf.rows)) }
+        ensures found { IfOk result (λ reply. reply
+            ≡ Reply.Rows session read (rows_in (range low.now (option_copied high.entry)) self.now.leaf.rows)) }
         ensures refused { IfErr result (λ refusal. refusal ≡ Refusal.NoMemory) }
     {
         let rows = Rows::new(copied_rows(*self.performed.allocator(), self.leaf.scan(low, high))?);

@@ -16,7 +16,8 @@ impl Parts {
         ensures served { IfOk result (λ reply. Serves (seen self.old) request.now reply (seen self.new)) }
         ensures allowed { OnOk result (serve_refusal (seen self.old) request.now ≡ None) }
         ensures refused { IfErr result (RefusesAs (serve_refusal (seen self.old) request.now)) }
-        ensures memory { takes_memory (seen self.old) request.now ≡ false → serve_refusal (seen self.old) request.now ≡ None → IsOk result }
+        ensures memory { takes_memory (seen self.old) request.now ≡ false
+            → serve_refusal (seen self.old) request.now ≡ None → IsOk result }
         ensures unchanged { OnErr result (seen self.new ≡ seen self.old) }
     {
         self.allows(request)?;

@@ -23,10 +23,6 @@ abbrev pub done_on : Bytes → List Record → List Done
 done_on k [] = []
 done_on k (r ∷ log) = done_with k (length log + 1) (request_of r) (done_on k log)
 
--- a number is captured: it is at most the low number, or stands in the set
-abbrev pub captured : ℕ → List ℕ → ℕ → Bool
-captured low numbers n = nat_le n low || list_any (λ m. n == m) numbers
-
 abbrev pub AreCaptured : (ℕ → Bool) → List Done → Type 0
 AreCaptured cap done = AllByRecursion (λ d. cap d.number ≡ true) done
 
@@ -39,11 +35,6 @@ IsBeginning cap (d ∷ done) = MatchBool (cap d.number) (AreCaptured cap done) (
 abbrev pub value_of : (ℕ → Bool) → List Done → Option Bytes
 value_of cap [] = None
 value_of cap (d ∷ done) = if cap d.number then value_after d.op (value_of cap done) else value_of cap done
-
--- a saved answer is the one given at its place
-abbrev pub IsSavedAnswer : (ℕ → Bool) → List Done → ℕ → Answer → Type 0
-IsSavedAnswer cap [] n a = ⊥
-IsSavedAnswer cap (d ∷ done) n a = MatchBool (d.number == n) (a ≡ answer_at d.op (value_of cap done)) (IsSavedAnswer cap done n a)
 
 -- honest at one key, where the leaf has this value
 pub record IsHonestAt (log : List Record) (cap : ℕ → Bool) (k : Bytes) (value : Option Bytes) : Type 0 where

@@ -7,25 +7,36 @@ use Rattle.std.specs.FinMap.{get}
 use Rattle.record_key.specs.declared.op.Op.{Op}
 use Rattle.record_key.specs.declared.op.Answer.{Answer}
 use Rattle.record_key.specs.declared.refusal.Refusal.{Refusal}
-use Rattle.record_key.specs.declared.refusal.Refusal.TheVariants.{NotOpen, Unanswered, RollingBack, BadSavepoint, Full}
+use Rattle.record_key.specs.declared.refusal.Refusal.TheVariants as no
 use Rattle.record_key.specs.Table.{Bytes, key_of, answer_in}
 use Rattle.history.specs.History.{Entry, plain, placed, cross, numbers_of, entries_of}
 use Rattle.history.specs.Spans.{Span, Shared, Exclusive, IsRange, at_key, AnyConflict, rows_in}
+
+-- what a read asks for: the record of a key, or the records of a range, to the end where it has no upper one
+pub data Query : Type 0 where
+  OfKey : (key : Bytes) → Query
+  OfRange : (lo : Bytes) → (hi : Option Bytes) → Query
+
+-- the keys that a read looks at, which it holds shared
+abbrev pub asked_span : Query → Span
+asked_span (OfKey k) = at_key Shared k
+asked_span (OfRange lo hi) = record { lo = lo; hi = hi; mode = Shared }
 
 -- what a transaction waits for or does
 pub data Status : Type 0 where
   Open : Status
   Waiting : (number : ℕ) → (op : Op) → Status
-  Reading : (span : Span) → Status
+  Reading : (query : Query) → Status
   Rolling : (savepoint : Option ℕ) → Status
   Committing : Status
   Committed : Status
   Losing : Status
   Gone : Status
 
--- a savepoint is the numbers of the entries that the transaction had; the last operation stays after the end,
--- since a crash may bring its transaction back
+-- whether its Begin was given and not lost; a savepoint is the numbers of the entries that the transaction had;
+-- the last operation stays after the end, since a crash may bring its transaction back
 pub record Txn : Type 0 where
+  pub begun : Bool
   pub status : Status
   pub saves : List (List ℕ)
   pub last : Option (ℕ × Op)
@@ -35,12 +46,23 @@ pub record Machine : Type 0 where
   pub h : List Entry
   pub txns : ℕ → Txn
 
--- a call with what it gave, a told line, a crash, or a refusal
+-- a client's call; all but the first name their transaction
+pub data Call : Type 0 where
+  ToBegin : Call
+  ToAct : (t : ℕ) → (op : Op) → Call
+  ToRead : (t : ℕ) → (query : Query) → Call
+  ToSave : (t : ℕ) → Call
+  ToGoBack : (t : ℕ) → (savepoint : ℕ) → Call
+  ToRollBack : (t : ℕ) → Call
+  ToCommit : (t : ℕ) → Call
+
+-- a call with what it gave, a told line, a crash, or a refused call. No event of a node gives Crashes and
+-- TellsLost yet.
 pub data Line : Type 0 where
   Begins : (t : ℕ) → Line
   Acts : (t : ℕ) → (op : Op) → (number : ℕ) → Line
   TellsAnswer : (t : ℕ) → (answer : Answer) → Line
-  Reads : (t : ℕ) → (span : Span) → Line
+  Reads : (t : ℕ) → (query : Query) → Line
   TellsRow : (t : ℕ) → (value : Option Bytes) → Line
   TellsRows : (t : ℕ) → (rows : List (Bytes × Bytes)) → Line
   Saves : (t : ℕ) → (savepoint : ℕ) → Line
@@ -52,8 +74,7 @@ pub data Line : Type 0 where
   TellsCommitted : (t : ℕ) → Line
   Crashes : Line
   TellsLost : (t : ℕ) → Line
-  IsBusy : (t : ℕ) → (span : Span) → (holder : ℕ) → Line
-  IsRefused : (t : ℕ) → (refusal : Refusal) → Line
+  IsRefused : (call : Call) → (refusal : Refusal) → Line
 
 abbrev pub with_txn : Machine → ℕ → Txn → Machine
 with_txn m t x = record m { txns = λ u. if u == t then x else m.txns u }
@@ -64,9 +85,12 @@ with_status m t s = with_txn m t (record (m.txns t) { status = s })
 abbrev pub HasStatus : Machine → ℕ → Status → Type 0
 HasStatus m t s = (m.txns t).status ≡ s
 
--- a transaction with nothing
-abbrev pub blank : Status → Txn
-blank s = record { status = s; saves = []; last = None; spans = [] }
+-- a transaction that has done nothing: one that has begun, and one that hasn't
+abbrev pub blank : Txn
+blank = record { begun = true; status = Open; saves = []; last = None; spans = [] }
+
+abbrev pub nobody : Txn
+nobody = record { begun = false; status = Gone; saves = []; last = None; spans = [] }
 
 -- one that holds nothing any more
 abbrev pub ended : Txn → Status → Txn
@@ -81,8 +105,11 @@ abbrev pub IsAbove : ℕ → Status → Type 0
 IsAbove n (Waiting k o) = k < n
 IsAbove n _ = Unit {0}
 
+-- it is above all others: of entries, of transactions that have begun, and those that are waited for
 abbrev pub IsAboveAll : ℕ → Machine → Type 0
-IsAboveAll n m = AllByRecursion (λ e. e.number < n) m.h × ((u : ℕ) → IsAbove n (m.txns u).status)
+IsAboveAll n m =
+    AllByRecursion (λ e. e.number < n) m.h × ((u : ℕ) → (m.txns u).begun ≡ true → u < n)
+    × ((u : ℕ) → IsAbove n (m.txns u).status)
 
 -- the keys of the transaction's entries, and by choice of its last operation
 abbrev pub entry_spans : ℕ → List Entry → List Span
@@ -94,57 +121,135 @@ last_spans (Some last) = at_key Exclusive (key_of last.1) ∷ []
 
 abbrev pub losing : Machine → ℕ → Bool → Txn
 losing m t kept = record {
+  begun = true;
   status = Losing;
   saves = [];
   last = (m.txns t).last;
   spans = entry_spans t m.h ++ (if kept then last_spans (m.txns t).last else []);
 }
 
--- it loses from now on, or is gone where it has no entry
+-- its Begin was lost, and so it has no entry
+abbrev pub IsUnbegun : Machine → ℕ → Txn → Type 0
+IsUnbegun m t new = (numbers_of t m.h ≡ []) × (new ≡ record (ended (m.txns t) Gone) { begun = false })
+
+-- it loses from now on, or its Begin was lost
 abbrev pub Falls : Machine → ℕ → Txn → Type 0
-Falls m t new =
-    ((kept : Bool) × (new ≡ losing m t kept))
-    ⊎ ((numbers_of t m.h ≡ []) × (new ≡ ended (m.txns t) Gone))
+Falls m t new = ((kept : Bool) × (new ≡ losing m t kept)) ⊎ IsUnbegun m t new
 
 -- what a crash makes of a transaction, and whether its entries are crossed
 abbrev pub Survives : Machine → ℕ → Status → Txn → Bool → Type 0
 Survives m t Committing new fell = ((new ≡ ended (m.txns t) Committed) × (fell ≡ false)) ⊎ (Falls m t new × (fell ≡ true))
 Survives m t Committed new fell = (new ≡ m.txns t) × (fell ≡ false)
 Survives m t Losing new fell = (new ≡ m.txns t) × (fell ≡ false)
-Survives m t Gone new fell = ((new ≡ m.txns t) ⊎ ((kept : Bool) × (new ≡ losing m t kept))) × (fell ≡ false)
+Survives m t Gone new fell =
+    ((new ≡ m.txns t) ⊎ IsUnbegun m t new ⊎ (((m.txns t).begun ≡ true) × (kept : Bool) × (new ≡ losing m t kept)))
+    × (fell ≡ false)
 Survives m t Open new fell = Falls m t new × (fell ≡ true)
 Survives m t (Waiting n o) new fell = Falls m t new × (fell ≡ true)
-Survives m t (Reading s) new fell = Falls m t new × (fell ≡ true)
+Survives m t (Reading q) new fell = Falls m t new × (fell ≡ true)
 Survives m t (Rolling s) new fell = Falls m t new × (fell ≡ true)
 
 abbrev pub fallen : (ℕ → Bool) → Entry → Entry
 fallen fell e = record e { crossed = e.crossed || fell e.txn }
 
--- the cause of a refusal, as far as it is seen here
-abbrev pub HasCause : Txn → Refusal → Type 0
-HasCause x NotOpen = (x.status ≡ Committing) ⊎ (x.status ≡ Committed) ⊎ (x.status ≡ Losing) ⊎ (x.status ≡ Gone)
-HasCause x Unanswered = ((n : ℕ) × (o : Op) × (x.status ≡ Waiting n o)) ⊎ ((s : Span) × (x.status ≡ Reading s))
-HasCause x RollingBack = (s : Option ℕ) × (x.status ≡ Rolling s)
-HasCause x _ = Unit {0}
+-- whether it counts among the 64: it is neither committing nor over
+abbrev pub is_live : Status → Bool
+is_live Open = true
+is_live (Waiting n o) = true
+is_live (Reading q) = true
+is_live (Rolling s) = true
+is_live _ = false
+
+abbrev pub AreDifferent : List ℕ → Type 0
+AreDifferent [] = Unit {0}
+AreDifferent (t ∷ ts) = AllByRecursion (λ u. u ≢ t) ts × AreDifferent ts
+
+-- 64 transactions are live
+pub record IsFull (m : Machine) : Type 0 where
+  pub ts : List ℕ
+  pub count : length ts ≡ 64
+  pub different : AreDifferent ts
+  pub live : AllByRecursion (λ t. is_live (m.txns t).status ≡ true) ts
+
+-- another holds what conflicts with the span, and this is the least such
+pub record IsHolder (m : Machine) (t : ℕ) (s : Span) (u : ℕ) : Type 0 where
+  pub other : u ≢ t
+  pub conflicts : AnyConflict s (m.txns u).spans
+  pub least : (v : ℕ) → v ≢ t → AnyConflict s (m.txns v).spans → u ≤ v
+
+-- the transaction that a call names
+abbrev pub NamesWhere : (Txn → Type 0) → Machine → Call → Type 0
+NamesWhere P m ToBegin = ⊥
+NamesWhere P m (ToAct t o) = P (m.txns t)
+NamesWhere P m (ToRead t q) = P (m.txns t)
+NamesWhere P m (ToSave t) = P (m.txns t)
+NamesWhere P m (ToGoBack t s) = P (m.txns t)
+NamesWhere P m (ToRollBack t) = P (m.txns t)
+NamesWhere P m (ToCommit t) = P (m.txns t)
+
+abbrev pub IsNotOpen : Txn → Type 0
+IsNotOpen x = (x.status ≡ Committing) ⊎ (x.status ≡ Committed) ⊎ (x.status ≡ Losing) ⊎ (x.status ≡ Gone)
+
+abbrev pub IsUnanswered : Txn → Type 0
+IsUnanswered x = ((n : ℕ) × (o : Op) × (x.status ≡ Waiting n o)) ⊎ ((q : Query) × (x.status ≡ Reading q))
+
+abbrev pub IsRollingBack : Txn → Type 0
+IsRollingBack x = (s : Option ℕ) × (x.status ≡ Rolling s)
+
+-- a call for this span meets a holder
+abbrev pub MeetsHolder : Machine → Call → ℕ → Type 0
+MeetsHolder m (ToAct t o) u = HasStatus m t Open × IsHolder m t (at_key Exclusive (key_of o)) u
+MeetsHolder m (ToRead t q) u = HasStatus m t Open × IsHolder m t (asked_span q) u
+MeetsHolder m _ u = ⊥
+
+abbrev pub AsksNoRange : Call → Type 0
+AsksNoRange (ToRead t q) = IsRange (asked_span q) → ⊥
+AsksNoRange _ = ⊥
+
+-- no room for a transaction, or for a savepoint
+abbrev pub FindsFull : Machine → Call → Type 0
+FindsFull m ToBegin = IsFull m
+FindsFull m (ToSave t) = HasStatus m t Open × (16 ≤ length (m.txns t).saves)
+FindsFull m _ = ⊥
+
+abbrev pub NamesNoSavepoint : Machine → Call → Type 0
+NamesNoSavepoint m (ToGoBack t s) = HasStatus m t Open × ((s ≡ 0) ⊎ (length (m.txns t).saves < s))
+NamesNoSavepoint m _ = ⊥
+
+-- the cause of a refused call. Of want of memory, numbers or a working device, and of a node that doesn't
+-- serve yet, nothing is seen here; all others are causes of no client's call.
+abbrev pub HasCause : Machine → Call → Refusal → Type 0
+HasCause m call (no.Busy u) = MeetsHolder m call u
+HasCause m call no.BadRange = AsksNoRange call
+HasCause m call no.Full = FindsFull m call
+HasCause m call no.BadSavepoint = NamesNoSavepoint m call
+HasCause m call no.NotOpen = NamesWhere IsNotOpen m call
+HasCause m call no.Unanswered = NamesWhere IsUnanswered m call
+HasCause m call no.RollingBack = NamesWhere IsRollingBack m call
+HasCause m call no.NoMemory = Unit {0}
+HasCause m call no.Redoing = Unit {0}
+HasCause m call no.NotConnected = Unit {0}
+HasCause m call no.Device = Unit {0}
+HasCause m call no.NumbersSpent = Unit {0}
+HasCause m call _ = ⊥
 
 -- one case for each kind of line
 abbrev pub Step : Machine → Line → Machine → Type 0
-Step m (Begins t) n =
-    AllByRecursion (λ e. e.number < t) m.h × ((u : ℕ) → (m.txns u).status ≢ Gone → u < t)
-    × (n ≡ with_txn m t (blank Open))
+Step m (Begins t) n = IsAboveAll t m × (n ≡ with_txn m t blank)
 Step m (Acts t o k) n =
     HasStatus m t Open × IsFree m t (at_key Exclusive (key_of o)) × (t < k) × IsAboveAll k m
     × (n ≡ with_txn m t (record (m.txns t) { status = Waiting k o; last = Some (k, o); spans = at_key Exclusive (key_of o) ∷ (m.txns t).spans }))
 Step m (TellsAnswer t a) n =
     (k : ℕ) × (o : Op) × HasStatus m t (Waiting k o) × (a ≡ answer_in (plain m.h) o)
     × (n ≡ record (with_status m t Open) { h = placed (record { number = k; txn = t; op = o; answer = a; crossed = false }) m.h })
-Step m (Reads t s) n =
-    HasStatus m t Open × (s.mode ≡ Shared) × IsRange s × IsFree m t s
-    × (n ≡ with_txn m t (record (m.txns t) { status = Reading s; spans = s ∷ (m.txns t).spans }))
+Step m (Reads t q) n =
+    HasStatus m t Open × IsRange (asked_span q) × IsFree m t (asked_span q)
+    × (n ≡ with_txn m t (record (m.txns t) { status = Reading q; spans = asked_span q ∷ (m.txns t).spans }))
 Step m (TellsRow t value) n =
-    (k : Bytes) × HasStatus m t (Reading (at_key Shared k)) × (value ≡ get (plain m.h) k) × (n ≡ with_status m t Open)
+    (k : Bytes) × HasStatus m t (Reading (OfKey k)) × (value ≡ get (plain m.h) k) × (n ≡ with_status m t Open)
 Step m (TellsRows t rows) n =
-    (s : Span) × HasStatus m t (Reading s) × (rows ≡ rows_in s (plain m.h)) × (n ≡ with_status m t Open)
+    (lo : Bytes) × (hi : Option Bytes) × HasStatus m t (Reading (OfRange lo hi))
+    × (rows ≡ rows_in (asked_span (OfRange lo hi)) (plain m.h)) × (n ≡ with_status m t Open)
 Step m (Saves t s) n =
     HasStatus m t Open × (length (m.txns t).saves + 1 ≡ s) × (s ≤ 16)
     × (n ≡ with_txn m t (record (m.txns t) { saves = (m.txns t).saves ++ numbers_of t m.h ∷ [] }))
@@ -160,9 +265,7 @@ Step m (TellsCommitted t) n = HasStatus m t Committing × (n ≡ with_txn m t (e
 Step m Crashes n =
     (fell : ℕ → Bool) × ((t : ℕ) → Survives m t (m.txns t).status (n.txns t) (fell t)) × (n.h ≡ map (fallen fell) m.h)
 Step m (TellsLost t) n = HasStatus m t Losing × (n ≡ with_txn m t (ended (m.txns t) Gone))
-Step m (IsBusy t s u) n =
-    (u ≢ t) × AnyConflict s (m.txns u).spans × ((v : ℕ) → v ≢ t → AnyConflict s (m.txns v).spans → u ≤ v) × (n ≡ m)
-Step m (IsRefused t refusal) n = HasCause (m.txns t) refusal × (n ≡ m)
+Step m (IsRefused call refusal) n = HasCause m call refusal × (n ≡ m)
 
 -- lines, one after another
 abbrev pub Steps : Machine → List Line → Machine → Type 0
@@ -171,7 +274,7 @@ Steps m (line ∷ lines) n = (mid : Machine) × Step m line mid × Steps mid lin
 
 -- nothing was done yet
 abbrev pub fresh : Machine
-fresh = record { h = []; txns = λ _. blank Gone }
+fresh = record { h = []; txns = λ _. nobody }
 
 -- there are states, from the empty one on, between which the lines are steps
 abbrev pub IsRun : List Line → Type 0

@@ -1,9 +1,8 @@
 -- Spans of keys that transactions hold, and when two of them conflict.
 use Rattle.std.specs.Prelude.{◌≡◌, ◌⊎◌, ℕ, ◌&&◌, Bool, true, false, not, List, [], ◌∷◌, ◌++◌, Option, Some, None, IsTrue, filter}
-use Rattle.std.specs.Ordering.{is_lt}
 use Rattle.std.specs.FinMap as table
 use Rattle.record_key.specs.Table.{Bytes, Table}
-use Rattle.record_key.specs.Laws.{key_cmp}
+use Rattle.record_key.specs.Order.{is_below, ends_above}
 
 -- what a span is held for
 pub data Mode : Type 0 where
@@ -21,13 +20,6 @@ pub record Span : Type 0 where
   pub lo : Bytes
   pub hi : Option Bytes
   pub mode : Mode
-
-abbrev pub is_below : Bytes → Bytes → Bool
-is_below a b = is_lt (key_cmp a b)
-
-abbrev pub ends_above : Option Bytes → Bytes → Bool
-ends_above None k = true
-ends_above (Some hi) k = is_below k hi
 
 abbrev pub is_within : Span → Bytes → Bool
 is_within s k = not (is_below k s.lo) && ends_above s.hi k

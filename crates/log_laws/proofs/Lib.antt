@@ -6,7 +6,11 @@ pub mod Values
 pub mod Compensations
 pub mod Cancel
 pub mod Plain
+pub mod Walking
 pub mod Rows
+pub mod CrashRows
+pub mod BackRows
+pub mod BusyRows
 pub mod Reading
 pub mod Checking
 pub mod Named

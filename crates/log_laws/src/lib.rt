@@ -19,7 +19,10 @@ pub use laws::{
 };
 pub use legal::{fits, is_legal};
 pub use replay::plain_history;
-pub use runs::{rolled_back_run, second_insert_run};
+pub use runs::{
+    busy_read_run, commit_crash_run, held_key_run, rollback_crash_run, rolled_back_run,
+    savepoint_run, second_insert_run,
+};
 
 #[cfg(test)]
 mod tests;

@@ -1,2 +1,3 @@
+pub mod Bytes
 pub mod Seen
 pub mod Rule

@@ -1,5 +1,7 @@
 //! The two words, and the four atomic steps on them.
 ghost use Rattle.std.specs.Prelude.{◌≡◌, ◌≤◌, length, max, All, IfOk, IsTrue};
+ghost use Rattle.marks.specs.Bytes.{bytes_of};
+ghost use Rattle.marks.specs.contracts.seat.Seat.{the_row};
 ghost use Rattle.marks.specs.Seen.{raiser, reader, seeing, SeenBy};
 
 use crate::rule::{Come, Meet, RaiseLow, RaiseStable, ReadLow, ReadStable, Rising, Tell, View};
@@ -55,8 +57,6 @@ impl<A: Allocator> Marks<A> {
     fn reader_seat(&self) -> Seat
         ensures { result ≡ reader self.now 0 0 }
     {
-        // no seat keeps a number that a read could answer in place of the words
-        prove!(size_of::<Seat>() == 0);
         Seat {
             place: self.table.shared.load_new_seat::<Come>(STABLE).1,
         }
@@ -68,14 +68,35 @@ impl<A: Allocator> Marks<A> {
         ensures ordered { result.1 ≤ result.0 }
         ensures never_falls { (seat.old.stable ≤ result.0) × (seat.old.low ≤ result.1) }
         ensures seen { seat.new ≡ seeing seat.old result.0 result.1 }
-        // a seat has no bytes, so no read can tell whose it is: what the raiser's finds is what each seat finds
+        // so there is nothing in a seat to answer from, or to tell whose it is: what the raiser's finds, each seat finds
+        ensures seat_has_no_bytes { bytes_of the_row ≡ 0 }
         ensures raiser_finds_its_own { IsTrue seat.old.raises → result ≡ (seat.old.stable, seat.old.low) }
     {
-        let shared = &self.table.shared;
         // low first: stable was no less then, and has not fallen since
-        let low = shared.load::<ReadLow>(&mut seat.place, LOW);
-        let stable = shared.load::<ReadStable>(&mut seat.place, STABLE);
+        let low = self.find_low(seat);
+        let stable = self.find_stable(seat);
         (stable, low)
+    }
+
+    fn find_low(&self, seat: &mut Seat) -> u64
+        requires { seat.old.marks ≡ self.now }
+        ensures never_falls { seat.old.low ≤ result }
+        ensures seen { seat.new ≡ seeing seat.old (max seat.old.stable result) result }
+        ensures raiser_finds_its_own { IsTrue seat.old.raises
+            → (result ≡ seat.old.low) × (result ≤ seat.old.stable) }
+    {
+        self.table.shared.load::<ReadLow>(&mut seat.place, LOW)
+    }
+
+    fn find_stable(&self, seat: &mut Seat) -> u64
+        requires { seat.old.marks ≡ self.now }
+        ensures never_falls { seat.old.stable ≤ result }
+        ensures seen { seat.new ≡ seeing seat.old result seat.old.low }
+        ensures raiser_finds_its_own { IsTrue seat.old.raises → result ≡ seat.old.stable }
+    {
+        self.table
+            .shared
+            .load::<ReadStable>(&mut seat.place, STABLE)
     }
 
     /// Stable becomes the greater of `n` and what it was: both words are what the raiser's seat has seen.

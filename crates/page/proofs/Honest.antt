@@ -11,7 +11,7 @@ use Rattle.history.specs.Values.{is_on, value_on, IsRight}
 use Rattle.history.specs.Honest.{Done, done_with, done_on, IsBeginning, value_of}
 use Rattle.log_laws.proofs.Records.{ARequest, kept_at, had_at, before_old, not_newest}
 use Rattle.log_laws.proofs.LegalLogs.{request_number}
-use Rattle.ab_lsn.specs.declared.entry.Entry.{Entry}
+use Rattle.record_key.specs.declared.entry.Entry.{Entry}
 use Rattle.ab_lsn.specs.AbLsn.{captures}
 use Rattle.page.specs.Leaf.{LeafView}
 use Rattle.page.specs.Honest.{IsSavedRight, IsHonestLeaf}
@@ -54,10 +54,6 @@ honest_longer r log leaf out h = record {
       record { beginning = more.0 (h.at k within).beginning; right = (h.at k within).right ∙ sym more.1 };
   saved = saved_longer r log leaf.ab.entries h.saved;
 }
-
--- a record that has nothing done
-pub honest_idle : (r : Record) (log : List Record) (leaf : LeafView) → request_of r ≡ None → IsHonestLeaf log leaf → IsHonestLeaf (r ∷ log) leaf
-honest_idle r log leaf idle h = honest_longer r log leaf (λ o asks. let no : None ≡ Some o = sym idle ∙ asks in cc) h
 
 -- a record whose number isn't captured
 pub honest_uncaptured : (r : Record) (log : List Record) (leaf : LeafView) → captures leaf.ab (length log + 1) ≡ false → IsHonestLeaf log leaf → IsHonestLeaf (r ∷ log) leaf

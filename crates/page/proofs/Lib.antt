@@ -1,4 +1,3 @@
-pub mod Search
 pub mod Writes
 pub mod OnKey
 pub mod Captured
@@ -7,3 +6,5 @@ pub mod Performing
 pub mod Raising
 pub mod Honest
 pub mod Ranges
+pub mod Halves
+pub mod Sides

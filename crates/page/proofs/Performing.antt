@@ -3,6 +3,7 @@ use Rattle.std.proofs.Common.{◌≡◌, ◌≢◌, ℕ, ◌+◌, ◌<◌, ◌==
 use Rattle.std.specs.Prelude.{nat_lt}
 use Rattle.std.specs.List.{AllByRecursion}
 use Rattle.std.specs.FinMap.{get}
+use Rattle.std.proofs.Math.Bool.{or-true, or-false}
 use Rattle.std.proofs.lemmas.Bool.{cases_Bool}
 use Rattle.record_key.specs.declared.op.Op.{Op}
 use Rattle.record_key.specs.Table.{Bytes, key_of, answer_at, answer_in, value_after}
@@ -14,7 +15,7 @@ use Rattle.history.specs.Honest.{done_on, AreCaptured, IsHonestAt}
 use Rattle.log_laws.proofs.Records.{record_before, length_before}
 use Rattle.log_laws.proofs.LegalLogs.{request_number}
 use Rattle.log_laws.proofs.Plain.{value_of-captured}
-use Rattle.ab_lsn.specs.declared.entry.Entry.{Entry}
+use Rattle.record_key.specs.declared.entry.Entry.{Entry}
 use Rattle.ab_lsn.specs.AbLsn.{captures, placed}
 use Rattle.ab_lsn.proofs.Capturing.{noted_captures}
 use Rattle.page.specs.Leaf.{LeafView, performed}
@@ -49,19 +50,11 @@ module _ (log : List Record) (leaf : LeafView) (n : ℕ) (o : Op) (honest : IsHo
   now : (m : ℕ) → new m ≡ (old m || m == n)
   now m = noted_captures leaf.ab n key (answer_in leaf.rows o) m
 
-  or_false : (b : Bool) → (b || false) ≡ b
-  or_false true = refl
-  or_false false = refl
-
-  or_true : (b : Bool) → (b || true) ≡ true
-  or_true true = refl
-  or_true false = refl
-
   captured_itself : new n ≡ true
-  captured_itself = now n ∙ ap (λ b. old n || b) (eq-eqb n n refl) ∙ or_true (old n)
+  captured_itself = now n ∙ ap (λ b. old n || b) (eq-eqb n n refl) ∙ or-true (old n)
 
   captured_other : (m : ℕ) → m ≢ n → new m ≡ old m
-  captured_other m apart = now m ∙ ap (λ b. old m || b) (ne_eqb m n apart) ∙ or_false (old m)
+  captured_other m apart = now m ∙ ap (λ b. old m || b) (ne_eqb m n apart) ∙ or-false (old m)
 
   here : IsHonestAt log old key (get leaf.rows key)
   here = honest.at key next.within

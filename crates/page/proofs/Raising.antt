@@ -1,4 +1,4 @@
--- An honest leaf whose low number rises over captured ones stays honest, so the leaf law holds.
+-- An honest leaf whose low number rises over captured ones stays honest.
 use Rattle.std.proofs.Common.{◌≡◌, ℕ, ◌≤◌, ◌||◌, Bool, true, false, cond, filter, List, [], ◌∷◌, refl, sym, ap, ◌∙◌, inl, inr}
 use Rattle.std.specs.Prelude.{nat_le, nat_lt}
 use Rattle.std.specs.List.{AllByRecursion}
@@ -6,13 +6,12 @@ use Rattle.std.specs.FinMap.{get}
 use Rattle.std.proofs.lemmas.Bool.{cases_lt, lt-leb, lt-ltb, le-ltb}
 use Rattle.history.specs.declared.record.Record.{Record}
 use Rattle.history.specs.Honest.{Done, done_on, IsHonestAt}
-use Rattle.ab_lsn.specs.declared.entry.Entry.{Entry}
+use Rattle.record_key.specs.declared.entry.Entry.{Entry}
 use Rattle.ab_lsn.specs.AbLsn.{AbLsnView, captures, raised}
 use Rattle.ab_lsn.proofs.Capturing.{raised_captures}
 use Rattle.page.specs.Leaf.{LeafView, is_in_fences, raised_to}
-use Rattle.page.specs.Honest.{IsSavedRight, IsHonestLeaf, IsCapturedTo, LeafLaw}
+use Rattle.page.specs.Honest.{IsSavedRight, IsHonestLeaf, IsCapturedTo}
 use Rattle.page.proofs.OnKey.{all_done, beginning_alike, value_alike}
-use Rattle.page.proofs.Performing.{honest_performed}
 
 kept : (P : Entry → Type 0) (b : Bool) (e : Entry) (es : List Entry) → P e → AllByRecursion P es → AllByRecursion P (cond b (e ∷ es) es)
 kept P true e es here all = (here, all)
@@ -29,7 +28,7 @@ all_raised P v l all =
       | inr ge ↦ rw (le-ltb v.low l ge) all
     ]
 
-or_there : (a b : Bool) → (b ≡ true → a ≡ true) → a ≡ (a || b)
+pub or_there : (a b : Bool) → (b ≡ true → a ≡ true) → a ≡ (a || b)
 or_there true b h = refl
 or_there false true h = h refl
 or_there false false h = refl
@@ -57,6 +56,3 @@ honest_raised log leaf l honest to = record {
       };
   saved = all_raised (IsSavedRight log) leaf.ab l honest.saved;
 }
-
-pub leaf_law : LeafLaw
-leaf_law = record { performs = honest_performed; raises = honest_raised }

@@ -10,10 +10,12 @@ use Rattle.std.proofs.lemmas.Bool.{cases_Bool}
 use Rattle.std.proofs.lemmas.Cmp.{nat_list_cmp_total}
 use Rattle.record_key.specs.Table.{Bytes}
 use Rattle.record_key.specs.Laws.{key_cmp}
-use Rattle.record_key.specs.Rows.{Row, AreInOrder, IsAt, IsGapFor, table_of}
-use Rattle.record_key.proofs.Rows.{is_lt-Less, and_first, and_second, as_T, entries-table_of}
-use Rattle.history.specs.Spans.{Span, is_below, rows_in}
-use Rattle.page.specs.Places.{IsPlaceOf, IsStartFor}
+use Rattle.record_key.specs.Rows.{Row, AreInOrder, IsAt, IsGapFor, IsPlaceOf, table_of}
+use Rattle.record_key.specs.Order.{is_below}
+use Rattle.record_key.proofs.Truths.{is_lt-Less, and_first, and_second, as_T, from_T}
+use Rattle.record_key.proofs.Rows.{entries-table_of}
+use Rattle.history.specs.Spans.{Span, rows_in}
+use Rattle.page.specs.Places.{IsStartFor}
 
 -- how a key lies to a row that was compared with it
 below_at : (k x : Bytes) (o : Ordering) → key_cmp k x ≡ o → is_below x k ≡ is_lt (ordering_reverse o)
@@ -74,10 +76,6 @@ parted k (row ∷ rows) (suc p) ordered start =
     record { under = rw (start.0) (ap (λ (r : List Row). row ∷ r) rest.under); from = rw (start.0) rest.from }
 
 -- what is left of rows in order is in order
-from_T : (b : Bool) → T b → b ≡ true
-from_T true h = refl
-from_T false h = absurd h
-
 sorted_drop : (rows : List Row) (p : ℕ) → T (is_sorted key_cmp rows) → T (is_sorted key_cmp (drop p rows))
 sorted_drop [] zero h = h
 sorted_drop [] (suc p) h = h

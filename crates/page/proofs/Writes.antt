@@ -1,13 +1,43 @@
 -- What a write at a known place does to the table.
-use Rattle.std.proofs.Common.{◌≡◌, ℕ, List, [], Option, Result, Ok, Err, Some, None, refl, sym, ap, ◌∙◌}
+use Rattle.std.proofs.Common.{◌≡◌, ℕ, zero, suc, List, [], ◌∷◌, set, Option, Result, Ok, Err, Some, None, refl, sym, ap, ◌∙◌}
+use Rattle.std.specs.List.{AllByRecursion, insert, remove}
 use Rattle.std.specs.FinMap as map
 use Rattle.record_key.specs.declared.op.Op.{Op}
 use Rattle.record_key.specs.declared.op.Op.TheVariants.{Insert, Update, Upsert, Delete}
 use Rattle.record_key.specs.Table.{Bytes, key_of, value_after, after, with_record}
-use Rattle.record_key.specs.Rows.{Row, AreInOrder, table_of}
+use Rattle.record_key.specs.Rows.{Row, AreInOrder, IsPlaceOf, table_of}
 use Rattle.record_key.proofs.Tables.{after-idle}
 use Rattle.record_key.proofs.Rows.{inserted, replaced, removed, found, absent}
-use Rattle.page.specs.Places.{IsPlaceOf, rows_after}
+use Rattle.page.specs.Places.{rows_after}
+
+-- what all rows have and a new one too, all have where it came to them, or where one went
+all_inserted : (P : Row → Type 0) (rows : List Row) (p : ℕ) (row : Row) → AllByRecursion P rows → P row → AllByRecursion P (insert rows p row)
+all_inserted P rows zero row all new = (new, all)
+all_inserted P [] (suc p) row all new = (new, tt)
+all_inserted P (r ∷ rows) (suc p) row all new = (all.0, all_inserted P rows p row all.1 new)
+
+all_set : (P : Row → Type 0) (rows : List Row) (p : ℕ) (row : Row) → AllByRecursion P rows → P row → AllByRecursion P (set rows p row)
+all_set P [] p row all new = tt
+all_set P (r ∷ rows) zero row all new = (new, all.1)
+all_set P (r ∷ rows) (suc p) row all new = (all.0, all_set P rows p row all.1 new)
+
+all_removed : (P : Row → Type 0) (rows : List Row) (p : ℕ) → AllByRecursion P rows → AllByRecursion P (remove rows p)
+all_removed P [] zero all = tt
+all_removed P [] (suc p) all = tt
+all_removed P (r ∷ rows) zero all = all.1
+all_removed P (r ∷ rows) (suc p) all = (all.0, all_removed P rows p all.1)
+
+-- what all keys have and the operation's too, all have afterwards
+pub all_written : (P : Bytes → Type 0) (rows : List Row) (o : Op) (place : Result ℕ ℕ) → AllByRecursion (λ (row : Row). P row.0) rows
+    → P (key_of o) → AllByRecursion (λ (row : Row). P row.0) (rows_after o place rows)
+all_written P rows (Insert k v) (Ok at) all new = all
+all_written P rows (Insert k v) (Err gap) all new = all_inserted (λ (row : Row). P row.0) rows gap (k, v) all new
+all_written P rows (Update k v) (Ok at) all new = all_set (λ (row : Row). P row.0) rows at (k, v) all new
+all_written P rows (Update k v) (Err gap) all new = all
+all_written P rows (Upsert k v) (Ok at) all new = all_set (λ (row : Row). P row.0) rows at (k, v) all new
+all_written P rows (Upsert k v) (Err gap) all new = all_inserted (λ (row : Row). P row.0) rows gap (k, v) all new
+all_written P rows (Delete k) (Ok at) all new = all_removed (λ (row : Row). P row.0) rows at all
+all_written P rows (Delete k) (Err gap) all new = all
 
 -- the rows are in order, and are those of the table after the operation
 pub record Writes (old new : List Row) (o : Op) : Type 0 where

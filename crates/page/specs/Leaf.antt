@@ -1,9 +1,11 @@
 -- What is seen of a leaf.
-use Rattle.std.specs.Prelude.{ℕ, Bool, true, not, ◌&&◌, Option, Some, None}
+use Rattle.std.specs.Prelude.{ℕ, Bool, Option, None}
 use Rattle.std.specs.FinMap as map
 use Rattle.record_key.specs.declared.op.Op.{Op}
 use Rattle.record_key.specs.Table.{Bytes, Table, key_of, answer_in, after}
-use Rattle.history.specs.Spans.{is_below, ends_above}
+use Rattle.record_key.specs.Order.{is_between}
+use Rattle.record_key.specs.Rows.{LieBetween}
+use Rattle.record_key.specs.Entries.{RiseAbove, StandBetween}
 use Rattle.ab_lsn.specs.AbLsn.{AbLsnView, blank, noted, raised}
 
 -- its number, the last system transaction that changed it, its fences, its records, and what it has captured
@@ -15,13 +17,15 @@ pub record LeafView : Type 0 where
   pub rows : Table
   pub ab : AbLsnView
 
--- the low fence belongs to the leaf, the high one doesn't; where there is none there is no bound
-abbrev pub starts_at_most : Option Bytes → Bytes → Bool
-starts_at_most None k = true
-starts_at_most (Some low) k = not (is_below k low)
-
+-- the key belongs to the leaf
 abbrev pub is_in_fences : LeafView → Bytes → Bool
-is_in_fences leaf k = starts_at_most leaf.low_fence k && ends_above leaf.high_fence k
+is_in_fences leaf k = is_between leaf.low_fence leaf.high_fence k
+
+-- what holds of every leaf: records and entries lie in its fences, and the entries' numbers rise above the low one
+pub record IsLeaf (leaf : LeafView) : Type 0 where
+  pub rows : LieBetween leaf.low_fence leaf.high_fence (map.entries leaf.rows)
+  pub entries : StandBetween leaf.low_fence leaf.high_fence leaf.ab.entries
+  pub rising : RiseAbove leaf.ab.low leaf.ab.entries
 
 -- the first leaf: no fences, no records, nothing captured
 abbrev pub first : LeafView

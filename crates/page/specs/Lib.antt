@@ -2,3 +2,4 @@ pub mod Leaf
 pub mod Places
 pub mod Performs
 pub mod Honest
+pub mod Parting

@@ -1,14 +1,10 @@
 -- What an operation does to sorted rows, where its key's place is known.
-use Rattle.std.specs.Prelude.{◌≡◌, ℕ, zero, suc, true, false, List, [], ◌∷◌, Result, Ok, Err, MatchResult, insert, remove, slice_set}
+use Rattle.std.specs.Prelude.{◌≡◌, ℕ, zero, suc, true, false, List, [], ◌∷◌, Result, Ok, Err, insert, remove, slice_set}
 use Rattle.record_key.specs.declared.op.Op.{Op}
 use Rattle.record_key.specs.declared.op.Op.TheVariants.{Insert, Update, Upsert, Delete}
 use Rattle.record_key.specs.Table.{Bytes}
-use Rattle.record_key.specs.Rows.{Row, IsAt, IsGapFor}
-use Rattle.history.specs.Spans.{is_below}
-
--- the key's row stands there, or it would go there
-abbrev pub IsPlaceOf : Bytes → List Row → Result ℕ ℕ → Type 0
-IsPlaceOf k rows place = MatchResult place (IsAt k rows) (IsGapFor k rows)
+use Rattle.record_key.specs.Rows.{Row}
+use Rattle.record_key.specs.Order.{is_below}
 
 -- the rows before this place are those below the key
 abbrev pub IsStartFor : Bytes → List Row → ℕ → Type 0

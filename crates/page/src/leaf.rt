@@ -4,11 +4,11 @@ ghost use Rattle.std.specs.Option.{option_copied};
 ghost use Rattle.std.specs.FinMap as map;
 ghost use Rattle.history.specs.Spans.{Shared, rows_in};
 ghost use Rattle.ab_lsn.specs.AbLsn.{captures};
-ghost use Rattle.page.specs.Leaf.{first};
+ghost use Rattle.page.specs.Leaf.{first, IsLeaf};
 
 use crate::rows::{place_of, rows_below, rows_from};
-use ab_lsn::{AbLsn, Entry};
-use record_key::{Answer, Key, Value};
+use ab_lsn::AbLsn;
+use record_key::{Answer, Entry, Key, Value};
 use std::alloc::Global;
 use std::marker::Model;
 
@@ -24,10 +24,10 @@ pub enum Done {
 /// The records between two fences, in key order, and which requests were performed on them.
 #[derive(Debug, Drop)]
 pub struct Leaf {
-    id: u64,
-    last: u64,
-    low_fence: Option<Key>,
-    high_fence: Option<Key>,
+    pub(crate) id: u64,
+    pub(crate) last: u64,
+    pub(crate) low_fence: Option<Key>,
+    pub(crate) high_fence: Option<Key>,
     pub(crate) rows: Vec<(Key, Value)>,
     pub(crate) ab: AbLsn,
 }
@@ -36,7 +36,8 @@ impl Model for Leaf {
     ghost use Rattle.page.specs.Leaf.{LeafView};
     ghost use Rattle.std.specs.Coded.{codes};
     ghost use Rattle.record_key.specs.Table.{table_code};
-    ghost use Rattle.record_key.specs.Rows.{AreInOrder, table_of};
+    ghost use Rattle.record_key.specs.Rows.{AreInOrder, LieBetween, table_of};
+    ghost use Rattle.record_key.specs.Entries.{StandBetween};
 
     ghost Value = { LeafView };
 
@@ -51,7 +52,8 @@ impl Model for Leaf {
       ab = l.ab;
     } };
 
-    ghost invariant = { λ l. AreInOrder l.rows.items };
+    ghost invariant = { λ l. AreInOrder l.rows.items
+        × (LieBetween l.low_fence l.high_fence l.rows.items × StandBetween l.low_fence l.high_fence l.ab.entries) };
 }
 
 impl Leaf {
@@ -138,12 +140,22 @@ impl Leaf {
 
     /// The records from `low` on, below `high` where there is one. Takes no memory.
     pub fn scan(&self, low: &Key, high: Option<&Key>) -> &[(Key, Value)]
-        ensures { result.now ≡ rows_in (record { lo = low.now; hi = option_copied high.entry; mode = Shared }) self.now.rows }
+        ensures { result.now
+            ≡ rows_in (record { lo = low.now; hi = option_copied high.entry; mode = Shared }) self.now.rows }
     {
         let rows = rows_from(self.rows.as_slice(), low);
         match high {
             Some(high) => rows_below(rows, high),
             None => rows,
         }
+    }
+
+    /// What holds of every leaf: its records and entries lie in its fences, and the entries' numbers rise from
+    /// above the low one.
+    pub fn kept(&self)
+        ensures { IsLeaf self.now }
+    {
+        let _count = self.rows.len();
+        let _entries = self.ab.entries();
     }
 }

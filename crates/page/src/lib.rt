@@ -8,6 +8,7 @@
 
 mod laws;
 mod leaf;
+mod parting;
 mod requests;
 mod rows;
 

@@ -1,14 +1,14 @@
 //! The records of a leaf, in key order: where a key stands, and what an operation does there.
-ghost use Rattle.std.specs.Prelude.{◌≡◌, ◌<◌, ◌≤◌, not, length, filter, insert, vec_len, IfOk, IfErr};
+ghost use Rattle.std.specs.Prelude.{◌≡◌, ◌<◌, ◌≤◌, ◌++◌, not, length, filter, insert, vec_len, OnOk, IfOk, IfErr};
 ghost use Rattle.std.specs.Option.{option_copied};
 ghost use Rattle.std.specs.Vec.{vec_capacity};
 ghost use Rattle.std.specs.FinMap.{get};
 ghost use Rattle.record_key.specs.Table.{answer_at as answer_to};
-ghost use Rattle.record_key.specs.Rows.{IsAt, IsGapFor, AreInOrder, table_of};
-ghost use Rattle.history.specs.Spans.{is_below};
-ghost use Rattle.page.specs.Places.{IsPlaceOf, IsStartFor, rows_after};
+ghost use Rattle.record_key.specs.Order.{is_below};
+ghost use Rattle.record_key.specs.Rows.{IsPlaceOf, AreInOrder, table_of};
+ghost use Rattle.page.specs.Places.{IsStartFor, rows_after};
 
-use record_key::{Answer, Key, Op, Value};
+use record_key::{Answer, Key, Op, Refusal, Value};
 
 /// Where the key's row stands, or where it would go.
 pub fn place_of(rows: &[(Key, Value)], key: &Key) -> Result<usize, usize>
@@ -63,6 +63,26 @@ pub fn rows_below<'a>(rows: &'a [(Key, Value)], key: &Key) -> &'a [(Key, Value)]
     ensures { result.now ≡ filter (λ row. is_below row.0 key.now) rows.now }
 {
     &rows[..start_of(rows, key)]
+}
+
+/// Drops the rows whose keys are at or above this one. Takes no memory.
+pub fn drop_rows_from(rows: &mut Vec<(Key, Value)>, key: &Key)
+    requires { AreInOrder rows.old.items }
+    ensures { rows.new.items ≡ filter (λ row. is_below row.0 key.now) rows.old.items }
+{
+    let start = start_of(rows.as_slice(), key);
+    rows.truncate(start);
+}
+
+/// Puts copies of the rows at the end.
+pub fn add_rows(rows: &mut Vec<(Key, Value)>, more: &[(Key, Value)]) -> Result<(), Refusal>
+    ensures added { OnOk result (rows.new.items ≡ rows.old.items ++ more.now) }
+    ensures refused { IfErr result (λ refusal. refusal ≡ Refusal.NoMemory) }
+{
+    for row in more {
+        rows.push((row.0.copied(), row.1.copied()))?;
+    }
+    Ok(())
 }
 
 /// How many rows have keys below this one.

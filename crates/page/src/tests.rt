@@ -1,6 +1,9 @@
-//! A leaf beside the plain table, requests that are sent again, and ranges.
+//! A leaf beside the plain table, requests that are sent again, ranges, and leaves parted and put together.
+ghost use Rattle.std.specs.Prelude.{IfOk};
+ghost use Rattle.page.specs.Parting.{AreNeighbours};
+
 use super::*;
-use record_key::{Answer, Key, Op, PlainTable, Value};
+use record_key::{Answer, Key, Op, PlainTable, Refusal, Value};
 use std::alloc::Global;
 use std::process::Abort;
 use std::test::Fail;
@@ -13,17 +16,34 @@ fn value(text: &[u8]) -> Result<Value, Fail> {
     Ok(Value::new(text)?)
 }
 
+/// Performs on a leaf without fences.
+fn on_whole(leaf: &mut Leaf, n: u64, op: &Op) -> Result<Done, Refusal> {
+    if leaf.low_fence().is_some() || leaf.high_fence().is_some() {
+        return Err(Refusal::NotNow);
+    }
+    leaf.perform(n, op)
+}
+
 #[test]
 fn a_repeated_number_changes_nothing(rt: HostRuntime) -> Result<(), Fail> {
     let mut leaf = Leaf::first(rt.alloc());
     let op = Op::Insert(key(b"a")?, value(b"1")?);
-    assert_eq!(rt; leaf.perform(3, &op)?, Done::Performed(Answer::Inserted));
-    let again = leaf.perform(3, &op)?;
+    assert_eq!(rt;
+        on_whole(&mut leaf, 3, &op)?,
+        Done::Performed(Answer::Inserted)
+    );
+    let again = on_whole(&mut leaf, 3, &op)?;
     assert_eq!(rt; again, Done::Repeated(Some(Answer::Inserted)));
-    assert_eq!(rt; leaf.perform(5, &op)?, Done::Performed(Answer::Exists));
+    assert_eq!(rt;
+        on_whole(&mut leaf, 5, &op)?,
+        Done::Performed(Answer::Exists)
+    );
     leaf.raise(4);
-    assert_eq!(rt; leaf.perform(3, &op)?, Done::Repeated(None));
-    assert_eq!(rt; leaf.perform(5, &op)?, Done::Repeated(Some(Answer::Exists)));
+    assert_eq!(rt; on_whole(&mut leaf, 3, &op)?, Done::Repeated(None));
+    assert_eq!(rt;
+        on_whole(&mut leaf, 5, &op)?,
+        Done::Repeated(Some(Answer::Exists))
+    );
     assert_eq!(rt; leaf.get(&key(b"a")?), Some(&value(b"1")?));
     assert_eq!(rt; leaf.get(&key(b"b")?), None);
     Ok(())
@@ -57,13 +77,13 @@ fn nth_op(n: u64) -> Result<Op, Fail> {
 /// A refused request leaves the leaf as it was, and is performed once there is memory.
 fn performed<R: Abort>(rt: &R, leaf: &mut Leaf, n: u64, op: &Op) -> Result<Done, Fail> {
     let rows = leaf.rows().len();
-    match leaf.perform(n, op) {
+    match on_whole(leaf, n, op) {
         Ok(done) => Ok(done),
         Err(refusal) => {
-            assert_eq!(rt; refusal, record_key::Refusal::NoMemory);
+            assert_eq!(rt; refusal, Refusal::NoMemory);
             assert_eq!(rt; leaf.rows().len(), rows);
             assert!(rt; !leaf.captures(n));
-            Ok(leaf.perform(n, op)?)
+            Ok(on_whole(leaf, n, op)?)
         }
     }
 }
@@ -89,7 +109,8 @@ fn five(alloc: Global) -> Result<Leaf, Fail> {
     let mut n = 0u64;
     for name in NAMES {
         n = n.wrapping_add(1);
-        leaf.perform(n, &Op::Upsert(key(name)?, value(name)?))?;
+        let op = Op::Upsert(key(name)?, value(name)?);
+        on_whole(&mut leaf, n, &op)?;
     }
     Ok(leaf)
 }
@@ -105,5 +126,62 @@ fn ranges(rt: HostRuntime) -> Result<(), Fail> {
     assert_eq!(rt; leaf.scan(&c, Some(&key(b"mb")?)), &all[1..4]);
     assert_eq!(rt; leaf.scan(&key(b"b")?, Some(&m)), &all[1..2]);
     assert!(rt; leaf.scan(&m, Some(&c)).is_empty());
+    Ok(())
+}
+
+/// How many records and entries the leaf has.
+fn counts(leaf: &Leaf) -> (usize, usize) {
+    (leaf.rows().len(), leaf.entries().len())
+}
+
+/// The upper part of the leaf at this key, cut once more where memory was refused.
+fn cut_at<R: Abort>(rt: &R, leaf: &mut Leaf, at: &Key) -> Result<Leaf, Fail> {
+    let before = counts(leaf);
+    match leaf.cut(at, 2, 9) {
+        Ok(upper) => Ok(upper),
+        Err(refusal) => {
+            assert_eq!(rt; refusal, Refusal::NoMemory);
+            assert!(rt; counts(leaf) == before);
+            Ok(leaf.cut(at, 2, 9)?)
+        }
+    }
+}
+
+#[test]
+fn a_cut_parts_records_and_entries(rt: HostRuntime) -> Result<(), Fail> {
+    let mut leaf = five(rt.alloc())?;
+    let c = key(b"c")?;
+    let upper = cut_at(&rt, &mut leaf, &c)?;
+    assert_eq!(rt; counts(&leaf), (1, 1));
+    assert_eq!(rt; counts(&upper), (4, 4));
+    assert_eq!(rt; (upper.id(), upper.last(), leaf.last()), (2, 9, 9));
+    assert_eq!(rt; leaf.high_fence(), Some(&c));
+    assert_eq!(rt; upper.low_fence(), Some(&c));
+    assert!(rt; leaf.captures(3) && !upper.captures(3));
+    assert!(rt; upper.captures(5) && !leaf.captures(5));
+    Ok(())
+}
+
+/// The two leaves that a cut of the five names at c leaves.
+fn halves(alloc: Global) -> Result<(Leaf, Leaf), Fail>
+    ensures { IfOk result (λ both. AreNeighbours both.0 both.1) }
+{
+    let mut leaf = five(alloc)?;
+    if leaf.low_fence().is_some() || leaf.high_fence().is_some() {
+        return Err(Fail::from(Refusal::NotNow));
+    }
+    let upper = leaf.cut(&key(b"c")?, 2, 9)?;
+    Ok((leaf, upper))
+}
+
+#[test]
+fn a_join_gives_the_whole_again(rt: HostRuntime) -> Result<(), Fail> {
+    let whole = five(rt.alloc())?;
+    let (lower, upper) = halves(rt.alloc())?;
+    let joined = lower.join(&upper, 10)?;
+    assert_eq!(rt; joined.rows(), whole.rows());
+    assert_eq!(rt; joined.entries(), whole.entries());
+    assert_eq!(rt; (joined.id(), joined.last()), (1, 10));
+    joined.kept();
     Ok(())
 }

@@ -8,29 +8,10 @@ use Rattle.std.specs.declared.cmp.Ordering.TheVariants.{Less, Equal, Greater}
 use Rattle.std.proofs.lemmas.Cmp.{nat_list_cmp_total, tied_itself}
 use Rattle.record_key.specs.Table.{Bytes}
 use Rattle.record_key.specs.Laws.{key_cmp}
-use Rattle.history.specs.Spans.{Span, is_below, ends_above, is_within, do_conflict, Conflict, AnyConflict}
+use Rattle.record_key.proofs.Truths.{is_lt-Less, as_T, from_T, and_first, and_second, both_T}
+use Rattle.history.specs.Spans.{Span, is_within, do_conflict, Conflict, AnyConflict}
+use Rattle.record_key.specs.Order.{is_below, ends_above}
 use Rattle.range_locks.specs.Meant.{later, clash}
-
-pub and_first : (a b : Bool) → T (a && b) → T a
-and_first true b h = tt
-and_first false b h = h
-
-pub and_second : (a b : Bool) → T (a && b) → T b
-and_second true b h = h
-and_second false b h = absurd h
-
-both : (a b : Bool) → T a → T b → T (a && b)
-both true b x y = y
-both false b x y = x
-
-not_both : (b : Bool) → T b → T (not b) → ⊥
-not_both true x y = y
-not_both false x y = x
-
-pub is_lt-Less : (o : Ordering) → T (is_lt o) → o ≡ Less
-is_lt-Less Less h = refl
-is_lt-Less Equal h = absurd h
-is_lt-Less Greater h = absurd h
 
 -- a key below another is at most it
 pub not_below_itself : (a : Bytes) → T (not (is_below a a))
@@ -46,13 +27,6 @@ not_below_lower a b h = rw (nat_list_cmp_total.antisymm b a) (reversed (key_cmp 
 
 not_below : (b : Bool) → b ≡ false → T (not b)
 not_below b e = rw e tt
-
-pub as_T : (b : Bool) → b ≡ true → T b
-as_T b e = rw e tt
-
-pub from_T : (b : Bool) → T b → b ≡ true
-from_T true h = refl
-from_T false h = absurd h
 
 -- the later of two keys is below neither
 late_first : (a b : Bytes) (t : Bool) → is_below a b ≡ t → T (not (is_below (cond t b a) a))
@@ -85,8 +59,8 @@ conflict_from_clash s r h =
     let modes : T (do_conflict s.mode r.mode) = and_first (do_conflict s.mode r.mode) _ h in
     let ends : T (ends_above s.hi k && ends_above r.hi k) = and_second (do_conflict s.mode r.mode) _ h in (
       k,
-      from_T (is_within s k) (both (not (is_below k s.lo)) _ (late_first s.lo r.lo (is_below s.lo r.lo) refl) (and_first (ends_above s.hi k) _ ends)),
-      from_T (is_within r k) (both (not (is_below k r.lo)) _ (late_second s.lo r.lo (is_below s.lo r.lo) refl) (and_second (ends_above s.hi k) _ ends)),
+      from_T (is_within s k) (both_T (not (is_below k s.lo)) _ (late_first s.lo r.lo (is_below s.lo r.lo) refl) (and_first (ends_above s.hi k) _ ends)),
+      from_T (is_within r k) (both_T (not (is_below k r.lo)) _ (late_second s.lo r.lo (is_below s.lo r.lo) refl) (and_second (ends_above s.hi k) _ ends)),
       from_T _ modes,
     )
 
@@ -97,8 +71,8 @@ clash_from_conflict s r c =
     let in_r : T (is_within r k) = as_T (is_within r k) c.2 in
     let late : T (not (is_below k (later s.lo r.lo))) =
     late_at_most s.lo r.lo k (is_below s.lo r.lo) (and_first (not (is_below k s.lo)) _ in_s) (and_first (not (is_below k r.lo)) _ in_r) in
-    both (do_conflict s.mode r.mode) _ (as_T _ c.3)
-    (both (ends_above s.hi (later s.lo r.lo)) _
+    both_T (do_conflict s.mode r.mode) _ (as_T _ c.3)
+    (both_T (ends_above s.hi (later s.lo r.lo)) _
     (ends_lower s.hi (later s.lo r.lo) k late (and_second (not (is_below k s.lo)) _ in_s))
     (ends_lower r.hi (later s.lo r.lo) k late (and_second (not (is_below k r.lo)) _ in_r)))
 

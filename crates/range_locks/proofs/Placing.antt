@@ -14,7 +14,7 @@ use Rattle.std.proofs.lemmas.Map.Lookups.{exact_bytes}
 use Rattle.record_key.specs.Table.{Bytes}
 use Rattle.record_key.specs.Laws.{key_cmp}
 use Rattle.history.specs.Spans as law
-use Rattle.history.specs.Spans.{is_below, ends_above}
+use Rattle.record_key.specs.Order.{is_below, ends_above}
 use Rattle.range_locks.specs.declared.span.Mode.{Mode}
 use Rattle.range_locks.specs.declared.span.Mode.TheVariants.{Shared, Exclusive}
 use Rattle.range_locks.specs.declared.span.Span.{Span}
@@ -25,7 +25,8 @@ use Rattle.range_locks.specs.Meant.{low_of, high_of, span_of, later, clash, clas
 use Rattle.range_locks.specs.Order.{mode_cmp, entry_cmp}
 use Rattle.range_locks.specs.Places.{first_at, ranges_at, HasRangesBelow, keys_from, keys_to}
 use Rattle.range_locks.proofs.KeyEnds.{below_next}
-use Rattle.range_locks.proofs.Clashes.{and_first, and_second, not_below_itself, not_below_lower, is_lt-Less, as_T, from_T, late_second, ends_lower}
+use Rattle.record_key.proofs.Truths.{and_first, and_second, is_lt-Less, as_T, from_T}
+use Rattle.range_locks.proofs.Clashes.{not_below_itself, not_below_lower, late_second, ends_lower}
 
 -- a search goes forward
 first_below_last : (o : Ordering) → o ≡ Equal → (p q : Ordering) → is_gt (ordering_then (ordering_then o Less) p) ≡ false

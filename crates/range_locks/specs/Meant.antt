@@ -6,7 +6,8 @@ use Rattle.std.specs.Ordering.{nat_cmp}
 use Rattle.std.specs.Global.{Vec}
 use Rattle.record_key.specs.Table.{Bytes}
 use Rattle.history.specs.Spans as law
-use Rattle.history.specs.Spans.{ends_above, is_below, do_conflict}
+use Rattle.history.specs.Spans.{do_conflict}
+use Rattle.record_key.specs.Order.{ends_above, is_below}
 use Rattle.range_locks.specs.declared.span.Mode.{Mode}
 use Rattle.range_locks.specs.declared.span.Mode.TheVariants.{Shared, Exclusive}
 use Rattle.range_locks.specs.declared.span.Span.{Span}

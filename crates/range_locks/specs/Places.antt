@@ -4,7 +4,7 @@ use Rattle.std.specs.declared.ops.Bound.{Bound}
 use Rattle.std.specs.declared.ops.Bound.TheVariants.{Included, Excluded, Unbounded}
 use Rattle.std.specs.BTreeMap.Range.{is_past_end}
 use Rattle.record_key.specs.Table.{Bytes}
-use Rattle.history.specs.Spans.{ends_above}
+use Rattle.record_key.specs.Order.{ends_above}
 use Rattle.range_locks.specs.declared.span.Mode.{Mode}
 use Rattle.range_locks.specs.declared.span.Mode.TheVariants.{Shared, Exclusive}
 use Rattle.range_locks.specs.declared.span.Span.{Span}

@@ -1,6 +1,7 @@
 //! The locks and their index together.
 ghost use Rattle.std.specs.Prelude.{◌≡◌, ◌≢◌, ◌∷◌, [], drop, true, IfErr, IfSome, IfNone, OnOk, OnErr};
-ghost use Rattle.history.specs.Spans.{ends_above, IsRange};
+ghost use Rattle.history.specs.Spans.{IsRange};
+ghost use Rattle.record_key.specs.Order.{ends_above};
 ghost use Rattle.range_locks.specs.Locks.{spans_of, set_spans, IsFree, IsLeastHolder, Refuses};
 ghost use Rattle.range_locks.specs.Meant.{low_of, high_of, meant, span_of, seen};
 ghost use Rattle.range_locks.specs.Index.{IsIndexed};

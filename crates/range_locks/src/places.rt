@@ -1,6 +1,6 @@
 //! Between which entries of the index a conflict can be.
 ghost use Rattle.std.specs.Prelude.{◌≡◌, true, IfSome};
-ghost use Rattle.history.specs.Spans.{is_below};
+ghost use Rattle.record_key.specs.Order.{is_below};
 ghost use Rattle.range_locks.specs.Places.{first_at, ranges_at, ranges_end, keys_to, HasRangesBelow};
 
 use crate::entry::Entry;

@@ -1,6 +1,7 @@
 //! Spans of keys, and when two locks conflict.
 ghost use Rattle.std.specs.Prelude.{◌≡◌};
-ghost use Rattle.history.specs.Spans.{do_conflict, ends_above};
+ghost use Rattle.history.specs.Spans.{do_conflict};
+ghost use Rattle.record_key.specs.Order.{ends_above};
 ghost use Rattle.range_locks.specs.Meant.{mode_of, low_of, high_of, span_of, later, clash};
 
 use record_key::Key;

@@ -1,10 +1,10 @@
 -- What an edit at a key's place among sorted rows does to the table.
-use Rattle.std.proofs.Common.{◌≡◌, ℕ, zero, suc, ◌<◌, ◌≤◌, Bool, true, false, cond, List, [], ◌∷◌, length, get_or, set, Some, None, refl, sym, ap, ◌∙◌, subst, arith}
-use Rattle.std.specs.Prelude.{not, ◌&&◌, T}
+use Rattle.std.proofs.Common.{◌≡◌, ℕ, zero, suc, Bool, true, false, cond, List, [], ◌∷◌, get_or, set, Some, None, refl, sym, ap, ◌∙◌, subst, arith, inl, inr}
+use Rattle.std.specs.Prelude.{not, T}
 use Rattle.std.specs.List.{insert, remove}
-use Rattle.std.specs.Ordering.{eq_by_cmp, is_eq, is_lt, ordering_reverse}
-use Rattle.std.specs.declared.cmp.Ordering.{Ordering}
-use Rattle.std.specs.declared.cmp.Ordering.TheVariants.{Less, Equal, Greater}
+use Rattle.std.specs.Ordering.{eq_by_cmp, is_eq}
+use Rattle.std.specs.declared.cmp.Ordering.TheVariants.{Less, Equal}
+use Rattle.std.proofs.lemmas.Bool.{cases_Bool, and_right}
 use Rattle.std.proofs.lemmas.Cmp.{nat_list_cmp_total, alike_right, eq_by_cmp_equiv}
 use Rattle.std.proofs.lemmas.Map.Lookups.{exact_bytes}
 use Rattle.std.specs.FinMap as map
@@ -13,27 +13,9 @@ use Rattle.std.specs.FinMap.Entries.{below_all, where_key, find-where_key, is_so
 use Rattle.record_key.specs.Table.{Bytes, Table}
 use Rattle.record_key.specs.Laws.{key_cmp}
 use Rattle.record_key.proofs.Tables.{same_table}
-use Rattle.record_key.specs.Rows.{Row, table_of, AreInOrder, IsAt, IsGapFor}
-
-pub is_lt-Less : (o : Ordering) → T (is_lt o) → o ≡ Less
-is_lt-Less Less h = refl
-is_lt-Less Equal h = absurd h
-is_lt-Less Greater h = absurd h
-
-pub and_first : (a b : Bool) → T (a && b) → T a
-and_first true b h = tt
-and_first false b h = h
-
-pub and_second : (a b : Bool) → T (a && b) → T b
-and_second true b h = h
-and_second false b h = absurd h
-
-pub as_T : (b : Bool) → b ≡ true → T b
-as_T b e = subst T (sym e) tt
-
-from_T : (b : Bool) → T b → b ≡ true
-from_T true h = refl
-from_T false h = absurd h
+use Rattle.record_key.specs.Order.{is_below}
+use Rattle.record_key.specs.Rows.{Row, table_of, rises, AreInOrder, IsAt, IsGapFor}
+use Rattle.record_key.proofs.Truths.{is_lt-Less, and_first, and_second, as_T, from_T}
 
 -- rows in order are the entries of their table
 pub entries-table_of : (rows : List Row) → AreInOrder rows → map.entries (table_of rows) ≡ rows
@@ -42,6 +24,27 @@ entries-table_of rows ordered = map.entries-from_sorted key_cmp rows (as_T (map.
 -- a table is that of its entries
 pub table_of_entries : (m : Table) (rows : List Row) → AreInOrder rows → map.entries m ≡ rows → table_of rows ≡ m
 table_of_entries m rows ordered is = map.same_entries_map (table_of rows) m (entries-table_of rows ordered ∙ sym is)
+
+-- rows in order, by the first two of them
+below_further : (x y : Bytes) (rows : List Row) → key_cmp x y ≡ Less → T (below_all key_cmp y rows) → T (below_all key_cmp x rows)
+below_further x y [] less above = tt
+below_further x y (row ∷ rows) less above =
+    let here : key_cmp x row.0 ≡ Less = nat_list_cmp_total.trans x y row.0 less (is_lt-Less _ (and_first _ _ above)) in
+    rw here (below_further x y rows less (and_second _ _ above))
+
+pub rises_next : (first second : Row) (rows : List Row) → is_below first.0 second.0 ≡ true
+    → rises (first ∷ second ∷ rows) ≡ rises (second ∷ rows)
+rises_next first second rows below =
+    elim (cases_Bool (rises (second ∷ rows))) [
+      | inl ordered ↦
+          let less : key_cmp first.0 second.0 ≡ Less = is_lt-Less _ (as_T _ below) in
+          let above = below_further first.0 second.0 rows less (and_first _ _ (as_T (rises (second ∷ rows)) ordered)) in
+          rw (below, from_T _ above) refl
+      | inr mixed ↦ and_right _ (rises (second ∷ rows)) mixed ∙ sym mixed
+    ]
+
+pub falls_next : (first second : Row) (rows : List Row) → is_below first.0 second.0 ≡ false → rises (first ∷ second ∷ rows) ≡ false
+falls_next first second rows above = rw above refl
 
 -- what stands at the key
 pub get-table_of : (rows : List Row) (k : Bytes) → AreInOrder rows → map.get (table_of rows) k ≡ find key_cmp k rows
@@ -137,25 +140,6 @@ module _ (rows : List Row) (ordered : AreInOrder rows) (k : Bytes) (p : ℕ) whe
       let is = where_key-at k rows p sorted at in
       let P : List Row → Type 0 = λ new. AreInOrder new × (table_of new ≡ map.remove (table_of rows) k) in
       subst P is (without_ordered, without_table)
-
--- the place, by what was compared
-pub gap_from : (k : Bytes) (rows : List Row) (p : ℕ) (d : Row) → p ≤ length rows
-    → ((j : ℕ) → j < p → key_cmp (get_or rows j d).0 k ≡ Less) → (p < length rows → key_cmp (get_or rows p d).0 k ≡ Greater) → IsGapFor k rows p
-gap_from k [] p d within below above = omega (arith, within)
-gap_from k (row ∷ rows) zero d within below above = nat_list_cmp_total.antisymm k row.0 ∙ ap ordering_reverse (above (omega arith))
-gap_from k (row ∷ rows) (suc p) d within below above = (
-  nat_list_cmp_total.antisymm k row.0 ∙ ap ordering_reverse (below 0 (omega arith)),
-  gap_from k rows p d (omega (arith, within)) (λ j lt. below (suc j) (omega arith)) (λ lt. above (omega arith)),
-)
-
-pub at_from : (k : Bytes) (rows : List Row) (p : ℕ) (d : Row) → p < length rows
-    → ((j : ℕ) → j < p → key_cmp (get_or rows j d).0 k ≡ Less) → key_cmp (get_or rows p d).0 k ≡ Equal → IsAt k rows p
-at_from k [] p d within below here = absurd (omega (arith, within))
-at_from k (row ∷ rows) zero d within below here = nat_list_cmp_total.antisymm k row.0 ∙ ap ordering_reverse here
-at_from k (row ∷ rows) (suc p) d within below here = (
-  nat_list_cmp_total.antisymm k row.0 ∙ ap ordering_reverse (below 0 (omega arith)),
-  at_from k rows p d (omega (arith, within)) (λ j lt. below (suc j) (omega arith)) here,
-)
 
 pub table_of_none : table_of [] ≡ map.empty
 table_of_none = same_table _ _ (λ q. get-table_of [] q refl ∙ sym (map.get-empty key_cmp q))

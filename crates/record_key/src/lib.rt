@@ -1,4 +1,4 @@
-//! Keys, values, operations on records, their answers, and the refusals of every call.
+//! Keys, values, operations on records, their answers, entries of what is done, and the refusals of every call.
 //!
 //! Knows: what a table is (a finite map in key order) and what one operation does to it.
 //! Must not know: transactions, logs, leaves, messages, devices.
@@ -6,6 +6,7 @@
 //! 0 to 120 bytes; both lie inline, so none of them ever takes memory.
 #![tactic(auto)]
 
+mod entry;
 mod key;
 mod laws;
 mod op;
@@ -13,6 +14,7 @@ mod plain_table;
 mod refusal;
 mod value;
 
+pub use entry::Entry;
 pub use key::Key;
 pub use laws::{key_order_law, table_law};
 pub use op::{Answer, Op};

@@ -1,6 +1,6 @@
 -- A log device in memory as its callers see it.
 use Rattle.std.specs.Prelude.{ℕ, ◌+◌, List, Option, Result}
-use Rattle.stable.specs.Countdown.{after_call}
+use Rattle.stable.specs.Countdown.{after_answer}
 use Rattle.stable.specs.Device.{failures_told}
 use Rattle.stable.specs.declared.error.DeviceError.{DeviceError}
 
@@ -20,4 +20,4 @@ with_bytes log forced pending = record log { forced = forced; pending = pending 
 
 -- the log after a call that gave this answer, its bytes as they were
 abbrev pub log_after : {T : Type 0} → LogState → Result T DeviceError → LogState
-log_after log answer = record log { countdown = after_call log.countdown; failures = log.failures + failures_told answer }
+log_after log answer = record log { countdown = after_answer log.countdown answer; failures = log.failures + failures_told answer }

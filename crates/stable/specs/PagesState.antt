@@ -4,7 +4,7 @@ use Rattle.std.specs.declared.alloc.Global.{Global}
 use Rattle.std.specs.Ordering.{nat_cmp}
 use Rattle.std.specs.FinMap.{FinMap, from_entries, code}
 use Rattle.std.specs.Coded.{Coded, code_by, coded×, coded_ℕ, coded_list, coded_option}
-use Rattle.stable.specs.Countdown.{after_call}
+use Rattle.stable.specs.Countdown.{after_answer}
 use Rattle.stable.specs.Device.{failures_told}
 use Rattle.stable.specs.declared.error.DeviceError.{DeviceError}
 
@@ -30,4 +30,4 @@ pages_of entries = from_entries (map (λ e. (e.0, e.1.items)) entries)
 
 -- the device after a call that gave this answer, its pages as they were
 abbrev pub pages_after : {T : Type 0} → PagesState → Result T DeviceError → PagesState
-pages_after device answer = record device { countdown = after_call device.countdown; failures = device.failures + failures_told answer }
+pages_after device answer = record device { countdown = after_answer device.countdown answer; failures = device.failures + failures_told answer }

@@ -6,7 +6,7 @@ ghost use Rattle.std.specs.Borrow.{ftrue};
 use std::marker::{Model, PhantomData, Send};
 
 #[derive(Drop)]
-pub(crate) struct Failures {
+pub struct Failures {
     marker: PhantomData<u8>,
     pub ghost count: { ℕ },
 }
@@ -16,7 +16,7 @@ impl Model for Failures {
 }
 
 impl Failures {
-    pub(crate) fn new() -> Failures
+    pub fn new() -> Failures
         ensures { result.count ≡ 0 }
     {
         Failures {
@@ -24,7 +24,7 @@ impl Failures {
         }
     }
 
-    pub(crate) fn add_one(&mut self)
+    pub fn add_one(&mut self)
         ensures { self.new.count ≡ self.old.count + 1 }
     {}
 }

@@ -32,6 +32,16 @@ impl Faults {
         self.countdown = Some(n);
     }
 
+    /// Whether the next call is the one that was set.
+    pub(crate) fn is_due(&self) -> bool
+        ensures { result ≡ fails_next self.now.countdown }
+    {
+        match self.countdown {
+            Some(n) => n <= 1,
+            None => false,
+        }
+    }
+
     /// Counts a call, which fails if it is the one that was set.
     pub(crate) fn call(&mut self) -> Result<(), DeviceError>
         ensures device { IsErrOf result DeviceError.Device ↔ IsTrue (fails_next self.old.countdown) }

@@ -18,6 +18,7 @@ mod tests;
 
 pub use crash::crash_law;
 pub use error::DeviceError;
+pub use failures::Failures;
 pub use log_device::LogDevice;
 pub use mem_log::MemLog;
 pub use mem_pages::MemPages;

@@ -1,5 +1,5 @@
 //! A log device in memory, which a test can make fail and crash.
-ghost use Rattle.std.specs.Prelude.{◌≡◌, ◌≤◌, ◌↔◌, [], ◌++◌, take, length, IsTrue, OnOk, OnErr, IfOk, IsErrOf, IsOkUnless};
+ghost use Rattle.std.specs.Prelude.{◌≡◌, ◌≤◌, ◌↔◌, [], ◌++◌, take, length, IsTrue, false, OnOk, OnErr, IfOk, IsErrOf, IsOkUnless};
 ghost use Rattle.std.specs.Borrow.{sem};
 ghost use Rattle.stable.specs.Countdown.{fails_next};
 ghost use Rattle.stable.specs.Crash.{MayLeave};
@@ -12,7 +12,8 @@ use crate::log_device::LogDevice;
 use std::alloc::Global;
 use std::marker::Model;
 
-/// Bytes in memory. Each device call counts down to the failure that was set, also one that is refused for memory.
+/// Bytes in memory. Each device call counts down to the failure that was set. One that is refused for memory changes
+/// nothing, the countdown neither: room is made first.
 #[derive(Drop)]
 pub struct MemLog {
     bytes: Vec<u8>,
@@ -60,6 +61,13 @@ impl MemLog {
         self.faults.fail_at(n);
     }
 
+    /// The bytes that aren't forced yet. This is no device call: nothing is counted, and nothing fails.
+    pub fn pending(&self) -> &[u8]
+        ensures { result.now ≡ self.now.pending }
+    {
+        &self.bytes[self.forced..]
+    }
+
     /// Keeps the forced bytes and at most `kept` more, all of which are forced from now on.
     pub fn crash(&mut self, kept: usize)
         ensures left { self.new ≡ with_bytes self.old (self.old.forced ++ take kept self.old.pending) [] }
@@ -81,11 +89,14 @@ impl LogDevice for MemLog {
     ghost failures = { λ log. log.failures };
 
     fn append(&mut self, bytes: &[u8]) -> Result<(), DeviceError>
-        ensures fails { IsErrOf result DeviceError.Device ↔ IsTrue (fails_next self.old.countdown) }
+        ensures fails { IsErrOf result DeviceError.Device → IsTrue (fails_next self.old.countdown) }
+        ensures due { OnOk result (fails_next self.old.countdown ≡ false) }
         ensures ok { OnOk result (self.new
             ≡ with_bytes (log_after self.old result) self.old.forced (self.old.pending ++ bytes.now)) }
         ensures err { OnErr result (self.new ≡ log_after self.old result) }
+        ensures no_memory { IsErrOf result DeviceError.NoMemory → self.new ≡ self.old }
     {
+        self.bytes.reserve(bytes.len())?;
         self.faults.call()?;
         self.bytes.extend_from_slice(bytes)?;
         Ok(())

@@ -1,5 +1,5 @@
 //! A page device in memory, which a test can make fail and crash.
-ghost use Rattle.std.specs.Prelude.{◌≡◌, ◌≤◌, ◌↔◌, IsTrue, OnOk, OnErr, IfOk, IsErrOf, IsOkUnless};
+ghost use Rattle.std.specs.Prelude.{◌≡◌, ◌≤◌, ◌↔◌, IsTrue, false, OnOk, OnErr, IfOk, IsErrOf, IsOkUnless};
 ghost use Rattle.std.specs.Borrow.{sem};
 ghost use Rattle.std.specs.FinMap as map;
 ghost use Rattle.std.specs.List.Sorted.{IsStrictlyIncreasing};
@@ -15,7 +15,8 @@ use std::alloc::{AllocError, Global};
 use std::collections::BTreeMap;
 use std::marker::Model;
 
-/// Pages in memory. Each device call counts down to the failure that was set, also one that is refused for memory.
+/// Pages in memory. Each device call counts down to the failure that was set. One that is refused for memory changes
+/// nothing, the countdown neither.
 #[derive(Drop)]
 pub struct MemPages {
     alloc: Global,
@@ -73,15 +74,19 @@ impl PageDevice for MemPages {
     ghost failures = { λ device. device.failures };
 
     fn write(&mut self, id: u64, image: &[u8]) -> Result<(), DeviceError>
-        ensures fails { IsErrOf result DeviceError.Device ↔ IsTrue (fails_next self.old.countdown) }
+        ensures fails { IsErrOf result DeviceError.Device → IsTrue (fails_next self.old.countdown) }
+        ensures due { OnOk result (fails_next self.old.countdown ≡ false) }
         ensures ok { OnOk result (self.new ≡ record (pages_after self.old result) {
           pages = map.insert self.old.pages id image.now;
         }) }
         ensures err { OnErr result (self.new ≡ pages_after self.old result) }
+        ensures no_memory { IsErrOf result DeviceError.NoMemory → self.new ≡ self.old }
     {
-        self.faults.call()?;
         let image = Vec::from_slice(self.alloc, image)?;
-        put(&mut self.pages, id, image)
+        if !self.faults.is_due() {
+            put(&mut self.pages, id, image)?;
+        }
+        self.faults.call()
     }
 
     fn read(&mut self, id: u64) -> Result<Option<&[u8]>, DeviceError>
@@ -97,13 +102,16 @@ impl PageDevice for MemPages {
     }
 
     fn ids(&mut self, alloc: Global) -> Result<Vec<u64>, DeviceError>
-        ensures fails { IsErrOf result DeviceError.Device ↔ IsTrue (fails_next self.old.countdown) }
+        ensures fails { IsErrOf result DeviceError.Device → IsTrue (fails_next self.old.countdown) }
+        ensures due { OnOk result (fails_next self.old.countdown ≡ false) }
         ensures written { IfOk result (λ ids. ids.items ≡ map.keys self.old.pages) }
         ensures rising { IfOk result (λ ids. IsStrictlyIncreasing ids.items) }
         ensures same { self.new ≡ pages_after self.old result }
+        ensures no_memory { IsErrOf result DeviceError.NoMemory → self.new ≡ self.old }
     {
+        let ids = ids_of(alloc, &self.pages)?;
         self.faults.call()?;
-        Ok(ids_of(alloc, &self.pages)?)
+        Ok(ids)
     }
 }
 

@@ -2,11 +2,14 @@
 ghost use Rattle.std.specs.Prelude.{◌≡◌, ◌<◌, [], ◌++◌, take, OnOk, IfOk, IsErrOf};
 ghost use Rattle.std.specs.FinMap as map;
 
+mod listed_log;
+
 use crate::error::DeviceError;
 use crate::log_device::LogDevice;
 use crate::mem_log::MemLog;
 use crate::mem_pages::MemPages;
 use crate::page_device::PageDevice;
+use listed_log::ListedLog;
 use std::alloc::Global;
 use std::marker::Send;
 use std::process::Abort;
@@ -70,6 +73,19 @@ fn five_bytes(alloc: Global) -> Result<MemLog, Fail> {
     log.force()?;
     log.append(&[4, 5])?;
     Ok(log)
+}
+
+/// What waits to be forced is read without a device call, so a failure that is set waits too.
+#[test]
+fn the_unforced_bytes_are_no_device_call(rt: HostRuntime) -> Result<(), Fail> {
+    let mut log = five_bytes(rt.alloc())?;
+    log.fail_at(1);
+    assert_eq!(rt; log.pending(), [4, 5].as_slice());
+    assert_eq!(rt; log.force(), Err(DeviceError::Device));
+    assert_eq!(rt; log.pending(), [4, 5].as_slice());
+    log.force()?;
+    assert!(rt; log.pending().is_empty());
+    Ok(())
 }
 
 #[test]
@@ -147,6 +163,24 @@ fn a_force_that_fails_forces_nothing(rt: HostRuntime) -> Result<(), Fail> {
     assert_eq!(rt; log.force(), Err(DeviceError::Device));
     log.crash(0);
     expect_log(&rt, &mut log, &[1, 2, 3])
+}
+
+/// The second call fails, and the fourth.
+#[test]
+fn a_device_from_outside_is_a_log_too(rt: HostRuntime) -> Result<(), Fail> {
+    let faults = vec![in rt.alloc(); true, false, true, false]?;
+    let mut log = ListedLog::new(rt.alloc(), faults);
+    assert_eq!(rt;
+        stored(rt.alloc(), &mut log, &[1, 2]),
+        Err(DeviceError::Device)
+    );
+    assert_eq!(rt;
+        stored(rt.alloc(), &mut log, &[3]),
+        Err(DeviceError::Device)
+    );
+    let all = stored(rt.alloc(), &mut log, &[4])?;
+    assert_eq!(rt; all.as_slice(), [1, 2, 3, 4].as_slice());
+    Ok(())
 }
 
 /// Page 7 holds 1, page 2 holds 2 3, page 9 nothing.

@@ -1,5 +1,5 @@
 -- What a change in the slot of a number leaves.
-use Rattle.std.proofs.Common.{◌≡◌, ◌≢◌, ℕ, ◌<◌, ◌==◌, Bool, true, false, cond, List, [], ◌∷◌, ◌++◌, Some, None, IsSome, refl, sym, ap, ◌∙◌, subst, arith, append-nil}
+use Rattle.std.proofs.Common.{◌≡◌, ◌≢◌, ℕ, ◌<◌, ◌==◌, Bool, true, false, cond, List, [], ◌∷◌, ◌++◌, Option, Some, None, IsSome, is_some, refl, sym, ap, ◌∙◌, subst, arith, append-nil}
 use Rattle.std.specs.Prelude.{if◌then◌else◌}
 use Rattle.std.specs.List.{AllByRecursion}
 use Rattle.std.specs.BTreeMap.{is_at}
@@ -12,7 +12,11 @@ use Rattle.tc_core.specs.declared.open_txn.OpenTxn.{OpenTxn}
 use Rattle.tc_core.specs.OpenTxns.{find, replace, without}
 use Rattle.tc_core.specs.Slots.{in_slots, AreSlots}
 use Rattle.tc_core.proofs.Slots.{Holds, numbers, kept}
-use Rattle.tc_core.proofs.InSlots.{slot_of, is_held}
+use Rattle.tc_core.specs.declared.change.Change.{Change}
+use Rattle.tc_core.specs.declared.change.Change.TheVariants as what
+use Rattle.tc_core.specs.Changed.{changed, happens_to, happens}
+use Rattle.tc_core.proofs.Finding.{found_number}
+use Rattle.tc_core.proofs.InSlots.{slot_of, held_at, found_at, is_held}
 
 replace_in_both : (new : OpenTxn) (xs ys : List OpenTxn) → replace new (xs ++ ys) ≡ replace new xs ++ replace new ys
 replace_in_both new [] ys = refl
@@ -130,7 +134,7 @@ module _ (old new : Slab OpenTxn) (t s : ℕ) (u : Updates old new s None) where
           }
 
 -- the transaction in a number's slot is replaced
-pub replaces : (opened : OpenTxn) (s : ℕ) (slab : Slab OpenTxn) (es : List (ℕ × ℕ)) (os : List OpenTxn) → AreSlots slab es → in_slots slab es ≡ os
+replaces : (opened : OpenTxn) (s : ℕ) (slab : Slab OpenTxn) (es : List (ℕ × ℕ)) (os : List OpenTxn) → AreSlots slab es → in_slots slab es ≡ os
     → Some s ≡ slot_of opened.txn es → IsSome (find opened.txn os) → Holds (with_value slab s opened) es (replace opened os)
 replaces opened s slab es os are view found open_txn =
     let h = replaced slab (with_value slab s opened) s opened (Updates-with_value slab s opened (is_held opened.txn slab es os are view s found open_txn)) es are (sym found) in
@@ -142,3 +146,31 @@ pub removes : (t s : ℕ) (old new : Slab OpenTxn) (es left : List (ℕ × ℕ))
 removes t s old new es left os are view found updates is =
     let h = removed old new t s updates es are (sym found) in
     rw is (record { are = h.are; view = h.view ∙ ap (without t) view })
+
+-- something happens to the transaction in a number's slot
+changed_number : (what : Change) (o : OpenTxn) → (changed what o).txn ≡ o.txn
+changed_number (what.Stepped number undo waiting) o = refl
+changed_number what.Answered o = refl
+changed_number (what.Reads read) o = refl
+changed_number what.Told o = refl
+changed_number (what.Saved saves) o = refl
+changed_number what.Rolls o = refl
+changed_number (what.GoesBack rollback saves) o = refl
+changed_number what.IsBack o = refl
+
+pub changes : (what : Change) (t s : ℕ) (o : OpenTxn) (slab : Slab OpenTxn) (es : List (ℕ × ℕ)) (os : List OpenTxn) → AreSlots slab es → in_slots slab es ≡ os
+    → Some s ≡ slot_of t es → get slab s ≡ Some o → Holds (with_value slab s (changed what o)) es (happens t what os)
+changes what t s o slab es os are view slot held =
+    let found : find t os ≡ Some o = sym (found_at t slab es os are view (Some s) slot) ∙ held in
+    let new : OpenTxn = changed what o in
+    let number : new.txn ≡ t = changed_number what o ∙ found_number t os o found in
+    let P : ℕ → Type 0 = λ n. (Some s ≡ slot_of n es) × IsSome (find n os) in
+    let there = subst P (sym number) (slot, ap is_some found) in
+    let h = replaces new s slab es os are view there.0 there.1 in
+    record { are = h.are; view = h.view ∙ sym (ap (λ x. happens_to x what os) found) }
+
+-- nothing happens where there is none
+pub changes_none : (what : Change) (t : ℕ) (slot : Option ℕ) (slab : Slab OpenTxn) (es : List (ℕ × ℕ)) (os : List OpenTxn) → AreSlots slab es → in_slots slab es ≡ os
+    → slot ≡ slot_of t es → held_at slab slot ≡ None → os ≡ happens t what os
+changes_none what t slot slab es os are view is none =
+    let found : find t os ≡ None = sym (found_at t slab es os are view slot is) ∙ none in sym (ap (λ x. happens_to x what os) found)

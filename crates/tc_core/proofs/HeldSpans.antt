@@ -1,6 +1,6 @@
 -- What transactions hold by the log, and what a record more makes of it.
-use Rattle.std.proofs.Common.{◌≡◌, ◌≢◌, ℕ, ◌+◌, Bool, true, false, List, [], ◌∷◌, ◌++◌, length, Option, Some, None, IsSome, is_some, refl, sym, ap, ◌∙◌, subst, inl, inr, eq-eqb, ne_eqb}
-use Rattle.std.specs.Prelude.{◌==◌, not, ◌&&◌, if◌then◌else◌}
+use Rattle.std.proofs.Common.{◌≡◌, ◌≢◌, ℕ, ◌+◌, Bool, true, false, List, [], ◌∷◌, ◌++◌, length, Some, None, IsSome, is_some, refl, sym, ap, ◌∙◌, subst, inl, inr, eq-eqb, ne_eqb}
+use Rattle.std.specs.Prelude.{◌==◌, not, ◌&&◌, ◌||◌, if◌then◌else◌}
 use Rattle.std.specs.Ordering.{is_lt}
 use Rattle.std.specs.declared.cmp.Ordering.TheVariants.{Equal}
 use Rattle.std.proofs.lemmas.Bool.{cases_eq}
@@ -18,7 +18,7 @@ use Rattle.log_laws.proofs.Records.{AnOp, op_step, both_same, newest_at, older_a
 use Rattle.log_laws.proofs.LegalLogs.{begun, begun_number, op_number}
 use Rattle.tc_core.specs.declared.open_txn.OpenTxn.{OpenTxn}
 use Rattle.tc_core.specs.OpenTxns.{find, replace, without}
-use Rattle.tc_core.specs.Locking.{op_spans, held_spans}
+use Rattle.tc_core.specs.Locking.{op_spans, held_spans, is_holder, is_listed}
 use Rattle.tc_core.proofs.Finding.{find_here, find_there, replaced_same, replaced_other, without_same, without_other}
 
 -- a key conflicts with itself
@@ -61,17 +61,19 @@ op_spans_has s (r ∷ log) n t o by clash =
       | inr e ↦ any_longer s r log t (op_spans_has s log n t o (older_at (AnOp t o) r log n e by) clash)
     ]
 
--- an open transaction holds the keys of its operations, any other nothing
-pub held_is : (log : List Record) (os : List OpenTxn) (t : ℕ) → IsSome (find t os) → held_spans log os t ≡ op_spans log t
-held_is log os t some = ap (λ b. if b then op_spans log t else []) some
+-- an open transaction holds the keys of its operations, so does one that is committing, any other nothing
+pub held_is : (log : List Record) (os : List OpenTxn) (cs : List ℕ) (t : ℕ) → is_holder os cs t ≡ true → held_spans log os cs t ≡ op_spans log t
+held_is log os cs t holds = ap (λ b. if b then op_spans log t else []) holds
 
-pub held_open : (log : List Record) (os : List OpenTxn) (t : ℕ) (o : OpenTxn) → find t os ≡ Some o → held_spans log os t ≡ op_spans log t
-held_open log os t o is = held_is log os t (ap is_some is)
+pub open_holds : (os : List OpenTxn) (cs : List ℕ) (t : ℕ) → IsSome (find t os) → is_holder os cs t ≡ true
+open_holds os cs t some = ap (λ b. b || is_listed cs t) some
 
-pub held_none : (log : List Record) (os : List OpenTxn) (t : ℕ) → find t os ≡ None → held_spans log os t ≡ []
-held_none log os t none = ap (λ (x : Option OpenTxn). if is_some x then op_spans log t else []) none
+pub held_open : (log : List Record) (os : List OpenTxn) (cs : List ℕ) (t : ℕ) (o : OpenTxn) → find t os ≡ Some o → held_spans log os cs t ≡ op_spans log t
+held_open log os cs t o is = held_is log os cs t (open_holds os cs t (ap is_some is))
 
--- a record that is no operation takes nothing
+pub held_none : (log : List Record) (os : List OpenTxn) (cs : List ℕ) (t : ℕ) → is_holder os cs t ≡ false → held_spans log os cs t ≡ []
+held_none log os cs t none = ap (λ b. if b then op_spans log t else []) none
+
 pub op_spans_longer : (r : Record) (log : List Record) (t : ℕ) → op_of r ≡ None → op_spans (r ∷ log) t ≡ op_spans log t
 op_spans_longer (is.Op u p op) log t none = absurd (cc)
 op_spans_longer _ log t none = refl
@@ -94,14 +96,19 @@ op_spans_none (r ∷ log) t none =
     newest (is.Op u p op) no_op = op_spans_other u p op log t (λ e. no_op op (ap (λ x. Some (x, op)) (sym e)))
     newest _ no_op = refl
 
-held_alike : (log log2 : List Record) (os os2 : List OpenTxn) (t : ℕ) → is_some (find t os2) ≡ is_some (find t os) → op_spans log2 t ≡ op_spans log t → held_spans log2 os2 t ≡ held_spans log os t
-held_alike log log2 os os2 t same_open same_spans =
-    ap (λ b. if b then op_spans log2 t else []) same_open ∙ ap (λ (x : List Span). if is_some (find t os) then x else []) same_spans
+held_alike : (log log2 : List Record) (os os2 : List OpenTxn) (cs cs2 : List ℕ) (t : ℕ) → is_holder os2 cs2 t ≡ is_holder os cs t → op_spans log2 t ≡ op_spans log t
+    → held_spans log2 os2 cs2 t ≡ held_spans log os cs t
+held_alike log log2 os os2 cs cs2 t same_holder same_spans =
+    ap (λ b. if b then op_spans log2 t else []) same_holder ∙ ap (λ (x : List Span). if is_holder os cs t then x else []) same_spans
 
--- held is the same where the same are open and have the same operations
-pub held_same : (log log2 : List Record) (os os2 : List OpenTxn) → ((t : ℕ) → is_some (find t os2) ≡ is_some (find t os)) → ((t : ℕ) → op_spans log2 t ≡ op_spans log t)
-    → (t : ℕ) → held_spans log2 os2 t ≡ held_spans log os t
-held_same log log2 os os2 same_open same_spans t = held_alike log log2 os os2 t (same_open t) (same_spans t)
+-- held is the same where the same hold and have the same operations
+pub held_same : (log log2 : List Record) (os os2 : List OpenTxn) (cs cs2 : List ℕ) → ((t : ℕ) → is_holder os2 cs2 t ≡ is_holder os cs t)
+    → ((t : ℕ) → op_spans log2 t ≡ op_spans log t) → (t : ℕ) → held_spans log2 os2 cs2 t ≡ held_spans log os cs t
+held_same log log2 os os2 cs cs2 same_holders same_spans t = held_alike log log2 os os2 cs cs2 t (same_holders t) (same_spans t)
+
+-- the same hold where the same are open
+pub same_holder : (os os2 : List OpenTxn) (cs : List ℕ) (t : ℕ) → find t os2 ≡ find t os → is_holder os2 cs t ≡ is_holder os cs t
+same_holder os os2 cs t same = ap (λ o. is_some o || is_listed cs t) same
 
 -- who is open stays so when one is put in another's place
 pub is_some_replaced : (new o : OpenTxn) (os : List OpenTxn) → find new.txn os ≡ Some o → (t : ℕ) → is_some (find t (replace new os)) ≡ is_some (find t os)
@@ -112,33 +119,37 @@ is_some_replaced new o os is t =
       | inr apart ↦ ap is_some (replaced_other new os t apart)
     ]
 
+pub holder_replaced : (new o : OpenTxn) (os : List OpenTxn) (cs : List ℕ) → find new.txn os ≡ Some o → (t : ℕ) → is_holder (replace new os) cs t ≡ is_holder os cs t
+holder_replaced new o os cs is t = ap (λ b. b || is_listed cs t) (is_some_replaced new o os is t)
+
 -- what one transaction holds now, and each other what it held
-abbrev pub Holds : List Record → List OpenTxn → ℕ → List Span → List Record → List OpenTxn → Type 0
-Holds log os t spans log2 os2 = (held_spans log2 os2 t ≡ spans) × ((u : ℕ) → u ≢ t → held_spans log2 os2 u ≡ held_spans log os u)
+abbrev pub Holds : List Record → List OpenTxn → List ℕ → ℕ → List Span → List Record → List OpenTxn → Type 0
+Holds log os cs t spans log2 os2 =
+    (held_spans log2 os2 cs t ≡ spans) × ((u : ℕ) → u ≢ t → held_spans log2 os2 cs u ≡ held_spans log os cs u)
 
 -- an operation takes its key
-pub held_acted : (log : List Record) (os : List OpenTxn) (new o : OpenTxn) (p : ℕ) (op : Op) → find new.txn os ≡ Some o
-    → Holds log os new.txn (at_key Exclusive (key_of op) ∷ held_spans log os new.txn) (is.Op new.txn p op ∷ log) (replace new os)
-held_acted log os new o p op at =
+pub held_acted : (log : List Record) (os : List OpenTxn) (cs : List ℕ) (new o : OpenTxn) (p : ℕ) (op : Op) → find new.txn os ≡ Some o
+    → Holds log os cs new.txn (at_key Exclusive (key_of op) ∷ held_spans log os cs new.txn) (is.Op new.txn p op ∷ log) (replace new os)
+held_acted log os cs new o p op at =
     let r : Record = is.Op new.txn p op in (
-      held_open (r ∷ log) (replace new os) new.txn new (replaced_same new o os at) ∙ op_spans_own new.txn p op log
-          ∙ ap (λ (x : List Span). at_key Exclusive (key_of op) ∷ x) (sym (held_open log os new.txn o at)),
-      λ u apart. held_alike log (r ∷ log) os (replace new os) u (is_some_replaced new o os at u) (op_spans_other new.txn p op log u apart),
+      held_open (r ∷ log) (replace new os) cs new.txn new (replaced_same new o os at) ∙ op_spans_own new.txn p op log
+          ∙ ap (λ (x : List Span). at_key Exclusive (key_of op) ∷ x) (sym (held_open log os cs new.txn o at)),
+      λ u apart. held_alike log (r ∷ log) os (replace new os) cs cs u (holder_replaced new o os cs at u) (op_spans_other new.txn p op log u apart),
     )
 
 -- one that begins holds nothing
-pub held_begun : (log : List Record) (os : List OpenTxn) (new : OpenTxn) → IsLegal log → new.txn ≡ length log + 1 → Holds log os new.txn [] (is.Begin ∷ log) (new ∷ os)
-held_begun log os new legal number = (
-  held_open (is.Begin ∷ log) (new ∷ os) new.txn new (find_here new os new.txn refl) ∙ op_spans_none log new.txn no_op,
-  λ u apart. held_alike log (is.Begin ∷ log) os (new ∷ os) u (ap is_some (find_there new os u (λ e. apart (sym e)))) refl,
+pub held_begun : (log : List Record) (os : List OpenTxn) (cs : List ℕ) (new : OpenTxn) → IsLegal log → new.txn ≡ length log + 1 → Holds log os cs new.txn [] (is.Begin ∷ log) (new ∷ os)
+held_begun log os cs new legal number = (
+  held_open (is.Begin ∷ log) (new ∷ os) cs new.txn new (find_here new os new.txn refl) ∙ op_spans_none log new.txn no_op,
+  λ u apart. held_alike log (is.Begin ∷ log) os (new ∷ os) cs cs u (same_holder os (new ∷ os) cs u (find_there new os u (λ e. apart (sym e)))) refl,
 )
   where
     no_op : (n : ℕ) (o : Op) → IsOpBy log n new.txn o → ⊥
     no_op n o by = not_newest log new.txn (begun_number log new.txn (begun log new.txn n legal (op_step new.txn o (record_at log n) by))) number
 
 -- one that ends holds nothing any more
-pub held_ended : (log : List Record) (os : List OpenTxn) (t : ℕ) → Holds log os t [] (is.End t ∷ log) (without t os)
-held_ended log os t = (
-  held_none (is.End t ∷ log) (without t os) t (without_same t os),
-  λ u apart. held_alike log (is.End t ∷ log) os (without t os) u (ap is_some (without_other t os u apart)) refl,
+pub held_ended : (log : List Record) (os : List OpenTxn) (cs : List ℕ) (t : ℕ) → is_listed cs t ≡ false → Holds log os cs t [] (is.End t ∷ log) (without t os)
+held_ended log os cs t unlisted = (
+  held_none (is.End t ∷ log) (without t os) cs t (rw (without_same t os, unlisted) refl),
+  λ u apart. held_alike log (is.End t ∷ log) os (without t os) cs cs u (same_holder os (without t os) cs u (without_other t os u apart)) refl,
 )

@@ -1,5 +1,6 @@
 -- Each record that is appended keeps what is kept of an open transaction that it isn't about.
-use Rattle.std.proofs.Common.{◌≡◌, ◌≢◌, ℕ, ◌+◌, false, List, ◌∷◌, length, Option, Some, refl, sym, ap, ◌∙◌, arith, inl, inr, ◌⊎◌}
+use Rattle.std.proofs.Common.{◌≡◌, ◌≢◌, ℕ, ◌+◌, ◌≤◌, false, List, [], ◌∷◌, length, Option, Some, refl, sym, ap, ◌∙◌, arith, inl, inr, ◌⊎◌}
+use Rattle.std.specs.List.{AllByRecursion}
 use Rattle.std.proofs.lemmas.Bool.{cases_eq, cases_Bool}
 use Rattle.record_key.specs.declared.op.Op.{Op}
 use Rattle.history.specs.declared.record.Record.{Record}
@@ -12,7 +13,8 @@ use Rattle.log_laws.proofs.LegalLogs.{begun_number, ended_push, falls, step_numb
 use Rattle.log_laws.proofs.Named.{ended_begun}
 use Rattle.log_laws.proofs.Undo.{latest_as, latest_number}
 use Rattle.tc_core.specs.declared.open_txn.OpenTxn.{OpenTxn}
-use Rattle.tc_core.specs.Kept.{IsOpenTxn, Waits}
+use Rattle.tc_core.specs.declared.open_txn.Rollback.{Rollback}
+use Rattle.tc_core.specs.Kept.{IsOpenTxn, IsRollback, Waits}
 
 abbrev ABegin : Option Record → Type 0
 ABegin r = r ≡ Some is.Begin
@@ -61,6 +63,22 @@ module _ (r : Record) (log : List Record) (t : ℕ) (neutral : IsNeutral r log t
   pub request_was : (m : ℕ) (o : Op) → IsStepOf (r ∷ log) t m → Requests (r ∷ log) m o → Requests log m o
   request_was m o step h = older_at (ARequest o) r log m (not_newest log m (step_number log m t (step_was m step))) h
 
+-- what lies within a log lies within a longer one
+saves_longer : (m n : ℕ) (saves : List ℕ) → m ≤ n → AllByRecursion (λ end. end ≤ m) saves → AllByRecursion (λ end. end ≤ n) saves
+saves_longer m n [] more all = tt
+saves_longer m n (s ∷ saves) more all = (omega (arith, all.0, more), saves_longer m n saves more all.1)
+
+-- savepoints and the bound of a rollback stay where they were
+pub record IsBounded (log : List Record) (o : OpenTxn) : Type 0 where
+  pub saves : AllByRecursion (λ end. end ≤ length log) o.saves
+  pub rolling : (r : Rollback) → o.rolling ≡ Some r → IsRollback log r
+
+pub bounded : (r : Record) (log : List Record) (o : OpenTxn) → IsOpenTxn log o → IsBounded (r ∷ log) o
+bounded r log o h = record {
+  saves = saves_longer (length log) (length (r ∷ log)) o.saves (omega arith) h.saves;
+  rolling = λ b is. let was : IsRollback log b = h.rolling b is in record { whole = was.whole; within = omega (arith, was.within) };
+}
+
 pub still_open : (r : Record) (log : List Record) (o : OpenTxn) (w : Option ℕ) → IsNeutral r log o.txn → IsOpenTxn log o
     → Waits (r ∷ log) (record o { waiting = w }) w → IsOpenTxn (r ∷ log) (record o { waiting = w })
 still_open r log o w neutral h waits = record {
@@ -68,4 +86,6 @@ still_open r log o w neutral h waits = record {
   last = last_is r log o.txn neutral o.last h.last;
   undo = h.undo ∙ ap (λ x. undo_from x o.last) (sym (record_old r log o.last (λ e. omega (arith, e, latest_number log o.txn o.last h.last))));
   waits = waits;
+  saves = (bounded r log o h).saves;
+  rolling = (bounded r log o h).rolling;
 }

@@ -11,6 +11,7 @@ use Rattle.history.specs.Legal.{IsIdle}
 use Rattle.log_laws.proofs.Records.{AStep, ARequest, newest_at, older_at, kept_at, within, IsNumber}
 use Rattle.log_laws.proofs.LegalLogs.{answered_push}
 use Rattle.tc_core.specs.declared.open_txn.OpenTxn.{OpenTxn}
+use Rattle.tc_core.specs.TcView.{rolls_back}
 use Rattle.tc_core.specs.Kept.{IsRequest, IsWaiting, IsOpenTxn, Waits}
 use Rattle.tc_core.proofs.Keeps.{IsNeutral, step_was, request_was, still_open}
 
@@ -27,7 +28,7 @@ request_at false r log o n h =
     let q : Record = is.Op o.txn h.0 h.1 in (h.0, h.1, kept_at (λ x. x ≡ Some q) r log n (a_record log n q h.2) h.2)
 
 request_kept : (r : Record) (log : List Record) (o : OpenTxn) (n : ℕ) → IsRequest log o n → IsRequest (r ∷ log) o n
-request_kept r log o n h = request_at o.rolling r log o n h
+request_kept r log o n h = request_at (rolls_back o) r log o n h
 
 -- what is waited for is a request of the transaction
 pub record IsOwnRequest (log : List Record) (t n : ℕ) : Type 0 where
@@ -42,7 +43,7 @@ own_at true log o n h = record { op = h.2; step = rw h.3 refl; requests = rw h.3
 own_at false log o n h = record { op = h.1; step = rw h.2 refl; requests = rw h.2 refl }
 
 pub own_request : (log : List Record) (o : OpenTxn) (n : ℕ) → IsRequest log o n → IsOwnRequest log o.txn n
-own_request log o n h = own_at o.rolling log o n h
+own_request log o n h = own_at (rolls_back o) log o n h
 
 module _ (r : Record) (log : List Record) where
   -- nothing of the transaction is answered by it: who waits waits still

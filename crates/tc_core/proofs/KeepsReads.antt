@@ -1,5 +1,5 @@
 -- What holds of the transaction component is kept when a client asks for a read, and when it is told.
-use Rattle.std.proofs.Common.{◌≡◌, ◌≢◌, ℕ, ◌+◌, true, false, List, ◌∷◌, Option, Some, None, refl, sym, ap, ◌∙◌, subst, arith, inl, inr, true≢false, eq-eqb, eqb-true}
+use Rattle.std.proofs.Common.{◌≡◌, ◌≢◌, ℕ, ◌+◌, ◌<◌, true, false, List, ◌∷◌, Option, Some, None, refl, sym, ap, ◌∙◌, subst, arith, inl, inr, true≢false, eq-eqb, eqb-true}
 use Rattle.std.proofs.lemmas.Bool.{cases_Bool}
 use Rattle.record_key.specs.declared.op.Op.{Op}
 use Rattle.record_key.specs.Table.{key_of}
@@ -16,7 +16,7 @@ use Rattle.tc_core.specs.declared.open_txns.Wanted.TheVariants.{Reader}
 use Rattle.tc_core.specs.OpenTxns.{find, is_read, wants}
 use Rattle.tc_core.specs.Locking.{AreApart}
 use Rattle.tc_core.specs.TcView.{TcView}
-use Rattle.tc_core.specs.Calls.{shared, asked_txn, asked, told_txn, was_told}
+use Rattle.tc_core.specs.Changes.{shared, reading_txn, asked_read, told_txn, was_told}
 use Rattle.tc_core.specs.Replies.{reader}
 use Rattle.tc_core.specs.Kept.{IsTc, IsOpenTxn, Waits, IsReading}
 use Rattle.tc_core.proofs.Finding.{IsOldest, oldest_none, oldest_found}
@@ -32,20 +32,22 @@ waits_alike log o r None h = h
 waits_alike log o r (Some n) h = record { request = h.request; unanswered = h.unanswered; only = h.only }
 
 open_alike : (log : List Record) (o : OpenTxn) (r : Option Read) → IsOpenTxn log o → IsOpenTxn log (record o { reading = r })
-open_alike log o r h = record { is = h.is; last = h.last; undo = h.undo; waits = waits_alike log o r o.waiting h.waits }
+open_alike log o r h = record { is = h.is; last = h.last; undo = h.undo; waits = waits_alike log o r o.waiting h.waits; saves = h.saves; rolling = h.rolling }
 
-pub keeps_ask : (w : TcView) (o : OpenTxn) (s : Span) → IsTc w → find o.txn w.open_txns ≡ Some o → o.waiting ≡ None → o.reading ≡ None → o.rolling ≡ false
-    → IsRange (shared s) → IsFree w.locks o.txn (shared s) → IsTc (asked w o s)
-keeps_ask w o s k at none still flat range free =
+pub keeps_ask : (w : TcView) (o : OpenTxn) (s : Span) → IsTc w → find o.txn w.open_txns ≡ Some o → o.waiting ≡ None → o.rolling ≡ None
+    → IsRange (shared s) → IsFree w.locks o.txn (shared s) → w.reads < 281474976710655 → IsTc (asked_read w o s)
+keeps_ask w o s k at none flat range free unspent =
     let r : Read = record { number = w.reads + 1; span = s } in
-    let new : OpenTxn = asked_txn o (w.reads + 1) s in
+    let new : OpenTxn = reading_txn o (w.reads + 1) s in
     record {
       legal = k.legal;
       within = k.within;
+      few = record { records = k.few.records; reads = omega (arith, unspent) };
       session = k.session;
       phase = k.phase;
       open_txns = replaced_open w.log w.log w.open_txns k.open_txns new o at (open_alike w.log o (Some r) (open_at w o k at)) (λ p apart same. same) (λ t same. same);
-      locks = shares w.log w.open_txns w.locks k.locks new o (shared s) at refl free;
+      committing = k.committing;
+      locks = shares w.log w.open_txns w.committing w.locks k.locks new o (shared s) at refl free;
       reading = reads_asked w.reads w.open_txns w.locks k.reading new o r (w.reads + 1) _ at refl (omega arith) (omega arith)
           (λ u apart. set_other o.txn (shared s ∷ spans_of w.locks o.txn) w.locks u k.locks.table apart)
           (record { idle = none; flat = flat; asked = omega arith; range = range; before = spans_of w.locks o.txn; held = set_own o.txn (shared s ∷ spans_of w.locks o.txn) w.locks k.locks.table });
@@ -55,10 +57,12 @@ pub keeps_told : (w : TcView) (o : OpenTxn) → IsTc w → find o.txn w.open_txn
 keeps_told w o k at = record {
   legal = k.legal;
   within = k.within;
+  few = record { records = k.few.records; reads = k.few.reads };
   session = k.session;
   phase = k.phase;
   open_txns = replaced_open w.log w.log w.open_txns k.open_txns (told_txn o) o at (open_alike w.log o None (open_at w o k at)) (λ p apart same. same) (λ t same. same);
-  locks = replaced w.log w.open_txns w.locks k.locks (told_txn o) o at;
+  committing = k.committing;
+  locks = replaced w.log w.open_txns w.committing w.locks k.locks (told_txn o) o at;
   reading = reads_replaced w.reads w.open_txns w.locks k.reading (told_txn o) o w.locks at refl (λ u apart. refl);
 }
 

@@ -1,6 +1,7 @@
 -- Each call keeps what holds of the transaction component.
-use Rattle.std.proofs.Common.{◌≡◌, ℕ, ◌+◌, ◌<◌, Bool, true, false, List, [], ◌∷◌, length, Option, Some, None, refl, sym, ap, ◌∙◌, subst, arith, inl, inr, eq-eqb, eqb-true}
-use Rattle.std.specs.Prelude.{if◌then◌else◌}
+use Rattle.std.proofs.Common.{◌≡◌, ℕ, ◌+◌, ◌-◌, ◌<◌, ◌≤◌, ◌++◌, zero, suc, Bool, true, false, List, [], ◌∷◌, length, Option, Some, None, refl, sym, ap, ◌∙◌, subst, arith, inl, inr, eq-eqb, eqb-true, true≢false}
+use Rattle.std.specs.Prelude.{take, slice_get, if◌then◌else◌}
+use Rattle.std.specs.List.{AllByRecursion}
 use Rattle.std.proofs.lemmas.Bool.Decides.{nat_tests}
 use Rattle.std.proofs.lemmas.Bool.{cases_eq}
 use Rattle.record_key.specs.declared.op.Op.{Op}
@@ -14,69 +15,140 @@ use Rattle.history.specs.Spans.{Exclusive, Span, at_key, Conflict, AnyConflict}
 use Rattle.log_laws.proofs.LegalLogs.{unanswered_next}
 use Rattle.tc_core.specs.declared.open_txn.OpenTxn.{OpenTxn}
 use Rattle.tc_core.specs.declared.open_txn.Read.{Read}
-use Rattle.tc_core.specs.OpenTxns.{find, AreBelow}
+use Rattle.tc_core.specs.declared.open_txn.Rollback.{Rollback}
+use Rattle.tc_core.specs.OpenTxns.{find, replace, AreBelow}
 use Rattle.range_locks.specs.Locks.{spans_of, IsFree}
 use Rattle.range_locks.proofs.Tables.{empty_table, set_other}
-use Rattle.tc_core.specs.TcView.{TcView, fresh}
-use Rattle.tc_core.specs.Calls.{reconnected, begun_txn, begun, acted_txn, acted, rolled, forced, answered_txn, answered}
+use Rattle.tc_core.specs.TcView.{TcView, fresh, failed}
+use Rattle.logical_log.specs.LogView.{is_spent}
+use Rattle.tc_core.specs.Locking.{is_listed, is_holder}
+use Rattle.tc_core.specs.Changes.{let_go, logged_session, reconnected, begun_txn, begun, acted_txn, acted, forced, answered_txn, answered, rolling_txn, rolled, saved_txn, saved, going_back_txn, going_back, back_txn, is_back}
 use Rattle.tc_core.specs.Replies.{takes, is_number, if_awaits, asker, awaiting, next_phase, passed}
 use Rattle.tc_core.specs.declared.phase.Phase.{Phase}
 use Rattle.tc_core.specs.declared.phase.Phase.TheVariants as phase
-use Rattle.tc_core.specs.Kept.{IsTc, IsOpenTxn, IsWaiting, Waits, IsReading, IsPhase}
+use Rattle.tc_core.specs.Kept.{IsTc, IsRollback, IsOpenTxn, IsWaiting, Waits, IsReading, IsPhase}
 use Rattle.tc_core.specs.Undo.{HasRequest}
-use Rattle.tc_core.proofs.Finding.{found_own}
-use Rattle.tc_core.proofs.Index.{nothing_answered}
-use Rattle.tc_core.proofs.Keeps.{open_had, open_was}
+use Rattle.tc_core.proofs.Finding.{found_number, found_own}
+use Rattle.tc_core.proofs.Committing.{none_committing, open_unlisted}
+use Rattle.tc_core.proofs.LettingGo.{let_go_held, let_go_other}
+use Rattle.logical_log.proofs.Index.{nothing_answered}
+use Rattle.tc_core.proofs.Keeps.{open_had, open_was, unended_next, IsBounded}
 use Rattle.tc_core.proofs.KeepsIdle.{own_request}
 use Rattle.tc_core.proofs.KeepsOpen.{open_below, same_open, replaced_open, added_open}
 use Rattle.tc_core.proofs.KeepsSteps.{session_leaves, begin_leaves, step_leaves, answer_leaves, opens, acts, answer_comes}
-use Rattle.tc_core.proofs.HeldSpans.{held_is, op_spans_has, conflicts_itself}
+use Rattle.tc_core.proofs.HeldSpans.{held_is, open_holds, op_spans_has, conflicts_itself}
 use Rattle.tc_core.proofs.LocksHeld.{any_held, begins, takes as takes_key, longer, replaced}
-use Rattle.tc_core.proofs.Readings.{no_reading, reads_replaced, reads_begun}
+use Rattle.tc_core.proofs.Readings.{no_reading, reads_replaced, reads_begun, reads_kept}
 
 pub none_next : (log : List Record) → IsLegal log → answer_of log (length log + 1) ≡ None
 none_next log legal = nothing_answered (answer_of log (length log + 1)) (unanswered_next log legal)
 
 -- nothing is open at first
-pub fresh_tc : IsTc fresh
-fresh_tc = record {
+pub fresh_tc : (failures : ℕ) → IsTc (fresh failures)
+fresh_tc failures = record {
   legal = tt;
   within = omega arith;
+  few = record { records = omega arith; reads = omega arith };
   session = omega arith;
   phase = refl;
   open_txns = record { each = λ t o at. absurd (cc); all = λ t h. absurd (let none = h.begun in cc); order = tt; few = omega arith };
+  committing = refl;
   locks = record { table = empty_table; exclusive = λ t. refl; others = λ t none. refl; apart = λ t u differ. tt };
   reading = record { each = λ t o r at. absurd (cc); apart = λ t u o p r q at. absurd (cc) };
 }
 
--- a new session
-pub keeps_session : (w : TcView) → IsTc w → IsTc (reconnected w)
-keeps_session w k = record {
-  legal = (tt, k.legal);
-  within = omega arith;
-  session = omega arith;
-  phase = omega arith;
-  open_txns = same_open w.log (is.Session ∷ w.log) w.open_txns k.open_txns (session_leaves w.log) (open_was is.Session w.log (λ e. cc));
-  locks = longer w.log w.open_txns w.locks k.locks is.Session refl;
+-- the log has a number left
+pub one_more : (log : List Record) → is_spent log ≡ false → length log + 1 ≤ 281474976710655
+one_more log unspent = grind (arith, nat_tests, unspent)
+
+-- the device fails
+pub keeps_failed : (w : TcView) → IsTc w → IsTc (failed w)
+keeps_failed w k = record {
+  legal = k.legal;
+  within = k.within;
+  few = record { records = k.few.records; reads = k.few.reads };
+  session = k.session;
+  phase = k.phase;
+  open_txns = k.open_txns;
+  committing = k.committing;
+  locks = k.locks;
   reading = k.reading;
 }
 
+-- a Session record
+pub keeps_logged : (w : TcView) → IsTc w → is_spent w.log ≡ false → IsTc (logged_session w)
+keeps_logged w k unspent = record {
+  legal = (tt, k.legal);
+  within = omega (arith, k.within);
+  few = record { records = omega (arith, one_more w.log unspent); reads = k.few.reads };
+  session = k.session;
+  phase = k.phase;
+  open_txns = same_open w.log (is.Session ∷ w.log) w.open_txns k.open_txns (session_leaves w.log) (open_was is.Session w.log (λ e. cc));
+  committing = k.committing;
+  locks = longer w.log w.open_txns w.committing w.locks k.locks is.Session refl;
+  reading = k.reading;
+}
+
+-- nobody is open and committing
+pub unlisted : (w : TcView) (t : ℕ) → IsTc w → IsOpen w.log t → is_listed w.committing t ≡ false
+unlisted w t k open_t = ap (λ ts. is_listed ts t) k.committing ∙ open_unlisted w.log w.stable t open_t.goes_on
+
+closed : (w : TcView) (t : ℕ) → IsTc w → is_listed w.committing t ≡ true → find t w.open_txns ≡ None
+closed w t k listed = pick (find t w.open_txns) refl
+  where
+    pick : (x : Option OpenTxn) → find t w.open_txns ≡ x → find t w.open_txns ≡ None
+    pick None is = is
+    pick (Some o) is =
+        let open_t : IsOpen w.log t = let P : ℕ → Type 0 = IsOpen w.log in subst P (found_number t w.open_txns o is) (k.open_txns.each t o is).is in
+        absurd (true≢false (sym listed ∙ unlisted w t k open_t))
+
+-- all is stable: reads of open transactions stay
 pub keeps_force : (w : TcView) → IsTc w → IsTc (forced w)
-keeps_force w k = record { legal = k.legal; within = omega arith; session = omega (arith, k.session, k.within); phase = k.phase; open_txns = k.open_txns; locks = k.locks; reading = k.reading }
+keeps_force w k = record {
+  legal = k.legal;
+  within = omega arith;
+  few = record { records = k.few.records; reads = k.few.reads };
+  session = omega (arith, k.session, k.within);
+  phase = k.phase;
+  open_txns = k.open_txns;
+  committing = sym (none_committing w.log (length w.log) (omega arith));
+  locks = let_go_held w.log w.open_txns w.committing w.locks k.locks (λ t. closed w t k);
+  reading = reads_kept w.reads w.open_txns w.locks k.reading (let_go w.committing w.locks)
+      (λ t o at. let_go_other w.committing w.locks o.txn k.locks.table (unlisted w o.txn k (k.open_txns.each t o at).is));
+}
+
+-- and a session begins
+pub keeps_session : (w : TcView) → IsTc w → is_spent w.log ≡ false → IsTc (reconnected w)
+keeps_session w k unspent =
+    let f = keeps_force (logged_session w) (keeps_logged w k unspent) in
+    record {
+      legal = f.legal;
+      within = f.within;
+      few = record { records = f.few.records; reads = f.few.reads };
+      session = omega arith;
+      phase = omega arith;
+      open_txns = f.open_txns;
+      committing = f.committing;
+      locks = f.locks;
+      reading = f.reading;
+    }
 
 -- a transaction begins, above all that are open
 pub all_below : (w : TcView) → IsTc w → AreBelow (length w.log + 1) w.open_txns
 all_below w k = open_below w.log w.open_txns k.open_txns
 
-pub keeps_begin : (w : TcView) → IsTc w → length w.open_txns < 64 → IsTc (begun w)
-keeps_begin w k less = record {
+pub keeps_begin : (w : TcView) → IsTc w → length w.open_txns < 64 → is_spent w.log ≡ false → IsTc (begun w)
+keeps_begin w k less unspent = record {
   legal = (tt, k.legal);
   within = omega (arith, k.within);
+  few = record { records = omega (arith, one_more w.log unspent); reads = k.few.reads };
   session = k.session;
   phase = k.phase;
   open_txns = added_open w.log (is.Begin ∷ w.log) w.open_txns k.open_txns (begun_txn (length w.log + 1)) refl less (opens w.log k.legal) (begin_leaves w.log)
       (λ t now. elim (open_had is.Begin w.log t now) [ inl new ↦ inl new.0 | inr was ↦ inr was ]);
-  locks = begins w.log w.open_txns w.locks k.locks (begun_txn (length w.log + 1)) k.legal refl (all_below w k);
+  committing = k.committing;
+  locks = begins w.log w.open_txns w.committing w.locks k.locks (begun_txn (length w.log + 1)) k.legal refl (all_below w k)
+      (ap (λ ts. is_listed ts (length w.log + 1)) k.committing ∙ open_unlisted w.log w.stable (length w.log + 1) (unended_next w.log k.legal));
   reading = reads_begun w.reads w.open_txns w.locks k.reading (begun_txn (length w.log + 1)) refl;
 }
 
@@ -93,16 +165,16 @@ waits_at log o n h some = let P : Option ℕ → Type 0 = λ x. Waits log o x in
 pub reading_at : (w : TcView) (o : OpenTxn) (r : Read) → IsTc w → find o.txn w.open_txns ≡ Some o → o.reading ≡ Some r → IsReading w.reads w.locks o r
 reading_at w o r k at some = k.reading.each o.txn o r at some
 
--- who isn't open holds nothing
-pub unheld : (w : TcView) (t : ℕ) → IsTc w → find t w.open_txns ≡ None → spans_of w.locks t ≡ []
+-- who is neither open nor committing holds nothing
+pub unheld : (w : TcView) (t : ℕ) → IsTc w → is_holder w.open_txns w.committing t ≡ false → spans_of w.locks t ≡ []
 unheld w t k none = k.locks.others t none
 
 -- an operation of an open transaction holds its key
 pub held_by : (w : TcView) (n u : ℕ) (q : Op) (s : Span) → IsTc w → IsOpBy w.log n u q → IsOpen w.log u → Conflict s (at_key Exclusive (key_of q)) → AnyConflict s (spans_of w.locks u)
 held_by w n u q s k by open_u clash =
     let P : List Span → Type 0 = AnyConflict s in
-    any_held w.log w.open_txns w.locks k.locks u s
-    (subst P (sym (held_is w.log w.open_txns u (k.open_txns.all u open_u))) (op_spans_has s w.log n u q by clash))
+    any_held w.log w.open_txns w.committing w.locks k.locks u s
+    (subst P (sym (held_is w.log w.open_txns w.committing u (open_holds w.open_txns w.committing u (k.open_txns.all u open_u)))) (op_spans_has s w.log n u q by clash))
 
 -- so a key that nobody else holds has no operation of another open transaction
 pub key_free : (w : TcView) (t : ℕ) (op : Op) → IsTc w → IsFree w.locks t (at_key Exclusive (key_of op)) → IsKeyFree w.log t (key_of op)
@@ -121,39 +193,94 @@ fits_op w o op k at none free =
     let h = open_at w o k at in
     record { open_txn = h.is; idle = idle_at w.log o h none; prev = h.last; free = key_free w o.txn op k free }
 
-pub keeps_act : (w : TcView) (o : OpenTxn) (op : Op) → IsTc w → find o.txn w.open_txns ≡ Some o → o.waiting ≡ None → IsFree w.locks o.txn (at_key Exclusive (key_of op))
-    → IsTc (acted w o op)
-keeps_act w o op k at none free =
+pub keeps_act : (w : TcView) (o : OpenTxn) (op : Op) → IsTc w → find o.txn w.open_txns ≡ Some o → o.waiting ≡ None → o.reading ≡ None → o.rolling ≡ None
+    → IsFree w.locks o.txn (at_key Exclusive (key_of op)) → is_spent w.log ≡ false → IsTc (acted w o op)
+keeps_act w o op k at none still flat free unspent =
     let r : Record = is.Op o.txn o.last op in
     let h = open_at w o k at in
     record {
       legal = (fits_op w o op k at none free, k.legal);
       within = omega (arith, k.within);
+      few = record { records = omega (arith, one_more w.log unspent); reads = k.few.reads };
       session = k.session;
       phase = k.phase;
-      open_txns = replaced_open w.log (r ∷ w.log) w.open_txns k.open_txns (acted_txn o (length w.log + 1)) o at (acts w.log o op (none_next w.log k.legal) h (idle_at w.log o h none))
+      open_txns = replaced_open w.log (r ∷ w.log) w.open_txns k.open_txns (acted_txn o (length w.log + 1)) o at (acts w.log o op (none_next w.log k.legal) h (idle_at w.log o h none) flat)
           (step_leaves r w.log o.txn refl (λ n. refl)) (open_was r w.log (λ e. cc));
-      locks = takes_key w.log w.open_txns w.locks k.locks (acted_txn o (length w.log + 1)) o o.last op at free;
-      reading = reads_replaced w.reads w.open_txns w.locks k.reading (acted_txn o (length w.log + 1)) o _ at refl (λ u apart. set_other o.txn (at_key Exclusive (key_of op) ∷ spans_of w.locks o.txn) w.locks u k.locks.table apart);
+      committing = k.committing;
+      locks = takes_key w.log w.open_txns w.committing w.locks k.locks (acted_txn o (length w.log + 1)) o o.last op at free;
+      reading = reads_replaced w.reads w.open_txns w.locks k.reading (acted_txn o (length w.log + 1)) o _ at still (λ u apart. set_other o.txn (at_key Exclusive (key_of op) ∷ spans_of w.locks o.txn) w.locks u k.locks.table apart);
     }
 
--- a rollback begins
-pub keeps_rollback : (w : TcView) (o : OpenTxn) → IsTc w → find o.txn w.open_txns ≡ Some o → o.waiting ≡ None → o.reading ≡ None → IsTc (rolled w o)
-keeps_rollback w o k at none still =
-    let h = open_at w o k at in
-    let rolling : OpenTxn = record o { rolling = true } in
-    let P : Option ℕ → Type 0 = λ x. Waits w.log rolling x in
-    record {
-      legal = k.legal;
-      within = k.within;
-      session = k.session;
-      phase = k.phase;
-      open_txns = replaced_open w.log w.log w.open_txns k.open_txns rolling o at
-          (record { is = h.is; last = h.last; undo = h.undo; waits = subst P (sym none) (idle_at w.log o h none) })
-          (λ p apart same. same) (λ t same. same);
-      locks = replaced w.log w.open_txns w.locks k.locks rolling o at;
-      reading = reads_replaced w.reads w.open_txns w.locks k.reading rolling o w.locks at still (λ u apart. refl);
-    }
+-- a rollback begins or ends, and a savepoint is set or dropped: what the log says of it stays
+module _ (w : TcView) (o new : OpenTxn) (k : IsTc w) (at : find o.txn w.open_txns ≡ Some o) where
+  pub keeps_bounds : new ≡ record o { rolling = new.rolling; saves = new.saves } → o.waiting ≡ None → o.reading ≡ None → IsBounded w.log new
+      → IsTc (record w { open_txns = replace new w.open_txns })
+  keeps_bounds same none still within =
+      let h = open_at w o k at in
+      let number : new.txn ≡ o.txn = ap (λ (x : OpenTxn). x.txn) same in
+      let found : find new.txn w.open_txns ≡ Some o = ap (λ t. find t w.open_txns) number ∙ at in
+      let none_new : new.waiting ≡ None = ap (λ (x : OpenTxn). x.waiting) same ∙ none in
+      let P : Option ℕ → Type 0 = λ x. Waits w.log new x in
+      record {
+        legal = k.legal;
+        within = k.within;
+        few = record { records = k.few.records; reads = k.few.reads };
+        session = k.session;
+        phase = k.phase;
+        open_txns = replaced_open w.log w.log w.open_txns k.open_txns new o found
+            (record {
+              is = let Q : ℕ → Type 0 = IsOpen w.log in subst Q (sym number) h.is;
+              last = rw same h.last;
+              undo = rw same h.undo;
+              waits = subst P (sym none_new) (let Q : ℕ → Type 0 = IsIdle w.log in subst Q (sym number) (idle_at w.log o h none));
+              saves = within.saves;
+              rolling = within.rolling;
+            })
+            (λ p apart h. h) (λ t h. h);
+        committing = k.committing;
+        locks = replaced w.log w.open_txns w.committing w.locks k.locks new o found;
+        reading = reads_replaced w.reads w.open_txns w.locks k.reading new o w.locks found (ap (λ (x : OpenTxn). x.reading) same ∙ still) (λ u apart. refl);
+      }
+
+-- within the log stay what was
+taken_within : (log : List Record) (s : ℕ) (saves : List ℕ) → AllByRecursion (λ end. end ≤ length log) saves → AllByRecursion (λ end. end ≤ length log) (take s saves)
+taken_within log zero saves all = tt
+taken_within log (suc s) [] all = tt
+taken_within log (suc s) (e ∷ saves) all = (all.0, taken_within log s saves all.1)
+
+more_within : (log : List Record) (saves : List ℕ) → AllByRecursion (λ end. end ≤ length log) saves → AllByRecursion (λ end. end ≤ length log) (saves ++ length log ∷ [])
+more_within log [] all = (omega arith, tt)
+more_within log (e ∷ saves) all = (all.0, more_within log saves all.1)
+
+one_within : (log : List Record) (saves : List ℕ) (n end : ℕ) → AllByRecursion (λ end. end ≤ length log) saves → slice_get saves n ≡ Some end → end ≤ length log
+one_within log [] n end all at = absurd (cc)
+one_within log (e ∷ saves) zero end all at = let same : e ≡ end = cc in omega (arith, same, all.0)
+one_within log (e ∷ saves) (suc n) end all at = one_within log saves n end all.1 at
+
+module _ (w : TcView) (o : OpenTxn) (k : IsTc w) (at : find o.txn w.open_txns ≡ Some o) (none : o.waiting ≡ None) (still : o.reading ≡ None) where
+  pub keeps_rollback : IsTc (rolled w o)
+  keeps_rollback = keeps_bounds w o (rolling_txn o) k at refl none still (record {
+    saves = (open_at w o k at).saves;
+    rolling = λ r some. let same : record { savepoint = None; above = 0 } ≡ r = cc in
+        let P : Rollback → Type 0 = IsRollback w.log in subst P same (record { whole = λ e. refl; within = omega arith });
+  })
+
+  pub keeps_save : IsTc (saved w o)
+  keeps_save =
+      let h = open_at w o k at in
+      keeps_bounds w o (saved_txn o (length w.log)) k at refl none still (record { saves = more_within w.log o.saves h.saves; rolling = h.rolling })
+
+  pub keeps_back : (s end : ℕ) → slice_get o.saves (s - 1) ≡ Some end → IsTc (going_back w o s end)
+  keeps_back s end is =
+      let h = open_at w o k at in
+      keeps_bounds w o (going_back_txn o s end) k at refl none still (record {
+        saves = taken_within w.log s o.saves h.saves;
+        rolling = λ r some. let same : record { savepoint = Some s; above = end } ≡ r = cc in
+            let P : Rollback → Type 0 = IsRollback w.log in subst P same (record { whole = λ e. absurd (cc); within = one_within w.log o.saves (s - 1) end h.saves is });
+      })
+
+  pub keeps_is_back : IsTc (is_back w o)
+  keeps_is_back = keeps_bounds w o (back_txn o) k at refl none still (record { saves = (open_at w o k at).saves; rolling = λ r some. absurd (cc) })
 
 -- an answer
 pub fits_answer : (w : TcView) (o : OpenTxn) (n : ℕ) (a : Answer) → IsTc w → find o.txn w.open_txns ≡ Some o → o.waiting ≡ Some n → Fits w.log (is.Answer n a)
@@ -162,19 +289,22 @@ fits_answer w o n a k at some =
     let own = own_request w.log o n waits.request in
     record { op = own.op; requested = own.requests; unanswered = waits.unanswered }
 
-pub keeps_answer : (w : TcView) (o : OpenTxn) (n : ℕ) (a : Answer) → IsTc w → find o.txn w.open_txns ≡ Some o → o.waiting ≡ Some n → IsTc (answered w o n a)
-keeps_answer w o n a k at some =
+pub keeps_answer : (w : TcView) (o : OpenTxn) (n : ℕ) (a : Answer) → IsTc w → find o.txn w.open_txns ≡ Some o → o.waiting ≡ Some n → is_spent w.log ≡ false
+    → IsTc (answered w o n a)
+keeps_answer w o n a k at some unspent =
     let r : Record = is.Answer n a in
     let h = open_at w o k at in
     let waits = waits_at w.log o n h some in
     record {
       legal = (fits_answer w o n a k at some, k.legal);
       within = omega (arith, k.within);
+      few = record { records = omega (arith, one_more w.log unspent); reads = k.few.reads };
       session = k.session;
       phase = k.phase;
       open_txns = replaced_open w.log (r ∷ w.log) w.open_txns k.open_txns (answered_txn o) o at (answer_comes w.log o n a h waits)
           (answer_leaves w.log o n a waits) (open_was r w.log (λ e. cc));
-      locks = replaced (r ∷ w.log) w.open_txns w.locks (longer w.log w.open_txns w.locks k.locks r refl) (answered_txn o) o at;
+      committing = k.committing;
+      locks = replaced (r ∷ w.log) w.open_txns w.committing w.locks (longer w.log w.open_txns w.committing w.locks k.locks r refl) (answered_txn o) o at;
       reading = reads_replaced w.reads w.open_txns w.locks k.reading (answered_txn o) o w.locks at
           (no_reading o.reading (λ q reads. let idle : o.waiting ≡ None = (reading_at w o q k at reads).idle in absurd (cc))) (λ u apart. refl);
     }
@@ -210,12 +340,22 @@ awaits w o n k at some =
 
 -- redo goes on
 pub keeps_passed : (w : TcView) (n : ℕ) → takes w.session w.phase n ≡ true → IsTc w → IsTc (passed w n)
-keeps_passed w n taken k = record { legal = k.legal; within = k.within; session = k.session; phase = by w.phase taken k.phase; open_txns = k.open_txns; locks = k.locks; reading = k.reading }
+keeps_passed w n taken k = record {
+  legal = k.legal;
+  within = k.within;
+  few = record { records = k.few.records; reads = k.few.reads };
+  session = k.session;
+  phase = by w.phase taken k.phase;
+  open_txns = k.open_txns;
+  committing = k.committing;
+  locks = k.locks;
+  reading = k.reading;
+}
   where
     by : (p : Phase) → takes w.session p n ≡ true → IsPhase w.session p → IsPhase w.session (next_phase p n)
     by phase.Unconnected test h = absurd (cc)
     by phase.Connecting test h = absurd (cc)
-    by (phase.Redoing next) test h = (omega arith, grind (arith, nat_tests, test))
+    by (phase.Redoing next ending) test h = (omega arith, grind (arith, nat_tests, test), λ e. absurd (true≢false (sym e)))
     by phase.Running test h = h
 
 -- what is sent is what was logged

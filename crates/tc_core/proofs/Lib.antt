@@ -1,14 +1,15 @@
-pub mod Index
-pub mod Answered
 pub mod Finding
+pub mod Numbers
 pub mod Slots
 pub mod InSlots
 pub mod Adding
 pub mod Changing
 pub mod Oldest
+pub mod Committing
 pub mod LockCauses
 pub mod HeldSpans
 pub mod LocksHeld
+pub mod LettingGo
 pub mod Untaken
 pub mod Readings
 pub mod Keeps
@@ -17,4 +18,6 @@ pub mod KeepsOpen
 pub mod KeepsSteps
 pub mod KeepsTc
 pub mod KeepsUndo
+pub mod Refused
+pub mod UndoCauses
 pub mod KeepsReads

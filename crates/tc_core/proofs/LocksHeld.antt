@@ -1,5 +1,5 @@
 -- The lock table holds what it must after each call too.
-use Rattle.std.proofs.Common.{◌≡◌, ◌≢◌, ℕ, ◌+◌, Bool, true, false, List, [], ◌∷◌, length, Option, Some, None, is_some, refl, sym, ap, ◌∙◌, subst, inl, inr}
+use Rattle.std.proofs.Common.{◌≡◌, ◌≢◌, ℕ, ◌+◌, Bool, true, false, List, [], ◌∷◌, length, Some, None, is_some, refl, sym, ap, ◌∙◌, subst, inl, inr, true≢false}
 use Rattle.std.specs.Prelude.{filter, if◌then◌else◌}
 use Rattle.std.proofs.lemmas.Bool.{cases_eq}
 use Rattle.record_key.specs.declared.op.Op.{Op}
@@ -13,9 +13,9 @@ use Rattle.range_locks.specs.Locks.{LocksView, spans_of, set_spans, IsFree}
 use Rattle.range_locks.proofs.Tables.{set_table, set_own, set_other}
 use Rattle.tc_core.specs.declared.open_txn.OpenTxn.{OpenTxn}
 use Rattle.tc_core.specs.OpenTxns.{find, replace, without, AreBelow}
-use Rattle.tc_core.specs.Locking.{held_spans, is_exclusive, AreApart, AreHeld}
+use Rattle.tc_core.specs.Locking.{held_spans, is_holder, is_listed, is_exclusive, AreApart, AreHeld}
 use Rattle.tc_core.proofs.Finding.{find_above, find_there, without_other}
-use Rattle.tc_core.proofs.HeldSpans.{Holds, held_none, held_same, held_acted, held_begun, held_ended, op_spans_longer, is_some_replaced}
+use Rattle.tc_core.proofs.HeldSpans.{Holds, open_holds, same_holder, holder_replaced, held_none, held_same, held_acted, held_begun, held_ended, op_spans_longer}
 
 -- conflicts are mutual
 modes_flip : (m n : Mode) → do_conflict m n ≡ true → do_conflict n m ≡ true
@@ -48,15 +48,16 @@ any_of test s (x ∷ xs) any = pick (test x) (any_of test s xs) any
     pick true rest any = elim any [ inl here ↦ inl here | inr there ↦ inr (rest there) ]
     pick false rest any = inr (rest any)
 
-module _ (log : List Record) (os : List OpenTxn) (locks : LocksView) (held : AreHeld log os locks) where
+module _ (log : List Record) (os : List OpenTxn) (cs : List ℕ) (locks : LocksView) (held : AreHeld log os cs locks) where
   -- what the operations of a transaction hold stands in the table
-  pub any_held : (t : ℕ) (s : Span) → AnyConflict s (held_spans log os t) → AnyConflict s (spans_of locks t)
+  pub any_held : (t : ℕ) (s : Span) → AnyConflict s (held_spans log os cs t) → AnyConflict s (spans_of locks t)
   any_held t s any =
       let P : List Span → Type 0 = AnyConflict s in any_of is_exclusive s (spans_of locks t) (subst P (sym (held.exclusive t)) any)
 
-  -- the same is held where the same are open and have the same operations
-  stays : (log2 : List Record) (os2 : List OpenTxn) → ((t : ℕ) → held_spans log2 os2 t ≡ held_spans log os t) → ((t : ℕ) → find t os2 ≡ None → spans_of locks t ≡ []) → AreHeld log2 os2 locks
-  stays log2 os2 same none = record {
+  -- the same is held where the same hold and have the same operations
+  stays : (log2 : List Record) (os2 : List OpenTxn) (cs2 : List ℕ) → ((t : ℕ) → held_spans log2 os2 cs2 t ≡ held_spans log os cs t)
+      → ((t : ℕ) → is_holder os2 cs2 t ≡ false → spans_of locks t ≡ []) → AreHeld log2 os2 cs2 locks
+  stays log2 os2 cs2 same none = record {
     table = held.table;
     exclusive = λ t. held.exclusive t ∙ sym (same t);
     others = none;
@@ -64,9 +65,9 @@ module _ (log : List Record) (os : List OpenTxn) (locks : LocksView) (held : Are
   }
 
   -- one transaction's spans change, in the table as by the log
-  change : (t : ℕ) (spans : List Span) (log2 : List Record) (os2 : List OpenTxn) → Holds log os t (filter is_exclusive spans) log2 os2
-      → (find t os2 ≡ None → spans ≡ []) → ((u : ℕ) → u ≢ t → find u os2 ≡ None → find u os ≡ None) → ((u : ℕ) → u ≢ t → AreApart spans (spans_of locks u))
-      → AreHeld log2 os2 (set_spans t spans locks)
+  change : (t : ℕ) (spans : List Span) (log2 : List Record) (os2 : List OpenTxn) → Holds log os cs t (filter is_exclusive spans) log2 os2
+      → (is_holder os2 cs t ≡ false → spans ≡ []) → ((u : ℕ) → u ≢ t → is_holder os2 cs u ≡ is_holder os cs u) → ((u : ℕ) → u ≢ t → AreApart spans (spans_of locks u))
+      → AreHeld log2 os2 cs (set_spans t spans locks)
   change t spans log2 os2 holds own others apart =
       let new : LocksView = set_spans t spans locks in
       let mine : spans_of new t ≡ spans = set_own t spans locks held.table in
@@ -74,13 +75,13 @@ module _ (log : List Record) (os : List OpenTxn) (locks : LocksView) (held : Are
       record {
         table = set_table t spans locks held.table;
         exclusive = λ u. elim (cases_eq u t) [
-          | inl same ↦ let P : ℕ → Type 0 = λ n. filter is_exclusive (spans_of new n) ≡ held_spans log2 os2 n in
+          | inl same ↦ let P : ℕ → Type 0 = λ n. filter is_exclusive (spans_of new n) ≡ held_spans log2 os2 cs n in
               subst P (sym same) (ap (filter is_exclusive) mine ∙ sym holds.0)
           | inr other ↦ ap (filter is_exclusive) (its u other) ∙ held.exclusive u ∙ sym (holds.1 u other)
         ];
         others = λ u none. elim (cases_eq u t) [
-          | inl same ↦ let P : ℕ → Type 0 = λ n. find n os2 ≡ None → spans_of new n ≡ [] in subst P (sym same) (λ h. mine ∙ own h) none
-          | inr other ↦ its u other ∙ held.others u (others u other none)
+          | inl same ↦ let P : ℕ → Type 0 = λ n. is_holder os2 cs n ≡ false → spans_of new n ≡ [] in subst P (sym same) (λ h. mine ∙ own h) none
+          | inr other ↦ its u other ∙ held.others u (sym (others u other) ∙ none)
         ];
         apart = λ u v differ. elim (cases_eq u t) [
           | inl same ↦
@@ -94,70 +95,66 @@ module _ (log : List Record) (os : List OpenTxn) (locks : LocksView) (held : Are
       }
 
   -- one that begins takes nothing
-  pub begins : (new : OpenTxn) → IsLegal log → new.txn ≡ length log + 1 → AreBelow new.txn os → AreHeld (is.Begin ∷ log) (new ∷ os) locks
-  begins new legal number below =
-      let holds = held_begun log os new legal number in
-      let unlisted : find new.txn os ≡ None = find_above new.txn os below in
-      stays (is.Begin ∷ log) (new ∷ os)
+  pub begins : (new : OpenTxn) → IsLegal log → new.txn ≡ length log + 1 → AreBelow new.txn os → is_listed cs new.txn ≡ false → AreHeld (is.Begin ∷ log) (new ∷ os) cs locks
+  begins new legal number below unlisted =
+      let holds = held_begun log os cs new legal number in
+      let nobody : is_holder os cs new.txn ≡ false = rw (find_above new.txn os below, unlisted) refl in
+      stays (is.Begin ∷ log) (new ∷ os) cs
       (λ t. elim (cases_eq t new.txn) [
-        | inl same ↦ let P : ℕ → Type 0 = λ n. held_spans (is.Begin ∷ log) (new ∷ os) n ≡ held_spans log os n in
-            subst P (sym same) (holds.0 ∙ sym (held_none log os new.txn unlisted))
+        | inl same ↦ let P : ℕ → Type 0 = λ n. held_spans (is.Begin ∷ log) (new ∷ os) cs n ≡ held_spans log os cs n in
+            subst P (sym same) (holds.0 ∙ sym (held_none log os cs new.txn nobody))
         | inr other ↦ holds.1 t other
       ])
       (λ t none. elim (cases_eq t new.txn) [
-        | inl same ↦ let P : ℕ → Type 0 = λ n. spans_of locks n ≡ [] in subst P (sym same) (held.others new.txn unlisted)
-        | inr other ↦ held.others t (sym (find_there new os t (λ e. other (sym e))) ∙ none)
+        | inl same ↦ let P : ℕ → Type 0 = λ n. spans_of locks n ≡ [] in subst P (sym same) (held.others new.txn nobody)
+        | inr other ↦ held.others t (sym (same_holder os (new ∷ os) cs t (find_there new os t (λ e. other (sym e)))) ∙ none)
       ])
-
-  -- who isn't open after one is put in another's place wasn't before
-  unlisted_was : (new o : OpenTxn) → find new.txn os ≡ Some o → (t : ℕ) → find t (replace new os) ≡ None → find t os ≡ None
-  unlisted_was new o at t none = pick (find t os) (sym (is_some_replaced new o os at t) ∙ ap is_some none)
-    where
-      pick : (x : Option OpenTxn) → is_some x ≡ false → x ≡ None
-      pick None h = refl
-      pick (Some p) h = absurd (cc)
 
   -- a free span is taken for an open transaction
   taken : (new o : OpenTxn) (s : Span) (log2 : List Record) → find new.txn os ≡ Some o → IsFree locks new.txn s
-      → Holds log os new.txn (filter is_exclusive (s ∷ spans_of locks new.txn)) log2 (replace new os)
-      → AreHeld log2 (replace new os) (set_spans new.txn (s ∷ spans_of locks new.txn) locks)
+      → Holds log os cs new.txn (filter is_exclusive (s ∷ spans_of locks new.txn)) log2 (replace new os)
+      → AreHeld log2 (replace new os) cs (set_spans new.txn (s ∷ spans_of locks new.txn) locks)
   taken new o s log2 at free holds =
-      let was = unlisted_was new o at in
+      let same = holder_replaced new o os cs at in
       change new.txn (s ∷ spans_of locks new.txn) log2 (replace new os) holds
-      (λ none. let missing : find new.txn os ≡ None = was new.txn none in absurd (cc))
-      (λ u other. was u)
+      (λ none. absurd (true≢false (sym (same new.txn ∙ open_holds os cs new.txn (ap is_some at)) ∙ none)))
+      (λ u other. same u)
       (λ u other. (free u other, held.apart new.txn u (λ e. other (sym e))))
 
   -- an operation takes its key
   pub takes : (new o : OpenTxn) (p : ℕ) (op : Op) → find new.txn os ≡ Some o → IsFree locks new.txn (at_key Exclusive (key_of op))
-      → AreHeld (is.Op new.txn p op ∷ log) (replace new os) (set_spans new.txn (at_key Exclusive (key_of op) ∷ spans_of locks new.txn) locks)
+      → AreHeld (is.Op new.txn p op ∷ log) (replace new os) cs (set_spans new.txn (at_key Exclusive (key_of op) ∷ spans_of locks new.txn) locks)
   takes new o p op at free =
-      let holds = held_acted log os new o p op at in
+      let holds = held_acted log os cs new o p op at in
       taken new o (at_key Exclusive (key_of op)) (is.Op new.txn p op ∷ log) at free
       (holds.0 ∙ ap (λ (x : List Span). at_key Exclusive (key_of op) ∷ x) (sym (held.exclusive new.txn)), holds.1)
 
-  -- a record that is no operation takes nothing
-  pub longer : (r : Record) → op_of r ≡ None → AreHeld (r ∷ log) os locks
-  longer r none = stays (r ∷ log) os (held_same log (r ∷ log) os os (λ u. refl) (λ u. op_spans_longer r log u none)) held.others
+  -- a record that is no operation takes nothing, where the same hold
+  pub alike : (r : Record) (os2 : List OpenTxn) (cs2 : List ℕ) → op_of r ≡ None → ((t : ℕ) → is_holder os2 cs2 t ≡ is_holder os cs t) → AreHeld (r ∷ log) os2 cs2 locks
+  alike r os2 cs2 none same =
+      stays (r ∷ log) os2 cs2 (held_same log (r ∷ log) os os2 cs cs2 same (λ u. op_spans_longer r log u none)) (λ t nobody. held.others t (sym (same t) ∙ nobody))
+
+  pub longer : (r : Record) → op_of r ≡ None → AreHeld (r ∷ log) os cs locks
+  longer r none = alike r os cs none (λ t. refl)
 
   -- nor does one that is put in another's place
-  pub replaced : (new o : OpenTxn) → find new.txn os ≡ Some o → AreHeld log (replace new os) locks
+  pub replaced : (new o : OpenTxn) → find new.txn os ≡ Some o → AreHeld log (replace new os) cs locks
   replaced new o at =
-      stays log (replace new os) (held_same log log os (replace new os) (is_some_replaced new o os at) (λ u. refl))
-      (λ t none. held.others t (unlisted_was new o at t none))
+      let same = holder_replaced new o os cs at in
+      stays log (replace new os) cs (held_same log log os (replace new os) cs cs same (λ u. refl)) (λ t none. held.others t (sym (same t) ∙ none))
 
   -- a read takes its span
   pub shares : (new o : OpenTxn) (s : Span) → find new.txn os ≡ Some o → is_exclusive s ≡ false → IsFree locks new.txn s
-      → AreHeld log (replace new os) (set_spans new.txn (s ∷ spans_of locks new.txn) locks)
+      → AreHeld log (replace new os) cs (set_spans new.txn (s ∷ spans_of locks new.txn) locks)
   shares new o s at flat free =
-      let same = held_same log log os (replace new os) (is_some_replaced new o os at) (λ u. refl) in
+      let same = held_same log log os (replace new os) cs cs (holder_replaced new o os cs at) (λ u. refl) in
       taken new o s log at free (
         same new.txn ∙ sym (held.exclusive new.txn) ∙ sym (ap (λ b. if b then s ∷ filter is_exclusive (spans_of locks new.txn) else filter is_exclusive (spans_of locks new.txn)) flat),
         λ u other. same u,
       )
 
   -- an end gives back
-  pub gives_back : (t : ℕ) → AreHeld (is.End t ∷ log) (without t os) (set_spans t [] locks)
-  gives_back t =
-      change t [] (is.End t ∷ log) (without t os) (held_ended log os t) (λ none. refl)
-      (λ u other none. sym (without_other t os u other) ∙ none) (λ u other. tt)
+  pub gives_back : (t : ℕ) → is_listed cs t ≡ false → AreHeld (is.End t ∷ log) (without t os) cs (set_spans t [] locks)
+  gives_back t unlisted =
+      change t [] (is.End t ∷ log) (without t os) (held_ended log os cs t unlisted) (λ none. refl)
+      (λ u other. same_holder os (without t os) cs u (without_other t os u other)) (λ u other. tt)

@@ -61,6 +61,13 @@ module _ (reads : ℕ) (os : List OpenTxn) (locks : LocksView) (k : AreReading r
           let P : OpenTxn → Type 0 = λ x. x.reading ≡ Some r → reads < r.number in
           subst P (found_new new p os2 at t same found) (λ h. (own r h).1) reading
 
+  -- nothing is asked, and who is open holds what it held
+  pub reads_kept : (locks2 : LocksView) → ((t : ℕ) (o : OpenTxn) → find t os ≡ Some o → spans_of locks2 o.txn ≡ spans_of locks o.txn) → AreReading reads os locks2
+  reads_kept locks2 same = record {
+    each = λ t o r at some. still_reads reads reads locks locks2 o r (omega arith) (same t o at) (k.each t o r at some);
+    apart = k.apart;
+  }
+
   -- one that waits for no read is put in another's place
   pub reads_replaced : (new o : OpenTxn) (locks2 : LocksView) → find new.txn os ≡ Some o → new.reading ≡ None
       → ((u : ℕ) → u ≢ new.txn → spans_of locks2 u ≡ spans_of locks u) → AreReading reads (replace new os) locks2

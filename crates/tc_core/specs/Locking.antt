@@ -1,6 +1,6 @@
 -- What transactions hold, and when another may take a span.
-use Rattle.std.specs.Prelude.{◌≡◌, ◌≢◌, ◌⊎◌, ℕ, ◌==◌, Bool, true, false, List, [], ◌∷◌, Option, Some, None, is_some, filter, if◌then◌else◌}
-use Rattle.std.specs.List.{AllByRecursion}
+use Rattle.std.specs.Prelude.{◌≡◌, ◌≢◌, ◌⊎◌, ℕ, ◌==◌, ◌||◌, Bool, true, false, List, [], ◌∷◌, Option, Some, is_some, filter, if◌then◌else◌}
+use Rattle.std.specs.List.{AllByRecursion, list_any}
 use Rattle.record_key.specs.declared.refusal.Refusal.{Refusal}
 use Rattle.record_key.specs.declared.refusal.Refusal.TheVariants.{NoMemory, Busy, NumbersSpent}
 use Rattle.record_key.specs.FirstCause.{first_of, RefusesAs}
@@ -18,9 +18,16 @@ op_spans [] t = []
 op_spans (is.Op txn prev op ∷ log) t = if t == txn then at_key Exclusive (key_of op) ∷ op_spans log t else op_spans log t
 op_spans (r ∷ log) t = op_spans log t
 
--- a transaction holds them from its Begin to its End, undone or not (strict two-phase locking)
-abbrev pub held_spans : List Record → List OpenTxn → ℕ → List Span
-held_spans log os t = if is_some (find t os) then op_spans log t else []
+-- a transaction holds them from its Begin to its End or until its Commit is stable, undone or not (strict
+-- two-phase locking)
+abbrev pub is_listed : List ℕ → ℕ → Bool
+is_listed ts t = list_any (λ u. u == t) ts
+
+abbrev pub is_holder : List OpenTxn → List ℕ → ℕ → Bool
+is_holder os committing t = is_some (find t os) || is_listed committing t
+
+abbrev pub held_spans : List Record → List OpenTxn → List ℕ → ℕ → List Span
+held_spans log os committing t = if is_holder os committing t then op_spans log t else []
 
 abbrev pub excludes : Mode → Bool
 excludes Shared = false
@@ -33,15 +40,15 @@ is_exclusive s = excludes s.mode
 abbrev pub AreApart : List Span → List Span → Type 0
 AreApart xs ys = AllByRecursion (λ x. AnyConflict x ys → ⊥) xs
 
--- the lock table: exclusive just the keys of the open transactions' operations, shared what they have read; only
--- open transactions hold anything, and no two of them hold what conflicts
-pub record AreHeld (log : List Record) (os : List OpenTxn) (locks : LocksView) : Type 0 where
+-- the lock table: exclusive just the keys of the operations of open and committing transactions; nobody else holds
+-- anything, and no two of them hold what conflicts
+pub record AreHeld (log : List Record) (os : List OpenTxn) (committing : List ℕ) (locks : LocksView) : Type 0 where
   pub table : IsTable locks
-  pub exclusive : (t : ℕ) → filter is_exclusive (spans_of locks t) ≡ held_spans log os t
-  pub others : (t : ℕ) → find t os ≡ None → spans_of locks t ≡ []
+  pub exclusive : (t : ℕ) → filter is_exclusive (spans_of locks t) ≡ held_spans log os committing t
+  pub others : (t : ℕ) → is_holder os committing t ≡ false → spans_of locks t ≡ []
   pub apart : (t u : ℕ) → t ≢ u → AreApart (spans_of locks t) (spans_of locks u)
 
--- why a span isn't taken for a call: it is busy; else no number is left for the call, or no memory
+-- why a span isn't taken: it is busy; else no number is left for the call, or no memory
 abbrev pub RefusesLock : LocksView → ℕ → Span → Option Refusal → Refusal → Type 0
 RefusesLock locks t s spent r = ((u : ℕ) × (r ≡ Busy u) × IsLeastHolder locks t s u) ⊎ (IsFree locks t s × RefusesAs spent r)
 

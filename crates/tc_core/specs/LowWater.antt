@@ -1,23 +1,18 @@
 -- Up to which number the data component may forget the answers that it saved.
-use Rattle.std.specs.Prelude.{◌≡◌, ◌⊎◌, ℕ, ◌-◌, List, Some, None, length, drop}
+use Rattle.std.specs.Prelude.{◌≡◌, ◌⊎◌, ℕ, Some, None, Result, Ok, Err}
 use Rattle.record_key.specs.declared.refusal.Refusal.{Refusal}
 use Rattle.record_key.specs.declared.refusal.Refusal.TheVariants.{BeyondStable}
-use Rattle.history.specs.declared.record.Record.{Record}
-use Rattle.history.specs.Legal.{FitsCheckpoint, IsLatest}
-use Rattle.tc_core.specs.TcView.{TcView}
-use Rattle.tc_core.specs.Calls.{running_refusal}
-
--- the stable beginning of a log
-abbrev pub stable_part : List Record → ℕ → List Record
-stable_part log stable = drop (length log - stable) log
+use Rattle.history.specs.Legal.{FitsCheckpoint}
+use Rattle.std.specs.Bool.{MatchBool}
+use Rattle.codec.specs.declared.request.Request.{Request}
+use Rattle.codec.specs.declared.request.Request.TheVariants as asks
+use Rattle.logical_log.specs.Low.{stable_part, IsGreatestLow}
+use Rattle.tc_core.specs.TcView.{TcView, is_running}
+use Rattle.tc_core.specs.Causes.{running_refusal}
 
 -- every request up to this number has a stable answer, and the number is stable
 abbrev pub MayAnnounce : TcView → ℕ → Type 0
 MayAnnounce w l = FitsCheckpoint (stable_part w.log w.stable) l
-
--- the greatest of these
-abbrev pub IsGreatestLow : List Record → ℕ → ℕ → Type 0
-IsGreatestLow log stable l = IsLatest (FitsCheckpoint (stable_part log stable)) l
 
 -- the component isn't running, or the number may not be announced
 abbrev pub RefusesLow : TcView → ℕ → Refusal → Type 0
@@ -27,3 +22,11 @@ RefusesLow w l r = (running_refusal w ≡ Some r) ⊎ ((running_refusal w ≡ No
 pub record Announces (w : TcView) (l : ℕ) : Type 0 where
   pub running : running_refusal w ≡ None
   pub allowed : MayAnnounce w l
+
+abbrev pub LowWaterGives : TcView → ℕ → Result Request Refusal → Type 0
+LowWaterGives w l (Ok request) = Announces w l × (request ≡ asks.LowWater w.session l)
+LowWaterGives w l (Err r) = RefusesLow w l r
+
+-- the greatest number that may be announced now, 0 where clients aren't served
+abbrev pub IsGreatestAnnounced : TcView → ℕ → Type 0
+IsGreatestAnnounced w l = MatchBool (is_running w.phase) (IsGreatestLow w.log w.stable l) (l ≡ 0)

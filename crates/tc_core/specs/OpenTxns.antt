@@ -46,5 +46,5 @@ is_read n (Some r) = r.number == n
 -- who is looked for: those that wait, those that are being rolled back, or who asked the read of this number
 abbrev pub wants : Wanted → OpenTxn → Bool
 wants Unanswered o = is_some o.waiting || is_some o.reading
-wants Rolling o = o.rolling
+wants Rolling o = is_some o.rolling
 wants (Reader n) o = is_read n o.reading

@@ -1,5 +1,5 @@
 -- What the transaction component makes of a reply.
-use Rattle.std.specs.Prelude.{◌≡◌, ℕ, ◌+◌, ◌==◌, ◌&&◌, ◌||◌, Bool, true, false, not, nat_lt, [], ◌∷◌, List, Option, Some, None, is_some, if◌then◌else◌}
+use Rattle.std.specs.Prelude.{◌≡◌, ℕ, ◌+◌, ◌==◌, ◌&&◌, ◌||◌, Bool, true, false, not, nat_lt, [], ◌∷◌, List, Option, Some, None, Result, Ok, Err, if◌then◌else◌}
 use Rattle.record_key.specs.declared.op.Answer.{Answer}
 use Rattle.record_key.specs.Table.{Bytes}
 use Rattle.range_locks.specs.declared.span.Span.{Span}
@@ -17,10 +17,11 @@ use Rattle.tc_core.specs.declared.phase.Phase.TheVariants as phase
 use Rattle.tc_core.specs.declared.told.Told.{Told}
 use Rattle.tc_core.specs.declared.told.Told.TheVariants as told
 use Rattle.history.specs.Log.{record_at, step_in}
-use Rattle.tc_core.specs.LogView.{is_spent}
+use Rattle.logical_log.specs.LogView.{is_spent}
 use Rattle.tc_core.specs.OpenTxns.{find, oldest, wants}
-use Rattle.tc_core.specs.TcView.{TcView}
-use Rattle.tc_core.specs.Calls.{answered, was_told}
+use Rattle.tc_core.specs.TcView.{TcView, rolls_back}
+use Rattle.tc_core.specs.Refusing.{Refuses}
+use Rattle.tc_core.specs.Changes.{answered, was_told}
 
 abbrev pub session_of : Reply → ℕ
 session_of (says.Connected s) = s
@@ -38,7 +39,7 @@ is_stale w s = (w.session == 0) || not (s == w.session)
 abbrev pub takes : ℕ → Phase → ℕ → Bool
 takes s phase.Unconnected n = false
 takes s phase.Connecting n = false
-takes s (phase.Redoing next) n = (next == n) && nat_lt n s
+takes s (phase.Redoing next ending) n = (next == n) && nat_lt n s
 takes s phase.Running n = true
 
 abbrev pub is_number : Option ℕ → ℕ → Bool
@@ -59,7 +60,7 @@ awaiting w n = if_awaits n (asker (step_in (record_at w.log n)) w.open_txns)
 
 -- redo goes on after this number
 abbrev pub next_phase : Phase → ℕ → Phase
-next_phase (phase.Redoing next) n = phase.Redoing (n + 1)
+next_phase (phase.Redoing next ending) n = phase.Redoing (n + 1) false
 next_phase p n = p
 
 abbrev pub passed : TcView → ℕ → TcView
@@ -67,7 +68,7 @@ passed w n = record w { phase = next_phase w.phase n }
 
 -- what a client is told of an answer: nothing where it is a compensation's
 abbrev pub told_of : OpenTxn → ℕ → Answer → Told
-told_of o n a = if o.rolling then told.Undone n else told.Answered o.txn a
+told_of o n a = if rolls_back o then told.Undone n else told.Answered o.txn a
 
 -- what is told, and what is left
 abbrev pub Outcome : Type 0
@@ -84,12 +85,12 @@ on_answered w n a = if takes w.session w.phase n then on_awaited w n a (awaiting
 
 -- the session runs: redo begins at the first number
 abbrev pub on_connected : TcView → Phase → Outcome
-on_connected w phase.Connecting = (told.Connected w.session, record w { phase = phase.Redoing 1 })
+on_connected w phase.Connecting = (told.Connected w.session, record w { phase = phase.Redoing 1 false })
 on_connected w _ = (told.Nothing, w)
 
--- redo has come to the session's own record, and has ended
+-- the end of redo was sent, and is replied to
 abbrev pub on_redo_ended : TcView → Phase → Outcome
-on_redo_ended w (phase.Redoing next) = if next == w.session then (told.RedoEnded w.session, record w { phase = phase.Running }) else (told.Nothing, w)
+on_redo_ended w (phase.Redoing next true) = (told.RedoEnded w.session, record w { phase = phase.Running })
 on_redo_ended w _ = (told.Nothing, w)
 
 -- who asked the read of this number and waits for it still
@@ -138,9 +139,13 @@ abbrev pub logs : TcView → Reply → Bool
 logs w (says.Answered s n a) = is_logged w n a (awaiting w n)
 logs w _ = false
 
+abbrev pub reads_range : Option OpenTxn → Bool
+reads_range None = false
+reads_range (Some o) = is_range (span_read o.reading)
+
 -- what is logged or handed on takes memory
 abbrev pub takes_memory : TcView → Reply → Bool
-takes_memory w (says.Rows s r rows) = is_some (reader w r)
+takes_memory w (says.Rows s r rows) = reads_range (reader w r)
 takes_memory w reply = logs w reply
 
 -- the log has no number left for it
@@ -149,3 +154,7 @@ answered_refusal_of w n a = first_of ((is_logged w n a (awaiting w n) && is_spen
 
 abbrev pub reply_refusal : TcView → Reply → Option Refusal
 reply_refusal w reply = first_of ((is_stale w (session_of reply), Stale) ∷ (logs w reply && is_spent w.log, NumbersSpent) ∷ [])
+
+abbrev pub ReplyGives : TcView → Reply → Result Told Refusal → TcView → Type 0
+ReplyGives old reply (Ok what) new = (reply_refusal old reply ≡ None) × TakesReply old reply what new
+ReplyGives old reply (Err r) new = Refuses (reply_refusal old reply) (takes_memory old reply) (logs old reply) old r new

@@ -2,13 +2,15 @@
 use Rattle.tc_core.specs.declared.parts.Parts.{Parts}
 use Rattle.tc_core.specs.TcView.{TcView}
 
-abbrev pub seen : Parts → TcView
+abbrev pub seen : {D : Type 0} → Parts D → TcView
 seen p = record {
   log = p.log.records;
   stable = p.log.stable;
+  failures = p.log.failures;
   session = p.session;
   phase = p.phase;
   reads = p.reads;
   open_txns = p.open_txns;
+  committing = p.committing.items;
   locks = p.locks;
 }

@@ -1,20 +1,23 @@
 -- What is seen of the transaction component.
-use Rattle.std.specs.Prelude.{ℕ, ◌||◌, Bool, true, false, List, [], Option, Some, None, is_some}
+use Rattle.std.specs.Prelude.{ℕ, ◌+◌, ◌||◌, Bool, true, false, List, [], Option, Some, None, is_some}
 use Rattle.history.specs.declared.record.Record.{Record}
 use Rattle.range_locks.specs.Locks.{LocksView}
 use Rattle.tc_core.specs.declared.open_txn.OpenTxn.{OpenTxn}
 use Rattle.tc_core.specs.declared.phase.Phase.{Phase}
 use Rattle.tc_core.specs.declared.phase.Phase.TheVariants.{Unconnected, Connecting, Redoing, Running}
 
--- its log, the newest record first, how many are stable, its session, 0 if none, how far that has come, how many
--- reads were asked, the open transactions, the newest first, and what each transaction holds
+-- its log, the newest record first, how many are stable, how often the log's device has failed; its session, 0 if
+-- none, and how far that has come; how many reads were asked; the open transactions, the newest first; those whose
+-- Commit record isn't stable, in the order of these records; and what each transaction holds
 pub record TcView : Type 0 where
   pub log : List Record
   pub stable : ℕ
+  pub failures : ℕ
   pub session : ℕ
   pub phase : Phase
   pub reads : ℕ
   pub open_txns : List OpenTxn
+  pub committing : List ℕ
   pub locks : LocksView
 
 abbrev pub is_unconnected : Phase → Bool
@@ -28,12 +31,15 @@ is_running _ = false
 -- a request of recovery is due or awaits its reply
 abbrev pub is_recovering : Phase → Bool
 is_recovering Connecting = true
-is_recovering (Redoing next) = true
+is_recovering (Redoing next ending) = true
 is_recovering _ = false
+
+abbrev pub rolls_back : OpenTxn → Bool
+rolls_back o = is_some o.rolling
 
 abbrev pub is_rolling : Option OpenTxn → Bool
 is_rolling None = false
-is_rolling (Some o) = o.rolling
+is_rolling (Some o) = rolls_back o
 
 -- it waits for an answer, or for what it reads
 abbrev pub waits : OpenTxn → Bool
@@ -43,6 +49,20 @@ abbrev pub is_waiting : Option OpenTxn → Bool
 is_waiting None = false
 is_waiting (Some o) = waits o
 
--- nothing is logged, and nobody is connected
-abbrev pub fresh : TcView
-fresh = record { log = []; stable = 0; session = 0; phase = Unconnected; reads = 0; open_txns = []; locks = [] }
+-- the device failed, and nothing else happened
+abbrev pub failed : TcView → TcView
+failed w = record w { failures = w.failures + 1 }
+
+-- nothing is logged, and nobody is connected; the device has failed so often
+abbrev pub fresh : ℕ → TcView
+fresh failures = record {
+  log = [];
+  stable = 0;
+  failures = failures;
+  session = 0;
+  phase = Unconnected;
+  reads = 0;
+  open_txns = [];
+  committing = [];
+  locks = [];
+}

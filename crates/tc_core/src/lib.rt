@@ -6,25 +6,28 @@
 //! a stated function of what was seen before; a refused call changes nothing and names the first cause.
 #![tactic(auto)]
 
-mod calls;
+mod acting;
+mod change;
+mod forcing;
 mod locking;
-mod log;
 mod open_txn;
 mod open_txns;
 mod parts;
 mod phase;
 mod replies;
 mod requests;
+mod sending;
 mod sessions;
 mod taking;
 mod tc;
 mod told;
-mod undo;
+mod transactions;
+mod undoing;
 
-pub use open_txn::{OpenTxn, Read};
+pub use open_txn::{OpenTxn, Read, Rollback};
 pub use phase::Phase;
 pub use tc::Tc;
-pub use told::{RecoverStep, Told, UndoStep};
+pub use told::{Committed, Connecting, Forced, RecoverStep, Told, UndoStep};
 
 #[cfg(test)]
 mod tests;

@@ -1,9 +1,9 @@
 //! Locks for the calls of clients.
-ghost use Rattle.std.specs.Prelude.{◌≡◌, ◌∷◌, IfErr, OnOk, OnErr};
+ghost use Rattle.std.specs.Prelude.{◌≡◌, ◌∷◌, false, IfErr, OnOk, OnErr};
 ghost use Rattle.history.specs.Spans.{IsRange};
-ghost use Rattle.range_locks.specs.Locks.{spans_of, set_spans, IsFree};
+ghost use Rattle.range_locks.specs.Locks.{spans_of, set_spans, IsFree, IsTable};
 ghost use Rattle.range_locks.specs.Meant.{meant};
-ghost use Rattle.tc_core.specs.Locking.{RefusesLock, spent_of, first_cause as cause};
+ghost use Rattle.tc_core.specs.Locking.{RefusesLock, spent_of};
 
 use range_locks::{Mode, RangeLocks, Span};
 use record_key::Refusal;
@@ -17,24 +17,21 @@ pub fn take(
     mode: Mode,
     span: &Span,
 ) -> Result<(), Refusal>
-    requires { IsRange (meant mode span.now) }
+    requires range { IsRange (meant mode span.now) }
+    requires table { IsTable locks.old }
     ensures free { OnOk result (IsFree locks.old txn (meant mode span.now)) }
+    ensures unspent { OnOk result (spent ≡ false) }
     ensures taken { OnOk result (locks.new ≡ set_spans txn (meant mode span.now ∷ spans_of locks.old txn) locks.old) }
     ensures refused { IfErr result (RefusesLock locks.old txn (meant mode span.now) (spent_of spent)) }
     ensures unchanged { OnErr result (locks.new ≡ locks.old) }
 {
     match locks.take(txn, mode, span) {
+        Err(Refusal::NoMemory) if spent => Err(Refusal::NumbersSpent),
+        Err(refusal) => Err(refusal),
+        Ok(()) if spent => {
+            locks.untake(txn);
+            Err(Refusal::NumbersSpent)
+        }
         Ok(()) => Ok(()),
-        Err(refusal) => Err(first_cause(spent, refusal)),
-    }
-}
-
-/// That no number is left stands before want of memory.
-fn first_cause(spent: bool, refusal: Refusal) -> Refusal
-    ensures { result ≡ cause (spent_of spent) refusal }
-{
-    match refusal {
-        Refusal::NoMemory if spent => Refusal::NumbersSpent,
-        _ => refusal,
     }
 }

@@ -1,4 +1,5 @@
 //! An open transaction.
+use compensation::Saves;
 use range_locks::Span;
 
 /// A read that waits for its reply.
@@ -10,7 +11,35 @@ pub struct Read {
     pub span: Span,
 }
 
-/// An open transaction: its number, what it does, and where its chains begin.
+impl Read {
+    ghost use Rattle.std.specs.Prelude.{◌≡◌};
+
+    /// The same again. Takes no memory.
+    fn copied(&self) -> Read
+        ensures { result ≡ self.now }
+    {
+        self.clone().unwrap()
+    }
+}
+
+/// How far a transaction is rolled back.
+#[derive(Debug, Clone, Copy, PartialEq, Eq)]
+pub struct Rollback {
+    /// The savepoint that it goes back to, none where it is rolled back wholly.
+    pub savepoint: Option<u64>,
+    /// Its operations above this number are undone.
+    pub above: u64,
+}
+
+impl Rollback {
+    /// All its operations are undone.
+    pub const WHOLE: Rollback = Rollback {
+        savepoint: None,
+        above: 0,
+    };
+}
+
+/// An open transaction: its number, what it does, where its chains begin, and its savepoints.
 #[derive(Debug, Clone, PartialEq, Eq, Drop)]
 pub struct OpenTxn {
     /// The number of its Begin record.
@@ -21,15 +50,16 @@ pub struct OpenTxn {
     pub undo: u64,
     /// The record whose answer it waits for.
     pub waiting: Option<u64>,
-    /// It is being rolled back.
-    pub rolling: bool,
     /// The read whose reply it waits for.
     pub reading: Option<Read>,
+    /// It is being rolled back.
+    pub rolling: Option<Rollback>,
+    pub saves: Saves,
 }
 
 impl OpenTxn {
     ghost use Rattle.std.specs.Prelude.{◌≡◌};
-    ghost use Rattle.tc_core.specs.Calls.{begun_txn};
+    ghost use Rattle.tc_core.specs.Changes.{begun_txn};
     ghost use Rattle.tc_core.specs.TcView.{waits};
 
     /// One that has just begun.
@@ -41,8 +71,9 @@ impl OpenTxn {
             last: 0,
             undo: 0,
             waiting: None,
-            rolling: false,
             reading: None,
+            rolling: None,
+            saves: Saves::new(),
         }
     }
 
@@ -50,7 +81,19 @@ impl OpenTxn {
     pub fn copied(&self) -> OpenTxn
         ensures { result ≡ self.now }
     {
-        self.clone().unwrap()
+        let reading = match &self.reading {
+            Some(read) => Some(read.copied()),
+            None => None,
+        };
+        OpenTxn {
+            txn: self.txn,
+            last: self.last,
+            undo: self.undo,
+            waiting: self.waiting,
+            reading,
+            rolling: self.rolling,
+            saves: self.saves.copied(),
+        }
     }
 
     /// Whether it waits for an answer, or for what it reads.

@@ -1,8 +1,10 @@
 //! The open transactions, each in a slot of its own, found by their numbers.
 ghost use Rattle.std.specs.Prelude.{◌≡◌, [], ◌∷◌, length, IsSome, IfErr, OnOk, OnErr};
 ghost use Rattle.std.specs.Option.{option_copied};
-ghost use Rattle.tc_core.specs.OpenTxns.{find, replace, without, AreBelow, oldest, wants as is_wanted};
+ghost use Rattle.tc_core.specs.Changed.{happens};
+ghost use Rattle.tc_core.specs.OpenTxns.{find, without, AreBelow, oldest, wants as is_wanted};
 
+use crate::change::{Change, make_change};
 use crate::open_txn::OpenTxn;
 use record_key::Refusal;
 use slab::Slab;
@@ -59,11 +61,11 @@ impl OpenTxns {
     }
 
     /// The transaction of this number.
-    pub fn find(&self, txn: u64) -> Option<OpenTxn>
-        ensures { result ≡ find txn self.now }
+    pub fn find(&self, txn: u64) -> Option<&OpenTxn>
+        ensures { option_copied result ≡ find txn self.now }
     {
         match self.slots.get(&txn) {
-            Some(slot) => copied(self.txns.get(*slot)),
+            Some(slot) => self.txns.get(*slot),
             None => None,
         }
     }
@@ -81,14 +83,13 @@ impl OpenTxns {
         Ok(())
     }
 
-    /// Puts this in the place of the transaction of its number, which is open. Takes no memory.
-    pub fn replace(&mut self, opened: OpenTxn)
-        requires { IsSome (find opened.txn self.old) }
-        ensures { self.new ≡ replace opened self.old }
+    /// Something happens to the transaction of this number, if it is open. Takes no memory.
+    pub fn change(&mut self, txn: u64, what: Change)
+        ensures { self.new ≡ happens txn what self.old }
     {
-        if let Some(slot) = self.slots.get(&opened.txn) {
-            if let Some(place) = self.txns.get_mut(*slot) {
-                *place = opened;
+        if let Some(slot) = self.slots.get(&txn) {
+            if let Some(open_txn) = self.txns.get_mut(*slot) {
+                make_change(open_txn, what);
             }
         }
     }
@@ -104,13 +105,13 @@ impl OpenTxns {
     }
 
     /// Of those that are wanted, the one with the least number. Looks at each open transaction.
-    pub fn oldest(&self, wanted: Wanted) -> Option<OpenTxn>
-        ensures { result ≡ oldest (is_wanted wanted) self.now }
+    pub fn oldest(&self, wanted: Wanted) -> Option<&OpenTxn>
+        ensures { option_copied result ≡ oldest (is_wanted wanted) self.now }
     {
         for (_, slot) in &self.slots {
             if let Some(opened) = self.txns.get(*slot) {
                 if wants(wanted, opened) {
-                    return Some(opened.copied());
+                    return Some(opened);
                 }
             }
         }
@@ -123,12 +124,13 @@ fn wants(wanted: Wanted, opened: &OpenTxn) -> bool
 {
     match wanted {
         Wanted::Unanswered => opened.waits(),
-        Wanted::Rolling => opened.rolling,
+        Wanted::Rolling => opened.rolling.is_some(),
         Wanted::Reader(number) => matches!(&opened.reading, Some(read) if read.number == number),
     }
 }
 
-fn copied(found: Option<&OpenTxn>) -> Option<OpenTxn>
+/// The same transaction again, if there is one. Takes no memory.
+pub fn copied(found: Option<&OpenTxn>) -> Option<OpenTxn>
     ensures { result ≡ option_copied found.entry }
 {
     match found {

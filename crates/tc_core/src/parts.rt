@@ -1,43 +1,52 @@
 //! The parts of the transaction component.
-ghost use Rattle.std.specs.Prelude.{◌≡◌, true, Some, None, IfOk, IfErr, OnOk};
-ghost use Rattle.tc_core.specs.LogView.{spent_refusal};
+ghost use Rattle.std.specs.Prelude.{◌≡◌, [], true, Some, None, IfOk, IfErr, OnOk};
+ghost use Rattle.logical_log.specs.LogView.{spent_refusal};
 ghost use Rattle.tc_core.specs.TcView.{fresh, is_running};
-ghost use Rattle.tc_core.specs.Calls.{running_refusal, open_refusal, answered_refusal, rollback_refusal, FindsOpen, FindsAnswered, FindsIdle};
+ghost use Rattle.tc_core.specs.Causes.{running_refusal, open_refusal, answered_refusal, idle_refusal};
+ghost use Rattle.tc_core.specs.Finds.{FindsOpen, FindsAnswered, FindsIdle};
 ghost use Rattle.tc_core.specs.Kept.{IsTc};
 ghost use Rattle.tc_core.specs.Seen.{seen};
 
-use crate::log::{LAST_NUMBER, Log};
 use crate::open_txn::OpenTxn;
 use crate::open_txns::OpenTxns;
 use crate::phase::Phase;
+use logical_log::Log;
 use range_locks::RangeLocks;
 use record_key::Refusal;
+use stable::LogDevice;
 use std::alloc::Global;
 
-/// The log, the session, the open transactions and their locks.
-#[derive(Debug, Drop)]
-pub struct Parts {
-    pub log: Log,
+/// The greatest number that a record or a read may have.
+pub const LAST_NUMBER: u64 = 281_474_976_710_655;
+
+/// The log, the session, the open transactions, those that are committing, and the locks of both.
+#[derive(Drop)]
+pub struct Parts<D: LogDevice> {
+    pub log: Log<D>,
     /// The number of the latest session, 0 where there is none.
     pub session: u64,
     pub phase: Phase,
     /// How many reads were asked.
     pub reads: u64,
     pub open_txns: OpenTxns,
+    /// Whose Commit record isn't stable, in the order of these records.
+    pub committing: Vec<u64>,
     pub locks: RangeLocks,
 }
 
-impl Parts {
-    pub fn new(alloc: Global) -> Parts
+impl<D: LogDevice> Parts<D> {
+    pub fn new(alloc: Global, device: D) -> Parts<D>
+        requires empty { (D.forced device ≡ []) × (D.pending device ≡ []) }
         ensures kept { IsTc (seen result) }
-        ensures fresh { seen result ≡ fresh }
+        ensures fresh { seen result ≡ fresh (D.failures device) }
     {
         Parts {
-            log: Log::new(alloc),
+            log: Log::new(alloc, device),
             session: 0,
             phase: Phase::Unconnected,
             reads: 0,
             open_txns: OpenTxns::new(alloc),
+            committing: Vec::new(alloc),
             locks: RangeLocks::new(alloc),
         }
     }
@@ -66,38 +75,41 @@ impl Parts {
     }
 
     /// The open transaction of this number.
-    pub fn open_at(&self, txn: u64) -> Result<OpenTxn, Refusal>
-        ensures found { IfOk result (FindsOpen (seen self.now) txn) }
+    pub fn open_at(&self, txn: u64) -> Result<&OpenTxn, Refusal>
+        ensures found { IfOk result (λ opened. FindsOpen (seen self.now) txn opened.now) }
         ensures refused { IfErr result (λ refusal. open_refusal (seen self.now) txn ≡ Some refusal) }
     {
         self.running()?;
-        self.open_txns.find(txn).ok_or(Refusal::NotOpen)
+        match self.open_txns.find(txn) {
+            Some(opened) => Ok(opened),
+            None => Err(Refusal::NotOpen),
+        }
     }
 
     /// That transaction, where it waits for nothing.
-    pub fn answered(&self, txn: u64) -> Result<OpenTxn, Refusal>
-        ensures found { IfOk result (FindsAnswered (seen self.now) txn) }
+    pub fn answered(&self, txn: u64) -> Result<&OpenTxn, Refusal>
+        ensures found { IfOk result (λ opened. FindsAnswered (seen self.now) txn opened.now) }
         ensures refused { IfErr result (λ refusal. answered_refusal (seen self.now) txn ≡ Some refusal) }
     {
-        let open = self.open_at(txn)?;
-        if open.waits() {
+        let opened = self.open_at(txn)?;
+        if opened.waits() {
             return Err(Refusal::Unanswered);
         }
-        Ok(open)
+        Ok(opened)
     }
 
     /// That transaction, where it waits for nothing and isn't being rolled back.
-    pub fn idle(&self, txn: u64) -> Result<OpenTxn, Refusal>
-        ensures found { IfOk result (FindsIdle (seen self.now) txn) }
-        ensures refused { IfErr result (λ refusal. rollback_refusal (seen self.now) txn ≡ Some refusal) }
+    pub fn idle(&self, txn: u64) -> Result<&OpenTxn, Refusal>
+        ensures found { IfOk result (λ opened. FindsIdle (seen self.now) txn opened.now) }
+        ensures refused { IfErr result (λ refusal. idle_refusal (seen self.now) txn ≡ Some refusal) }
     {
-        let open = self.open_at(txn)?;
-        if open.rolling {
+        let opened = self.open_at(txn)?;
+        if opened.rolling.is_some() {
             return Err(Refusal::RollingBack);
         }
-        if open.waits() {
+        if opened.waits() {
             return Err(Refusal::Unanswered);
         }
-        Ok(open)
+        Ok(opened)
     }
 }

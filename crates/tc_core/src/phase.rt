@@ -7,8 +7,9 @@ pub enum Phase {
     Unconnected,
     /// A session was started, and its Connect awaits the reply.
     Connecting,
-    /// What earlier sessions logged is sent again, one request at a time, from this number on.
-    Redoing { next: u64 },
+    /// What earlier sessions logged is sent again, one request at a time, from this number on; `ending` once the
+    /// end of redo was sent.
+    Redoing { next: u64, ending: bool },
     /// Clients are served.
     Running,
 }

@@ -31,7 +31,7 @@ pub fn takes(session: u64, phase: Phase, number: u64) -> bool
 {
     match phase {
         Phase::Unconnected | Phase::Connecting => false,
-        Phase::Redoing { next } => next == number && number < session,
+        Phase::Redoing { next, .. } => next == number && number < session,
         Phase::Running => true,
     }
 }
@@ -74,7 +74,7 @@ pub fn copied(value: &Option<Value>) -> Option<Value>
 pub fn told_of(asker: &OpenTxn, number: u64, answer: &Answer) -> Told
     ensures { result ≡ tells asker.now number answer.now }
 {
-    if asker.rolling {
+    if asker.rolling.is_some() {
         Told::Undone(number)
     } else {
         Told::Answered {

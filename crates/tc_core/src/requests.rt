@@ -4,31 +4,27 @@ ghost use Rattle.history.specs.Log.{record_at, Requests, request_in};
 ghost use Rattle.tc_core.specs.Undo.{HasRequest, FindsRequest};
 ghost use Rattle.tc_core.specs.Calls.{read_request as asks_for};
 
-use crate::log::Log;
 use crate::open_txn::Read;
 use codec::Request;
 use history::Record;
+use logical_log::Log;
 use range_locks::Span;
 use record_key::{Key, Op};
+use stable::LogDevice;
 
 /// What the record of this number asks for, if anything.
-fn request_at(log: &Log, number: u64) -> Option<Op>
+fn request_at<D: LogDevice>(log: &Log<D>, number: u64) -> Option<Op>
     ensures { result ≡ request_in (record_at log.now.records number) }
 {
     match log.record(number) {
-        Some(Record::Op { op, .. }) => Some(op.copied()),
-        Some(
-            Record::Comp {
-                inverse: Some(op),
-                ..
-            },
-        ) => Some(op.copied()),
+        Some(Record::Op { op, .. }) => Some(op),
+        Some(Record::Comp { inverse, .. }) => inverse,
         _ => None,
     }
 }
 
 /// What the record of this number asks for, where it does.
-pub fn request(log: &Log, number: u64) -> Op
+pub fn request<D: LogDevice>(log: &Log<D>, number: u64) -> Op
     requires { HasRequest log.now.records number }
     ensures { Requests log.now.records number result }
 {
@@ -39,7 +35,7 @@ pub fn request(log: &Log, number: u64) -> Op
 }
 
 /// The first record from `from` on and below `below` that asks for something, and for what.
-pub fn first_request(log: &Log, from: u64, below: u64) -> Option<(u64, Op)>
+pub fn first_request<D: LogDevice>(log: &Log<D>, from: u64, below: u64) -> Option<(u64, Op)>
     ensures { FindsRequest log.now.records from below result }
 {
     let mut number = from;

@@ -1,10 +1,7 @@
-//! Sessions: how they begin, what recovery sends, and what the data component may forget.
-ghost use Rattle.std.specs.Prelude.{◌≡◌, ◌+◌, length, Some, None, IfOk, IfErr, OnOk, OnErr};
-ghost use Rattle.record_key.specs.FirstCause.{RefusesAs};
-ghost use Rattle.tc_core.specs.LogView.{spent_refusal};
-ghost use Rattle.tc_core.specs.Calls.{reconnected};
-ghost use Rattle.tc_core.specs.Recovery.{Recovers, Redoes, recover_refusal};
-ghost use Rattle.tc_core.specs.LowWater.{Announces, RefusesLow};
+//! Sessions: what recovery sends, and what the data component may forget.
+ghost use Rattle.tc_core.specs.Recovery.{RecoverGives, Redoes};
+ghost use Rattle.tc_core.specs.Redoing.{IsRedoing};
+ghost use Rattle.tc_core.specs.LowWater.{LowWaterGives, IsGreatestAnnounced};
 ghost use Rattle.tc_core.specs.Kept.{IsTc};
 ghost use Rattle.tc_core.specs.Seen.{seen};
 
@@ -13,39 +10,21 @@ use crate::phase::Phase;
 use crate::requests::first_request;
 use crate::told::RecoverStep;
 use codec::Request;
-use history::Record;
 use record_key::Refusal;
+use stable::LogDevice;
 
-impl Parts {
-    pub fn reconnect(&mut self) -> Result<Request, Refusal>
-        requires { IsTc (seen self.old) }
-        ensures kept { IsTc (seen self.new) }
-        ensures connects { IfOk result (λ request. request ≡ Request.Connect (length self.old.log.records + 1)) }
-        ensures reconnected { OnOk result (seen self.new ≡ reconnected (seen self.old)) }
-        ensures allowed { OnOk result (spent_refusal self.old.log.records ≡ None) }
-        ensures refused { IfErr result (RefusesAs (spent_refusal self.old.log.records)) }
-        ensures unchanged { OnErr result (seen self.new ≡ seen self.old) }
-    {
-        let session = self.log.append(Record::Session)?;
-        self.log.force();
-        self.session = session;
-        self.phase = Phase::Connecting;
-        Ok(Request::Connect { session })
-    }
-
+impl<D: LogDevice> Parts<D> {
     pub fn recover_step(&mut self) -> Result<RecoverStep, Refusal>
         requires { IsTc (seen self.old) }
         ensures kept { IsTc (seen self.new) }
-        ensures recovers { IfOk result (λ step. Recovers (seen self.old) step (seen self.new)) }
-        ensures refused { IfErr result (λ refusal. recover_refusal (seen self.old) ≡ Some refusal) }
-        ensures unchanged { OnErr result (seen self.new ≡ seen self.old) }
+        ensures gives { RecoverGives (seen self.old) result (seen self.new) }
     {
         match self.phase {
             Phase::Unconnected => Err(Refusal::NotConnected),
             Phase::Connecting => Ok(RecoverStep::Sends(Request::Connect {
                 session: self.session,
             })),
-            Phase::Redoing { next } => Ok(RecoverStep::Sends(self.redo(next))),
+            Phase::Redoing { next, .. } => Ok(RecoverStep::Sends(self.redo(next))),
             Phase::Running => Ok(RecoverStep::Nothing),
         }
     }
@@ -53,14 +32,17 @@ impl Parts {
     /// The next request of redo, from this number on; the end of redo after the last.
     fn redo(&mut self, next: u64) -> Request
         requires kept { IsTc (seen self.old) }
-        requires redoing { self.old.phase ≡ Phase.Redoing next }
+        requires redoing { IsRedoing self.old.phase next }
         ensures kept { IsTc (seen self.new) }
         ensures redoes { Redoes (seen self.old) next result (seen self.new) }
     {
         let session = self.session;
         match first_request(&self.log, next, session) {
             Some((number, op)) => {
-                self.phase = Phase::Redoing { next: number };
+                self.phase = Phase::Redoing {
+                    next: number,
+                    ending: false,
+                };
                 Request::Perform {
                     session,
                     number,
@@ -68,7 +50,10 @@ impl Parts {
                 }
             }
             None => {
-                self.phase = Phase::Redoing { next: session };
+                self.phase = Phase::Redoing {
+                    next: session,
+                    ending: true,
+                };
                 Request::RedoEnd { session }
             }
         }
@@ -76,9 +61,7 @@ impl Parts {
 
     pub fn low_water(&self, low: u64) -> Result<Request, Refusal>
         requires { IsTc (seen self.now) }
-        ensures request { IfOk result (λ request. request ≡ Request.LowWater self.now.session low) }
-        ensures announces { OnOk result (Announces (seen self.now) low) }
-        ensures refused { IfErr result (RefusesLow (seen self.now) low) }
+        ensures gives { LowWaterGives (seen self.now) low result }
     {
         self.running()?;
         if low > self.log.answered_end() {
@@ -88,5 +71,15 @@ impl Parts {
             session: self.session,
             low,
         })
+    }
+
+    /// The greatest number that may be announced, 0 where clients aren't served.
+    pub fn greatest_low(&self) -> u64
+        ensures { IsGreatestAnnounced (seen self.now) result }
+    {
+        match self.phase {
+            Phase::Running => self.log.answered_end(),
+            _ => 0,
+        }
     }
 }

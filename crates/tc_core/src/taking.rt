@@ -1,10 +1,12 @@
 //! What becomes of a reply.
-ghost use Rattle.std.specs.Prelude.{◌≡◌, true, false, Some, None, is_some, IsOk, IfOk, IfErr, OnOk, OnErr};
-ghost use Rattle.record_key.specs.FirstCause.{RefusesAs};
-ghost use Rattle.tc_core.specs.Replies.{TakesReply, reply_refusal, answered_refusal_of, takes_memory, is_logged, awaiting, reader, passed, on_row as reads_row, on_rows as reads_rows, takes as takes_number, on_connected as connects, on_redo_ended as ends_redo, on_answered as answers};
+ghost use Rattle.std.specs.Prelude.{◌≡◌, true};
+ghost use Rattle.std.specs.Option.{option_copied};
+ghost use Rattle.tc_core.specs.Replies.{ReplyGives, awaiting, reader, passed, on_row as reads_row, takes as takes_number, on_connected as connects, on_redo_ended as ends_redo};
+ghost use Rattle.tc_core.specs.Answering.{AnsweredGives, RowsGives};
 ghost use Rattle.tc_core.specs.Kept.{IsTc};
 ghost use Rattle.tc_core.specs.Seen.{seen};
 
+use crate::change::Change;
 use crate::open_txn::OpenTxn;
 use crate::open_txns::Wanted;
 use crate::parts::Parts;
@@ -14,16 +16,13 @@ use crate::told::Told;
 use codec::{Reply, Rows};
 use history::Record;
 use record_key::{Answer, Refusal, Value};
+use stable::LogDevice;
 
-impl Parts {
+impl<D: LogDevice> Parts<D> {
     pub fn on_reply(&mut self, reply: &Reply) -> Result<Told, Refusal>
         requires { IsTc (seen self.old) }
         ensures kept { IsTc (seen self.new) }
-        ensures taken { IfOk result (λ told. TakesReply (seen self.old) reply.now told (seen self.new)) }
-        ensures allowed { OnOk result (reply_refusal (seen self.old) reply.now ≡ None) }
-        ensures refused { IfErr result (RefusesAs (reply_refusal (seen self.old) reply.now)) }
-        ensures memory { takes_memory (seen self.old) reply.now ≡ false → reply_refusal (seen self.old) reply.now ≡ None → IsOk result }
-        ensures unchanged { OnErr result (seen self.new ≡ seen self.old) }
+        ensures gives { ReplyGives (seen self.old) reply.now result (seen self.new) }
     {
         let session = session_of(reply);
         if self.session == 0 || session != self.session {
@@ -48,7 +47,10 @@ impl Parts {
         if self.phase != Phase::Connecting {
             return Told::Nothing;
         }
-        self.phase = Phase::Redoing { next: 1 };
+        self.phase = Phase::Redoing {
+            next: 1,
+            ending: false,
+        };
         Told::Connected(self.session)
     }
 
@@ -59,7 +61,7 @@ impl Parts {
         ensures left { seen self.new ≡ (ends_redo (seen self.old) self.old.phase).1 }
     {
         match self.phase {
-            Phase::Redoing { next } if next == self.session => {
+            Phase::Redoing { ending: true, .. } => {
                 self.phase = Phase::Running;
                 Told::RedoEnded(self.session)
             }
@@ -70,32 +72,25 @@ impl Parts {
     fn on_answered(&mut self, number: u64, answer: &Option<Answer>) -> Result<Told, Refusal>
         requires { IsTc (seen self.old) }
         ensures kept { IsTc (seen self.new) }
-        ensures told { IfOk result (λ told. told ≡ (answers (seen self.old) number answer.now).0) }
-        ensures left { OnOk result (seen self.new ≡ (answers (seen self.old) number answer.now).1) }
-        ensures allowed { OnOk result (answered_refusal_of (seen self.old) number answer.now ≡ None) }
-        ensures refused { IfErr result (RefusesAs (answered_refusal_of (seen self.old) number answer.now)) }
-        ensures memory { is_logged (seen self.old) number answer.now (awaiting (seen self.old) number) ≡ false → IsOk result }
-        ensures unchanged { OnErr result (seen self.new ≡ seen self.old) }
+        ensures gives { AnsweredGives (seen self.old) number answer.now result (seen self.new) }
     {
         if !takes(self.session, self.phase, number) {
             return Ok(Told::Nothing);
         }
-        let Some(open) = self.awaiting(number) else {
+        let Some(opened) = self.awaiting(number) else {
             self.pass(number);
             return Ok(Told::Nothing);
         };
         let Some(answer) = answer else {
             return Ok(Told::Nothing);
         };
-        self.log.append(Record::Answer {
+        let txn = opened.txn;
+        let told = told_of(opened, number, answer);
+        self.log.append(&Record::Answer {
             of: number,
             answer: answer.copied(),
         })?;
-        let told = told_of(&open, number, answer);
-        self.open_txns.replace(OpenTxn {
-            waiting: None,
-            ..open
-        });
+        self.open_txns.change(txn, Change::Answered);
         self.pass(number);
         Ok(told)
     }
@@ -107,17 +102,14 @@ impl Parts {
         ensures told { result ≡ (reads_row (seen self.old) value.now (reader (seen self.old) read)).0 }
         ensures left { seen self.new ≡ (reads_row (seen self.old) value.now (reader (seen self.old) read)).1 }
     {
-        let Some(open) = self.open_txns.oldest(Wanted::Reader(read)) else {
+        let Some(opened) = self.open_txns.oldest(Wanted::Reader(read)) else {
             return Told::Nothing;
         };
-        if !reads_key(&open) {
+        if !reads_key(opened) {
             return Told::Nothing;
         }
-        let txn = open.txn;
-        self.open_txns.replace(OpenTxn {
-            reading: None,
-            ..open
-        });
+        let txn = opened.txn;
+        self.open_txns.change(txn, Change::Told);
         Told::Row {
             txn,
             value: copied(value),
@@ -128,35 +120,28 @@ impl Parts {
     fn on_rows(&mut self, read: u64, rows: &Rows) -> Result<Told, Refusal>
         requires { IsTc (seen self.old) }
         ensures kept { IsTc (seen self.new) }
-        ensures told { IfOk result (λ told. told ≡ (reads_rows (seen self.old) rows.now (reader (seen self.old) read)).0) }
-        ensures left { OnOk result (seen self.new ≡ (reads_rows (seen self.old) rows.now (reader (seen self.old) read)).1) }
-        ensures refused { IfErr result (λ refusal. refusal ≡ Refusal.NoMemory) }
-        ensures memory { is_some (reader (seen self.old) read) ≡ false → IsOk result }
-        ensures unchanged { OnErr result (seen self.new ≡ seen self.old) }
+        ensures gives { RowsGives (seen self.old) rows.now (reader (seen self.old) read) result (seen self.new) }
     {
-        let Some(open) = self.open_txns.oldest(Wanted::Reader(read)) else {
+        let Some(opened) = self.open_txns.oldest(Wanted::Reader(read)) else {
             return Ok(Told::Nothing);
         };
-        if !reads_range(&open) {
+        if !reads_range(opened) {
             return Ok(Told::Nothing);
         }
+        let txn = opened.txn;
         let rows = rows.copied()?;
-        let txn = open.txn;
-        self.open_txns.replace(OpenTxn {
-            reading: None,
-            ..open
-        });
+        self.open_txns.change(txn, Change::Told);
         Ok(Told::Rows { txn, rows })
     }
 
     /// The open transaction whose record has this number, where it waits for the answer.
-    fn awaiting(&self, number: u64) -> Option<OpenTxn>
-        ensures { result ≡ awaiting (seen self.now) number }
+    fn awaiting(&self, number: u64) -> Option<&OpenTxn>
+        ensures { option_copied result ≡ awaiting (seen self.now) number }
     {
-        let txn = step_txn(self.log.record(number)?)?;
-        let open = self.open_txns.find(txn)?;
-        if open.waiting == Some(number) {
-            Some(open)
+        let txn = step_txn(&self.log.record(number)?)?;
+        let opened = self.open_txns.find(txn)?;
+        if opened.waiting == Some(number) {
+            Some(opened)
         } else {
             None
         }
@@ -170,7 +155,11 @@ impl Parts {
         ensures passed { seen self.new ≡ passed (seen self.old) number }
     {
         if let Phase::Redoing { .. } = self.phase {
-            self.phase = Phase::Redoing { next: number + 1 };
+            let next = number + 1;
+            self.phase = Phase::Redoing {
+                next,
+                ending: false,
+            };
         }
     }
 }

@@ -1,37 +1,36 @@
 //! The transaction component.
-ghost use Rattle.std.specs.Prelude.{◌≡◌, ◌+◌, false, length, Some, None, IsOk, IfOk, IfErr, OnOk, OnErr};
-ghost use Rattle.std.specs.Option.{option_copied};
+ghost use Rattle.std.specs.Prelude.{◌≡◌, [], length, Some, None, IfErr, OnOk};
 ghost use Rattle.history.specs.Log.{record_at};
-ghost use Rattle.record_key.specs.FirstCause.{RefusesAs};
-ghost use Rattle.tc_core.specs.LogView.{spent_refusal};
-ghost use Rattle.tc_core.specs.TcView.{TcView, fresh, is_rolling};
+ghost use Rattle.logical_log.specs.LogView.{spent_refusal};
+ghost use Rattle.tc_core.specs.TcView.{TcView, fresh};
 ghost use Rattle.tc_core.specs.OpenTxns.{find, oldest, wants};
-ghost use Rattle.tc_core.specs.Calls.{begin_refusal, rollback_refusal, undo_refusal, resend_refusal, reconnected, begun, forced, shared, RefusesAct, RefusesRead, Acts, Asks, RollsBack, UndoesStep, IsRequestOf};
-ghost use Rattle.tc_core.specs.Replies.{TakesReply, reply_refusal, takes_memory};
-ghost use Rattle.tc_core.specs.Recovery.{Recovers, recover_refusal};
-ghost use Rattle.tc_core.specs.LowWater.{Announces, RefusesLow, IsGreatestLow};
+ghost use Rattle.tc_core.specs.Calls.{ReconnectGives, BeginGives, ActGives, ReadGives, SaveGives, BackGives, RollbackGives, CommitGives, UndoGives, ForceGives, ResendGives};
+ghost use Rattle.tc_core.specs.Replies.{ReplyGives};
+ghost use Rattle.tc_core.specs.Recovery.{RecoverGives};
+ghost use Rattle.tc_core.specs.LowWater.{LowWaterGives, IsGreatestAnnounced};
 ghost use Rattle.tc_core.specs.Kept.{IsTc};
 
 use crate::open_txn::OpenTxn;
-use crate::open_txns::Wanted;
+use crate::open_txns::{Wanted, copied as copied_txn};
 use crate::parts::Parts;
 use crate::phase::Phase;
 use crate::requests::copied;
-use crate::told::{RecoverStep, Told, UndoStep};
+use crate::told::{Connecting, Forced, RecoverStep, Told, UndoStep};
 use codec::{Reply, Request};
 use history::Record;
 use range_locks::Span;
-use record_key::{Answer, Key, Op, Refusal};
+use record_key::{Key, Op, Refusal};
+use stable::LogDevice;
 use std::alloc::Global;
 use std::marker::Model;
 
-/// A log, a session, and at most 64 open transactions with their locks and reads.
-#[derive(Debug, Drop)]
-pub struct Tc {
-    parts: Parts,
+/// A log, a session, at most 64 open transactions with their locks and reads, and those that are committing.
+#[derive(Drop)]
+pub struct Tc<D: LogDevice> {
+    parts: Parts<D>,
 }
 
-impl Model for Tc {
+impl<D: LogDevice> Model for Tc<D> {
     ghost use Rattle.tc_core.specs.TcView.{TcView};
     ghost use Rattle.tc_core.specs.Kept.{IsTc};
     ghost use Rattle.tc_core.specs.Seen.{seen};
@@ -43,13 +42,14 @@ impl Model for Tc {
     ghost invariant = { λ t. IsTc (seen t.parts) };
 }
 
-impl Tc {
-    /// A component with an empty log and no session.
-    pub fn new(alloc: Global) -> Tc
-        ensures { result ≡ fresh }
+impl<D: LogDevice> Tc<D> {
+    /// A component with an empty log, on an empty device, and no session.
+    pub fn new(alloc: Global, device: D) -> Tc<D>
+        requires empty { (D.forced device ≡ []) × (D.pending device ≡ []) }
+        ensures { result ≡ fresh (D.failures device) }
     {
         Tc {
-            parts: Parts::new(alloc),
+            parts: Parts::new(alloc, device),
         }
     }
 
@@ -61,36 +61,26 @@ impl Tc {
         self.parts.can_log()
     }
 
-    /// Starts a session: logs it, forces the log, and gives the request that begins it. Refused NumbersSpent,
-    /// NoMemory.
-    pub fn reconnect(&mut self) -> Result<Request, Refusal>
-        ensures connects { IfOk result (λ request. request ≡ Request.Connect (length self.old.log + 1)) }
-        ensures reconnected { OnOk result (self.new ≡ reconnected self.old) }
-        ensures allowed { OnOk result (spent_refusal self.old.log ≡ None) }
-        ensures refused { IfErr result (RefusesAs (spent_refusal self.old.log)) }
-        ensures unchanged { OnErr result (self.new ≡ self.old) }
+    /// Starts a session: logs it, forces the log, and gives the request that begins it and who has committed. Refused
+    /// NumbersSpent, NoMemory, Device; a session whose record was logged when the device failed isn't started.
+    pub fn reconnect(&mut self) -> Result<Connecting, Refusal>
+        ensures gives { ReconnectGives self.old result self.new }
     {
         self.parts.reconnect()
     }
 
     /// Begins a transaction and answers its number. Refused NotConnected, Redoing, Full while 64 are
-    /// open, NumbersSpent, NoMemory.
+    /// open, NumbersSpent, NoMemory, Device.
     pub fn begin(&mut self) -> Result<u64, Refusal>
-        ensures number { IfOk result (λ txn. txn ≡ length self.old.log + 1) }
-        ensures begun { OnOk result (self.new ≡ begun self.old) }
-        ensures allowed { OnOk result (begin_refusal self.old ≡ None) }
-        ensures refused { IfErr result (RefusesAs (begin_refusal self.old)) }
-        ensures unchanged { OnErr result (self.new ≡ self.old) }
+        ensures gives { BeginGives self.old result self.new }
     {
         self.parts.begin()
     }
 
     /// Locks the key, logs the operation and answers its number. Refused NotConnected, Redoing, NotOpen,
-    /// RollingBack, Unanswered, Busy with the least other holder of the key, NumbersSpent, NoMemory.
+    /// RollingBack, Unanswered, Busy with the least other holder of the key, NumbersSpent, NoMemory, Device.
     pub fn act(&mut self, txn: u64, op: &Op) -> Result<u64, Refusal>
-        ensures acted { IfOk result (λ number. Acts self.old txn op.now number self.new) }
-        ensures refused { IfErr result (RefusesAct self.old txn op.now) }
-        ensures unchanged { OnErr result (self.new ≡ self.old) }
+        ensures gives { ActGives self.old txn op.now result self.new }
     {
         self.parts.act(txn, op)
     }
@@ -99,9 +89,7 @@ impl Tc {
     /// request. Refused NotConnected, Redoing, NotOpen, RollingBack, Unanswered, Busy with the least other
     /// holder of the key, NumbersSpent, NoMemory.
     pub fn get(&mut self, txn: u64, key: &Key) -> Result<u64, Refusal>
-        ensures asked { IfOk result (λ number. Asks self.old txn (Span.Key key.now) number self.new) }
-        ensures refused { IfErr result (RefusesRead self.old txn (shared (Span.Key key.now))) }
-        ensures unchanged { OnErr result (self.new ≡ self.old) }
+        ensures gives { ReadGives self.old txn (Span.Key key.now) result self.new }
     {
         self.parts.read(txn, Span::Key(key.copied()))
     }
@@ -109,40 +97,56 @@ impl Tc {
     /// The same for the keys from `low` on and below `high`, or to the end. Refused BadRange first, where
     /// `high` isn't above `low`.
     pub fn scan(&mut self, txn: u64, low: &Key, high: &Option<Key>) -> Result<u64, Refusal>
-        ensures asked { IfOk result (λ number. Asks self.old txn (Span.Range low.now high.now) number self.new) }
-        ensures refused { IfErr result (RefusesRead self.old txn (shared (Span.Range low.now high.now))) }
-        ensures unchanged { OnErr result (self.new ≡ self.old) }
+        ensures gives { ReadGives self.old txn (Span.Range low.now high.now) result self.new }
     {
         let low = low.copied();
         let high = copied(high);
         self.parts.read(txn, Span::Range { low, high })
     }
 
-    /// Begins to roll the transaction back. Refused NotConnected, Redoing, NotOpen, RollingBack, Unanswered.
+    /// Sets a savepoint and answers its number: the count of present ones plus 1. Refused NotConnected, Redoing,
+    /// NotOpen, RollingBack, Unanswered, Full while 16 are present.
+    pub fn save(&mut self, txn: u64) -> Result<u64, Refusal>
+        ensures gives { SaveGives self.old txn result self.new }
+    {
+        self.parts.save(txn)
+    }
+
+    /// Begins to roll the transaction back to a savepoint, which stays; later ones are dropped. Refused NotConnected,
+    /// Redoing, NotOpen, RollingBack, Unanswered, BadSavepoint where it isn't present.
+    pub fn back(&mut self, txn: u64, savepoint: u64) -> Result<(), Refusal>
+        ensures gives { BackGives self.old txn savepoint result self.new }
+    {
+        self.parts.back(txn, savepoint)
+    }
+
+    /// Begins to roll the transaction back wholly. Refused NotConnected, Redoing, NotOpen, RollingBack, Unanswered.
     pub fn rollback(&mut self, txn: u64) -> Result<(), Refusal>
-        ensures rolls_back { OnOk result (RollsBack self.old txn self.new) }
-        ensures refused { IfErr result (λ refusal. rollback_refusal self.old txn ≡ Some refusal) }
-        ensures unchanged { OnErr result (self.new ≡ self.old) }
+        ensures gives { RollbackGives self.old txn result self.new }
     {
         self.parts.rollback(txn)
     }
 
-    /// Compensates the latest operation that is left, or ends the rollback where none is. Refused
-    /// NotConnected, Redoing, NotOpen, Unanswered, NumbersSpent, NoMemory.
+    /// Logs that the transaction is committed, and answers the number of that record. It isn't open any more; what it
+    /// holds is given back, and its client told, once the record is stable. Refused NotConnected, Redoing, NotOpen,
+    /// RollingBack, Unanswered, NumbersSpent, NoMemory, Device.
+    pub fn commit(&mut self, txn: u64) -> Result<u64, Refusal>
+        ensures gives { CommitGives self.old txn result self.new }
+    {
+        self.parts.commit(txn)
+    }
+
+    /// Compensates the latest operation that is left above the rollback's bound, or ends the rollback where none is.
+    /// Refused NotConnected, Redoing, NotOpen, Unanswered; where a record is logged NumbersSpent, NoMemory, Device.
     pub fn undo_step(&mut self, txn: u64) -> Result<UndoStep, Refusal>
-        ensures undoes { IfOk result (λ step. UndoesStep self.old txn step self.new) }
-        ensures allowed { OnOk result (undo_refusal self.old txn ≡ None) }
-        ensures refused { IfErr result (RefusesAs (undo_refusal self.old txn)) }
-        ensures memory { is_rolling (find txn self.old.open_txns) ≡ false → undo_refusal self.old txn ≡ None → IsOk result }
-        ensures unchanged { OnErr result (self.new ≡ self.old) }
+        ensures gives { UndoGives self.old txn result self.new }
     {
         self.parts.undo_step(txn)
     }
 
-    /// Makes the log stable and answers its end.
-    pub fn force(&mut self) -> u64
-        ensures end { result ≡ length self.old.log }
-        ensures forced { self.new ≡ forced self.old }
+    /// Makes the log stable; gives its end and who has committed by that. Refused Device.
+    pub fn force(&mut self) -> Result<Forced, Refusal>
+        ensures gives { ForceGives self.old result self.new }
     {
         self.parts.force()
     }
@@ -150,9 +154,7 @@ impl Tc {
     /// The request that the transaction waits for, first or again. Refused NotConnected, Redoing, NotOpen,
     /// Unsent, BeyondStable where its record isn't stable.
     pub fn resend(&self, txn: u64) -> Result<Request, Refusal>
-        ensures sent { IfOk result (IsRequestOf self.now txn) }
-        ensures allowed { OnOk result (resend_refusal self.now txn ≡ None) }
-        ensures refused { IfErr result (λ refusal. resend_refusal self.now txn ≡ Some refusal) }
+        ensures gives { ResendGives self.now txn result }
     {
         self.parts.resend(txn)
     }
@@ -160,28 +162,23 @@ impl Tc {
     /// Tells the data component that no number up to `low` is sent again. Refused NotConnected, Redoing,
     /// BeyondStable where one of these isn't stable or has no stable answer.
     pub fn low_water(&self, low: u64) -> Result<Request, Refusal>
-        ensures request { IfOk result (λ request. request ≡ Request.LowWater self.now.session low) }
-        ensures announces { OnOk result (Announces self.now low) }
-        ensures refused { IfErr result (RefusesLow self.now low) }
+        ensures gives { LowWaterGives self.now low result }
     {
         self.parts.low_water(low)
     }
 
-    /// The greatest number that `low_water` may announce.
+    /// The greatest number that `low_water` may announce, 0 where clients aren't served.
     pub fn greatest_low(&self) -> u64
-        ensures { IsGreatestLow self.now.log self.now.stable result }
+        ensures { IsGreatestAnnounced self.now result }
     {
-        self.parts.log.answered_end()
+        self.parts.greatest_low()
     }
 
     /// Takes a reply. The answer of an awaited request is logged and told, what was read is told; a reply
-    /// that isn't awaited changes nothing. Refused Stale, NumbersSpent, NoMemory; the reply may be given again then.
+    /// that isn't awaited changes nothing. Refused Stale, NumbersSpent, NoMemory, Device; the reply may be given again
+    /// then.
     pub fn on_reply(&mut self, reply: &Reply) -> Result<Told, Refusal>
-        ensures taken { IfOk result (λ told. TakesReply self.old reply.now told self.new) }
-        ensures allowed { OnOk result (reply_refusal self.old reply.now ≡ None) }
-        ensures refused { IfErr result (RefusesAs (reply_refusal self.old reply.now)) }
-        ensures memory { takes_memory self.old reply.now ≡ false → reply_refusal self.old reply.now ≡ None → IsOk result }
-        ensures unchanged { OnErr result (self.new ≡ self.old) }
+        ensures gives { ReplyGives self.old reply.now result self.new }
     {
         self.parts.on_reply(reply)
     }
@@ -189,9 +186,7 @@ impl Tc {
     /// The request that recovery sends next, or again while its reply is awaited; nothing where the component
     /// runs. Refused NotConnected.
     pub fn recover_step(&mut self) -> Result<RecoverStep, Refusal>
-        ensures recovers { IfOk result (λ step. Recovers self.old step self.new) }
-        ensures refused { IfErr result (λ refusal. recover_refusal self.old ≡ Some refusal) }
-        ensures unchanged { OnErr result (self.new ≡ self.old) }
+        ensures gives { RecoverGives self.old result self.new }
     {
         self.parts.recover_step()
     }
@@ -214,21 +209,28 @@ impl Tc {
     pub fn open_txn(&self, txn: u64) -> Option<OpenTxn>
         ensures { result ≡ find txn self.now.open_txns }
     {
-        self.parts.open_txns.find(txn)
+        copied_txn(self.parts.open_txns.find(txn))
     }
 
     /// The least transaction that waits for an answer, or for what it reads.
     pub fn first_unanswered(&self) -> Option<OpenTxn>
         ensures { result ≡ oldest (wants Wanted.Unanswered) self.now.open_txns }
     {
-        self.parts.open_txns.oldest(Wanted::Unanswered)
+        copied_txn(self.parts.open_txns.oldest(Wanted::Unanswered))
     }
 
     /// The least transaction that is being rolled back.
     pub fn first_rolling(&self) -> Option<OpenTxn>
         ensures { result ≡ oldest (wants Wanted.Rolling) self.now.open_txns }
     {
-        self.parts.open_txns.oldest(Wanted::Rolling)
+        copied_txn(self.parts.open_txns.oldest(Wanted::Rolling))
+    }
+
+    /// The transactions whose Commit record isn't stable, in the order of these records.
+    pub fn committing(&self) -> &[u64]
+        ensures { result.now ≡ self.now.committing }
+    {
+        self.parts.committing.as_slice()
     }
 
     /// How many records the log has.
@@ -238,9 +240,9 @@ impl Tc {
         self.parts.log.len()
     }
 
-    /// The record of this number.
-    pub fn record(&self, number: u64) -> Option<&Record>
-        ensures { option_copied result ≡ record_at self.now.log number }
+    /// The record of this number. Takes no memory and asks no device.
+    pub fn record(&self, number: u64) -> Option<Record>
+        ensures { result ≡ record_at self.now.log number }
     {
         self.parts.log.record(number)
     }
@@ -252,8 +254,8 @@ impl Tc {
         self.parts.log.stable_end()
     }
 
-    /// What holds at every moment: the log is legal, a beginning of it is stable, and just its open
-    /// transactions are kept.
+    /// What holds at every moment: the log is legal, a beginning of it is stable, just its open transactions and those
+    /// that are committing are kept, and the lock table is theirs.
     pub fn kept(&self)
         ensures { IsTc self.now }
     {

@@ -1,100 +1,112 @@
-//! The transaction component by itself: its calls in their order, and replies that are made by hand.
-mod allocating;
-mod locking;
-mod low_numbers;
-mod many;
-mod reading;
-mod recovering;
+//! The transaction component by itself: its calls in their order, and replies that are made by hand. Each call stands in
+//! a small function of its own without a contract, so that a test of several calls is cheap to check.
+mod committing;
+mod first_path;
 mod refusing;
-mod replying;
-mod rolling_back;
+mod saving;
 
 use super::*;
-use codec::{Reply, Request, Rows};
+use codec::{Reply, Request};
 use history::Record;
 use record_key::{Answer, Key, Op, Refusal, Value};
+use stable::MemLog;
 use std::alloc::Global;
 use std::test::Fail;
 
-fn insert(key: &[u8], value: &[u8]) -> Result<Op, Fail> {
-    Ok(Op::Insert(Key::new(key)?, Value::new(value)?))
+fn op(key: &[u8]) -> Result<Op, Fail> {
+    Ok(Op::Insert(Key::new(key)?, Value::new(b"1")?))
 }
 
-fn delete(key: &[u8]) -> Result<Op, Fail> {
-    Ok(Op::Delete(Key::new(key)?))
+/// A component whose log's device fails in its n-th call.
+fn failing(alloc: Global, n: u64) -> Tc<MemLog> {
+    let mut device = MemLog::new(alloc);
+    if n > 0 {
+        device.fail_at(n);
+    }
+    Tc::new(alloc, device)
 }
 
-fn answered(session: u64, number: u64, answer: Answer) -> Reply {
-    Reply::Answered {
-        session,
-        number,
-        answer: Some(answer),
+fn reconnect(tc: &mut Tc<MemLog>) -> Result<u64, Refusal> {
+    match tc.reconnect()?.request {
+        Request::Connect { session } => Ok(session),
+        _ => Ok(0),
     }
 }
 
-/// The numbers and states that a client of transaction 2 can see.
-fn sight(tc: &Tc) -> (u64, u64, Phase, Option<OpenTxn>) {
-    (tc.records(), tc.stable_end(), tc.phase(), tc.open_txn(2))
+fn reply(tc: &mut Tc<MemLog>, what: &Reply) -> Result<Told, Refusal> {
+    tc.on_reply(what)
 }
 
-fn key(bytes: &[u8]) -> Result<Key, Fail> {
-    Ok(Key::new(bytes)?)
+fn recover(tc: &mut Tc<MemLog>) -> Result<RecoverStep, Refusal> {
+    tc.recover_step()
 }
 
-/// Session 1 is started, and its Connect awaits the reply.
-fn connecting(alloc: Global) -> Result<Tc, Fail> {
-    let mut tc = Tc::new(alloc);
-    tc.reconnect()?;
-    Ok(tc)
+fn begin(tc: &mut Tc<MemLog>) -> Result<u64, Refusal> {
+    tc.begin()
 }
 
-/// Session 1 runs at the data component, and redo has sent nothing yet.
-fn redoing(alloc: Global) -> Result<Tc, Fail> {
-    let mut tc = connecting(alloc)?;
-    tc.on_reply(&Reply::Connected { session: 1 })?;
-    Ok(tc)
+fn act(tc: &mut Tc<MemLog>, txn: u64, what: &Op) -> Result<u64, Refusal> {
+    tc.act(txn, what)
+}
+
+fn commit(tc: &mut Tc<MemLog>, txn: u64) -> Result<u64, Refusal> {
+    tc.commit(txn)
+}
+
+fn save(tc: &mut Tc<MemLog>, txn: u64) -> Result<u64, Refusal> {
+    tc.save(txn)
+}
+
+fn back(tc: &mut Tc<MemLog>, txn: u64, savepoint: u64) -> Result<(), Refusal> {
+    tc.back(txn, savepoint)
+}
+
+fn rollback(tc: &mut Tc<MemLog>, txn: u64) -> Result<(), Refusal> {
+    tc.rollback(txn)
+}
+
+fn undo(tc: &mut Tc<MemLog>, txn: u64) -> Result<UndoStep, Refusal> {
+    tc.undo_step(txn)
+}
+
+fn resend(tc: &Tc<MemLog>, txn: u64) -> Result<Request, Refusal> {
+    tc.resend(txn)
+}
+
+/// Who has committed.
+fn force(tc: &mut Tc<MemLog>) -> Result<Committed, Refusal> {
+    Ok(tc.force()?.committed)
+}
+
+fn answered(tc: &mut Tc<MemLog>, number: u64, answer: Answer) -> Result<Told, Refusal> {
+    tc.on_reply(&Reply::Answered {
+        session: 1,
+        number,
+        answer: Some(answer),
+    })
 }
 
 /// Session 1 is past its redo.
-fn running(alloc: Global) -> Result<Tc, Fail> {
-    let mut tc = redoing(alloc)?;
-    tc.recover_step()?;
-    tc.on_reply(&Reply::RedoEnded { session: 1 })?;
-    Ok(tc)
+fn run(tc: &mut Tc<MemLog>) -> Result<(), Fail> {
+    reconnect(tc)?;
+    reply(tc, &Reply::Connected { session: 1 })?;
+    recover(tc)?;
+    reply(tc, &Reply::RedoEnded { session: 1 })?;
+    Ok(())
 }
 
-/// Transaction 2 is open.
-fn begun(alloc: Global) -> Result<Tc, Fail> {
-    let mut tc = running(alloc)?;
-    tc.begin()?;
-    Ok(tc)
+/// The transaction inserts, which is answered; gives the number of the operation.
+fn insert(tc: &mut Tc<MemLog>, txn: u64, key: &[u8]) -> Result<u64, Fail> {
+    let number = act(tc, txn, &op(key)?)?;
+    force(tc)?;
+    answered(tc, number, Answer::Inserted)?;
+    Ok(number)
 }
 
-/// It waits for the answer of its insert, number 3, which isn't stable.
-fn waiting(alloc: Global) -> Result<Tc, Fail> {
-    let mut tc = begun(alloc)?;
-    tc.act(2, &insert(b"a", b"1")?)?;
-    Ok(tc)
-}
-
-/// The answer is there: record 4.
-fn idle(alloc: Global) -> Result<Tc, Fail> {
-    let mut tc = waiting(alloc)?;
-    tc.force();
-    tc.on_reply(&answered(1, 3, Answer::Inserted))?;
-    Ok(tc)
-}
-
-/// The transaction is being rolled back, and nothing is compensated yet.
-fn rolling(alloc: Global) -> Result<Tc, Fail> {
-    let mut tc = idle(alloc)?;
-    tc.rollback(2)?;
-    Ok(tc)
-}
-
-/// Its compensation, number 5, waits for its answer.
-fn compensating(alloc: Global) -> Result<Tc, Fail> {
-    let mut tc = rolling(alloc)?;
-    tc.undo_step(2)?;
-    Ok(tc)
+/// Transaction 2 has inserted `a`: records 3 and 4.
+fn inserted(tc: &mut Tc<MemLog>) -> Result<(), Fail> {
+    run(tc)?;
+    begin(tc)?;
+    insert(tc, 2, b"a")?;
+    Ok(())
 }

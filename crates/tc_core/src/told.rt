@@ -1,6 +1,7 @@
 //! What calls of the transaction component answer.
 use codec::{Request, Rows};
 use record_key::{Answer, Value};
+use std::marker::Model;
 
 /// What came of a reply.
 #[derive(Debug, PartialEq, Eq, Drop)]
@@ -30,6 +31,76 @@ pub enum UndoStep {
     Compensated(u64),
     /// Nothing was left to undo: the transaction is rolled back.
     RolledBack(u64),
+    /// Nothing was left to undo above the savepoint: the transaction is back there, and goes on.
+    Back { txn: u64, savepoint: u64 },
+}
+
+/// Transactions whose Commit records became stable, in the order of these records.
+#[derive(Debug, Drop)]
+pub struct Committed {
+    txns: Vec<u64>,
+}
+
+impl Model for Committed {
+    ghost use Rattle.std.specs.Prelude.{List, ℕ};
+
+    ghost Value = { List ℕ };
+
+    ghost view = { λ c. c.txns.items };
+}
+
+impl Committed {
+    ghost use Rattle.std.specs.Prelude.{◌≡◌};
+
+    pub fn new(txns: Vec<u64>) -> Committed
+        ensures { result ≡ txns.items }
+    {
+        Committed { txns }
+    }
+
+    pub fn as_slice(&self) -> &[u64]
+        ensures { result.now ≡ self.now }
+    {
+        self.txns.as_slice()
+    }
+}
+
+impl PartialEq for Committed {
+    ghost use Rattle.std.specs.Prelude.{◌==◌};
+    ghost use Rattle.std.specs.Cmp.Lexicographic.{pointwise};
+    ghost use Rattle.std.specs.Cmp.Rules.{comparing};
+    ghost use Rattle.std.proofs.Common.{rules};
+
+    ghost eq = { pointwise ◌==◌ };
+
+    ghost laws = { Prim.search (comparing, rules) };
+
+    fn eq(&self, other: &Committed) -> bool {
+        self.as_slice() == other.as_slice()
+    }
+}
+
+impl Eq for Committed {
+    ghost use Rattle.std.specs.Cmp.Rules.{comparing};
+    ghost use Rattle.std.proofs.Common.{rules};
+
+    ghost laws = { Prim.search (comparing, rules) };
+}
+
+/// What a force gives.
+#[derive(Debug, Drop)]
+pub struct Forced {
+    /// The number of the last record; all are stable.
+    pub end: u64,
+    pub committed: Committed,
+}
+
+/// What the start of a session gives.
+#[derive(Debug, Drop)]
+pub struct Connecting {
+    /// What begins the session at the data component.
+    pub request: Request,
+    pub committed: Committed,
 }
 
 /// What one step of recovery gives.

@@ -3,7 +3,7 @@ use Rattle.std.specs.Prelude.{ℕ, List, [], ◌∷◌, ◌++◌, codes, decimal
 use Rattle.std.specs.List.{concat}
 use Rattle.std.specs.FinMap.{entries}
 use Rattle.record_key.specs.Rows.{Row}
-use Rattle.ab_lsn.specs.declared.entry.Entry.{Entry}
+use Rattle.record_key.specs.declared.entry.Entry.{Entry}
 use Rattle.page.specs.Leaf.{LeafView}
 use Rattle.undo_shell.specs.Printed.{shown, shown_if, numbered}
 

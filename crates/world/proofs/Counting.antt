@@ -55,54 +55,64 @@ none_above from below r log le =
     pick false b e = omega arith
 
 -- operations that are left: what is crossed stays so
-flag_left : (t x y : Bool) → (y ≡ true → x ≡ true) → (if t && not x then 1 else 0) ≤ (if t && not y then 1 else 0)
-flag_left t x y more = pick t x y refl refl
+flag_left : (t l x y : Bool) → (y ≡ true → x ≡ true) → (if t && (l && not x) then 1 else 0) ≤ (if t && (l && not y) then 1 else 0)
+flag_left t l x y more = pick t l x y refl refl
   where
-    pick : (t a b : Bool) → x ≡ a → y ≡ b → (if t && not a then 1 else 0) ≤ (if t && not b then 1 else 0)
-    pick false a b ea eb = omega arith
-    pick true true b ea eb = omega arith
-    pick true false false ea eb = omega arith
-    pick true false true ea eb = absurd (true≢false (sym (more eb) ∙ ea))
+    pick : (t l a b : Bool) → x ≡ a → y ≡ b → (if t && (l && not a) then 1 else 0) ≤ (if t && (l && not b) then 1 else 0)
+    pick false l a b ea eb = omega arith
+    pick true false a b ea eb = omega arith
+    pick true true true b ea eb = omega arith
+    pick true true false false ea eb = omega arith
+    pick true true false true ea eb = absurd (true≢false (sym (more eb) ∙ ea))
 
-fewer_left : (a b : List Record) (t : ℕ) (log : List Record) → ((n : ℕ) → is_crossed b n ≡ true → is_crossed a n ≡ true) → left_in a t log ≤ left_in b t log
-fewer_left a b t [] more = omega arith
-fewer_left a b t (is.Op u p o ∷ log) more =
-    let here = flag_left (u == t) (is_crossed a (length log + 1)) (is_crossed b (length log + 1)) (more (length log + 1)) in
-    omega (arith, here, fewer_left a b t log more)
-fewer_left a b t (is.Session ∷ log) more = fewer_left a b t log more
-fewer_left a b t (is.Begin ∷ log) more = fewer_left a b t log more
-fewer_left a b t (is.Answer n x ∷ log) more = fewer_left a b t log more
-fewer_left a b t (is.Comp u m n i ∷ log) more = fewer_left a b t log more
-fewer_left a b t (is.Commit u ∷ log) more = fewer_left a b t log more
-fewer_left a b t (is.End u ∷ log) more = fewer_left a b t log more
-fewer_left a b t (is.Checkpoint l ∷ log) more = fewer_left a b t log more
+fewer_left : (a b : List Record) (t above : ℕ) (log : List Record) → ((n : ℕ) → is_crossed b n ≡ true → is_crossed a n ≡ true) → left_in a t above log ≤ left_in b t above log
+fewer_left a b t above [] more = omega arith
+fewer_left a b t above (is.Op u p o ∷ log) more =
+    let here = flag_left (u == t) (nat_lt above (length log + 1)) (is_crossed a (length log + 1)) (is_crossed b (length log + 1)) (more (length log + 1)) in
+    omega (arith, here, fewer_left a b t above log more)
+fewer_left a b t above (is.Session ∷ log) more = fewer_left a b t above log more
+fewer_left a b t above (is.Begin ∷ log) more = fewer_left a b t above log more
+fewer_left a b t above (is.Answer n x ∷ log) more = fewer_left a b t above log more
+fewer_left a b t above (is.Comp u m n i ∷ log) more = fewer_left a b t above log more
+fewer_left a b t above (is.Commit u ∷ log) more = fewer_left a b t above log more
+fewer_left a b t above (is.End u ∷ log) more = fewer_left a b t above log more
+fewer_left a b t above (is.Checkpoint l ∷ log) more = fewer_left a b t above log more
 
 -- so no record but an operation adds to what is left of anyone
-pub left_later : (r : Record) (log : List Record) (t : ℕ) → op_of r ≡ None → left_in (r ∷ log) t (r ∷ log) ≤ left_in log t log
-left_later (is.Op u p o) log t none = absurd (cc)
-left_later is.Session log t none = fewer_left (is.Session ∷ log) log t log (λ n. crossed_push n is.Session log)
-left_later is.Begin log t none = fewer_left (is.Begin ∷ log) log t log (λ n. crossed_push n is.Begin log)
-left_later (is.Answer m x) log t none = fewer_left (is.Answer m x ∷ log) log t log (λ n. crossed_push n (is.Answer m x) log)
-left_later (is.Comp u m x i) log t none = fewer_left (is.Comp u m x i ∷ log) log t log (λ n. crossed_push n (is.Comp u m x i) log)
-left_later (is.Commit u) log t none = fewer_left (is.Commit u ∷ log) log t log (λ n. crossed_push n (is.Commit u) log)
-left_later (is.End u) log t none = fewer_left (is.End u ∷ log) log t log (λ n. crossed_push n (is.End u) log)
-left_later (is.Checkpoint l) log t none = fewer_left (is.Checkpoint l ∷ log) log t log (λ n. crossed_push n (is.Checkpoint l) log)
+pub left_later : (r : Record) (log : List Record) (t above : ℕ) → op_of r ≡ None → left_in (r ∷ log) t above (r ∷ log) ≤ left_in log t above log
+left_later (is.Op u p o) log t above none = absurd (cc)
+left_later is.Session log t above none = fewer_left (is.Session ∷ log) log t above log (λ n. crossed_push n is.Session log)
+left_later is.Begin log t above none = fewer_left (is.Begin ∷ log) log t above log (λ n. crossed_push n is.Begin log)
+left_later (is.Answer m x) log t above none = fewer_left (is.Answer m x ∷ log) log t above log (λ n. crossed_push n (is.Answer m x) log)
+left_later (is.Comp u m x i) log t above none = fewer_left (is.Comp u m x i ∷ log) log t above log (λ n. crossed_push n (is.Comp u m x i) log)
+left_later (is.Commit u) log t above none = fewer_left (is.Commit u ∷ log) log t above log (λ n. crossed_push n (is.Commit u) log)
+left_later (is.End u) log t above none = fewer_left (is.End u ∷ log) log t above log (λ n. crossed_push n (is.End u) log)
+left_later (is.Checkpoint l) log t above none = fewer_left (is.Checkpoint l ∷ log) log t above log (λ n. crossed_push n (is.Checkpoint l) log)
+
+-- and a bound takes none more in
+pub flag_above : (t l c : Bool) → (if t && (l && c) then 1 else 0) ≤ (if t && c then 1 else 0)
+flag_above false l c = omega arith
+flag_above true false true = omega arith
+flag_above true false false = omega arith
+flag_above true true c = omega arith
 
 -- a compensation crosses one: those above it and below it stay
-module _ (whole : List Record) (t v u x : ℕ) (i : Option Op) where
+module _ (whole : List Record) (t above v u x : ℕ) (i : Option Op) where
   abbrev crossed : List Record
   crossed = is.Comp v u x i ∷ whole
 
   op_apart : (w p : ℕ) (o : Op) (log : List Record) (n : ℕ) → u ≢ length log + 1
-      → (if w == t && not (is_crossed crossed (length log + 1)) then 1 else 0) + n ≡ (if w == t && not (is_crossed whole (length log + 1)) then 1 else 0) + n
+      → (if w == t && (nat_lt above (length log + 1) && not (is_crossed crossed (length log + 1))) then 1 else 0) + n
+      ≡ (if w == t && (nat_lt above (length log + 1) && not (is_crossed whole (length log + 1))) then 1 else 0) + n
   op_apart w p o log n apart =
-      ap (λ (b : Bool). (if w == t && not (b || is_crossed whole (length log + 1)) then 1 else 0) + n) (ne_eqb (length log + 1) u (λ e. apart (sym e)))
+      ap (λ (b : Bool). (if w == t && (nat_lt above (length log + 1) && not (b || is_crossed whole (length log + 1))) then 1 else 0) + n)
+      (ne_eqb (length log + 1) u (λ e. apart (sym e)))
 
-  below_left : (log : List Record) → length log < u → left_in crossed t log ≡ left_in whole t log
+  below_left : (log : List Record) → length log < u → left_in crossed t above log ≡ left_in whole t above log
   below_left [] lt = refl
   below_left (is.Op w p o ∷ log) lt =
-      op_apart w p o log (left_in crossed t log) (λ e. omega (arith, e, lt))
-      ∙ ap (λ (n : ℕ). (if w == t && not (is_crossed whole (length log + 1)) then 1 else 0) + n) (below_left log (omega arith))
+      op_apart w p o log (left_in crossed t above log) (λ e. omega (arith, e, lt))
+      ∙ ap (λ (n : ℕ). (if w == t && (nat_lt above (length log + 1) && not (is_crossed whole (length log + 1))) then 1 else 0) + n) (below_left log (omega arith))
   below_left (is.Session ∷ log) lt = below_left log (omega arith)
   below_left (is.Begin ∷ log) lt = below_left log (omega arith)
   below_left (is.Answer n a ∷ log) lt = below_left log (omega arith)
@@ -112,25 +122,27 @@ module _ (whole : List Record) (t v u x : ℕ) (i : Option Op) where
   below_left (is.Checkpoint l ∷ log) lt = below_left log (omega arith)
 
   -- the crossed one was left
-  newest_left : (r : Record) (o : Op) (log : List Record) → op_of r ≡ Some (t, o) → u ≡ length log + 1 → is_crossed whole u ≡ false
-      → left_in crossed t (r ∷ log) + 1 ≡ left_in whole t (r ∷ log)
-  newest_left (is.Op w p q) o log by e stands =
+  newest_left : (r : Record) (o : Op) (log : List Record) → op_of r ≡ Some (t, o) → u ≡ length log + 1 → is_crossed whole u ≡ false → above < u
+      → left_in crossed t above (r ∷ log) + 1 ≡ left_in whole t above (r ∷ log)
+  newest_left (is.Op w p q) o log by e stands bound =
       let here : (w == t) ≡ true = eq-eqb w t (both_same w t q o by).0 in
       let is_it : (length log + 1 == u) ≡ true = eq-eqb (length log + 1) u (sym e) in
       let was : is_crossed whole (length log + 1) ≡ false = subst (λ (n : ℕ). is_crossed whole n ≡ false) e stands in
+      let counts : nat_lt above (length log + 1) ≡ true = grind (arith, nat_tests, e, bound) in
       let rest = below_left log (omega (arith, e)) in
-      rw (here, is_it, was) (omega (arith, rest))
-  newest_left is.Session o log by e stands = absurd (cc)
-  newest_left is.Begin o log by e stands = absurd (cc)
-  newest_left (is.Answer n a) o log by e stands = absurd (cc)
-  newest_left (is.Comp w m n j) o log by e stands = absurd (cc)
-  newest_left (is.Commit w) o log by e stands = absurd (cc)
-  newest_left (is.End w) o log by e stands = absurd (cc)
-  newest_left (is.Checkpoint l) o log by e stands = absurd (cc)
+      rw (here, counts, is_it, was) (omega (arith, rest))
+  newest_left is.Session o log by e stands bound = absurd (cc)
+  newest_left is.Begin o log by e stands bound = absurd (cc)
+  newest_left (is.Answer n a) o log by e stands bound = absurd (cc)
+  newest_left (is.Comp w m n j) o log by e stands bound = absurd (cc)
+  newest_left (is.Commit w) o log by e stands bound = absurd (cc)
+  newest_left (is.End w) o log by e stands bound = absurd (cc)
+  newest_left (is.Checkpoint l) o log by e stands bound = absurd (cc)
 
-  above_left : (r : Record) (log : List Record) → u ≢ length log + 1 → left_in crossed t log + 1 ≡ left_in whole t log → left_in crossed t (r ∷ log) + 1 ≡ left_in whole t (r ∷ log)
+  above_left : (r : Record) (log : List Record) → u ≢ length log + 1 → left_in crossed t above log + 1 ≡ left_in whole t above log
+      → left_in crossed t above (r ∷ log) + 1 ≡ left_in whole t above (r ∷ log)
   above_left (is.Op w p q) log apart rest =
-      let here = op_apart w p q log (left_in crossed t log) apart in omega (arith, here, rest)
+      let here = op_apart w p q log (left_in crossed t above log) apart in omega (arith, here, rest)
   above_left is.Session log apart rest = rest
   above_left is.Begin log apart rest = rest
   above_left (is.Answer n a) log apart rest = rest
@@ -139,17 +151,17 @@ module _ (whole : List Record) (t v u x : ℕ) (i : Option Op) where
   above_left (is.End w) log apart rest = rest
   above_left (is.Checkpoint l) log apart rest = rest
 
-  one_crossed : (o : Op) (log : List Record) → IsOpBy log u t o → is_crossed whole u ≡ false → left_in crossed t log + 1 ≡ left_in whole t log
-  one_crossed o [] by stands = absurd (cc)
-  one_crossed o (r ∷ log) by stands =
+  one_crossed : (o : Op) (log : List Record) → IsOpBy log u t o → is_crossed whole u ≡ false → above < u → left_in crossed t above log + 1 ≡ left_in whole t above log
+  one_crossed o [] by stands bound = absurd (cc)
+  one_crossed o (r ∷ log) by stands bound =
       elim (cases_eq u (length log + 1)) [
-        | inl e ↦ newest_left r o log (newest_at (AnOp t o) r log u e by) e stands
-        | inr apart ↦ above_left r log apart (one_crossed o log (older_at (AnOp t o) r log u apart by) stands)
+        | inl e ↦ newest_left r o log (newest_at (AnOp t o) r log u e by) e stands bound
+        | inr apart ↦ above_left r log apart (one_crossed o log (older_at (AnOp t o) r log u apart by) stands bound)
       ]
 
-pub one_less_left : (log : List Record) (t u x : ℕ) (i : Option Op) (o : Op) → IsOpBy log u t o → is_crossed log u ≡ false
-    → left_in (is.Comp t u x i ∷ log) t (is.Comp t u x i ∷ log) + 1 ≡ left_in log t log
-one_less_left log t u x i o by stands = one_crossed log t t u x i o log by stands
+pub one_less_left : (log : List Record) (t above u x : ℕ) (i : Option Op) (o : Op) → IsOpBy log u t o → is_crossed log u ≡ false → above < u
+    → left_in (is.Comp t u x i ∷ log) t above (is.Comp t u x i ∷ log) + 1 ≡ left_in log t above log
+one_less_left log t above u x i o by stands bound = one_crossed log t above t u x i o log by stands bound
 
 -- each request is a step
 pub requests_are_steps : (from below : ℕ) (log : List Record) → requests_in from below log ≤ steps_in log

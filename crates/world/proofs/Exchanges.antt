@@ -2,19 +2,19 @@
 use Rattle.std.proofs.Common.{◌≡◌, ◌⊎◌, ℕ, ◌+◌, List, [], ◌∷◌, ◌++◌, length, Option, Some, None, sym, ap, ◌∙◌, subst, inl, inr}
 use Rattle.record_key.specs.declared.refusal.Refusal.{Refusal}
 use Rattle.record_key.specs.declared.refusal.Refusal.TheVariants.{NoMemory}
-use Rattle.record_key.specs.FirstCause.{RefusesAs}
+use Rattle.std.specs.Prelude.{Err}
 use Rattle.codec.specs.declared.request.Request.{Request}
 use Rattle.codec.specs.declared.reply.Reply.{Reply}
 use Rattle.dc_core.specs.DcView.{DcView}
 use Rattle.dc_core.specs.Serves.{Serves, serve_refusal}
 use Rattle.tc_core.specs.TcView.{TcView}
-use Rattle.tc_core.specs.Replies.{on_reply, reply_refusal}
+use Rattle.tc_core.specs.Replies.{on_reply, ReplyGives}
 use Rattle.world.specs.declared.event.Event.TheVariants as event
 use Rattle.world.specs.declared.event.Out.{Out}
 use Rattle.world.specs.declared.event.Out.TheVariants as out
 use Rattle.world.specs.Messages.{message_at}
-use Rattle.world.specs.Node.{NodeView, Sends, Served, ServesTo, Taken, TakesTo}
-use Rattle.world.specs.Rounds.{IsDone, Steps, StopsAt}
+use Rattle.world.specs.Node.{NodeView, Sends, LacksRoom, is_replied_to, Served, ServesTo, Taken, TakesTo}
+use Rattle.world.specs.Rounds.{IsDone, Plays, StopsAt}
 use Rattle.world.proofs.ByNumber.{last_at}
 
 some_one : {A : Type 0} (x : Option A) (a b : A) → x ≡ Some a → x ≡ Some b → a ≡ b
@@ -51,7 +51,7 @@ taken_last : (w : NodeView) (tc : TcView) (q : Request) (dc : DcView) (reply : R
     → Taken (told w tc q dc reply) (length w.replies + 1) output new → new.tc ≡ (on_reply tc reply).1
 taken_last w tc q dc reply output new h =
     let same : h.reply ≡ reply = some_one (message_at (w.replies ++ reply ∷ []) (length w.replies + 1)) h.reply reply h.found (last_at w.replies reply) in
-    h.taken.left ∙ ap (λ x. (on_reply tc x).1) same
+    h.taken.1.left ∙ ap (λ x. (on_reply tc x).1) same
 
 -- the last reply arrives
 took : (w : NodeView) (tc : TcView) (q : Request) (dc : DcView) (reply : Reply) (output : Out) (new : NodeView)
@@ -64,7 +64,11 @@ took w tc q dc reply out.RollingBack new h d = taken_last w tc q dc reply out.Ro
 took w tc q dc reply out.Nothing new h d = taken_last w tc q dc reply out.Nothing new h
 took w tc q dc reply (out.Compensated n) new h d = taken_last w tc q dc reply (out.Compensated n) new h
 took w tc q dc reply (out.RolledBack t) new h d = taken_last w tc q dc reply (out.RolledBack t) new h
-took w tc q dc reply (out.Stable n) new h d = taken_last w tc q dc reply (out.Stable n) new h
+took w tc q dc reply (out.Saved s) new h d = taken_last w tc q dc reply (out.Saved s) new h
+took w tc q dc reply (out.CommitLogged n) new h d = taken_last w tc q dc reply (out.CommitLogged n) new h
+took w tc q dc reply (out.Back t s) new h d = taken_last w tc q dc reply (out.Back t s) new h
+took w tc q dc reply (out.Stable n cs) new h d = taken_last w tc q dc reply (out.Stable n cs) new h
+took w tc q dc reply (out.Connects j cs) new h d = taken_last w tc q dc reply (out.Connects j cs) new h
 took w tc q dc reply (out.Sent j) new h d = taken_last w tc q dc reply (out.Sent j) new h
 took w tc q dc reply (out.Replied j) new h d = taken_last w tc q dc reply (out.Replied j) new h
 took w tc q dc reply out.Noted new h d = taken_last w tc q dc reply out.Noted new h
@@ -80,7 +84,7 @@ abbrev pub HasReply : Request → Type 0
 HasReply q = (old new : DcView) → Serves old q None new → ⊥
 
 rest_of : (w : NodeView) (tc : TcView) (q : Request) (os : List Out) (new : NodeView) → HasReply q
-    → Steps (asked w tc q) (event.Request (length w.requests + 1) ∷ event.Reply (length w.replies + 1) ∷ []) os new → Exchanged w tc q new
+    → Plays (asked w tc q) (event.Request (length w.requests + 1) ∷ event.Reply (length w.replies + 1) ∷ []) os new → Exchanged w tc q new
 rest_of w tc q [] new has h = absurd h
 rest_of w tc q (o ∷ []) new has h = absurd h.3
 rest_of w tc q (o ∷ p ∷ r ∷ os) new has h = absurd h.3.3
@@ -100,16 +104,16 @@ rest_of w tc q (o ∷ p ∷ []) new has h = by o h.1 h.2
 
 -- the whole exchange, from a step that sends
 pub exchanged : (w mid : NodeView) (tc : TcView) (q : Request) (i : ℕ) (os : List Out) (new : NodeView) → HasReply q → Sends w tc q i mid
-    → Steps mid (event.Request (length w.requests + 1) ∷ event.Reply (length w.replies + 1) ∷ []) os new → Exchanged w tc q new
+    → Plays mid (event.Request (length w.requests + 1) ∷ event.Reply (length w.replies + 1) ∷ []) os new → Exchanged w tc q new
 exchanged w mid tc q i os new has sends h =
-    let P : NodeView → Type 0 = λ m. Steps m (event.Request (length w.requests + 1) ∷ event.Reply (length w.replies + 1) ∷ []) os new in
+    let P : NodeView → Type 0 = λ m. Plays m (event.Request (length w.requests + 1) ∷ event.Reply (length w.replies + 1) ∷ []) os new in
     rest_of w tc q os new has (subst P sends.left h)
 
 -- why an exchange stops after its request was sent: as the data component refuses it, or the reply is refused
 abbrev pub Stops : NodeView → TcView → Request → Refusal → Type 0
 Stops w tc q r =
-    (r ≡ NoMemory) ⊎ RefusesAs (serve_refusal w.dc q) r
-    ⊎ ((dc : DcView) × (reply : Reply) × Serves w.dc q (Some reply) dc × RefusesAs (reply_refusal tc reply) r)
+    (r ≡ NoMemory) ⊎ LacksRoom (serve_refusal w.dc q) (is_replied_to q) r
+    ⊎ ((dc : DcView) × (reply : Reply) × (left : TcView) × Serves w.dc q (Some reply) dc × ReplyGives tc reply (Err r) left)
 
 stops_of : (w : NodeView) (tc : TcView) (q : Request) (os : List Out) (r : Refusal) (new : NodeView) → HasReply q
     → StopsAt (asked w tc q) (event.Request (length w.requests + 1) ∷ event.Reply (length w.replies + 1) ∷ []) os r new → Stops w tc q r
@@ -117,9 +121,9 @@ stops_of w tc q [] r new has (inl h) = inl h.0
 stops_of w tc q [] r new has (inr h) = elim h.0 [
   | inl none ↦ absurd (no_message w.requests q none.1)
   | inr refused ↦
-      let same : refused.0 ≡ q = some_one (message_at (w.requests ++ q ∷ []) (length w.requests + 1)) refused.0 q refused.1 (last_at w.requests q) in
-      let P : Request → Type 0 = λ x. RefusesAs (serve_refusal w.dc x) r in
-      inr (inl (subst P same refused.2))
+      let same : refused.request ≡ q = some_one (message_at (w.requests ++ q ∷ []) (length w.requests + 1)) refused.request q refused.found (last_at w.requests q) in
+      let P : Request → Type 0 = λ x. LacksRoom (serve_refusal w.dc x) (is_replied_to x) r in
+      inr (inl (subst P same refused.refused))
 ]
 stops_of w tc q (o ∷ p ∷ os) r new has h = absurd h.3.3
 stops_of w tc q (o ∷ []) r new has h = by o h.1 h.2
@@ -132,12 +136,12 @@ stops_of w tc q (o ∷ []) r new has h = by o h.1 h.2
         let served = served_last w tc q (Some s.0) h.0.dc s.1 in
         elim (subst rest s.3 h.3) [
           | inl memory ↦ inl memory.0
-          | inr refused ↦ elim refused.0 [
-            | inl none ↦ absurd (no_message w.replies s.0 none.1)
+          | inr refused ↦ elim refused [
+            | inl none ↦ absurd (no_message w.replies s.0 none.0.1)
             | inr found ↦
-                let same : found.0 ≡ s.0 = some_one (message_at (w.replies ++ s.0 ∷ []) (length w.replies + 1)) found.0 s.0 found.1 (last_at w.replies s.0) in
-                let P : Reply → Type 0 = λ x. RefusesAs (reply_refusal tc x) r in
-                inr (inr (h.0.dc, s.0, served.1, subst P same found.2))
+                let same : found.reply ≡ s.0 = some_one (message_at (w.replies ++ s.0 ∷ []) (length w.replies + 1)) found.reply s.0 found.found (last_at w.replies s.0) in
+                let P : Reply → Type 0 = λ x. ReplyGives tc x (Err r) new.tc in
+                inr (inr (h.0.dc, s.0, new.tc, served.1, subst P same found.refused))
           ]
         ]
     by out.Noted s d = absurd (has w.dc h.0.dc (served_last w tc q None h.0.dc s.0).1)

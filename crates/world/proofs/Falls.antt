@@ -1,6 +1,6 @@
 -- Each round of settling is one less of those that are left.
 use Rattle.std.proofs.Common.{◌≡◌, ◌⊎◌, ℕ, ◌+◌, ◌<◌, ◌≤◌, Bool, true, false, List, [], ◌∷◌, length, Option, Some, None, refl, sym, ap, ◌∙◌, subst, arith, inl, inr, eq-eqb}
-use Rattle.std.specs.Prelude.{◌==◌, ◌||◌, nat_lt, if◌then◌else◌}
+use Rattle.std.specs.Prelude.{◌==◌, ◌||◌, not, is_some, nat_lt, if◌then◌else◌}
 use Rattle.std.specs.List.{list_any}
 use Rattle.record_key.specs.declared.op.Op.{Op}
 use Rattle.history.specs.declared.record.Record.{Record}
@@ -17,7 +17,8 @@ use Rattle.tc_core.specs.declared.phase.Phase.TheVariants as phase
 use Rattle.tc_core.specs.declared.told.Told.TheVariants as told
 use Rattle.tc_core.specs.OpenTxns.{find}
 use Rattle.tc_core.specs.TcView.{TcView}
-use Rattle.tc_core.specs.Calls.{reconnected, read_request}
+use Rattle.tc_core.specs.Changes.{reconnected}
+use Rattle.tc_core.specs.Calls.{read_request}
 use Rattle.tc_core.specs.Replies.{takes, awaiting, on_awaited, on_reply}
 use Rattle.tc_core.specs.Recovery.{SendsAt, redo_request, redo_place, redoing}
 use Rattle.tc_core.specs.Undo.{FindsRequest}
@@ -30,12 +31,12 @@ use Rattle.world.specs.declared.round.Round.{Round}
 use Rattle.world.specs.declared.round.Round.TheVariants as round
 use Rattle.world.specs.Node.{NodeView, ReconnectsTo, RecoversTo, SendsTo}
 use Rattle.world.specs.Kept.{IsKept, IsServed}
-use Rattle.world.specs.Rounds.{IsDone, IsApart, IsRedoing, IsDue, IsReader, IsNext, Steps, events_of}
+use Rattle.world.specs.Rounds.{IsDone, IsApart, IsRedoing, IsDue, IsReader, IsNext, Plays, events_of}
 use Rattle.world.specs.Bound.{requests_in, txn_rounds, phase_rounds, is_busy, force_rounds, rounds_left}
 use Rattle.world.proofs.Totals.{total_most, total_share}
 use Rattle.world.proofs.Counting.{none_above}
 use Rattle.world.proofs.Exchanges.{HasReply, Exchanged, exchanged}
-use Rattle.world.proofs.TxnRounds.{unstable_now, stable_now, txn_later, txn_waiting, txn_reading, txn_rolling, some_round}
+use Rattle.world.proofs.TxnRounds.{unstable_now, stable_now, txn_later, txn_waiting, txn_reading, some_rolling, some_round}
 use Rattle.world.proofs.RoundsLeft.{same_rounds, falls_force, falls_undo, falls_redone, falls_answered, falls_told}
 use Rattle.world.proofs.Replied.{some_reply, sound_reply, read_reply, told_read, connect_replied, redo_replied, request_replied}
 
@@ -43,11 +44,11 @@ use Rattle.world.proofs.Replied.{some_reply, sound_reply, read_reply, told_read,
 apart_phase : (w : NodeView) → IsKept w → IsApart w → (p : Phase) → w.tc.phase ≡ p → (p ≡ phase.Unconnected) ⊎ (p ≡ phase.Connecting)
 apart_phase w k apart phase.Unconnected at = inl refl
 apart_phase w k apart phase.Connecting at = inr refl
-apart_phase w k apart (phase.Redoing next) at =
+apart_phase w k apart (phase.Redoing next ending) at =
     let P : Phase → Type 0 = λ p. IsServed p w.tc.session w.dc in
     elim apart [
-      | inl e ↦ let no : phase.Redoing next ≡ phase.Unconnected = sym at ∙ e in absurd (cc)
-      | inr (inl e) ↦ let no : phase.Redoing next ≡ phase.Connecting = sym at ∙ e in absurd (cc)
+      | inl e ↦ let no : phase.Redoing next ending ≡ phase.Unconnected = sym at ∙ e in absurd (cc)
+      | inr (inl e) ↦ let no : phase.Redoing next ending ≡ phase.Connecting = sym at ∙ e in absurd (cc)
       | inr (inr e) ↦ absurd (e (subst P at k.sessions.served))
     ]
 apart_phase w k apart phase.Running at =
@@ -70,7 +71,7 @@ less_force true s = omega arith
 less_force false true = omega arith
 less_force false false = omega arith
 
-begins_session : (w : NodeView) → IsKept w → IsApart w → rounds_left (record (reconnected w.tc) { phase = phase.Redoing 1 }) < rounds_left w.tc
+begins_session : (w : NodeView) → IsKept w → IsApart w → rounds_left (record (reconnected w.tc) { phase = phase.Redoing 1 false }) < rounds_left w.tc
 begins_session w k apart =
     let log : List Record = is.Session ∷ w.tc.log in
     let os : List OpenTxn = w.tc.open_txns in
@@ -87,24 +88,23 @@ falls_connected old new q k apart same h =
     same_rounds new.tc _ (rounds_left old.tc) (h.left ∙ ap (λ x. (on_reply (reconnected old.tc) x).1) reply) (begins_session old k apart)
 
 -- the next request of redo is served and answered
-falls_redo : (old new : NodeView) (next : ℕ) (found : Option (ℕ × Op)) (q : Request) → IsKept old → old.tc.phase ≡ phase.Redoing next → FindsRequest old.tc.log next old.tc.session found
-    → q ≡ redo_request old.tc.session found → Exchanged old (redoing old.tc (redo_place old.tc.session found)) q new → rounds_left new.tc < rounds_left old.tc
-falls_redo old new next None q k at finds is h =
+falls_redo : (old new : NodeView) (next : ℕ) (ending : Bool) (found : Option (ℕ × Op)) (q : Request) → IsKept old → old.tc.phase ≡ phase.Redoing next ending → FindsRequest old.tc.log next old.tc.session found
+    → q ≡ redo_request old.tc.session found → Exchanged old (redoing old.tc (redo_place old.tc.session found) (not (is_some found))) q new → rounds_left new.tc < rounds_left old.tc
+falls_redo old new next ending None q k at finds is h =
     let s : ℕ = old.tc.session in
     let P : Request → Type 0 = λ x. Serves old.dc x (Some h.reply) h.dc in
     let reply : h.reply ≡ says.RedoEnded s = some_reply h.reply (says.RedoEnded s) (subst P is h.served).0 in
-    let same : (s == s) ≡ true = eq-eqb s s refl in
-    same_rounds new.tc _ (rounds_left old.tc) (h.left ∙ ap (λ x. (on_reply (redoing old.tc s) x).1) reply) (rw (same, at) (omega arith))
-falls_redo old new next (Some x) q k at finds is h =
+    same_rounds new.tc _ (rounds_left old.tc) (h.left ∙ ap (λ x. (on_reply (redoing old.tc s true) x).1) reply) (rw (at) (omega arith))
+falls_redo old new next ending (Some x) q k at finds is h =
     let s : ℕ = old.tc.session in
     let n : ℕ = x.0 in
-    let w : TcView = redoing old.tc n in
+    let w : TcView = redoing old.tc n false in
     let P : Request → Type 0 = λ y. Serves old.dc y (Some h.reply) h.dc in
     let sound = sound_reply old s n x.1 h.reply h.dc k finds.2 (subst P is h.served) in
-    let taken : takes s (phase.Redoing n) n ≡ true = rw (eq-eqb n n refl) (unstable_now n s finds.1) in
+    let taken : takes s (phase.Redoing n false) n ≡ true = rw (eq-eqb n n refl) (unstable_now n s finds.1) in
     let left : new.tc ≡ (on_awaited w n sound.answer (awaiting old.tc n)).1 =
     h.left ∙ ap (λ y. (on_reply w y).1) sound.reply_is ∙ ap (λ (b : Bool). (if b then on_awaited w n sound.answer (awaiting old.tc n) else (told.Nothing, w)).1) taken in
-    same_rounds new.tc _ (rounds_left old.tc) left (falls_redone old.tc next n x.1 sound.answer (awaiting old.tc n) k.tc at finds.0 finds.1 finds.2 refl sound.sound)
+    same_rounds new.tc _ (rounds_left old.tc) left (falls_redone old.tc next ending n x.1 sound.answer (awaiting old.tc n) k.tc at finds.0 finds.1 finds.2 refl sound.sound)
 
 -- an unanswered request is served and answered
 falls_exchange : (old new : NodeView) (n : ℕ) (o : Op) (x : OpenTxn) (q : Request) → IsKept old → old.tc.phase ≡ phase.Running → find x.txn old.tc.open_txns ≡ Some x → x.waiting ≡ Some n
@@ -132,54 +132,55 @@ falls_read old new o r q k at some is h =
 
 -- what a round's first event sent, and the rest of the round
 falls_connect_round : (old new mid : NodeView) (o : Out) (os : List Out) → IsKept old → IsApart old → ReconnectsTo old o mid → IsDone o
-    → Steps mid (event.Request (length old.requests + 1) ∷ event.Reply (length old.replies + 1) ∷ []) os new → rounds_left new.tc < rounds_left old.tc
-falls_connect_round old new mid (out.Sent i) os k apart h d rest =
+    → Plays mid (event.Request (length old.requests + 1) ∷ event.Reply (length old.replies + 1) ∷ []) os new → rounds_left new.tc < rounds_left old.tc
+falls_connect_round old new mid (out.Connects i cs) os k apart h d rest =
     let q : Request = asks.Connect (length old.tc.log + 1) in
-    falls_connected old new q k apart refl (exchanged old mid (reconnected old.tc) q i os new (connect_replied (length old.tc.log + 1)) h.1 rest)
+    let exchange = exchanged old mid mid.tc q i os new (connect_replied (length old.tc.log + 1)) h.1 rest in
+    falls_connected old new q k apart refl (subst (λ tc. Exchanged old tc q new) h.0.3 exchange)
 falls_connect_round old new mid (out.Refused r) os k apart h d rest = absurd d
 falls_connect_round old new mid _ os k apart h d rest = absurd h
 
-falls_recover_round : (old new mid : NodeView) (o : Out) (os : List Out) (next : ℕ) → IsKept old → old.tc.phase ≡ phase.Redoing next → RecoversTo old o mid → IsDone o
-    → Steps mid (event.Request (length old.requests + 1) ∷ event.Reply (length old.replies + 1) ∷ []) os new → rounds_left new.tc < rounds_left old.tc
-falls_recover_round old new mid (out.Sent i) os next k at h d rest =
+falls_recover_round : (old new mid : NodeView) (o : Out) (os : List Out) (next : ℕ) (ending : Bool) → IsKept old → old.tc.phase ≡ phase.Redoing next ending → RecoversTo old o mid → IsDone o
+    → Plays mid (event.Request (length old.requests + 1) ∷ event.Reply (length old.replies + 1) ∷ []) os new → rounds_left new.tc < rounds_left old.tc
+falls_recover_round old new mid (out.Sent i) os next ending k at h d rest =
     let P : Phase → Type 0 = λ p. SendsAt old.tc p h.0 mid.tc in
     let redo = subst P at h.1 in
     let Q : Request → Type 0 = HasReply in
     let exchange = exchanged old mid mid.tc h.0 i os new (subst Q (sym redo.request_is) (redo_replied old.tc.session redo.found)) h.2 rest in
     let E : TcView → Type 0 = λ tc. Exchanged old tc h.0 new in
-    falls_redo old new next redo.found h.0 k at redo.finds redo.request_is (subst E redo.left exchange)
-falls_recover_round old new mid out.Nothing os next k at h d rest = let no : phase.Redoing next ≡ phase.Running = sym at ∙ h.0 in absurd (cc)
-falls_recover_round old new mid (out.Refused r) os next k at h d rest = absurd d
-falls_recover_round old new mid _ os next k at h d rest = absurd h
+    falls_redo old new next ending redo.found h.0 k at redo.finds redo.request_is (subst E redo.left exchange)
+falls_recover_round old new mid out.Nothing os next ending k at h d rest = let no : phase.Redoing next ending ≡ phase.Running = sym at ∙ h.0.0 in absurd (cc)
+falls_recover_round old new mid (out.Refused r) os next ending k at h d rest = absurd d
+falls_recover_round old new mid _ os next ending k at h d rest = absurd h
 
 falls_exchange_round : (old new mid : NodeView) (o : Out) (os : List Out) (t : ℕ) → IsKept old → old.tc.phase ≡ phase.Running → SendsTo old t o mid → IsDone o
-    → Steps mid (event.Request (length old.requests + 1) ∷ event.Reply (length old.replies + 1) ∷ []) os new → rounds_left new.tc < rounds_left old.tc
+    → Plays mid (event.Request (length old.requests + 1) ∷ event.Reply (length old.replies + 1) ∷ []) os new → rounds_left new.tc < rounds_left old.tc
 falls_exchange_round old new mid (out.Sent i) os t k running h d rest =
-    let exchange = exchanged old mid old.tc h.0 i os new (request_replied old.tc t h.0 h.1) h.2 rest in
-    elim h.1 [
+    let exchange = exchanged old mid old.tc h.0 i os new (request_replied old.tc t h.0 h.1.1) h.2 rest in
+    elim h.1.1 [
       | inl r ↦ falls_exchange old new r.number r.op r.open_txn h.0 k running r.at.is r.waiting r.requests r.is exchange
       | inr r ↦ falls_read old new r.open_txn r.read h.0 k r.at.is r.reading r.is exchange
     ]
 falls_exchange_round old new mid (out.Refused r) os t k running h d rest = absurd d
 falls_exchange_round old new mid _ os t k running h d rest = absurd h
 
-pub redoing_at : (w : NodeView) (p : Phase) → w.tc.phase ≡ p → IsRedoing p → (next : ℕ) × (w.tc.phase ≡ phase.Redoing next)
+pub redoing_at : (w : NodeView) (p : Phase) → w.tc.phase ≡ p → IsRedoing p → (next : ℕ) × (ending : Bool) × (w.tc.phase ≡ phase.Redoing next ending)
 redoing_at w phase.Unconnected at h = absurd h
 redoing_at w phase.Connecting at h = absurd h
-redoing_at w (phase.Redoing next) at h = (next, at)
+redoing_at w (phase.Redoing next ending) at h = (next, ending, at)
 redoing_at w phase.Running at h = absurd h
 
-pub falls : (old new : NodeView) (r : Round) (outs : List Out) → IsKept old → IsNext old r → Steps old (events_of old r) outs new → rounds_left new.tc < rounds_left old.tc
+pub falls : (old new : NodeView) (r : Round) (outs : List Out) → IsKept old → IsNext old r → Plays old (events_of old r) outs new → rounds_left new.tc < rounds_left old.tc
 falls old new r [] k next h = none r h
   where
-    none : (r : Round) → Steps old (events_of old r) [] new → rounds_left new.tc < rounds_left old.tc
+    none : (r : Round) → Plays old (events_of old r) [] new → rounds_left new.tc < rounds_left old.tc
     none round.Connect h = absurd h
     none round.Recover h = absurd h
     none (round.Exchange t) h = absurd h
     none (round.Undo t) h = absurd h
     none round.Force h = absurd h
 falls old new round.Connect (o ∷ os) k next h = falls_connect_round old new h.0 o os k next h.1 h.2 h.3
-falls old new round.Recover (o ∷ os) k next h = let at = redoing_at old old.tc.phase refl next.0 in falls_recover_round old new h.0 o os at.0 k at.1 h.1 h.2 h.3
+falls old new round.Recover (o ∷ os) k next h = let at = redoing_at old old.tc.phase refl next.0 in falls_recover_round old new h.0 o os at.0 at.1 k at.2 h.1 h.2 h.3
 falls old new (round.Exchange t) (o ∷ os) k next h = falls_exchange_round old new h.0 o os t k next.0.running h.1 h.2 h.3
 falls old new (round.Undo t) (o ∷ []) k next h =
     let P : NodeView → Type 0 = λ x. rounds_left x.tc < rounds_left old.tc in subst P (sym h.3) (falls_undo old h.0 t o k next.0.running next.1 h.1 h.2)
@@ -210,11 +211,11 @@ read_left w t k reader =
 pub some_left : (w : NodeView) (r : Round) → IsKept w → IsNext w r → 0 < rounds_left w.tc
 some_left w round.Connect k next = let e = apart_rounds w k next in omega (arith, e)
 some_left w round.Recover k next =
-    let at = redoing_at w w.tc.phase refl next.0 in let e : phase_rounds w.tc.log w.tc.session w.tc.phase ≡ requests_in at.0 w.tc.session w.tc.log + 1 = ap (phase_rounds w.tc.log w.tc.session) at.1 in omega (arith, e)
+    let at = redoing_at w w.tc.phase refl next.0 in let e : phase_rounds w.tc.log w.tc.session w.tc.phase ≡ requests_in at.0 w.tc.session w.tc.log + 1 = ap (phase_rounds w.tc.log w.tc.session) at.2 in omega (arith, e)
 some_left w (round.Exchange t) k next = elim next.1 [ inl due ↦ waits_left w t due.0 k due.1 | inr reader ↦ read_left w t k reader ]
 some_left w (round.Undo t) k next =
     let o : OpenTxn = next.1.open_txn in
-    let e = txn_rolling w.tc.log w.tc.stable o next.1.rolling in
+    let e = some_rolling w.tc.log w.tc.stable o next.1.rolling in
     omega (arith, e, total_share (txn_rounds w.tc.log w.tc.stable) o w.tc.open_txns k.tc.open_txns.order (found_own t w.tc.open_txns o next.1.is))
 some_left w round.Force k next = elim next.1 [
   | inl due ↦ waits_left w due.0 due.1 k due.2

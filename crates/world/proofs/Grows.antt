@@ -18,8 +18,9 @@ use Rattle.codec.specs.declared.request.Request.{Request}
 use Rattle.codec.specs.declared.request.Request.TheVariants as asks
 use Rattle.codec.specs.declared.reply.Reply.{Reply}
 use Rattle.codec.specs.declared.reply.Reply.TheVariants as says
-use Rattle.ab_lsn.specs.declared.entry.Entry.{Entry}
-use Rattle.ab_lsn.specs.AbLsn.{AbLsnView, numbers, captures}
+use Rattle.record_key.specs.declared.entry.Entry.{Entry}
+use Rattle.ab_lsn.specs.AbLsn.{AbLsnView, captures}
+use Rattle.record_key.specs.Entries.{numbers}
 use Rattle.page.specs.Honest.{IsHonestLeaf}
 use Rattle.page.proofs.Honest.{right_longer, honest_uncaptured}
 use Rattle.dc_core.specs.DcView.{DcView}

@@ -4,22 +4,23 @@ use Rattle.std.specs.Ordering.{nat_cmp}
 use Rattle.std.specs.Cmp.Lexicographic.{slice_cmp}
 use Rattle.std.specs.FinMap.{get-empty}
 use Rattle.std.proofs.lemmas.List.{take_more}
-use Rattle.history.specs.ListMachine.{Machine}
+use Rattle.history.specs.ListMachine.{Machine, fresh}
 use Rattle.codec.specs.declared.reply.Reply.{Reply}
 use Rattle.dc_core.specs.DcView.{DcView}
 use Rattle.world.specs.declared.event.Event.{Event}
 use Rattle.world.specs.declared.event.Event.TheVariants as event
 use Rattle.world.specs.declared.event.Out.{Out}
 use Rattle.world.specs.declared.event.Out.TheVariants as out
-use Rattle.world.specs.Node.{NodeView, StepsTo, ServesTo, Served, fresh_node}
+use Rattle.world.specs.Node.{NodeView, StepsTo, ServesTo, Served, Chain, fresh_node}
 use Rattle.world.specs.Kept.{IsKept, IsSent}
-use Rattle.world.specs.Simulation.{Happens, Run}
-use Rattle.tc_core.proofs.KeepsTc.{fresh_tc}
+use Rattle.world.specs.Simulation.{Happens, Run, Leads, LeadsAll, Stands}
+use Rattle.world.proofs.CallsKeep.{fresh_tc}
+use Rattle.simulation.proofs.Told.{fresh_stands}
 use Rattle.world.proofs.ByNumber.{all_at}
 use Rattle.world.proofs.Performs.{IsServing, with_dc}
 use Rattle.world.proofs.Serves.{serves}
-use Rattle.world.proofs.Keeps.{keeps_given}
-use Rattle.world.proofs.Follows.{Follows, at_new, unchanged, follows_begin, follows_act, follows_get, follows_scan, follows_rollback, follows_undo, follows_force}
+use Rattle.world.proofs.Keeps.{with_reply, keeps_given}
+use Rattle.world.proofs.Follows.{Follows, at_new, no_line, unchanged, follows_begin, follows_act, follows_get, follows_scan, follows_save, follows_go_back, follows_rollback, follows_commit, follows_undo, follows_force}
 use Rattle.world.proofs.Sends.{follows_reconnect, follows_recover, follows_send, follows_low_water}
 use Rattle.world.proofs.Replies.{follows_reply}
 
@@ -30,9 +31,12 @@ served old i reply dc k h = serves old h.request reply dc k (all_at (IsSent old.
 follows_request : (old new : NodeView) (i : ℕ) (output : Out) → IsKept old → ServesTo old i output new → Follows old (event.Request i) output new
 follows_request old new i (out.Replied j) k h =
     let s = served old i (Some h.0) new.dc k h.1 in
-    at_new old new _ (event.Request i) (out.Replied j) h.3 (record { happens = refl; kept = keeps_given (with_dc old new.dc) h.0 s.kept s.given })
+    let next : NodeView = with_reply (with_dc old new.dc) h.0 in
+    at_new old new next (event.Request i) (out.Replied j) h.3
+    (record { leads = no_line old next (event.Request i) (out.Replied j) refl (λ m stands. stands); kept = keeps_given (with_dc old new.dc) h.0 s.kept s.given })
 follows_request old new i out.Noted k h =
-    at_new old new _ (event.Request i) out.Noted h.1 (record { happens = refl; kept = (served old i None new.dc k h.0).kept })
+    at_new old new (with_dc old new.dc) (event.Request i) out.Noted h.1
+    (record { leads = no_line old (with_dc old new.dc) (event.Request i) out.Noted refl (λ m stands. stands); kept = (served old i None new.dc k h.0).kept })
 follows_request old new i (out.Refused r) k h = unchanged old new (event.Request i) (out.Refused r) k h.1 refl
 follows_request old new i _ k h = absurd h
 
@@ -43,7 +47,10 @@ follows old new event.Begin output k h = follows_begin old new output k h
 follows old new (event.Act t op) output k h = follows_act old new t op output k h
 follows old new (event.Get t key) output k h = follows_get old new t key output k h
 follows old new (event.Scan t low high) output k h = follows_scan old new t low high output k h
+follows old new (event.Save t) output k h = follows_save old new t output k h
+follows old new (event.GoBack t s) output k h = follows_go_back old new t s output k h
 follows old new (event.Rollback t) output k h = follows_rollback old new t output k h
+follows old new (event.Commit t) output k h = follows_commit old new t output k h
 follows old new (event.Undo t) output k h = follows_undo old new t output k h
 follows old new event.Force output k h = follows_force old new output k h
 follows old new (event.Send t) output k h = follows_send old new t output k h
@@ -66,6 +73,10 @@ kept_fresh = record {
   sessions = record { runs = refl; begun = omega arith; served = tt };
 }
 
+-- and stands for the machine to which nothing was done
+pub fresh_stands_for : Stands fresh_node fresh
+fresh_stands_for = fresh_stands
+
 -- a run goes on by one event
 run_push : (m : Machine) (es : List Event) (os : List Out) (n : Machine) (e : Event) (o : Out) (k : Machine) → Run m es os n → Happens n e o k → Run m (es ++ e ∷ []) (os ++ o ∷ []) k
 run_push m [] [] n e o k run happens = let P : Machine → Type 0 = λ x. Happens x e o k in (k, subst P run happens, refl)
@@ -73,6 +84,25 @@ run_push m [] (p ∷ os) n e o k run happens = absurd run
 run_push m (d ∷ es) [] n e o k run happens = absurd run
 run_push m (d ∷ es) (p ∷ os) n e o k run happens = (run.0, run.1, run_push run.0 es os n e o k run.2 happens)
 
-pub run_more : (m : Machine) (es : List Event) (i : ℕ) (os : List Out) (n : Machine) (e : Event) (o : Out) (k : Machine)
-    → i < length es → e ≡ get_or es i e → Run m (take i es) os n → Happens n e o k → Run m (take (i + 1) es) (os ++ o ∷ []) k
-run_more m es i os n e o k lt at run happens = rw (take_more es i e lt, ← at) (run_push m (take i es) os n e o k run happens)
+leads_push : (old : NodeView) (es : List Event) (os : List Out) (mid : NodeView) (e : Event) (o : Out) (new : NodeView) → LeadsAll old es os mid → Leads mid e o new
+    → LeadsAll old (es ++ e ∷ []) (os ++ o ∷ []) new
+leads_push old es os mid e o new all one m stands =
+    let first = all m stands in
+    let last = one first.0 first.2 in
+    (last.0, run_push m es os first.0 e o last.0 first.1 last.1, last.2)
+
+pub leads_more : (old : NodeView) (es : List Event) (i : ℕ) (os : List Out) (mid : NodeView) (e : Event) (o : Out) (new : NodeView)
+    → i < length es → e ≡ get_or es i e → LeadsAll old (take i es) os mid → Leads mid e o new → LeadsAll old (take (i + 1) es) (os ++ o ∷ []) new
+leads_more old es i os mid e o new lt at all one = rw (take_more es i e lt, ← at) (leads_push old (take i es) os mid e o new all one)
+
+-- a chain too
+chain_push : (w : NodeView) (es : List Event) (os : List Out) (mid : NodeView) (e : Event) (o : Out) (new : NodeView) → Chain w es os mid → StepsTo mid e o new
+    → Chain w (es ++ e ∷ []) (os ++ o ∷ []) new
+chain_push w [] [] mid e o new chain step = let P : NodeView → Type 0 = λ x. StepsTo x e o new in (new, subst P chain step, refl)
+chain_push w [] (p ∷ os) mid e o new chain step = absurd chain
+chain_push w (d ∷ es) [] mid e o new chain step = absurd chain
+chain_push w (d ∷ es) (p ∷ os) mid e o new chain step = (chain.0, chain.1, chain_push chain.0 es os mid e o new chain.2 step)
+
+pub chain_more : (w : NodeView) (es : List Event) (i : ℕ) (os : List Out) (mid : NodeView) (e : Event) (o : Out) (new : NodeView)
+    → i < length es → e ≡ get_or es i e → Chain w (take i es) os mid → StepsTo mid e o new → Chain w (take (i + 1) es) (os ++ o ∷ []) new
+chain_more w es i os mid e o new lt at chain step = rw (take_more es i e lt, ← at) (chain_push w (take i es) os mid e o new chain step)

@@ -16,7 +16,7 @@ use Rattle.log_laws.proofs.LegalLogs.{answered_push}
 use Rattle.log_laws.proofs.Strict.{one_at_a_time}
 use Rattle.codec.specs.declared.reply.Reply.{Reply}
 use Rattle.codec.specs.declared.reply.Reply.TheVariants as says
-use Rattle.ab_lsn.specs.declared.entry.Entry.{Entry}
+use Rattle.record_key.specs.declared.entry.Entry.{Entry}
 use Rattle.ab_lsn.specs.AbLsn.{captures, raised}
 use Rattle.ab_lsn.proofs.Capturing.{noted_captures, raised_captures}
 use Rattle.page.specs.Leaf.{LeafView, performed, raised_to}
@@ -32,7 +32,7 @@ use Rattle.world.specs.Node.{NodeView}
 use Rattle.world.specs.Kept.{IsKept, IsAnsweredTo, IsAnswered, IsValue, AreRows, IsGiven, IsServed}
 use Rattle.tc_core.specs.declared.open_txn.OpenTxn.{OpenTxn}
 use Rattle.tc_core.specs.OpenTxns.{find}
-use Rattle.tc_core.specs.Calls.{shared}
+use Rattle.tc_core.specs.Changes.{shared}
 use Rattle.tc_core.proofs.Finding.{found_own}
 use Rattle.world.proofs.ByNumber.{all_map}
 use Rattle.tc_core.proofs.HeldSpans.{within_itself}
@@ -52,7 +52,7 @@ pub record IsServing (w : NodeView) (reply : Option Reply) (dc : DcView) : Type 
 served_still : (at : Phase) (session : ℕ) (dc : DcView) (leaf : LeafView) (performed : List Performance) → IsServed at session dc → IsServed at session (record dc { leaf = leaf; performed = performed })
 served_still phase.Unconnected session dc leaf performed h = tt
 served_still phase.Connecting session dc leaf performed h = tt
-served_still (phase.Redoing next) session dc leaf performed h = h
+served_still (phase.Redoing next ending) session dc leaf performed h = h
 served_still phase.Running session dc leaf performed h = h
 
 -- a key is in its own span

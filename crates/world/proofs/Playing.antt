@@ -10,8 +10,8 @@ use Rattle.world.specs.declared.event.Out.TheVariants as out
 use Rattle.world.specs.declared.round.Round.{Round}
 use Rattle.world.specs.Node.{NodeView, StepsTo}
 use Rattle.world.specs.Kept.{IsKept}
-use Rattle.world.specs.Rounds.{IsDone, Steps, StopsAt, Done, Stopped, Asks, IsNext, events_of, Rounds, Played, Broken, IsAllowed, fewer}
-use Rattle.world.specs.Bound.{rounds_left}
+use Rattle.world.specs.Rounds.{IsDone, Plays, StopsAt, Performed, Stopped, IsExchange, IsNext, events_of, Rounds, Played, Broken, IsAllowed, fewer}
+use Rattle.world.specs.Bound.{rounds_left, most_rounds}
 use Rattle.world.proofs.Wants.{wants}
 
 -- an output that isn't a refusal
@@ -24,7 +24,11 @@ done_if out.RollingBack h = tt
 done_if out.Nothing h = tt
 done_if (out.Compensated n) h = tt
 done_if (out.RolledBack n) h = tt
-done_if (out.Stable n) h = tt
+done_if (out.Saved n) h = tt
+done_if (out.CommitLogged n) h = tt
+done_if (out.Back t s) h = tt
+done_if (out.Stable n cs) h = tt
+done_if (out.Connects n cs) h = tt
 done_if (out.Sent n) h = tt
 done_if (out.Replied n) h = tt
 done_if out.Noted h = tt
@@ -36,32 +40,32 @@ done_if (out.Rows u rows) h = tt
 done_if (out.Undone n) h = tt
 
 -- one event
-pub one_done : (old new : NodeView) (e : Event) (o : Out) (before after : List Out) → StepsTo old e o new → IsDone o → after ≡ before ++ o ∷ [] → Done old (e ∷ []) before after new
+pub one_done : (old new : NodeView) (e : Event) (o : Out) (before after : List Out) → StepsTo old e o new → IsDone o → after ≡ before ++ o ∷ [] → Performed old (e ∷ []) before after new
 one_done old new e o before after step done appended = record { outs = o ∷ []; appended = appended; steps = (new, step, done, refl) }
 
 -- an event, and those after it
-pub then_done : (old mid new : NodeView) (e : Event) (es : List Event) (before between after : List Out) → Done old (e ∷ []) before between mid → Done mid es between after new
-    → Done old (e ∷ es) before after new
+pub then_done : (old mid new : NodeView) (e : Event) (es : List Event) (before between after : List Out) → Performed old (e ∷ []) before between mid → Performed mid es between after new
+    → Performed old (e ∷ es) before after new
 then_done old mid new e es before between after first rest =
     by first.outs first.steps first.appended
   where
-    by : (outs : List Out) → Steps old (e ∷ []) outs mid → between ≡ before ++ outs → Done old (e ∷ es) before after new
+    by : (outs : List Out) → Plays old (e ∷ []) outs mid → between ≡ before ++ outs → Performed old (e ∷ es) before after new
     by [] steps appended = absurd steps
     by (o ∷ p ∷ os) steps appended = absurd steps.3
     by (o ∷ []) steps appended =
-        let P : NodeView → Type 0 = λ x. Steps x es rest.outs new in
+        let P : NodeView → Type 0 = λ x. Plays x es rest.outs new in
         record {
           outs = o ∷ rest.outs;
           appended = rest.appended ∙ ap (λ (xs : List Out). xs ++ rest.outs) appended ∙ append_assoc before (o ∷ []) rest.outs;
           steps = (steps.0, steps.1, steps.2, subst P steps.3 rest.steps);
         }
 
-pub then_stopped : (old mid new : NodeView) (e : Event) (es : List Event) (before between after : List Out) (r : Refusal) → Done old (e ∷ []) before between mid
+pub then_stopped : (old mid new : NodeView) (e : Event) (es : List Event) (before between after : List Out) (r : Refusal) → Performed old (e ∷ []) before between mid
     → Stopped mid es between after r new → Stopped old (e ∷ es) before after r new
 then_stopped old mid new e es before between after r first rest =
     by first.outs first.steps first.appended
   where
-    by : (outs : List Out) → Steps old (e ∷ []) outs mid → between ≡ before ++ outs → Stopped old (e ∷ es) before after r new
+    by : (outs : List Out) → Plays old (e ∷ []) outs mid → between ≡ before ++ outs → Stopped old (e ∷ es) before after r new
     by [] steps appended = absurd steps
     by (o ∷ p ∷ os) steps appended = absurd steps.3
     by (o ∷ []) steps appended =
@@ -85,19 +89,19 @@ first_stopped old new e es before after r h = by h.outs h.stops h.appended
         none (p ∷ ps) h = h
 
 -- the numbers of an exchange's messages
-pub sent_number : (w mid : NodeView) (e : Event) (before between : List Out) → Asks w e → Done w (e ∷ []) before between mid → length mid.requests ≡ length w.requests + 1
+pub sent_number : (w mid : NodeView) (e : Event) (before between : List Out) → IsExchange w e → Performed w (e ∷ []) before between mid → length mid.requests ≡ length w.requests + 1
 sent_number w mid e before between asks h = by h.outs h.steps
   where
-    by : (outs : List Out) → Steps w (e ∷ []) outs mid → length mid.requests ≡ length w.requests + 1
+    by : (outs : List Out) → Plays w (e ∷ []) outs mid → length mid.requests ≡ length w.requests + 1
     by [] steps = absurd steps
     by (o ∷ p ∷ os) steps = absurd steps.3
     by (o ∷ []) steps = ap (λ (x : NodeView). length x.requests) steps.3 ∙ asks.sent o steps.0 steps.1 steps.2
 
-pub replied_number : (w mid after : NodeView) (e : Event) (a b c : List Out) → Asks w e → Done w (e ∷ []) a b mid → Done mid (event.Request (length w.requests + 1) ∷ []) b c after
+pub replied_number : (w mid after : NodeView) (e : Event) (a b c : List Out) → IsExchange w e → Performed w (e ∷ []) a b mid → Performed mid (event.Request (length w.requests + 1) ∷ []) b c after
     → length after.replies ≡ length w.replies + 1
 replied_number w mid after e a b c asks h k = by h.outs h.steps k.outs k.steps
   where
-    by : (os : List Out) → Steps w (e ∷ []) os mid → (ps : List Out) → Steps mid (event.Request (length w.requests + 1) ∷ []) ps after → length after.replies ≡ length w.replies + 1
+    by : (os : List Out) → Plays w (e ∷ []) os mid → (ps : List Out) → Plays mid (event.Request (length w.requests + 1) ∷ []) ps after → length after.replies ≡ length w.replies + 1
     by [] first ps next = absurd first
     by (o ∷ p ∷ os) first ps next = absurd first.3
     by (o ∷ []) first [] next = absurd next
@@ -124,10 +128,10 @@ none_yet old most before = record { played = record { rounds = []; outs = []; ap
     all None = refl
     all (Some n) = (omega arith, ap Some (omega arith))
 
-rounds_push : (old now new : NodeView) (rs : List Round) (outs more : List Out) (r : Round) → Rounds old rs outs now → IsNext now r → Steps now (events_of now r) more new
+rounds_push : (old now new : NodeView) (rs : List Round) (outs more : List Out) (r : Round) → Rounds old rs outs now → IsNext now r → Plays now (events_of now r) more new
     → Rounds old (rs ++ r ∷ []) (outs ++ more) new
 rounds_push old now new [] outs more r rounds next steps =
-    let P : NodeView → Type 0 = λ x. IsNext x r × Steps x (events_of x r) more new in
+    let P : NodeView → Type 0 = λ x. IsNext x r × Plays x (events_of x r) more new in
     let here = subst P rounds.1 (next, steps) in
     (new, more, [], ap (λ (xs : List Out). xs ++ more) rounds.0 ∙ sym (append-nil more), here.0, here.1, (refl, refl))
 rounds_push old now new (q ∷ rs) outs more r rounds next steps = (
@@ -150,7 +154,7 @@ fewer_left (Some m) n left h some =
     elim_less m n most apart = omega (arith, most, apart)
 
 pub one_more : (old now new : NodeView) (most left : Option ℕ) (before after grown : List Out) (r : Round) → SoFar old most before left after now → (left ≡ Some 0 → ⊥) → IsNext now r
-    → Done now (events_of now r) after grown new → rounds_left new.tc < rounds_left now.tc → SoFar old most before (fewer left) grown new
+    → Performed now (events_of now r) after grown new → rounds_left new.tc < rounds_left now.tc → SoFar old most before (fewer left) grown new
 one_more old now new most left before after grown r far some next h less =
     let p = far.played in
     let count : length (p.rounds ++ r ∷ []) ≡ length p.rounds + 1 = length-append p.rounds (r ∷ []) in
@@ -185,8 +189,9 @@ one_allowed (Some m) left n h some = elim (cases_eq n m) [
 
 -- a round stopped
 pub broken : (old now new : NodeView) (most left : Option ℕ) (before after grown : List Out) (r : Round) (refusal : Refusal) → SoFar old most before left after now → (left ≡ Some 0 → ⊥) → IsKept now
-    → IsNext now r → Stopped now (events_of now r) after grown refusal new → (b : Broken old before grown refusal new) × IsAllowed most (length b.rounds.rounds + 1)
-broken old now new most left before after grown r refusal far some kept next h = (
+    → IsNext now r → Stopped now (events_of now r) after grown refusal new → rounds_left old.tc < most_rounds old.tc.log
+    → (b : Broken old before grown refusal new) × IsAllowed most (length b.rounds.rounds + 1) × (length b.rounds.rounds < most_rounds old.tc.log)
+broken old now new most left before after grown r refusal far some kept next h bound = (
   record {
     last = now;
     between = after;
@@ -197,4 +202,5 @@ broken old now new most left before after grown r refusal far some kept next h =
     want = wants now new r h.outs refusal kept next h.stops;
   },
   one_allowed most left (length far.played.rounds) far.left_is some,
+  omega (arith, far.count, bound),
 )

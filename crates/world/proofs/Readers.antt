@@ -4,7 +4,7 @@ use Rattle.std.proofs.lemmas.Bool.{cases_eq}
 use Rattle.range_locks.specs.declared.span.Span.{Span}
 use Rattle.tc_core.specs.declared.open_txn.OpenTxn.{OpenTxn}
 use Rattle.tc_core.specs.OpenTxns.{find, replace, without}
-use Rattle.tc_core.specs.Calls.{begun_txn}
+use Rattle.tc_core.specs.Changes.{begun_txn}
 use Rattle.tc_core.proofs.Finding.{find_here, find_there, replaced_other, replaced_same, without_same, without_other}
 
 -- somebody waits for the read of this number in this span

@@ -1,5 +1,5 @@
 -- Whoever reads holds its span, so at each key there the leaf has what the machine's plain map has.
-use Rattle.std.proofs.Common.{◌≡◌, ◌≢◌, ℕ, true, List, Option, Some, None, IsSome, refl, sym, ap, ◌∙◌, true≢false}
+use Rattle.std.proofs.Common.{◌≡◌, ◌≢◌, ℕ, true, false, List, Option, Some, None, IsSome, refl, sym, ap, ◌∙◌, subst, true≢false}
 use Rattle.std.specs.FinMap.{get}
 use Rattle.record_key.specs.declared.op.Op.{Op}
 use Rattle.record_key.specs.declared.op.Answer.{Answer}
@@ -7,23 +7,38 @@ use Rattle.record_key.specs.Table.{Bytes, key_of}
 use Rattle.history.specs.declared.record.Record.{Record}
 use Rattle.history.specs.History.{plain}
 use Rattle.history.specs.Spans.{is_within}
-use Rattle.history.specs.Log.{answer_of, IsOpBy, IsOpen, Requests, hist}
+use Rattle.history.specs.Log.{record_at, answer_of, IsOpBy, IsOpen, Requests}
+use Rattle.history.specs.Values.{value_on}
+use Rattle.history.specs.ListMachine.{Machine}
+use Rattle.log_laws.proofs.Records.{op_request}
+use Rattle.log_laws.proofs.Plain.{value_of-captured}
+use Rattle.simulation.specs.View.{is_to_undo}
+use Rattle.simulation.proofs.Viewing.{plain_is_the_logs}
 use Rattle.ab_lsn.specs.AbLsn.{captures}
+use Rattle.page.proofs.OnKey.{all_done}
 use Rattle.tc_core.specs.declared.open_txn.OpenTxn.{OpenTxn}
 use Rattle.tc_core.specs.declared.open_txn.Read.{Read}
+use Rattle.tc_core.specs.declared.open_txn.Rollback.{Rollback}
 use Rattle.tc_core.specs.OpenTxns.{find}
-use Rattle.tc_core.specs.Calls.{shared}
-use Rattle.tc_core.specs.TcView.{is_rolling}
+use Rattle.tc_core.specs.Changes.{shared}
 use Rattle.tc_core.specs.Kept.{IsReading}
+use Rattle.tc_core.proofs.Finding.{found_number}
 use Rattle.tc_core.proofs.KeepsReads.{held_apart}
 use Rattle.tc_core.proofs.KeepsTc.{reading_at}
 use Rattle.world.specs.Node.{NodeView}
 use Rattle.world.specs.Kept.{IsKept}
-use Rattle.world.specs.Simulation.{machine, rolls}
-use Rattle.world.proofs.Histories.{all_hist}
-use Rattle.world.proofs.Unrolled.{plain_elsewhere, rolling_open}
-use Rattle.world.proofs.PlainAt.{plain_at}
+use Rattle.world.specs.Simulation.{Stands, clients, rolling_as, reading_as, waiting_as, doing_of, doing_in}
 use Rattle.world.proofs.Unread.{unread}
+
+-- who isn't rolling back has nothing to undo
+nothing_to_undo : (x : Option Read) (y : Option ℕ) (n : ℕ) → is_to_undo (Some (reading_as x (waiting_as y))) n ≡ false
+nothing_to_undo None None n = refl
+nothing_to_undo None (Some m) n = refl
+nothing_to_undo (Some r) y n = refl
+
+pub flat_undoes_none : (o : OpenTxn) (n : ℕ) → o.rolling ≡ None → is_to_undo (Some (doing_of o)) n ≡ false
+flat_undoes_none o n flat =
+    ap (λ r. is_to_undo (Some (rolling_as r (reading_as o.reading (waiting_as o.waiting)))) n) flat ∙ nothing_to_undo o.reading o.waiting n
 
 -- a read that is waited for
 module _ (w : NodeView) (o : OpenTxn) (r : Read) (k : IsKept w) (at : find o.txn w.tc.open_txns ≡ Some o) (reads : o.reading ≡ Some r) where
@@ -46,11 +61,30 @@ module _ (w : NodeView) (o : OpenTxn) (r : Read) (k : IsKept w) (at : find o.txn
       by (Some a) is = refl
       by None is = absurd (true≢false (sym within ∙ ap (is_within (shared r.span)) (sym on) ∙ unread w.tc o r n q k.tc at reads asks is))
 
-  -- and the rollbacks of others cross out nothing there
-  pub read_plain : (key : Bytes) → is_within (shared r.span) key ≡ true → get w.dc.leaf.rows key ≡ get (plain (machine w).h) key
-  read_plain key within =
+  -- and nobody has to undo an operation there
+  not_undone : (key : Bytes) (n t : ℕ) (q : Op) → is_within (shared r.span) key ≡ true → IsOpBy log n t q → key_of q ≡ key → is_to_undo ((clients w.tc).doing t) n ≡ false
+  not_undone key n t q within by on = by_txn (find t w.tc.open_txns) refl
+    where
+      differs : (p : OpenTxn) (b : Rollback) → find t w.tc.open_txns ≡ Some p → p.rolling ≡ Some b → t ≢ o.txn
+      differs p b found rolling e =
+          let same : Some p ≡ Some o = sym found ∙ ap (λ (u : ℕ). find u w.tc.open_txns) e ∙ at in
+          let none : Some b ≡ None = sym rolling ∙ ap (λ (x : OpenTxn). x.rolling) (let f : p ≡ o = cc in f) ∙ is_reading.flat in
+          cc
+
+      by_rolling : (p : OpenTxn) → find t w.tc.open_txns ≡ Some p → (x : Option Rollback) → p.rolling ≡ x → is_to_undo (Some (doing_of p)) n ≡ false
+      by_rolling p found None flat = flat_undoes_none p n flat
+      by_rolling p found (Some b) rolling =
+          let is_open : IsOpen log t = subst (λ (u : ℕ). IsOpen log u) (found_number t w.tc.open_txns p found) (k.tc.open_txns.each t p found).is in
+          absurd (unshared key n t q within by is_open (differs p b found rolling) on)
+
+      by_txn : (x : Option OpenTxn) → find t w.tc.open_txns ≡ x → is_to_undo (doing_in (find t w.tc.open_txns)) n ≡ false
+      by_txn None none = ap (λ y. is_to_undo (doing_in y) n) none
+      by_txn (Some p) some = ap (λ y. is_to_undo (doing_in y) n) some ∙ by_rolling p some p.rolling refl
+
+  pub read_plain : (m : Machine) → Stands w m → (key : Bytes) → is_within (shared r.span) key ≡ true → get w.dc.leaf.rows key ≡ get (plain m.h) key
+  read_plain m stands key within =
       (k.honest.at key (rw (k.whole.0, k.whole.1) refl)).right
-      ∙ plain_at log key (captures w.dc.leaf.ab) k.tc.legal k.right (answered_there key within) (λ n q asks on. k.answered n q asks (answered_there key within n q asks on))
-      ∙ sym (plain_elsewhere (rolls w.tc.open_txns) key (hist log) (all_hist (λ e. rolls w.tc.open_txns e.txn ≡ true → key ≢ key_of e.op) log log (λ n u q by a rolling same.
-      unshared key n u q within by (rolling_open log w.tc.open_txns u k.tc.open_txns rolling)
-      (λ e. true≢false (sym rolling ∙ ap (rolls w.tc.open_txns) e ∙ ap is_rolling at ∙ is_reading.flat)) (sym same))))
+      ∙ value_of-captured log key (captures w.dc.leaf.ab)
+      (all_done (λ n. captures w.dc.leaf.ab n ≡ true) key log (λ n q asks on. k.answered n q asks (answered_there key within n q asks on)))
+      ∙ sym (plain_is_the_logs (clients w.tc) m key k.tc.legal k.right stands (λ n t q by on uncrossed.
+      (answered_there key within n q (op_request t q (record_at log n) by) (sym on), refl, not_undone key n t q within by (sym on))))

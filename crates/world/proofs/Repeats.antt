@@ -7,8 +7,9 @@ use Rattle.record_key.specs.declared.op.Answer.{Answer}
 use Rattle.record_key.specs.Table.{Bytes}
 use Rattle.history.specs.Log.{Requests}
 use Rattle.history.specs.Values.{IsRight}
-use Rattle.ab_lsn.specs.declared.entry.Entry.{Entry}
-use Rattle.ab_lsn.specs.AbLsn.{AbLsnView, numbers, captures, saved_in}
+use Rattle.record_key.specs.declared.entry.Entry.{Entry}
+use Rattle.ab_lsn.specs.AbLsn.{AbLsnView, captures, saved_in}
+use Rattle.record_key.specs.Entries.{numbers}
 use Rattle.page.specs.Leaf.{LeafView, is_in_fences}
 use Rattle.page.specs.Honest.{IsSavedRight}
 use Rattle.world.specs.Node.{NodeView}

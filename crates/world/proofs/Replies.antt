@@ -1,10 +1,13 @@
 -- A reply is a told line or nothing to the list machine.
-use Rattle.std.proofs.Common.{◌≡◌, ℕ, ◌<◌, ◌≤◌, Bool, true, false, List, [], ◌∷◌, Option, Some, None, refl, sym, ap, ◌∙◌, subst, arith, eqb-true}
-use Rattle.std.specs.Prelude.{◌==◌, ◌&&◌, ◌||◌, not, if◌then◌else◌}
+use Rattle.std.proofs.Common.{◌≡◌, ◌⊎◌, ℕ, ◌<◌, ◌≤◌, Bool, true, false, List, [], ◌∷◌, Option, Some, None, is_some, refl, sym, ap, ◌∙◌, subst, arith, inl, inr, eqb-true}
+use Rattle.std.specs.Prelude.{◌==◌, ◌&&◌, ◌||◌, not, Ok, if◌then◌else◌}
 use Rattle.record_key.specs.declared.op.Answer.{Answer}
+use Rattle.record_key.specs.declared.refusal.Refusal.{Refusal}
 use Rattle.record_key.specs.declared.refusal.Refusal.TheVariants.{Stale, NumbersSpent}
 use Rattle.record_key.specs.FirstCause.{first_of}
 use Rattle.history.specs.declared.record.Record.TheVariants as is
+use Rattle.history.specs.ListMachine.{Machine, TellsAnswer, TellsRow, TellsRows}
+use Rattle.simulation.specs.View.{StandsFor}
 use Rattle.codec.specs.declared.reply.Reply.{Reply}
 use Rattle.codec.specs.declared.reply.Reply.TheVariants as says
 use Rattle.record_key.specs.Table.{Bytes}
@@ -13,113 +16,114 @@ use Rattle.range_locks.specs.declared.span.Span.TheVariants.{Key, Range}
 use Rattle.dc_core.specs.DcView.{DcView}
 use Rattle.tc_core.specs.declared.open_txn.OpenTxn.{OpenTxn}
 use Rattle.tc_core.specs.declared.open_txn.Read.{Read}
+use Rattle.tc_core.specs.declared.open_txn.Rollback.{Rollback}
 use Rattle.tc_core.specs.declared.phase.Phase.{Phase}
 use Rattle.tc_core.specs.declared.phase.Phase.TheVariants as phase
 use Rattle.tc_core.specs.declared.told.Told.TheVariants as told
-use Rattle.tc_core.specs.LogView.{is_spent}
+use Rattle.logical_log.specs.LogView.{is_spent}
 use Rattle.tc_core.specs.OpenTxns.{find}
-use Rattle.tc_core.specs.Calls.{answered, answered_txn, was_told, told_txn}
-use Rattle.tc_core.specs.Replies.{Outcome, takes, awaiting, next_phase, passed, on_awaited, on_answered, on_connected, on_redo_ended, on_reply, on_row, on_rows, is_key, is_range, span_read, reader, logs, reply_refusal}
-use Rattle.tc_core.specs.Kept.{IsPhase}
-use Rattle.tc_core.proofs.KeepsReads.{keeps_told, reader_is}
-use Rattle.tc_core.proofs.KeepsTc.{keeps_answer, keeps_passed, awaited_is}
+use Rattle.tc_core.specs.Changes.{answered, answered_txn, was_told, told_txn}
+use Rattle.tc_core.specs.Replies.{Outcome, takes, awaiting, next_phase, passed, on_awaited, on_answered, on_connected, on_redo_ended, on_reply, on_row, on_rows, is_key, is_range, span_read, reader, logs, takes_memory, reply_refusal}
+use Rattle.tc_core.specs.Kept.{IsTc}
+use Rattle.tc_core.proofs.KeepsReads.{reader_is}
+use Rattle.tc_core.proofs.KeepsTc.{open_at, waits_at, awaited_is}
 use Rattle.world.specs.declared.event.Event.TheVariants as event
 use Rattle.world.specs.declared.event.Out.{Out}
 use Rattle.world.specs.declared.event.Out.TheVariants as out
-use Rattle.world.specs.Node.{NodeView, with_tc, as_out, Taken, TakesTo}
+use Rattle.world.specs.Node.{NodeView, with_tc, as_out, IsUnsent, Taken, Untaken, TakesTo}
 use Rattle.world.specs.Kept.{IsKept, IsReadTrue, IsValue, AreRows, IsAnswered, IsAnswerOf, IsGiven, IsServed}
-use Rattle.world.specs.Simulation.{machine, Happens}
+use Rattle.world.specs.Simulation.{Leads, Stands, lines_of, clients}
 use Rattle.world.proofs.ByNumber.{all_at}
-use Rattle.world.proofs.Tells.{happens_answer, happens_undone}
-use Rattle.world.proofs.TellsReads.{happens_row, happens_rows}
+use Rattle.world.proofs.CallsKeep.{reply_keeps}
+use Rattle.world.proofs.Awaited.{comp_waited, reads_nothing}
+use Rattle.world.proofs.Standing.{stands_answered, stands_undone}
+use Rattle.world.proofs.ToldReads.{tells_row, tells_rows}
+use Rattle.world.proofs.Grows.{captured_stable}
 use Rattle.world.proofs.Readers.{none_same, none_replaced, reads_same, reads_none}
 use Rattle.world.proofs.Keeps.{answer_captured, keeps_appended, keeps_same_log}
-use Rattle.world.proofs.Follows.{Follows, at_new, unchanged}
+use Rattle.world.proofs.Follows.{Follows, at_new, no_line, one_line, unchanged, left_refused, kept_left, stands_left}
 
 -- this outcome follows
 abbrev Goes : NodeView → ℕ → Outcome → Type 0
-Goes w i x = Follows w (event.Reply i) (as_out x.0) (with_tc w x.1)
+Goes w i x = IsTc x.1 → Follows w (event.Reply i) (as_out x.0) (with_tc w x.1)
+
+-- an outcome of which no client is told
+quietly : (w : NodeView) (i : ℕ) (x : Outcome) → lines_of (event.Reply i) (as_out x.0) ≡ Some [] → ((m : Machine) → Stands w m → StandsFor (clients x.1) m) → IsKept (with_tc w x.1)
+    → Follows w (event.Reply i) (as_out x.0) (with_tc w x.1)
+quietly w i x none stands kept = record { leads = no_line w (with_tc w x.1) (event.Reply i) (as_out x.0) none stands; kept = kept }
 
 nothing : (w : NodeView) (i : ℕ) → IsKept w → Goes w i (told.Nothing, w.tc)
-nothing w i k = record { happens = refl; kept = k }
+nothing w i k after = quietly w i (told.Nothing, w.tc) refl (λ m stands. stands) k
 
 -- redo goes on
 served_next : (p : Phase) (n s : ℕ) (dc : DcView) → IsServed p s dc → IsServed (next_phase p n) s dc
 served_next phase.Unconnected n s dc h = h
 served_next phase.Connecting n s dc h = h
-served_next (phase.Redoing next) n s dc h = h
+served_next (phase.Redoing next ending) n s dc h = h
 served_next phase.Running n s dc h = h
 
-passes : (w : NodeView) (n : ℕ) → IsKept w → takes w.tc.session w.tc.phase n ≡ true → IsKept (with_tc w (passed w.tc n))
-passes w n k taken =
-    keeps_same_log w (passed w.tc n) k (keeps_passed w.tc n taken k.tc) refl (omega arith) (omega arith) (omega arith) (none_same w.tc.reads w.tc.open_txns)
+passes : (w : NodeView) (n : ℕ) → IsKept w → IsTc (passed w.tc n) → IsKept (with_tc w (passed w.tc n))
+passes w n k after =
+    keeps_same_log w (passed w.tc n) k after refl (omega arith) (omega arith) (omega arith) (none_same w.tc.reads w.tc.open_txns)
     (record { runs = k.sessions.runs; begun = k.sessions.begun; served = served_next w.tc.phase n w.tc.session w.dc k.sessions.served })
 
 -- the answer that is waited for
-answers : (w : NodeView) (o : OpenTxn) (n : ℕ) (a : Answer) → IsKept w → find o.txn w.tc.open_txns ≡ Some o → o.waiting ≡ Some n → IsAnswerOf w.tc.log w.dc.leaf n a → IsKept (with_tc w (answered w.tc o n a))
-answers w o n a k at some given =
-    keeps_appended w (answered w.tc o n a) (is.Answer n a) k (keeps_answer w.tc o n a k.tc at some) refl (omega arith) (omega arith) (omega arith)
-    (none_replaced w.tc.reads w.tc.open_txns o (answered_txn o) at (reads_same w.tc.reads o (answered_txn o) refl)) k.sessions
+answers : (w : NodeView) (o : OpenTxn) (n : ℕ) (a : Answer) → IsKept w → find o.txn w.tc.open_txns ≡ Some o → IsTc (passed (answered w.tc o n a) n) → IsAnswerOf w.tc.log w.dc.leaf n a
+    → IsKept (with_tc w (passed (answered w.tc o n a) n))
+answers w o n a k at after given =
+    keeps_appended w (passed (answered w.tc o n a) n) (is.Answer n a) k after refl (omega arith) (omega arith) (omega arith)
+    (none_replaced w.tc.reads w.tc.open_txns o (answered_txn o) at (reads_same w.tc.reads o (answered_txn o) refl))
+    (record { runs = k.sessions.runs; begun = k.sessions.begun; served = served_next w.tc.phase n w.tc.session w.dc k.sessions.served })
     (given.right, k.right) (answer_captured w n a k given.captured)
 
+-- is told to its client, or is that of a compensation
 tells : (w : NodeView) (i : ℕ) (o : OpenTxn) (n : ℕ) (a : Answer) → IsKept w → find o.txn w.tc.open_txns ≡ Some o → o.waiting ≡ Some n → IsAnswerOf w.tc.log w.dc.leaf n a
-    → (b : Bool) → o.rolling ≡ b → Happens (machine w) (event.Reply i) (as_out (if b then told.Undone n else told.Answered o.txn a)) (machine (with_tc w (answered w.tc o n a)))
-tells w i o n a k at some given true rolling = happens_undone w.tc o n a k.tc at some rolling
-tells w i o n a k at some given false flat = happens_answer w.tc o n a k.tc k.right at some flat given.right
+    → IsTc (passed (answered w.tc o n a) n) → (x : Option Rollback) → o.rolling ≡ x
+    → Leads w (event.Reply i) (as_out (if is_some x then told.Undone n else told.Answered o.txn a)) (with_tc w (passed (answered w.tc o n a) n))
+tells w i o n a k at waiting given after (Some r) rolling =
+    no_line w (with_tc w (passed (answered w.tc o n a) n)) (event.Reply i) (out.Undone n) refl (λ m stands.
+    stands_undone w.tc m o k.tc at stands r n a rolling after.legal
+    (comp_waited w.tc.log o n (ap is_some rolling) (waits_at w.tc.log o n (open_at w.tc o k.tc at) waiting).request))
+tells w i o n a k at waiting given after None flat =
+    one_line w (with_tc w (passed (answered w.tc o n a) n)) (event.Reply i) (out.Answered o.txn a) (TellsAnswer o.txn a) refl (λ m stands.
+    stands_answered w.tc m o k.tc at stands n a flat (reads_nothing w.tc o n k.tc at waiting) waiting after.legal (given.right, k.right) (captured_stable w n k given.captured))
 
-awaited_goes : (w : NodeView) (i n : ℕ) (a : Option Answer) (x : Option OpenTxn) → IsKept w → takes w.tc.session w.tc.phase n ≡ true → awaiting w.tc n ≡ x
-    → IsAnswered w.tc.log w.dc.leaf n a → Goes w i (on_awaited w.tc n a x)
-awaited_goes w i n a None k taken none given = record { happens = refl; kept = passes w n k taken }
-awaited_goes w i n None (Some o) k taken some given = nothing w i k
-awaited_goes w i n (Some a) (Some o) k taken some given =
+awaited_goes : (w : NodeView) (i n : ℕ) (a : Option Answer) (x : Option OpenTxn) → IsKept w → awaiting w.tc n ≡ x → IsAnswered w.tc.log w.dc.leaf n a → Goes w i (on_awaited w.tc n a x)
+awaited_goes w i n a None k none given after = quietly w i (told.Nothing, passed w.tc n) refl (λ m stands. stands) (passes w n k after)
+awaited_goes w i n None (Some o) k some given after = nothing w i k after
+awaited_goes w i n (Some a) (Some o) k some given after =
     let at = awaited_is w.tc n o some in
-    record {
-      happens = tells w i o n a k at.0 at.1 given o.rolling refl;
-      kept = passes (with_tc w (answered w.tc o n a)) n (answers w o n a k at.0 at.1 given) taken;
-    }
+    record { leads = tells w i o n a k at.0 at.1 given after o.rolling refl; kept = answers w o n a k at.0 after given }
 
 answered_goes : (w : NodeView) (i n : ℕ) (a : Option Answer) → IsKept w → IsAnswered w.tc.log w.dc.leaf n a → Goes w i (on_answered w.tc n a)
 answered_goes w i n a k given = pick (takes w.tc.session w.tc.phase n) refl
   where
     pick : (b : Bool) → takes w.tc.session w.tc.phase n ≡ b → Goes w i (if b then on_awaited w.tc n a (awaiting w.tc n) else (told.Nothing, w.tc))
-    pick true taken = awaited_goes w i n a (awaiting w.tc n) k taken refl given
+    pick true taken = awaited_goes w i n a (awaiting w.tc n) k refl given
     pick false not_taken = nothing w i k
 
 -- the reply to Connect comes from the session that runs
 connected_goes : (w : NodeView) (i s : ℕ) (p : Phase) → w.tc.phase ≡ p → IsKept w → s ≡ w.tc.session → s ≤ w.dc.stored → Goes w i (on_connected w.tc p)
-connected_goes w i s phase.Unconnected at k same given = nothing w i k
-connected_goes w i s phase.Connecting at k same given =
-    let P : Phase → Type 0 = IsPhase w.tc.session in
-    let some : 0 < w.tc.session = subst P at k.tc.phase in
-    record {
-      happens = refl;
-      kept = keeps_same_log w (record w.tc { phase = phase.Redoing 1 }) k
-          (record { legal = k.tc.legal; within = k.tc.within; session = k.tc.session; phase = (omega arith, omega (arith, some)); open_txns = k.tc.open_txns; locks = k.tc.locks; reading = k.tc.reading })
-          refl (omega arith) (omega arith) (omega arith) (none_same w.tc.reads w.tc.open_txns) (record { runs = k.sessions.runs; begun = k.sessions.begun; served = omega (arith, same, given, k.sessions.runs, k.sessions.begun) });
-    }
-connected_goes w i s (phase.Redoing next) at k same given = nothing w i k
-connected_goes w i s phase.Running at k same given = nothing w i k
+connected_goes w i s phase.Unconnected at k same given after = nothing w i k after
+connected_goes w i s phase.Connecting at k same given after =
+    quietly w i (told.Connected w.tc.session, record w.tc { phase = phase.Redoing 1 false }) refl (λ m stands. stands)
+    (keeps_same_log w (record w.tc { phase = phase.Redoing 1 false }) k after refl (omega arith) (omega arith) (omega arith) (none_same w.tc.reads w.tc.open_txns)
+    (record { runs = k.sessions.runs; begun = k.sessions.begun; served = omega (arith, same, given, k.sessions.runs, k.sessions.begun) }))
+connected_goes w i s (phase.Redoing next ending) at k same given after = nothing w i k after
+connected_goes w i s phase.Running at k same given after = nothing w i k after
 
 -- redo ends
 redo_ended_goes : (w : NodeView) (i : ℕ) (p : Phase) → w.tc.phase ≡ p → IsKept w → (w.tc.session ≡ w.dc.session → w.dc.redo ≡ false) → Goes w i (on_redo_ended w.tc p)
-redo_ended_goes w i phase.Unconnected at k past = nothing w i k
-redo_ended_goes w i phase.Connecting at k past = nothing w i k
-redo_ended_goes w i (phase.Redoing next) at k past = pick (next == w.tc.session) refl
-  where
-    pick : (b : Bool) → (next == w.tc.session) ≡ b → Goes w i (if b then (told.RedoEnded w.tc.session, record w.tc { phase = phase.Running }) else (told.Nothing, w.tc))
-    pick true same =
-        let P : Phase → Type 0 = IsPhase w.tc.session in
-        let Q : Phase → Type 0 = λ p. IsServed p w.tc.session w.dc in
-        let runs : w.dc.session ≡ w.tc.session = subst Q at k.sessions.served in
-        let bounds = subst P at k.tc.phase in
-        record {
-          happens = refl;
-          kept = keeps_same_log w (record w.tc { phase = phase.Running }) k
-              (record { legal = k.tc.legal; within = k.tc.within; session = k.tc.session; phase = omega (arith, bounds.0, bounds.1); open_txns = k.tc.open_txns; locks = k.tc.locks; reading = k.tc.reading })
-              refl (omega arith) (omega arith) (omega arith) (none_same w.tc.reads w.tc.open_txns) (record { runs = k.sessions.runs; begun = k.sessions.begun; served = (runs, past (sym runs)) });
-        }
-    pick false apart = nothing w i k
-redo_ended_goes w i phase.Running at k past = nothing w i k
+redo_ended_goes w i phase.Unconnected at k past after = nothing w i k after
+redo_ended_goes w i phase.Connecting at k past after = nothing w i k after
+redo_ended_goes w i (phase.Redoing next false) at k past after = nothing w i k after
+redo_ended_goes w i (phase.Redoing next true) at k past after =
+    let Q : Phase → Type 0 = λ p. IsServed p w.tc.session w.dc in
+    let runs : w.dc.session ≡ w.tc.session = subst Q at k.sessions.served in
+    quietly w i (told.RedoEnded w.tc.session, record w.tc { phase = phase.Running }) refl (λ m stands. stands)
+    (keeps_same_log w (record w.tc { phase = phase.Running }) k after refl (omega arith) (omega arith) (omega arith) (none_same w.tc.reads w.tc.open_txns)
+    (record { runs = k.sessions.runs; begun = k.sessions.begun; served = (runs, past (sym runs)) }))
+redo_ended_goes w i phase.Running at k past after = nothing w i k after
 
 -- a reply that isn't refused is of the session
 fresh_session : (s session : ℕ) (c : Bool) → first_of (((session == 0) || not (s == session), Stale) ∷ (c, NumbersSpent) ∷ []) ≡ None → s ≡ session
@@ -131,9 +135,9 @@ fresh_session s session c h = pick (session == 0) (s == session) refl h
     pick false false e h = absurd (cc)
 
 -- what was read is told to who waits for it
-kept_told : (w : NodeView) (o : OpenTxn) → IsKept w → find o.txn w.tc.open_txns ≡ Some o → IsKept (with_tc w (was_told w.tc o))
-kept_told w o k at =
-    keeps_same_log w (was_told w.tc o) k (keeps_told w.tc o k.tc at) refl (omega arith) (omega arith) (omega arith)
+kept_told : (w : NodeView) (o : OpenTxn) → IsKept w → find o.txn w.tc.open_txns ≡ Some o → IsTc (was_told w.tc o) → IsKept (with_tc w (was_told w.tc o))
+kept_told w o k at after =
+    keeps_same_log w (was_told w.tc o) k after refl (omega arith) (omega arith) (omega arith)
     (none_replaced w.tc.reads w.tc.open_txns o (told_txn o) at (reads_none w.tc.reads o (told_txn o) refl)) k.sessions
 
 row_goes : (w : NodeView) (i n : ℕ) (v : Option Bytes) (x : Option OpenTxn) → IsKept w → reader w.tc n ≡ x → IsReadTrue w.tc n (IsValue w.dc v) → Goes w i (on_row w.tc v x)
@@ -149,7 +153,10 @@ row_goes w i n v (Some o) k is given =
     by (Key key) reads value =
         let P : Option Read → Type 0 = λ x. Goes w i (told_if (is_key (span_read x))) in
         let at = (reader_is w.tc n o k.tc is).0 in
-        subst P (sym reads) (record { happens = happens_row w o n key k at reads v value; kept = kept_told w o k at })
+        subst P (sym reads) (λ after. record {
+          leads = one_line w (with_tc w (was_told w.tc o)) (event.Reply i) (out.Row o.txn v) (TellsRow o.txn v) refl (tells_row w o n key k at reads v value);
+          kept = kept_told w o k at after;
+        })
     by (Range low high) reads value = let P : Option Read → Type 0 = λ x. Goes w i (told_if (is_key (span_read x))) in subst P (sym reads) (nothing w i k)
 
 rows_goes : (w : NodeView) (i n : ℕ) (rows : List (Bytes × Bytes)) (x : Option OpenTxn) → IsKept w → reader w.tc n ≡ x → IsReadTrue w.tc n (AreRows w.dc rows) → Goes w i (on_rows w.tc rows x)
@@ -166,7 +173,10 @@ rows_goes w i n rows (Some o) k is given =
     by (Range low high) reads these =
         let P : Option Read → Type 0 = λ x. Goes w i (told_if (is_range (span_read x))) in
         let at = (reader_is w.tc n o k.tc is).0 in
-        subst P (sym reads) (record { happens = happens_rows w o n low high k at reads rows these; kept = kept_told w o k at })
+        subst P (sym reads) (λ after. record {
+          leads = one_line w (with_tc w (was_told w.tc o)) (event.Reply i) (out.Rows o.txn rows) (TellsRows o.txn rows) refl (tells_rows w o n low high k at reads rows these);
+          kept = kept_told w o k at after;
+        })
 
 replied : (w : NodeView) (i : ℕ) (reply : Reply) → IsKept w → IsGiven w.tc w.dc reply → reply_refusal w.tc reply ≡ None → Goes w i (on_reply w.tc reply)
 replied w i (says.Connected s) k given allowed =
@@ -183,22 +193,36 @@ pub taken : (old new : NodeView) (i : ℕ) (output : Out) → IsKept old → Tak
 taken old new i output k t =
     let x : Outcome = on_reply old.tc t.reply in
     let given = all_at (IsGiven old.tc old.dc) old.replies i t.reply k.given t.found in
+    let after : IsTc x.1 = subst IsTc t.taken.1.left (reply_keeps old.tc new.tc t.reply (Ok t.what) k.tc t.taken) in
     let P : Out → Type 0 = λ o. Follows old (event.Reply i) o new in
-    subst P (sym (t.output_is ∙ ap as_out t.taken.told))
-    (at_new old new (with_tc old x.1) (event.Reply i) (as_out x.0) (t.left ∙ ap (with_tc old) t.taken.left) (replied old i t.reply k given t.allowed))
+    subst P (sym (t.output_is ∙ ap as_out t.taken.1.told))
+    (at_new old new (with_tc old x.1) (event.Reply i) (as_out x.0) (t.left ∙ ap (with_tc old) t.taken.1.left) (replied old i t.reply k given t.taken.0 after))
+
+untaken : (old new : NodeView) (i : ℕ) (r : Refusal) → IsKept old → Untaken old i r new → Follows old (event.Reply i) (out.Refused r) new
+untaken old new i r k u =
+    let which = left_refused (reply_refusal old.tc u.reply) (takes_memory old.tc u.reply) (logs old.tc u.reply) old.tc r new.tc u.refused in
+    record {
+      leads = no_line old new (event.Reply i) (out.Refused r) refl (λ m stands. stands_left old.tc new.tc m which stands);
+      kept = kept_left old new k u.left which;
+    }
 
 pub follows_reply : (old new : NodeView) (i : ℕ) (output : Out) → IsKept old → TakesTo old i output new → Follows old (event.Reply i) output new
-follows_reply old new i (out.Refused r) k h = unchanged old new (event.Reply i) (out.Refused r) k h.1 refl
+follows_reply old new i (out.Refused r) k h = by h
+  where
+    by : (IsUnsent old.replies i r × (new ≡ old)) ⊎ Untaken old i r new → Follows old (event.Reply i) (out.Refused r) new
+    by (inl none) = unchanged old new (event.Reply i) (out.Refused r) k none.1 refl
+    by (inr u) = untaken old new i r k u
 follows_reply old new i (out.Begun t) k h = taken old new i (out.Begun t) k h
 follows_reply old new i (out.Logged n) k h = taken old new i (out.Logged n) k h
-follows_reply old new i out.RollingBack k h = taken old new i out.RollingBack k h
-follows_reply old new i out.Nothing k h = taken old new i out.Nothing k h
+follows_reply old new i (out.Saved s) k h = taken old new i (out.Saved s) k h
+follows_reply old new i (out.CommitLogged n) k h = taken old new i (out.CommitLogged n) k h
 follows_reply old new i (out.Compensated n) k h = taken old new i (out.Compensated n) k h
 follows_reply old new i (out.RolledBack t) k h = taken old new i (out.RolledBack t) k h
-follows_reply old new i (out.Stable n) k h = taken old new i (out.Stable n) k h
+follows_reply old new i (out.Back t s) k h = taken old new i (out.Back t s) k h
+follows_reply old new i (out.Stable n cs) k h = taken old new i (out.Stable n cs) k h
+follows_reply old new i (out.Connects j cs) k h = taken old new i (out.Connects j cs) k h
 follows_reply old new i (out.Sent j) k h = taken old new i (out.Sent j) k h
 follows_reply old new i (out.Replied j) k h = taken old new i (out.Replied j) k h
-follows_reply old new i out.Noted k h = taken old new i out.Noted k h
 follows_reply old new i (out.Connected s) k h = taken old new i (out.Connected s) k h
 follows_reply old new i (out.RedoEnded s) k h = taken old new i (out.RedoEnded s) k h
 follows_reply old new i (out.Answered t a) k h = taken old new i (out.Answered t a) k h
@@ -206,3 +230,6 @@ follows_reply old new i (out.Asked n) k h = taken old new i (out.Asked n) k h
 follows_reply old new i (out.Row t v) k h = taken old new i (out.Row t v) k h
 follows_reply old new i (out.Rows t rows) k h = taken old new i (out.Rows t rows) k h
 follows_reply old new i (out.Undone n) k h = taken old new i (out.Undone n) k h
+follows_reply old new i out.RollingBack k h = taken old new i out.RollingBack k h
+follows_reply old new i out.Nothing k h = taken old new i out.Nothing k h
+follows_reply old new i out.Noted k h = taken old new i out.Noted k h

@@ -1,5 +1,5 @@
 -- How many rounds are left after a step of the transaction component.
-use Rattle.std.proofs.Common.{◌≡◌, ◌≢◌, ℕ, ◌+◌, ◌*◌, ◌<◌, ◌≤◌, Bool, true, List, [], ◌∷◌, length, Option, Some, None, IsSome, is_some, refl, sym, ap, ◌∙◌, subst, arith, inl, inr, true≢false}
+use Rattle.std.proofs.Common.{◌≡◌, ◌≢◌, ℕ, ◌+◌, ◌*◌, ◌<◌, ◌≤◌, Bool, true, false, List, [], ◌∷◌, length, Option, Some, None, IsSome, is_some, refl, sym, ap, ◌∙◌, subst, arith, inl, inr, true≢false}
 use Rattle.std.specs.Prelude.{◌||◌, nat_lt, if◌then◌else◌}
 use Rattle.std.specs.List.{list_any}
 use Rattle.record_key.specs.declared.op.Op.{Op}
@@ -9,17 +9,22 @@ use Rattle.history.specs.declared.record.Record.TheVariants as is
 use Rattle.history.specs.Log.{record_at, answer_of, Requests}
 use Rattle.tc_core.specs.declared.open_txn.OpenTxn.{OpenTxn}
 use Rattle.tc_core.specs.declared.open_txn.Read.{Read}
+use Rattle.tc_core.specs.declared.open_txn.Rollback.{Rollback}
 use Rattle.tc_core.specs.declared.phase.Phase.{Phase}
 use Rattle.tc_core.specs.declared.phase.Phase.TheVariants as phase
 use Rattle.tc_core.specs.OpenTxns.{find}
-use Rattle.tc_core.specs.TcView.{TcView}
-use Rattle.tc_core.specs.Calls.{next_of, inverse_at, compensated_txn, compensated, ended, answered_txn, answered, forced, told_txn, was_told}
+use Rattle.tc_core.specs.TcView.{TcView, rolls_back}
+use Rattle.tc_core.specs.Changes.{next_of, inverse_at, compensated_txn, compensated, ended, is_back, back_txn, answered_txn, answered, forced, told_txn, was_told}
 use Rattle.tc_core.specs.Replies.{awaiting, next_phase, on_awaited}
 use Rattle.tc_core.specs.Recovery.{redoing}
 use Rattle.tc_core.specs.Kept.{IsTc}
 use Rattle.tc_core.proofs.Finding.{found_number, found_own}
 use Rattle.tc_core.proofs.KeepsTc.{open_at, waits_at, awaited_is}
-use Rattle.tc_core.proofs.KeepsUndo.{left_to_undo}
+use Rattle.tc_core.specs.Calls.{UndoesStep, Undoes}
+use Rattle.tc_core.specs.declared.told.UndoStep.{UndoStep}
+use Rattle.tc_core.specs.declared.told.UndoStep.TheVariants as undo
+use Rattle.history.specs.Legal.{IsLatestOrNone, Stands}
+use Rattle.world.proofs.Undone.{latest_left}
 use Rattle.world.specs.declared.event.Out.{Out}
 use Rattle.world.specs.declared.event.Out.TheVariants as out
 use Rattle.world.specs.Node.{NodeView, UndoesTo, ForcesTo}
@@ -29,7 +34,7 @@ use Rattle.world.specs.Bound.{left_in, waiting_rounds, rolling_rounds, reading_r
 use Rattle.world.specs.Simulation.{AreUnrolled}
 use Rattle.world.proofs.Totals.{total_most, total_one, total_step, total_end}
 use Rattle.world.proofs.Counting.{one_fewer, none_above, one_less_left, requests_are_steps}
-use Rattle.world.proofs.Shares.{worth, left_are_steps, HaveBegun, are_begun}
+use Rattle.world.proofs.Shares.{bound_of, worth, left_are_steps, HaveBegun, are_begun}
 use Rattle.world.proofs.Keeps.{awaited_number}
 use Rattle.world.proofs.TxnRounds.{unstable_now, stable_now, txn_forced, txn_later, rolling_later, txn_waiting, txn_reading, txn_rolling, some_round, busy_waiting, busy_reading, busy_rolling, nobody_busy, waiting_bound, txn_bound}
 
@@ -55,55 +60,79 @@ force_idle w k running flat idle less =
     rw (running, none, unstable_now w.stable (length w.log) less, stable_now (length w.log) (length w.log) (omega arith)) (omega (arith, all))
 
 pub falls_force : (old new : NodeView) (output : Out) → IsKept old → old.tc.phase ≡ phase.Running → IsForced old.tc → ForcesTo old output new → IsDone output → rounds_left new.tc < rounds_left old.tc
-falls_force old new (out.Stable n) k running is_forced h d =
-    same_rounds new.tc _ (rounds_left old.tc) (ap (λ (w : NodeView). w.tc) h.1) (elim is_forced [
+falls_force old new (out.Stable n cs) k running is_forced h d =
+    same_rounds new.tc _ (rounds_left old.tc) h.0.2 (elim is_forced [
       | inl due ↦ force_due old.tc due.0 due.1 k.tc running due.2 due.3 (awaited_number old.tc k.tc due.0 due.2.open_txn due.1 due.2.is due.2.waiting).bounded
       | inr idle ↦ force_idle old.tc k.tc running idle.0 idle.1 idle.2
     ])
+falls_force old new (out.Refused r) k running is_forced h d = absurd d
 falls_force old new _ k running is_forced h d = absurd h
 
 -- a rollback
 -- a compensation: one operation less is left
-falls_comp : (w : TcView) (o : OpenTxn) → IsTc w → w.phase ≡ phase.Running → find o.txn w.open_txns ≡ Some o → o.rolling ≡ true → o.undo ≢ 0 → rounds_left (compensated w o) < rounds_left w
-falls_comp w o k running at rolling some =
-    let next : ℕ = next_of w.log o.undo in
-    let inverse : Option Op = inverse_at w.log o.undo in
-    let r : Record = is.Comp o.txn o.undo next inverse in
-    let new : OpenTxn = compensated_txn o (length w.log + 1) next inverse in
-    let latest = left_to_undo w o k at some in
-    let fewer = one_less_left w.log o.txn o.undo next inverse latest.is.op latest.is.is latest.is.uncrossed in
-    let was = txn_rolling w.log w.stable o rolling in
-    let will = txn_rolling (r ∷ w.log) w.stable new rolling in
-    let step = total_step (txn_rounds (r ∷ w.log) w.stable) (txn_rounds w.log w.stable) new o w.open_txns k.open_txns.order at refl
-    (λ p. txn_later r w.log w.stable w.stable p refl (omega arith)) in
-    let bound = waiting_bound w.stable new.waiting in
-    let flag = worth (list_any is_busy (compensated w o).open_txns || nat_lt w.stable (length (r ∷ w.log))) in
-    rw (running, busy_rolling w.open_txns o.txn o at rolling) (omega (arith, fewer, was, will, step, bound, flag))
+falls_comp : (w : TcView) (o : OpenTxn) (b : Rollback) → IsTc w → w.phase ≡ phase.Running → find o.txn w.open_txns ≡ Some o → o.rolling ≡ Some b → b.above < o.undo → rounds_left (compensated w o) < rounds_left w
+falls_comp w o b k running at rolling above = by (latest_left w o k at)
+  where
+    by : IsLatestOrNone (Stands w.log o.txn) o.undo → rounds_left (compensated w o) < rounds_left w
+    by (inr none) = absurd (omega (arith, none.0, above))
+    by (inl latest) =
+        let follows : ℕ = next_of w.log o.undo in
+        let inverse : Option Op = inverse_at w.log o.undo in
+        let r : Record = is.Comp o.txn o.undo follows inverse in
+        let new : OpenTxn = compensated_txn o (length w.log + 1) follows inverse in
+        let fewer = one_less_left w.log o.txn b.above o.undo follows inverse latest.is.op latest.is.is latest.is.uncrossed above in
+        let was = txn_rolling w.log w.stable o b rolling in
+        let will = txn_rolling (r ∷ w.log) w.stable new b rolling in
+        let step = total_step (txn_rounds (r ∷ w.log) w.stable) (txn_rounds w.log w.stable) new o w.open_txns k.open_txns.order at refl
+        (λ p. txn_later r w.log w.stable w.stable p refl (omega arith)) in
+        let bound = waiting_bound w.stable new.waiting in
+        let flag = worth (list_any is_busy (compensated w o).open_txns || nat_lt w.stable (length (r ∷ w.log))) in
+        rw (running, busy_rolling w.open_txns o.txn o at (ap is_some rolling)) (omega (arith, fewer, was, will, step, bound, flag))
 
 -- an end: there is no transaction of this number any more
-falls_end : (w : TcView) (o : OpenTxn) → IsTc w → w.phase ≡ phase.Running → find o.txn w.open_txns ≡ Some o → o.rolling ≡ true → rounds_left (ended w o.txn) < rounds_left w
-falls_end w o k running at rolling =
+falls_end : (w : TcView) (o : OpenTxn) (b : Rollback) → IsTc w → w.phase ≡ phase.Running → find o.txn w.open_txns ≡ Some o → o.rolling ≡ Some b → rounds_left (ended w o.txn) < rounds_left w
+falls_end w o b k running at rolling =
     let r : Record = is.End o.txn in
-    let was = txn_rolling w.log w.stable o rolling in
+    let was = txn_rolling w.log w.stable o b rolling in
     let end = total_end (txn_rounds (r ∷ w.log) w.stable) (txn_rounds w.log w.stable) o w.open_txns k.open_txns.order at
     (λ p. txn_later r w.log w.stable w.stable p refl (omega arith)) in
     let flag = worth (list_any is_busy (ended w o.txn).open_txns || nat_lt w.stable (length (r ∷ w.log))) in
-    rw (running, busy_rolling w.open_txns o.txn o at rolling) (omega (arith, was, end, flag))
+    rw (running, busy_rolling w.open_txns o.txn o at (ap is_some rolling)) (omega (arith, was, end, flag))
+
+-- back at a savepoint: nothing is rolled back any more
+falls_back : (w : TcView) (o : OpenTxn) (b : Rollback) → IsTc w → w.phase ≡ phase.Running → find o.txn w.open_txns ≡ Some o → o.rolling ≡ Some b → rounds_left (is_back w o) < rounds_left w
+falls_back w o b k running at rolling =
+    let new : OpenTxn = back_txn o in
+    let was = txn_rolling w.log w.stable o b rolling in
+    let will : txn_rounds w.log w.stable new ≡ waiting_rounds w.stable o.waiting + reading_rounds o.reading = omega arith in
+    let step = total_step (txn_rounds w.log w.stable) (txn_rounds w.log w.stable) new o w.open_txns k.open_txns.order at refl (λ p. omega arith) in
+    let flag = worth (list_any is_busy (is_back w o).open_txns || nat_lt w.stable (length w.log)) in
+    rw (running, busy_rolling w.open_txns o.txn o at (ap is_some rolling)) (omega (arith, was, will, step, flag))
 
 -- one number has one transaction
 one_open : (x : Option OpenTxn) (o p : OpenTxn) → x ≡ Some o → x ≡ Some p → o ≡ p
 one_open x o p a b = let e : Some o ≡ Some p = sym a ∙ b in cc
 
+-- whoever is undone for rolls back, and each step of it takes a round
+module _ (old new : NodeView) (t : ℕ) (k : IsKept old) (running : old.tc.phase ≡ phase.Running) (next : IsRolling old.tc t) where
+  falls_step : (step : UndoStep) → UndoesStep old.tc t step new.tc → rounds_left new.tc < rounds_left old.tc
+  falls_step step u = by u.open_txn.rolling refl step u.undoes
+    where
+      same : next.open_txn ≡ u.open_txn
+      same = one_open (find t old.tc.open_txns) next.open_txn u.open_txn next.is (subst (λ (v : ℕ). find v old.tc.open_txns ≡ Some u.open_txn) u.at.number u.at.is)
+
+      by : (x : Option Rollback) → u.open_txn.rolling ≡ x → (step : UndoStep) → Undoes old.tc u.open_txn x step new.tc → rounds_left new.tc < rounds_left old.tc
+      by None flat step h = absurd (true≢false (sym next.rolling ∙ ap rolls_back same ∙ ap is_some flat))
+      by (Some b) rolling (undo.Compensated n) h = same_rounds new.tc _ (rounds_left old.tc) h.2 (falls_comp old.tc u.open_txn b k.tc running u.at.is rolling h.0)
+      by (Some b) rolling (undo.RolledBack v) h = same_rounds new.tc _ (rounds_left old.tc) h.3 (falls_end old.tc u.open_txn b k.tc running u.at.is rolling)
+      by (Some b) rolling (undo.Back v s) h = same_rounds new.tc _ (rounds_left old.tc) h.3 (falls_back old.tc u.open_txn b k.tc running u.at.is rolling)
+      by (Some b) rolling undo.Idle h = absurd h
+
 pub falls_undo : (old new : NodeView) (t : ℕ) (output : Out) → IsKept old → old.tc.phase ≡ phase.Running → IsRolling old.tc t → UndoesTo old t output new → IsDone output → rounds_left new.tc < rounds_left old.tc
-falls_undo old new t (out.Compensated n) k running next h d =
-    let u = h.0 in same_rounds new.tc _ (rounds_left old.tc) u.undoes.3 (falls_comp old.tc u.open_txn k.tc running u.at.is u.undoes.0 u.undoes.1)
-falls_undo old new t (out.RolledBack v) k running next h d =
-    let u = h.0 in same_rounds new.tc _ (rounds_left old.tc) u.undoes.3 (falls_end old.tc u.open_txn k.tc running u.at.is u.undoes.0)
-falls_undo old new t out.Nothing k running next h d =
-    let u = h.0 in
-    let P : ℕ → Type 0 = λ v. find v old.tc.open_txns ≡ Some u.open_txn in
-    let same : next.open_txn ≡ u.open_txn = one_open (find t old.tc.open_txns) next.open_txn u.open_txn next.is (subst P u.at.number u.at.is) in
-    absurd (true≢false (sym next.rolling ∙ ap (λ (o : OpenTxn). o.rolling) same ∙ u.undoes.0))
+falls_undo old new t (out.Compensated n) k running next h d = falls_step old new t k running next (undo.Compensated n) h.0
+falls_undo old new t (out.RolledBack v) k running next h d = falls_step old new t k running next (undo.RolledBack v) h.0
+falls_undo old new t (out.Back v s) k running next h d = falls_step old new t k running next (undo.Back v s) h.0
+falls_undo old new t out.Nothing k running next h d = falls_step old new t k running next undo.Idle h.0
 falls_undo old new t (out.Refused r) k running next h d = absurd d
 falls_undo old new t _ k running next h d = absurd h
 
@@ -127,17 +156,17 @@ falls_answer w o p n a k at some most =
     rw (busy_waiting w.open_txns o.txn n o at some) (omega (arith, most, was, step, rolling_later r w.log o refl, some_round w.stable n, flag))
 
 -- redo goes past a number
-pub falls_redone : (w : TcView) (next n : ℕ) (op : Op) (a : Option Answer) (x : Option OpenTxn) → IsTc w → w.phase ≡ phase.Redoing next → next ≤ n → n < w.session → Requests w.log n op
-    → awaiting w n ≡ x → IsSound w n a → rounds_left (on_awaited (redoing w n) n a x).1 < rounds_left w
-falls_redone w next n op a None k at most less asks none sound =
+pub falls_redone : (w : TcView) (next : ℕ) (ending : Bool) (n : ℕ) (op : Op) (a : Option Answer) (x : Option OpenTxn) → IsTc w → w.phase ≡ phase.Redoing next ending → next ≤ n → n < w.session
+    → Requests w.log n op → awaiting w n ≡ x → IsSound w n a → rounds_left (on_awaited (redoing w n false) n a x).1 < rounds_left w
+falls_redone w next ending n op a None k at most less asks none sound =
     let fewer = one_fewer next n w.session op w.log most less asks in rw at (omega (arith, fewer))
-falls_redone w next n op None (Some o) k at most less asks some sound =
+falls_redone w next ending n op None (Some o) k at most less asks some sound =
     let waits = awaited_is w n o some in absurd (not_unanswered w o n k waits.0 waits.1 (sound refl))
-falls_redone w next n op (Some a) (Some o) k at most less asks some sound =
+falls_redone w next ending n op (Some a) (Some o) k at most less asks some sound =
     let waits = awaited_is w n o some in
     let fewer = one_fewer next n w.session op w.log most less asks in
     let above = none_above (n + 1) w.session (is.Answer n a) w.log (omega (arith, k.session, k.within)) in
-    falls_answer w o (phase.Redoing (n + 1)) n a k waits.0 waits.1 (rw at (omega (arith, fewer, above)))
+    falls_answer w o (phase.Redoing (n + 1) false) n a k waits.0 waits.1 (rw at (omega (arith, fewer, above)))
 
 -- an answer while clients are served
 pub falls_answered : (w : TcView) (n : ℕ) (a : Option Answer) (o : OpenTxn) → IsTc w → w.phase ≡ phase.Running → find o.txn w.open_txns ≡ Some o → o.waiting ≡ Some n → IsSound w n a
@@ -159,10 +188,10 @@ falls_told w o r k at some =
 phase_bound : (log : List Record) (s : ℕ) (p : Phase) → phase_rounds log s p ≤ steps_in log + 2
 phase_bound log s phase.Unconnected = omega (arith, requests_are_steps 1 (length log + 1) log)
 phase_bound log s phase.Connecting = omega (arith, requests_are_steps 1 (length log + 1) log)
-phase_bound log s (phase.Redoing next) = omega (arith, requests_are_steps next s log)
+phase_bound log s (phase.Redoing next ending) = omega (arith, requests_are_steps next s log)
 phase_bound log s phase.Running = omega arith
 
-total_bound : (log : List Record) (stable : ℕ) (os : List OpenTxn) → total (txn_rounds log stable) os ≤ 3 * total (λ o. left_in log o.txn log) os + 4 * length os
+total_bound : (log : List Record) (stable : ℕ) (os : List OpenTxn) → total (txn_rounds log stable) os ≤ 3 * total (λ (o : OpenTxn). left_in log o.txn (bound_of o.rolling) log) os + 4 * length os
 total_bound log stable [] = omega arith
 total_bound log stable (o ∷ os) = let here = txn_bound log stable o in omega (arith, here, total_bound log stable os)
 

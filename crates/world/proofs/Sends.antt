@@ -1,5 +1,10 @@
 -- What is sent stands, and sending changes nothing for clients.
-use Rattle.std.proofs.Common.{◌≡◌, ℕ, ◌+◌, ◌-◌, ◌<◌, ◌≤◌, [], ◌∷◌, ◌++◌, length, Option, Some, None, refl, sym, ap, ◌∙◌, subst, arith, inl, inr}
+use Rattle.std.proofs.Common.{◌≡◌, ◌⊎◌, ℕ, ◌+◌, ◌-◌, ◌<◌, ◌≤◌, Bool, true, List, [], ◌∷◌, ◌++◌, length, Option, Some, None, is_some, refl, sym, ap, ◌∙◌, subst, arith, inl, inr}
+use Rattle.std.specs.Prelude.{Ok, not}
+use Rattle.record_key.specs.declared.refusal.Refusal.{Refusal}
+use Rattle.record_key.specs.declared.refusal.Refusal.TheVariants.{Device}
+use Rattle.history.specs.ListMachine.{Machine, Steps}
+use Rattle.simulation.specs.View.{StandsFor}
 use Rattle.std.proofs.lemmas.List.{length-drop}
 use Rattle.record_key.specs.declared.op.Op.{Op}
 use Rattle.history.specs.declared.record.Record.TheVariants as is
@@ -7,62 +12,99 @@ use Rattle.codec.specs.declared.request.Request.{Request}
 use Rattle.codec.specs.declared.request.Request.TheVariants as asks
 use Rattle.tc_core.specs.declared.phase.Phase.{Phase}
 use Rattle.tc_core.specs.declared.phase.Phase.TheVariants as phase
-use Rattle.tc_core.specs.TcView.{TcView}
+use Rattle.tc_core.specs.TcView.{TcView, failed}
 use Rattle.range_locks.specs.declared.span.Span.{Span}
 use Rattle.range_locks.specs.declared.span.Span.TheVariants.{Key, Range}
 use Rattle.tc_core.specs.declared.open_txn.OpenTxn.{OpenTxn}
 use Rattle.tc_core.specs.declared.open_txn.Read.{Read}
 use Rattle.tc_core.specs.OpenTxns.{find}
-use Rattle.tc_core.specs.Calls.{reconnected, read_request, IsRequestOf}
+use Rattle.logical_log.specs.LogView.{spent_refusal}
+use Rattle.tc_core.specs.Refusing.{Refuses}
+use Rattle.tc_core.specs.Changes.{logged_session, reconnected}
+use Rattle.tc_core.specs.Calls.{read_request, IsRequestOf}
+use Rattle.tc_core.specs.declared.told.RecoverStep.TheVariants as recovery
 use Rattle.tc_core.specs.Recovery.{SendsAt, redo_request, redo_place, redoing}
 use Rattle.tc_core.specs.Undo.{FindsRequest}
-use Rattle.tc_core.specs.LowWater.{MayAnnounce, stable_part}
+use Rattle.tc_core.specs.LowWater.{MayAnnounce}
+use Rattle.logical_log.specs.Low.{stable_part}
 use Rattle.tc_core.specs.Kept.{IsPhase, IsTc}
-use Rattle.tc_core.proofs.Answered.{answered_whole}
-use Rattle.tc_core.proofs.KeepsTc.{keeps_session}
+use Rattle.logical_log.proofs.Answered.{answered_whole}
 use Rattle.world.specs.declared.event.Event.TheVariants as event
 use Rattle.world.specs.declared.event.Out.{Out}
 use Rattle.world.specs.declared.event.Out.TheVariants as out
 use Rattle.world.specs.Node.{NodeView, with_tc, ReconnectsTo, RecoversTo, SendsTo, LowersTo}
 use Rattle.world.specs.Kept.{IsKept, IsReadTrue, IsSent, IsAnsweredTo, IsServed}
-use Rattle.world.specs.Simulation.{machine}
-use Rattle.world.proofs.Histories.{hist_neutral}
-use Rattle.world.proofs.Machines.{machine_longer}
+use Rattle.world.specs.Simulation.{Stands, clients, told_committed}
+use Rattle.world.proofs.CallsKeep.{reconnect_keeps, session_keeps, recover_keeps}
+use Rattle.world.proofs.Standing.{stands_logged, stands_reconnected}
+use Rattle.world.proofs.Grows.{GoesOn, sent_on}
 use Rattle.tc_core.proofs.KeepsTc.{reading_at}
 use Rattle.world.proofs.Readers.{none_same}
-use Rattle.world.proofs.Keeps.{awaited_number, still_captured, keeps_appended, keeps_same_log, with_request, keeps_sent}
-use Rattle.world.proofs.Follows.{Follows, at_new, unchanged}
+use Rattle.world.proofs.Keeps.{still_captured, keeps_appended, keeps_same_log, with_request, keeps_sent}
+use Rattle.world.proofs.Follows.{Follows, at_new, no_line, unchanged, left_refused, kept_left, keeps_failed, stands_left}
 
 -- a session begins
-begins : (w : NodeView) → IsKept w → IsKept (with_tc w (reconnected w.tc))
-begins w k =
-    keeps_appended w (reconnected w.tc) is.Session k (keeps_session w.tc k.tc) refl (omega (arith, k.tc.within)) (omega (arith, k.tc.session, k.tc.within)) (omega arith) (none_same w.tc.reads w.tc.open_txns)
+begins : (w : NodeView) → IsKept w → IsTc (reconnected w.tc) → IsKept (with_tc w (reconnected w.tc))
+begins w k after =
+    keeps_appended w (reconnected w.tc) is.Session k after refl (omega (arith, k.tc.within)) (omega (arith, k.tc.session, k.tc.within)) (omega arith) (none_same w.tc.reads w.tc.open_txns)
     (record { runs = k.sessions.runs; begun = omega (arith, k.sessions.begun, k.tc.session, k.tc.within); served = tt })
     k.right (still_captured w is.Session k (λ o h. cc) (λ m. refl))
 
+-- or only its record is logged, since the force failed
+logs_session : (w : NodeView) → IsKept w → IsTc (logged_session w.tc) → IsKept (with_tc w (logged_session w.tc))
+logs_session w k after =
+    keeps_appended w (logged_session w.tc) is.Session k after refl (omega arith) (omega arith) (omega arith) (none_same w.tc.reads w.tc.open_txns) k.sessions
+    k.right (still_captured w is.Session k (λ o h. cc) (λ m. refl))
+
+-- why no session was started
+module _ (old new : NodeView) (r : Refusal) (k : IsKept old) (left : new ≡ with_tc old new.tc) where
+  not_logged : Refuses (spent_refusal old.tc.log) true true old.tc r new.tc → Follows old event.Reconnect (out.Refused r) new
+  not_logged h =
+      let which = left_refused (spent_refusal old.tc.log) true true old.tc r new.tc h in
+      record {
+        leads = no_line old new event.Reconnect (out.Refused r) refl (λ m stands. stands_left old.tc new.tc m which stands);
+        kept = kept_left old new k left which;
+      }
+
+  was_logged : spent_refusal old.tc.log ≡ None → new.tc ≡ failed (logged_session old.tc) → Follows old event.Reconnect (out.Refused r) new
+  was_logged unspent same = record {
+    leads = no_line old new event.Reconnect (out.Refused r) refl (λ m stands. subst (λ x. StandsFor (clients x) m) (sym same) (stands_logged old.tc m stands));
+    kept = subst IsKept (sym (left ∙ ap (with_tc old) same)) (keeps_failed (with_tc old (logged_session old.tc)) (logs_session old k (session_keeps old.tc k.tc unspent)));
+  }
+
 pub follows_reconnect : (old new : NodeView) (output : Out) → IsKept old → ReconnectsTo old output new → Follows old event.Reconnect output new
-follows_reconnect old new (out.Sent i) k h =
-    at_new old new _ event.Reconnect (out.Sent i) h.1.left (record {
-      happens = machine_longer old.tc.log old.tc.open_txns old.tc.locks is.Session refl (hist_neutral is.Session old.tc.log refl (λ m t o by. (refl, refl))) (awaited_number old.tc k.tc);
-      kept = keeps_sent (with_tc old (reconnected old.tc)) (asks.Connect (length old.tc.log + 1)) (begins old k) (omega arith);
+follows_reconnect old new (out.Connects i cs) k h =
+    let q : Request = asks.Connect (length old.tc.log + 1) in
+    let tc : TcView = reconnected old.tc in
+    let after : IsTc tc = subst IsTc h.0.3 (reconnect_keeps old.tc new.tc (Ok (record { request = q; committed = cs })) k.tc h.0) in
+    let same : new ≡ with_request (with_tc old tc) q = h.1.left ∙ ap (λ x. record old { tc = x; requests = old.requests ++ q ∷ [] }) h.0.3 in
+    at_new old new (with_request (with_tc old tc) q) event.Reconnect (out.Connects i cs) same (record {
+      leads = λ m stands.
+          let l = stands_reconnected old.tc m (session_keeps old.tc k.tc h.0.0) stands in
+          (l.0, subst (λ (ts : List ℕ). Steps m (told_committed ts) l.0) (sym h.0.2) l.1, l.2);
+      kept = keeps_sent (with_tc old tc) q (begins old k after) (omega arith);
     })
-follows_reconnect old new (out.Refused r) k h = unchanged old new event.Reconnect (out.Refused r) k h.1 refl
+follows_reconnect old new (out.Refused r) k h = by h.0
+  where
+    by : Refuses (spent_refusal old.tc.log) true true old.tc r new.tc ⊎ ((spent_refusal old.tc.log ≡ None) × (r ≡ Device) × (new.tc ≡ failed (logged_session old.tc)))
+        → Follows old event.Reconnect (out.Refused r) new
+    by (inl c) = not_logged old new r k h.1 c
+    by (inr c) = was_logged old new r k h.1 c.0 c.2
 follows_reconnect old new _ k h = absurd h
 
 -- redo stands at a number up to the session's
-pub keeps_redoing : (w : NodeView) (next n : ℕ) → IsKept w → w.tc.phase ≡ phase.Redoing next → 0 < n → n ≤ w.tc.session → IsKept (with_tc w (redoing w.tc n))
-keeps_redoing w next n k at some most =
+pub keeps_redoing : (w : NodeView) (next : ℕ) (was : Bool) (n : ℕ) (ending : Bool) → IsKept w → w.tc.phase ≡ phase.Redoing next was → IsTc (redoing w.tc n ending)
+    → IsKept (with_tc w (redoing w.tc n ending))
+keeps_redoing w next was n ending k at tc =
     let P : Phase → Type 0 = λ p. IsServed p w.tc.session w.dc in
-    let tc : IsTc (redoing w.tc n) =
-    record { legal = k.tc.legal; within = k.tc.within; session = k.tc.session; phase = (some, most); open_txns = k.tc.open_txns; locks = k.tc.locks; reading = k.tc.reading } in
-    keeps_same_log w (redoing w.tc n) k tc refl (omega arith) (omega arith) (omega arith) (none_same w.tc.reads w.tc.open_txns)
+    keeps_same_log w (redoing w.tc n ending) k tc refl (omega arith) (omega arith) (omega arith) (none_same w.tc.reads w.tc.open_txns)
     (record { runs = k.sessions.runs; begun = k.sessions.begun; served = subst P at k.sessions.served })
 
 -- the place of redo, and what it sends
 pub record IsRedo (w : NodeView) (found : Option (ℕ × Op)) : Type 0 where
   pub some : 0 < redo_place w.tc.session found
   pub most : redo_place w.tc.session found ≤ w.tc.session
-  pub sent : IsSent (redoing w.tc (redo_place w.tc.session found)) (redo_request w.tc.session found)
+  pub sent : IsSent w.tc (redo_request w.tc.session found)
 
 pub redo_found : (w : NodeView) (next : ℕ) (found : Option (ℕ × Op)) → IsKept w → 0 < next → next ≤ w.tc.session → FindsRequest w.tc.log next w.tc.session found → IsRedo w found
 redo_found w next None k some most h = record { some = omega (arith, some, most); most = omega arith; sent = tt }
@@ -72,31 +114,40 @@ redo_found w next (Some x) k some most h = record {
   sent = (omega (arith, h.1, k.tc.session), h.2);
 }
 
-pub redoing_phase : (w : NodeView) (next : ℕ) → IsKept w → w.tc.phase ≡ phase.Redoing next → (0 < next) × (next ≤ w.tc.session)
-redoing_phase w next k at = let P : Phase → Type 0 = IsPhase w.tc.session in subst P at k.tc.phase
+pub redoing_phase : (w : NodeView) (next : ℕ) (ending : Bool) → IsKept w → w.tc.phase ≡ phase.Redoing next ending → (0 < next) × (next ≤ w.tc.session)
+redoing_phase w next ending k at =
+    let P : Phase → Type 0 = IsPhase w.tc.session in let h = subst P at k.tc.phase in (h.0, h.1)
 
 -- what recovery sends, by its phase
 pub recovers : (old new : NodeView) (q : Request) (p : Phase) → old.tc.phase ≡ p → IsKept old → SendsAt old.tc p q new.tc
-    → new ≡ record old { tc = new.tc; requests = old.requests ++ q ∷ [] } → IsKept new × (machine new ≡ machine old)
-recovers old new q phase.Unconnected at k h left = absurd h
-recovers old new q phase.Connecting at k h left =
+    → IsTc new.tc → new ≡ record old { tc = new.tc; requests = old.requests ++ q ∷ [] } → IsKept new × ((m : Machine) → Stands old m → Stands new m)
+recovers old new q phase.Unconnected at k h after left = absurd h
+recovers old new q phase.Connecting at k h after left =
     let same : new ≡ with_request old q = left ∙ ap (λ tc. record old { tc = tc; requests = old.requests ++ q ∷ [] }) h.1 in
     let P : Request → Type 0 = IsSent old.tc in
-    (subst IsKept (sym same) (keeps_sent old q k (subst P (sym h.0) (omega arith))), ap machine same)
-recovers old new q (phase.Redoing next) at k h left =
+    (subst IsKept (sym same) (keeps_sent old q k (subst P (sym h.0) (omega arith))), λ m stands. subst (λ x. StandsFor (clients x) m) (sym h.1) stands)
+recovers old new q (phase.Redoing next ending) at k h after left =
     let place : ℕ = redo_place old.tc.session h.found in
-    let bounds = redoing_phase old next k at in
+    let sent_end : Bool = not (is_some h.found) in
+    let bounds = redoing_phase old next ending k at in
     let redo = redo_found old next h.found k bounds.0 bounds.1 h.finds in
-    let mid : NodeView = with_tc old (redoing old.tc place) in
+    let mid : NodeView = with_tc old (redoing old.tc place sent_end) in
     let same : new ≡ with_request mid q = left ∙ ap (λ tc. record old { tc = tc; requests = old.requests ++ q ∷ [] }) h.left in
-    let P : Request → Type 0 = IsSent (redoing old.tc place) in
-    (subst IsKept (sym same) (keeps_sent mid q (keeps_redoing old next place k at redo.some redo.most) (subst P (sym h.request_is) redo.sent)), ap machine same)
-recovers old new q phase.Running at k h left = absurd h
+    let P : Request → Type 0 = IsSent old.tc in
+    (
+      subst IsKept (sym same) (keeps_sent mid q (keeps_redoing old next ending place sent_end k at (subst IsTc h.left after)) (sent_on old.tc (redoing old.tc place sent_end) (stays old place sent_end k) q (subst P (sym h.request_is) redo.sent))),
+      λ m stands. subst (λ x. StandsFor (clients x) m) (sym h.left) stands,
+    )
+  where
+    stays : (w : NodeView) (n : ℕ) (e : Bool) → IsKept w → GoesOn w.tc (redoing w.tc n e)
+    stays w n e k = record { within = k.tc.within; log = inl refl; stable = omega arith; session = omega arith; reads = omega arith; none_anew = none_same w.tc.reads w.tc.open_txns }
+recovers old new q phase.Running at k h after left = absurd h
 
 pub follows_recover : (old new : NodeView) (output : Out) → IsKept old → RecoversTo old output new → Follows old event.Recover output new
-follows_recover old new out.Nothing k h = unchanged old new event.Recover out.Nothing k h.1 refl
+follows_recover old new out.Nothing k h = unchanged old new event.Recover out.Nothing k (h.1 ∙ ap (with_tc old) h.0.1) refl
 follows_recover old new (out.Sent i) k h =
-    let both = recovers old new h.0 old.tc.phase refl k h.1 h.2.left in record { happens = both.1; kept = both.0 }
+    let both = recovers old new h.0 old.tc.phase refl k h.1 (recover_keeps old.tc new.tc (Ok (recovery.Sends h.0)) k.tc h.1) h.2.left in
+    record { leads = no_line old new event.Recover (out.Sent i) refl both.1; kept = both.0 }
 follows_recover old new (out.Refused r) k h = unchanged old new event.Recover (out.Refused r) k h.1 refl
 follows_recover old new _ k h = absurd h
 
@@ -131,7 +182,8 @@ sent_of old t q k (inr r) =
 
 pub follows_send : (old new : NodeView) (t : ℕ) (output : Out) → IsKept old → SendsTo old t output new → Follows old (event.Send t) output new
 follows_send old new t (out.Sent i) k h =
-    at_new old new (with_request old h.0) (event.Send t) (out.Sent i) h.2.left (record { happens = refl; kept = keeps_sent old h.0 k (sent_of old t h.0 k h.1) })
+    at_new old new (with_request old h.0) (event.Send t) (out.Sent i) h.2.left
+    (record { leads = no_line old (with_request old h.0) (event.Send t) (out.Sent i) refl (λ m stands. stands); kept = keeps_sent old h.0 k (sent_of old t h.0 k h.1.1) })
 follows_send old new t (out.Refused r) k h = unchanged old new (event.Send t) (out.Refused r) k h.1 refl
 follows_send old new t _ k h = absurd h
 
@@ -143,7 +195,10 @@ announced w l within may =
 
 pub follows_low_water : (old new : NodeView) (l : ℕ) (output : Out) → IsKept old → LowersTo old l output new → Follows old (event.LowWater l) output new
 follows_low_water old new l (out.Sent i) k h =
-    at_new old new (with_request old (asks.LowWater old.tc.session l)) (event.LowWater l) (out.Sent i) h.1.left
-    (record { happens = refl; kept = keeps_sent old (asks.LowWater old.tc.session l) k (announced old.tc l k.tc.within h.0.allowed) })
+    let q : Request = asks.LowWater old.tc.session l in
+    at_new old new (with_request old q) (event.LowWater l) (out.Sent i) h.1.left (record {
+      leads = no_line old (with_request old q) (event.LowWater l) (out.Sent i) refl (λ m stands. stands);
+      kept = keeps_sent old q k (announced old.tc l k.tc.within h.0.0.allowed);
+    })
 follows_low_water old new l (out.Refused r) k h = unchanged old new (event.LowWater l) (out.Refused r) k h.1 refl
 follows_low_water old new l _ k h = absurd h

@@ -41,14 +41,14 @@ running_session w s k h = by (s == 0) h
 begins_over : (at : Phase) (session : ℕ) (dc : DcView) (s : ℕ) → IsServed at session dc → dc.session ≡ dc.stored → dc.stored < s → s ≤ session → IsServed at session (connected dc s)
 begins_over phase.Unconnected session dc s h same less most = tt
 begins_over phase.Connecting session dc s h same less most = tt
-begins_over (phase.Redoing next) session dc s h same less most = absurd (omega (arith, h, same, less, most))
+begins_over (phase.Redoing next ending) session dc s h same less most = absurd (omega (arith, h, same, less, most))
 begins_over phase.Running session dc s h same less most = absurd (omega (arith, h.0, same, less, most))
 
 -- the end of redo is one in every phase
 past_redo : (at : Phase) (session : ℕ) (dc : DcView) → IsServed at session dc → IsServed at session (record dc { redo = false })
 past_redo phase.Unconnected session dc h = tt
 past_redo phase.Connecting session dc h = tt
-past_redo (phase.Redoing next) session dc h = h
+past_redo (phase.Redoing next ending) session dc h = h
 past_redo phase.Running session dc h = (h.0, refl)
 
 -- a session of which the end of redo was told is past it

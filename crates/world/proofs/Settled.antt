@@ -1,15 +1,18 @@
 -- A settled node holds what the plain map holds.
 use Rattle.std.proofs.Common.{◌≡◌, ◌⊎◌, ℕ, ◌+◌, ◌<◌, ◌≤◌, Bool, true, false, List, [], ◌∷◌, length, Option, Some, None, IsSome, is_some, refl, sym, ap, ◌∙◌, subst, arith, inl, inr, true≢false}
-use Rattle.std.specs.Prelude.{◌||◌, map, if◌then◌else◌}
+use Rattle.std.specs.Prelude.{◌||◌, not, if◌then◌else◌}
 use Rattle.std.specs.FinMap.{get}
 use Rattle.std.proofs.lemmas.Bool.{cases_eq, cases_lt, cases_Bool}
 use Rattle.record_key.specs.declared.op.Op.{Op}
 use Rattle.record_key.specs.declared.op.Answer.{Answer}
-use Rattle.record_key.specs.Table.{Bytes, key_of, value_after}
+use Rattle.record_key.specs.Table.{Bytes, key_of, value_after, after}
 use Rattle.record_key.proofs.Tables.{same_table}
 use Rattle.history.specs.declared.record.Record.{Record}
 use Rattle.history.specs.History.{Entry, plain}
-use Rattle.history.specs.ListMachine.{fallen}
+use Rattle.history.specs.ListMachine.{Machine}
+use Rattle.simulation.specs.View.{is_to_undo, standing}
+use Rattle.simulation.specs.Views.{IsCalm}
+use Rattle.simulation.proofs.Viewing.{calm_entries}
 use Rattle.history.specs.Log.{record_at, before, answer_of, request_of, request_in, Requests, IsOpBy, hist}
 use Rattle.history.specs.Values.{is_on}
 use Rattle.history.specs.Honest.{Done, done_on, AreCaptured, value_of}
@@ -24,14 +27,16 @@ use Rattle.tc_core.specs.declared.open_txn.OpenTxn.{OpenTxn}
 use Rattle.tc_core.specs.declared.phase.Phase.{Phase}
 use Rattle.tc_core.specs.declared.phase.Phase.TheVariants as phase
 use Rattle.tc_core.specs.OpenTxns.{find}
-use Rattle.tc_core.specs.TcView.{TcView, is_rolling, is_waiting}
+use Rattle.tc_core.specs.TcView.{TcView, rolls_back, is_rolling, is_waiting}
 use Rattle.tc_core.proofs.KeepsTc.{open_at, waits_at}
 use Rattle.world.specs.Node.{NodeView}
 use Rattle.world.specs.Kept.{IsKept}
-use Rattle.world.specs.Simulation.{machine, IsSettled, AreUnrolled, rolls}
+use Rattle.world.specs.Simulation.{Stands, IsSettled, AreUnrolled, clients, doing_in}
 use Rattle.world.specs.Rounds.{AreIdle, IsAtRest, IsApart, IsRedoing, IsServing}
 use Rattle.world.proofs.Told.{plain_there}
-use Rattle.world.proofs.Tells.{IsOpOf, op_waited}
+use Rattle.world.proofs.Awaited.{IsOpOf, op_waited}
+use Rattle.world.proofs.Idle.{none_rolls}
+use Rattle.world.proofs.Reading.{flat_undoes_none}
 use Rattle.world.proofs.Grows.{captured_stable}
 use Rattle.world.proofs.Repeats.{in_fences}
 use Rattle.world.proofs.PlainAt.{plain_at}
@@ -137,7 +142,7 @@ value_at w k settled key = elim (answered_all w.tc.log w.tc.log key) [
     | inl some ↦ absurd (true≢false (sym some ∙ ap is_some u.unanswered))
     | inr a ↦
         let x : OpenTxn = a.open_txn in
-        let flat : x.rolling ≡ false = sym (ap is_rolling a.is) ∙ settled.unrolled x.txn in
+        let flat : rolls_back x ≡ false = sym (ap is_rolling a.is) ∙ settled.unrolled x.txn in
         let found : IsOpOf w.tc.log x u.number = op_waited w.tc.log x u.number flat (waits_at w.tc.log x u.number (open_at w.tc x k.tc a.is) a.waiting).request in
         let asks : Requests w.tc.log u.number found.op = op_request x.txn found.op (record_at w.tc.log u.number) found.is in
         let both : Some found.op ≡ Some u.op = sym asks ∙ u.requests in
@@ -151,21 +156,32 @@ value_at w k settled key = elim (answered_all w.tc.log w.tc.log key) [
   ]
 ]
 
--- nobody is being rolled back: nothing is crossed out besides
-stands_as : (c b : Bool) → b ≡ false → (c || b) ≡ c
-stands_as true b none = refl
-stands_as false b none = none
+-- only the entries that stand count
+one_standing : (e : Entry) (h : List Entry) → plain (standing h) ≡ plain h → (b : Bool) → e.crossed ≡ b
+    → plain (if not b then e ∷ standing h else standing h) ≡ (if b then plain h else after (plain h) e.op)
+one_standing e h rest true is = rest
+one_standing e h rest false is = ap (λ c. if c then plain (standing h) else after (plain (standing h)) e.op) is ∙ ap (λ x. after x e.op) rest
 
-nobody_fell : (f : ℕ → Bool) (h : List Entry) → ((t : ℕ) → f t ≡ false) → map (fallen f) h ≡ h
-nobody_fell f [] none = refl
-nobody_fell f (e ∷ h) none =
-    λ j. record { number = e.number; txn = e.txn; op = e.op; answer = e.answer; crossed = stands_as e.crossed (f e.txn) (none e.txn) j } ∷ nobody_fell f h none j
+plain_standing : (h : List Entry) → plain (standing h) ≡ plain h
+plain_standing [] = refl
+plain_standing (e ∷ h) = one_standing e h (plain_standing h) e.crossed refl
+
+-- nobody rolls back, and nobody loses
+calm : (w : NodeView) → AreUnrolled w.tc.open_txns → IsCalm (clients w.tc)
+calm w unrolled = record { stays = λ t. refl; unrolled = λ t n. by t n (find t w.tc.open_txns) refl }
+  where
+    flat : (o : OpenTxn) → rolls_back o ≡ false → o.rolling ≡ None
+    flat o unrolling = none_rolls o.rolling unrolling
+
+    by : (t n : ℕ) (x : Option OpenTxn) → find t w.tc.open_txns ≡ x → is_to_undo (doing_in (find t w.tc.open_txns)) n ≡ false
+    by t n None none = ap (λ y. is_to_undo (doing_in y) n) none
+    by t n (Some o) some = ap (λ y. is_to_undo (doing_in y) n) some ∙ flat_undoes_none o n (flat o (sym (ap is_rolling some) ∙ unrolled t))
 
 -- a settled node holds what a plain map holds after the operations that stand
-pub settled_rows : (w : NodeView) → IsKept w → IsSettled w → w.dc.leaf.rows ≡ plain (machine w).h
-settled_rows w k settled =
+pub settled_rows : (w : NodeView) (m : Machine) → IsKept w → Stands w m → IsSettled w → w.dc.leaf.rows ≡ plain m.h
+settled_rows w m k stands settled =
     same_table w.dc.leaf.rows (plain (hist w.tc.log)) (λ q. (k.honest.at q (in_fences w.dc.leaf q k.whole.0 k.whole.1)).right ∙ value_at w k settled q)
-    ∙ ap plain (sym (nobody_fell (rolls w.tc.open_txns) (hist w.tc.log) settled.unrolled))
+    ∙ sym (sym (plain_standing m.h) ∙ ap plain (calm_entries (clients w.tc) m stands (calm w settled.unrolled)) ∙ plain_standing (hist w.tc.log))
 
 -- nothing is left to do
 nobody_waits : (w : TcView) (n : ℕ) → AreIdle w.open_txns → IsAwaited w n → ⊥
@@ -194,7 +210,7 @@ redoes w together idle = (by w.tc.phase refl, same_session w together)
     by : (p : Phase) → w.tc.phase ≡ p → IsRedoing p
     by phase.Unconnected at = absurd (together (inl at))
     by phase.Connecting at = absurd (together (inr (inl at)))
-    by (phase.Redoing next) at = tt
+    by (phase.Redoing next ending) at = tt
     by phase.Running at = absurd (idle at)
 
 pub serving : (w : NodeView) → (IsApart w → ⊥) → w.tc.phase ≡ phase.Running → IsServing w

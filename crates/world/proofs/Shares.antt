@@ -1,16 +1,18 @@
 -- The open transactions share the operations of the log, and each has its Begin record.
 use Rattle.std.proofs.Common.{◌≡◌, ℕ, ◌+◌, ◌<◌, ◌≤◌, Bool, true, false, List, [], ◌∷◌, length, Some, None, refl, sym, ap, ◌∙◌, subst, arith, inl, inr, ne_eqb}
-use Rattle.std.specs.Prelude.{◌==◌, ◌&&◌, not, if◌then◌else◌}
+use Rattle.std.specs.Prelude.{◌==◌, ◌&&◌, not, nat_lt, Option, if◌then◌else◌}
 use Rattle.std.proofs.lemmas.Bool.{cases_eq}
 use Rattle.history.specs.declared.record.Record.{Record}
 use Rattle.history.specs.declared.record.Record.TheVariants as is
 use Rattle.history.specs.Log.{record_at, is_crossed}
 use Rattle.log_laws.proofs.Records.{newest_at, older_at, within}
 use Rattle.tc_core.specs.declared.open_txn.OpenTxn.{OpenTxn}
+use Rattle.tc_core.specs.declared.open_txn.Rollback.{Rollback}
 use Rattle.tc_core.specs.OpenTxns.{find, AreBelow, AreFalling}
 use Rattle.tc_core.proofs.Finding.{find_here, find_above}
 use Rattle.world.specs.Bound.{left_in, total, steps_in, begins_in}
 use Rattle.world.proofs.Totals.{total_sum, found_still}
+use Rattle.world.proofs.Counting.{flag_above}
 
 -- an operation is of this transaction, and counts
 abbrev counts : ℕ → Bool → OpenTxn → ℕ
@@ -41,13 +43,24 @@ nothing_left : (os : List OpenTxn) → total (λ o. 0) os ≡ 0
 nothing_left [] = refl
 nothing_left (o ∷ os) = let rest = nothing_left os in omega (arith, rest)
 
+-- how far a transaction rolls back; one that doesn't has nothing left
+abbrev pub bound_of : Option Rollback → ℕ
+bound_of None = 0
+bound_of (Some r) = r.above
+
+-- whose operation it is, above its bound or not
+few_counts : (u number : ℕ) (c : Bool) (os : List OpenTxn) → total (λ (o : OpenTxn). if u == o.txn && (nat_lt (bound_of o.rolling) number && c) then 1 else 0) os ≤ total (counts u c) os
+few_counts u number c [] = omega arith
+few_counts u number c (o ∷ os) = let rest = few_counts u number c os in let here = flag_above (u == o.txn) (nat_lt (bound_of o.rolling) number) c in omega (arith, rest, here)
+
 -- the operations that are left to undo, of all of them
-pub left_are_steps : (whole log : List Record) (os : List OpenTxn) → AreFalling os → total (λ o. left_in whole o.txn log) os ≤ steps_in log
+pub left_are_steps : (whole log : List Record) (os : List OpenTxn) → AreFalling os → total (λ (o : OpenTxn). left_in whole o.txn (bound_of o.rolling) log) os ≤ steps_in log
 left_are_steps whole [] os falls = omega (arith, nothing_left os)
 left_are_steps whole (is.Op u p q ∷ log) os falls =
     let c : Bool = not (is_crossed whole (length log + 1)) in
-    let sum = total_sum (counts u c) (λ o. left_in whole o.txn log) os in
-    omega (arith, sum, one_at_most u c os falls, left_are_steps whole log os falls)
+    let mine : OpenTxn → ℕ = λ o. if u == o.txn && (nat_lt (bound_of o.rolling) (length log + 1) && c) then 1 else 0 in
+    let sum = total_sum mine (λ (o : OpenTxn). left_in whole o.txn (bound_of o.rolling) log) os in
+    omega (arith, sum, few_counts u (length log + 1) c os, one_at_most u c os falls, left_are_steps whole log os falls)
 left_are_steps whole (is.Comp u m n i ∷ log) os falls = let rest = left_are_steps whole log os falls in omega (arith, rest)
 left_are_steps whole (is.Session ∷ log) os falls = left_are_steps whole log os falls
 left_are_steps whole (is.Begin ∷ log) os falls = left_are_steps whole log os falls

@@ -8,7 +8,7 @@ use Rattle.tc_core.specs.declared.open_txn.OpenTxn.{OpenTxn}
 use Rattle.tc_core.specs.declared.open_txn.Read.{Read}
 use Rattle.tc_core.specs.OpenTxns.{find}
 use Rattle.tc_core.specs.TcView.{TcView}
-use Rattle.tc_core.specs.Calls.{shared}
+use Rattle.tc_core.specs.Changes.{shared}
 use Rattle.tc_core.specs.Kept.{IsTc}
 use Rattle.tc_core.proofs.KeepsReads.{held_apart}
 use Rattle.tc_core.proofs.KeepsTc.{open_at, reading_at}

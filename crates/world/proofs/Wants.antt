@@ -1,11 +1,12 @@
 -- A round stops only for want of memory or of numbers.
 use Rattle.std.proofs.Common.{◌≡◌, ◌⊎◌, ℕ, ◌+◌, ◌<◌, ◌≤◌, Bool, true, false, List, [], ◌∷◌, length, Option, Some, None, refl, sym, ap, ◌∙◌, subst, arith, inl, inr, true≢false, eq-eqb, ne_eqb}
-use Rattle.std.specs.Prelude.{◌==◌, ◌&&◌, ◌||◌, not, nat_lt}
+use Rattle.std.specs.Prelude.{◌==◌, ◌&&◌, ◌||◌, not, is_some, nat_lt, Err}
 use Rattle.std.proofs.lemmas.Bool.Decides.{nat_tests}
 use Rattle.record_key.specs.declared.op.Op.{Op}
 use Rattle.record_key.specs.declared.refusal.Refusal.{Refusal}
 use Rattle.record_key.specs.declared.refusal.Refusal.TheVariants.{Stale, NumbersSpent}
 use Rattle.record_key.specs.FirstCause.{first_of, RefusesAs}
+use Rattle.tc_core.specs.Refusing.{Refuses}
 use Rattle.range_locks.specs.declared.span.Span.{Span}
 use Rattle.range_locks.specs.declared.span.Span.TheVariants.{Key, Range}
 use Rattle.codec.specs.declared.request.Request.{Request}
@@ -17,11 +18,14 @@ use Rattle.dc_core.specs.Serves.{session_refusal, after_redo_refusal, connect_re
 use Rattle.tc_core.specs.declared.open_txn.OpenTxn.{OpenTxn}
 use Rattle.tc_core.specs.declared.phase.Phase.{Phase}
 use Rattle.tc_core.specs.declared.phase.Phase.TheVariants as phase
-use Rattle.tc_core.specs.LogView.{is_spent}
-use Rattle.tc_core.specs.TcView.{TcView, is_waiting, waits}
-use Rattle.tc_core.specs.Calls.{resend_refusal, undo_refusal, reconnected, read_request}
+use Rattle.logical_log.specs.LogView.{is_spent}
+use Rattle.tc_core.specs.TcView.{TcView, is_recovering, is_waiting, waits}
+use Rattle.tc_core.specs.Causes.{resend_refusal, undo_refusal, undo_logs}
+use Rattle.tc_core.specs.OpenTxns.{find}
+use Rattle.tc_core.specs.Changes.{reconnected}
+use Rattle.tc_core.specs.Calls.{read_request, ReconnectGives, UndoGives}
 use Rattle.tc_core.specs.Recovery.{SendsAt, recover_refusal, redo_request, redo_place, redoing}
-use Rattle.tc_core.specs.Replies.{session_of, logs, reply_refusal}
+use Rattle.tc_core.specs.Replies.{session_of, logs, takes_memory, reply_refusal, ReplyGives}
 use Rattle.tc_core.specs.Kept.{IsPhase, IsTc}
 use Rattle.tc_core.proofs.Finding.{found_own}
 use Rattle.tc_core.proofs.KeepsTc.{reading_at}
@@ -32,7 +36,7 @@ use Rattle.world.specs.declared.event.Out.{Out}
 use Rattle.world.specs.declared.event.Out.TheVariants as out
 use Rattle.world.specs.declared.round.Round.{Round}
 use Rattle.world.specs.declared.round.Round.TheVariants as round
-use Rattle.world.specs.Node.{NodeView, ReconnectsTo, RecoversTo, SendsTo}
+use Rattle.world.specs.Node.{NodeView, LacksRoom, is_replied_to, ReconnectsTo, RecoversTo, SendsTo}
 use Rattle.world.specs.Kept.{IsKept, IsServed}
 use Rattle.world.specs.Rounds.{IsDone, IsServing, IsDue, IsReader, IsRolling, IsNext, IsWant, StopsAt, events_of}
 use Rattle.world.proofs.Sends.{redoing_phase}
@@ -44,22 +48,31 @@ no_cause : (x : Option Refusal) (r : Refusal) → x ≡ None → RefusesAs x r �
 no_cause None r e h = inl h
 no_cause (Some c) r e h = absurd (cc)
 
-spent_want : (b : Bool) (r : Refusal) → RefusesAs (first_of ((b, NumbersSpent) ∷ [])) r → IsWant r
-spent_want true r h = inr h
-spent_want false r h = inl h
+no_room : (x : Option Refusal) (sends : Bool) (r : Refusal) → x ≡ None → LacksRoom x sends r → IsWant r
+no_room None sends r e h = inl h.1
+no_room (Some c) sends r e h = absurd (cc)
+
+-- memory, or the device
+want_refused : (m d : Bool) (old : TcView) (r : Refusal) (new : TcView) → Refuses None m d old r new → IsWant r
+want_refused m d old r new (inl h) = inl h.1
+want_refused m d old r new (inr h) = inr (inr h.1)
+
+spent_want : (b m d : Bool) (old : TcView) (r : Refusal) (new : TcView) → Refuses (first_of ((b, NumbersSpent) ∷ [])) m d old r new → IsWant r
+spent_want true m d old r new h = inr (inl h.0)
+spent_want false m d old r new h = want_refused m d old r new h
 
 -- a reply of the session that runs
-reply_want : (w : TcView) (reply : Reply) (r : Refusal) → session_of reply ≡ w.session → 0 < w.session → RefusesAs (reply_refusal w reply) r → IsWant r
-reply_want w reply r same some h =
+reply_want : (w : TcView) (reply : Reply) (r : Refusal) (new : TcView) → session_of reply ≡ w.session → 0 < w.session → ReplyGives w reply (Err r) new → IsWant r
+reply_want w reply r new same some h =
     let a : (w.session == 0) ≡ false = ne_eqb w.session 0 (λ e. omega (arith, e, some)) in
     let b : (session_of reply == w.session) ≡ true = eq-eqb (session_of reply) w.session same in
     fresh (w.session == 0) (session_of reply == w.session) (logs w reply && is_spent w.log) a b h
   where
-    fresh : (a b c : Bool) → a ≡ false → b ≡ true → RefusesAs (first_of ((a || not b, Stale) ∷ (c, NumbersSpent) ∷ [])) r → IsWant r
+    fresh : (a b c : Bool) → a ≡ false → b ≡ true → Refuses (first_of ((a || not b, Stale) ∷ (c, NumbersSpent) ∷ [])) (takes_memory w reply) (logs w reply) w r new → IsWant r
     fresh true b c e f h = absurd (true≢false e)
     fresh false false c e f h = absurd (true≢false (sym f))
-    fresh false true true e f h = inr h
-    fresh false true false e f h = inl h
+    fresh false true true e f h = inr (inl h.0)
+    fresh false true false e f h = want_refused (takes_memory w reply) (logs w reply) w r new h
 
 -- a request of the session that runs
 serves_session : (dc : DcView) (s : ℕ) → dc.session ≡ s → 0 < s → session_refusal dc s ≡ None
@@ -80,26 +93,26 @@ connects dc s less =
 stops_connect : (w : NodeView) (r : Refusal) → IsKept w → Stops w (reconnected w.tc) (asks.Connect (length w.tc.log + 1)) r → IsWant r
 stops_connect w r k (inl h) = inl h
 stops_connect w r k (inr (inl h)) =
-    no_cause (connect_refusal w.dc (length w.tc.log + 1)) r (connects w.dc (length w.tc.log + 1) (omega (arith, k.sessions.begun, k.tc.session, k.tc.within))) h
+    no_room (connect_refusal w.dc (length w.tc.log + 1)) true r (connects w.dc (length w.tc.log + 1) (omega (arith, k.sessions.begun, k.tc.session, k.tc.within))) h
 stops_connect w r k (inr (inr h)) =
-    let reply : h.1 ≡ says.Connected (length w.tc.log + 1) = some_reply h.1 (says.Connected (length w.tc.log + 1)) h.2.0 in
-    reply_want (reconnected w.tc) h.1 r (ap session_of reply) (omega arith) h.3
+    let reply : h.1 ≡ says.Connected (length w.tc.log + 1) = some_reply h.1 (says.Connected (length w.tc.log + 1)) h.3.0 in
+    reply_want (reconnected w.tc) h.1 r h.2 (ap session_of reply) (omega arith) h.4
 
 stops_perform : (w : NodeView) (tc : TcView) (n : ℕ) (o : Op) (r : Refusal) → IsKept w → tc.session ≡ w.tc.session → w.dc.session ≡ w.tc.session → 0 < w.tc.session
     → Requests w.tc.log n o → Stops w tc (asks.Perform w.tc.session n o) r → IsWant r
 stops_perform w tc n o r k session same some requests (inl h) = inl h
-stops_perform w tc n o r k session same some requests (inr (inl h)) = no_cause (session_refusal w.dc w.tc.session) r (serves_session w.dc w.tc.session same some) h
+stops_perform w tc n o r k session same some requests (inr (inl h)) = no_room (session_refusal w.dc w.tc.session) true r (serves_session w.dc w.tc.session same some) h
 stops_perform w tc n o r k session same some requests (inr (inr h)) =
-    let sound = sound_reply w w.tc.session n o h.1 h.0 k requests h.2 in
-    reply_want tc h.1 r (ap session_of sound.reply_is ∙ sym session) (omega (arith, some, session)) h.3
+    let sound = sound_reply w w.tc.session n o h.1 h.0 k requests h.3 in
+    reply_want tc h.1 r h.2 (ap session_of sound.reply_is ∙ sym session) (omega (arith, some, session)) h.4
 
 stops_redo_end : (w : NodeView) (tc : TcView) (r : Refusal) → tc.session ≡ w.tc.session → w.dc.session ≡ w.tc.session → 0 < w.tc.session
     → Stops w tc (asks.RedoEnd w.tc.session) r → IsWant r
 stops_redo_end w tc r session same some (inl h) = inl h
-stops_redo_end w tc r session same some (inr (inl h)) = no_cause (session_refusal w.dc w.tc.session) r (serves_session w.dc w.tc.session same some) h
+stops_redo_end w tc r session same some (inr (inl h)) = no_room (session_refusal w.dc w.tc.session) true r (serves_session w.dc w.tc.session same some) h
 stops_redo_end w tc r session same some (inr (inr h)) =
-    let reply : h.1 ≡ says.RedoEnded w.tc.session = some_reply h.1 (says.RedoEnded w.tc.session) h.2.0 in
-    reply_want tc h.1 r (ap session_of reply ∙ sym session) (omega (arith, some, session)) h.3
+    let reply : h.1 ≡ says.RedoEnded w.tc.session = some_reply h.1 (says.RedoEnded w.tc.session) h.3.0 in
+    reply_want tc h.1 r h.2 (ap session_of reply ∙ sym session) (omega (arith, some, session)) h.4
 
 -- reads are served once redo has ended
 serves_read : (dc : DcView) (s n : ℕ) (q : Span) → dc.session ≡ s → 0 < s → dc.redo ≡ false → serve_refusal dc (read_request s n q) ≡ None
@@ -117,37 +130,39 @@ stops_read w n q r k serving some (inl h) = inl h
 stops_read w n q r k serving some (inr (inl h)) =
     let P : Phase → Type 0 = λ p. IsServed p w.tc.session w.dc in
     let served = subst P serving.running k.sessions.served in
-    no_cause (serve_refusal w.dc (read_request w.tc.session n q)) r (serves_read w.dc w.tc.session n q serving.session some served.1) h
+    no_room (serve_refusal w.dc (read_request w.tc.session n q)) (is_replied_to (read_request w.tc.session n q)) r (serves_read w.dc w.tc.session n q serving.session some served.1) h
 stops_read w n q r k serving some (inr (inr h)) =
-    reply_want w.tc h.1 r (read_session w.tc.session n q h.1 (read_reply w.tc.session n q w.dc h.0 h.1 h.2)) some h.3
+    reply_want w.tc h.1 r h.2 (read_session w.tc.session n q h.1 (read_reply w.tc.session n q w.dc h.0 h.1 h.3)) some h.4
 
 -- each round
 want_connect : (old new mid : NodeView) (o : Out) (os : List Out) (r : Refusal) → IsKept old → ReconnectsTo old o mid → IsDone o
     → StopsAt mid (event.Request (length old.requests + 1) ∷ event.Reply (length old.replies + 1) ∷ []) os r new → IsWant r
-want_connect old new mid (out.Sent i) os r k h d rest =
-    let s : ℕ = length old.tc.log + 1 in stops_connect old r k (stops old mid (reconnected old.tc) (asks.Connect s) i os r new (connect_replied s) h.1 rest)
+want_connect old new mid (out.Connects i cs) os r k h d rest =
+    let s : ℕ = length old.tc.log + 1 in
+    let stop = stops old mid mid.tc (asks.Connect s) i os r new (connect_replied s) h.1 rest in
+    stops_connect old r k (subst (λ tc. Stops old tc (asks.Connect s) r) h.0.3 stop)
 want_connect old new mid (out.Refused q) os r k h d rest = absurd d
 want_connect old new mid _ os r k h d rest = absurd h
 
 stops_redo : (w : NodeView) (next : ℕ) (found : Option (ℕ × Op)) (r : Refusal) → IsKept w → w.dc.session ≡ w.tc.session → 0 < w.tc.session
-    → FindsRequest w.tc.log next w.tc.session found → Stops w (redoing w.tc (redo_place w.tc.session found)) (redo_request w.tc.session found) r → IsWant r
-stops_redo w next None r k same some finds h = stops_redo_end w (redoing w.tc w.tc.session) r refl same some h
-stops_redo w next (Some x) r k same some finds h = stops_perform w (redoing w.tc x.0) x.0 x.1 r k refl same some finds.2 h
+    → FindsRequest w.tc.log next w.tc.session found → Stops w (redoing w.tc (redo_place w.tc.session found) (not (is_some found))) (redo_request w.tc.session found) r → IsWant r
+stops_redo w next None r k same some finds h = stops_redo_end w (redoing w.tc w.tc.session true) r refl same some h
+stops_redo w next (Some x) r k same some finds h = stops_perform w (redoing w.tc x.0 false) x.0 x.1 r k refl same some finds.2 h
 
-want_recover : (old new mid : NodeView) (o : Out) (os : List Out) (r : Refusal) (next : ℕ) → IsKept old → old.tc.phase ≡ phase.Redoing next → old.dc.session ≡ old.tc.session
+want_recover : (old new mid : NodeView) (o : Out) (os : List Out) (r : Refusal) (next : ℕ) (ending : Bool) → IsKept old → old.tc.phase ≡ phase.Redoing next ending → old.dc.session ≡ old.tc.session
     → RecoversTo old o mid → IsDone o → StopsAt mid (event.Request (length old.requests + 1) ∷ event.Reply (length old.replies + 1) ∷ []) os r new → IsWant r
-want_recover old new mid (out.Sent i) os r next k at same h d rest =
+want_recover old new mid (out.Sent i) os r next ending k at same h d rest =
     let P : Phase → Type 0 = λ p. SendsAt old.tc p h.0 mid.tc in
     let redo = subst P at h.1 in
     let Q : Request → Type 0 = HasReply in
-    let bounds = redoing_phase old next k at in
+    let bounds = redoing_phase old next ending k at in
     let stop = stops old mid mid.tc h.0 i os r new (subst Q (sym redo.request_is) (redo_replied old.tc.session redo.found)) h.2 rest in
     let S : TcView → Type 0 = λ tc. Stops old tc h.0 r in
-    let R : Request → Type 0 = λ q. Stops old (redoing old.tc (redo_place old.tc.session redo.found)) q r in
+    let R : Request → Type 0 = λ q. Stops old (redoing old.tc (redo_place old.tc.session redo.found) (not (is_some redo.found))) q r in
     stops_redo old next redo.found r k same (omega (arith, bounds.0, bounds.1)) redo.finds (subst R redo.request_is (subst S redo.left stop))
-want_recover old new mid out.Nothing os r next k at same h d rest = let no : phase.Redoing next ≡ phase.Running = sym at ∙ h.0 in absurd (cc)
-want_recover old new mid (out.Refused q) os r next k at same h d rest = absurd d
-want_recover old new mid _ os r next k at same h d rest = absurd h
+want_recover old new mid out.Nothing os r next ending k at same h d rest = let no : phase.Redoing next ending ≡ phase.Running = sym at ∙ h.0.0 in absurd (cc)
+want_recover old new mid (out.Refused q) os r next ending k at same h d rest = absurd d
+want_recover old new mid _ os r next ending k at same h d rest = absurd h
 
 running_some : (w : NodeView) → IsKept w → w.tc.phase ≡ phase.Running → 0 < w.tc.session
 running_some w k running = let P : Phase → Type 0 = IsPhase w.tc.session in subst P running k.tc.phase
@@ -155,10 +170,10 @@ running_some w k running = let P : Phase → Type 0 = IsPhase w.tc.session in su
 want_exchange : (old new mid : NodeView) (o : Out) (os : List Out) (r : Refusal) (t : ℕ) → IsKept old → IsServing old → SendsTo old t o mid → IsDone o
     → StopsAt mid (event.Request (length old.requests + 1) ∷ event.Reply (length old.replies + 1) ∷ []) os r new → IsWant r
 want_exchange old new mid (out.Sent i) os r t k serving h d rest =
-    let stop = stops old mid old.tc h.0 i os r new (request_replied old.tc t h.0 h.1) h.2 rest in
+    let stop = stops old mid old.tc h.0 i os r new (request_replied old.tc t h.0 h.1.1) h.2 rest in
     let R : Request → Type 0 = λ x. Stops old old.tc x r in
     let some = running_some old k serving.running in
-    elim h.1 [
+    elim h.1.1 [
       | inl q ↦ stops_perform old old.tc q.number q.op r k refl serving.session some q.requests (subst R q.is stop)
       | inr q ↦ stops_read old q.read.number q.read.span r k serving some (subst R q.is stop)
     ]
@@ -180,27 +195,32 @@ resends_any : (w : TcView) (t : ℕ) → IsTc w → w.phase ≡ phase.Running �
 resends_any w t k running (inl due) = resends w t due.0 running due.1 due.2
 resends_any w t k running (inr reader) = resends_read w t k running reader
 
-undo_want : (w : TcView) (t : ℕ) (r : Refusal) → w.phase ≡ phase.Running → IsRolling w t → RefusesAs (undo_refusal w t) r → IsWant r
-undo_want w t r running rolls h =
+undo_want : (w : TcView) (t : ℕ) (r : Refusal) (new : TcView) → w.phase ≡ phase.Running → IsRolling w t → UndoGives w t (Err r) new → IsWant r
+undo_want w t r new running rolls h =
     let o : OpenTxn = rolls.open_txn in
     let none : waits o ≡ false = sym (ap is_waiting rolls.is) ∙ rolls.idle t in
-    let same : undo_refusal w t ≡ first_of ((is_spent w.log, NumbersSpent) ∷ []) = rw (running, rolls.is, none, rolls.rolling) refl in
-    let P : Option Refusal → Type 0 = λ x. RefusesAs x r in spent_want (is_spent w.log) r (subst P same h)
+    let logged : Bool = undo_logs (find t w.open_txns) in
+    let same : undo_refusal w t ≡ first_of ((logged && is_spent w.log, NumbersSpent) ∷ []) = rw (running, rolls.is, none) refl in
+    spent_want (logged && is_spent w.log) logged logged w r new (subst (λ x. Refuses x logged logged w r new) same h)
+
+reconnect_want : (w : TcView) (r : Refusal) (new : TcView) → ReconnectGives w (Err r) new → IsWant r
+reconnect_want w r new (inl h) = spent_want (is_spent w.log) true true w r new h
+reconnect_want w r new (inr h) = inr (inr h.1)
 
 pub wants : (old new : NodeView) (round : Round) (outs : List Out) (r : Refusal) → IsKept old → IsNext old round → StopsAt old (events_of old round) outs r new → IsWant r
 wants old new round.Connect [] r k next (inl h) = inl h.0
-wants old new round.Connect [] r k next (inr h) = spent_want (is_spent old.tc.log) r h.0
+wants old new round.Connect [] r k next (inr h) = reconnect_want old.tc r new.tc h.0
 wants old new round.Connect (o ∷ os) r k next h = want_connect old new h.0 o os r k h.1 h.2 h.3
 wants old new round.Recover [] r k next (inl h) = inl h.0
 wants old new round.Recover [] r k next (inr h) =
-    let at = redoing_at old old.tc.phase refl next.0 in no_cause (recover_refusal old.tc) r (rw at.1 refl) h.0
-wants old new round.Recover (o ∷ os) r k next h = let at = redoing_at old old.tc.phase refl next.0 in want_recover old new h.0 o os r at.0 k at.1 next.1 h.1 h.2 h.3
+    let at = redoing_at old old.tc.phase refl next.0 in no_room (recover_refusal old.tc) (is_recovering old.tc.phase) r (rw at.2 refl) h.0
+wants old new round.Recover (o ∷ os) r k next h = let at = redoing_at old old.tc.phase refl next.0 in want_recover old new h.0 o os r at.0 at.1 k at.2 next.1 h.1 h.2 h.3
 wants old new (round.Exchange t) [] r k next (inl h) = inl h.0
 wants old new (round.Exchange t) [] r k next (inr h) = no_cause (resend_refusal old.tc t) r (resends_any old.tc t k.tc next.0.running next.1) h.0
 wants old new (round.Exchange t) (o ∷ os) r k next h = want_exchange old new h.0 o os r t k next.0 h.1 h.2 h.3
 wants old new (round.Undo t) [] r k next (inl h) = inl h.0
-wants old new (round.Undo t) [] r k next (inr h) = undo_want old.tc t r next.0.running next.1 h.0
+wants old new (round.Undo t) [] r k next (inr h) = undo_want old.tc t r new.tc next.0.running next.1 h.0
 wants old new (round.Undo t) (o ∷ os) r k next h = absurd h.3
 wants old new round.Force [] r k next (inl h) = inl h.0
-wants old new round.Force [] r k next (inr h) = absurd h
+wants old new round.Force [] r k next (inr h) = inr (inr h.0.0)
 wants old new round.Force (o ∷ os) r k next h = absurd h.3

@@ -7,9 +7,10 @@ use Rattle.history.specs.declared.record.Record.TheVariants as is
 use Rattle.history.specs.Log.{request_of, is_crossed}
 use Rattle.tc_core.specs.declared.open_txn.OpenTxn.{OpenTxn}
 use Rattle.tc_core.specs.declared.open_txn.Read.{Read}
+use Rattle.tc_core.specs.declared.open_txn.Rollback.{Rollback}
 use Rattle.tc_core.specs.declared.phase.Phase.{Phase}
 use Rattle.tc_core.specs.declared.phase.Phase.TheVariants as phase
-use Rattle.tc_core.specs.TcView.{TcView, waits}
+use Rattle.tc_core.specs.TcView.{TcView, rolls_back, waits}
 
 -- how many of these numbers ask for something
 abbrev pub asked : Option Op → ℕ
@@ -20,11 +21,12 @@ abbrev pub requests_in : ℕ → ℕ → List Record → ℕ
 requests_in from below [] = 0
 requests_in from below (r ∷ log) = (if nat_le from (length log + 1) && nat_lt (length log + 1) below then asked (request_of r) else 0) + requests_in from below log
 
--- how many operations of the transaction no compensation of the whole log names
-abbrev pub left_in : List Record → ℕ → List Record → ℕ
-left_in whole t [] = 0
-left_in whole t (is.Op txn prev op ∷ log) = (if txn == t && not (is_crossed whole (length log + 1)) then 1 else 0) + left_in whole t log
-left_in whole t (r ∷ log) = left_in whole t log
+-- how many operations of the transaction above this number no compensation of the whole log names
+abbrev pub left_in : List Record → ℕ → ℕ → List Record → ℕ
+left_in whole t above [] = 0
+left_in whole t above (is.Op txn prev op ∷ log) =
+    (if txn == t && (nat_lt above (length log + 1) && not (is_crossed whole (length log + 1))) then 1 else 0) + left_in whole t above log
+left_in whole t above (r ∷ log) = left_in whole t above log
 
 -- how many rounds are left: for an answer, a force unless its record is stable, and an exchange
 abbrev pub waiting_rounds : ℕ → Option ℕ → ℕ
@@ -32,8 +34,12 @@ waiting_rounds stable None = 0
 waiting_rounds stable (Some n) = if nat_lt stable n then 2 else 1
 
 -- for a rollback, three for each operation that is left, and one for the end
+abbrev pub rounds_back : List Record → ℕ → Option Rollback → ℕ
+rounds_back log t None = 0
+rounds_back log t (Some r) = 3 * left_in log t r.above log + 1
+
 abbrev pub rolling_rounds : List Record → OpenTxn → ℕ
-rolling_rounds log o = if o.rolling then 3 * left_in log o.txn log + 1 else 0
+rolling_rounds log o = rounds_back log o.txn o.rolling
 
 -- for a read, an exchange
 abbrev pub reading_rounds : Option Read → ℕ
@@ -52,12 +58,12 @@ total count (o ∷ os) = count o + total count os
 abbrev pub phase_rounds : List Record → ℕ → Phase → ℕ
 phase_rounds log s phase.Unconnected = requests_in 1 (length log + 1) log + 2
 phase_rounds log s phase.Connecting = requests_in 1 (length log + 1) log + 2
-phase_rounds log s (phase.Redoing next) = requests_in next s log + 1
+phase_rounds log s (phase.Redoing next ending) = requests_in next s log + 1
 phase_rounds log s phase.Running = 0
 
 -- a last force, where something isn't stable or will be logged
 abbrev pub is_busy : OpenTxn → Bool
-is_busy o = o.rolling || waits o
+is_busy o = rolls_back o || waits o
 
 abbrev pub force_rounds : TcView → ℕ
 force_rounds w = if list_any is_busy w.open_txns || nat_lt w.stable (length w.log) then 1 else 0

@@ -17,7 +17,7 @@ use Rattle.codec.specs.declared.request.Request.{Request}
 use Rattle.codec.specs.declared.request.Request.TheVariants as asks
 use Rattle.codec.specs.declared.reply.Reply.{Reply}
 use Rattle.codec.specs.declared.reply.Reply.TheVariants as says
-use Rattle.ab_lsn.specs.declared.entry.Entry.{Entry}
+use Rattle.record_key.specs.declared.entry.Entry.{Entry}
 use Rattle.ab_lsn.specs.AbLsn.{captures}
 use Rattle.page.specs.Leaf.{LeafView}
 use Rattle.page.specs.Honest.{IsHonestLeaf}
@@ -26,7 +26,7 @@ use Rattle.tc_core.specs.declared.open_txn.OpenTxn.{OpenTxn}
 use Rattle.tc_core.specs.declared.phase.Phase.{Phase}
 use Rattle.tc_core.specs.declared.phase.Phase.TheVariants as phase
 use Rattle.tc_core.specs.OpenTxns.{find}
-use Rattle.tc_core.specs.Calls.{shared}
+use Rattle.tc_core.specs.Changes.{shared}
 use Rattle.tc_core.specs.TcView.{TcView}
 use Rattle.tc_core.specs.Kept.{IsTc}
 use Rattle.world.specs.Node.{NodeView}
@@ -80,7 +80,7 @@ IsGiven w dc (says.RedoEnded s) = (s ≤ dc.stored) × (s ≡ dc.session → dc.
 
 -- from the reply to Connect on, the data component runs the session, and from the reply to RedoEnd on past redo
 abbrev pub IsServed : Phase → ℕ → DcView → Type 0
-IsServed (phase.Redoing next) s dc = dc.session ≡ s
+IsServed (phase.Redoing next ending) s dc = dc.session ≡ s
 IsServed phase.Running s dc = (dc.session ≡ s) × (dc.redo ≡ false)
 IsServed _ s dc = Unit {0}
 

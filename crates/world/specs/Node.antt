@@ -12,18 +12,17 @@ use Rattle.codec.specs.declared.request.Request.TheVariants as asks
 use Rattle.codec.specs.declared.reply.Reply.{Reply}
 use Rattle.dc_core.specs.DcView.{DcView, fresh as fresh_dc}
 use Rattle.dc_core.specs.Serves.{Serves, serve_refusal}
-use Rattle.tc_core.specs.declared.phase.Phase.TheVariants as phase
 use Rattle.tc_core.specs.declared.told.Told.{Told}
 use Rattle.tc_core.specs.declared.told.Told.TheVariants as told
+use Rattle.tc_core.specs.declared.told.UndoStep.{UndoStep}
 use Rattle.tc_core.specs.declared.told.UndoStep.TheVariants as undo
 use Rattle.tc_core.specs.declared.told.RecoverStep.TheVariants as recovery
-use Rattle.tc_core.specs.LogView.{spent_refusal}
-use Rattle.tc_core.specs.OpenTxns.{find}
-use Rattle.tc_core.specs.TcView.{TcView, fresh, is_recovering, is_rolling}
-use Rattle.tc_core.specs.Calls.{begin_refusal, rollback_refusal, undo_refusal, resend_refusal, reconnected, begun, forced, shared, RefusesAct, RefusesRead, Acts, Asks, RollsBack, UndoesStep, IsRequestOf}
-use Rattle.tc_core.specs.Replies.{TakesReply, reply_refusal, takes_memory as takes}
-use Rattle.tc_core.specs.Recovery.{Recovers, recover_refusal}
-use Rattle.tc_core.specs.LowWater.{Announces, RefusesLow}
+use Rattle.tc_core.specs.TcView.{TcView, fresh, is_recovering}
+use Rattle.tc_core.specs.Causes.{resend_refusal}
+use Rattle.tc_core.specs.Calls.{ReconnectGives, BeginGives, ActGives, ReadGives, SaveGives, BackGives, RollbackGives, CommitGives, UndoGives, ForceGives, ResendGives}
+use Rattle.tc_core.specs.Replies.{ReplyGives}
+use Rattle.tc_core.specs.Recovery.{RecoverGives, recover_refusal}
+use Rattle.tc_core.specs.LowWater.{LowWaterGives}
 use Rattle.world.specs.declared.event.Event.{Event}
 use Rattle.world.specs.declared.event.Event.TheVariants as event
 use Rattle.world.specs.declared.event.Out.{Out}
@@ -39,7 +38,7 @@ pub record NodeView : Type 0 where
 
 -- nothing is logged, stored or sent
 abbrev pub fresh_node : NodeView
-fresh_node = record { tc = fresh; dc = fresh_dc; requests = []; replies = [] }
+fresh_node = record { tc = fresh 0; dc = fresh_dc; requests = []; replies = [] }
 
 abbrev pub out_of : Result Out Refusal → Out
 out_of (Ok o) = o
@@ -49,61 +48,91 @@ out_of (Err r) = out.Refused r
 abbrev pub with_tc : NodeView → TcView → NodeView
 with_tc w tc = record w { tc = tc }
 
+-- a call of the transaction component that sends nothing: its contract, and nothing else changes
+abbrev pub Calls : (TcView → Type 0) → NodeView → NodeView → Type 0
+Calls Gives old new = Gives new.tc × (new ≡ with_tc old new.tc)
+
 -- the same, and it sent a request, which has this number
 pub record Sends (old : NodeView) (tc : TcView) (request : Request) (number : ℕ) (new : NodeView) : Type 0 where
   pub number_is : number ≡ length old.requests + 1
   pub left : new ≡ record old { tc = tc; requests = old.requests ++ request ∷ [] }
 
+-- room for a message is refused, after the call's own causes
+abbrev pub LacksRoom : Option Refusal → Bool → Refusal → Type 0
+LacksRoom (Some cause) sends r = r ≡ cause
+LacksRoom None sends r = (sends ≡ true) × (r ≡ NoMemory)
+
 abbrev pub ReconnectsTo : NodeView → Out → NodeView → Type 0
-ReconnectsTo old (out.Sent i) new = (spent_refusal old.tc.log ≡ None) × Sends old (reconnected old.tc) (asks.Connect (length old.tc.log + 1)) i new
-ReconnectsTo old (out.Refused r) new = RefusesAs (spent_refusal old.tc.log) r × (new ≡ old)
+ReconnectsTo old (out.Connects i committed) new =
+    ReconnectGives old.tc (Ok (record { request = asks.Connect (length old.tc.log + 1); committed = committed })) new.tc
+    × Sends old new.tc (asks.Connect (length old.tc.log + 1)) i new
+ReconnectsTo old (out.Refused r) new = Calls (ReconnectGives old.tc (Err r)) old new
 ReconnectsTo old _ new = ⊥
 
 abbrev pub RecoversTo : NodeView → Out → NodeView → Type 0
-RecoversTo old out.Nothing new = (old.tc.phase ≡ phase.Running) × (new ≡ old)
-RecoversTo old (out.Sent i) new = (request : Request) × Recovers old.tc (recovery.Sends request) new.tc × Sends old new.tc request i new
-RecoversTo old (out.Refused r) new = RefusesAs (recover_refusal old.tc) r × (new ≡ old)
+RecoversTo old out.Nothing new = Calls (RecoverGives old.tc (Ok recovery.Nothing)) old new
+RecoversTo old (out.Sent i) new = (request : Request) × RecoverGives old.tc (Ok (recovery.Sends request)) new.tc × Sends old new.tc request i new
+RecoversTo old (out.Refused r) new = LacksRoom (recover_refusal old.tc) (is_recovering old.tc.phase) r × (new ≡ old)
 RecoversTo old _ new = ⊥
 
 abbrev pub BeginsTo : NodeView → Out → NodeView → Type 0
-BeginsTo old (out.Begun t) new = (begin_refusal old.tc ≡ None) × (t ≡ length old.tc.log + 1) × (new ≡ with_tc old (begun old.tc))
-BeginsTo old (out.Refused r) new = RefusesAs (begin_refusal old.tc) r × (new ≡ old)
+BeginsTo old (out.Begun t) new = Calls (BeginGives old.tc (Ok t)) old new
+BeginsTo old (out.Refused r) new = Calls (BeginGives old.tc (Err r)) old new
 BeginsTo old _ new = ⊥
 
 abbrev pub ActsTo : NodeView → ℕ → Op → Out → NodeView → Type 0
-ActsTo old t op (out.Logged n) new = Acts old.tc t op n new.tc × (new ≡ with_tc old new.tc)
-ActsTo old t op (out.Refused r) new = RefusesAct old.tc t op r × (new ≡ old)
+ActsTo old t op (out.Logged n) new = Calls (ActGives old.tc t op (Ok n)) old new
+ActsTo old t op (out.Refused r) new = Calls (ActGives old.tc t op (Err r)) old new
 ActsTo old t op _ new = ⊥
 
-abbrev pub AsksTo : NodeView → ℕ → Span → Out → NodeView → Type 0
-AsksTo old t span (out.Asked n) new = Asks old.tc t span n new.tc × (new ≡ with_tc old new.tc)
-AsksTo old t span (out.Refused r) new = RefusesRead old.tc t (shared span) r × (new ≡ old)
-AsksTo old t span _ new = ⊥
+abbrev pub ReadsTo : NodeView → ℕ → Span → Out → NodeView → Type 0
+ReadsTo old t span (out.Asked n) new = Calls (ReadGives old.tc t span (Ok n)) old new
+ReadsTo old t span (out.Refused r) new = Calls (ReadGives old.tc t span (Err r)) old new
+ReadsTo old t span _ new = ⊥
+
+abbrev pub SavesTo : NodeView → ℕ → Out → NodeView → Type 0
+SavesTo old t (out.Saved s) new = Calls (SaveGives old.tc t (Ok s)) old new
+SavesTo old t (out.Refused r) new = Calls (SaveGives old.tc t (Err r)) old new
+SavesTo old t _ new = ⊥
+
+abbrev pub GoesBackTo : NodeView → ℕ → ℕ → Out → NodeView → Type 0
+GoesBackTo old t s out.RollingBack new = Calls (BackGives old.tc t s (Ok tt)) old new
+GoesBackTo old t s (out.Refused r) new = Calls (BackGives old.tc t s (Err r)) old new
+GoesBackTo old t s _ new = ⊥
 
 abbrev pub RollsBackTo : NodeView → ℕ → Out → NodeView → Type 0
-RollsBackTo old t out.RollingBack new = RollsBack old.tc t new.tc × (new ≡ with_tc old new.tc)
-RollsBackTo old t (out.Refused r) new = (rollback_refusal old.tc t ≡ Some r) × (new ≡ old)
+RollsBackTo old t out.RollingBack new = Calls (RollbackGives old.tc t (Ok tt)) old new
+RollsBackTo old t (out.Refused r) new = Calls (RollbackGives old.tc t (Err r)) old new
 RollsBackTo old t _ new = ⊥
 
+abbrev pub CommitsTo : NodeView → ℕ → Out → NodeView → Type 0
+CommitsTo old t (out.CommitLogged n) new = Calls (CommitGives old.tc t (Ok n)) old new
+CommitsTo old t (out.Refused r) new = Calls (CommitGives old.tc t (Err r)) old new
+CommitsTo old t _ new = ⊥
+
 abbrev pub UndoesTo : NodeView → ℕ → Out → NodeView → Type 0
-UndoesTo old t out.Nothing new = UndoesStep old.tc t undo.Idle new.tc × (new ≡ with_tc old new.tc)
-UndoesTo old t (out.Compensated n) new = UndoesStep old.tc t (undo.Compensated n) new.tc × (new ≡ with_tc old new.tc)
-UndoesTo old t (out.RolledBack u) new = UndoesStep old.tc t (undo.RolledBack u) new.tc × (new ≡ with_tc old new.tc)
-UndoesTo old t (out.Refused r) new = RefusesAs (undo_refusal old.tc t) r × (new ≡ old)
+UndoesTo old t out.Nothing new = Calls (UndoGives old.tc t (Ok undo.Idle)) old new
+UndoesTo old t (out.Compensated n) new = Calls (UndoGives old.tc t (Ok (undo.Compensated n))) old new
+UndoesTo old t (out.RolledBack u) new = Calls (UndoGives old.tc t (Ok (undo.RolledBack u))) old new
+UndoesTo old t (out.Back u s) new = Calls (UndoGives old.tc t (Ok (undo.Back u s))) old new
+UndoesTo old t (out.Refused r) new = Calls (UndoGives old.tc t (Err r)) old new
 UndoesTo old t _ new = ⊥
 
 abbrev pub ForcesTo : NodeView → Out → NodeView → Type 0
-ForcesTo old (out.Stable n) new = (n ≡ length old.tc.log) × (new ≡ with_tc old (forced old.tc))
+ForcesTo old (out.Stable end committed) new = Calls (ForceGives old.tc (Ok (record { end = end; committed = committed }))) old new
+ForcesTo old (out.Refused r) new = Calls (ForceGives old.tc (Err r)) old new
 ForcesTo old _ new = ⊥
 
 abbrev pub SendsTo : NodeView → ℕ → Out → NodeView → Type 0
-SendsTo old t (out.Sent i) new = (request : Request) × IsRequestOf old.tc t request × Sends old old.tc request i new
+SendsTo old t (out.Sent i) new = (request : Request) × ResendGives old.tc t (Ok request) × Sends old old.tc request i new
 SendsTo old t (out.Refused r) new = RefusesAs (resend_refusal old.tc t) r × (new ≡ old)
 SendsTo old t _ new = ⊥
 
 abbrev pub LowersTo : NodeView → ℕ → Out → NodeView → Type 0
-LowersTo old l (out.Sent i) new = Announces old.tc l × Sends old old.tc (asks.LowWater old.tc.session l) i new
-LowersTo old l (out.Refused r) new = (RefusesLow old.tc l r ⊎ (Announces old.tc l × (r ≡ NoMemory))) × (new ≡ old)
+LowersTo old l (out.Sent i) new =
+    LowWaterGives old.tc l (Ok (asks.LowWater old.tc.session l)) × Sends old old.tc (asks.LowWater old.tc.session l) i new
+LowersTo old l (out.Refused r) new =
+    (LowWaterGives old.tc l (Err r) ⊎ (LowWaterGives old.tc l (Ok (asks.LowWater old.tc.session l)) × (r ≡ NoMemory))) × (new ≡ old)
 LowersTo old l _ new = ⊥
 
 -- there is no message of this number
@@ -121,12 +150,18 @@ pub record Served (old : NodeView) (i : ℕ) (reply : Option Reply) (dc : DcView
   pub allowed : serve_refusal old.dc request ≡ None
   pub served : Serves old.dc request reply dc
 
+-- it is refused; only one that is replied to wants memory
+pub record Unserved (old : NodeView) (i : ℕ) (r : Refusal) : Type 0 where
+  pub request : Request
+  pub found : message_at old.requests i ≡ Some request
+  pub refused : LacksRoom (serve_refusal old.dc request) (is_replied_to request) r
+
 abbrev pub ServesTo : NodeView → ℕ → Out → NodeView → Type 0
 ServesTo old i (out.Replied j) new =
-    (reply : Reply) × Served old i (Some reply) new.dc × (j ≡ length old.replies + 1) × (new ≡ record old { dc = new.dc; replies = old.replies ++ reply ∷ [] })
+    (reply : Reply) × Served old i (Some reply) new.dc × (j ≡ length old.replies + 1)
+    × (new ≡ record old { dc = new.dc; replies = old.replies ++ reply ∷ [] })
 ServesTo old i out.Noted new = Served old i None new.dc × (new ≡ record old { dc = new.dc })
-ServesTo old i (out.Refused r) new =
-    (IsUnsent old.requests i r ⊎ ((request : Request) × (message_at old.requests i ≡ Some request) × RefusesAs (serve_refusal old.dc request) r)) × (new ≡ old)
+ServesTo old i (out.Refused r) new = (IsUnsent old.requests i r ⊎ Unserved old i r) × (new ≡ old)
 ServesTo old i _ new = ⊥
 
 abbrev pub as_out : Told → Out
@@ -143,44 +178,19 @@ pub record Taken (old : NodeView) (i : ℕ) (output : Out) (new : NodeView) : Ty
   pub reply : Reply
   pub what : Told
   pub found : message_at old.replies i ≡ Some reply
-  pub allowed : reply_refusal old.tc reply ≡ None
   pub output_is : output ≡ as_out what
-  pub taken : TakesReply old.tc reply what new.tc
+  pub taken : ReplyGives old.tc reply (Ok what) new.tc
+  pub left : new ≡ with_tc old new.tc
+
+pub record Untaken (old : NodeView) (i : ℕ) (r : Refusal) (new : NodeView) : Type 0 where
+  pub reply : Reply
+  pub found : message_at old.replies i ≡ Some reply
+  pub refused : ReplyGives old.tc reply (Err r) new.tc
   pub left : new ≡ with_tc old new.tc
 
 abbrev pub TakesTo : NodeView → ℕ → Out → NodeView → Type 0
-TakesTo old i (out.Refused r) new =
-    (IsUnsent old.replies i r ⊎ ((reply : Reply) × (message_at old.replies i ≡ Some reply) × RefusesAs (reply_refusal old.tc reply) r)) × (new ≡ old)
+TakesTo old i (out.Refused r) new = (IsUnsent old.replies i r × (new ≡ old)) ⊎ Untaken old i r new
 TakesTo old i output new = Taken old i output new
-
--- a message is served with a reply, or a reply is logged or handed on
-abbrev pub adds_reply : Option Request → Bool
-adds_reply None = false
-adds_reply (Some request) = is_replied_to request
-
-abbrev pub adds_record : TcView → Option Reply → Bool
-adds_record w None = false
-adds_record w (Some reply) = takes w reply
-
--- only an event that adds a record or a message takes memory
-abbrev pub takes_memory : NodeView → Event → Bool
-takes_memory w event.Reconnect = true
-takes_memory w event.Recover = is_recovering w.tc.phase
-takes_memory w event.Begin = true
-takes_memory w (event.Act t op) = true
-takes_memory w (event.Get t k) = true
-takes_memory w (event.Scan t low high) = true
-takes_memory w (event.Rollback t) = false
-takes_memory w (event.Undo t) = is_rolling (find t w.tc.open_txns)
-takes_memory w event.Force = false
-takes_memory w (event.Send t) = true
-takes_memory w (event.LowWater l) = true
-takes_memory w (event.Request i) = adds_reply (message_at w.requests i)
-takes_memory w (event.Reply i) = adds_record w.tc (message_at w.replies i)
-
-abbrev pub IsRefused : Out → Refusal → Type 0
-IsRefused (out.Refused r) s = r ≡ s
-IsRefused _ s = ⊥
 
 -- from old, the event may have this output and leave new
 abbrev pub StepsTo : NodeView → Event → Out → NodeView → Type 0
@@ -188,12 +198,21 @@ StepsTo old event.Reconnect output new = ReconnectsTo old output new
 StepsTo old event.Recover output new = RecoversTo old output new
 StepsTo old event.Begin output new = BeginsTo old output new
 StepsTo old (event.Act t op) output new = ActsTo old t op output new
-StepsTo old (event.Get t k) output new = AsksTo old t (Key k) output new
-StepsTo old (event.Scan t low high) output new = AsksTo old t (Range low high) output new
+StepsTo old (event.Get t k) output new = ReadsTo old t (Key k) output new
+StepsTo old (event.Scan t low high) output new = ReadsTo old t (Range low high) output new
+StepsTo old (event.Save t) output new = SavesTo old t output new
+StepsTo old (event.GoBack t s) output new = GoesBackTo old t s output new
 StepsTo old (event.Rollback t) output new = RollsBackTo old t output new
+StepsTo old (event.Commit t) output new = CommitsTo old t output new
 StepsTo old (event.Undo t) output new = UndoesTo old t output new
 StepsTo old event.Force output new = ForcesTo old output new
 StepsTo old (event.Send t) output new = SendsTo old t output new
 StepsTo old (event.LowWater l) output new = LowersTo old l output new
 StepsTo old (event.Request i) output new = ServesTo old i output new
 StepsTo old (event.Reply i) output new = TakesTo old i output new
+
+-- events with their outputs, one after another
+abbrev pub Chain : NodeView → List Event → List Out → NodeView → Type 0
+Chain w [] [] new = new ≡ w
+Chain w (e ∷ es) (o ∷ os) new = (mid : NodeView) × StepsTo w e o mid × Chain mid es os new
+Chain w _ _ new = ⊥

@@ -1,13 +1,13 @@
 -- The rounds of settling.
 use Rattle.std.specs.Prelude.{◌≡◌, ◌≢◌, ◌⊎◌, ℕ, ◌+◌, ◌-◌, ◌<◌, ◌≤◌, Bool, true, false, List, [], ◌∷◌, ◌++◌, Option, Some, None, Result, Ok, Err, length, nat_lt, if◌then◌else◌}
 use Rattle.record_key.specs.declared.refusal.Refusal.{Refusal}
-use Rattle.record_key.specs.declared.refusal.Refusal.TheVariants.{NoMemory, NumbersSpent}
+use Rattle.record_key.specs.declared.refusal.Refusal.TheVariants.{NoMemory, NumbersSpent, Device}
 use Rattle.tc_core.specs.declared.open_txn.OpenTxn.{OpenTxn}
 use Rattle.tc_core.specs.declared.open_txn.Read.{Read}
 use Rattle.tc_core.specs.declared.phase.Phase.{Phase}
 use Rattle.tc_core.specs.declared.phase.Phase.TheVariants as phase
 use Rattle.tc_core.specs.OpenTxns.{find}
-use Rattle.tc_core.specs.TcView.{TcView, is_waiting}
+use Rattle.tc_core.specs.TcView.{TcView, is_waiting, is_rolling, rolls_back}
 use Rattle.world.specs.declared.event.Event.{Event}
 use Rattle.world.specs.declared.event.Event.TheVariants as event
 use Rattle.world.specs.declared.event.Out.{Out}
@@ -15,7 +15,7 @@ use Rattle.world.specs.declared.event.Out.TheVariants as out
 use Rattle.world.specs.declared.round.Round.{Round}
 use Rattle.world.specs.declared.round.Round.TheVariants as round
 use Rattle.world.specs.Node.{NodeView, StepsTo}
-use Rattle.world.specs.Simulation.{IsSettled, AreUnrolled, rolls}
+use Rattle.world.specs.Simulation.{IsSettled, AreUnrolled}
 use Rattle.world.specs.Bound.{most_rounds}
 
 -- nobody waits for anything
@@ -33,7 +33,7 @@ abbrev pub IsApart : NodeView → Type 0
 IsApart w = (w.tc.phase ≡ phase.Unconnected) ⊎ (w.tc.phase ≡ phase.Connecting) ⊎ (w.dc.session ≢ w.tc.session)
 
 abbrev pub IsRedoing : Phase → Type 0
-IsRedoing (phase.Redoing next) = Unit {0}
+IsRedoing (phase.Redoing next ending) = Unit {0}
 IsRedoing _ = ⊥
 
 pub record IsServing (w : NodeView) : Type 0 where
@@ -59,9 +59,9 @@ pub record IsReader (w : TcView) (t : ℕ) : Type 0 where
 pub record IsRolling (w : TcView) (t : ℕ) : Type 0 where
   pub open_txn : OpenTxn
   pub is : find t w.open_txns ≡ Some open_txn
-  pub rolling : open_txn.rolling ≡ true
+  pub rolling : rolls_back open_txn ≡ true
   pub idle : AreIdle w.open_txns
-  pub least : (u : ℕ) → rolls w.open_txns u ≡ true → t ≤ u
+  pub least : (u : ℕ) → is_rolling (find u w.open_txns) ≡ true → t ≤ u
 
 -- the log is to be forced: for the request that is waited for, or since nothing else is left to do
 abbrev pub IsForced : TcView → Type 0
@@ -103,10 +103,10 @@ IsDone (out.Refused r) = ⊥
 IsDone _ = Unit {0}
 
 -- events with their outputs, one after another, none refused
-abbrev pub Steps : NodeView → List Event → List Out → NodeView → Type 0
-Steps w [] [] new = new ≡ w
-Steps w (e ∷ es) (o ∷ os) new = (mid : NodeView) × StepsTo w e o mid × IsDone o × Steps mid es os new
-Steps w _ _ new = ⊥
+abbrev pub Plays : NodeView → List Event → List Out → NodeView → Type 0
+Plays w [] [] new = new ≡ w
+Plays w (e ∷ es) (o ∷ os) new = (mid : NodeView) × StepsTo w e o mid × IsDone o × Plays mid es os new
+Plays w _ _ new = ⊥
 
 -- the same, until room for an output or an event is refused
 abbrev pub StopsAt : NodeView → List Event → List Out → Refusal → NodeView → Type 0
@@ -115,10 +115,10 @@ StopsAt w (e ∷ es) (o ∷ os) r new = (mid : NodeView) × StepsTo w e o mid ×
 StopsAt w _ _ r new = ⊥
 
 -- the events were done, and their outputs stand after those before
-pub record Done (old : NodeView) (events : List Event) (before after : List Out) (new : NodeView) : Type 0 where
+pub record Performed (old : NodeView) (events : List Event) (before after : List Out) (new : NodeView) : Type 0 where
   pub outs : List Out
   pub appended : after ≡ before ++ outs
-  pub steps : Steps old events outs new
+  pub steps : Plays old events outs new
 
 pub record Stopped (old : NodeView) (events : List Event) (before after : List Out) (r : Refusal) (new : NodeView) : Type 0 where
   pub outs : List Out
@@ -126,25 +126,25 @@ pub record Stopped (old : NodeView) (events : List Event) (before after : List O
   pub stops : StopsAt old events outs r new
 
 abbrev pub Does : NodeView → List Event → List Out → List Out → Result (Unit {0}) Refusal → NodeView → Type 0
-Does old events before after (Ok u) new = Done old events before after new
+Does old events before after (Ok u) new = Performed old events before after new
 Does old events before after (Err r) new = Stopped old events before after r new
 
 -- the event sends a request, and the request is replied to
-pub record Asks (w : NodeView) (e : Event) : Type 0 where
+pub record IsExchange (w : NodeView) (e : Event) : Type 0 where
   pub sent : (o : Out) (mid : NodeView) → StepsTo w e o mid → IsDone o → length mid.requests ≡ length w.requests + 1
   pub replied : (o p : Out) (mid after : NodeView) → StepsTo w e o mid → IsDone o → StepsTo mid (event.Request (length w.requests + 1)) p after → IsDone p
       → length after.replies ≡ length w.replies + 1
 
--- only want of memory or of numbers stops a round
+-- only want of memory or of numbers, or a device that failed, stops a round
 abbrev pub IsWant : Refusal → Type 0
-IsWant r = (r ≡ NoMemory) ⊎ (r ≡ NumbersSpent)
+IsWant r = (r ≡ NoMemory) ⊎ (r ≡ NumbersSpent) ⊎ (r ≡ Device)
 
 -- rounds that may follow one another so
 abbrev pub Rounds : NodeView → List Round → List Out → NodeView → Type 0
 Rounds w [] outs new = (outs ≡ []) × (new ≡ w)
 Rounds w (r ∷ rs) outs new =
     (mid : NodeView) × (first : List Out) × (rest : List Out) × (outs ≡ first ++ rest)
-    × IsNext w r × Steps w (events_of w r) first mid × Rounds mid rs rest new
+    × IsNext w r × Plays w (events_of w r) first mid × Rounds mid rs rest new
 
 -- these rounds were played
 pub record Played (old : NodeView) (before after : List Out) (last : NodeView) : Type 0 where
@@ -175,7 +175,8 @@ Settles old most before after (Ok true) new =
     (p : Played old before after new) × IsAllowed most (length p.rounds) × (length p.rounds ≤ most_rounds old.tc.log) × IsAtRest new
 Settles old most before after (Ok false) new =
     (p : Played old before after new) × (most ≡ Some (length p.rounds)) × (length p.rounds < most_rounds old.tc.log) × ((r : Round) × IsNext new r)
-Settles old most before after (Err r) new = (b : Broken old before after r new) × IsAllowed most (length b.rounds.rounds + 1)
+Settles old most before after (Err r) new =
+    (b : Broken old before after r new) × IsAllowed most (length b.rounds.rounds + 1) × (length b.rounds.rounds < most_rounds old.tc.log)
 
 -- one round less is left to play
 abbrev pub fewer : Option ℕ → Option ℕ

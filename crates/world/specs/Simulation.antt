@@ -1,23 +1,19 @@
--- The list machine that a node stands for, and runs of events.
-use Rattle.std.specs.Prelude.{◌≡◌, ℕ, ◌+◌, ◌≤◌, ◌==◌, Bool, false, List, [], ◌∷◌, Option, Some, None, IsSome, length, map, if◌then◌else◌}
+-- The list machines that a node stands for, and runs of events.
+use Rattle.std.specs.Prelude.{◌≡◌, ℕ, ◌≤◌, false, List, [], ◌∷◌, ◌++◌, Option, Some, None, IsSome, map}
 use Rattle.record_key.specs.declared.op.Op.{Op}
-use Rattle.record_key.specs.Table.{key_of}
-use Rattle.history.specs.declared.record.Record.{Record}
-use Rattle.history.specs.declared.record.Record.TheVariants as is
-use Rattle.record_key.specs.declared.refusal.Refusal.{Refusal}
-use Rattle.record_key.specs.declared.refusal.Refusal.TheVariants.{Busy}
-use Rattle.history.specs.History.{Entry}
-use Rattle.history.specs.Spans.{Exclusive, at_key}
-use Rattle.history.specs.Spans as law
+use Rattle.record_key.specs.Table.{Bytes}
+use Rattle.history.specs.ListMachine.{Machine, Line, Query, OfKey, OfRange, Begins, Acts, TellsAnswer, Reads, TellsRow, TellsRows, Saves, GoesBack, TellsBack, RollsBack, TellsRolledBack, Commits, TellsCommitted, IsRefused, ToBegin, ToAct, ToRead, ToSave, ToGoBack, ToRollBack, ToCommit, Steps}
+use Rattle.history.specs.Log.{answer_of, Requests}
+use Rattle.simulation.specs.View.{View, Doing, Ready, Awaits, Looks, Rolls, StandsFor}
+use Rattle.range_locks.specs.declared.span.Span.{Span}
 use Rattle.range_locks.specs.declared.span.Span.TheVariants.{Key, Range}
-use Rattle.range_locks.specs.Locks.{LocksView, spans_of}
-use Rattle.history.specs.Log.{record_at, op_in, answer_of, Requests, hist}
-use Rattle.history.specs.ListMachine.{Machine, Txn, Status, Open, Waiting, Reading, Rolling, Gone, Line, Begins, Acts, TellsAnswer, Reads, TellsRow, TellsRows, RollsBack, TellsRolledBack, IsBusy, IsRefused, Steps, fallen}
+use Rattle.range_locks.specs.Locks.{spans_of}
 use Rattle.tc_core.specs.declared.open_txn.OpenTxn.{OpenTxn}
 use Rattle.tc_core.specs.declared.open_txn.Read.{Read}
+use Rattle.tc_core.specs.declared.open_txn.Rollback.{Rollback}
 use Rattle.tc_core.specs.declared.phase.Phase.TheVariants as phase
 use Rattle.tc_core.specs.OpenTxns.{find}
-use Rattle.tc_core.specs.Calls.{shared}
+use Rattle.tc_core.specs.Causes.{saves_of}
 use Rattle.tc_core.specs.TcView.{TcView, is_rolling}
 use Rattle.world.specs.Node.{NodeView}
 use Rattle.world.specs.declared.event.Event.{Event}
@@ -25,82 +21,77 @@ use Rattle.world.specs.declared.event.Event.TheVariants as event
 use Rattle.world.specs.declared.event.Out.{Out}
 use Rattle.world.specs.declared.event.Out.TheVariants as out
 
--- the transaction's latest operation in the log
-abbrev pub last_of : List Record → ℕ → Option (ℕ × Op)
-last_of [] t = None
-last_of (is.Op txn prev op ∷ log) t = if t == txn then Some (length log + 1, op) else last_of log t
-last_of (r ∷ log) t = last_of log t
+-- what a read asks for
+abbrev pub query_of : Span → Query
+query_of (Key k) = OfKey k
+query_of (Range low high) = OfRange low high
 
--- what it waits for, by the record of that number
-abbrev pub waiting_for : ℕ → Option (ℕ × Op) → Status
-waiting_for n None = Open
-waiting_for n (Some by) = Waiting n by.1
+-- what an open transaction does
+abbrev pub rolling_as : Option Rollback → Doing → Doing
+rolling_as (Some r) other = Rolls r.savepoint r.above
+rolling_as None other = other
 
-abbrev pub status_waiting : List Record → Option ℕ → Status
-status_waiting log None = Open
-status_waiting log (Some n) = waiting_for n (op_in (record_at log n))
+abbrev pub reading_as : Option Read → Doing → Doing
+reading_as (Some r) other = Looks (query_of r.span)
+reading_as None other = other
 
--- or by its read
-abbrev pub status_reading : Option Read → Status → Status
-status_reading None other = other
-status_reading (Some r) other = Reading (shared r.span)
+abbrev pub waiting_as : Option ℕ → Doing
+waiting_as (Some n) = Awaits n
+waiting_as None = Ready
 
-abbrev pub status_open : List Record → OpenTxn → Status
-status_open log o = if o.rolling then Rolling None else status_reading o.reading (status_waiting log o.waiting)
+abbrev pub doing_of : OpenTxn → Doing
+doing_of o = rolling_as o.rolling (reading_as o.reading (waiting_as o.waiting))
 
-abbrev pub open_as : List Record → LocksView → OpenTxn → Txn
-open_as log locks o = record { status = status_open log o; saves = []; last = last_of log o.txn; spans = spans_of locks o.txn }
+abbrev pub doing_in : Option OpenTxn → Option Doing
+doing_in None = None
+doing_in (Some o) = Some (doing_of o)
 
-abbrev pub gone_as : List Record → ℕ → Txn
-gone_as log t = record { status = Gone; saves = []; last = last_of log t; spans = [] }
+-- what clients see of the transaction component; nobody loses, since it doesn't crash yet
+abbrev pub clients : TcView → View
+clients w = record {
+  log = w.log;
+  stable = w.stable;
+  loses = λ t. false;
+  doing = λ t. doing_in (find t w.open_txns);
+  saves = λ t. saves_of (find t w.open_txns);
+  spans = λ t. spans_of w.locks t;
+}
 
--- a number's transaction, where it is open
-abbrev pub txn_by : List Record → LocksView → ℕ → Option OpenTxn → Txn
-txn_by log locks t None = gone_as log t
-txn_by log locks t (Some o) = open_as log locks o
+-- the node stands for a list machine: a relation, since the machine has a past that the log needn't keep
+abbrev pub Stands : NodeView → Machine → Type 0
+Stands w m = StandsFor (clients w.tc) m
 
-abbrev pub txn_as : List Record → List OpenTxn → LocksView → ℕ → Txn
-txn_as log os locks t = txn_by log locks t (find t os)
-
--- a transaction that is being rolled back has all of its entries crossed
-abbrev pub rolls : List OpenTxn → ℕ → Bool
-rolls os t = is_rolling (find t os)
-
-abbrev pub history_as : List Record → List OpenTxn → List Entry
-history_as log os = map (fallen (rolls os)) (hist log)
-
--- a log with its open transactions and what they hold stands for this; messages and leaves have no part in it
-abbrev pub machine_in : List Record → List OpenTxn → LocksView → Machine
-machine_in log os locks = record { h = history_as log os; txns = λ t. txn_as log os locks t }
-
-abbrev pub machine_of : TcView → Machine
-machine_of w = machine_in w.log w.open_txns w.locks
-
-abbrev pub machine : NodeView → Machine
-machine w = machine_of w.tc
-
--- the line of a call for this span that is refused: who holds it is told, any other cause is seen in the
--- transaction itself
-abbrev pub refused_line : ℕ → law.Span → Refusal → Line
-refused_line t s (Busy u) = IsBusy t s u
-refused_line t s r = IsRefused t r
+-- who has committed is told so, in this order
+abbrev pub told_committed : List ℕ → List Line
+told_committed ts = map TellsCommitted ts
 
 -- the client's call and the told lines of an event with its output, if it may have that output
 abbrev pub lines_of : Event → Out → Option (List Line)
 lines_of event.Begin (out.Begun t) = Some (Begins t ∷ [])
-lines_of event.Begin (out.Refused r) = Some []
+lines_of event.Begin (out.Refused r) = Some (IsRefused ToBegin r ∷ [])
 lines_of (event.Act t op) (out.Logged n) = Some (Acts t op n ∷ [])
-lines_of (event.Act t op) (out.Refused r) = Some (refused_line t (at_key Exclusive (key_of op)) r ∷ [])
-lines_of (event.Get t k) (out.Asked n) = Some (Reads t (shared (Key k)) ∷ [])
-lines_of (event.Get t k) (out.Refused r) = Some (refused_line t (shared (Key k)) r ∷ [])
-lines_of (event.Scan t low high) (out.Asked n) = Some (Reads t (shared (Range low high)) ∷ [])
-lines_of (event.Scan t low high) (out.Refused r) = Some (refused_line t (shared (Range low high)) r ∷ [])
+lines_of (event.Act t op) (out.Refused r) = Some (IsRefused (ToAct t op) r ∷ [])
+lines_of (event.Get t k) (out.Asked n) = Some (Reads t (OfKey k) ∷ [])
+lines_of (event.Get t k) (out.Refused r) = Some (IsRefused (ToRead t (OfKey k)) r ∷ [])
+lines_of (event.Scan t low high) (out.Asked n) = Some (Reads t (OfRange low high) ∷ [])
+lines_of (event.Scan t low high) (out.Refused r) = Some (IsRefused (ToRead t (OfRange low high)) r ∷ [])
+lines_of (event.Save t) (out.Saved s) = Some (Saves t s ∷ [])
+lines_of (event.Save t) (out.Refused r) = Some (IsRefused (ToSave t) r ∷ [])
+lines_of (event.GoBack t s) out.RollingBack = Some (GoesBack t s ∷ [])
+lines_of (event.GoBack t s) (out.Refused r) = Some (IsRefused (ToGoBack t s) r ∷ [])
 lines_of (event.Rollback t) out.RollingBack = Some (RollsBack t ∷ [])
-lines_of (event.Rollback t) (out.Refused r) = Some (IsRefused t r ∷ [])
+lines_of (event.Rollback t) (out.Refused r) = Some (IsRefused (ToRollBack t) r ∷ [])
+lines_of (event.Commit t) (out.CommitLogged n) = Some (Commits t ∷ [])
+lines_of (event.Commit t) (out.Refused r) = Some (IsRefused (ToCommit t) r ∷ [])
 lines_of (event.Undo t) out.Nothing = Some []
 lines_of (event.Undo t) (out.Compensated n) = Some []
 lines_of (event.Undo t) (out.RolledBack u) = Some (TellsRolledBack u ∷ [])
+lines_of (event.Undo t) (out.Back u s) = Some (TellsBack u s ∷ [])
 lines_of (event.Undo t) (out.Refused r) = Some []
+lines_of event.Force (out.Stable n committed) = Some (told_committed committed)
+lines_of event.Force (out.Refused r) = Some []
+lines_of event.Reconnect (out.Connects i committed) = Some (told_committed committed)
+lines_of event.Reconnect (out.Refused r) = Some []
 lines_of (event.Reply i) (out.Answered u a) = Some (TellsAnswer u a ∷ [])
 lines_of (event.Reply i) (out.Row u v) = Some (TellsRow u v ∷ [])
 lines_of (event.Reply i) (out.Rows u rows) = Some (TellsRows u rows ∷ [])
@@ -116,12 +107,9 @@ lines_of (event.Send t) (out.Sent i) = Some []
 lines_of (event.Send t) (out.Refused r) = Some []
 lines_of (event.LowWater l) (out.Sent i) = Some []
 lines_of (event.LowWater l) (out.Refused r) = Some []
-lines_of event.Reconnect (out.Sent i) = Some []
-lines_of event.Reconnect (out.Refused r) = Some []
 lines_of event.Recover (out.Sent i) = Some []
 lines_of event.Recover out.Nothing = Some []
 lines_of event.Recover (out.Refused r) = Some []
-lines_of event.Force (out.Stable n) = Some []
 lines_of _ _ = None
 
 abbrev pub StepsIf : Machine → Option (List Line) → Machine → Type 0
@@ -139,9 +127,16 @@ Run m (e ∷ es) (o ∷ os) n = (mid : Machine) × Happens m e o mid × Run mid 
 Run m [] (o ∷ os) n = ⊥
 Run m (e ∷ es) [] n = ⊥
 
+-- whatever machine the node stood for, the event with its output leads from it to one that it stands for then
+abbrev pub Leads : NodeView → Event → Out → NodeView → Type 0
+Leads old e o new = (m : Machine) → Stands old m → (n : Machine) × Happens m e o n × Stands new n
+
+abbrev pub LeadsAll : NodeView → List Event → List Out → NodeView → Type 0
+LeadsAll old es os new = (m : Machine) → Stands old m → (n : Machine) × Run m es os n × Stands new n
+
 -- nobody is being rolled back
 abbrev pub AreUnrolled : List OpenTxn → Type 0
-AreUnrolled os = (t : ℕ) → rolls os t ≡ false
+AreUnrolled os = (t : ℕ) → is_rolling (find t os) ≡ false
 
 -- both components run in one session, nobody is being rolled back, and every stable request is answered
 pub record IsSettled (w : NodeView) : Type 0 where

@@ -1,19 +1,23 @@
 //! Whole lists of events: the headline.
 ghost use Rattle.std.specs.Prelude.{◌≡◌, IfOk, OnErr, IsOkUnless};
 ghost use Rattle.history.specs.History.{plain};
-ghost use Rattle.world.specs.Simulation.{machine, Run, IsSettled};
+ghost use Rattle.history.specs.ListMachine.{Machine};
+ghost use Rattle.world.specs.Node.{Chain};
+ghost use Rattle.world.specs.Simulation.{LeadsAll, Stands, IsSettled};
 
 use crate::event::{Event, Out};
 use crate::world::World;
 use record_key::Refusal;
 use std::alloc::Global;
 
-/// Does the events in order. They are with their outputs a run of the list machine: each client's answer is
-/// that of one list of operations with the rolled-back ones crossed out. Where the node is settled then, its
-/// records are what a plain map holds after the operations that stand. Refused NoMemory before any event.
+/// Does the events in order. Each is a step of the components' contracts, and whatever list machine the node stood
+/// for, the events with their outputs lead from there to one that it stands for then: each client's answer is that of
+/// one list of operations with the rolled-back ones crossed out. Where the node is settled then, its records are what a
+/// plain map holds after the operations that stand. Refused NoMemory before any event.
 pub fn drive(alloc: Global, world: &mut World, events: &[Event]) -> Result<Vec<Out>, Refusal>
-    ensures run { IfOk result (λ outs. Run (machine world.old) events.now outs.items (machine world.new)) }
-    ensures rows { IsSettled world.new → world.new.dc.leaf.rows ≡ plain (machine world.new).h }
+    ensures chain { IfOk result (λ outs. Chain world.old events.now outs.items world.new) }
+    ensures run { IfOk result (λ outs. LeadsAll world.old events.now outs.items world.new) }
+    ensures rows { (m : Machine) → Stands world.new m → IsSettled world.new → world.new.dc.leaf.rows ≡ plain m.h }
     ensures refused { OnErr result (world.new ≡ world.old) }
     ensures memory { IsOkUnless result Refusal.NoMemory }
 {

@@ -1,6 +1,7 @@
 //! What may happen to a node, and what comes of it.
 use codec::Rows;
 use record_key::{Answer, Key, Op, Refusal, Value};
+use tc_core::Committed;
 
 /// One atomic step: a call of one of the components, or the delivery of a message that was sent before.
 #[derive(Debug, PartialEq, Eq, Drop)]
@@ -25,7 +26,19 @@ pub enum Event {
         low: Key,
         high: Option<Key>,
     },
+    /// A savepoint is set.
+    Save {
+        txn: u64,
+    },
+    /// The transaction is rolled back to the savepoint.
+    GoBack {
+        txn: u64,
+        savepoint: u64,
+    },
     Rollback {
+        txn: u64,
+    },
+    Commit {
         txn: u64,
     },
     /// One step of a rollback.
@@ -57,11 +70,19 @@ pub enum Event {
 pub enum Out {
     Begun(u64),
     Logged(u64),
+    Saved(u64),
     RollingBack,
+    /// The Commit record has this number; the client is told later, when it is stable.
+    CommitLogged(u64),
     Nothing,
     Compensated(u64),
     RolledBack(u64),
-    Stable(u64),
+    /// The transaction is back at its savepoint.
+    Back { txn: u64, savepoint: u64 },
+    /// The log is stable up to `end`, and these have committed.
+    Stable { end: u64, committed: Committed },
+    /// A session was started: its Connect was sent under this number, and these have committed.
+    Connects { request: u64, committed: Committed },
     /// A request was sent under this number.
     Sent(u64),
     /// A reply was given under this number.

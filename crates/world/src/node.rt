@@ -1,6 +1,6 @@
 //! The two components, and the messages between them.
 ghost use Rattle.std.specs.Prelude.{◌≡◌, true};
-ghost use Rattle.world.specs.Node.{fresh_node, StepsTo, out_of, ReconnectsTo, RecoversTo, BeginsTo, ActsTo, AsksTo, RollsBackTo, UndoesTo, SendsTo, LowersTo, ServesTo, TakesTo, as_out, is_replied_to, takes_memory, IsRefused};
+ghost use Rattle.world.specs.Node.{fresh_node, StepsTo, out_of, ReconnectsTo, RecoversTo, BeginsTo, ActsTo, ReadsTo, SavesTo, GoesBackTo, RollsBackTo, CommitsTo, UndoesTo, ForcesTo, SendsTo, LowersTo, ServesTo, TakesTo, as_out, is_replied_to};
 ghost use Rattle.world.specs.Seen.{seen};
 
 use crate::event::{Event, Out};
@@ -10,12 +10,13 @@ use dc_core::Dc;
 use range_locks::Span;
 use record_key::{Key, Op, Refusal};
 use std::alloc::Global;
-use tc_core::{RecoverStep, Tc, Told, UndoStep};
+use stable::MemLog;
+use tc_core::{Connecting, Forced, RecoverStep, Tc, Told, UndoStep};
 
-/// A transaction component, a data component, and every message ever sent, the oldest first.
+/// A transaction component with its log in memory, a data component, and every message ever sent, the oldest first.
 #[derive(Drop)]
 pub struct Node {
-    pub tc: Tc,
+    pub tc: Tc<MemLog>,
     pub dc: Dc,
     pub requests: Vec<Request>,
     pub replies: Vec<Reply>,
@@ -26,7 +27,7 @@ impl Node {
         ensures { seen result ≡ fresh_node }
     {
         Node {
-            tc: Tc::new(alloc),
+            tc: Tc::new(alloc, MemLog::new(alloc)),
             dc: Dc::new(alloc),
             requests: Vec::new(alloc),
             replies: Vec::new(alloc),
@@ -36,7 +37,6 @@ impl Node {
     /// One event.
     pub fn step(&mut self, event: &Event) -> Out
         ensures step { StepsTo (seen self.old) event.now result (seen self.new) }
-        ensures memory { IsRefused result Refusal.NoMemory → takes_memory (seen self.old) event.now ≡ true }
     {
         match self.happen(event) {
             Ok(out) => out,
@@ -46,7 +46,6 @@ impl Node {
 
     fn happen(&mut self, event: &Event) -> Result<Out, Refusal>
         ensures done { StepsTo (seen self.old) event.now (out_of result) (seen self.new) }
-        ensures memory { IsRefused (out_of result) Refusal.NoMemory → takes_memory (seen self.old) (event.now) ≡ true }
     {
         match event {
             Event::Reconnect => self.reconnect(),
@@ -55,9 +54,12 @@ impl Node {
             Event::Act { txn, op } => self.act(*txn, op),
             Event::Get { txn, key } => self.get(*txn, key),
             Event::Scan { txn, low, high } => self.scan(*txn, low, high),
+            Event::Save { txn } => self.save(*txn),
+            Event::GoBack { txn, savepoint } => self.go_back(*txn, *savepoint),
             Event::Rollback { txn } => self.rollback(*txn),
+            Event::Commit { txn } => self.commit(*txn),
             Event::Undo { txn } => self.undo(*txn),
-            Event::Force => Ok(Out::Stable(self.tc.force())),
+            Event::Force => self.force(),
             Event::Send { txn } => self.send(*txn),
             Event::LowWater { low } => self.low_water(*low),
             Event::Request { number } => self.request(*number),
@@ -67,18 +69,19 @@ impl Node {
 
     fn reconnect(&mut self) -> Result<Out, Refusal>
         ensures done { ReconnectsTo (seen self.old) (out_of result) (seen self.new) }
-        ensures memory { IsRefused (out_of result) Refusal.NoMemory → takes_memory (seen self.old) (Event.Reconnect) ≡ true }
     {
         self.tc.can_log()?;
         self.requests.reserve(1)?;
-        let request = self.tc.reconnect()?;
+        let Connecting { request, committed } = self.tc.reconnect()?;
         self.requests.push_reserved(request);
-        Ok(Out::Sent(self.requests.len() as u64))
+        Ok(Out::Connects {
+            request: self.requests.len() as u64,
+            committed,
+        })
     }
 
     fn recover(&mut self) -> Result<Out, Refusal>
         ensures done { RecoversTo (seen self.old) (out_of result) (seen self.new) }
-        ensures memory { IsRefused (out_of result) Refusal.NoMemory → takes_memory (seen self.old) (Event.Recover) ≡ true }
     {
         if self.tc.phase().is_recovering() {
             self.requests.reserve(1)?;
@@ -94,54 +97,74 @@ impl Node {
 
     fn begin(&mut self) -> Result<Out, Refusal>
         ensures done { BeginsTo (seen self.old) (out_of result) (seen self.new) }
-        ensures memory { IsRefused (out_of result) Refusal.NoMemory → takes_memory (seen self.old) (Event.Begin) ≡ true }
     {
         Ok(Out::Begun(self.tc.begin()?))
     }
 
     fn act(&mut self, txn: u64, op: &Op) -> Result<Out, Refusal>
         ensures done { ActsTo (seen self.old) txn op.now (out_of result) (seen self.new) }
-        ensures memory { IsRefused (out_of result) Refusal.NoMemory → takes_memory (seen self.old) (Event.Act txn op.now) ≡ true }
     {
         Ok(Out::Logged(self.tc.act(txn, op)?))
     }
 
     fn get(&mut self, txn: u64, key: &Key) -> Result<Out, Refusal>
-        ensures done { AsksTo (seen self.old) txn (Span.Key key.now) (out_of result) (seen self.new) }
-        ensures memory { IsRefused (out_of result) Refusal.NoMemory → takes_memory (seen self.old) (Event.Get txn key.now) ≡ true }
+        ensures done { ReadsTo (seen self.old) txn (Span.Key key.now) (out_of result) (seen self.new) }
     {
         Ok(Out::Asked(self.tc.get(txn, key)?))
     }
 
     fn scan(&mut self, txn: u64, low: &Key, high: &Option<Key>) -> Result<Out, Refusal>
-        ensures done { AsksTo (seen self.old) txn (Span.Range low.now high.now) (out_of result) (seen self.new) }
-        ensures memory { IsRefused (out_of result) Refusal.NoMemory → takes_memory (seen self.old) (Event.Scan txn low.now high.now) ≡ true }
+        ensures done { ReadsTo (seen self.old) txn (Span.Range low.now high.now) (out_of result) (seen self.new) }
     {
         Ok(Out::Asked(self.tc.scan(txn, low, high)?))
     }
 
+    fn save(&mut self, txn: u64) -> Result<Out, Refusal>
+        ensures done { SavesTo (seen self.old) txn (out_of result) (seen self.new) }
+    {
+        Ok(Out::Saved(self.tc.save(txn)?))
+    }
+
+    fn go_back(&mut self, txn: u64, savepoint: u64) -> Result<Out, Refusal>
+        ensures done { GoesBackTo (seen self.old) txn savepoint (out_of result) (seen self.new) }
+    {
+        self.tc.back(txn, savepoint)?;
+        Ok(Out::RollingBack)
+    }
+
     fn rollback(&mut self, txn: u64) -> Result<Out, Refusal>
         ensures done { RollsBackTo (seen self.old) txn (out_of result) (seen self.new) }
-        ensures memory { IsRefused (out_of result) Refusal.NoMemory → takes_memory (seen self.old) (Event.Rollback txn) ≡ true }
     {
         self.tc.rollback(txn)?;
         Ok(Out::RollingBack)
     }
 
+    fn commit(&mut self, txn: u64) -> Result<Out, Refusal>
+        ensures done { CommitsTo (seen self.old) txn (out_of result) (seen self.new) }
+    {
+        Ok(Out::CommitLogged(self.tc.commit(txn)?))
+    }
+
     fn undo(&mut self, txn: u64) -> Result<Out, Refusal>
         ensures done { UndoesTo (seen self.old) txn (out_of result) (seen self.new) }
-        ensures memory { IsRefused (out_of result) Refusal.NoMemory → takes_memory (seen self.old) (Event.Undo txn) ≡ true }
     {
         Ok(match self.tc.undo_step(txn)? {
             UndoStep::Idle => Out::Nothing,
             UndoStep::Compensated(number) => Out::Compensated(number),
             UndoStep::RolledBack(txn) => Out::RolledBack(txn),
+            UndoStep::Back { txn, savepoint } => Out::Back { txn, savepoint },
         })
+    }
+
+    fn force(&mut self) -> Result<Out, Refusal>
+        ensures done { ForcesTo (seen self.old) (out_of result) (seen self.new) }
+    {
+        let Forced { end, committed } = self.tc.force()?;
+        Ok(Out::Stable { end, committed })
     }
 
     fn send(&mut self, txn: u64) -> Result<Out, Refusal>
         ensures done { SendsTo (seen self.old) txn (out_of result) (seen self.new) }
-        ensures memory { IsRefused (out_of result) Refusal.NoMemory → takes_memory (seen self.old) (Event.Send txn) ≡ true }
     {
         let request = self.tc.resend(txn)?;
         self.requests.push(request)?;
@@ -150,7 +173,6 @@ impl Node {
 
     fn low_water(&mut self, low: u64) -> Result<Out, Refusal>
         ensures done { LowersTo (seen self.old) low (out_of result) (seen self.new) }
-        ensures memory { IsRefused (out_of result) Refusal.NoMemory → takes_memory (seen self.old) (Event.LowWater low) ≡ true }
     {
         let request = self.tc.low_water(low)?;
         self.requests.push(request)?;
@@ -159,7 +181,6 @@ impl Node {
 
     fn request(&mut self, number: u64) -> Result<Out, Refusal>
         ensures done { ServesTo (seen self.old) number (out_of result) (seen self.new) }
-        ensures memory { IsRefused (out_of result) Refusal.NoMemory → takes_memory (seen self.old) (Event.Request number) ≡ true }
     {
         let request = message(self.requests.as_slice(), number)?;
         self.dc.allows(request)?;
@@ -177,7 +198,6 @@ impl Node {
 
     fn reply(&mut self, number: u64) -> Result<Out, Refusal>
         ensures done { TakesTo (seen self.old) number (out_of result) (seen self.new) }
-        ensures memory { IsRefused (out_of result) Refusal.NoMemory → takes_memory (seen self.old) (Event.Reply number) ≡ true }
     {
         let reply = message(self.replies.as_slice(), number)?;
         Ok(out_of_told(self.tc.on_reply(reply)?))

@@ -1,7 +1,7 @@
 //! Rounds, until none is left.
 ghost use Rattle.std.specs.Prelude.{◌≡◌, ◌∷◌, []};
 ghost use Rattle.world.specs.Kept.{IsKept};
-ghost use Rattle.world.specs.Rounds.{Settles, Does, IsNext, Asks, events_of, exchange, fewer};
+ghost use Rattle.world.specs.Rounds.{Settles, Does, IsNext, IsExchange, events_of, exchange, fewer};
 
 use crate::event::{Event, Out};
 use crate::round::Round;
@@ -54,7 +54,7 @@ fn play(world: &mut World, round: Round, out: &mut Vec<Out>) -> Result<(), Refus
 
 /// An event that sends a request, the request's delivery, and that of its reply.
 fn exchange(world: &mut World, event: &Event, out: &mut Vec<Out>) -> Result<(), Refusal>
-    requires { Asks world.old event.now }
+    requires { IsExchange world.old event.now }
     ensures { Does world.old (exchange world.old event.now) out.old.items out.new.items result world.new }
 {
     perform(world, event, out)?;

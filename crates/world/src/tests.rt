@@ -1,17 +1,16 @@
-//! The node, event by event and by rounds, with messages repeated and late, and on a random walk.
+//! The node, event by event and by rounds, with messages repeated and late. Each call of the world stands in a
+//! small function of its own without a contract, so that a test of several calls is cheap to check.
 mod allocating;
-mod choosing;
 mod events;
-mod model;
 mod repeating;
 mod rounds;
-mod walking;
 
 use super::*;
 use record_key::{Answer, Key, Op, Refusal, Value};
 use std::alloc::Global;
 use std::process::Abort;
 use std::test::Fail;
+use tc_core::Committed;
 
 fn insert(key: &[u8], value: &[u8]) -> Result<Event, Fail> {
     Ok(Event::Act {
@@ -31,9 +30,29 @@ const INSERTED: Out = Out::Answered {
     answer: Answer::Inserted,
 };
 
+fn step(world: &mut World, event: &Event) -> Out {
+    world.step(event)
+}
+
+fn settle_all(world: &mut World, most: Option<u64>, outs: &mut Vec<Out>) -> Result<bool, Refusal> {
+    settle(world, most, outs)
+}
+
+/// The log is stable up to `end`, and nobody has committed by that.
+fn stable(alloc: Global, end: u64) -> Out {
+    let committed = Committed::new(Vec::new(alloc));
+    Out::Stable { end, committed }
+}
+
+/// A session is started, and nobody has committed by that.
+fn connects(alloc: Global, request: u64) -> Out {
+    let committed = Committed::new(Vec::new(alloc));
+    Out::Connects { request, committed }
+}
+
 /// The event comes to this.
 fn assert_out(rt: &impl Abort, world: &mut World, event: &Event, out: &Out) {
-    assert_eq!(rt; world.step(event), *out, "{event:?}");
+    assert_eq!(rt; step(world, event), *out, "{event:?}");
 }
 
 /// Each event comes to what stands beside it.
@@ -45,11 +64,11 @@ fn assert_outs<const N: usize>(rt: &impl Abort, world: &mut World, steps: [(Even
 
 /// An event that sends a request, the request's delivery, and that of its reply.
 fn exchange(world: &mut World, event: &Event) -> Out {
-    world.step(event);
+    step(world, event);
     let number = world.requests();
-    world.step(&Event::Request { number });
+    step(world, &Event::Request { number });
     let number = world.replies();
-    world.step(&Event::Reply { number })
+    step(world, &Event::Reply { number })
 }
 
 /// Session 1 is past its redo; two requests and their replies were sent.
@@ -63,15 +82,15 @@ fn running(alloc: Global) -> World {
 /// Transaction 2 waits for the answer of its insert, number 3, which isn't stable.
 fn waiting(alloc: Global) -> Result<World, Fail> {
     let mut world = running(alloc);
-    world.step(&Event::Begin);
-    world.step(&insert(b"a", b"1")?);
+    step(&mut world, &Event::Begin);
+    step(&mut world, &insert(b"a", b"1")?);
     Ok(world)
 }
 
 /// The answer is there, record 4; the insert was request 3 and reply 3.
 fn answered(alloc: Global) -> Result<World, Fail> {
     let mut world = waiting(alloc)?;
-    world.step(&Event::Force);
+    step(&mut world, &Event::Force);
     exchange(&mut world, &SEND);
     Ok(world)
 }
@@ -79,6 +98,6 @@ fn answered(alloc: Global) -> Result<World, Fail> {
 /// The transaction is being rolled back.
 fn rolling(alloc: Global) -> Result<World, Fail> {
     let mut world = answered(alloc)?;
-    world.step(&ROLLBACK);
+    step(&mut world, &ROLLBACK);
     Ok(world)
 }

@@ -1,12 +1,11 @@
 //! The world: a node, one event at a time.
 ghost use Rattle.std.specs.Prelude.{◌≡◌, ◌↔◌, true, IsTrue, length, MatchOption};
-ghost use Rattle.std.specs.Option.{option_copied};
 ghost use Rattle.std.specs.FinMap.{entries};
 ghost use Rattle.history.specs.History.{plain};
 ghost use Rattle.history.specs.Log.{record_at};
-ghost use Rattle.history.specs.ListMachine.{fresh};
-ghost use Rattle.world.specs.Node.{fresh_node, StepsTo, takes_memory, IsRefused};
-ghost use Rattle.world.specs.Simulation.{machine, Happens, IsSettled};
+ghost use Rattle.history.specs.ListMachine.{fresh, Machine};
+ghost use Rattle.world.specs.Node.{fresh_node, StepsTo};
+ghost use Rattle.world.specs.Simulation.{Stands, Leads, IsSettled};
 ghost use Rattle.world.specs.Kept.{IsKept};
 ghost use Rattle.world.specs.Rounds.{IsNext, IsAtRest, IsApart, round_for};
 
@@ -15,7 +14,7 @@ use crate::node::Node;
 use crate::round::Round;
 use history::Record;
 use page::Leaf;
-use record_key::{Key, Refusal, Value};
+use record_key::{Key, Value};
 use std::alloc::Global;
 use std::marker::Model;
 use tc_core::{OpenTxn, Phase};
@@ -46,27 +45,27 @@ impl World {
     /// A new node: nothing is logged, stored or sent, and no session runs.
     pub fn new(alloc: Global) -> World
         ensures node { result ≡ fresh_node }
-        ensures machine { machine result ≡ fresh }
+        ensures stands { Stands result fresh }
     {
         World {
             node: Node::new(alloc),
         }
     }
 
-    /// One event. What it came to and what it left are what the components' contracts say, and a step of
-    /// the list machine.
+    /// One event. What it came to and what it left are what the components' contracts say. Whatever list machine the
+    /// node stood for, it leads from there to one that the node stands for then.
     pub fn step(&mut self, event: &Event) -> Out
         ensures step { StepsTo self.old event.now result self.new }
-        ensures memory { IsRefused result Refusal.NoMemory → takes_memory self.old event.now ≡ true }
-        ensures happens { Happens (machine self.old) event.now result (machine self.new) }
+        ensures leads { Leads self.old event.now result self.new }
     {
         self.node.step(event)
     }
 
-    /// What holds at every moment; and where the node is settled, its records are those of a plain map.
+    /// What holds at every moment; and where the node is settled, its records are those of a plain map, for each list
+    /// machine that it stands for.
     pub fn kept(&self)
         ensures kept { IsKept self.now }
-        ensures rows { IsSettled self.now → self.now.dc.leaf.rows ≡ plain (machine self.now).h }
+        ensures rows { (m : Machine) → Stands self.now m → IsSettled self.now → self.now.dc.leaf.rows ≡ plain m.h }
     {
         let _ = &self.node;
     }
@@ -106,9 +105,9 @@ impl World {
         self.node.tc.records()
     }
 
-    /// The record of this number.
-    pub fn record(&self, number: u64) -> Option<&Record>
-        ensures { option_copied result ≡ record_at self.now.tc.log number }
+    /// The record of this number. Takes no memory.
+    pub fn record(&self, number: u64) -> Option<Record>
+        ensures { result ≡ record_at self.now.tc.log number }
     {
         self.node.tc.record(number)
     }

@@ -29,8 +29,7 @@ fn dc_record_of<A: Abort>(rt: &A, alloc: Global, texts: &[&str]) -> Result<DcRec
     match taken {
         Taken::Record(dc_record, next) => {
             assert_eq!(rt; next, bytes.len());
-            let mut out = Vec::new(alloc);
-            put_dc_record(&mut out, &dc_record)?;
+            let out = put_again(rt, alloc, &dc_record)?;
             assert_eq!(rt; out.as_slice(), bytes.as_slice());
             Ok(dc_record)
         }
@@ -131,10 +130,10 @@ fn put_again<A: Abort>(rt: &A, alloc: Global, dc_record: &DcRecord) -> Result<Ve
     requires { IsOrderedDcRecord dc_record.now }
 {
     let mut out = Vec::new(alloc);
-    if let Err(refusal) = put_dc_record(&mut out, dc_record) {
+    if let Err(refusal) = put_dc_record(&mut out, &dc_record.borrowed()) {
         assert_eq!(rt; refusal, Refusal::NoMemory);
         assert_eq!(rt; out.len(), 0);
-        put_dc_record(&mut out, dc_record)?;
+        put_dc_record(&mut out, &dc_record.borrowed())?;
     }
     Ok(out)
 }

@@ -1,10 +1,9 @@
 //! Images of leaf 7.
 use super::hex::{bytes_of, joined, joined_again, key, value};
 use crate::{
-    Entries, Entry, LeafImage, Rows, Taken, leaf_image_spelling_law, put_leaf_image,
-    take_leaf_image,
+    Entries, LeafImage, Rows, Taken, leaf_image_spelling_law, put_leaf_image, take_leaf_image,
 };
-use record_key::{Answer, Refusal};
+use record_key::{Answer, Entry, Refusal};
 use std::alloc::Global;
 use std::process::Abort;
 use std::test::Fail;
@@ -33,7 +32,7 @@ fn image_of<A: Abort>(rt: &A, alloc: Global, bytes: &[u8]) -> Result<LeafImage, 
             assert_eq!(rt; next, bytes.len());
             let mut out = bytes_of(alloc, "ff")?;
             let before = out.len();
-            put_leaf_image(&mut out, &image)?;
+            put_leaf_image(&mut out, &image.borrowed())?;
             assert_eq!(rt; &out[before..], bytes);
             Ok(image)
         }
@@ -98,7 +97,7 @@ fn made(rt: HostRuntime) -> Result<(), Fail> {
         entries: Entries::new(Vec::new(alloc)),
     };
     let mut out = Vec::new(alloc);
-    put_leaf_image(&mut out, &image)?;
+    put_leaf_image(&mut out, &image.borrowed())?;
     assert_eq!(rt; out.as_slice(), bytes_of(alloc, BLANK)?.as_slice());
     Ok(())
 }
@@ -180,10 +179,10 @@ fn put_as_taken<A: Abort>(rt: &A, alloc: Global, page: &[u8]) -> Result<Vec<u8>,
     };
     let mut out = Vec::new(alloc);
     if let Taken::Record(image, _) = taken {
-        if let Err(refusal) = put_leaf_image(&mut out, &image) {
+        if let Err(refusal) = put_leaf_image(&mut out, &image.borrowed()) {
             assert_eq!(rt; refusal, Refusal::NoMemory);
             assert_eq!(rt; out.len(), 0);
-            put_leaf_image(&mut out, &image)?;
+            put_leaf_image(&mut out, &image.borrowed())?;
         }
     }
     Ok(out)

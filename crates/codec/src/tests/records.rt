@@ -1,6 +1,6 @@
 //! Records of the transaction log.
 use super::hex::{bytes_of, key, value};
-use crate::{Taken, put_record, record_spelling_law, take_record};
+use crate::{FrameEnd, Taken, frame_end, put_record, record_spelling_law, take_record};
 use history::Record;
 use record_key::{Answer, Op, Refusal};
 use std::alloc::Global;
@@ -40,6 +40,18 @@ fn is_spelled<A: Abort>(rt: &A, alloc: Global, record: &Record, text: &str) -> R
     Ok(())
 }
 
+/// Where the first frame ends, and that nothing ends where the bytes do or where no length is.
+#[test]
+fn ends_of_frames(rt: HostRuntime) -> Result<(), Fail> {
+    let log = log_of(rt.alloc())?;
+    assert_eq!(rt; frame_end(&log, 0, 181), FrameEnd::At(9));
+    assert_eq!(rt; frame_end(&log, 18, 181), FrameEnd::At(48));
+    assert_eq!(rt; frame_end(&log, 1, 181), FrameEnd::Bad);
+    let cut = bytes_of(rt.alloc(), "0000000000000009 07 00")?;
+    assert_eq!(rt; frame_end(&cut, 0, 181), FrameEnd::Short);
+    Ok(())
+}
+
 #[test]
 fn vectors(rt: HostRuntime) -> Result<(), Fail> {
     let alloc = rt.alloc();
@@ -65,6 +77,12 @@ fn vectors(rt: HostRuntime) -> Result<(), Fail> {
         },
         "000000000000000a 04 0000000000000003 01",
     )?;
+    Ok(())
+}
+
+#[test]
+fn vectors_of_ends(rt: HostRuntime) -> Result<(), Fail> {
+    let alloc = rt.alloc();
     let inverse = Some(Op::Delete(key(b"k")?));
     is_spelled(
         &rt,

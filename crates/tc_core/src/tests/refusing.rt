@@ -1,102 +1,105 @@
 //! Refusals in their order.
 use super::*;
 
-/// Why each of the calls that name a transaction is refused: act, rollback, undo_step, resend.
-fn refusals(tc: &mut Tc, txn: u64) -> Result<[Option<Refusal>; 4], Fail> {
-    let op = insert(b"a", b"1")?;
-    Ok([
-        tc.act(txn, &op).err(),
-        tc.rollback(txn).err(),
-        tc.undo_step(txn).err(),
-        tc.resend(txn).err(),
-    ])
+/// Why a commit, a savepoint and a way back are refused.
+fn refusals(tc: &mut Tc<MemLog>, txn: u64) -> [Option<Refusal>; 3] {
+    [
+        commit(tc, txn).err(),
+        save(tc, txn).err(),
+        back(tc, txn, 1).err(),
+    ]
 }
 
 #[test]
-fn not_connected(rt: HostRuntime) -> Result<(), Fail> {
-    let mut tc = Tc::new(rt.alloc());
-    let expected = [Some(Refusal::NotConnected); 4];
-    assert_eq!(rt; refusals(&mut tc, 0)?, expected);
-    assert_eq!(rt; refusals(&mut tc, 2)?, expected);
-    assert_eq!(rt; tc.begin(), Err(Refusal::NotConnected));
-    assert_eq!(rt; tc.low_water(9), Err(Refusal::NotConnected));
-    assert_eq!(rt; tc.recover_step(), Err(Refusal::NotConnected));
-    assert_eq!(rt; tc.records(), 0);
+fn in_order(rt: HostRuntime) -> Result<(), Fail> {
+    let mut tc = failing(rt.alloc(), 0);
+    assert_eq!(rt; refusals(&mut tc, 2), [Some(Refusal::NotConnected); 3]);
+    reconnect(&mut tc)?;
+    assert_eq!(rt; refusals(&mut tc, 2), [Some(Refusal::Redoing); 3]);
+    let mut tc = failing(rt.alloc(), 0);
+    inserted(&mut tc)?;
+    assert_eq!(rt; refusals(&mut tc, 3), [Some(Refusal::NotOpen); 3]);
+    act(&mut tc, 2, &op(b"b")?)?;
+    assert_eq!(rt; refusals(&mut tc, 2), [Some(Refusal::Unanswered); 3]);
     Ok(())
 }
 
 #[test]
-fn recovering(rt: HostRuntime) -> Result<(), Fail> {
-    for mut tc in [connecting(rt.alloc())?, redoing(rt.alloc())?] {
-        let expected = [Some(Refusal::Redoing); 4];
-        assert_eq!(rt; refusals(&mut tc, 0)?, expected);
-        assert_eq!(rt; tc.begin(), Err(Refusal::Redoing));
-        assert_eq!(rt; tc.low_water(9), Err(Refusal::Redoing));
-        assert_eq!(rt; tc.records(), 1);
+fn while_it_is_rolled_back(rt: HostRuntime) -> Result<(), Fail> {
+    let mut tc = failing(rt.alloc(), 0);
+    inserted(&mut tc)?;
+    assert_eq!(rt; back(&mut tc, 2, 1), Err(Refusal::BadSavepoint));
+    rollback(&mut tc, 2)?;
+    undo(&mut tc, 2)?;
+    assert_eq!(rt;
+        refusals(&mut tc, 2),
+        [Some(Refusal::RollingBack); 3],
+        "before Unanswered"
+    );
+    Ok(())
+}
+
+#[test]
+fn at_most_sixteen_savepoints(rt: HostRuntime) -> Result<(), Fail> {
+    let mut tc = failing(rt.alloc(), 0);
+    inserted(&mut tc)?;
+    for expected in 1..17 {
+        assert_eq!(rt; save(&mut tc, 2), Ok(expected));
     }
+    assert_eq!(rt; save(&mut tc, 2), Err(Refusal::Full));
+    assert_eq!(rt; back(&mut tc, 2, 17), Err(Refusal::BadSavepoint));
     Ok(())
 }
 
-/// Recovery comes before the transaction's own state.
-#[test]
-fn recovering_with_an_open_transaction(rt: HostRuntime) -> Result<(), Fail> {
-    let mut tc = compensating(rt.alloc())?;
-    tc.reconnect()?;
-    let expected = [Some(Refusal::Redoing); 4];
-    assert_eq!(rt; refusals(&mut tc, 2)?, expected);
-    assert_eq!(rt; tc.begin(), Err(Refusal::Redoing));
-    Ok(())
-}
-
-#[test]
-fn not_open(rt: HostRuntime) -> Result<(), Fail> {
-    let expected = [Some(Refusal::NotOpen); 4];
-    let mut tc = running(rt.alloc())?;
-    assert_eq!(rt; refusals(&mut tc, 2)?, expected, "none is open");
-    for mut tc in [begun(rt.alloc())?, compensating(rt.alloc())?] {
-        for txn in [0, 1, 3, u64::MAX] {
-            assert_eq!(rt; refusals(&mut tc, txn)?, expected, "{txn}");
-        }
+/// Each of these makes its call again where memory is refused: nothing has changed then.
+fn begin_again(tc: &mut Tc<MemLog>) -> Result<u64, Refusal> {
+    match begin(tc) {
+        Err(Refusal::NoMemory) => begin(tc),
+        came_to => came_to,
     }
-    Ok(())
 }
 
-#[test]
-fn an_answer_is_awaited(rt: HostRuntime) -> Result<(), Fail> {
-    let mut tc = waiting(rt.alloc())?;
-    let unanswered = Some(Refusal::Unanswered);
-    let expected = [
-        unanswered,
-        unanswered,
-        unanswered,
-        Some(Refusal::BeyondStable),
-    ];
-    assert_eq!(rt; refusals(&mut tc, 2)?, expected);
-    tc.force();
-    assert_eq!(rt; tc.rollback(2), Err(Refusal::Unanswered));
-    assert!(rt; tc.resend(2).is_ok());
-    Ok(())
-}
-
-#[test]
-fn nothing_is_to_be_sent(rt: HostRuntime) -> Result<(), Fail> {
-    for tc in [begun(rt.alloc())?, idle(rt.alloc())?, rolling(rt.alloc())?] {
-        assert_eq!(rt; tc.resend(2), Err(Refusal::Unsent));
+fn act_again(tc: &mut Tc<MemLog>, txn: u64, what: &Op) -> Result<u64, Refusal> {
+    match act(tc, txn, what) {
+        Err(Refusal::NoMemory) => act(tc, txn, what),
+        came_to => came_to,
     }
-    Ok(())
 }
 
-/// A rollback under way comes before an answer that is awaited.
-#[test]
-fn a_rollback_is_under_way(rt: HostRuntime) -> Result<(), Fail> {
-    for mut tc in [rolling(rt.alloc())?, compensating(rt.alloc())?] {
-        let op = insert(b"a", b"1")?;
-        assert_eq!(rt; tc.act(2, &op), Err(Refusal::RollingBack));
-        assert_eq!(rt; tc.rollback(2), Err(Refusal::RollingBack));
+fn commit_again(tc: &mut Tc<MemLog>, txn: u64) -> Result<u64, Refusal> {
+    match commit(tc, txn) {
+        Err(Refusal::NoMemory) => commit(tc, txn),
+        came_to => came_to,
     }
-    let mut tc = compensating(rt.alloc())?;
-    assert_eq!(rt; tc.undo_step(2), Err(Refusal::Unanswered));
-    assert_eq!(rt; tc.resend(2), Err(Refusal::BeyondStable));
-    assert_eq!(rt; tc.records(), 5);
+}
+
+fn answer_again(tc: &mut Tc<MemLog>, number: u64) -> Result<Told, Refusal> {
+    match answered(tc, number, Answer::Inserted) {
+        Err(Refusal::NoMemory) => answered(tc, number, Answer::Inserted),
+        came_to => came_to,
+    }
+}
+
+fn reconnect_again(tc: &mut Tc<MemLog>) -> Result<u64, Refusal> {
+    match reconnect(tc) {
+        Err(Refusal::NoMemory) => reconnect(tc),
+        came_to => came_to,
+    }
+}
+
+/// Run also with each allocation refused in turn.
+#[test]
+fn refused_memory(rt: HostRuntime) -> Result<(), Fail> {
+    let mut tc = failing(rt.alloc(), 0);
+    assert_eq!(rt; reconnect_again(&mut tc), Ok(1));
+    reply(&mut tc, &Reply::Connected { session: 1 })?;
+    recover(&mut tc)?;
+    reply(&mut tc, &Reply::RedoEnded { session: 1 })?;
+    assert_eq!(rt; begin_again(&mut tc), Ok(2));
+    assert_eq!(rt; act_again(&mut tc, 2, &op(b"a")?), Ok(3));
+    force(&mut tc)?;
+    answer_again(&mut tc, 3)?;
+    assert_eq!(rt; commit_again(&mut tc, 2), Ok(5));
+    assert_eq!(rt; force(&mut tc)?.as_slice(), [2].as_slice());
     Ok(())
 }

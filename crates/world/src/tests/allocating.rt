@@ -15,10 +15,10 @@ fn sight(world: &World) -> [u64; 5] {
 /// What the event comes to. Where memory is refused nothing has changed, and the event may come again.
 fn came_to(rt: &impl Abort, world: &mut World, event: &Event) -> Out {
     let before = sight(world);
-    let out = world.step(event);
+    let out = step(world, event);
     if out == Out::Refused(Refusal::NoMemory) {
         assert_eq!(rt; sight(world), before, "{event:?}");
-        return world.step(event);
+        return step(world, event);
     }
     out
 }
@@ -63,9 +63,9 @@ fn refused_memory_changes_nothing(rt: HostRuntime) -> Result<(), Fail> {
 fn refused_memory_stops_settling(rt: HostRuntime) -> Result<(), Fail> {
     let mut world = World::new(rt.alloc());
     let mut outs = Vec::new(rt.alloc());
-    if let Err(refusal) = settle(&mut world, None, &mut outs) {
+    if let Err(refusal) = settle_all(&mut world, None, &mut outs) {
         assert_eq!(rt; refusal, Refusal::NoMemory);
-        assert!(rt; settle(&mut world, None, &mut outs)?);
+        assert!(rt; settle_all(&mut world, None, &mut outs)?);
     }
     assert_eq!(rt; outs.last().is_some(), true);
     assert_eq!(rt; world.next_round(), None);

@@ -9,7 +9,7 @@ fn a_session_begins(rt: HostRuntime) {
     let steps = [
         (Event::Begin, Out::Refused(Refusal::NotConnected)),
         (Event::Recover, Out::Refused(Refusal::NotConnected)),
-        (Event::Reconnect, Out::Sent(1)),
+        (Event::Reconnect, connects(rt.alloc(), 1)),
         (Event::Begin, Out::Refused(Refusal::Redoing)),
         (Event::Request { number: 1 }, Out::Replied(1)),
         (Event::Reply { number: 1 }, Out::Connected(1)),
@@ -27,12 +27,12 @@ fn a_session_begins(rt: HostRuntime) {
 #[test]
 fn an_operation_is_answered(rt: HostRuntime) -> Result<(), Fail> {
     let mut world = running(rt.alloc());
-    world.step(&Event::Begin);
+    step(&mut world, &Event::Begin);
     let steps = [
         (SEND, Out::Refused(Refusal::Unsent)),
         (insert(b"a", b"1")?, Out::Logged(3)),
         (SEND, Out::Refused(Refusal::BeyondStable)),
-        (Event::Force, Out::Stable(3)),
+        (Event::Force, stable(rt.alloc(), 3)),
         (SEND, Out::Sent(3)),
         (insert(b"b", b"1")?, Out::Refused(Refusal::Unanswered)),
         (Event::Request { number: 3 }, Out::Replied(3)),
@@ -56,7 +56,7 @@ fn a_transaction_is_rolled_back(rt: HostRuntime) -> Result<(), Fail> {
         (insert(b"b", b"1")?, Out::Refused(Refusal::RollingBack)),
         (UNDO, Out::Compensated(5)),
         (UNDO, Out::Refused(Refusal::Unanswered)),
-        (Event::Force, Out::Stable(5)),
+        (Event::Force, stable(rt.alloc(), 5)),
         (SEND, Out::Sent(4)),
         (Event::Request { number: 4 }, Out::Replied(4)),
         (Event::Reply { number: 4 }, Out::Undone(5)),
@@ -65,7 +65,7 @@ fn a_transaction_is_rolled_back(rt: HostRuntime) -> Result<(), Fail> {
     ];
     assert_outs(&rt, &mut world, steps);
     assert_eq!(rt; world.rows().len(), 0);
-    assert_eq!(rt; world.record(7), Some(&Record::End { txn: 2 }));
+    assert_eq!(rt; world.record(7), Some(Record::End { txn: 2 }));
     assert_eq!(rt; world.record(8), None);
     Ok(())
 }
@@ -139,7 +139,7 @@ fn low_water_is_told(rt: HostRuntime) -> Result<(), Fail> {
         (Event::LowWater { low: 3 }, Out::Refused(beyond)),
         (Event::LowWater { low: 2 }, Out::Sent(4)),
         (Event::Request { number: 4 }, Out::Noted),
-        (Event::Force, Out::Stable(4)),
+        (Event::Force, stable(rt.alloc(), 4)),
         (Event::LowWater { low: 5 }, Out::Refused(beyond)),
         (Event::LowWater { low: 4 }, Out::Sent(5)),
         (Event::Request { number: 5 }, Out::Noted),
@@ -167,7 +167,7 @@ fn events_are_driven(rt: HostRuntime) -> Result<(), Fail> {
     let expected = [
         Out::Begun(2),
         Out::Logged(3),
-        Out::Stable(3),
+        stable(rt.alloc(), 3),
         Out::Sent(3),
         Out::Replied(3),
         INSERTED,

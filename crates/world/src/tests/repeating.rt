@@ -4,10 +4,10 @@ use super::*;
 /// The insert's request reached the data component three times: replies 3, 4 and 5.
 fn served_three_times(alloc: Global) -> Result<World, Fail> {
     let mut world = waiting(alloc)?;
-    world.step(&Event::Force);
-    world.step(&SEND);
+    step(&mut world, &Event::Force);
+    step(&mut world, &SEND);
     for _ in 0..3 {
-        world.step(&Event::Request { number: 3 });
+        step(&mut world, &Event::Request { number: 3 });
     }
     Ok(world)
 }
@@ -32,7 +32,7 @@ fn a_request_that_comes_again(rt: HostRuntime) -> Result<(), Fail> {
 fn a_request_that_is_sent_again(rt: HostRuntime) -> Result<(), Fail> {
     let mut world = waiting(rt.alloc())?;
     let steps = [
-        (Event::Force, Out::Stable(3)),
+        (Event::Force, stable(rt.alloc(), 3)),
         (SEND, Out::Sent(3)),
         (SEND, Out::Sent(4)),
         (Event::Request { number: 4 }, Out::Replied(3)),
@@ -62,7 +62,7 @@ fn a_request_below_the_low_water(rt: HostRuntime) -> Result<(), Fail> {
     let mut world = answered(rt.alloc())?;
     assert_eq!(rt; world.leaf().entries().len(), 1);
     let steps = [
-        (Event::Force, Out::Stable(4)),
+        (Event::Force, stable(rt.alloc(), 4)),
         (Event::LowWater { low: 4 }, Out::Sent(4)),
         (Event::Request { number: 4 }, Out::Noted),
         (Event::Request { number: 3 }, Out::Replied(4)),
@@ -78,9 +78,9 @@ fn a_request_below_the_low_water(rt: HostRuntime) -> Result<(), Fail> {
 #[test]
 fn redo_below_the_low_water(rt: HostRuntime) -> Result<(), Fail> {
     let mut world = answered(rt.alloc())?;
-    world.step(&Event::Force);
-    world.step(&Event::LowWater { low: 4 });
-    world.step(&Event::Request { number: 4 });
+    step(&mut world, &Event::Force);
+    step(&mut world, &Event::LowWater { low: 4 });
+    step(&mut world, &Event::Request { number: 4 });
     assert_eq!(rt; exchange(&mut world, &Event::Reconnect), Out::Connected(5));
     assert_eq!(rt; exchange(&mut world, &Event::Recover), Out::Nothing);
     assert_eq!(rt; exchange(&mut world, &Event::Recover), Out::RedoEnded(5));
@@ -109,8 +109,8 @@ fn messages_of_the_session_before(rt: HostRuntime) -> Result<(), Fail> {
 fn a_connect_that_comes_late(rt: HostRuntime) {
     let mut world = World::new(rt.alloc());
     let steps = [
-        (Event::Reconnect, Out::Sent(1)),
-        (Event::Reconnect, Out::Sent(2)),
+        (Event::Reconnect, connects(rt.alloc(), 1)),
+        (Event::Reconnect, connects(rt.alloc(), 2)),
         (Event::Request { number: 2 }, Out::Replied(1)),
         (Event::Request { number: 1 }, Out::Refused(Refusal::Stale)),
         (Event::Request { number: 2 }, Out::Replied(2)),

@@ -9,20 +9,23 @@ fn assert_settles(
     expected: &[Out],
 ) -> Result<(), Fail> {
     let mut outs = Vec::new(alloc);
-    assert!(rt; settle(world, None, &mut outs)?);
+    assert!(rt; settle_all(world, None, &mut outs)?);
     assert_eq!(rt; outs.as_slice(), expected);
     assert_eq!(rt; world.next_round(), None);
     Ok(())
 }
 
-const CONNECTED: [Out; 3] = [Out::Sent(1), Out::Replied(1), Out::Connected(1)];
+/// What connecting a fresh node comes to.
+fn connected(alloc: Global) -> [Out; 3] {
+    [connects(alloc, 1), Out::Replied(1), Out::Connected(1)]
+}
 
 #[test]
 fn a_fresh_node(rt: HostRuntime) -> Result<(), Fail> {
     let mut world = World::new(rt.alloc());
     assert_eq!(rt; world.next_round(), Some(Round::Connect));
     let expected = [
-        Out::Sent(1),
+        connects(rt.alloc(), 1),
         Out::Replied(1),
         Out::Connected(1),
         Out::Sent(2),
@@ -37,13 +40,13 @@ fn a_fresh_node(rt: HostRuntime) -> Result<(), Fail> {
 fn no_more_rounds_than_allowed(rt: HostRuntime) -> Result<(), Fail> {
     let mut world = World::new(rt.alloc());
     let mut outs = Vec::new(rt.alloc());
-    assert!(rt; !settle(&mut world, Some(0), &mut outs)?);
+    assert!(rt; !settle_all(&mut world, Some(0), &mut outs)?);
     assert_eq!(rt; (outs.len(), world.requests()), (0, 0));
-    assert!(rt; !settle(&mut world, Some(1), &mut outs)?);
-    assert_eq!(rt; outs.as_slice(), CONNECTED.as_slice());
+    assert!(rt; !settle_all(&mut world, Some(1), &mut outs)?);
+    assert_eq!(rt; outs.as_slice(), connected(rt.alloc()).as_slice());
     assert_eq!(rt; world.next_round(), Some(Round::Recover));
-    assert!(rt; settle(&mut world, Some(1), &mut outs)?, "the last round");
-    assert!(rt; settle(&mut world, Some(0), &mut outs)?, "no round");
+    assert!(rt; settle_all(&mut world, Some(1), &mut outs)?, "the last round");
+    assert!(rt; settle_all(&mut world, Some(0), &mut outs)?, "no round");
     assert_eq!(rt; outs.len(), 6);
     Ok(())
 }
@@ -52,9 +55,9 @@ fn no_more_rounds_than_allowed(rt: HostRuntime) -> Result<(), Fail> {
 #[test]
 fn a_session_that_did_not_come_up(rt: HostRuntime) -> Result<(), Fail> {
     let mut world = World::new(rt.alloc());
-    world.step(&Event::Reconnect);
+    step(&mut world, &Event::Reconnect);
     let expected = [
-        Out::Sent(2),
+        connects(rt.alloc(), 2),
         Out::Replied(1),
         Out::Connected(2),
         Out::Sent(3),
@@ -69,11 +72,11 @@ fn an_operation_that_is_not_stable(rt: HostRuntime) -> Result<(), Fail> {
     let mut world = waiting(rt.alloc())?;
     assert_eq!(rt; world.next_round(), Some(Round::Force));
     let expected = [
-        Out::Stable(3),
+        stable(rt.alloc(), 3),
         Out::Sent(3),
         Out::Replied(3),
         INSERTED,
-        Out::Stable(4),
+        stable(rt.alloc(), 4),
     ];
     assert_settles(&rt, rt.alloc(), &mut world, &expected)?;
     assert_eq!(rt; world.rows().len(), 1);
@@ -84,10 +87,10 @@ fn an_operation_that_is_not_stable(rt: HostRuntime) -> Result<(), Fail> {
 #[test]
 fn a_request_that_was_lost(rt: HostRuntime) -> Result<(), Fail> {
     let mut world = waiting(rt.alloc())?;
-    world.step(&Event::Force);
-    world.step(&SEND);
+    step(&mut world, &Event::Force);
+    step(&mut world, &SEND);
     assert_eq!(rt; world.next_round(), Some(Round::Exchange { txn: 2 }));
-    let expected = [Out::Sent(4), Out::Replied(3), INSERTED, Out::Stable(4)];
+    let expected = [Out::Sent(4), Out::Replied(3), INSERTED, stable(rt.alloc(), 4)];
     assert_settles(&rt, rt.alloc(), &mut world, &expected)
 }
 
@@ -97,12 +100,12 @@ fn a_rollback_that_is_under_way(rt: HostRuntime) -> Result<(), Fail> {
     assert_eq!(rt; world.next_round(), Some(Round::Undo { txn: 2 }));
     let expected = [
         Out::Compensated(5),
-        Out::Stable(5),
+        stable(rt.alloc(), 5),
         Out::Sent(4),
         Out::Replied(4),
         Out::Undone(5),
         Out::RolledBack(2),
-        Out::Stable(7),
+        stable(rt.alloc(), 7),
     ];
     assert_settles(&rt, rt.alloc(), &mut world, &expected)?;
     assert_eq!(rt; world.rows().len(), 0);
@@ -113,12 +116,12 @@ fn a_rollback_that_is_under_way(rt: HostRuntime) -> Result<(), Fail> {
 #[test]
 fn the_least_comes_first(rt: HostRuntime) -> Result<(), Fail> {
     let mut world = answered(rt.alloc())?;
-    world.step(&Event::Begin);
-    world.step(&Event::Act {
+    step(&mut world, &Event::Begin);
+    step(&mut world, &Event::Act {
         txn: 5,
         op: Op::Delete(Key::new(b"b")?),
     });
-    world.step(&Event::Get {
+    step(&mut world, &Event::Get {
         txn: 2,
         key: Key::new(b"c")?,
     });
@@ -130,18 +133,18 @@ fn the_least_comes_first(rt: HostRuntime) -> Result<(), Fail> {
             txn: 2,
             value: None,
         },
-        Out::Stable(6),
+        stable(rt.alloc(), 6),
         Out::Sent(5),
         Out::Replied(5),
         Out::Answered {
             txn: 5,
             answer: Answer::NoRecord,
         },
-        Out::Stable(7),
+        stable(rt.alloc(), 7),
     ];
     assert_settles(&rt, rt.alloc(), &mut world, &expected)?;
-    world.step(&Event::Rollback { txn: 5 });
-    world.step(&ROLLBACK);
+    step(&mut world, &Event::Rollback { txn: 5 });
+    step(&mut world, &ROLLBACK);
     assert_eq!(rt; world.next_round(), Some(Round::Undo { txn: 2 }));
     Ok(())
 }
@@ -150,10 +153,10 @@ fn the_least_comes_first(rt: HostRuntime) -> Result<(), Fail> {
 #[test]
 fn a_session_amid_a_rollback(rt: HostRuntime) -> Result<(), Fail> {
     let mut world = rolling(rt.alloc())?;
-    world.step(&UNDO);
-    assert_out(&rt, &mut world, &Event::Reconnect, &Out::Sent(4));
+    step(&mut world, &UNDO);
+    assert_out(&rt, &mut world, &Event::Reconnect, &connects(rt.alloc(), 4));
     let expected = [
-        Out::Sent(5),
+        connects(rt.alloc(), 5),
         Out::Replied(4),
         Out::Connected(7),
         Out::Sent(6),
@@ -166,7 +169,7 @@ fn a_session_amid_a_rollback(rt: HostRuntime) -> Result<(), Fail> {
         Out::Replied(7),
         Out::RedoEnded(7),
         Out::RolledBack(2),
-        Out::Stable(9),
+        stable(rt.alloc(), 9),
     ];
     assert_settles(&rt, rt.alloc(), &mut world, &expected)?;
     assert_eq!(rt; world.rows().len(), 0);

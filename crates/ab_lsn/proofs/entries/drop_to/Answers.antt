@@ -1,5 +1,5 @@
 use Rattle.std.proofs.Common.{rules, nat_lt}
-use Rattle.ab_lsn.specs.declared.entry.Entry.{Entry}
+use Rattle.record_key.specs.declared.entry.Entry.{Entry}
 use Rattle.ab_lsn.proofs.Kept.{retained}
 use Rattle.ab_lsn.proofs.entries.drop_to.Goals as goal
 

@@ -1,7 +1,7 @@
 use Rattle.std.proofs.Common.{◌≡◌, ◌<◌, ℕ, ◌+◌, List, ◌∷◌, length, drop, drop-cons, add-one, suc, get_or, sym, ap, ◌∙◌, subst, arith}
 use Rattle.smallvec.specs.SmallVec.{SmallVec}
-use Rattle.ab_lsn.specs.declared.entry.Entry.{Entry}
-use Rattle.ab_lsn.specs.Places.{placed_all}
+use Rattle.record_key.specs.declared.entry.Entry.{Entry}
+use Rattle.ab_lsn.specs.Parting.{placed_all}
 use Rattle.ab_lsn.proofs.Placing.{IsPlacing, placed_one}
 use Rattle.ab_lsn.proofs.entries.place_all.Goals as goal
 
@@ -11,11 +11,6 @@ turn : (low : ℕ) (end es : List Entry) (i : ℕ) (e : Entry) (now : SmallVec E
 turn low end es i e now lt is h =
     let left : drop i es ≡ e ∷ drop (i + 1) es = rw (add-one) (drop-cons es i e lt ∙ ap (λ (x : Entry). x ∷ drop (suc i) es) (sym is)) in
     subst (λ (rest : List Entry). IsPlacing low end rest now) left h
-
-pub place_above-requires-clause-apart : goal.place_above-requires-clause-apart
-place_above-requires-clause-apart c =
-    (turn c.args.low (placed_all c.args.low c.args.more.now c.args.entries.now.items) c.args.more.now c.loop-entry.entry-index c.entry-item.result c.loop-entry.entries
-    c.loop-entry-test.true c.entry-item.is c.loop-entry.invariant).apart.0
 
 pub place_above-requires-clause-room : goal.place_above-requires-clause-room
 place_above-requires-clause-room c =

@@ -1,5 +1,5 @@
 use Rattle.std.proofs.Common.{drop}
-use Rattle.ab_lsn.specs.Places.{placed_all}
+use Rattle.ab_lsn.specs.Parting.{placed_all}
 use Rattle.ab_lsn.proofs.Placing.{IsPlacing}
 use Rattle.ab_lsn.proofs.entries.place_all.Given as goal
 

@@ -1,6 +1,6 @@
 use Rattle.std.proofs.Common.{drop}
 use Rattle.std.specs.List.{AllByRecursion}
-use Rattle.codec.specs.declared.entries.Entry.{Entry}
+use Rattle.record_key.specs.declared.entry.Entry.{Entry}
 use Rattle.codec.specs.Entries.{entry_bytes, HasEntryNumber, IsEntry}
 use Rattle.codec.proofs.ItemLoops.{LenSoFar}
 use Rattle.codec.proofs.entries.each_len.Given as goal

@@ -1,5 +1,5 @@
 use Rattle.std.proofs.Common.{◌≡◌, drop}
-use Rattle.codec.specs.Entries.{numbers_rise}
+use Rattle.codec.specs.Reading.{numbers_rise}
 use Rattle.codec.proofs.entries.entries_rise.Given as goal
 
 abbrev pub invariant-loop-entry : goal.invariant-loop-entry

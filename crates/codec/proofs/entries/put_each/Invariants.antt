@@ -1,4 +1,4 @@
-use Rattle.codec.specs.declared.entries.Entry.{Entry}
+use Rattle.record_key.specs.declared.entry.Entry.{Entry}
 use Rattle.codec.specs.Entries.{entry_bytes}
 use Rattle.codec.proofs.ItemLoops.{PutsSoFar}
 use Rattle.codec.proofs.entries.put_each.Given as goal

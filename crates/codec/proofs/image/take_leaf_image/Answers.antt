@@ -24,4 +24,5 @@ returns c =
       never_short = on_ok result exact (λ t. t ≡ took.Short → ⊥) value (λ t e. whole_never_short LeafImage bytes (all_of image_at bytes) t e);
       bad = on_ok result exact (λ t. IfBad t (λ place. place ≡ 0)) value (λ t e. whole_bad LeafImage bytes (all_of image_at bytes) t e);
       cause = c.take_page.ensures.cause;
+      memory = c.take_page.ensures.memory;
     }

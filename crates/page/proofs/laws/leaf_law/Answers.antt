@@ -1,5 +1,13 @@
-use Rattle.page.proofs.Raising.{leaf_law}
+use Rattle.page.proofs.Performing.{honest_performed}
+use Rattle.page.proofs.Raising.{honest_raised}
+use Rattle.page.proofs.Sides.{honest_lower, honest_upper, honest_joined}
 use Rattle.page.proofs.laws.leaf_law.Goals as goal
 
 pub returns : goal.returns
-returns c = leaf_law
+returns c = record {
+  performs = honest_performed;
+  raises = honest_raised;
+  lower = honest_lower;
+  upper = honest_upper;
+  joins = honest_joined;
+}

@@ -1,5 +1,5 @@
 use Rattle.std.proofs.Common.{◌≡◌, ◌++◌, List, [], ◌∷◌, decimal, ap, sym, ◌∙◌, append-nil}
-use Rattle.ab_lsn.specs.declared.entry.Entry.{Entry}
+use Rattle.record_key.specs.declared.entry.Entry.{Entry}
 use Rattle.undo_shell.proofs.Printing.{stops_first, prints_both}
 use Rattle.undo_shell.specs.Stored.{set_line, more_line}
 use Rattle.undo_shell.proofs.leaves.print_set.Goals as goal

@@ -1,13 +1,23 @@
-use Rattle.std.proofs.Common.{arith}
-use Rattle.world.specs.Simulation.{machine}
-use Rattle.world.proofs.Headline.{run_more}
+use Rattle.std.proofs.Common.{refl, arith}
+use Rattle.world.proofs.Headline.{leads_more, chain_more}
 use Rattle.world.proofs.driving.drive.Goals as goal
+
+pub loop-event-init : goal.loop-event-init
+loop-event-init c = record {
+  chain = rw c.in_ok-outs.ensures.items refl;
+  run = rw c.in_ok-outs.ensures.items (λ m stands. (m, refl, stands));
+  count = omega (arith, c.in_ok-outs.ensures.len);
+  room = omega (arith, c.in_ok-outs.ensures.capacity);
+}
 
 pub loop-event-preserved : goal.loop-event-preserved
 loop-event-preserved c = record {
+  chain = rw c.in-Ok.ensures.items
+      (chain_more c.args.world.now c.args.events.now c.loop-event.event-index c.loop-event.outs.items c.loop-event.world c.event-item.result c.step-out.result c.step-out.new.self
+      (omega arith) c.event-item.is c.loop-event.invariant.chain c.step-out.ensures.step);
   run = rw c.in-Ok.ensures.items
-      (run_more (machine c.args.world.now) c.args.events.now c.loop-event.event-index c.loop-event.outs.items (machine c.loop-event.world) c.event-item.result c.step-out.result (machine c.step-out.new.self)
-      (omega arith) c.event-item.is c.loop-event.invariant.run c.step-out.ensures.happens);
+      (leads_more c.args.world.now c.args.events.now c.loop-event.event-index c.loop-event.outs.items c.loop-event.world c.event-item.result c.step-out.result c.step-out.new.self
+      (omega arith) c.event-item.is c.loop-event.invariant.run c.step-out.ensures.leads);
   count = omega (arith, c.in-Ok.ensures.len);
   room = omega (arith, c.in-Ok.ensures.capacity);
 }

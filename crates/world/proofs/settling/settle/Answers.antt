@@ -42,7 +42,8 @@ pub returns-in_err-play : goal.returns-in_err-play
 returns-in_err-play c =
     refused c.args.world.now c.play.new.world c.args.most c.args.out.now.items c.play.new.out.items c.in_err-play.field-0.0 c.from_residual.result
     (broken c.args.world.now c.loop-round.world c.play.new.world c.args.most c.loop-round.left c.args.out.now.items c.loop-round.out.items c.play.new.out.items c.in-Some.round c.in_err-play.field-0.0
-    c.loop-round.invariant.far (unspent c.loop-round.left c.if-eq.ensures) c.loop-round.invariant.kept c.in-Some.ensures c.in_err-play.ensures)
+    c.loop-round.invariant.far (unspent c.loop-round.left c.if-eq.ensures) c.loop-round.invariant.kept c.in-Some.ensures c.in_err-play.ensures
+    (rounds_bound c.args.world.now.tc c.kept.ensures.kept.tc))
     c.from_residual.ensures.1
 
 pub loop-round-smaller : goal.loop-round-smaller

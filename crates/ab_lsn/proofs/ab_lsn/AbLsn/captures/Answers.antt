@@ -1,4 +1,5 @@
 use Rattle.std.proofs.Common.{◌∙◌}
+use Rattle.ab_lsn.specs.AbLsn.{AbLsnView}
 use Rattle.ab_lsn.proofs.Rising.{rises}
 use Rattle.ab_lsn.proofs.Noting.{found_captured}
 use Rattle.ab_lsn.proofs.ab_lsn.AbLsn.captures.Goals as goal
@@ -8,5 +9,7 @@ place_of-requires c = rw (c.as_slice.ensures) (rises c.self.inside.low c.self.in
 
 pub returns-else-number-self : goal.returns-else-number-self
 returns-else-number-self c =
+    let v : AbLsnView = record { low = c.self.inside.low; entries = c.self.inside.entries.items } in
     rw (← c.self.view_is)
-    (c.is_ok.ensures.value ∙ found_captured c.self.inside.low c.args.number c.self.inside.entries.items c.place_of.result c.if-number-self.false c.self.invariant (rw c.as_slice.ensures at c.place_of.ensures.place))
+    (c.is_ok.ensures.value
+    ∙ found_captured v c.args.number c.place_of.result c.if-number-self.false c.self.invariant (rw c.as_slice.ensures at c.place_of.ensures.place))

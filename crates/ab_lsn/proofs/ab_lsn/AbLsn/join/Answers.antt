@@ -1,26 +1,12 @@
-use Rattle.std.proofs.Common.{refl, sym, ap, ◌∙◌, subst}
+use Rattle.std.proofs.Common.{refl, ap, ◌∙◌}
 use Rattle.ab_lsn.specs.AbLsn.{AbLsnView, captures}
-use Rattle.ab_lsn.specs.Places.{AreApart}
-use Rattle.ab_lsn.proofs.Rising.{rises}
 use Rattle.ab_lsn.proofs.Capturing.{raised_rises, joined_captures}
-use Rattle.ab_lsn.proofs.Noting.{raised_apart}
 use Rattle.ab_lsn.proofs.ab_lsn.AbLsn.join.Goals as goal
 
 pub place_all-requires-clause-rising : goal.place_all-requires-clause-rising
 place_all-requires-clause-rising c =
     let kept = c.keep_above-self-inside.ensures in
     rw (kept.low, kept.kept, c.in_ok-reserve.ensures.items) (raised_rises (record { low = c.self.inside.low; entries = c.self.inside.entries.items }) c.other.inside.low c.self.invariant)
-
-pub place_all-requires-clause-later : goal.place_all-requires-clause-later
-place_all-requires-clause-later c = rw (c.as_slice-more.ensures) (rises c.other.inside.low c.other.inside.entries.items c.other.invariant)
-
-pub place_all-requires-clause-apart : goal.place_all-requires-clause-apart
-place_all-requires-clause-apart c =
-    let kept = c.keep_above-self-inside.ensures in
-    let half = subst (λ (v : AbLsnView). AreApart v.entries c.args.other.now.entries) (sym c.self.view_is) c.requires in
-    let apart = subst (λ (w : AbLsnView). AreApart c.self.inside.entries.items w.entries) (sym c.other.view_is) half in
-    rw (kept.kept, c.in_ok-reserve.ensures.items, c.as_slice-more.ensures)
-    (raised_apart (record { low = c.self.inside.low; entries = c.self.inside.entries.items }) c.other.inside.low c.other.inside.entries.items apart)
 
 pub returns-clause-joined : goal.returns-clause-joined
 returns-clause-joined c =

@@ -2,9 +2,8 @@ use Rattle.std.proofs.Common.{◌≡◌, ℕ, ap, sym, ◌∙◌, List, false}
 use Rattle.std.specs.List.{insert}
 use Rattle.record_key.specs.Table.{Bytes}
 use Rattle.record_key.specs.declared.op.Answer.{Answer}
-use Rattle.history.specs.Honest.{captured}
-use Rattle.ab_lsn.specs.declared.entry.Entry.{Entry}
-use Rattle.ab_lsn.specs.AbLsn.{AbLsnView, numbers, captures, noted}
+use Rattle.record_key.specs.declared.entry.Entry.{Entry}
+use Rattle.ab_lsn.specs.AbLsn.{AbLsnView, captures, noted}
 use Rattle.ab_lsn.proofs.Rising.{rises, gap_placed}
 use Rattle.ab_lsn.proofs.Capturing.{noted_captures}
 use Rattle.ab_lsn.proofs.Noting.{uncaptured, no_place, noted_rises}
@@ -15,14 +14,16 @@ place_of-requires c = rw (c.as_slice.ensures) (rises c.self.inside.low c.self.in
 
 pub unreachable-requires : goal.unreachable-requires
 unreachable-requires c =
-    let out : captured c.self.inside.low (numbers c.self.inside.entries.items) c.args.number ≡ false = ap (λ (v : AbLsnView). captures v c.args.number) c.self.view_is ∙ c.requires in
-    no_place c.args.number c.self.inside.entries.items c.in-Ok.field-0 (uncaptured c.self.inside.low c.args.number c.self.inside.entries.items out).1 (rw c.as_slice.ensures at c.in-Ok.ensures.place)
+    let v : AbLsnView = record { low = c.self.inside.low; entries = c.self.inside.entries.items } in
+    let out : captures v c.args.number ≡ false = ap (λ (v : AbLsnView). captures v c.args.number) c.self.view_is ∙ c.requires in
+    no_place c.args.number v.entries c.in-Ok.field-0 (uncaptured v c.args.number out).1 (rw c.as_slice.ensures at c.in-Ok.ensures.place)
 
 pub invariant_of-self : goal.invariant_of-self
 invariant_of-self c =
-    let out : captured c.self.inside.low (numbers c.self.inside.entries.items) c.args.number ≡ false = ap (λ (v : AbLsnView). captures v c.args.number) c.self.view_is ∙ c.requires in
+    let v : AbLsnView = record { low = c.self.inside.low; entries = c.self.inside.entries.items } in
+    let out : captures v c.args.number ≡ false = ap (λ (v : AbLsnView). captures v c.args.number) c.self.view_is ∙ c.requires in
     rw (c.in_ok-insert-in-Err.ensures.ok)
-    (noted_rises c.self.inside.low (record { number = c.args.number; key = c.copied.result; answer = c.copied-2.result }) c.self.inside.entries.items c.in-Err.gap c.self.invariant out
+    (noted_rises v (record { number = c.args.number; key = c.copied.result; answer = c.copied-2.result }) c.in-Err.gap c.self.invariant out
     (rw c.as_slice.ensures at c.in-Err.ensures.place))
 
 put : (v : AbLsnView) (n : ℕ) (k : Bytes) (a : Answer) (p : ℕ) (es : List Entry) → es ≡ insert v.entries p (record { number = n; key = k; answer = a })

@@ -12,7 +12,8 @@ use Rattle.dc_core.specs.DcView.{DcView}
 use Rattle.dc_core.specs.Serves.{performs}
 use Rattle.dc_core.specs.Kept.{IsDc}
 use Rattle.dc_core.specs.Seen.{seen}
-use Rattle.dc_core.proofs.KeepsDc.{keeps_performed}
+use Rattle.record_key.specs.Table.{key_of}
+use Rattle.dc_core.proofs.KeepsDc.{in_fences, keeps_performed}
 use Rattle.dc_core.proofs.parts.Parts.answer.Goals as goal
 
 -- the leaf performed a new number, and it is noted
@@ -31,3 +32,9 @@ returns-clause-kept c =
     kept_after (seen c.args.self.now) c.args.number c.args.op.now c.in-Performed.answer c.perform.new.self _ (sym c.if-captures.ensures) c.requires
     (rw (c.in-Performed.is) at c.in_ok-answer.ensures.done)
     (rw (c.in_ok-reserve.ensures.items) at c.add.ensures)
+
+pub repeat-requires-clause-within : goal.repeat-requires-clause-within
+repeat-requires-clause-within c = in_fences c.args.self.now.leaf (key_of c.args.op.now) c.requires.whole.0 c.requires.whole.1
+
+pub perform-requires : goal.perform-requires
+perform-requires c = in_fences c.args.self.now.leaf (key_of c.args.op.now) c.requires.whole.0 c.requires.whole.1

@@ -1,4 +1,4 @@
-use Rattle.std.proofs.Common.{Some, sym, ap, ◌∙◌}
+use Rattle.std.proofs.Common.{sym, ap, ◌∙◌}
 use Rattle.tc_core.specs.OpenTxns.{oldest, wants}
 use Rattle.tc_core.specs.Slots.{in_slots}
 use Rattle.tc_core.proofs.Oldest.{oldest_here, oldest_later}
@@ -9,7 +9,7 @@ returns-then-wants c =
     let test = wants c.args.wanted in
     let slab = c.self.inside.txns in
     let here = oldest_here test slab (c.in-Some.field-0-0.now, c.in-Some.slot.now) c.next.new.self c.in-Some-get.opened.now (sym c.in-Some-get.ensures) (sym c.wants.ensures ∙ c.if-wants.true) in
-    ap Some c.copied.ensures ∙ sym here ∙ sym (ap (λ es. oldest test (in_slots slab es)) c.in-Some.ensures.steps) ∙ c.loop-slot.invariant
+    sym here ∙ sym (ap (λ es. oldest test (in_slots slab es)) c.in-Some.ensures.steps) ∙ c.loop-slot.invariant
 
 pub loop-slot-preserved-else-wants : goal.loop-slot-preserved-else-wants
 loop-slot-preserved-else-wants c =

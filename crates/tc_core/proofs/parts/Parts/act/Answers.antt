@@ -1,51 +1,72 @@
-use Rattle.std.proofs.Common.{◌≡◌, ◌∷◌, refl, subst, ◌∙◌}
+use Rattle.std.proofs.Common.{◌≡◌, ◌∷◌, subst, Some, inr, ◌∙◌}
+use Rattle.history.specs.declared.record.Record.TheVariants.{Op}
 use Rattle.record_key.specs.Table.{Bytes, key_of}
 use Rattle.history.specs.Spans.{Exclusive, at_key}
 use Rattle.range_locks.specs.Locks.{spans_of, set_spans, IsFree}
+use Rattle.tc_core.specs.declared.change.Change.TheVariants.{Stepped}
+use Rattle.logical_log.specs.LogView.{is_spent}
 use Rattle.tc_core.specs.Seen.{seen}
 use Rattle.tc_core.proofs.LockCauses.{key_range}
 use Rattle.tc_core.proofs.KeepsTc.{fits_op, keeps_act}
+use Rattle.tc_core.proofs.Numbers.{fits_numbers}
+use Rattle.tc_core.proofs.Refused.{keeps_refused, refuses, happened}
 use Rattle.tc_core.proofs.Untaken.{holds_some, untaken}
 use Rattle.tc_core.proofs.parts.Parts.act.Goals as goal
 
-pub take-requires : goal.take-requires
-take-requires c = key_range c.copied.result
+pub take-requires-clause-range : goal.take-requires-clause-range
+take-requires-clause-range g c = key_range c.copied.result
 
-pub append-appended-requires : goal.append-appended-requires
-append-appended-requires c =
+pub append-requires : goal.append-requires
+append-requires g c =
     let w = seen c.args.self.now in
-    let o = c.in_ok-open.open in
-    let found = c.in_ok-open.ensures.found in
+    let o = c.in_ok-prev.field-0.now in
+    let found = c.in_ok-prev.ensures.found in
     let P : Bytes → Type 0 = λ k. IsFree w.locks c.args.txn (at_key Exclusive k) in
-    let free : IsFree w.locks o.txn (at_key Exclusive (key_of c.args.op.now)) = rw found.at.number (subst P (c.copied.ensures ∙ c.key.ensures) c.in_ok-take.ensures.free) in
-    rw (c.copied-2.ensures, ← found.at.number) (fits_op w o c.args.op.now c.requires found.at.is found.waiting free)
+    let free : IsFree w.locks o.txn (at_key Exclusive (key_of c.args.op.now)) =
+    rw found.at.number (subst P (c.copied.ensures ∙ c.key.ensures) c.in_ok-take.ensures.free) in
+    let fits = fits_op w o c.args.op.now c.requires found.at.is found.waiting free in
+    rw (c.copied-op.ensures, ← found.at.number)
+    (record { fits = fits; numbers = fits_numbers w.log (Op o.txn o.last c.args.op.now) c.requires.few.records fits })
 
 pub returns-in-Ok-clause-kept : goal.returns-in-Ok-clause-kept
-returns-in-Ok-clause-kept c =
+returns-in-Ok-clause-kept g c =
     let w = seen c.args.self.now in
-    let o = c.in_ok-open.open in
+    let o = c.in_ok-prev.field-0.now in
     let t = c.args.txn in
     let op = c.args.op.now in
-    let found = c.in_ok-open.ensures.found in
-    let key = c.copied.ensures ∙ c.key.ensures in
+    let found = c.in_ok-prev.ensures.found in
+    let appended = c.in-Ok.ensures.appended in
     let P : Bytes → Type 0 = λ k. IsFree w.locks t (at_key Exclusive k) in
     let Q : Bytes → Type 0 = λ k. c.take.new.locks ≡ set_spans t (at_key Exclusive k ∷ spans_of w.locks t) w.locks in
+    let key = c.copied.ensures ∙ c.key.ensures in
     let free : IsFree w.locks o.txn (at_key Exclusive (key_of op)) = rw found.at.number (subst P key c.in_ok-take.ensures.free) in
     let taken : c.take.new.locks ≡ set_spans t (at_key Exclusive (key_of op) ∷ spans_of w.locks t) w.locks = subst Q key c.in_ok-take.ensures.taken in
-    rw (c.replace.ensures, taken, c.in-Ok.ensures.appended.log, c.in-Ok.ensures.appended.number_is, c.copied-2.ensures, ← found.at.number)
-    (keeps_act w o op c.requires found.at.is found.waiting free)
+    rw (
+      happened w t o (Stepped c.in-Ok.number c.in-Ok.number (Some c.in-Ok.number)) c.change.new.self found.at c.change.ensures,
+      taken,
+      appended.log,
+      appended.number_is,
+      c.copied-op.ensures,
+      ← found.at.number,
+    )
+    (keeps_act w o op c.requires found.at.is found.waiting found.reading found.rolling free appended.unspent)
 
 pub untake-requires : goal.untake-requires
-untake-requires c =
+untake-requires g c =
     holds_some c.args.self.now.locks c.take.new.locks c.args.txn (at_key Exclusive c.copied.result) c.requires.locks.table c.in_ok-take.ensures.taken
 
-left : (c : goal.After-untake) → c.untake.new.self ≡ c.args.self.now.locks
-left c =
+left : (g : _) (c : goal.After-untake g) → c.untake.new.self ≡ c.args.self.now.locks
+left g c =
     untaken c.args.self.now.locks c.take.new.locks c.args.txn (at_key Exclusive c.copied.result) c.requires.locks.table c.in_ok-take.ensures.taken
     c.untake.new.self c.untake.ensures
 
 pub returns-in-Err-clause-kept : goal.returns-in-Err-clause-kept
-returns-in-Err-clause-kept c = rw (c.in-Err.ensures.unchanged, left c) c.requires
+returns-in-Err-clause-kept g c = rw (left g c) (keeps_refused (seen c.args.self.now) c.in-Err.refusal c.append.new.self c.requires c.in-Err.ensures.left)
 
-pub returns-in-Err-clause-unchanged : goal.returns-in-Err-clause-unchanged
-returns-in-Err-clause-unchanged c = rw (c.in-Err.ensures.unchanged, left c) refl
+pub returns-in-Err-clause-gives : goal.returns-in-Err-clause-gives
+returns-in-Err-clause-gives g c =
+    let w = seen c.args.self.now in
+    let P : Bytes → Type 0 = λ k. IsFree w.locks c.args.txn (at_key Exclusive k) in
+    let free = subst P (c.copied.ensures ∙ c.key.ensures) c.in_ok-take.ensures.free in
+    rw (c.in_ok-prev.ensures.found.allowed, left g c)
+    (inr (free, refuses w (is_spent w.log) c.in-Err.refusal c.append.new.self c.in-Err.ensures.refused c.in-Err.ensures.left))

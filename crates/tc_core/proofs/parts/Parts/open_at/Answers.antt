@@ -1,22 +1,22 @@
-use Rattle.std.proofs.Common.{◌≡◌, ℕ, true, Option, Some, None, IfOk, refl, sym}
-use Rattle.std.specs.Option.{ok_or}
-use Rattle.record_key.specs.declared.refusal.Refusal.TheVariants.{NotOpen}
+use Rattle.std.proofs.Common.{◌≡◌, ℕ, true, Some, None, refl, sym, ap, ◌∙◌}
+use Rattle.std.specs.Option.{option_copied}
 use Rattle.tc_core.specs.declared.open_txn.OpenTxn.{OpenTxn}
 use Rattle.tc_core.specs.OpenTxns.{find}
 use Rattle.tc_core.specs.TcView.{TcView, is_running}
-use Rattle.tc_core.specs.Calls.{running_refusal, FindsOpen}
+use Rattle.tc_core.specs.Causes.{running_refusal}
+use Rattle.tc_core.specs.Finds.{FindsOpen}
 use Rattle.tc_core.specs.Seen.{seen}
 use Rattle.tc_core.proofs.Finding.{found_number, found_own}
 use Rattle.tc_core.proofs.parts.Parts.open_at.Goals as goal
 
-finds : (w : TcView) (t : ℕ) → is_running w.phase ≡ true → running_refusal w ≡ None → (x : Option OpenTxn) → x ≡ find t w.open_txns → IfOk (ok_or x NotOpen) (FindsOpen w t)
-finds w t running allowed None is = tt
-finds w t running allowed (Some o) is = record {
-  at = record { is = found_own t w.open_txns o (sym is); number = found_number t w.open_txns o (sym is) };
+finds : (w : TcView) (t : ℕ) (o : OpenTxn) → is_running w.phase ≡ true → running_refusal w ≡ None → find t w.open_txns ≡ Some o → FindsOpen w t o
+finds w t o running allowed is = record {
+  at = record { is = found_own t w.open_txns o is; number = found_number t w.open_txns o is };
   running = running;
-  allowed = rw (allowed, sym is) refl;
+  allowed = rw (allowed, is) refl;
 }
 
-pub returns-clause-found : goal.returns-clause-found
-returns-clause-found c =
-    rw c.ok_or.ensures.value (finds (seen c.args.self.now) c.args.txn c.in_ok-running.ensures.ok c.in_ok-running.ensures.allowed c.find.result c.find.ensures)
+pub returns-in-Some-clause-found : goal.returns-in-Some-clause-found
+returns-in-Some-clause-found g c =
+    finds (seen c.args.self.now) c.args.txn c.in-Some.opened.now c.in_ok-running.ensures.ok c.in_ok-running.ensures.allowed
+    (sym c.find.ensures ∙ ap option_copied c.in-Some.is)

@@ -1,13 +1,14 @@
-use Rattle.std.proofs.Common.{◌≡◌, ℕ, false, Some, None, subst, refl, arith}
+use Rattle.std.proofs.Common.{◌≡◌, ℕ, false, Some, None, inr, refl, arith}
 use Rattle.std.specs.Prelude.{nat_lt}
 use Rattle.std.proofs.lemmas.Bool.Decides.{nat_tests}
 use Rattle.tc_core.specs.declared.open_txn.OpenTxn.{OpenTxn}
 use Rattle.tc_core.specs.declared.open_txn.Read.{Read}
 use Rattle.tc_core.specs.OpenTxns.{find}
 use Rattle.tc_core.specs.TcView.{TcView}
-use Rattle.tc_core.specs.Calls.{open_refusal, resend_refusal}
+use Rattle.tc_core.specs.Causes.{open_refusal, resend_refusal}
 use Rattle.tc_core.specs.Seen.{seen}
 use Rattle.tc_core.proofs.KeepsTc.{reading_at}
+use Rattle.tc_core.proofs.Refused.{at_number}
 use Rattle.tc_core.proofs.parts.Parts.resend.Goals as goal
 
 -- a read has no record that must be stable
@@ -16,10 +17,14 @@ allowed w t o r is_open at none some =
     let stable : nat_lt w.stable 0 ≡ false = grind (arith, nat_tests) in
     rw (is_open, at, none, some, stable) refl
 
-pub returns-in-Some-clause-allowed : goal.returns-in-Some-clause-allowed
-returns-in-Some-clause-allowed c =
+pub returns-in-Some : goal.returns-in-Some
+returns-in-Some g c =
     let w : TcView = seen c.args.self.now in
-    let o : OpenTxn = c.in_ok-open.open in
-    let found = c.in_ok-open.ensures.found in
-    let F : ℕ → Type 0 = λ t. find t w.open_txns ≡ Some o in
-    allowed w c.args.txn o c.in-Some.read found.allowed (subst F found.at.number found.at.is) (reading_at w o c.in-Some.read c.requires found.at.is c.in-Some.is).idle c.in-Some.is
+    let o : OpenTxn = c.in_ok-opened.opened.now in
+    let found = c.in_ok-opened.ensures.found in
+    record {
+      gives = (
+        allowed w c.args.txn o c.in-Some.read found.allowed (at_number w c.args.txn o found.at) (reading_at w o c.in-Some.read c.requires found.at.is c.in-Some.is).idle c.in-Some.is,
+        inr (record { open_txn = o; read = c.in-Some.read; at = found.at; running = found.running; reading = c.in-Some.is; is = c.read_request.ensures }),
+      );
+    }

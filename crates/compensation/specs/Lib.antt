@@ -1,0 +1,2 @@
+pub mod Savepoints
+pub mod NextUndo

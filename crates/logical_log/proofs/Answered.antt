@@ -1,0 +1,52 @@
+-- Up to where every request of a log is answered.
+use Rattle.std.proofs.Common.{◌≡◌, ℕ, ◌+◌, ◌-◌, ◌<◌, ◌≤◌, Bool, true, false, List, [], ◌∷◌, length, Option, Some, None, IsSome, is_some, zero, suc, refl, sym, ap, ◌∙◌, subst, arith, inl, inr, true≢false}
+use Rattle.std.specs.Prelude.{drop, not, ◌||◌}
+use Rattle.std.proofs.lemmas.Bool.{cases_eq, cases_lt}
+use Rattle.record_key.specs.declared.op.Op.{Op}
+use Rattle.history.specs.declared.record.Record.{Record}
+use Rattle.history.specs.Log.{record_at, answer_of, request_in, Requests}
+use Rattle.history.specs.Legal.{FitsCheckpoint, IsLatest}
+use Rattle.log_laws.proofs.Records.{ARequest, older_at, within}
+use Rattle.log_laws.proofs.LegalLogs.{answered_push}
+use Rattle.logical_log.specs.Index.{is_answered}
+
+-- a request of the next number is answered, where the test says so
+answered_if : (asked : Option Op) (o : Op) (b : Bool) → asked ≡ Some o → (not (is_some asked) || b) ≡ true → b ≡ true
+answered_if None o b is test = absurd (cc)
+answered_if (Some q) o b is test = test
+
+pub answered_at : (log : List Record) (n : ℕ) (o : Op) → is_answered log n ≡ true → Requests log n o
+    → IsSome (answer_of log n)
+answered_at log n o test asks = answered_if (request_in (record_at log n)) o (is_some (answer_of log n)) asks test
+
+-- the test passes where a request of the number is answered
+pub test_of : (log : List Record) (n : ℕ) → ((o : Op) → Requests log n o → IsSome (answer_of log n))
+    → is_answered log n ≡ true
+test_of log n each = pick (request_in (record_at log n)) refl
+  where
+    pick : (q : Option Op) → request_in (record_at log n) ≡ q → (not (is_some q) || is_some (answer_of log n)) ≡ true
+    pick None is = refl
+    pick (Some o) is = each o is
+
+-- what holds up to a number holds in a longer log
+pub answered_longer : (r : Record) (log : List Record) (l : ℕ) → FitsCheckpoint log l → FitsCheckpoint (r ∷ log) l
+answered_longer r log l h = record {
+  within = omega (arith, h.within);
+  answered = λ n o below asks. answered_push n r log
+      (h.answered n o below (older_at (ARequest o) r log n (λ e. omega (arith, e, h.within)) asks));
+}
+
+-- so it holds of a log where it holds of a beginning
+pub answered_whole : (k : ℕ) (log : List Record) (l : ℕ) → FitsCheckpoint (drop k log) l → FitsCheckpoint log l
+answered_whole zero log l h = h
+answered_whole (suc k) [] l h = h
+answered_whole (suc k) (r ∷ log) l h = answered_longer r log l (answered_whole k log l h)
+
+-- the stable beginning stays as it is when a record is appended, and is the whole log when all is stable
+pub part_longer : (r : Record) (log : List Record) (stable : ℕ) → stable ≤ length log
+    → drop (length (r ∷ log) - stable) (r ∷ log) ≡ drop (length log - stable) log
+part_longer r log stable within =
+    let e : length (r ∷ log) - stable ≡ suc (length log - stable) = omega arith in ap (λ k. drop k (r ∷ log)) e
+
+pub part_whole : (log : List Record) → drop (length log - length log) log ≡ log
+part_whole log = let e : length log - length log ≡ 0 = omega arith in ap (λ k. drop k log) e

@@ -1,0 +1,57 @@
+-- A log is kept by each of its calls.
+use Rattle.std.proofs.Common.{◌≡◌, ℕ, List, [], ◌∷◌, ◌++◌, length, refl, sym, ap, ◌∙◌, subst, arith, append_assoc}
+use Rattle.std.proofs.lemmas.List.{append-nil}
+use Rattle.codec.specs.Frames.{frame}
+use Rattle.codec.specs.Records.{record_bytes}
+use Rattle.stable.specs.Crash.{BeginsWith}
+use Rattle.history.specs.declared.record.Record.{Record}
+use Rattle.history.specs.Legal.{FitsCheckpoint, IsLatest}
+use Rattle.logical_log.specs.Kept.{FramesView, IsKept}
+use Rattle.logical_log.specs.Low.{stable_part}
+use Rattle.logical_log.specs.Spelled.{spelled}
+use Rattle.logical_log.proofs.Answered.{part_longer, part_whole}
+
+-- all records of a log are stable, and forced
+pub kept_all : (frames : FramesView) (answered : ℕ) (forced pending : List ℕ) → frames.left ≡ []
+    → forced ≡ spelled frames.records → pending ≡ []
+    → IsLatest (FitsCheckpoint frames.records) answered → IsKept frames (length frames.records) answered forced pending
+kept_all frames answered forced pending read f p latest = record {
+  all_read = read;
+  within = omega arith;
+  greatest = let P : List Record → Type 0 = λ x. IsLatest (FitsCheckpoint x) answered in
+      subst P (sym (part_whole frames.records)) latest;
+  stored = ap (λ (x : List ℕ). forced ++ x) p ∙ append-nil forced ∙ f;
+  covered = (
+    [],
+    f ∙ ap spelled (sym (part_whole frames.records))
+        ∙ sym (append-nil (spelled (stable_part frames.records (length frames.records)))),
+  );
+}
+
+-- a log of no records
+pub kept_empty : (forced pending : List ℕ) → forced ≡ [] → pending ≡ []
+    → IsKept (record { records = []; left = [] }) 0 0 forced pending
+unfolding spelled
+kept_empty forced pending f p =
+    kept_all (record { records = []; left = [] }) 0 forced pending refl f p
+    (record {
+      is = record { within = omega arith; answered = λ n o below asks. absurd (cc) };
+      greatest = λ m more.
+          more.within;
+    })
+
+-- a record is appended
+pub kept_longer : (frames : FramesView) (stable answered : ℕ) (forced pending : List ℕ) (r : Record)
+    → IsKept frames stable answered forced pending
+    → IsKept (record frames { records = r ∷ frames.records }) stable answered forced (pending ++ frame (record_bytes r))
+unfolding spelled
+kept_longer frames stable answered forced pending r h = record {
+  all_read = h.all_read;
+  within = omega (arith, h.within);
+  greatest = let P : List Record → Type 0 = λ x. IsLatest (FitsCheckpoint x) answered in
+      subst P (sym (part_longer r frames.records stable h.within)) h.greatest;
+  stored = sym (append_assoc forced pending (frame (record_bytes r)))
+      ∙ ap (λ (b : List ℕ). b ++ frame (record_bytes r)) h.stored;
+  covered = let P : List Record → Type 0 = λ x. BeginsWith forced (spelled x) in
+      subst P (sym (part_longer r frames.records stable h.within)) h.covered;
+}

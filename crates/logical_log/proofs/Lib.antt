@@ -1,0 +1,9 @@
+pub mod Answered
+pub mod Checks
+pub mod Following
+pub mod Framed
+pub mod Index
+pub mod Kept
+pub mod Opening
+pub mod Puts
+pub mod Spelled

@@ -1,0 +1,75 @@
+-- Reading one record after another, from the beginning of the bytes.
+use Rattle.std.proofs.Common.{◌≡◌, ◌⊎◌, ℕ, ◌+◌, ◌<◌, List, [], ◌∷◌, ◌++◌, length, Option, None, refl, sym, ap, ◌∙◌, subst, arith, inl, inr, append_assoc}
+use Rattle.std.proofs.lemmas.List.{length-append}
+use Rattle.codec.specs.Fields.{number}
+use Rattle.codec.specs.Frames.{frame}
+use Rattle.codec.specs.Records.{record_bytes, IsRecord}
+use Rattle.codec.proofs.Fields.{length-number}
+use Rattle.record_key.specs.declared.refusal.Refusal.{Refusal}
+use Rattle.record_key.specs.declared.refusal.Refusal.TheVariants.{NoMemory, BadBytes}
+use Rattle.record_key.specs.Table.{Bytes}
+use Rattle.history.specs.declared.record.Record.{Record}
+use Rattle.history.specs.Legal.{Fits, IsLegal}
+use Rattle.logical_log.specs.Opening.{BeginsAs, RefusesBytes}
+use Rattle.logical_log.specs.Replay.{IsIndex, KeptOf, KeptOn, latest_in, holder_in}
+use Rattle.logical_log.specs.declared.replay.Index.{Index}
+use Rattle.logical_log.specs.Spelled.{spelled}
+
+pub begins_nothing : (bytes : List ℕ) → BeginsAs bytes [] bytes
+unfolding spelled
+begins_nothing bytes = record { legal = tt; spellable = tt; numbered = omega arith; parts = refl }
+
+pub begins_more : (bytes : List ℕ) (log : List Record) (left : List ℕ) (r : Record) (left' : List ℕ)
+    → BeginsAs bytes log left → IsLegal (r ∷ log) → IsRecord r → length log < 281474976710655
+    → left ≡ frame (record_bytes r) ++ left' → BeginsAs bytes (r ∷ log) left'
+unfolding spelled
+begins_more bytes log left r left' h legal spells room is = record {
+  legal = legal;
+  spellable = (spells, h.spellable);
+  numbered = omega (arith, room);
+  parts = h.parts ∙ ap (λ (l : List ℕ). spelled log ++ l) is
+      ∙ sym (append_assoc (spelled log) (frame (record_bytes r)) left');
+}
+
+-- a frame has bytes
+pub shorter : (left : List ℕ) (r : Record) (left' : List ℕ) → left ≡ frame (record_bytes r) ++ left'
+    → length left' < length left
+shorter left r left' is =
+    let body : List ℕ = record_bytes r in
+    omega (
+      arith,
+      ap length is
+          ∙ length-append (frame body) left',
+      length-append (number (length body)) body,
+      length-number (length body),
+    )
+
+pub index_nothing : (index : Index) → ((t : ℕ) → latest_in index t ≡ None) → ((k : Bytes) → holder_in index k ≡ None)
+    → index.answered ≡ 0 → IsIndex [] index
+index_nothing index txns keys answered = record {
+  legal = tt;
+  open_txns = λ t. let Of : Option ℕ → Type 0 = λ v. KeptOf [] t v in
+      subst Of (sym (txns t)) (λ opened. absurd (let none = opened.begun in cc));
+  held_keys = λ k. let On : Option ℕ → Type 0 = λ v. KeptOn [] k v in
+      subst On (sym (keys k)) (λ n u o op key. absurd (cc));
+  answered = record { within = omega (arith, answered); answered = λ n o below asks. absurd (cc) };
+}
+
+-- a record that stands next and was refused is where the bytes are bad
+pub refused_next : (bytes : List ℕ) (log : List Record) (left : List ℕ) (r : Record) (rest : List ℕ) (given : Refusal)
+    → BeginsAs bytes log left → IsRecord r → left ≡ frame (record_bytes r) ++ rest
+    → (given ≡ NoMemory) ⊎ ((given ≡ BadBytes (length (spelled log)))
+    × ((Fits log r → ⊥) ⊎ (length log + 1 ≡ 281474976710656))) → RefusesBytes bytes given
+refused_next bytes log left r rest given h spells parts (inl none) = inl none
+refused_next bytes log left r rest given h spells parts (inr bad) =
+    inr (
+      length (spelled log),
+      bad.0,
+      record {
+        log = log;
+        left = left;
+        begins = h;
+        place_is = refl;
+        bad = inr (record { next = r; stands = record { spells = spells; rest = rest; parts = parts }; unfit = bad.1 });
+      },
+    )

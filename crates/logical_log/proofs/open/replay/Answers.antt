@@ -1,0 +1,45 @@
+use Rattle.std.proofs.Common.{◌≡◌, List, ◌∷◌, sym, subst}
+use Rattle.std.proofs.lemmas.Result.{err_from_is_err_and}
+use Rattle.history.specs.declared.record.Record.{Record}
+use Rattle.history.specs.Legal.{IsLegal}
+use Rattle.logical_log.specs.Kept.{FramesView}
+use Rattle.logical_log.specs.Opening.{BeginsAs}
+use Rattle.logical_log.specs.Replay.{IsIndex}
+use Rattle.logical_log.proofs.Opening.{begins_nothing, begins_more, index_nothing, shorter, refused_next}
+use Rattle.logical_log.proofs.open.replay.Goals as goal
+
+pub loop-found-init : goal.loop-found-init
+loop-found-init c =
+    let Starts : FramesView
+    → Type 0 = λ f. BeginsAs c.args.bytes.items f.records f.left × IsIndex f.records c.new-index.result in
+    subst Starts (sym c.new-frames.ensures) (
+      begins_nothing c.args.bytes.items,
+      index_nothing c.new-index.result c.new-index.ensures.open
+          c.new-index.ensures.holders c.new-index.ensures.answered,
+    )
+
+pub loop-found-smaller : goal.loop-found-smaller
+loop-found-smaller c = shorter c.loop-found.frames.left c.in-Record.found c.step.new.frames.left
+    c.in_ok-step-in-Record.ensures.left
+
+pub loop-found-preserved : goal.loop-found-preserved
+loop-found-preserved c =
+    let log' : List Record = c.step.new.frames.records in
+    let Begun : List Record → Type 0 = λ l. BeginsAs c.args.bytes.items l c.step.new.frames.left in
+    let grown : log' ≡ c.in-Record.found ∷ c.loop-found.frames.records = c.in_ok-step-in-Record.ensures.records in
+    let legal : IsLegal (c.in-Record.found ∷ c.loop-found.frames.records) = subst IsLegal grown
+    c.in_ok-step-in-Record.ensures.index.legal in (
+      subst Begun (sym grown)
+          (begins_more c.args.bytes.items c.loop-found.frames.records c.loop-found.frames.left c.in-Record.found
+          c.step.new.frames.left c.loop-found.invariant.0 legal c.in-Record.ensures.found.fits
+          c.in_ok-step-in-Record.ensures.room c.in_ok-step-in-Record.ensures.left),
+      c.in_ok-step-in-Record.ensures.index,
+    )
+
+pub returns-in_err-step-in-Record-clause-refused : goal.returns-in_err-step-in-Record-clause-refused
+returns-in_err-step-in-Record-clause-refused c =
+    let p = err_from_is_err_and c.from_residual.result c.from_residual.ensures.1 in
+    rw (p.1, p.2)
+    (refused_next c.args.bytes.items c.loop-found.frames.records c.loop-found.frames.left c.in-Record.found _ _
+    c.loop-found.invariant.0 c.in-Record.ensures.found.fits c.in-Record.ensures.found.parts
+    c.in_err-step-in-Record.ensures.refused)

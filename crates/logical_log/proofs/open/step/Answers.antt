@@ -1,0 +1,49 @@
+use Rattle.std.proofs.Common.{◌≡◌, ◌∙◌, ℕ, ◌+◌, List, ◌∷◌, sym, ap, subst, arith, length}
+use Rattle.history.specs.declared.record.Record.{Record}
+use Rattle.history.specs.Legal.{Fits, FitsCheckpoint}
+use Rattle.logical_log.specs.Replay.{IsIndex, Follows, Holds, latest_in, holder_in}
+use Rattle.logical_log.specs.declared.replay.Index.{Index}
+use Rattle.logical_log.proofs.Answered.{answered_longer}
+use Rattle.logical_log.proofs.Following.{followed}
+use Rattle.logical_log.proofs.open.step.Goals as goal
+
+-- what the goals below share: the records grew, and the index follows
+index_now : (log log' : List Record) (r : Record) (number : ℕ) (old new : Index) → log' ≡ r ∷ log
+    → number ≡ length log' → IsIndex log old → Fits log r
+    → Follows r number (latest_in old) (latest_in new) → Holds r (holder_in old) (holder_in new)
+    → FitsCheckpoint log' new.answered → IsIndex log' new
+index_now log log' r number old new grown is h fits txns keys answered =
+    let Of : List Record → Type 0 = λ l. IsIndex l new in
+    let At : List Record → Type 0 = λ l. FitsCheckpoint l new.answered in
+    let n : number ≡ length log + 1 = is ∙ ap length grown ∙ omega arith in
+    subst Of (sym grown) (followed log r number old new h fits n txns keys (subst At grown answered))
+
+pub returns-in-Checkpoint-clause-index : goal.returns-in-Checkpoint-clause-index
+returns-in-Checkpoint-clause-index c =
+    index_now c.args.frames.now.records c.accept.new.self.records c.args.found.now c.len-2.result c.args.index.now
+    (record {
+      «open» = c.follow.new.self.open;
+      holders = c.follow.new.self.holders;
+      answered =
+          c.answered_from-index.result;
+    })
+    c.in_ok-accept.ensures.records c.len-2.ensures.count c.requires.index (c.fits.ensures.0 c.if-not-fits.false)
+    c.in_ok-follow.ensures.open c.in_ok-follow.ensures.holders c.answered_from-index.ensures.is
+
+pub returns-in_default : goal.returns-in_default
+returns-in_default c = record {
+  records = c.in_ok-accept.ensures.records;
+  left = c.in_ok-accept.ensures.left;
+  room = omega (arith, c.len.ensures.count, c.if-len-ge-LAST_NUMBER.false);
+  index =
+      let r : Record = c.args.found.now in
+      let log : List Record = c.args.frames.now.records in
+      let At : List Record → Type 0 = λ l. FitsCheckpoint l c.follow.new.self.answered in
+      let known : FitsCheckpoint log c.follow.new.self.answered = let P : ℕ → Type 0 = λ n. FitsCheckpoint log n in
+      subst P (sym c.in_ok-follow.ensures.answered) c.requires.index.answered in
+      index_now log c.accept.new.self.records r c.len-2.result c.args.index.now c.follow.new.self
+      c.in_ok-accept.ensures.records c.len-2.ensures.count c.requires.index (c.fits.ensures.0 c.if-not-fits.false)
+      c.in_ok-follow.ensures.open c.in_ok-follow.ensures.holders
+      (subst At (sym c.in_ok-accept.ensures.records) (answered_longer r log c.follow.new.self.answered known));
+  refused = tt;
+}

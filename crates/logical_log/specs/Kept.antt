@@ -1,0 +1,31 @@
+-- What holds of frames, and of a log, as they are kept.
+use Rattle.std.specs.Prelude.{◌≡◌, ℕ, ◌≤◌, ◌<◌, ◌^◌, List, [], ◌++◌, length}
+use Rattle.history.specs.declared.record.Record.{Record}
+use Rattle.history.specs.Legal.{IsLegal}
+use Rattle.stable.specs.Crash.{BeginsWith}
+use Rattle.logical_log.specs.Index.{index}
+use Rattle.logical_log.specs.Low.{stable_part, IsGreatestLow}
+use Rattle.logical_log.specs.Spelled.{spelled, places, AreRecords}
+
+-- what is seen of frames: the records that were read, the newest first, and the bytes after these
+pub record FramesView : Type 0 where
+  pub records : List Record
+  pub left : List ℕ
+
+-- the records are legal and have spellings, and what is kept of them is right
+pub record AreFrames (log : List Record) (bytes left begins answers : List ℕ) (end : ℕ) : Type 0 where
+  pub legal : IsLegal log
+  pub spellable : AreRecords log
+  pub numbered : length log < 2 ^ 48
+  pub bytes_are : bytes ≡ spelled log ++ left
+  pub end_is : end ≡ length (spelled log)
+  pub begins_are : begins ≡ places log
+  pub indexed : answers ≡ index log
+
+-- all bytes are frames, the device holds just these, and the stable records are among what every crash leaves
+pub record IsKept (frames : FramesView) (stable answered : ℕ) (forced pending : List ℕ) : Type 0 where
+  pub all_read : frames.left ≡ []
+  pub within : stable ≤ length frames.records
+  pub greatest : IsGreatestLow frames.records stable answered
+  pub stored : forced ++ pending ≡ spelled frames.records
+  pub covered : BeginsWith forced (spelled (stable_part frames.records stable))

@@ -1,0 +1,7 @@
+pub mod Index
+pub mod Kept
+pub mod LogView
+pub mod Low
+pub mod Opening
+pub mod Replay
+pub mod Spelled

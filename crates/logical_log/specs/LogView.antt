@@ -1,0 +1,51 @@
+-- What callers see of a log, and what its calls do to it.
+use Rattle.std.specs.Prelude.{◌≡◌, ◌⊎◌, ℕ, ◌+◌, Bool, false, List, [], ◌∷◌, Option, Some, None, Result, Err, length, nat_le}
+use Rattle.record_key.specs.FirstCause.{first_of}
+use Rattle.record_key.specs.declared.refusal.Refusal.{Refusal}
+use Rattle.record_key.specs.declared.refusal.Refusal.TheVariants.{NoMemory, Device, NumbersSpent}
+use Rattle.stable.specs.declared.error.DeviceError.{DeviceError}
+use Rattle.stable.specs.declared.error.DeviceError.TheVariants as device
+use Rattle.history.specs.declared.record.Record.{Record}
+
+-- the records, the newest first, how many of them are stable, and how often the device has failed
+pub record LogView : Type 0 where
+  pub records : List Record
+  pub stable : ℕ
+  pub failures : ℕ
+
+-- the next number would be 2 to the power of 48
+abbrev pub is_spent : List Record → Bool
+is_spent log = nat_le 281474976710655 (length log)
+
+abbrev pub spent_refusal : List Record → Option Refusal
+spent_refusal log = first_of ((is_spent log, NumbersSpent) ∷ [])
+
+-- the record stands at this number, after all the others
+pub record Appends (old : LogView) (r : Record) (number : ℕ) (new : LogView) : Type 0 where
+  pub unspent : is_spent old.records ≡ false
+  pub number_is : number ≡ length old.records + 1
+  pub log : new ≡ record old { records = r ∷ old.records }
+
+-- the first cause where there is one, else want of memory or a failure of the device
+abbrev pub MayRefuse : Option Refusal → Refusal → Type 0
+MayRefuse (Some r) given = given ≡ r
+MayRefuse None given = (given ≡ NoMemory) ⊎ (given ≡ Device)
+
+-- the log after a call that was refused so: as it was, but for one failure more where the device failed
+abbrev pub after_refusal : LogView → Refusal → LogView
+after_refusal log Device = record log { failures = log.failures + 1 }
+after_refusal log _ = log
+
+-- how many failures of the device a refusal tells, and an answer
+abbrev pub failures_of : Refusal → ℕ
+failures_of Device = 1
+failures_of _ = 0
+
+abbrev pub failures_in : {T : Type 0} → Result T Refusal → ℕ
+failures_in (Err Device) = 1
+failures_in _ = 0
+
+-- the refusal that a device's error is answered with
+abbrev pub refusal_from : DeviceError → Refusal
+refusal_from device.NoMemory = NoMemory
+refusal_from device.Device = Device

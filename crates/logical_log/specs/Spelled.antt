@@ -1,0 +1,41 @@
+-- A log as bytes: the frames of its records one after another.
+use Rattle.std.specs.Prelude.{ℕ, List, [], ◌∷◌, ◌++◌, length, map, reverse, drop}
+use Rattle.std.specs.List.{AllByRecursion}
+use Rattle.codec.specs.Frames.{frame, IsThere}
+use Rattle.codec.specs.Records.{record_bytes, IsRecord}
+use Rattle.codec.specs.Reading.{record_at, frame_at, within}
+use Rattle.codec.specs.declared.taken.Taken.{Taken}
+use Rattle.codec.specs.declared.taken.Taken.TheVariants as took
+use Rattle.history.specs.declared.record.Record.{Record}
+use Rattle.history.specs.declared.record.Record.TheVariants as is
+
+-- the frames of the records, the oldest first
+unfoldable pub spelled : List Record → List ℕ
+spelled [] = []
+spelled (r ∷ log) = spelled log ++ frame (record_bytes r)
+
+-- where the frame of each record begins
+unfoldable pub places : List Record → List ℕ
+places [] = []
+places (r ∷ log) = places log ++ length (spelled log) ∷ []
+
+-- each record has a spelling
+abbrev pub AreRecords : List Record → Type 0
+AreRecords log = AllByRecursion IsRecord log
+
+abbrev pub taken_or_session : Taken Record → Record
+taken_or_session (took.Record r next) = r
+taken_or_session took.Short = is.Session
+taken_or_session (took.Bad place) = is.Session
+
+-- the record whose frame begins at a place
+unfoldable pub read_at : List ℕ → ℕ → Record
+read_at bytes place = taken_or_session (within place record_at (frame_at 181 place (drop place bytes)))
+
+-- the records whose frames begin at these places, the last one first
+unfoldable pub records_at : List ℕ → List ℕ → List Record
+records_at bytes begins = reverse (map (read_at bytes) begins)
+
+-- of the bytes left after a log, the first are a record's frame, and the next place is after it
+abbrev pub IsNext : List Record → List ℕ → Record → ℕ → Type 0
+IsNext log left r next = IsThere Record record_bytes IsRecord (length (spelled log)) left r next

@@ -1,0 +1,138 @@
+//! Whether a record may follow the records that were read, by an index and a few looks at these.
+ghost use Rattle.std.specs.Prelude.{◌≡◌, ◌↔◌, IsTrue};
+ghost use Rattle.history.specs.Log.{record_at};
+ghost use Rattle.history.specs.Legal.{Fits, FitsOp, FitsAnswer, FitsComp, FitsCommit, FitsEnd, FitsCheckpoint, Inverts};
+ghost use Rattle.log_laws.specs.Laws.{undo_from, prev_in};
+ghost use Rattle.logical_log.specs.Replay.{IsIndex};
+
+use crate::frames::Frames;
+use crate::note::asks;
+use crate::replay::Index;
+use history::Record;
+use inverse::inverse;
+use record_key::Op;
+
+/// What a transaction has left to undo from a step of it on.
+fn undo_from(frames: &Frames, step: u64) -> u64
+    ensures { result ≡ undo_from (record_at frames.now.records step) step }
+{
+    match frames.record(step) {
+        Some(Record::Comp { next, .. }) => next,
+        Some(Record::Op { .. }) => step,
+        _ => 0,
+    }
+}
+
+/// What it has left below an operation.
+fn undo_below(frames: &Frames, number: u64) -> u64
+    ensures { result ≡ undo_from (record_at frames.now.records (prev_in (record_at frames.now.records number)))
+        (prev_in (record_at frames.now.records number)) }
+{
+    match frames.record(number) {
+        Some(Record::Op { prev, .. }) => undo_from(frames, prev),
+        _ => undo_from(frames, 0),
+    }
+}
+
+/// What undoes the answered operation is this.
+fn inverts(frames: &Frames, undoes: u64, by: &Option<Op>) -> bool
+    ensures { IsTrue result ↔ Inverts frames.now.records undoes by.now }
+{
+    match (frames.record(undoes), frames.answer_of(undoes)) {
+        (Some(Record::Op { op, .. }), Some(answer)) => inverse(&op, &answer) == *by,
+        _ => false,
+    }
+}
+
+fn fits_op(index: &Index, frames: &Frames, txn: u64, prev: u64, op: &Op) -> bool
+    requires { IsIndex frames.now.records index.now }
+    ensures { IsTrue result ↔ FitsOp frames.now.records txn prev op.now }
+{
+    match index.ready(frames, txn) {
+        Some(latest) => latest == prev && index.is_free(frames, txn, op.key()),
+        None => false,
+    }
+}
+
+fn fits_answer(frames: &Frames, of: u64) -> bool
+    ensures { IsTrue result ↔ FitsAnswer frames.now.records of }
+{
+    match frames.record(of) {
+        Some(item) => asks(&item) && frames.answer_of(of).is_none(),
+        None => false,
+    }
+}
+
+fn fits_comp(
+    index: &Index,
+    frames: &Frames,
+    txn: u64,
+    undoes: u64,
+    next: u64,
+    by: &Option<Op>,
+) -> bool
+    requires { IsIndex frames.now.records index.now }
+    ensures { IsTrue result ↔ FitsComp frames.now.records txn undoes next by.now }
+{
+    let Some(latest) = index.ready(frames, txn) else {
+        return false;
+    };
+    if undoes == 0 {
+        return false;
+    }
+    if undo_from(frames, latest) != undoes {
+        return false;
+    }
+    if undo_below(frames, undoes) != next {
+        return false;
+    }
+    inverts(frames, undoes, by)
+}
+
+fn fits_commit(index: &Index, frames: &Frames, txn: u64) -> bool
+    requires { IsIndex frames.now.records index.now }
+    ensures { IsTrue result ↔ FitsCommit frames.now.records txn }
+{
+    match index.ready(frames, txn) {
+        Some(_) => true,
+        None => false,
+    }
+}
+
+fn fits_end(index: &Index, frames: &Frames, txn: u64) -> bool
+    requires { IsIndex frames.now.records index.now }
+    ensures { IsTrue result ↔ FitsEnd frames.now.records txn }
+{
+    match index.ready(frames, txn) {
+        Some(latest) => undo_from(frames, latest) == 0,
+        None => false,
+    }
+}
+
+fn fits_checkpoint(index: &Index, frames: &Frames, low: u64) -> bool
+    requires { IsIndex frames.now.records index.now }
+    ensures { IsTrue result ↔ FitsCheckpoint frames.now.records low }
+{
+    low <= frames.answered_from(index.answered)
+}
+
+/// Whether the record may follow.
+pub(crate) fn fits(index: &Index, frames: &Frames, next: &Record) -> bool
+    requires { IsIndex frames.now.records index.now }
+    ensures { IsTrue result ↔ Fits frames.now.records next.now }
+{
+    match next {
+        Record::Session | Record::Begin => true,
+        Record::Op { txn, prev, op } => fits_op(index, frames, *txn, *prev, op),
+        Record::Answer { of, .. } => fits_answer(frames, *of),
+        Record::Comp {
+            txn,
+            undoes,
+            next,
+            inverse,
+        } => fits_comp(index, frames, *txn, *undoes, *next, inverse),
+        Record::Commit { txn } => fits_commit(index, frames, *txn),
+        Record::End { txn } => fits_end(index, frames, *txn),
+        Record::Checkpoint { low } => fits_checkpoint(index, frames, *low),
+    }
+}

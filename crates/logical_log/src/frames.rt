@@ -1,0 +1,181 @@
+//! The frames of records, one after another, with an index of places and of answers.
+ghost use Rattle.std.specs.Prelude.{◌≡◌, ◌+◌, ◌<◌, ◌^◌, ◌↔◌, ◌++◌, ◌∷◌, [], ℕ, List, length, None, IsTrue, OnOk, OnErr, IfErr};
+ghost use Rattle.history.specs.Log.{record_at, answer_of};
+ghost use Rattle.history.specs.Legal.{Fits, IsLegal};
+ghost use Rattle.history.specs.declared.record.Record.{Record};
+ghost use Rattle.codec.specs.Frames.{frame, IfTaken, IfBad, IsThere, IsCut};
+ghost use Rattle.codec.specs.Records.{record_bytes, HasNumbers, IsRecord};
+ghost use Rattle.logical_log.specs.Index.{is_answered};
+ghost use Rattle.logical_log.specs.LogView.{MayRefuse, failures_in};
+ghost use Rattle.logical_log.specs.Spelled.{spelled, IsNext};
+
+use crate::note::{answer_held, answer_place, asks, note};
+use crate::write::write;
+use codec::{Taken, take_record};
+use history::Record;
+use record_key::{Answer, Refusal};
+use stable::LogDevice;
+use std::alloc::{AllocError, Global};
+use std::marker::Model;
+
+/// A clause sees the records that were read and the bytes that are left after them.
+#[derive(Drop)]
+pub(crate) struct Frames {
+    bytes: Vec<u8>,
+    // Where the frames that were read end.
+    end: usize,
+    // Where the frame of each record begins.
+    places: Vec<usize>,
+    // For each record the number of its Answer record, 0 while there is none.
+    answers: Vec<u64>,
+}
+
+impl Model for Frames {
+    ghost use Rattle.std.specs.Prelude.{drop};
+    ghost use Rattle.logical_log.specs.Kept.{FramesView, AreFrames};
+    ghost use Rattle.logical_log.specs.Spelled.{records_at};
+
+    ghost Value = { FramesView };
+
+    ghost view = { λ f. record {
+      records = records_at f.bytes.items f.places.items;
+      left = drop f.end f.bytes.items;
+    } };
+
+    ghost invariant = { λ f. AreFrames (records_at f.bytes.items f.places.items) f.bytes.items
+        (drop f.end f.bytes.items) f.places.items f.answers.items f.end };
+}
+
+impl Frames {
+    /// Bytes of which nothing was read.
+    pub(crate) fn new(alloc: Global, bytes: Vec<u8>) -> Frames
+        ensures { result ≡ record { records = []; left = bytes.items } }
+    {
+        Frames {
+            bytes,
+            end: 0,
+            places: Vec::new(alloc),
+            answers: Vec::new(alloc),
+        }
+    }
+
+    pub(crate) fn len(&self) -> u64
+        ensures count { result ≡ length self.now.records }
+        ensures numbered { result < 2 ^ 48 }
+        ensures legal { IsLegal self.now.records }
+    {
+        self.places.len() as u64
+    }
+
+    pub(crate) fn record(&self, number: u64) -> Option<Record>
+        ensures { result ≡ record_at self.now.records number }
+    {
+        let count = self.len();
+        if number == 0 || count < number {
+            return None;
+        }
+        match take_record(&self.bytes, self.places[number as usize - 1]) {
+            Taken::Record(found, _) => Some(found),
+            _ => None,
+        }
+    }
+
+    pub(crate) fn answer_of(&self, number: u64) -> Option<Answer>
+        ensures { result ≡ answer_of self.now.records number }
+    {
+        let answers = self.answers.as_slice();
+        if number == 0 {
+            return None;
+        }
+        answer_held(self.record(answer_place(answers, number)))
+    }
+
+    /// The record of this number asks for nothing, or is answered.
+    pub(crate) fn is_answered(&self, number: u64) -> bool
+        ensures { result ≡ is_answered self.now.records number }
+    {
+        match self.record(number) {
+            Some(item) if asks(&item) => self.answer_of(number).is_some(),
+            _ => true,
+        }
+    }
+
+    /// Where the frames that were read end.
+    pub(crate) fn end(&self) -> usize
+        ensures { result ≡ length (spelled self.now.records) }
+    {
+        self.end
+    }
+
+    /// Nothing is left after the records that were read.
+    pub(crate) fn is_read(&self) -> bool
+        ensures { IsTrue result ↔ (self.now.left ≡ []) }
+    {
+        self.bytes.len() <= self.end
+    }
+
+    /// What stands after the records that were read.
+    pub(crate) fn next(&self) -> Taken<Record>
+        ensures found { IfTaken result (IsNext self.now.records self.now.left) }
+        ensures only { (r : Record) (rest : List ℕ) → IsRecord r → self.now.left ≡ frame (record_bytes r) ++ rest
+            → result ≡ Taken.Record r (length (spelled self.now.records) + length (frame (record_bytes r))) }
+        ensures short { (result ≡ Taken.Short) ↔ IsCut 181 self.now.left }
+        ensures bad { IfBad result (λ place. place ≡ length (spelled self.now.records)) }
+    {
+        take_record(&self.bytes, self.end)
+    }
+
+    /// Counts what stands next among the records that were read.
+    pub(crate) fn accept(&mut self, accepted: &Record, next: usize) -> Result<(), AllocError>
+        requires stands { IsNext self.old.records self.old.left accepted.now next }
+        requires fits { Fits self.old.records accepted.now }
+        requires room { length self.old.records < 281474976710655 }
+        ensures records { OnOk result (self.new.records ≡ accepted.now ∷ self.old.records) }
+        ensures left { OnOk result (self.old.left ≡ frame (record_bytes accepted.now) ++ self.new.left) }
+        ensures unchanged { OnErr result (self.new ≡ self.old) }
+    {
+        self.places.reserve(1)?;
+        self.answers.reserve(1)?;
+        let number = self.places.len() as u64 + 1;
+        note(&mut self.answers, accepted, number);
+        self.places.push_reserved(self.end);
+        self.end = next;
+        Ok(())
+    }
+
+    /// Appends a record here and to the device, or to neither.
+    pub(crate) fn append<D: LogDevice>(
+        &mut self,
+        device: &mut D,
+        appended: &Record,
+    ) -> Result<(), Refusal>
+        requires all_read { self.old.left ≡ [] }
+        requires fits { Fits self.old.records appended.now }
+        requires numbers { HasNumbers appended.now }
+        requires room { length self.old.records < 281474976710655 }
+        ensures records { OnOk result (self.new ≡ record self.old { records = appended.now ∷ self.old.records }) }
+        ensures written { OnOk result (D.pending device.new
+            ≡ D.pending device.old ++ frame (record_bytes appended.now)) }
+        ensures unchanged { OnErr result (self.new ≡ self.old) }
+        ensures not_written { OnErr result (D.pending device.new ≡ D.pending device.old) }
+        ensures forced { D.forced device.new ≡ D.forced device.old }
+        ensures cause { IfErr result (MayRefuse None) }
+        ensures failures { D.failures device.new ≡ D.failures device.old + failures_in result }
+    {
+        self.places.reserve(1)?;
+        self.answers.reserve(1)?;
+        write(device, &mut self.bytes, appended)?;
+        let number = self.places.len() as u64 + 1;
+        note(&mut self.answers, appended, number);
+        self.places.push_reserved(self.end);
+        self.end = self.bytes.len();
+        Ok(())
+    }
+
+    /// Drops what is left after the records.
+    pub(crate) fn cut(&mut self)
+        ensures { self.new ≡ record self.old { left = [] } }
+    {
+        self.bytes.truncate(self.end);
+    }
+}

@@ -1,0 +1,23 @@
+//! The transaction log: a list of records with a stable beginning, kept as bytes on a device.
+//!
+//! Knows: the spelling of records, which logs are legal, and what a log device promises.
+//! Must not know: who appends and why, what is sent, or how the bytes outlive a crash.
+//! Promises the next crates: the log is legal at every moment and its device holds just the frames of its records, the
+//! stable ones among what every crash leaves; a record is read back as it was appended, without a device call; a
+//! refused call leaves the records as they were and names its cause.
+#![tactic(auto)]
+
+mod fits;
+mod frames;
+mod log;
+mod low;
+mod note;
+mod open;
+mod replay;
+mod write;
+
+pub use log::Log;
+pub use open::Refused;
+
+#[cfg(test)]
+mod tests;

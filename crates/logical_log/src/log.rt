@@ -1,0 +1,114 @@
+//! The log and what is read of it.
+ghost use Rattle.std.specs.Prelude.{◌≡◌, ◌<◌, ◌^◌, ◌++◌, [], length};
+ghost use Rattle.history.specs.Log.{record_at, answer_of};
+ghost use Rattle.history.specs.Legal.{IsLegal, FitsCheckpoint, IsLatest};
+ghost use Rattle.stable.specs.Crash.{BeginsWith};
+ghost use Rattle.logical_log.specs.Low.{stable_part, IsGreatestLow};
+ghost use Rattle.logical_log.specs.Spelled.{spelled};
+
+use crate::frames::Frames;
+use history::Record;
+use record_key::Answer;
+use stable::LogDevice;
+use std::alloc::Global;
+use std::marker::Model;
+
+/// Records by their numbers, from 1, kept as bytes on a device.
+#[derive(Drop)]
+pub struct Log<D: LogDevice> {
+    pub(crate) device: D,
+    // What the device holds, so that a reader needs no device call.
+    pub(crate) frames: Frames,
+    pub(crate) stable: u64,
+    // Up to where every stable request has a stable answer.
+    pub(crate) answered: u64,
+}
+
+impl<D: LogDevice> Model for Log<D> {
+    ghost use Rattle.logical_log.specs.LogView.{LogView};
+    ghost use Rattle.logical_log.specs.Kept.{IsKept};
+
+    ghost Value = { LogView };
+
+    ghost view = { λ l. record {
+      records = l.frames.records;
+      stable = l.stable;
+      failures = D.failures l.device;
+    } };
+
+    ghost invariant = { λ l. IsKept l.frames l.stable l.answered (D.forced l.device) (D.pending l.device) };
+}
+
+impl<D: LogDevice> Log<D> {
+    /// The log of no records, on an empty device.
+    pub fn new(alloc: Global, device: D) -> Log<D>
+        requires empty { (D.forced device ≡ []) × (D.pending device ≡ []) }
+        ensures { result ≡ record { records = []; stable = 0; failures = D.failures device } }
+    {
+        Log {
+            device,
+            frames: Frames::new(alloc, Vec::new(alloc)),
+            stable: 0,
+            answered: 0,
+        }
+    }
+
+    /// The device, as a crash finds it: all records stand on it, and the stable ones are forced.
+    pub fn stop(self) -> D
+        ensures holds { D.forced result ++ D.pending result ≡ spelled self.records }
+        ensures forced { BeginsWith (D.forced result) (spelled (stable_part self.records self.stable)) }
+        ensures failures { D.failures result ≡ self.failures }
+    {
+        let Log {
+            device,
+            frames: _,
+            stable: _,
+            answered: _,
+        } = self;
+        device
+    }
+
+    /// How many records there are.
+    pub fn len(&self) -> u64
+        ensures count { result ≡ length self.now.records }
+        ensures numbered { result < 2 ^ 48 }
+        ensures legal { IsLegal self.now.records }
+    {
+        self.frames.len()
+    }
+
+    /// The number up to which records are stable.
+    pub fn stable_end(&self) -> u64
+        ensures { result ≡ self.now.stable }
+    {
+        self.stable
+    }
+
+    /// The record of this number. Takes no memory and makes no device call.
+    pub fn record(&self, number: u64) -> Option<Record>
+        ensures { result ≡ record_at self.now.records number }
+    {
+        self.frames.record(number)
+    }
+
+    /// The answer of this number's operation, if its Answer record stands.
+    pub fn answer_of(&self, number: u64) -> Option<Answer>
+        ensures { result ≡ answer_of self.now.records number }
+    {
+        self.frames.answer_of(number)
+    }
+
+    /// The greatest stable number up to which every request has a stable answer.
+    pub fn answered_end(&self) -> u64
+        ensures { IsGreatestLow self.now.records self.now.stable result }
+    {
+        self.answered
+    }
+
+    /// The greatest number up to which every request has its answer.
+    pub(crate) fn answered_of_all(&self) -> u64
+        ensures { IsLatest (FitsCheckpoint self.now.records) result }
+    {
+        self.frames.answered_from(self.answered)
+    }
+}

@@ -1,0 +1,87 @@
+//! What changes the log.
+ghost use Rattle.std.specs.Prelude.{◌≡◌, ◌+◌, ◌++◌, None, length, OnOk, OnErr, IfOk, IfErr};
+ghost use Rattle.history.specs.Legal.{Fits};
+ghost use Rattle.codec.specs.Frames.{frame};
+ghost use Rattle.codec.specs.Records.{record_bytes, HasNumbers, IsRecord};
+ghost use Rattle.logical_log.specs.LogView.{Appends, spent_refusal, MayRefuse, after_refusal, failures_in, refusal_from};
+
+use crate::log::Log;
+use codec::put_record;
+use history::Record;
+use record_key::Refusal;
+use stable::{DeviceError, LogDevice};
+
+/// The greatest number that a record may have.
+pub(crate) const LAST_NUMBER: u64 = 281_474_976_710_655;
+
+impl<D: LogDevice> Log<D> {
+    /// Appends a record that fits, in one device call, and answers its number. Refused NumbersSpent, NoMemory or
+    /// Device, in this order.
+    pub fn append(&mut self, appended: &Record) -> Result<u64, Refusal>
+        requires fits { Fits self.old.records appended.now }
+        requires numbers { HasNumbers appended.now }
+        ensures appended { IfOk result (λ number. Appends self.old appended.now number self.new) }
+        ensures refused { IfErr result (MayRefuse (spent_refusal self.old.records)) }
+        ensures left { IfErr result (λ refusal. self.new ≡ after_refusal self.old refusal) }
+    {
+        if self.len() >= LAST_NUMBER {
+            return Err(Refusal::NumbersSpent);
+        }
+        self.frames.append(&mut self.device, appended)?;
+        Ok(self.frames.len())
+    }
+
+    /// Makes every record stable, in one device call, and answers the number of the last. The one refusal is Device.
+    pub fn force(&mut self) -> Result<u64, Refusal>
+        ensures end { IfOk result (λ end. end ≡ length self.old.records) }
+        ensures forced { OnOk result (self.new ≡ record self.old { stable = length self.old.records }) }
+        ensures refused { IfErr result (λ refusal. refusal ≡ Refusal.Device) }
+        ensures left { IfErr result (λ refusal. self.new ≡ after_refusal self.old refusal) }
+    {
+        let end = self.len();
+        let answered = self.answered_of_all();
+        if let Err(error) = self.device.force() {
+            return Err(refusal_of(error));
+        }
+        self.stable = end;
+        self.answered = answered;
+        Ok(end)
+    }
+}
+
+/// Appends the record's frame to the device and to the copy of its bytes, to both or to neither.
+pub(crate) fn write<D: LogDevice>(
+    device: &mut D,
+    bytes: &mut Vec<u8>,
+    appended: &Record,
+) -> Result<(), Refusal>
+    requires { HasNumbers appended.now }
+    ensures copied { OnOk result (bytes.new.items ≡ bytes.old.items ++ frame (record_bytes appended.now)) }
+    ensures written { OnOk result (D.pending device.new
+        ≡ D.pending device.old ++ frame (record_bytes appended.now)) }
+    ensures not_copied { OnErr result (bytes.new.items ≡ bytes.old.items) }
+    ensures not_written { OnErr result (D.pending device.new ≡ D.pending device.old) }
+    ensures forced { D.forced device.new ≡ D.forced device.old }
+    ensures cause { IfErr result (MayRefuse None) }
+    ensures failures { D.failures device.new ≡ D.failures device.old + failures_in result }
+    ensures has_spelling { IsRecord appended.now }
+{
+    let place = bytes.len();
+    put_record(bytes, appended)?;
+    match device.append(&bytes[place..]) {
+        Ok(()) => Ok(()),
+        Err(error) => {
+            bytes.truncate(place);
+            Err(refusal_of(error))
+        }
+    }
+}
+
+pub(crate) fn refusal_of(error: DeviceError) -> Refusal
+    ensures { result ≡ refusal_from error }
+{
+    match error {
+        DeviceError::NoMemory => Refusal::NoMemory,
+        DeviceError::Device => Refusal::Device,
+    }
+}

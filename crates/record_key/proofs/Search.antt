@@ -1,0 +1,146 @@
+-- A binary search ends at the value's place: among rows by their keys, and among entries by their numbers.
+use Rattle.std.proofs.Common.{◌≡◌, ◌⊎◌, ℕ, zero, suc, ◌<◌, ◌≤◌, List, [], ◌∷◌, length, get_or, Result, Ok, Err, refl, sym, ap, ◌∙◌, arith, inl, inr}
+use Rattle.std.specs.Prelude.{T}
+use Rattle.std.specs.List.Sorted.{IsSearchInRange, IsBinarySearchResult, IsNonDecreasingBy}
+use Rattle.std.specs.Ordering.{nat_cmp, ordering_index, ordering_reverse}
+use Rattle.std.specs.declared.cmp.Ordering.{Ordering}
+use Rattle.std.specs.declared.cmp.Ordering.TheVariants.{Less, Equal, Greater}
+use Rattle.std.specs.Cmp.{nat_cmp_total}
+use Rattle.std.specs.FinMap.{is_sorted}
+use Rattle.std.specs.FinMap.Entries.{below_all}
+use Rattle.std.proofs.lemmas.Bool.{cases_lt}
+use Rattle.std.proofs.lemmas.Bool.Decides.{nat_tests}
+use Rattle.std.proofs.lemmas.Cmp.{nat_list_cmp_total}
+use Rattle.std.proofs.Math.Nat.{eq-or-lt_of_le}
+use Rattle.record_key.specs.Table.{Bytes}
+use Rattle.record_key.specs.Laws.{key_cmp}
+use Rattle.record_key.specs.Places.{StandsAt, BelongsAt, IsPlace}
+use Rattle.record_key.specs.Rows.{Row, AreInOrder, IsPlaceOf}
+use Rattle.record_key.specs.declared.entry.Entry.{Entry}
+use Rattle.record_key.specs.Entries.{RiseAbove, IsPlaceOfNumber}
+use Rattle.record_key.proofs.Truths.{is_lt-Less, and_first, and_second, as_T}
+
+-- the place, by what was compared
+module _ {X : Type 0} (order : X → Ordering) where
+  pub stands_from : (xs : List X) (p : ℕ) (d : X) → p < length xs
+      → ((j : ℕ) → j < p → order (get_or xs j d) ≡ Greater) → order (get_or xs p d) ≡ Equal → StandsAt order xs p
+  stands_from [] p d within below here = absurd (omega (arith, within))
+  stands_from (x ∷ xs) zero d within below here = here
+  stands_from (x ∷ xs) (suc p) d within below here = (
+    below 0 (omega arith),
+    stands_from xs p d (omega (arith, within)) (λ j lt. below (suc j) (omega (arith, lt))) here,
+  )
+
+  pub belongs_from : (xs : List X) (p : ℕ) (d : X) → p ≤ length xs
+      → ((j : ℕ) → j < p → order (get_or xs j d) ≡ Greater) → (p < length xs → order (get_or xs p d) ≡ Less) → BelongsAt order xs p
+  belongs_from [] p d within below above = omega (arith, within)
+  belongs_from (x ∷ xs) zero d within below above = above (omega arith)
+  belongs_from (x ∷ xs) (suc p) d within below above = (
+    below 0 (omega arith),
+    belongs_from xs p d (omega (arith, within)) (λ j lt. below (suc j) (omega (arith, lt))) (λ lt. above (omega (arith, lt))),
+  )
+
+at_most_two : (o : Ordering) → ordering_index o ≤ 2
+at_most_two Less = omega arith
+at_most_two Equal = omega arith
+at_most_two Greater = omega arith
+
+-- of two items in order the earlier is below the value, or the later is above it
+abbrev Part : Ordering → Ordering → Type 0
+Part o p = (o ≡ Less) ⊎ (p ≡ Greater)
+
+part_index : (o p : Ordering) → Part o p → ordering_index o ≤ ordering_index p
+part_index o p (inl less) = rw less (omega arith)
+part_index o p (inr greater) = rw greater (at_most_two o)
+
+part_less : (o p : Ordering) → Part o p → p ≡ Equal → o ≡ Less
+part_less o p (inl less) same = less
+part_less o p (inr greater) same = absurd (let no : Greater ≡ Equal = sym greater ∙ same in cc)
+
+-- how each item compares with the value, and how the value compares with each item
+module _ {X : Type 0} (items order : X → Ordering) (turned : (x : X) → order x ≡ ordering_reverse (items x)) (xs : List X)
+    (parts : (i j : ℕ) (d : X) → i < j → j < length xs → Part (items (get_or xs i d)) (items (get_or xs j d))) where
+  comparisons_rise : IsNonDecreasingBy (λ x. ordering_index (items x)) xs
+  comparisons_rise i j d le within =
+      elim (eq-or-lt_of_le le) [
+        | inr lt ↦ part_index (items (get_or xs i d)) (items (get_or xs j d)) (parts i j d lt within)
+        | inl same ↦ rw same (omega arith)
+      ]
+
+  turn : (x : X) (o : Ordering) → items x ≡ o → order x ≡ ordering_reverse o
+  turn x o is = turned x ∙ ap ordering_reverse is
+
+  pub searched : (d : X) (r : Result ℕ ℕ) → IsSearchInRange r (length xs) → IsBinarySearchResult items xs r → IsPlace order xs r
+  searched d (Ok at) within equal =
+      stands_from order xs at d within
+      (λ j lt. turn (get_or xs j d) Less (part_less _ _ (parts j at d lt within) (equal d)))
+      (turn (get_or xs at d) Equal (equal d))
+  searched d (Err gap) within parted =
+      belongs_from order xs gap d within
+      (λ j lt. turn (get_or xs j d) Less ((parted comparisons_rise).0 j d (omega (arith, within, lt)) lt))
+      (λ lt. turn (get_or xs gap d) Greater ((parted comparisons_rise).1 gap d (omega arith) lt))
+
+-- ---- rows
+
+-- the rows after the first are above it
+above_first : (x : Bytes) (rows : List Row) (j : ℕ) (d : Row) → T (below_all key_cmp x rows) → j < length rows → key_cmp x (get_or rows j d).0 ≡ Less
+above_first x [] j d below within = absurd (omega arith)
+above_first x (row ∷ rows) zero d below within = is_lt-Less _ (and_first _ _ below)
+above_first x (row ∷ rows) (suc j) d below within = above_first x rows j d (and_second _ _ below) (omega (arith, within))
+
+-- keys rise with their places
+rising : (rows : List Row) (i j : ℕ) (d : Row) → T (is_sorted key_cmp rows) → i < j → j < length rows
+    → key_cmp (get_or rows i d).0 (get_or rows j d).0 ≡ Less
+rising [] i j d sorted lt within = absurd (omega arith)
+rising (row ∷ rows) i zero d sorted lt within = absurd (omega arith)
+rising (row ∷ rows) zero (suc j) d sorted lt within = above_first row.0 rows j d (and_first _ _ sorted) (omega (arith, within))
+rising (row ∷ rows) (suc i) (suc j) d sorted lt within =
+    rising rows i j d (and_second _ _ sorted) (omega (arith, lt)) (omega (arith, within))
+
+keys_part : (x y k : Bytes) (o : Ordering) → key_cmp x y ≡ Less → key_cmp y k ≡ o → Part (key_cmp x k) (key_cmp y k)
+keys_part x y k Less below is = inl (nat_list_cmp_total.trans x y k below is)
+keys_part x y k Equal below is = inl (sym (alike x) ∙ below)
+  where
+    alike : (z : Bytes) → key_cmp z y ≡ key_cmp z k
+    alike z = nat_list_cmp_total.antisymm z y ∙ ap ordering_reverse (nat_list_cmp_total.congr y k z is) ∙ sym (nat_list_cmp_total.antisymm z k)
+keys_part x y k Greater below is = inr is
+
+pub rows_searched : (rows : List Row) → AreInOrder rows → (k : Bytes) (r : Result ℕ ℕ) → IsSearchInRange r (length rows)
+    → IsBinarySearchResult (λ (row : Row). key_cmp row.0 k) rows r → IsPlaceOf k rows r
+rows_searched rows ordered k r within found =
+    searched (λ (row : Row). key_cmp row.0 k) (λ (row : Row). key_cmp k row.0) (λ row. nat_list_cmp_total.antisymm k row.0) rows
+    (λ i j d lt le. keys_part (get_or rows i d).0 (get_or rows j d).0 k _ (rising rows i j d (as_T _ ordered) lt le) refl)
+    ([], []) r within found
+
+-- ---- entries
+
+numbers_above : (l : ℕ) (es : List Entry) (j : ℕ) (d : Entry) → RiseAbove l es → j < length es → l < (get_or es j d).number
+numbers_above l [] j d h within = absurd (omega (arith, within))
+numbers_above l (e ∷ es) zero d h within = h.0
+numbers_above l (e ∷ es) (suc j) d h within =
+    let above : e.number < (get_or es j d).number = numbers_above e.number es j d h.1 (omega (arith, within)) in omega (arith, above, h.0)
+
+numbers_rise : (l : ℕ) (es : List Entry) (i j : ℕ) (d : Entry) → RiseAbove l es → i < j → j < length es
+    → (get_or es i d).number < (get_or es j d).number
+numbers_rise l [] i j d h lt within = absurd (omega (arith, within))
+numbers_rise l (e ∷ es) i zero d h lt within = absurd (omega (arith, lt))
+numbers_rise l (e ∷ es) zero (suc j) d h lt within = numbers_above e.number es j d h.1 (omega (arith, within))
+numbers_rise l (e ∷ es) (suc i) (suc j) d h lt within =
+    numbers_rise e.number es i j d h.1 (omega (arith, lt)) (omega (arith, within))
+
+is_less : (m n : ℕ) → m < n → nat_cmp m n ≡ Less
+is_less m n h = grind (arith, nat_tests)
+
+is_greater : (m n : ℕ) → n < m → nat_cmp m n ≡ Greater
+is_greater m n h = grind (arith, nat_tests)
+
+numbers_part : (m n k : ℕ) → m < n → Part (nat_cmp m k) (nat_cmp n k)
+numbers_part m n k less =
+    elim (cases_lt m k) [ inl lt ↦ inl (is_less m k lt) | inr ge ↦ inr (is_greater n k (omega (arith, less, ge))) ]
+
+pub entries_searched : (es : List Entry) (l : ℕ) → RiseAbove l es → (n : ℕ) (d : Entry) (r : Result ℕ ℕ) → IsSearchInRange r (length es)
+    → IsBinarySearchResult (λ (e : Entry). nat_cmp e.number n) es r → IsPlaceOfNumber n es r
+entries_searched es l h n d r within found =
+    searched (λ (e : Entry). nat_cmp e.number n) (λ (e : Entry). nat_cmp n e.number) (λ e. nat_cmp_total.antisymm n e.number) es
+    (λ i j some lt le. numbers_part (get_or es i some).number (get_or es j some).number n (numbers_rise l es i j some h lt le))
+    d r within found

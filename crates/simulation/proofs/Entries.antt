@@ -1,0 +1,214 @@
+-- Histories of logs, filtered: what a crash leaves of them.
+use Rattle.std.proofs.Common.{◌≡◌, ℕ, ◌+◌, ◌<◌, ◌≤◌, Bool, true, false, cond, List, [], ◌∷◌, ◌++◌, length, Option, Some, None, refl, sym, ap, ◌∙◌, subst, arith, inl, inr}
+use Rattle.std.specs.Prelude.{map, filter, not, ◌&&◌, ◌||◌}
+use Rattle.std.specs.List.{AllByRecursion}
+use Rattle.record_key.specs.declared.op.Op.{Op}
+use Rattle.record_key.specs.declared.op.Answer.{Answer}
+use Rattle.history.specs.declared.record.Record.{Record}
+use Rattle.history.specs.declared.record.Record.TheVariants as is
+use Rattle.history.specs.History.{Entry}
+use Rattle.history.specs.Log.{answer_of, is_crossed, op_of, IsOpBy, hist_in, answered}
+use Rattle.history.specs.ListMachine.{fallen}
+use Rattle.log_laws.proofs.Records.{AnOp, at_newest, kept_at}
+use Rattle.log_laws.proofs.LegalLogs.{op_number}
+use Rattle.simulation.specs.View.{standing, IsFalling, HasEntry}
+use Rattle.simulation.proofs.Beginnings.{longer_length}
+
+-- the entry of an operation, as this log crosses it
+abbrev pub as_entry : List Record → ℕ → ℕ → Op → Answer → Entry
+as_entry log n t o a = record { number = n; txn = t; op = o; answer = a; crossed = is_crossed log n }
+
+-- one record's part of the history
+abbrev pub entry_of : List Record → ℕ → Option (ℕ × Op) → List Entry → List Entry
+entry_of log n None h = h
+entry_of log n (Some by) h = answered log n by.0 by.1 (answer_of log n) h
+
+pub hist_step : (log : List Record) (r : Record) (rest : List Record)
+    → hist_in log (r ∷ rest) ≡ entry_of log (length rest + 1) (op_of r) (hist_in log rest)
+hist_step log is.Session rest = refl
+hist_step log is.Begin rest = refl
+hist_step log (is.Op t p o) rest = refl
+hist_step log (is.Answer n a) rest = refl
+hist_step log (is.Comp t u x i) rest = refl
+hist_step log (is.Commit t) rest = refl
+hist_step log (is.End t) rest = refl
+hist_step log (is.Checkpoint l) rest = refl
+
+-- what holds of the operations of a log holds of those before
+pub older_ops : (P : ℕ → ℕ → Op → Type 0) (r : Record) (rest : List Record)
+    → ((n t : ℕ) (o : Op) → IsOpBy (r ∷ rest) n t o → P n t o)
+    → (n t : ℕ) (o : Op) → IsOpBy rest n t o → P n t o
+older_ops P r rest each n t o by = each n t o (kept_at (AnOp t o) r rest n (op_number rest n t o by) by)
+
+-- and of its newest, if that is one
+pub newest_op : (P : ℕ → ℕ → Op → Type 0) (r : Record) (rest : List Record)
+    → ((n t : ℕ) (o : Op) → IsOpBy (r ∷ rest) n t o → P n t o)
+    → (t : ℕ) (o : Op) → op_of r ≡ Some (t, o) → P (length rest + 1) t o
+newest_op P r rest each t o is = each (length rest + 1) t o (at_newest (AnOp t o) r rest (length rest + 1) refl is)
+
+-- an operation counts alike in two logs, or in neither
+pub data Agrees (x y : List Record) (p q : Entry → Bool) (n t : ℕ) (o : Op) : Type 0 where
+  Both : answer_of x n ≡ answer_of y n → is_crossed x n ≡ is_crossed y n
+      → ((a : Answer) → p (as_entry x n t o a) ≡ q (as_entry y n t o a)) → Agrees x y p q n t o
+  Neither : ((a : Answer) → p (as_entry x n t o a) ≡ false) → ((a : Answer) → q (as_entry y n t o a) ≡ false)
+      → Agrees x y p q n t o
+
+pass : (p : Entry → Bool) (e : Entry) (h : List Entry) → p e ≡ false → filter p (e ∷ h) ≡ filter p h
+pass p e h out = ap (λ (b : Bool). cond b (e ∷ filter p h) (filter p h)) out
+
+pass_answered : (x : List Record) (p : Entry → Bool) (n t : ℕ) (o : Op) (a : Option Answer) (h : List Entry)
+    → ((b : Answer) → p (as_entry x n t o b) ≡ false)
+    → filter p (answered x n t o a h) ≡ filter p h
+pass_answered x p n t o None h out = refl
+pass_answered x p n t o (Some a) h out = pass p (as_entry x n t o a) h (out a)
+
+both_answered : (x y : List Record) (p q : Entry → Bool) (n t : ℕ) (o : Op) (a b : Option Answer) (g h : List Entry)
+    → a ≡ b → is_crossed x n ≡ is_crossed y n
+    → ((a : Answer) → p (as_entry x n t o a) ≡ q (as_entry y n t o a)) → filter p g ≡ filter q h
+    → filter p (answered x n t o a g) ≡ filter q (answered y n t o b h)
+both_answered x y p q n t o None None g h e c same below = below
+both_answered x y p q n t o (Some a) (Some b) g h e c same below =
+    let one : a ≡ b = cc in
+    (λ j. cond (same a j) (record { number = n; txn = t; op = o; answer = a; crossed = c j } ∷ below j) (below j))
+    ∙ ap (λ z. filter q (as_entry y n t o z ∷ h)) one
+both_answered x y p q n t o None (Some b) g h e c same below = absurd (cc)
+both_answered x y p q n t o (Some a) None g h e c same below = absurd (cc)
+
+alike_answered : (x y : List Record) (p q : Entry → Bool) (n t : ℕ) (o : Op) (g h : List Entry) → Agrees x y p q n t o
+    → filter p g ≡ filter q h
+    → filter p (answered x n t o (answer_of x n) g) ≡ filter q (answered y n t o (answer_of y n) h)
+alike_answered x y p q n t o g h (Both e c same) below = both_answered x y p q n t o (answer_of x n) (answer_of y n) g h e c same below
+alike_answered x y p q n t o g h (Neither first second) below =
+    pass_answered x p n t o (answer_of x n) g first ∙ below ∙ sym (pass_answered y q n t o (answer_of y n) h second)
+
+alike_step : (x y : List Record) (p q : Entry → Bool) (n : ℕ) (by : Option (ℕ × Op)) (g h : List Entry)
+    → ((t : ℕ) (o : Op) → by ≡ Some (t, o) → Agrees x y p q n t o)
+    → filter p g ≡ filter q h → filter p (entry_of x n by g) ≡ filter q (entry_of y n by h)
+alike_step x y p q n None g h same below = below
+alike_step x y p q n (Some by) g h same below = alike_answered x y p q n by.0 by.1 g h (same by.0 by.1 refl) below
+
+-- so their histories do
+pub alike : (x y : List Record) (p q : Entry → Bool) (rest : List Record)
+    → ((n t : ℕ) (o : Op) → IsOpBy rest n t o → Agrees x y p q n t o)
+    → filter p (hist_in x rest) ≡ filter q (hist_in y rest)
+alike x y p q [] same = refl
+alike x y p q (r ∷ rest) same =
+    ap (filter p) (hist_step x r rest)
+    ∙ alike_step x y p q (length rest + 1) (op_of r) (hist_in x rest) (hist_in y rest) (newest_op (Agrees x y p q) r rest same)
+    (alike x y p q rest (older_ops (Agrees x y p q) r rest same))
+    ∙ ap (filter q) (sym (hist_step y r rest))
+
+-- entries up to a number are those of the records up to it
+abbrev AreWithin : ℕ → List Entry → Type 0
+AreWithin k h = AllByRecursion (λ (e : Entry). e.number ≤ k) h
+
+drop_one : (p : Entry → Bool) (k : ℕ) (e : Entry) (h : List Entry) (b : Bool) → k < e.number
+    → AreWithin k (cond b (e ∷ filter p h) (filter p h))
+    → (cond b (e ∷ filter p h) (filter p h) ≡ filter p h) × AreWithin k (filter p h)
+drop_one p k e h true above all = absurd (omega (arith, above, all.0))
+drop_one p k e h false above all = (refl, all)
+
+drop_answered : (x : List Record) (p : Entry → Bool) (k n t : ℕ) (o : Op) (a : Option Answer) (h : List Entry) → k < n
+    → AreWithin k (filter p (answered x n t o a h))
+    → (filter p (answered x n t o a h) ≡ filter p h) × AreWithin k (filter p h)
+drop_answered x p k n t o None h above all = (refl, all)
+drop_answered x p k n t o (Some a) h above all = drop_one p k (as_entry x n t o a) h (p (as_entry x n t o a)) above all
+
+drop_step : (x : List Record) (p : Entry → Bool) (k n : ℕ) (by : Option (ℕ × Op)) (h : List Entry) → k < n
+    → AreWithin k (filter p (entry_of x n by h))
+    → (filter p (entry_of x n by h) ≡ filter p h) × AreWithin k (filter p h)
+drop_step x p k n None h above all = (refl, all)
+drop_step x p k n (Some by) h above all = drop_answered x p k n by.0 by.1 (answer_of x n) h above all
+
+pub drop_newer : (x : List Record) (p : Entry → Bool) (k : ℕ) (newer older : List Record) → k ≤ length older
+    → AreWithin k (filter p (hist_in x (newer ++ older)))
+    → filter p (hist_in x (newer ++ older)) ≡ filter p (hist_in x older)
+drop_newer x p k [] older within all = refl
+drop_newer x p k (r ∷ newer) older within all =
+    let step = hist_step x r (newer ++ older) in
+    let now = drop_step x p k (length (newer ++ older) + 1) (op_of r) (hist_in x (newer ++ older)) (omega (arith, within, longer_length newer older))
+    (subst (λ h. AreWithin k (filter p h)) step all) in
+    ap (filter p) step ∙ now.0 ∙ drop_newer x p k newer older within now.1
+
+-- two filters are one
+twice : (e : Entry) (x : List Entry) (a b : Bool) → cond b (cond a (e ∷ x) x) x ≡ cond (a && b) (e ∷ x) x
+twice e x true true = refl
+twice e x true false = refl
+twice e x false true = refl
+twice e x false false = refl
+
+through : (p : Entry → Bool) (e : Entry) (y : List Entry) (b : Bool)
+    → filter p (cond b (e ∷ y) y) ≡ cond b (cond (p e) (e ∷ filter p y) (filter p y)) (filter p y)
+through p e y true = refl
+through p e y false = refl
+
+pub filter_twice : (p q : Entry → Bool) (h : List Entry) → filter p (filter q h) ≡ filter (λ e. p e && q e) h
+filter_twice p q [] = refl
+filter_twice p q (e ∷ h) =
+    through p e (filter q h) (q e) ∙ twice e (filter p (filter q h)) (p e) (q e)
+    ∙ ap (λ x. cond (p e && q e) (e ∷ x) x) (filter_twice p q h)
+
+-- an entry is crossed too where this says so of its transaction and number
+abbrev pub marked : (ℕ → ℕ → Bool) → Entry → Entry
+marked f e = record e { crossed = e.crossed || f e.txn e.number }
+
+uncross_one : (n t : ℕ) (o : Op) (a : Answer) (b : Bool) (x y : List Entry) → x ≡ y
+    → cond (not b) (record { number = n; txn = t; op = o; answer = a; crossed = b } ∷ x) x
+    ≡ cond (not b) (record { number = n; txn = t; op = o; answer = a; crossed = false } ∷ y) y
+uncross_one n t o a true x y rest = rest
+uncross_one n t o a false x y rest = ap (λ z. record { number = n; txn = t; op = o; answer = a; crossed = false } ∷ z) rest
+
+uncross_step : (f : ℕ → ℕ → Bool) (n t : ℕ) (o : Op) (a : Answer) (c : Bool) (h : List Entry)
+    → standing (map (marked f) h) ≡ filter (λ e. not (f e.txn e.number)) (standing h)
+    → standing (map (marked f) (record { number = n; txn = t; op = o; answer = a; crossed = c } ∷ h))
+    ≡ filter (λ e. not (f e.txn e.number)) (standing (record { number = n; txn = t; op = o; answer = a; crossed = c } ∷ h))
+uncross_step f n t o a true h rest = rest
+uncross_step f n t o a false h rest = uncross_one n t o a (f t n) (standing (map (marked f) h)) (filter (λ e. not (f e.txn e.number)) (standing h)) rest
+
+pub uncross_marked : (f : ℕ → ℕ → Bool) (h : List Entry)
+    → standing (map (marked f) h) ≡ filter (λ e. not (f e.txn e.number)) (standing h)
+uncross_marked f [] = refl
+uncross_marked f (e ∷ h) = uncross_step f e.number e.txn e.op e.answer e.crossed h (uncross_marked f h)
+
+pub uncross_fallen : (f : ℕ → Bool) (h : List Entry)
+    → standing (map (fallen f) h) ≡ filter (λ e. not (f e.txn)) (standing h)
+uncross_fallen f h = uncross_marked (λ t n. f t) h
+
+-- a filter keeps what holds of all
+keep_one : (P : Entry → Type 0) (p : Entry → Bool) (e : Entry) (h : List Entry) (b : Bool) → P e
+    → AllByRecursion P (filter p h) → AllByRecursion P (cond b (e ∷ filter p h) (filter p h))
+keep_one P p e h true here rest = (here, rest)
+keep_one P p e h false here rest = rest
+
+pub all_filtered : (P : Entry → Type 0) (p : Entry → Bool) (h : List Entry) → AllByRecursion P h
+    → AllByRecursion P (filter p h)
+all_filtered P p [] all = tt
+all_filtered P p (e ∷ h) all = keep_one P p e h (p e) all.0 (all_filtered P p h all.1)
+
+-- that changes no number, and no entry goes
+pub marked_all : (P Q : Entry → Type 0) (f : ℕ → ℕ → Bool) (h : List Entry) → ((e : Entry) → P e → Q (marked f e))
+    → AllByRecursion P h → AllByRecursion Q (map (marked f) h)
+marked_all P Q f [] each all = tt
+marked_all P Q f (e ∷ h) each all = (each e all.0, marked_all P Q f h each all.1)
+
+pub marked_falling : (f : ℕ → ℕ → Bool) (h : List Entry) → IsFalling h → IsFalling (map (marked f) h)
+marked_falling f [] falls = tt
+marked_falling f (e ∷ h) falls = (marked_all (λ x. x.number < e.number) (λ x. x.number < e.number) f h (λ x lt. lt) falls.0, marked_falling f h falls.1)
+
+pub marked_entry : (f : ℕ → ℕ → Bool) (h : List Entry) (n t : ℕ) (o : Op) → HasEntry h n t o
+    → HasEntry (map (marked f) h) n t o
+marked_entry f [] n t o has = absurd has
+marked_entry f (e ∷ h) n t o (inl is) = inl is
+marked_entry f (e ∷ h) n t o (inr has) = inr (marked_entry f h n t o has)
+
+-- so for a fall
+pub fallen_all : (P Q : Entry → Type 0) (f : ℕ → Bool) (h : List Entry) → ((e : Entry) → P e → Q (fallen f e))
+    → AllByRecursion P h → AllByRecursion Q (map (fallen f) h)
+fallen_all P Q f h each all = marked_all P Q (λ t n. f t) h each all
+
+pub fallen_falling : (f : ℕ → Bool) (h : List Entry) → IsFalling h → IsFalling (map (fallen f) h)
+fallen_falling f h falls = marked_falling (λ t n. f t) h falls
+
+pub fallen_entry : (f : ℕ → Bool) (h : List Entry) (n t : ℕ) (o : Op) → HasEntry h n t o
+    → HasEntry (map (fallen f) h) n t o
+fallen_entry f h n t o has = marked_entry (λ t n. f t) h n t o has

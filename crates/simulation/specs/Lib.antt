@@ -1,0 +1,6 @@
+pub mod View
+pub mod Laws
+pub mod Running
+pub mod Views
+pub mod Refusals
+pub mod Examples

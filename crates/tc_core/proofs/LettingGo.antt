@@ -1,0 +1,88 @@
+-- Transactions whose Commit is stable let go of what they hold.
+use Rattle.std.proofs.Common.{◌≡◌, ℕ, true, false, List, [], ◌∷◌, None, is_some, refl, sym, ap, ◌∙◌, inl, inr, true≢false, eq-eqb, ne_eqb}
+use Rattle.std.specs.Prelude.{◌||◌, filter, if◌then◌else◌}
+use Rattle.std.proofs.lemmas.Bool.{cases_eq, cases_Bool}
+use Rattle.history.specs.declared.record.Record.{Record}
+use Rattle.history.specs.Spans.{Span}
+use Rattle.range_locks.specs.Locks.{LocksView, spans_of, set_spans, IsTable}
+use Rattle.range_locks.proofs.Tables.{set_table, set_own, set_other}
+use Rattle.tc_core.specs.declared.open_txn.OpenTxn.{OpenTxn}
+use Rattle.tc_core.specs.OpenTxns.{find}
+use Rattle.tc_core.specs.Changes.{let_go}
+use Rattle.tc_core.specs.Locking.{is_listed, is_holder, op_spans, is_exclusive, AreApart, AreHeld}
+use Rattle.tc_core.proofs.HeldSpans.{held_none}
+
+-- the table stays one
+gone_table : (ts : List ℕ) (locks : LocksView) → IsTable locks → IsTable (let_go ts locks)
+gone_table [] locks table = table
+gone_table (t ∷ ts) locks table = gone_table ts (set_spans t [] locks) (set_table t [] locks table)
+
+-- each other holds what it held
+pub let_go_other : (ts : List ℕ) (locks : LocksView) (u : ℕ) → IsTable locks → is_listed ts u ≡ false → spans_of (let_go ts locks) u ≡ spans_of locks u
+let_go_other [] locks u table unlisted = refl
+let_go_other (t ∷ ts) locks u table unlisted =
+    elim (cases_eq u t) [
+      | inl same ↦ absurd (true≢false (sym (ap (λ b. b || is_listed ts u) (eq-eqb t u (sym same))) ∙ unlisted))
+      | inr other ↦
+          let later : is_listed ts u ≡ false = sym (ap (λ b. b || is_listed ts u) (ne_eqb t u (λ e. other (sym e)))) ∙ unlisted in
+          let_go_other ts (set_spans t [] locks) u (set_table t [] locks table) later ∙ set_other t [] locks u table other
+    ]
+
+-- who holds nothing holds nothing
+still_nothing : (ts : List ℕ) (locks : LocksView) (u : ℕ) → IsTable locks → spans_of locks u ≡ [] → spans_of (let_go ts locks) u ≡ []
+still_nothing [] locks u table none = none
+still_nothing (t ∷ ts) locks u table none =
+    still_nothing ts (set_spans t [] locks) u (set_table t [] locks table) (elim (cases_eq u t) [
+      | inl same ↦ ap (spans_of (set_spans t [] locks)) same ∙ set_own t [] locks table
+      | inr other ↦ set_other t [] locks u table other ∙ none
+    ])
+
+-- they hold nothing any more
+gone_own : (ts : List ℕ) (locks : LocksView) (u : ℕ) → IsTable locks → is_listed ts u ≡ true → spans_of (let_go ts locks) u ≡ []
+gone_own [] locks u table listed = absurd (cc)
+gone_own (t ∷ ts) locks u table listed =
+    elim (cases_eq u t) [
+      | inl same ↦ still_nothing ts (set_spans t [] locks) u (set_table t [] locks table) (ap (spans_of (set_spans t [] locks)) same ∙ set_own t [] locks table)
+      | inr other ↦
+          let later : is_listed ts u ≡ true = sym (ap (λ b. b || is_listed ts u) (ne_eqb t u (λ e. other (sym e)))) ∙ listed in
+          gone_own ts (set_spans t [] locks) u (set_table t [] locks table) later
+    ]
+
+-- so each holds nothing or what it held
+apart_none : (xs : List Span) → AreApart xs []
+apart_none [] = tt
+apart_none (x ∷ xs) = (λ any. any, apart_none xs)
+
+module _ (log : List Record) (os : List OpenTxn) (cs : List ℕ) (locks : LocksView) (held : AreHeld log os cs locks) (closed : (t : ℕ) → is_listed cs t ≡ true → find t os ≡ None) where
+  own : (t : ℕ) → is_listed cs t ≡ true → spans_of (let_go cs locks) t ≡ []
+  own t = gone_own cs locks t held.table
+
+  other : (t : ℕ) → is_listed cs t ≡ false → spans_of (let_go cs locks) t ≡ spans_of locks t
+  other t = let_go_other cs locks t held.table
+
+  -- who isn't committing is a holder where it was
+  same_if : (t : ℕ) → is_listed cs t ≡ false → is_holder os [] t ≡ is_holder os cs t
+  same_if t unlisted = ap (λ b. is_some (find t os) || b) (sym unlisted)
+
+  nobody : (t : ℕ) → is_listed cs t ≡ true → is_holder os [] t ≡ false
+  nobody t listed = rw (closed t listed) refl
+
+  pub let_go_held : AreHeld log os [] (let_go cs locks)
+  let_go_held = record {
+    table = gone_table cs locks held.table;
+    exclusive = λ t. elim (cases_Bool (is_listed cs t)) [
+      | inl listed ↦ ap (filter is_exclusive) (own t listed) ∙ sym (held_none log os [] t (nobody t listed))
+      | inr unlisted ↦ ap (filter is_exclusive) (other t unlisted) ∙ held.exclusive t ∙ ap (λ b. if b then op_spans log t else []) (sym (same_if t unlisted))
+    ];
+    others = λ t none. elim (cases_Bool (is_listed cs t)) [
+      | inl listed ↦ own t listed
+      | inr unlisted ↦ other t unlisted ∙ held.others t (sym (same_if t unlisted) ∙ none)
+    ];
+    apart = λ t u differ. elim (cases_Bool (is_listed cs t)) [
+      | inl listed ↦ rw (own t listed) tt
+      | inr unlisted ↦ elim (cases_Bool (is_listed cs u)) [
+        | inl listed_u ↦ rw (own u listed_u) (apart_none (spans_of (let_go cs locks) t))
+        | inr unlisted_u ↦ rw (other t unlisted, other u unlisted_u) (held.apart t u differ)
+      ]
+    ];
+  }

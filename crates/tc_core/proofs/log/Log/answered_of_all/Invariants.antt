@@ -1,9 +1,0 @@
-use Rattle.std.proofs.Common.{◌-◌, length}
-use Rattle.history.specs.Legal.{FitsCheckpoint}
-use Rattle.tc_core.proofs.log.Log.answered_of_all.Given as goal
-
-abbrev pub invariant-loop-end : goal.invariant-loop-end
-invariant-loop-end l = FitsCheckpoint l.self.records l.end
-
-abbrev pub decreases-loop-end : goal.decreases-loop-end
-decreases-loop-end l = length l.self.records - l.end

@@ -1,0 +1,147 @@
+-- What each call makes of what was seen before it.
+use Rattle.std.specs.Prelude.{ℕ, ◌+◌, List, [], ◌∷◌, ◌++◌, Option, Some, None, length, take}
+use Rattle.record_key.specs.declared.op.Op.{Op}
+use Rattle.record_key.specs.declared.op.Answer.{Answer}
+use Rattle.record_key.specs.Table.{key_of}
+use Rattle.inverse.specs.Inverse.{inverse_of}
+use Rattle.history.specs.declared.record.Record.{Record}
+use Rattle.history.specs.declared.record.Record.TheVariants as is
+use Rattle.history.specs.Log.{record_at, answer_of, op_in}
+use Rattle.history.specs.Spans.{Exclusive, at_key}
+use Rattle.history.specs.Spans as law
+use Rattle.log_laws.specs.Laws.{undo_from, prev_in}
+use Rattle.range_locks.specs.declared.span.Mode.TheVariants.{Shared}
+use Rattle.range_locks.specs.declared.span.Span.{Span}
+use Rattle.range_locks.specs.Locks.{LocksView, spans_of, set_spans}
+use Rattle.range_locks.specs.Meant.{meant}
+use Rattle.tc_core.specs.declared.open_txn.OpenTxn.{OpenTxn}
+use Rattle.tc_core.specs.declared.phase.Phase.TheVariants as phase
+use Rattle.tc_core.specs.OpenTxns.{replace, without}
+use Rattle.tc_core.specs.TcView.{TcView}
+
+-- these transactions let go of what they hold
+abbrev pub let_go : List ℕ → LocksView → LocksView
+let_go [] locks = locks
+let_go (t ∷ ts) locks = let_go ts (set_spans t [] locks)
+
+-- all is stable: who is committing has committed
+abbrev pub forced : TcView → TcView
+forced w = record w { stable = length w.log; committing = []; locks = let_go w.committing w.locks }
+
+abbrev pub logged_session : TcView → TcView
+logged_session w = record w { log = is.Session ∷ w.log }
+
+-- a new session, stable at once
+abbrev pub reconnected : TcView → TcView
+reconnected w = record (forced (logged_session w)) { session = length w.log + 1; phase = phase.Connecting }
+
+-- one that has just begun
+abbrev pub begun_txn : ℕ → OpenTxn
+begun_txn t = record { txn = t; last = 0; undo = 0; waiting = None; reading = None; rolling = None; saves = [] }
+
+abbrev pub begun : TcView → TcView
+begun w = record w { log = is.Begin ∷ w.log; open_txns = begun_txn (length w.log + 1) ∷ w.open_txns }
+
+-- one whose operation of this number was logged
+abbrev pub acted_txn : OpenTxn → ℕ → OpenTxn
+acted_txn o n = record o { last = n; undo = n; waiting = Some n }
+
+abbrev pub acted : TcView → OpenTxn → Op → TcView
+acted w o op = record w {
+  log = is.Op o.txn o.last op ∷ w.log;
+  open_txns = replace (acted_txn o (length w.log + 1)) w.open_txns;
+  locks = set_spans o.txn (at_key Exclusive (key_of op) ∷ spans_of w.locks o.txn) w.locks;
+}
+
+-- one that waits for a read of this number
+abbrev pub reading_txn : OpenTxn → ℕ → Span → OpenTxn
+reading_txn o n s = record o { reading = Some (record { number = n; span = s }) }
+
+abbrev pub shared : Span → law.Span
+shared s = meant Shared s
+
+abbrev pub asked_read : TcView → OpenTxn → Span → TcView
+asked_read w o s = record w {
+  reads = w.reads + 1;
+  open_txns = replace (reading_txn o (w.reads + 1) s) w.open_txns;
+  locks = set_spans o.txn (shared s ∷ spans_of w.locks o.txn) w.locks;
+}
+
+-- one that was told what it read
+abbrev pub told_txn : OpenTxn → OpenTxn
+told_txn o = record o { reading = None }
+
+abbrev pub was_told : TcView → OpenTxn → TcView
+was_told w o = record w { open_txns = replace (told_txn o) w.open_txns }
+
+-- one that has a savepoint more: the log's end there
+abbrev pub saved_txn : OpenTxn → ℕ → OpenTxn
+saved_txn o end = record o { saves = o.saves ++ end ∷ [] }
+
+abbrev pub saved : TcView → OpenTxn → TcView
+saved w o = record w { open_txns = replace (saved_txn o (length w.log)) w.open_txns }
+
+-- one that is rolled back, wholly or to a savepoint; later savepoints are dropped
+abbrev pub rolling_txn : OpenTxn → OpenTxn
+rolling_txn o = record o { rolling = Some (record { savepoint = None; above = 0 }) }
+
+abbrev pub rolled : TcView → OpenTxn → TcView
+rolled w o = record w { open_txns = replace (rolling_txn o) w.open_txns }
+
+abbrev pub going_back_txn : OpenTxn → ℕ → ℕ → OpenTxn
+going_back_txn o s end = record o { rolling = Some (record { savepoint = Some s; above = end }); saves = take s o.saves }
+
+abbrev pub going_back : TcView → OpenTxn → ℕ → ℕ → TcView
+going_back w o s end = record w { open_txns = replace (going_back_txn o s end) w.open_txns }
+
+-- its Commit is logged: it isn't open any more, and holds what it held
+abbrev pub committed : TcView → ℕ → TcView
+committed w t = record w {
+  log = is.Commit t ∷ w.log;
+  open_txns = without t w.open_txns;
+  committing = w.committing ++ t ∷ [];
+}
+
+-- what is left to undo after an operation
+abbrev pub next_of : List Record → ℕ → ℕ
+next_of log u = undo_from (record_at log (prev_in (record_at log u))) (prev_in (record_at log u))
+
+-- the inverse of an operation by its answer
+abbrev pub inverse_in : Option (ℕ × Op) → Option Answer → Option Op
+inverse_in (Some by) (Some answer) = inverse_of by.1 answer
+inverse_in _ _ = None
+
+abbrev pub inverse_at : List Record → ℕ → Option Op
+inverse_at log u = inverse_in (op_in (record_at log u)) (answer_of log u)
+
+-- a compensation waits for its answer where it has an inverse
+abbrev pub waits_for : ℕ → Option Op → Option ℕ
+waits_for n None = None
+waits_for n (Some inverse) = Some n
+
+-- one whose latest operation that is left has this compensation
+abbrev pub compensated_txn : OpenTxn → ℕ → ℕ → Option Op → OpenTxn
+compensated_txn o n next inverse = record o { last = n; undo = next; waiting = waits_for n inverse }
+
+abbrev pub compensated : TcView → OpenTxn → TcView
+compensated w o = record w {
+  log = is.Comp o.txn o.undo (next_of w.log o.undo) (inverse_at w.log o.undo) ∷ w.log;
+  open_txns = replace (compensated_txn o (length w.log + 1) (next_of w.log o.undo) (inverse_at w.log o.undo)) w.open_txns;
+}
+
+-- wholly rolled back: its End is logged, and it lets go of what it held
+abbrev pub ended : TcView → ℕ → TcView
+ended w t = record w { log = is.End t ∷ w.log; open_txns = without t w.open_txns; locks = set_spans t [] w.locks }
+
+-- back at its savepoint: it goes on, and holds what it held
+abbrev pub back_txn : OpenTxn → OpenTxn
+back_txn o = record o { rolling = None }
+
+abbrev pub is_back : TcView → OpenTxn → TcView
+is_back w o = record w { open_txns = replace (back_txn o) w.open_txns }
+
+abbrev pub answered_txn : OpenTxn → OpenTxn
+answered_txn o = record o { waiting = None }
+
+abbrev pub answered : TcView → OpenTxn → ℕ → Answer → TcView
+answered w o n a = record w { log = is.Answer n a ∷ w.log; open_txns = replace (answered_txn o) w.open_txns }

@@ -1,0 +1,33 @@
+//! What a transaction sends.
+ghost use Rattle.tc_core.specs.Calls.{ResendGives};
+ghost use Rattle.tc_core.specs.Kept.{IsTc};
+ghost use Rattle.tc_core.specs.Seen.{seen};
+
+use crate::parts::Parts;
+use crate::requests::{read_request, request};
+use codec::Request;
+use record_key::Refusal;
+use stable::LogDevice;
+
+impl<D: LogDevice> Parts<D> {
+    pub fn resend(&self, txn: u64) -> Result<Request, Refusal>
+        requires { IsTc (seen self.now) }
+        ensures gives { ResendGives (seen self.now) txn result }
+    {
+        let opened = self.open_at(txn)?;
+        if let Some(read) = &opened.reading {
+            return Ok(read_request(self.session, read));
+        }
+        let Some(number) = opened.waiting else {
+            return Err(Refusal::Unsent);
+        };
+        if number > self.log.stable_end() {
+            return Err(Refusal::BeyondStable);
+        }
+        Ok(Request::Perform {
+            session: self.session,
+            number,
+            op: request(&self.log, number),
+        })
+    }
+}
