@@ -1,6 +1,7 @@
 pub mod Records
 pub mod LegalLogs
 pub mod Strict
+pub mod Once
 pub mod Undo
 pub mod Values
 pub mod Compensations

@@ -23,6 +23,17 @@ pub record BeginningsAreLegal : Type 0 where
 abbrev pub LegalIsChainedAndStrict : Type 0
 LegalIsChainedAndStrict = (log : List Record) → IsLegal log → IsWellChained log × IsStrict log
 
+-- the record of this number compensates this operation
+pub record Names (log : List Record) (n undoes : ℕ) : Type 0 where
+  pub txn : ℕ
+  pub next : ℕ
+  pub inverse : Option Op
+  pub is : record_at log n ≡ Some (is.Comp txn undoes next inverse)
+
+-- no operation is compensated twice
+abbrev pub LegalIsCompensatedOnce : Type 0
+LegalIsCompensatedOnce = (log : List Record) (n m undoes : ℕ) → IsLegal log → Names log n undoes → Names log m undoes → n ≡ m
+
 abbrev pub LegalIsOneAtATime : Type 0
 LegalIsOneAtATime = (log : List Record) → IsLegal log → IsOneAtATime log
 

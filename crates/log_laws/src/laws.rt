@@ -1,5 +1,5 @@
 //! What is true of every legal log.
-ghost use Rattle.log_laws.specs.Laws.{BeginningsAreLegal, LegalIsChainedAndStrict, LegalIsOneAtATime, UndoIsFound, RightAnswersAreUnique, CompensationsBracket, CompensationsCancel, PlainOfHistory, SettledIsPlain};
+ghost use Rattle.log_laws.specs.Laws.{BeginningsAreLegal, LegalIsChainedAndStrict, LegalIsCompensatedOnce, LegalIsOneAtATime, UndoIsFound, RightAnswersAreUnique, CompensationsBracket, CompensationsCancel, PlainOfHistory, SettledIsPlain};
 
 /// A beginning of a legal log is legal, and has right answers where the log has them.
 pub fn beginning_law()
@@ -9,6 +9,11 @@ pub fn beginning_law()
 /// Compensations come latest first and once, and an open transaction has its keys to itself.
 pub fn chain_law()
     ensures { LegalIsChainedAndStrict }
+{}
+
+/// No operation is named by two compensations.
+pub fn compensated_once_law()
+    ensures { LegalIsCompensatedOnce }
 {}
 
 /// Of two requests on a key the earlier is answered before the later one stands.
