@@ -110,6 +110,16 @@ found X spell Fits read law limit place left (took.Bad at) fits e = tt
 
 -- ---- what stands there is taken
 
+-- the length in front of a body, and the body
+length_there : (body left rest : List ℕ) → length body < 2 ^ 64 → left ≡ frame body ++ rest → first_number left ≡ length body
+length_there body left rest short e =
+    ap first_number (e ∙ append_assoc (number (length body)) body rest) ∙ first_number-number (length body) (body ++ rest) short
+
+pub body_there : (body left rest : List ℕ) → length body < 2 ^ 64 → left ≡ frame body ++ rest → take (first_number left) (drop 8 left) ≡ body
+body_there body left rest short e =
+    let after : drop 8 left ≡ body ++ rest = ap (drop 8) (e ∙ append_assoc (number (length body)) body rest) ∙ drop_at (number (length body)) (body ++ rest) 8 (length-number (length body)) in
+    rw (length_there body left rest short e, after) (take_at body rest (length body) refl)
+
 pub only : (X : Type 0) (spell : X → List ℕ) (Fits : X → Type 0) (read : Reader X) → IsReader X spell Fits read →
     (limit place : ℕ) (left : List ℕ) (x : X) (rest : List ℕ) → Fits x → 0 < length (spell x) → length (spell x) ≤ limit → limit < 2 ^ 64
     → left ≡ frame (spell x) ++ rest → within place read (frame_at limit place left) ≡ took.Record x (place + length (frame (spell x)))
@@ -117,10 +127,8 @@ only X spell Fits read law limit place left x rest fits some low small e =
     let body = spell x in
     let len : length left ≡ 8 + length body + length rest = ap length e ∙ omega (arith, length-append (frame body) rest, length-frame body) in
     let fits_word : length body < 2 ^ 64 = omega arith in
-    let regrouped : left ≡ number (length body) ++ (body ++ rest) = e ∙ append_assoc (number (length body)) body rest in
-    let n : first_number left ≡ length body = ap first_number regrouped ∙ first_number-number (length body) (body ++ rest) fits_word in
-    let after : drop 8 left ≡ body ++ rest = ap (drop 8) regrouped ∙ drop_at (number (length body)) (body ++ rest) 8 (length-number (length body)) in
-    let text : take (first_number left) (drop 8 left) ≡ body = rw (n, after) (take_at body rest (length body) refl) in
+    let n = length_there body left rest fits_word e in
+    let text = body_there body left rest fits_word e in
     let framed = length-frame body in
     elim (why limit place left) [
       | few lt is ↦ absurd (omega arith)

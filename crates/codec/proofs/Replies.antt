@@ -1,5 +1,5 @@
 -- Replies: what is read is spelled so, and what has a spelling is read again.
-use Rattle.std.proofs.Common.{◌≡◌, ℕ, ◌<◌, List, ◌++◌, length, Option, Some, refl, arith}
+use Rattle.std.proofs.Common.{◌≡◌, ℕ, ◌+◌, ◌<◌, ◌^◌, true, List, ◌++◌, length, Option, Some, refl, subst, arith}
 use Rattle.std.specs.Prelude.{IfSome}
 use Rattle.record_key.specs.Table.{Bytes}
 use Rattle.record_key.specs.Rows.{Row}
@@ -8,8 +8,12 @@ use Rattle.codec.specs.declared.reply.Reply.{Reply}
 use Rattle.codec.specs.declared.reply.Reply.TheVariants as is
 use Rattle.codec.specs.Fields.{number, IsNumber, text, IsValue, optional, answer_bytes, IsAnswer}
 use Rattle.codec.specs.Rows.{rows_bytes, AreRows}
-use Rattle.codec.specs.Replies.{reply_bytes, IsOrdered, IsReply}
-use Rattle.codec.specs.Reading.{pair, number_at, rows_at, optional_at, value_at, answer_at, reply_choices, reply_at}
+use Rattle.codec.specs.Frames.{frame, any_length, HasKind, IsFrameOf}
+use Rattle.codec.specs.Replies.{reply_bytes, has_rows, IsOrdered, IsReply}
+use Rattle.codec.specs.Reading.{pair, number_at, rows_at, optional_at, value_at, answer_at, reply_choices, reply_at, frame_at, within}
+use Rattle.codec.specs.declared.taken.Taken.TheVariants as took
+use Rattle.codec.proofs.Frames as frames
+use Rattle.codec.proofs.Frames.{body_there}
 use Rattle.codec.proofs.Readers.{IsReader, both, made_again, choice, one_of_takes}
 use Rattle.codec.proofs.Fields.{number_reads, optional_reads, value_reads, answer_reads}
 use Rattle.codec.proofs.Lists.{numbers_read, rows_read}
@@ -74,3 +78,24 @@ is_ordered (is.Row session read value) fits = (fits.0, fits.1.0)
 is_ordered (is.Rows session read rows) fits = (fits.0, fits.1.0, fits.1.1.1)
 is_ordered (is.Checkpointed session low) fits = fits
 is_ordered (is.RedoEnded session) fits = fits
+
+-- a reply's frame is taken, whatever follows it
+pub reply_taken : (place : ℕ) (left : List ℕ) (r : Reply) (rest : List ℕ) → IsReply r → length (reply_bytes r) < 2 ^ 64 → left ≡ frame (reply_bytes r) ++ rest
+    → within place reply_at (frame_at any_length place left) ≡ took.Record r (place + length (frame (reply_bytes r)))
+reply_taken place left r rest fits short e =
+    frames.only Reply reply_bytes IsReply reply_at reply_reads any_length place left r rest fits (reply_not_empty r) (omega (arith, short)) (omega arith) e
+
+-- only rows have their kind
+kind_of_rows : (r : Reply) → HasKind 20 (reply_bytes r) → has_rows r ≡ true
+unfolding reply_bytes
+kind_of_rows (is.Connected s) h = absurd (omega (arith, h))
+kind_of_rows (is.Answered s n a) h = absurd (omega (arith, h))
+kind_of_rows (is.Row s n v) h = absurd (omega (arith, h))
+kind_of_rows (is.Rows s n rows) h = refl
+kind_of_rows (is.Checkpointed s l) h = absurd (omega (arith, h))
+kind_of_rows (is.RedoEnded s) h = absurd (omega (arith, h))
+
+-- a reply whose frame has that kind has rows
+pub rows_framed : (left : List ℕ) (r : Reply) (rest : List ℕ) → length (reply_bytes r) < 2 ^ 64 → left ≡ frame (reply_bytes r) ++ rest
+    → IsFrameOf any_length (HasKind 20) left → has_rows r ≡ true
+rows_framed left r rest short e h = kind_of_rows r (subst (HasKind 20) (body_there (reply_bytes r) left rest short e) h.body)

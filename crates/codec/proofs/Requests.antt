@@ -1,5 +1,5 @@
 -- Requests: what is read is spelled so, what has a spelling is read again, and how long a body is.
-use Rattle.std.proofs.Common.{◌≡◌, ℕ, ◌<◌, ◌≤◌, List, [], ◌∷◌, ◌++◌, length, Option, Some, None, refl, arith}
+use Rattle.std.proofs.Common.{◌≡◌, ℕ, ◌+◌, ◌<◌, ◌≤◌, List, [], ◌∷◌, ◌++◌, length, Option, Some, None, refl, arith}
 use Rattle.std.specs.Prelude.{IfSome}
 use Rattle.std.proofs.lemmas.List.{length-append}
 use Rattle.record_key.specs.Table.{Bytes}
@@ -7,9 +7,11 @@ use Rattle.record_key.specs.declared.op.Op.{Op}
 use Rattle.codec.specs.declared.request.Request.{Request}
 use Rattle.codec.specs.declared.request.Request.TheVariants as is
 use Rattle.codec.specs.Fields.{number, IsNumber, text, IsKey, optional, op_bytes, IsOp}
-use Rattle.codec.specs.Frames.{any_length}
+use Rattle.codec.specs.Frames.{frame, any_length}
 use Rattle.codec.specs.Requests.{request_bytes, IsRequest}
-use Rattle.codec.specs.Reading.{pair, mapped, number_at, optional_at, key_at, op_at, request_at}
+use Rattle.codec.specs.Reading.{pair, mapped, number_at, optional_at, key_at, op_at, request_at, frame_at, within}
+use Rattle.codec.specs.declared.taken.Taken.TheVariants as took
+use Rattle.codec.proofs.Frames as frames
 use Rattle.codec.proofs.Readers.{IsReader, both, made_again, choice, one_of_takes}
 use Rattle.codec.proofs.Lists.{numbers_read}
 use Rattle.codec.proofs.Fields.{length-number, numbers_length, number_reads, optional_reads, key_reads, op_reads, op_length}
@@ -98,3 +100,10 @@ request_length (is.RedoEnd session) fits = let len = length-number session in (o
 
 pub request_fits : (r : Request) → IsRequest r → (0 < length (request_bytes r)) × (length (request_bytes r) ≤ any_length)
 request_fits r fits = let h = request_length r fits in (h.0, omega (arith, h.1))
+
+-- a request's frame is taken, whatever follows it
+pub request_taken : (place : ℕ) (left : List ℕ) (r : Request) (rest : List ℕ) → IsRequest r → left ≡ frame (request_bytes r) ++ rest
+    → within place request_at (frame_at any_length place left) ≡ took.Record r (place + length (frame (request_bytes r)))
+request_taken place left r rest fits e =
+    let bounds = request_fits r fits in
+    frames.only Request request_bytes IsRequest request_at request_reads any_length place left r rest fits bounds.0 bounds.1 (omega arith) e

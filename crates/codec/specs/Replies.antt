@@ -1,5 +1,5 @@
 -- The one spelling of each reply of the data component, and which replies have one.
-use Rattle.std.specs.Prelude.{ℕ, List, ◌∷◌, ◌++◌, IfSome}
+use Rattle.std.specs.Prelude.{ℕ, Bool, true, false, List, ◌∷◌, ◌++◌, IfSome}
 use Rattle.codec.specs.declared.reply.Reply.{Reply}
 use Rattle.codec.specs.declared.reply.Reply.TheVariants as is
 use Rattle.codec.specs.Fields.{number, IsNumber, text, IsValue, optional, answer_bytes, IsAnswer}
@@ -14,6 +14,11 @@ reply_bytes (is.Row session read value) = 19 ∷ number session ++ (number read 
 reply_bytes (is.Rows session read rows) = 20 ∷ number session ++ (number read ++ rows_bytes rows)
 reply_bytes (is.Checkpointed session low) = 21 ∷ number session ++ number low
 reply_bytes (is.RedoEnded session) = 22 ∷ number session
+
+-- only rows may be of any length
+abbrev pub has_rows : Reply → Bool
+has_rows (is.Rows session read rows) = true
+has_rows _ = false
 
 -- every number in the reply is below its bound, and the keys of its rows rise
 abbrev pub IsOrdered : Reply → Type 0

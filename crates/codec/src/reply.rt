@@ -1,7 +1,7 @@
 //! Replies of the data component to the transaction component.
-ghost use Rattle.std.specs.Prelude.{◌≡◌, ◌≢◌, ◌↔◌, ◌+◌, ◌<◌, ◌≤◌, ◌^◌, ◌++◌, ℕ, List, length, drop, vec_len, vec_capacity, slice_index, OnOk, OnErr, IfOk, IfErr, IsErrOf, IfSome, IfNone, OnSome};
+ghost use Rattle.std.specs.Prelude.{false, ◌≡◌, ◌≢◌, ◌↔◌, ◌+◌, ◌<◌, ◌≤◌, ◌^◌, ◌++◌, ℕ, List, length, drop, vec_len, vec_capacity, slice_index, OnOk, OnErr, IfOk, IfErr, IsErrOf, IfSome, IfNone, OnSome};
 ghost use Rattle.codec.specs.declared.reply.Reply.{Reply};
-ghost use Rattle.codec.specs.Replies.{reply_bytes, IsOrdered, IsReply};
+ghost use Rattle.codec.specs.Replies.{reply_bytes, has_rows, IsOrdered, IsReply};
 ghost use Rattle.codec.specs.Frames.{frame, any_length, IfTaken, IfBad, IsThere, IsCut, IsFrameOf, HasKind};
 ghost use Rattle.codec.specs.Writing.{HasRoom, Puts};
 ghost use Rattle.codec.specs.Reading.{Gives, Finds, IfRefused, pair, mapped, optional_at, number_at, answer_at};
@@ -60,9 +60,11 @@ pub fn put_reply(out: &mut Vec<u8>, reply: &Reply) -> Result<(), Refusal>
     requires { IsOrdered reply.now }
     ensures spelling { OnOk result (out.new.items ≡ out.old.items ++ frame (reply_bytes reply.now)) }
     ensures has_spelling { OnOk result (IsReply reply.now) }
+    ensures bounded { OnOk result (length (reply_bytes reply.now) < 2 ^ 64) }
     ensures refused { OnErr result (out.new.items ≡ out.old.items) }
     ensures cause { IfErr result (λ refusal. refusal ≡ Refusal.NoMemory) }
     ensures room { OnErr result (vec_capacity out.old < vec_len out.old + length (frame (reply_bytes reply.now))) }
+    ensures short { has_rows reply.now ≡ false → length (frame (reply_bytes reply.now)) ≤ 264 }
 {
     let Some(length) = frame_len(reply) else {
         return Err(Refusal::NoMemory);
@@ -98,6 +100,7 @@ fn frame_len(reply: &Reply) -> Option<usize>
     ensures some { IfSome result (λ len. len ≡ 8 + length (reply_bytes reply.now)) }
     ensures spelled { OnSome result (IsReply reply.now) }
     ensures none { IfNone result (2 ^ 64 ≤ 8 + length (reply_bytes reply.now)) }
+    ensures short { has_rows reply.now ≡ false → 8 + length (reply_bytes reply.now) ≤ 264 }
 {
     match reply {
         Reply::Connected { .. } | Reply::RedoEnded { .. } => Some(17),

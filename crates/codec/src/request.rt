@@ -66,6 +66,7 @@ pub fn put_request(out: &mut Vec<u8>, request: &Request) -> Result<(), Refusal>
     ensures cause { IfErr result (λ refusal. refusal ≡ Refusal.NoMemory) }
     ensures room { OnErr result (vec_capacity out.old < vec_len out.old + length (frame (request_bytes request.now))) }
     ensures has_spelling { IsRequest request.now }
+    ensures short { length (frame (request_bytes request.now)) ≤ 264 }
 {
     let length = body_len(request);
     out.reserve(HEADER_LEN + length)?;

@@ -37,7 +37,9 @@ module _ (log : List Record) (c : Chain) (may : MayUndo log c) (u : ℕ) (found 
       record { txn = c.txn; prev = the_op.0; op = stands.op; answer = the_answer.0; is = the_op.1; answered = the_answer.1 }
 
   -- so its compensation fits
-  pub fits_comp : (next : ℕ) (inverse : Option Op) → 0 < u → next ≡ undo_from (record_at log (prev_in (record_at log u))) (prev_in (record_at log u)) → Inverts log u inverse
+  pub fits_comp : (next : ℕ) (inverse : Option Op) → 0 < u
+      → next ≡ undo_from (record_at log (prev_in (record_at log u))) (prev_in (record_at log u))
+      → Inverts log u inverse
       → FitsComp log c.txn u next inverse
   fits_comp next inverse some is_next inverts =
       let P : ℕ → Type 0 = IsLatestOrNone (λ n. Stands log c.txn n × (n < u)) in

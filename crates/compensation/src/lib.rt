@@ -12,3 +12,6 @@ mod undo_chain;
 
 pub use saves::Saves;
 pub use undo_chain::{Chain, Next, next_undo};
+
+#[cfg(test)]
+mod tests;

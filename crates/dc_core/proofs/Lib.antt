@@ -1,1 +1,2 @@
 pub mod KeepsDc
+pub mod Spelled

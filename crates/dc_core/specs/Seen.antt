@@ -1,5 +1,5 @@
 -- What is seen of the parts of the data component, and what a request to perform is answered.
-use Rattle.std.specs.Prelude.{◌≡◌, ℕ, Option, Some, reverse}
+use Rattle.std.specs.Prelude.{◌≡◌, ℕ, Option, Some}
 use Rattle.std.specs.Bool.{MatchBool}
 use Rattle.record_key.specs.declared.op.Op.{Op}
 use Rattle.record_key.specs.declared.op.Answer.{Answer}
@@ -12,7 +12,7 @@ use Rattle.dc_core.specs.DcView.{DcView}
 use Rattle.dc_core.specs.Serves.{runs, connected, performs}
 
 abbrev pub seen : Parts → DcView
-seen p = record { stored = p.stored; session = p.session; redo = p.redo; leaf = p.leaf; performed = reverse p.performed.items }
+seen p = record { stored = p.stored; session = p.session; redo = p.redo; leaf = p.leaf; performed = p.performed }
 
 -- a Connect changes nothing in the running session
 abbrev pub Connects : DcView → ℕ → DcView → Type 0

@@ -1,5 +1,5 @@
 //! The data component.
-ghost use Rattle.std.specs.Prelude.{◌≡◌, false, None, Some, reverse, IsOk, IfOk, IfErr, OnOk, OnErr};
+ghost use Rattle.std.specs.Prelude.{◌≡◌, false, None, Some, length, reverse, slice_get, IsOk, IfOk, IfErr, OnOk, OnErr};
 ghost use Rattle.std.specs.FinMap as map;
 ghost use Rattle.record_key.specs.FirstCause.{RefusesAs};
 ghost use Rattle.dc_core.specs.DcView.{fresh};
@@ -104,11 +104,18 @@ impl Dc {
         self.parts.leaf.rows()
     }
 
-    /// What was performed, the oldest first.
-    pub fn performed(&self) -> &[Performance]
-        ensures { reverse result.now ≡ self.now.performed }
+    /// How many operations were performed.
+    pub fn performances(&self) -> u64
+        ensures { result ≡ length self.now.performed }
     {
-        self.parts.performed.as_slice()
+        self.parts.performed.len()
+    }
+
+    /// What was performed at this place, from 0, the oldest first. Takes no memory.
+    pub fn performance(&self, place: u64) -> Option<Performance>
+        ensures { result ≡ slice_get (reverse self.now.performed) place }
+    {
+        self.parts.performed.get(place)
     }
 
     /// What holds at every moment: the records are what was performed, no number stands twice, each is

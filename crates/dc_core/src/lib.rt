@@ -9,7 +9,9 @@
 mod dc;
 mod parts;
 mod performance;
+mod performances;
 mod performing;
+mod place;
 mod reading;
 mod serving;
 

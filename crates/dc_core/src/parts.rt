@@ -5,13 +5,13 @@ ghost use Rattle.dc_core.specs.DcView.{fresh};
 ghost use Rattle.dc_core.specs.Kept.{IsDc};
 ghost use Rattle.dc_core.specs.Seen.{seen};
 
-use crate::performance::Performance;
+use crate::performances::Performances;
 use codec::Request;
 use page::Leaf;
 use record_key::Refusal;
 use std::alloc::Global;
 
-/// The sessions, the leaf, and what was performed, the oldest first.
+/// The sessions, the leaf, and what was performed.
 #[derive(Debug, Drop)]
 pub struct Parts {
     /// The greatest session taken, 0 if none.
@@ -20,7 +20,7 @@ pub struct Parts {
     pub session: u64,
     pub redo: bool,
     pub leaf: Leaf,
-    pub performed: Vec<Performance>,
+    pub performed: Performances,
 }
 
 impl Parts {
@@ -33,7 +33,7 @@ impl Parts {
             session: 0,
             redo: false,
             leaf: Leaf::first(alloc),
-            performed: Vec::new(alloc),
+            performed: Performances::new(alloc),
         }
     }
 

@@ -1,6 +1,5 @@
 //! Numbers that are sent once and again.
-ghost use Rattle.std.specs.Prelude.{◌≡◌, ◌<◌, ◌∷◌, true, reverse, vec_len, IsOk, IfOk, IfErr, OnErr};
-ghost use Rattle.std.specs.Vec.{vec_capacity};
+ghost use Rattle.std.specs.Prelude.{◌≡◌, true, IsOk, IfOk, IfErr, OnErr};
 ghost use Rattle.record_key.specs.Table.{key_of};
 ghost use Rattle.ab_lsn.specs.AbLsn.{captures, saved_in};
 ghost use Rattle.page.specs.Leaf.{is_in_fences};
@@ -8,7 +7,6 @@ ghost use Rattle.dc_core.specs.Kept.{IsDc};
 ghost use Rattle.dc_core.specs.Seen.{seen, Performs, Answers};
 
 use crate::parts::Parts;
-use crate::performance::Performance;
 use codec::Reply;
 use page::Done;
 use record_key::{Answer, Op, Refusal};
@@ -30,7 +28,7 @@ impl Parts {
         })
     }
 
-    /// Performs a new number, or answers a repeated one. Room to note it is made before the leaf changes.
+    /// Performs a new number, or answers a repeated one.
     fn answer(&mut self, number: u64, op: &Op) -> Result<Option<Answer>, Refusal>
         requires { IsDc (seen self.old) }
         ensures kept { IsDc (seen self.new) }
@@ -42,14 +40,8 @@ impl Parts {
         if self.leaf.captures(number) {
             return Ok(self.repeat(number, op));
         }
-        self.performed.reserve(1)?;
-        match self.leaf.perform(number, op)? {
-            Done::Performed(answer) => {
-                add(&mut self.performed, number, op, &answer);
-                Ok(Some(answer))
-            }
-            Done::Repeated(_) => unreachable!(),
-        }
+        let answer = self.performed.perform(&mut self.leaf, number, op)?;
+        Ok(Some(answer))
     }
 
     fn repeat(&mut self, number: u64, op: &Op) -> Option<Answer>
@@ -64,18 +56,4 @@ impl Parts {
             Err(_) => unreachable!(),
         }
     }
-}
-
-/// Notes what was performed. There is room for it.
-fn add(performed: &mut Vec<Performance>, number: u64, op: &Op, answer: &Answer)
-    requires { vec_len performed.old < vec_capacity performed.old }
-    ensures { reverse performed.new.items
-        ≡ record { number = number; op = op.now; answer = answer.now } ∷ reverse performed.old.items }
-{
-    let performance = Performance {
-        number,
-        op: op.copied(),
-        answer: answer.copied(),
-    };
-    performed.push_reserved(performance);
 }

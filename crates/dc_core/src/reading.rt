@@ -36,7 +36,7 @@ impl Parts {
             ≡ Reply.Rows session read (rows_in (range low.now (option_copied high.entry)) self.now.leaf.rows)) }
         ensures refused { IfErr result (λ refusal. refusal ≡ Refusal.NoMemory) }
     {
-        let rows = Rows::new(copied_rows(*self.performed.allocator(), self.leaf.scan(low, high))?);
+        let rows = Rows::new(copied_rows(self.performed.allocator(), self.leaf.scan(low, high))?);
         Ok(Reply::Rows {
             session,
             read,

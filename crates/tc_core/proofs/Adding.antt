@@ -59,8 +59,10 @@ module _ (old new : Slab OpenTxn) (s : ℕ) (opened : OpenTxn) (vacant : get old
       }
 
 -- the newest transaction is added, where there may have been more room made
-pub adds : (opened : OpenTxn) (s : ℕ) (old wide new : Slab OpenTxn) (es more : List (ℕ × ℕ)) (os : List OpenTxn) → AreSlots old es → in_slots old es ≡ os
-    → wide ≡ record old { capacity = wide.capacity } → get wide s ≡ None → Updates wide new s (Some opened) → AreBelow opened.txn os
+pub adds : (opened : OpenTxn) (s : ℕ) (old wide new : Slab OpenTxn) (es more : List (ℕ × ℕ)) (os : List OpenTxn)
+    → AreSlots old es → in_slots old es ≡ os
+    → wide ≡ record old { capacity = wide.capacity } → get wide s ≡ None → Updates wide new s (Some opened)
+    → AreBelow opened.txn os
     → more ≡ insert_entry nat_cmp es opened.txn s → Holds new more (opened ∷ os)
 adds opened s old wide new es more os are view same vacant updates below is =
     let kept = same_slots old wide es same are in

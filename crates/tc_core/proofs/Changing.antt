@@ -53,21 +53,25 @@ all_found P t s (e ∷ es) all found = pick (is_eq (nat_cmp t e.0)) found (all_f
     pick false later rest = rest later
 
 -- what is left out was among them
-all_left : (P : ℕ × ℕ → Type 0) (test : ℕ → Bool) (es : List (ℕ × ℕ)) → AllByRecursion P es → AllByRecursion P (remove_entry test es)
+all_left : (P : ℕ × ℕ → Type 0) (test : ℕ → Bool) (es : List (ℕ × ℕ)) → AllByRecursion P es
+    → AllByRecursion P (remove_entry test es)
 all_left P test [] all = tt
 all_left P test (e ∷ es) all = pick (test e.0) (all_left P test es all.1)
   where
-    pick : (b : Bool) → AllByRecursion P (remove_entry test es) → AllByRecursion P (cond b es (e ∷ remove_entry test es))
+    pick : (b : Bool) → AllByRecursion P (remove_entry test es)
+        → AllByRecursion P (cond b es (e ∷ remove_entry test es))
     pick true rest = all.1
     pick false rest = (all.0, rest)
 
 module _ (old new : Slab OpenTxn) (s : ℕ) (opened : OpenTxn) (u : Updates old new s (Some opened)) where
-  replaced : (es : List (ℕ × ℕ)) → AreSlots old es → slot_of opened.txn es ≡ Some s → Holds new es (replace opened (in_slots old es))
+  replaced : (es : List (ℕ × ℕ)) → AreSlots old es → slot_of opened.txn es ≡ Some s
+      → Holds new es (replace opened (in_slots old es))
   replaced [] are found = absurd (cc)
   replaced (e ∷ es) are found = pick (is_eq (nat_cmp opened.txn e.0)) refl found (replaced es are.1)
     where
       pick : (b : Bool) → is_eq (nat_cmp opened.txn e.0) ≡ b → cond b (Some e.1) (slot_of opened.txn es) ≡ Some s
-          → (slot_of opened.txn es ≡ Some s → Holds new es (replace opened (in_slots old es))) → Holds new (e ∷ es) (replace opened (in_slots old (e ∷ es)))
+          → (slot_of opened.txn es ≡ Some s → Holds new es (replace opened (in_slots old es)))
+          → Holds new (e ∷ es) (replace opened (in_slots old (e ∷ es)))
       pick true is here rest =
           let slot : e.1 ≡ s = cc in
           let same : opened.txn ≡ e.0 = grind (arith, nat_tests) in
@@ -97,7 +101,8 @@ module _ (old new : Slab OpenTxn) (s : ℕ) (opened : OpenTxn) (u : Updates old 
           }
 
 module _ (old new : Slab OpenTxn) (t s : ℕ) (u : Updates old new s None) where
-  removed : (es : List (ℕ × ℕ)) → AreSlots old es → slot_of t es ≡ Some s → Holds new (remove_entry (is_at (nat_cmp t)) es) (without t (in_slots old es))
+  removed : (es : List (ℕ × ℕ)) → AreSlots old es → slot_of t es ≡ Some s
+      → Holds new (remove_entry (is_at (nat_cmp t)) es) (without t (in_slots old es))
   removed [] are found = absurd (cc)
   removed (e ∷ es) are found = pick (is_eq (nat_cmp t e.0)) refl found (removed es are.1)
     where
@@ -134,15 +139,19 @@ module _ (old new : Slab OpenTxn) (t s : ℕ) (u : Updates old new s None) where
           }
 
 -- the transaction in a number's slot is replaced
-replaces : (opened : OpenTxn) (s : ℕ) (slab : Slab OpenTxn) (es : List (ℕ × ℕ)) (os : List OpenTxn) → AreSlots slab es → in_slots slab es ≡ os
-    → Some s ≡ slot_of opened.txn es → IsSome (find opened.txn os) → Holds (with_value slab s opened) es (replace opened os)
+replaces : (opened : OpenTxn) (s : ℕ) (slab : Slab OpenTxn) (es : List (ℕ × ℕ)) (os : List OpenTxn) → AreSlots slab es
+    → in_slots slab es ≡ os
+    → Some s ≡ slot_of opened.txn es → IsSome (find opened.txn os)
+    → Holds (with_value slab s opened) es (replace opened os)
 replaces opened s slab es os are view found open_txn =
     let h = replaced slab (with_value slab s opened) s opened (Updates-with_value slab s opened (is_held opened.txn slab es os are view s found open_txn)) es are (sym found) in
     record { are = h.are; view = h.view ∙ ap (replace opened) view }
 
 -- a number and what is in its slot are removed
-pub removes : (t s : ℕ) (old new : Slab OpenTxn) (es left : List (ℕ × ℕ)) (os : List OpenTxn) → AreSlots old es → in_slots old es ≡ os
-    → Some s ≡ slot_of t es → Updates old new s None → left ≡ remove_entry (is_at (nat_cmp t)) es → Holds new left (without t os)
+pub removes : (t s : ℕ) (old new : Slab OpenTxn) (es left : List (ℕ × ℕ)) (os : List OpenTxn) → AreSlots old es
+    → in_slots old es ≡ os
+    → Some s ≡ slot_of t es → Updates old new s None → left ≡ remove_entry (is_at (nat_cmp t)) es
+    → Holds new left (without t os)
 removes t s old new es left os are view found updates is =
     let h = removed old new t s updates es are (sym found) in
     rw is (record { are = h.are; view = h.view ∙ ap (without t) view })
@@ -158,7 +167,8 @@ changed_number what.Rolls o = refl
 changed_number (what.GoesBack rollback saves) o = refl
 changed_number what.IsBack o = refl
 
-pub changes : (what : Change) (t s : ℕ) (o : OpenTxn) (slab : Slab OpenTxn) (es : List (ℕ × ℕ)) (os : List OpenTxn) → AreSlots slab es → in_slots slab es ≡ os
+pub changes : (what : Change) (t s : ℕ) (o : OpenTxn) (slab : Slab OpenTxn) (es : List (ℕ × ℕ)) (os : List OpenTxn)
+    → AreSlots slab es → in_slots slab es ≡ os
     → Some s ≡ slot_of t es → get slab s ≡ Some o → Holds (with_value slab s (changed what o)) es (happens t what os)
 changes what t s o slab es os are view slot held =
     let found : find t os ≡ Some o = sym (found_at t slab es os are view (Some s) slot) ∙ held in
@@ -170,7 +180,8 @@ changes what t s o slab es os are view slot held =
     record { are = h.are; view = h.view ∙ sym (ap (λ x. happens_to x what os) found) }
 
 -- nothing happens where there is none
-pub changes_none : (what : Change) (t : ℕ) (slot : Option ℕ) (slab : Slab OpenTxn) (es : List (ℕ × ℕ)) (os : List OpenTxn) → AreSlots slab es → in_slots slab es ≡ os
+pub changes_none : (what : Change) (t : ℕ) (slot : Option ℕ) (slab : Slab OpenTxn) (es : List (ℕ × ℕ)) (os : List OpenTxn)
+    → AreSlots slab es → in_slots slab es ≡ os
     → slot ≡ slot_of t es → held_at slab slot ≡ None → os ≡ happens t what os
 changes_none what t slot slab es os are view is none =
     let found : find t os ≡ None = sym (found_at t slab es os are view slot is) ∙ none in sym (ap (λ x. happens_to x what os) found)

@@ -27,7 +27,8 @@ none_committing (is.Commit t ∷ log) stable all =
 none_committing (r ∷ log) stable all = none_committing log stable (omega (arith, all))
 
 -- who is committing has ended
-ended_if : (b : Bool) (t u : ℕ) (ts : List ℕ) (was : Bool) → (is_listed ts u ≡ true → was ≡ true) → is_listed (if b then ts ++ t ∷ [] else []) u ≡ true → ((u == t) || was) ≡ true
+ended_if : (b : Bool) (t u : ℕ) (ts : List ℕ) (was : Bool) → (is_listed ts u ≡ true → was ≡ true)
+    → is_listed (if b then ts ++ t ∷ [] else []) u ≡ true → ((u == t) || was) ≡ true
 ended_if false t u ts was rest h = absurd (cc)
 ended_if true t u ts was rest h =
     elim (or_cases (is_listed ts u) (t == u) (sym (listed_last ts t u) ∙ h)) [
@@ -35,7 +36,8 @@ ended_if true t u ts was rest h =
       | inr last ↦ ap (λ b. b || was) (eq-eqb u t (sym (eqb-true t u last)))
     ]
 
-pub committing_ended : (log : List Record) (stable u : ℕ) → is_listed (commits_in log stable) u ≡ true → has_ended log u ≡ true
+pub committing_ended : (log : List Record) (stable u : ℕ) → is_listed (commits_in log stable) u ≡ true
+    → has_ended log u ≡ true
 committing_ended [] stable u h = absurd (cc)
 committing_ended (is.Commit t ∷ log) stable u h =
     ended_if (nat_lt stable (length log + 1)) t u (commits_in log stable) (has_ended log u) (committing_ended log stable u) h
@@ -43,7 +45,8 @@ committing_ended (is.End t ∷ log) stable u h = ap (λ b. (u == t) || b) (commi
 committing_ended (r ∷ log) stable u h = committing_ended log stable u h
 
 -- so nobody who is open is committing
-pub open_unlisted : (log : List Record) (stable t : ℕ) → has_ended log t ≡ false → is_listed (commits_in log stable) t ≡ false
+pub open_unlisted : (log : List Record) (stable t : ℕ) → has_ended log t ≡ false
+    → is_listed (commits_in log stable) t ≡ false
 open_unlisted log stable t goes_on =
     elim (cases_Bool (is_listed (commits_in log stable) t)) [
       | inl listed ↦ absurd (true≢false (sym (committing_ended log stable t listed) ∙ goes_on))
@@ -51,13 +54,15 @@ open_unlisted log stable t goes_on =
     ]
 
 -- a Commit that was just logged isn't stable
-pub commits_more : (log : List Record) (stable t : ℕ) → stable ≤ length log → commits_in (is.Commit t ∷ log) stable ≡ commits_in log stable ++ t ∷ []
+pub commits_more : (log : List Record) (stable t : ℕ) → stable ≤ length log
+    → commits_in (is.Commit t ∷ log) stable ≡ commits_in log stable ++ t ∷ []
 commits_more log stable t within =
     let above : nat_lt stable (length log + 1) ≡ true = grind (arith, nat_tests, within) in
     ap (λ b. if b then commits_in log stable ++ t ∷ [] else []) above
 
 -- one that commits holds what it held, and so does each other
-pub holder_committed : (os : List OpenTxn) (cs : List ℕ) (t : ℕ) (o : OpenTxn) → find t os ≡ Some o → (u : ℕ) → is_holder (without t os) (cs ++ t ∷ []) u ≡ is_holder os cs u
+pub holder_committed : (os : List OpenTxn) (cs : List ℕ) (t : ℕ) (o : OpenTxn) → find t os ≡ Some o → (u : ℕ)
+    → is_holder (without t os) (cs ++ t ∷ []) u ≡ is_holder os cs u
 holder_committed os cs t o at u =
     elim (cases_eq u t) [
       | inl same ↦

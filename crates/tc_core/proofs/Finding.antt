@@ -4,7 +4,8 @@ use Rattle.std.specs.Prelude.{◌==◌, if◌then◌else◌}
 use Rattle.tc_core.specs.declared.open_txn.OpenTxn.{OpenTxn}
 use Rattle.tc_core.specs.OpenTxns.{find, replace, without, AreBelow, AreFalling, unless, oldest}
 
-found_if : (b : Bool) (p o : OpenTxn) (other : Option OpenTxn) → (if b then Some p else other) ≡ Some o → ((b ≡ true) × (p ≡ o)) ⊎ ((b ≡ false) × (other ≡ Some o))
+found_if : (b : Bool) (p o : OpenTxn) (other : Option OpenTxn) → (if b then Some p else other) ≡ Some o
+    → ((b ≡ true) × (p ≡ o)) ⊎ ((b ≡ false) × (other ≡ Some o))
 found_if true p o other h = inl (refl, (cc))
 found_if false p o other h = inr (refl, h)
 
@@ -37,17 +38,20 @@ pub replaced_other : (new : OpenTxn) (os : List OpenTxn) (t : ℕ) → t ≢ new
 replaced_other new [] t apart = refl
 replaced_other new (o ∷ os) t apart = pick (replaced_other new os t apart) (o.txn == new.txn) refl
   where
-    pick : find t (replace new os) ≡ find t os → (b : Bool) → (o.txn == new.txn) ≡ b → find t ((if b then new else o) ∷ replace new os) ≡ find t (o ∷ os)
+    pick : find t (replace new os) ≡ find t os → (b : Bool) → (o.txn == new.txn) ≡ b
+        → find t ((if b then new else o) ∷ replace new os) ≡ find t (o ∷ os)
     pick rest true same =
         find_there new (replace new os) t (λ e. apart (sym e)) ∙ rest
         ∙ sym (find_there o os t (λ e. apart (sym e ∙ eqb-true o.txn new.txn same)))
     pick rest false other = ap (λ x. if o.txn == t then Some o else x) rest
 
-pub replaced_same : (new o : OpenTxn) (os : List OpenTxn) → find new.txn os ≡ Some o → find new.txn (replace new os) ≡ Some new
+pub replaced_same : (new o : OpenTxn) (os : List OpenTxn) → find new.txn os ≡ Some o
+    → find new.txn (replace new os) ≡ Some new
 replaced_same new o [] h = absurd (cc)
 replaced_same new o (p ∷ os) h = pick (replaced_same new o os) (p.txn == new.txn) refl
   where
-    pick : (find new.txn os ≡ Some o → find new.txn (replace new os) ≡ Some new) → (b : Bool) → (p.txn == new.txn) ≡ b → find new.txn ((if b then new else p) ∷ replace new os) ≡ Some new
+    pick : (find new.txn os ≡ Some o → find new.txn (replace new os) ≡ Some new) → (b : Bool) → (p.txn == new.txn) ≡ b
+        → find new.txn ((if b then new else p) ∷ replace new os) ≡ Some new
     pick rest true same = find_here new (replace new os) new.txn refl
     pick rest false other =
         let apart : p.txn ≢ new.txn = λ e. true≢false (sym (eq-eqb p.txn new.txn e) ∙ other) in
@@ -78,7 +82,8 @@ pub without_same : (t : ℕ) (os : List OpenTxn) → find t (without t os) ≡ N
 without_same t [] = refl
 without_same t (o ∷ os) = pick (without_same t os) (o.txn == t) refl
   where
-    pick : find t (without t os) ≡ None → (b : Bool) → (o.txn == t) ≡ b → find t (if b then without t os else o ∷ without t os) ≡ None
+    pick : find t (without t os) ≡ None → (b : Bool) → (o.txn == t) ≡ b
+        → find t (if b then without t os else o ∷ without t os) ≡ None
     pick rest true same = rest
     pick rest false other = find_there o (without t os) t (λ e. true≢false (sym (eq-eqb o.txn t e) ∙ other)) ∙ rest
 
@@ -86,7 +91,8 @@ pub without_other : (t : ℕ) (os : List OpenTxn) (u : ℕ) → u ≢ t → find
 without_other t [] u apart = refl
 without_other t (o ∷ os) u apart = pick (without_other t os u apart) (o.txn == t) refl
   where
-    pick : find u (without t os) ≡ find u os → (b : Bool) → (o.txn == t) ≡ b → find u (if b then without t os else o ∷ without t os) ≡ find u (o ∷ os)
+    pick : find u (without t os) ≡ find u os → (b : Bool) → (o.txn == t) ≡ b
+        → find u (if b then without t os else o ∷ without t os) ≡ find u (o ∷ os)
     pick rest true same = rest ∙ sym (find_there o os u (λ e. apart (sym e ∙ eqb-true o.txn t same)))
     pick rest false other = ap (λ x. if o.txn == u then Some o else x) rest
 
@@ -110,7 +116,8 @@ pub without_length : (t : ℕ) (os : List OpenTxn) → length (without t os) ≤
 without_length t [] = omega arith
 without_length t (o ∷ os) = pick (without_length t os) (o.txn == t)
   where
-    pick : length (without t os) ≤ length os → (b : Bool) → length (if b then without t os else o ∷ without t os) ≤ length (o ∷ os)
+    pick : length (without t os) ≤ length os → (b : Bool)
+        → length (if b then without t os else o ∷ without t os) ≤ length (o ∷ os)
     pick rest true = omega (arith, rest)
     pick rest false = omega (arith, rest)
 
@@ -136,11 +143,14 @@ pub record IsOldest (test : OpenTxn → Bool) (os : List OpenTxn) (o : OpenTxn) 
   pub passes : test o ≡ true
   pub least : (u : ℕ) (p : OpenTxn) → find u os ≡ Some p → test p ≡ true → o.txn ≤ u
 
-pub oldest_none : (test : OpenTxn → Bool) (os : List OpenTxn) → oldest test os ≡ None → (u : ℕ) (p : OpenTxn) → find u os ≡ Some p → test p ≡ false
+pub oldest_none : (test : OpenTxn → Bool) (os : List OpenTxn) → oldest test os ≡ None → (u : ℕ) (p : OpenTxn)
+    → find u os ≡ Some p → test p ≡ false
 oldest_none test [] none u p h = absurd (cc)
 oldest_none test (o ∷ os) none u p h = pick (λ is there. oldest_none test os is u p there) (oldest test os) refl (test o) refl none
   where
-    pick : (oldest test os ≡ None → find u os ≡ Some p → test p ≡ false) → (rest : Option OpenTxn) → oldest test os ≡ rest → (b : Bool) → test o ≡ b → unless rest (if b then Some o else None) ≡ None → test p ≡ false
+    pick : (oldest test os ≡ None → find u os ≡ Some p → test p ≡ false) → (rest : Option OpenTxn)
+        → oldest test os ≡ rest → (b : Bool) → test o ≡ b → unless rest (if b then Some o else None) ≡ None
+        → test p ≡ false
     pick older (Some q) is b passes e = absurd (cc)
     pick older None is true passes e = absurd (cc)
     pick older None is false passes e = elim (found_if (o.txn == u) o p (find u os) h) [
@@ -148,11 +158,13 @@ oldest_none test (o ∷ os) none u p h = pick (λ is there. oldest_none test os 
       | inr there ↦ older is there.1
     ]
 
-pub oldest_found : (test : OpenTxn → Bool) (os : List OpenTxn) (o : OpenTxn) → AreFalling os → oldest test os ≡ Some o → IsOldest test os o
+pub oldest_found : (test : OpenTxn → Bool) (os : List OpenTxn) (o : OpenTxn) → AreFalling os → oldest test os ≡ Some o
+    → IsOldest test os o
 oldest_found test [] o falls h = absurd (cc)
 oldest_found test (p ∷ os) o falls h = pick (oldest_found test os o falls.1) (oldest test os) refl (test p) refl h
   where
-    pick : (oldest test os ≡ Some o → IsOldest test os o) → (rest : Option OpenTxn) → oldest test os ≡ rest → (b : Bool) → test p ≡ b → unless rest (if b then Some p else None) ≡ Some o → IsOldest test (p ∷ os) o
+    pick : (oldest test os ≡ Some o → IsOldest test os o) → (rest : Option OpenTxn) → oldest test os ≡ rest
+        → (b : Bool) → test p ≡ b → unless rest (if b then Some p else None) ≡ Some o → IsOldest test (p ∷ os) o
     pick rest_found (Some q) is b passes e =
         let older : IsOldest test os o = rest_found (is ∙ e) in
         let below : o.txn < p.txn = found_below os p.txn o.txn o falls.0 older.found in

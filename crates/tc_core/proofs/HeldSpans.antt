@@ -36,24 +36,28 @@ any_if : (b : Bool) (s x : Span) (xs : List Span) → AnyConflict s xs → AnyCo
 any_if true s x xs any = inr any
 any_if false s x xs any = any
 
-any_longer : (s : Span) (r : Record) (log : List Record) (t : ℕ) → AnyConflict s (op_spans log t) → AnyConflict s (op_spans (r ∷ log) t)
+any_longer : (s : Span) (r : Record) (log : List Record) (t : ℕ) → AnyConflict s (op_spans log t)
+    → AnyConflict s (op_spans (r ∷ log) t)
 any_longer s (is.Op u p op) log t any = any_if (t == u) s (at_key Exclusive (key_of op)) (op_spans log t) any
 any_longer s _ log t any = any
 
 -- and the key of the newest operation
-any_newest : (s : Span) (r : Record) (log : List Record) (t : ℕ) (o : Op) → op_of r ≡ Some (t, o) → Conflict s (at_key Exclusive (key_of o)) → AnyConflict s (op_spans (r ∷ log) t)
+any_newest : (s : Span) (r : Record) (log : List Record) (t : ℕ) (o : Op) → op_of r ≡ Some (t, o)
+    → Conflict s (at_key Exclusive (key_of o)) → AnyConflict s (op_spans (r ∷ log) t)
 any_newest s (is.Op u p op) log t o by clash = pick (t == u) (eq-eqb t u (sym same.0))
   where
     same : (u ≡ t) × (op ≡ o)
     same = both_same u t op o by
 
-    pick : (b : Bool) → b ≡ true → AnyConflict s (if b then at_key Exclusive (key_of op) ∷ op_spans log t else op_spans log t)
+    pick : (b : Bool) → b ≡ true
+        → AnyConflict s (if b then at_key Exclusive (key_of op) ∷ op_spans log t else op_spans log t)
     pick true h = let P : Op → Type 0 = λ x. Conflict s (at_key Exclusive (key_of x)) in inl (subst P (sym same.1) clash)
     pick false h = absurd (cc)
 any_newest s _ log t o by clash = absurd (cc)
 
 -- each operation of a transaction holds its key
-pub op_spans_has : (s : Span) (log : List Record) (n t : ℕ) (o : Op) → IsOpBy log n t o → Conflict s (at_key Exclusive (key_of o)) → AnyConflict s (op_spans log t)
+pub op_spans_has : (s : Span) (log : List Record) (n t : ℕ) (o : Op) → IsOpBy log n t o
+    → Conflict s (at_key Exclusive (key_of o)) → AnyConflict s (op_spans log t)
 op_spans_has s [] n t o by clash = absurd (cc)
 op_spans_has s (r ∷ log) n t o by clash =
     elim (cases_eq n (length log + 1)) [
@@ -62,16 +66,19 @@ op_spans_has s (r ∷ log) n t o by clash =
     ]
 
 -- an open transaction holds the keys of its operations, so does one that is committing, any other nothing
-pub held_is : (log : List Record) (os : List OpenTxn) (cs : List ℕ) (t : ℕ) → is_holder os cs t ≡ true → held_spans log os cs t ≡ op_spans log t
+pub held_is : (log : List Record) (os : List OpenTxn) (cs : List ℕ) (t : ℕ) → is_holder os cs t ≡ true
+    → held_spans log os cs t ≡ op_spans log t
 held_is log os cs t holds = ap (λ b. if b then op_spans log t else []) holds
 
 pub open_holds : (os : List OpenTxn) (cs : List ℕ) (t : ℕ) → IsSome (find t os) → is_holder os cs t ≡ true
 open_holds os cs t some = ap (λ b. b || is_listed cs t) some
 
-pub held_open : (log : List Record) (os : List OpenTxn) (cs : List ℕ) (t : ℕ) (o : OpenTxn) → find t os ≡ Some o → held_spans log os cs t ≡ op_spans log t
+pub held_open : (log : List Record) (os : List OpenTxn) (cs : List ℕ) (t : ℕ) (o : OpenTxn) → find t os ≡ Some o
+    → held_spans log os cs t ≡ op_spans log t
 held_open log os cs t o is = held_is log os cs t (open_holds os cs t (ap is_some is))
 
-pub held_none : (log : List Record) (os : List OpenTxn) (cs : List ℕ) (t : ℕ) → is_holder os cs t ≡ false → held_spans log os cs t ≡ []
+pub held_none : (log : List Record) (os : List OpenTxn) (cs : List ℕ) (t : ℕ) → is_holder os cs t ≡ false
+    → held_spans log os cs t ≡ []
 held_none log os cs t none = ap (λ b. if b then op_spans log t else []) none
 
 pub op_spans_longer : (r : Record) (log : List Record) (t : ℕ) → op_of r ≡ None → op_spans (r ∷ log) t ≡ op_spans log t
@@ -79,10 +86,12 @@ op_spans_longer (is.Op u p op) log t none = absurd (cc)
 op_spans_longer _ log t none = refl
 
 -- an operation takes its key for its transaction, and nothing for another
-op_spans_own : (t p : ℕ) (op : Op) (log : List Record) → op_spans (is.Op t p op ∷ log) t ≡ at_key Exclusive (key_of op) ∷ op_spans log t
+op_spans_own : (t p : ℕ) (op : Op) (log : List Record)
+    → op_spans (is.Op t p op ∷ log) t ≡ at_key Exclusive (key_of op) ∷ op_spans log t
 op_spans_own t p op log = ap (λ b. if b then at_key Exclusive (key_of op) ∷ op_spans log t else op_spans log t) (eq-eqb t t refl)
 
-op_spans_other : (t p : ℕ) (op : Op) (log : List Record) (u : ℕ) → u ≢ t → op_spans (is.Op t p op ∷ log) u ≡ op_spans log u
+op_spans_other : (t p : ℕ) (op : Op) (log : List Record) (u : ℕ) → u ≢ t
+    → op_spans (is.Op t p op ∷ log) u ≡ op_spans log u
 op_spans_other t p op log u apart = ap (λ b. if b then at_key Exclusive (key_of op) ∷ op_spans log u else op_spans log u) (ne_eqb u t apart)
 
 -- who has no operation holds nothing
@@ -96,22 +105,26 @@ op_spans_none (r ∷ log) t none =
     newest (is.Op u p op) no_op = op_spans_other u p op log t (λ e. no_op op (ap (λ x. Some (x, op)) (sym e)))
     newest _ no_op = refl
 
-held_alike : (log log2 : List Record) (os os2 : List OpenTxn) (cs cs2 : List ℕ) (t : ℕ) → is_holder os2 cs2 t ≡ is_holder os cs t → op_spans log2 t ≡ op_spans log t
+held_alike : (log log2 : List Record) (os os2 : List OpenTxn) (cs cs2 : List ℕ) (t : ℕ)
+    → is_holder os2 cs2 t ≡ is_holder os cs t → op_spans log2 t ≡ op_spans log t
     → held_spans log2 os2 cs2 t ≡ held_spans log os cs t
 held_alike log log2 os os2 cs cs2 t same_holder same_spans =
     ap (λ b. if b then op_spans log2 t else []) same_holder ∙ ap (λ (x : List Span). if is_holder os cs t then x else []) same_spans
 
 -- held is the same where the same hold and have the same operations
-pub held_same : (log log2 : List Record) (os os2 : List OpenTxn) (cs cs2 : List ℕ) → ((t : ℕ) → is_holder os2 cs2 t ≡ is_holder os cs t)
+pub held_same : (log log2 : List Record) (os os2 : List OpenTxn) (cs cs2 : List ℕ)
+    → ((t : ℕ) → is_holder os2 cs2 t ≡ is_holder os cs t)
     → ((t : ℕ) → op_spans log2 t ≡ op_spans log t) → (t : ℕ) → held_spans log2 os2 cs2 t ≡ held_spans log os cs t
 held_same log log2 os os2 cs cs2 same_holders same_spans t = held_alike log log2 os os2 cs cs2 t (same_holders t) (same_spans t)
 
 -- the same hold where the same are open
-pub same_holder : (os os2 : List OpenTxn) (cs : List ℕ) (t : ℕ) → find t os2 ≡ find t os → is_holder os2 cs t ≡ is_holder os cs t
+pub same_holder : (os os2 : List OpenTxn) (cs : List ℕ) (t : ℕ) → find t os2 ≡ find t os
+    → is_holder os2 cs t ≡ is_holder os cs t
 same_holder os os2 cs t same = ap (λ o. is_some o || is_listed cs t) same
 
 -- who is open stays so when one is put in another's place
-pub is_some_replaced : (new o : OpenTxn) (os : List OpenTxn) → find new.txn os ≡ Some o → (t : ℕ) → is_some (find t (replace new os)) ≡ is_some (find t os)
+pub is_some_replaced : (new o : OpenTxn) (os : List OpenTxn) → find new.txn os ≡ Some o → (t : ℕ)
+    → is_some (find t (replace new os)) ≡ is_some (find t os)
 is_some_replaced new o os is t =
     elim (cases_eq t new.txn) [
       | inl same ↦ let P : ℕ → Type 0 = λ u. is_some (find u (replace new os)) ≡ is_some (find u os) in
@@ -119,7 +132,8 @@ is_some_replaced new o os is t =
       | inr apart ↦ ap is_some (replaced_other new os t apart)
     ]
 
-pub holder_replaced : (new o : OpenTxn) (os : List OpenTxn) (cs : List ℕ) → find new.txn os ≡ Some o → (t : ℕ) → is_holder (replace new os) cs t ≡ is_holder os cs t
+pub holder_replaced : (new o : OpenTxn) (os : List OpenTxn) (cs : List ℕ) → find new.txn os ≡ Some o → (t : ℕ)
+    → is_holder (replace new os) cs t ≡ is_holder os cs t
 holder_replaced new o os cs is t = ap (λ b. b || is_listed cs t) (is_some_replaced new o os is t)
 
 -- what one transaction holds now, and each other what it held
@@ -128,7 +142,8 @@ Holds log os cs t spans log2 os2 =
     (held_spans log2 os2 cs t ≡ spans) × ((u : ℕ) → u ≢ t → held_spans log2 os2 cs u ≡ held_spans log os cs u)
 
 -- an operation takes its key
-pub held_acted : (log : List Record) (os : List OpenTxn) (cs : List ℕ) (new o : OpenTxn) (p : ℕ) (op : Op) → find new.txn os ≡ Some o
+pub held_acted : (log : List Record) (os : List OpenTxn) (cs : List ℕ) (new o : OpenTxn) (p : ℕ) (op : Op)
+    → find new.txn os ≡ Some o
     → Holds log os cs new.txn (at_key Exclusive (key_of op) ∷ held_spans log os cs new.txn) (is.Op new.txn p op ∷ log) (replace new os)
 held_acted log os cs new o p op at =
     let r : Record = is.Op new.txn p op in (
@@ -138,7 +153,8 @@ held_acted log os cs new o p op at =
     )
 
 -- one that begins holds nothing
-pub held_begun : (log : List Record) (os : List OpenTxn) (cs : List ℕ) (new : OpenTxn) → IsLegal log → new.txn ≡ length log + 1 → Holds log os cs new.txn [] (is.Begin ∷ log) (new ∷ os)
+pub held_begun : (log : List Record) (os : List OpenTxn) (cs : List ℕ) (new : OpenTxn) → IsLegal log
+    → new.txn ≡ length log + 1 → Holds log os cs new.txn [] (is.Begin ∷ log) (new ∷ os)
 held_begun log os cs new legal number = (
   held_open (is.Begin ∷ log) (new ∷ os) cs new.txn new (find_here new os new.txn refl) ∙ op_spans_none log new.txn no_op,
   λ u apart. held_alike log (is.Begin ∷ log) os (new ∷ os) cs cs u (same_holder os (new ∷ os) cs u (find_there new os u (λ e. apart (sym e)))) refl,
@@ -148,7 +164,8 @@ held_begun log os cs new legal number = (
     no_op n o by = not_newest log new.txn (begun_number log new.txn (begun log new.txn n legal (op_step new.txn o (record_at log n) by))) number
 
 -- one that ends holds nothing any more
-pub held_ended : (log : List Record) (os : List OpenTxn) (cs : List ℕ) (t : ℕ) → is_listed cs t ≡ false → Holds log os cs t [] (is.End t ∷ log) (without t os)
+pub held_ended : (log : List Record) (os : List OpenTxn) (cs : List ℕ) (t : ℕ) → is_listed cs t ≡ false
+    → Holds log os cs t [] (is.End t ∷ log) (without t os)
 held_ended log os cs t unlisted = (
   held_none (is.End t ∷ log) (without t os) cs t (rw (without_same t os, unlisted) refl),
   λ u apart. held_alike log (is.End t ∷ log) os (without t os) cs cs u (same_holder os (without t os) cs u (without_other t os u apart)) refl,

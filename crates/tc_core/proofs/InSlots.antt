@@ -28,7 +28,8 @@ find_in_both : (t : ℕ) (xs ys : List OpenTxn) → find t (xs ++ ys) ≡ unless
 find_in_both t [] ys = refl
 find_in_both t (x ∷ xs) ys = pick (x.txn == t) (find_in_both t xs ys)
   where
-    pick : (b : Bool) → find t (xs ++ ys) ≡ unless (find t xs) (find t ys) → (if b then Some x else find t (xs ++ ys)) ≡ unless (if b then Some x else find t xs) (find t ys)
+    pick : (b : Bool) → find t (xs ++ ys) ≡ unless (find t xs) (find t ys)
+        → (if b then Some x else find t (xs ++ ys)) ≡ unless (if b then Some x else find t xs) (find t ys)
     pick true rest = refl
     pick false rest = rest
 
@@ -38,14 +39,16 @@ no_slot t (e ∷ es) above =
     let apart : is_eq (nat_cmp t e.0) ≡ false = grind (arith, nat_tests, above.0) in
     rw apart (no_slot t es above.1)
 
-pub found_in : (t : ℕ) (slab : Slab OpenTxn) (es : List (ℕ × ℕ)) → AreSlots slab es → find t (in_slots slab es) ≡ held_at slab (slot_of t es)
+pub found_in : (t : ℕ) (slab : Slab OpenTxn) (es : List (ℕ × ℕ)) → AreSlots slab es
+    → find t (in_slots slab es) ≡ held_at slab (slot_of t es)
 found_in t slab [] are = refl
 found_in t slab (e ∷ es) are =
     find_in_both t (in_slots slab es) (listed (get slab e.1))
     ∙ ap (λ o. unless o (find t (listed (get slab e.1)))) (found_in t slab es are.1)
     ∙ pick (is_eq (nat_cmp t e.0)) refl
   where
-    pick : (b : Bool) → is_eq (nat_cmp t e.0) ≡ b → unless (held_at slab (slot_of t es)) (find t (listed (get slab e.1))) ≡ held_at slab (cond b (Some e.1) (slot_of t es))
+    pick : (b : Bool) → is_eq (nat_cmp t e.0) ≡ b
+        → unless (held_at slab (slot_of t es)) (find t (listed (get slab e.1))) ≡ held_at slab (cond b (Some e.1) (slot_of t es))
     pick true is =
         let same : t ≡ e.0 = grind (arith, nat_tests) in
         let none : slot_of t es ≡ None = no_slot t es (rw same are.0.below) in

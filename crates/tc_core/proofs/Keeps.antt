@@ -20,7 +20,8 @@ abbrev ABegin : Option Record → Type 0
 ABegin r = r ≡ Some is.Begin
 
 -- a transaction that is open with one record more is the newest record or was open
-pub open_had : (r : Record) (log : List Record) (t : ℕ) → IsOpen (r ∷ log) t → ((t ≡ length log + 1) × (r ≡ is.Begin)) ⊎ IsOpen log t
+pub open_had : (r : Record) (log : List Record) (t : ℕ) → IsOpen (r ∷ log) t
+    → ((t ≡ length log + 1) × (r ≡ is.Begin)) ⊎ IsOpen log t
 open_had r log t h =
     elim (cases_eq t (length log + 1)) [
       | inl e ↦ let same : Some r ≡ Some is.Begin = newest_at ABegin r log t e h.begun in inl (e, cc)
@@ -31,7 +32,8 @@ open_had r log t h =
 pub open_was : (r : Record) (log : List Record) → r ≢ is.Begin → (t : ℕ) → IsOpen (r ∷ log) t → IsOpen log t
 open_was r log no_begin t h = elim (open_had r log t h) [ inl new ↦ absurd (no_begin new.1) | inr was ↦ was ]
 
-pub open_kept : (r : Record) (log : List Record) (t : ℕ) → has_ended (r ∷ log) t ≡ has_ended log t → IsOpen log t → IsOpen (r ∷ log) t
+pub open_kept : (r : Record) (log : List Record) (t : ℕ) → has_ended (r ∷ log) t ≡ has_ended log t → IsOpen log t
+    → IsOpen (r ∷ log) t
 open_kept r log t same h = record {
   begun = kept_at ABegin r log t (begun_number log t h.begun) h.begun;
   goes_on = same ∙ h.goes_on;

@@ -50,7 +50,8 @@ module _ (r : Record) (log : List Record) where
   still_idle : (t : ℕ) → IsNeutral r log t → IsIdle log t → IsIdle (r ∷ log) t
   still_idle t neutral idle n o step requests = answered_push n r log (idle n o (step_was r log t neutral n step) (request_was r log t neutral n o step requests))
 
-  still_waits : (o : OpenTxn) (w : Option ℕ) → IsNeutral r log o.txn → ((n : ℕ) → w ≡ Some n → answer_of (r ∷ log) n ≡ answer_of log n) → Waits log o w → Waits (r ∷ log) o w
+  still_waits : (o : OpenTxn) (w : Option ℕ) → IsNeutral r log o.txn
+      → ((n : ℕ) → w ≡ Some n → answer_of (r ∷ log) n ≡ answer_of log n) → Waits log o w → Waits (r ∷ log) o w
   still_waits o None neutral same h = still_idle o.txn neutral h
   still_waits o (Some n) neutral same h = record {
     request = request_kept r log o n h.request;
@@ -60,7 +61,9 @@ module _ (r : Record) (log : List Record) where
   }
 
   -- so it leaves another transaction's
-  pub leaves_open : (o : OpenTxn) → IsNeutral r log o.txn → ((n : ℕ) → o.waiting ≡ Some n → answer_of (r ∷ log) n ≡ answer_of log n) → IsOpenTxn log o → IsOpenTxn (r ∷ log) o
+  pub leaves_open : (o : OpenTxn) → IsNeutral r log o.txn
+      → ((n : ℕ) → o.waiting ≡ Some n → answer_of (r ∷ log) n ≡ answer_of log n) → IsOpenTxn log o
+      → IsOpenTxn (r ∷ log) o
   leaves_open o neutral same h = still_open r log o o.waiting neutral h (still_waits o o.waiting neutral same h.waits)
 
 some_answer : (b : Bool) (a : Answer) (o : Option Answer) → b ≡ true → IsSome (cond b (Some a) o)
@@ -68,7 +71,8 @@ some_answer true a o h = refl
 some_answer false a o h = absurd (cc)
 
 -- the answer that is waited for makes the transaction idle
-pub idle_now : (log : List Record) (o : OpenTxn) (n : ℕ) (a : Answer) → IsWaiting log o n → IsIdle (is.Answer n a ∷ log) o.txn
+pub idle_now : (log : List Record) (o : OpenTxn) (n : ℕ) (a : Answer) → IsWaiting log o n
+    → IsIdle (is.Answer n a ∷ log) o.txn
 idle_now log o n a waits m op step requests =
     let r : Record = is.Answer n a in
     elim (cases_eq m (length log + 1)) [
@@ -80,7 +84,8 @@ idle_now log o n a waits m op step requests =
     ]
 
 -- a request that was just appended is the only one without an answer, where the transaction was idle
-pub waits_now : (r : Record) (log : List Record) (t : ℕ) (o : OpenTxn) → o.txn ≡ t → IsIdle log t → IsRequest (r ∷ log) o (length log + 1)
+pub waits_now : (r : Record) (log : List Record) (t : ℕ) (o : OpenTxn) → o.txn ≡ t → IsIdle log t
+    → IsRequest (r ∷ log) o (length log + 1)
     → answer_of (r ∷ log) (length log + 1) ≡ None → IsWaiting (r ∷ log) o (length log + 1)
 waits_now r log t o is idle request unanswered = record {
   request = request;
@@ -90,7 +95,8 @@ waits_now r log t o is idle request unanswered = record {
 }
 
 -- a step that requests nothing leaves the transaction idle
-pub idle_after : (r : Record) (log : List Record) (t : ℕ) → ((o : Op) → ARequest o (Some r) → ⊥) → IsIdle log t → IsIdle (r ∷ log) t
+pub idle_after : (r : Record) (log : List Record) (t : ℕ) → ((o : Op) → ARequest o (Some r) → ⊥) → IsIdle log t
+    → IsIdle (r ∷ log) t
 idle_after r log t none idle n o step requests =
     elim (cases_eq n (length log + 1)) [
       | inl e ↦ absurd (none o (newest_at (ARequest o) r log n e requests))

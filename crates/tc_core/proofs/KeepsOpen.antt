@@ -11,7 +11,8 @@ use Rattle.tc_core.proofs.Finding.{found_number, find_here, find_there, replaced
 use Rattle.tc_core.proofs.HeldSpans.{is_some_replaced}
 
 -- an open transaction has a number of the log
-open_number : (log : List Record) (os : List OpenTxn) → AreOpen log os → (t : ℕ) (o : OpenTxn) → find t os ≡ Some o → t ≤ length log
+open_number : (log : List Record) (os : List OpenTxn) → AreOpen log os → (t : ℕ) (o : OpenTxn) → find t os ≡ Some o
+    → t ≤ length log
 open_number log os k t o at = omega (arith, (begun_number log o.txn (k.each t o at).is.begun).bounded, found_number t os o at)
 
 below_more : (os : List OpenTxn) (t u : ℕ) → t ≤ u → AreBelow t os → AreBelow u os
@@ -19,7 +20,8 @@ below_more [] t u le below = tt
 below_more (o ∷ os) t u le below = (omega (arith, below.0, le), below_more os t u le below.1)
 
 -- so all of them do
-below_next : (log : List Record) (os : List OpenTxn) → ((t : ℕ) (o : OpenTxn) → find t os ≡ Some o → t ≤ length log) → AreFalling os → AreBelow (length log + 1) os
+below_next : (log : List Record) (os : List OpenTxn) → ((t : ℕ) (o : OpenTxn) → find t os ≡ Some o → t ≤ length log)
+    → AreFalling os → AreBelow (length log + 1) os
 below_next log [] bounded falls = tt
 below_next log (o ∷ os) bounded falls =
     let bound : o.txn ≤ length log = bounded o.txn o (find_here o os o.txn refl) in
@@ -30,7 +32,8 @@ open_below log os k = below_next log os (open_number log os k) k.order
 
 module _ (log log2 : List Record) (os : List OpenTxn) (k : AreOpen log os) where
   -- nobody begins, and nobody ends
-  pub same_open : ((o : OpenTxn) → IsOpenTxn log o → IsOpenTxn log2 o) → ((t : ℕ) → IsOpen log2 t → IsOpen log t) → AreOpen log2 os
+  pub same_open : ((o : OpenTxn) → IsOpenTxn log o → IsOpenTxn log2 o) → ((t : ℕ) → IsOpen log2 t → IsOpen log t)
+      → AreOpen log2 os
   same_open kept was = record {
     each = λ t o at. kept o (k.each t o at);
     all = λ t h. k.all t (was t h);

@@ -27,14 +27,17 @@ use Rattle.tc_core.proofs.KeepsOpen.{replaced_open}
 use Rattle.tc_core.proofs.KeepsTc.{open_at, reading_at, held_by}
 
 -- what an open transaction does besides its read stays
-waits_alike : (log : List Record) (o : OpenTxn) (r : Option Read) (n : Option ℕ) → Waits log o n → Waits log (record o { reading = r }) n
+waits_alike : (log : List Record) (o : OpenTxn) (r : Option Read) (n : Option ℕ) → Waits log o n
+    → Waits log (record o { reading = r }) n
 waits_alike log o r None h = h
 waits_alike log o r (Some n) h = record { request = h.request; unanswered = h.unanswered; only = h.only }
 
-open_alike : (log : List Record) (o : OpenTxn) (r : Option Read) → IsOpenTxn log o → IsOpenTxn log (record o { reading = r })
+open_alike : (log : List Record) (o : OpenTxn) (r : Option Read) → IsOpenTxn log o
+    → IsOpenTxn log (record o { reading = r })
 open_alike log o r h = record { is = h.is; last = h.last; undo = h.undo; waits = waits_alike log o r o.waiting h.waits; saves = h.saves; rolling = h.rolling }
 
-pub keeps_ask : (w : TcView) (o : OpenTxn) (s : Span) → IsTc w → find o.txn w.open_txns ≡ Some o → o.waiting ≡ None → o.rolling ≡ None
+pub keeps_ask : (w : TcView) (o : OpenTxn) (s : Span) → IsTc w → find o.txn w.open_txns ≡ Some o → o.waiting ≡ None
+    → o.rolling ≡ None
     → IsRange (shared s) → IsFree w.locks o.txn (shared s) → w.reads < 281474976710655 → IsTc (asked_read w o s)
 keeps_ask w o s k at none flat range free unspent =
     let r : Read = record { number = w.reads + 1; span = s } in
@@ -72,13 +75,15 @@ read_is None n h = absurd (cc)
 read_is (Some r) n h =
     (r.span, ap (λ (m : ℕ). let q : Read = record { number = m; span = r.span } in let x : Option Read = Some q in x) (eqb-true r.number n h))
 
-pub reader_is : (w : TcView) (n : ℕ) (o : OpenTxn) → IsTc w → reader w n ≡ Some o → (find o.txn w.open_txns ≡ Some o) × ((s : Span) × (o.reading ≡ Some (record { number = n; span = s })))
+pub reader_is : (w : TcView) (n : ℕ) (o : OpenTxn) → IsTc w → reader w n ≡ Some o
+    → (find o.txn w.open_txns ≡ Some o) × ((s : Span) × (o.reading ≡ Some (record { number = n; span = s })))
 reader_is w n o k is =
     let h : IsOldest (wants (Reader n)) w.open_txns o = oldest_found (wants (Reader n)) w.open_txns o k.open_txns.order is in
     (h.found, read_is o.reading n h.passes)
 
 -- and each that waits for a read is found by its number
-pub reads : (w : TcView) (o : OpenTxn) (n : ℕ) (s : Span) → IsTc w → find o.txn w.open_txns ≡ Some o → o.reading ≡ Some (record { number = n; span = s }) → reader w n ≡ Some o
+pub reads : (w : TcView) (o : OpenTxn) (n : ℕ) (s : Span) → IsTc w → find o.txn w.open_txns ≡ Some o
+    → o.reading ≡ Some (record { number = n; span = s }) → reader w n ≡ Some o
 reads w o n s k at some = pick (reader w n) refl
   where
     the_read : Read
@@ -96,7 +101,8 @@ reads w o n s k at some = pick (reader w n) refl
         is ∙ sym (subst P same h.0) ∙ at
 
 -- no operation of another open transaction is in the span that is read
-pub held_apart : (w : TcView) (o : OpenTxn) (r : Read) (n u : ℕ) (q : Op) → IsTc w → find o.txn w.open_txns ≡ Some o → o.reading ≡ Some r → IsOpBy w.log n u q → IsOpen w.log u → u ≢ o.txn
+pub held_apart : (w : TcView) (o : OpenTxn) (r : Read) (n u : ℕ) (q : Op) → IsTc w → find o.txn w.open_txns ≡ Some o
+    → o.reading ≡ Some r → IsOpBy w.log n u q → IsOpen w.log u → u ≢ o.txn
     → is_within (shared r.span) (key_of q) ≡ false
 held_apart w o r n u q k at some by open_u other =
     elim (cases_Bool (is_within (shared r.span) (key_of q))) [

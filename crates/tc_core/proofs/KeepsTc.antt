@@ -162,7 +162,8 @@ idle_at log o h none = let P : Option ℕ → Type 0 = λ x. Waits log o x in su
 pub waits_at : (log : List Record) (o : OpenTxn) (n : ℕ) → IsOpenTxn log o → o.waiting ≡ Some n → IsWaiting log o n
 waits_at log o n h some = let P : Option ℕ → Type 0 = λ x. Waits log o x in subst P some h.waits
 
-pub reading_at : (w : TcView) (o : OpenTxn) (r : Read) → IsTc w → find o.txn w.open_txns ≡ Some o → o.reading ≡ Some r → IsReading w.reads w.locks o r
+pub reading_at : (w : TcView) (o : OpenTxn) (r : Read) → IsTc w → find o.txn w.open_txns ≡ Some o → o.reading ≡ Some r
+    → IsReading w.reads w.locks o r
 reading_at w o r k at some = k.reading.each o.txn o r at some
 
 -- who is neither open nor committing holds nothing
@@ -170,14 +171,16 @@ pub unheld : (w : TcView) (t : ℕ) → IsTc w → is_holder w.open_txns w.commi
 unheld w t k none = k.locks.others t none
 
 -- an operation of an open transaction holds its key
-pub held_by : (w : TcView) (n u : ℕ) (q : Op) (s : Span) → IsTc w → IsOpBy w.log n u q → IsOpen w.log u → Conflict s (at_key Exclusive (key_of q)) → AnyConflict s (spans_of w.locks u)
+pub held_by : (w : TcView) (n u : ℕ) (q : Op) (s : Span) → IsTc w → IsOpBy w.log n u q → IsOpen w.log u
+    → Conflict s (at_key Exclusive (key_of q)) → AnyConflict s (spans_of w.locks u)
 held_by w n u q s k by open_u clash =
     let P : List Span → Type 0 = AnyConflict s in
     any_held w.log w.open_txns w.committing w.locks k.locks u s
     (subst P (sym (held_is w.log w.open_txns w.committing u (open_holds w.open_txns w.committing u (k.open_txns.all u open_u)))) (op_spans_has s w.log n u q by clash))
 
 -- so a key that nobody else holds has no operation of another open transaction
-pub key_free : (w : TcView) (t : ℕ) (op : Op) → IsTc w → IsFree w.locks t (at_key Exclusive (key_of op)) → IsKeyFree w.log t (key_of op)
+pub key_free : (w : TcView) (t : ℕ) (op : Op) → IsTc w → IsFree w.locks t (at_key Exclusive (key_of op))
+    → IsKeyFree w.log t (key_of op)
 key_free w t op k free n u o by key open_u =
     elim (cases_eq u t) [
       | inl same ↦ same
@@ -187,13 +190,15 @@ key_free w t op k free n u o by key open_u =
     ]
 
 -- an operation on a key that nobody else holds
-pub fits_op : (w : TcView) (o : OpenTxn) (op : Op) → IsTc w → find o.txn w.open_txns ≡ Some o → o.waiting ≡ None → IsFree w.locks o.txn (at_key Exclusive (key_of op))
+pub fits_op : (w : TcView) (o : OpenTxn) (op : Op) → IsTc w → find o.txn w.open_txns ≡ Some o → o.waiting ≡ None
+    → IsFree w.locks o.txn (at_key Exclusive (key_of op))
     → Fits w.log (is.Op o.txn o.last op)
 fits_op w o op k at none free =
     let h = open_at w o k at in
     record { open_txn = h.is; idle = idle_at w.log o h none; prev = h.last; free = key_free w o.txn op k free }
 
-pub keeps_act : (w : TcView) (o : OpenTxn) (op : Op) → IsTc w → find o.txn w.open_txns ≡ Some o → o.waiting ≡ None → o.reading ≡ None → o.rolling ≡ None
+pub keeps_act : (w : TcView) (o : OpenTxn) (op : Op) → IsTc w → find o.txn w.open_txns ≡ Some o → o.waiting ≡ None
+    → o.reading ≡ None → o.rolling ≡ None
     → IsFree w.locks o.txn (at_key Exclusive (key_of op)) → is_spent w.log ≡ false → IsTc (acted w o op)
 keeps_act w o op k at none still flat free unspent =
     let r : Record = is.Op o.txn o.last op in
@@ -213,7 +218,8 @@ keeps_act w o op k at none still flat free unspent =
 
 -- a rollback begins or ends, and a savepoint is set or dropped: what the log says of it stays
 module _ (w : TcView) (o new : OpenTxn) (k : IsTc w) (at : find o.txn w.open_txns ≡ Some o) where
-  pub keeps_bounds : new ≡ record o { rolling = new.rolling; saves = new.saves } → o.waiting ≡ None → o.reading ≡ None → IsBounded w.log new
+  pub keeps_bounds : new ≡ record o { rolling = new.rolling; saves = new.saves } → o.waiting ≡ None → o.reading ≡ None
+      → IsBounded w.log new
       → IsTc (record w { open_txns = replace new w.open_txns })
   keeps_bounds same none still within =
       let h = open_at w o k at in
@@ -283,13 +289,15 @@ module _ (w : TcView) (o : OpenTxn) (k : IsTc w) (at : find o.txn w.open_txns �
   keeps_is_back = keeps_bounds w o (back_txn o) k at refl none still (record { saves = (open_at w o k at).saves; rolling = λ r some. absurd (cc) })
 
 -- an answer
-pub fits_answer : (w : TcView) (o : OpenTxn) (n : ℕ) (a : Answer) → IsTc w → find o.txn w.open_txns ≡ Some o → o.waiting ≡ Some n → Fits w.log (is.Answer n a)
+pub fits_answer : (w : TcView) (o : OpenTxn) (n : ℕ) (a : Answer) → IsTc w → find o.txn w.open_txns ≡ Some o
+    → o.waiting ≡ Some n → Fits w.log (is.Answer n a)
 fits_answer w o n a k at some =
     let waits = waits_at w.log o n (open_at w o k at) some in
     let own = own_request w.log o n waits.request in
     record { op = own.op; requested = own.requests; unanswered = waits.unanswered }
 
-pub keeps_answer : (w : TcView) (o : OpenTxn) (n : ℕ) (a : Answer) → IsTc w → find o.txn w.open_txns ≡ Some o → o.waiting ≡ Some n → is_spent w.log ≡ false
+pub keeps_answer : (w : TcView) (o : OpenTxn) (n : ℕ) (a : Answer) → IsTc w → find o.txn w.open_txns ≡ Some o
+    → o.waiting ≡ Some n → is_spent w.log ≡ false
     → IsTc (answered w o n a)
 keeps_answer w o n a k at some unspent =
     let r : Record = is.Answer n a in
@@ -318,11 +326,13 @@ awaited_in (Some p) n o h = pick (is_number p.waiting n) refl h
     number None h = absurd (cc)
     number (Some m) h = ap Some (eqb-true m n h)
 
-    pick : (b : Bool) → is_number p.waiting n ≡ b → (if b then Some p else None) ≡ Some o → (Some p ≡ Some o) × (o.waiting ≡ Some n)
+    pick : (b : Bool) → is_number p.waiting n ≡ b → (if b then Some p else None) ≡ Some o
+        → (Some p ≡ Some o) × (o.waiting ≡ Some n)
     pick true test same = (same, let e : p ≡ o = cc in ap (λ (x : OpenTxn). x.waiting) (sym e) ∙ number p.waiting test)
     pick false test same = absurd (cc)
 
-pub awaited_is : (w : TcView) (n : ℕ) (o : OpenTxn) → awaiting w n ≡ Some o → (find o.txn w.open_txns ≡ Some o) × (o.waiting ≡ Some n)
+pub awaited_is : (w : TcView) (n : ℕ) (o : OpenTxn) → awaiting w n ≡ Some o
+    → (find o.txn w.open_txns ≡ Some o) × (o.waiting ≡ Some n)
 awaited_is w n o h =
     let found = awaited_in (asker (step_in (record_at w.log n)) w.open_txns) n o h in
     (asked (step_in (record_at w.log n)) found.0, found.1)
@@ -332,7 +342,8 @@ awaited_is w n o h =
     asked (Some t) is = found_own t w.open_txns o is
 
 -- and each open transaction that waits is found by what it waits for
-pub awaits : (w : TcView) (o : OpenTxn) (n : ℕ) → IsTc w → find o.txn w.open_txns ≡ Some o → o.waiting ≡ Some n → awaiting w n ≡ Some o
+pub awaits : (w : TcView) (o : OpenTxn) (n : ℕ) → IsTc w → find o.txn w.open_txns ≡ Some o → o.waiting ≡ Some n
+    → awaiting w n ≡ Some o
 awaits w o n k at some =
     let own = own_request w.log o n (waits_at w.log o n (open_at w o k at) some).request in
     ap (λ (x : Option ℕ). if_awaits n (asker x w.open_txns)) own.step ∙ ap (if_awaits n) at
@@ -359,6 +370,7 @@ keeps_passed w n taken k = record {
     by phase.Running test h = h
 
 -- what is sent is what was logged
-pub has_request : (w : TcView) (o : OpenTxn) (n : ℕ) → IsTc w → find o.txn w.open_txns ≡ Some o → o.waiting ≡ Some n → HasRequest w.log n
+pub has_request : (w : TcView) (o : OpenTxn) (n : ℕ) → IsTc w → find o.txn w.open_txns ≡ Some o → o.waiting ≡ Some n
+    → HasRequest w.log n
 has_request w o n k at some =
     let own = own_request w.log o n (waits_at w.log o n (open_at w o k at) some).request in record { op = own.op; is = own.requests }

@@ -24,12 +24,14 @@ use Rattle.tc_core.proofs.Readings.{no_reading, reads_replaced, reads_ended}
 use Rattle.tc_core.proofs.KeepsTc.{one_more, unlisted, open_at, idle_at, reading_at, none_next}
 
 -- what a rollback asks of the log holds
-pub may_undo : (w : TcView) (o : OpenTxn) → IsTc w → find o.txn w.open_txns ≡ Some o → o.waiting ≡ None → MayUndo w.log (record { txn = o.txn; last = o.last })
+pub may_undo : (w : TcView) (o : OpenTxn) → IsTc w → find o.txn w.open_txns ≡ Some o → o.waiting ≡ None
+    → MayUndo w.log (record { txn = o.txn; last = o.last })
 may_undo w o k at none =
     let h = open_at w o k at in record { legal = k.legal; open_txn = h.is; idle = idle_at w.log o h none; last = h.last }
 
 -- what is left to undo is the latest operation that stands
-undo_found : (w : TcView) (o : OpenTxn) → IsTc w → find o.txn w.open_txns ≡ Some o → IsLatestOrNone (Stands w.log o.txn) o.undo
+undo_found : (w : TcView) (o : OpenTxn) → IsTc w → find o.txn w.open_txns ≡ Some o
+    → IsLatestOrNone (Stands w.log o.txn) o.undo
 undo_found w o k at =
     let h = open_at w o k at in
     let P : ℕ → Type 0 = IsLatestOrNone (Stands w.log o.txn) in subst P (sym h.undo) (latest_found w.log o.txn k.legal o.last h.last)
@@ -49,7 +51,8 @@ inverse_is : (w : TcView) (u : ℕ) (i : Option Op) → Inverts w.log u i → i 
 inverse_is w u i h = rw (h.is, h.answered) h.inverse
 
 -- so the compensation that fits is that of what is left to undo
-pub is_comp : (w : TcView) (o : OpenTxn) (above : ℕ) (r : Record) → IsTc w → find o.txn w.open_txns ≡ Some o → Compensates w.log o.txn above r
+pub is_comp : (w : TcView) (o : OpenTxn) (above : ℕ) (r : Record) → IsTc w → find o.txn w.open_txns ≡ Some o
+    → Compensates w.log o.txn above r
     → (r ≡ is.Comp o.txn o.undo (next_of w.log o.undo) (inverse_at w.log o.undo)) × (above < o.undo)
 is_comp w o above r k at h =
     let same : h.undoes ≡ o.undo = one_latest (Stands w.log o.txn) h.undoes o.undo h.fits.latest (undo_found w o k at) in
@@ -62,11 +65,14 @@ pub fits_comp : (log : List Record) (t above : ℕ) (r : Record) → Compensates
 fits_comp log t above r h = rw h.is h.fits
 
 -- nothing above the bound is left
-pub none_left : (w : TcView) (o : OpenTxn) (above : ℕ) → IsTc w → find o.txn w.open_txns ≡ Some o → IsUndone w.log o.txn above → o.undo ≤ above
+pub none_left : (w : TcView) (o : OpenTxn) (above : ℕ) → IsTc w → find o.txn w.open_txns ≡ Some o
+    → IsUndone w.log o.txn above → o.undo ≤ above
 none_left w o above k at undone = elim (undo_found w o k at) [ inl latest ↦ undone o.undo latest.is | inr none ↦ omega (arith, none.0) ]
 
-pub keeps_comp : (w : TcView) (o : OpenTxn) (b : Rollback) → IsTc w → find o.txn w.open_txns ≡ Some o → o.waiting ≡ None → o.rolling ≡ Some b
-    → Fits w.log (is.Comp o.txn o.undo (next_of w.log o.undo) (inverse_at w.log o.undo)) → is_spent w.log ≡ false → IsTc (compensated w o)
+pub keeps_comp : (w : TcView) (o : OpenTxn) (b : Rollback) → IsTc w → find o.txn w.open_txns ≡ Some o
+    → o.waiting ≡ None → o.rolling ≡ Some b
+    → Fits w.log (is.Comp o.txn o.undo (next_of w.log o.undo) (inverse_at w.log o.undo)) → is_spent w.log ≡ false
+    → IsTc (compensated w o)
 keeps_comp w o b k at none rolling fits unspent =
     let h = open_at w o k at in
     let next : ℕ = next_of w.log o.undo in
@@ -89,7 +95,8 @@ keeps_comp w o b k at none rolling fits unspent =
     }
 
 -- an end
-pub fits_end : (w : TcView) (o : OpenTxn) → IsTc w → find o.txn w.open_txns ≡ Some o → o.waiting ≡ None → IsUndone w.log o.txn 0 → Fits w.log (is.End o.txn)
+pub fits_end : (w : TcView) (o : OpenTxn) → IsTc w → find o.txn w.open_txns ≡ Some o → o.waiting ≡ None
+    → IsUndone w.log o.txn 0 → Fits w.log (is.End o.txn)
 fits_end w o k at none undone =
     let h = open_at w o k at in
     record {
@@ -98,7 +105,8 @@ fits_end w o k at none undone =
       undone = λ n stands. omega (arith, undone n stands, (stands_number w.log o.txn n stands).positive);
     }
 
-pub keeps_end : (w : TcView) (o : OpenTxn) → IsTc w → find o.txn w.open_txns ≡ Some o → Fits w.log (is.End o.txn) → is_spent w.log ≡ false → IsTc (ended w o.txn)
+pub keeps_end : (w : TcView) (o : OpenTxn) → IsTc w → find o.txn w.open_txns ≡ Some o → Fits w.log (is.End o.txn)
+    → is_spent w.log ≡ false → IsTc (ended w o.txn)
 keeps_end w o k at fits unspent = record {
   legal = (fits, k.legal);
   within = omega (arith, k.within);
@@ -112,10 +120,12 @@ keeps_end w o k at fits unspent = record {
 }
 
 -- a commit
-pub fits_commit : (w : TcView) (o : OpenTxn) → IsTc w → find o.txn w.open_txns ≡ Some o → o.waiting ≡ None → Fits w.log (is.Commit o.txn)
+pub fits_commit : (w : TcView) (o : OpenTxn) → IsTc w → find o.txn w.open_txns ≡ Some o → o.waiting ≡ None
+    → Fits w.log (is.Commit o.txn)
 fits_commit w o k at none = let h = open_at w o k at in record { open_txn = h.is; idle = idle_at w.log o h none }
 
-pub keeps_commit : (w : TcView) (o : OpenTxn) → IsTc w → find o.txn w.open_txns ≡ Some o → o.waiting ≡ None → is_spent w.log ≡ false → IsTc (committed w o.txn)
+pub keeps_commit : (w : TcView) (o : OpenTxn) → IsTc w → find o.txn w.open_txns ≡ Some o → o.waiting ≡ None
+    → is_spent w.log ≡ false → IsTc (committed w o.txn)
 keeps_commit w o k at none unspent = record {
   legal = (fits_commit w o k at none, k.legal);
   within = omega (arith, k.within);

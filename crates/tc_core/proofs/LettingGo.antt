@@ -18,7 +18,8 @@ gone_table [] locks table = table
 gone_table (t ∷ ts) locks table = gone_table ts (set_spans t [] locks) (set_table t [] locks table)
 
 -- each other holds what it held
-pub let_go_other : (ts : List ℕ) (locks : LocksView) (u : ℕ) → IsTable locks → is_listed ts u ≡ false → spans_of (let_go ts locks) u ≡ spans_of locks u
+pub let_go_other : (ts : List ℕ) (locks : LocksView) (u : ℕ) → IsTable locks → is_listed ts u ≡ false
+    → spans_of (let_go ts locks) u ≡ spans_of locks u
 let_go_other [] locks u table unlisted = refl
 let_go_other (t ∷ ts) locks u table unlisted =
     elim (cases_eq u t) [
@@ -29,7 +30,8 @@ let_go_other (t ∷ ts) locks u table unlisted =
     ]
 
 -- who holds nothing holds nothing
-still_nothing : (ts : List ℕ) (locks : LocksView) (u : ℕ) → IsTable locks → spans_of locks u ≡ [] → spans_of (let_go ts locks) u ≡ []
+still_nothing : (ts : List ℕ) (locks : LocksView) (u : ℕ) → IsTable locks → spans_of locks u ≡ []
+    → spans_of (let_go ts locks) u ≡ []
 still_nothing [] locks u table none = none
 still_nothing (t ∷ ts) locks u table none =
     still_nothing ts (set_spans t [] locks) u (set_table t [] locks table) (elim (cases_eq u t) [
@@ -38,7 +40,8 @@ still_nothing (t ∷ ts) locks u table none =
     ])
 
 -- they hold nothing any more
-gone_own : (ts : List ℕ) (locks : LocksView) (u : ℕ) → IsTable locks → is_listed ts u ≡ true → spans_of (let_go ts locks) u ≡ []
+gone_own : (ts : List ℕ) (locks : LocksView) (u : ℕ) → IsTable locks → is_listed ts u ≡ true
+    → spans_of (let_go ts locks) u ≡ []
 gone_own [] locks u table listed = absurd (cc)
 gone_own (t ∷ ts) locks u table listed =
     elim (cases_eq u t) [

@@ -22,7 +22,8 @@ busy_first None u = refl
 busy_first (Some r) u = refl
 
 -- another holds it; or no number is left, or no memory
-pub refused_as : (v : LocksView) (t : ℕ) (s : Span) (spent : Option Refusal) (r : Refusal) → IsRange s → Refuses v t s r → RefusesLock v t s spent (first_cause spent r)
+pub refused_as : (v : LocksView) (t : ℕ) (s : Span) (spent : Option Refusal) (r : Refusal) → IsRange s
+    → Refuses v t s r → RefusesLock v t s spent (first_cause spent r)
 refused_as v t s spent BadRange range h = absurd (h range)
 refused_as v t s spent (Busy u) range h = inl (u, busy_first spent u, h.1)
 refused_as v t s spent NoMemory range h = inr (h.1, spent_first spent)

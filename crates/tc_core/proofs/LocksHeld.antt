@@ -44,7 +44,8 @@ any_of : (test : Span → Bool) (s : Span) (xs : List Span) → AnyConflict s (f
 any_of test s [] any = any
 any_of test s (x ∷ xs) any = pick (test x) (any_of test s xs) any
   where
-    pick : (b : Bool) → (AnyConflict s (filter test xs) → AnyConflict s xs) → AnyConflict s (if b then x ∷ filter test xs else filter test xs) → AnyConflict s (x ∷ xs)
+    pick : (b : Bool) → (AnyConflict s (filter test xs) → AnyConflict s xs)
+        → AnyConflict s (if b then x ∷ filter test xs else filter test xs) → AnyConflict s (x ∷ xs)
     pick true rest any = elim any [ inl here ↦ inl here | inr there ↦ inr (rest there) ]
     pick false rest any = inr (rest any)
 
@@ -55,7 +56,8 @@ module _ (log : List Record) (os : List OpenTxn) (cs : List ℕ) (locks : LocksV
       let P : List Span → Type 0 = AnyConflict s in any_of is_exclusive s (spans_of locks t) (subst P (sym (held.exclusive t)) any)
 
   -- the same is held where the same hold and have the same operations
-  stays : (log2 : List Record) (os2 : List OpenTxn) (cs2 : List ℕ) → ((t : ℕ) → held_spans log2 os2 cs2 t ≡ held_spans log os cs t)
+  stays : (log2 : List Record) (os2 : List OpenTxn) (cs2 : List ℕ)
+      → ((t : ℕ) → held_spans log2 os2 cs2 t ≡ held_spans log os cs t)
       → ((t : ℕ) → is_holder os2 cs2 t ≡ false → spans_of locks t ≡ []) → AreHeld log2 os2 cs2 locks
   stays log2 os2 cs2 same none = record {
     table = held.table;
@@ -65,8 +67,10 @@ module _ (log : List Record) (os : List OpenTxn) (cs : List ℕ) (locks : LocksV
   }
 
   -- one transaction's spans change, in the table as by the log
-  change : (t : ℕ) (spans : List Span) (log2 : List Record) (os2 : List OpenTxn) → Holds log os cs t (filter is_exclusive spans) log2 os2
-      → (is_holder os2 cs t ≡ false → spans ≡ []) → ((u : ℕ) → u ≢ t → is_holder os2 cs u ≡ is_holder os cs u) → ((u : ℕ) → u ≢ t → AreApart spans (spans_of locks u))
+  change : (t : ℕ) (spans : List Span) (log2 : List Record) (os2 : List OpenTxn)
+      → Holds log os cs t (filter is_exclusive spans) log2 os2
+      → (is_holder os2 cs t ≡ false → spans ≡ []) → ((u : ℕ) → u ≢ t → is_holder os2 cs u ≡ is_holder os cs u)
+      → ((u : ℕ) → u ≢ t → AreApart spans (spans_of locks u))
       → AreHeld log2 os2 cs (set_spans t spans locks)
   change t spans log2 os2 holds own others apart =
       let new : LocksView = set_spans t spans locks in
@@ -95,7 +99,8 @@ module _ (log : List Record) (os : List OpenTxn) (cs : List ℕ) (locks : LocksV
       }
 
   -- one that begins takes nothing
-  pub begins : (new : OpenTxn) → IsLegal log → new.txn ≡ length log + 1 → AreBelow new.txn os → is_listed cs new.txn ≡ false → AreHeld (is.Begin ∷ log) (new ∷ os) cs locks
+  pub begins : (new : OpenTxn) → IsLegal log → new.txn ≡ length log + 1 → AreBelow new.txn os
+      → is_listed cs new.txn ≡ false → AreHeld (is.Begin ∷ log) (new ∷ os) cs locks
   begins new legal number below unlisted =
       let holds = held_begun log os cs new legal number in
       let nobody : is_holder os cs new.txn ≡ false = rw (find_above new.txn os below, unlisted) refl in
@@ -122,7 +127,8 @@ module _ (log : List Record) (os : List OpenTxn) (cs : List ℕ) (locks : LocksV
       (λ u other. (free u other, held.apart new.txn u (λ e. other (sym e))))
 
   -- an operation takes its key
-  pub takes : (new o : OpenTxn) (p : ℕ) (op : Op) → find new.txn os ≡ Some o → IsFree locks new.txn (at_key Exclusive (key_of op))
+  pub takes : (new o : OpenTxn) (p : ℕ) (op : Op) → find new.txn os ≡ Some o
+      → IsFree locks new.txn (at_key Exclusive (key_of op))
       → AreHeld (is.Op new.txn p op ∷ log) (replace new os) cs (set_spans new.txn (at_key Exclusive (key_of op) ∷ spans_of locks new.txn) locks)
   takes new o p op at free =
       let holds = held_acted log os cs new o p op at in
@@ -130,7 +136,8 @@ module _ (log : List Record) (os : List OpenTxn) (cs : List ℕ) (locks : LocksV
       (holds.0 ∙ ap (λ (x : List Span). at_key Exclusive (key_of op) ∷ x) (sym (held.exclusive new.txn)), holds.1)
 
   -- a record that is no operation takes nothing, where the same hold
-  pub alike : (r : Record) (os2 : List OpenTxn) (cs2 : List ℕ) → op_of r ≡ None → ((t : ℕ) → is_holder os2 cs2 t ≡ is_holder os cs t) → AreHeld (r ∷ log) os2 cs2 locks
+  pub alike : (r : Record) (os2 : List OpenTxn) (cs2 : List ℕ) → op_of r ≡ None
+      → ((t : ℕ) → is_holder os2 cs2 t ≡ is_holder os cs t) → AreHeld (r ∷ log) os2 cs2 locks
   alike r os2 cs2 none same =
       stays (r ∷ log) os2 cs2 (held_same log (r ∷ log) os os2 cs cs2 same (λ u. op_spans_longer r log u none)) (λ t nobody. held.others t (sym (same t) ∙ nobody))
 

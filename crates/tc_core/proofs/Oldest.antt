@@ -18,13 +18,16 @@ module _ (test : OpenTxn → Bool) where
       ap (λ o. unless o (if test x then Some x else None)) (oldest_in_both xs ys)
       ∙ unless_twice (oldest test ys) (oldest test xs) (if test x then Some x else None)
 
-  first_slot : (slab : Slab OpenTxn) (e : ℕ × ℕ) (es : List (ℕ × ℕ)) → oldest test (in_slots slab (e ∷ es)) ≡ unless (oldest test (listed (get slab e.1))) (oldest test (in_slots slab es))
+  first_slot : (slab : Slab OpenTxn) (e : ℕ × ℕ) (es : List (ℕ × ℕ))
+      → oldest test (in_slots slab (e ∷ es)) ≡ unless (oldest test (listed (get slab e.1))) (oldest test (in_slots slab es))
   first_slot slab e es = oldest_in_both (in_slots slab es) (listed (get slab e.1))
 
-  pub oldest_here : (slab : Slab OpenTxn) (e : ℕ × ℕ) (es : List (ℕ × ℕ)) (o : OpenTxn) → get slab e.1 ≡ Some o → test o ≡ true
+  pub oldest_here : (slab : Slab OpenTxn) (e : ℕ × ℕ) (es : List (ℕ × ℕ)) (o : OpenTxn) → get slab e.1 ≡ Some o
+      → test o ≡ true
       → oldest test (in_slots slab (e ∷ es)) ≡ Some o
   oldest_here slab e es o held passes = first_slot slab e es ∙ rw (held, passes) refl
 
-  pub oldest_later : (slab : Slab OpenTxn) (e : ℕ × ℕ) (es : List (ℕ × ℕ)) (o : OpenTxn) → get slab e.1 ≡ Some o → test o ≡ false
+  pub oldest_later : (slab : Slab OpenTxn) (e : ℕ × ℕ) (es : List (ℕ × ℕ)) (o : OpenTxn) → get slab e.1 ≡ Some o
+      → test o ≡ false
       → oldest test (in_slots slab (e ∷ es)) ≡ oldest test (in_slots slab es)
   oldest_later slab e es o held fails = first_slot slab e es ∙ rw (held, fails) refl

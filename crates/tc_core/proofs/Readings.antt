@@ -14,7 +14,8 @@ no_reading None h = refl
 no_reading (Some r) h = absurd (h r refl)
 
 -- a read stays, where its transaction's spans stay
-still_reads : (reads reads2 : ℕ) (locks locks2 : LocksView) (o : OpenTxn) (r : Read) → reads ≤ reads2 → spans_of locks2 o.txn ≡ spans_of locks o.txn
+still_reads : (reads reads2 : ℕ) (locks locks2 : LocksView) (o : OpenTxn) (r : Read) → reads ≤ reads2
+    → spans_of locks2 o.txn ≡ spans_of locks o.txn
     → IsReading reads locks o r → IsReading reads2 locks2 o r
 still_reads reads reads2 locks locks2 o r more same h = record {
   idle = h.idle;
@@ -26,15 +27,19 @@ still_reads reads reads2 locks locks2 o r more same h = record {
 }
 
 module _ (reads : ℕ) (os : List OpenTxn) (locks : LocksView) (k : AreReading reads os locks) where
-  found_new : (new p : OpenTxn) (os2 : List OpenTxn) → find new.txn os2 ≡ Some new → (t : ℕ) → t ≡ new.txn → find t os2 ≡ Some p → new ≡ p
+  found_new : (new p : OpenTxn) (os2 : List OpenTxn) → find new.txn os2 ≡ Some new → (t : ℕ) → t ≡ new.txn
+      → find t os2 ≡ Some p → new ≡ p
   found_new new p os2 at t same found =
       let P : ℕ → Type 0 = λ u. find u os2 ≡ Some p in
       let equal : Some new ≡ Some p = sym at ∙ subst P same found in cc
 
   -- one is changed or added, with its spans
-  changed : (new : OpenTxn) (reads2 : ℕ) (os2 : List OpenTxn) (locks2 : LocksView) → find new.txn os2 ≡ Some new → reads ≤ reads2
-      → ((u : ℕ) → u ≢ new.txn → find u os2 ≡ find u os) → ((u : ℕ) → u ≢ new.txn → spans_of locks2 u ≡ spans_of locks u)
-      → ((r : Read) → new.reading ≡ Some r → IsReading reads2 locks2 new r × (reads < r.number)) → AreReading reads2 os2 locks2
+  changed : (new : OpenTxn) (reads2 : ℕ) (os2 : List OpenTxn) (locks2 : LocksView) → find new.txn os2 ≡ Some new
+      → reads ≤ reads2
+      → ((u : ℕ) → u ≢ new.txn → find u os2 ≡ find u os)
+      → ((u : ℕ) → u ≢ new.txn → spans_of locks2 u ≡ spans_of locks u)
+      → ((r : Read) → new.reading ≡ Some r → IsReading reads2 locks2 new r × (reads < r.number))
+      → AreReading reads2 os2 locks2
   changed new reads2 os2 locks2 at more others spans own = record {
     each = λ t p r found reading. elim (cases_eq t new.txn) [
       | inl same ↦
@@ -56,13 +61,16 @@ module _ (reads : ℕ) (os : List OpenTxn) (locks : LocksView) (k : AreReading r
     ];
   }
     where
-      above : (p : OpenTxn) (r : Read) (t : ℕ) → t ≡ new.txn → find t os2 ≡ Some p → p.reading ≡ Some r → reads < r.number
+      above : (p : OpenTxn) (r : Read) (t : ℕ) → t ≡ new.txn → find t os2 ≡ Some p → p.reading ≡ Some r
+          → reads < r.number
       above p r t same found reading =
           let P : OpenTxn → Type 0 = λ x. x.reading ≡ Some r → reads < r.number in
           subst P (found_new new p os2 at t same found) (λ h. (own r h).1) reading
 
   -- nothing is asked, and who is open holds what it held
-  pub reads_kept : (locks2 : LocksView) → ((t : ℕ) (o : OpenTxn) → find t os ≡ Some o → spans_of locks2 o.txn ≡ spans_of locks o.txn) → AreReading reads os locks2
+  pub reads_kept : (locks2 : LocksView)
+      → ((t : ℕ) (o : OpenTxn) → find t os ≡ Some o → spans_of locks2 o.txn ≡ spans_of locks o.txn)
+      → AreReading reads os locks2
   reads_kept locks2 same = record {
     each = λ t o r at some. still_reads reads reads locks locks2 o r (omega arith) (same t o at) (k.each t o r at some);
     apart = k.apart;
@@ -75,8 +83,10 @@ module _ (reads : ℕ) (os : List OpenTxn) (locks : LocksView) (k : AreReading r
       changed new reads (replace new os) locks2 (replaced_same new o os at) (omega arith) (λ u other. replaced_other new os u other) spans (λ r some. absurd (cc))
 
   -- one asks for the next read
-  pub reads_asked : (new o : OpenTxn) (r : Read) (reads2 : ℕ) (locks2 : LocksView) → find new.txn os ≡ Some o → new.reading ≡ Some r → reads ≤ reads2 → reads < r.number
-      → ((u : ℕ) → u ≢ new.txn → spans_of locks2 u ≡ spans_of locks u) → IsReading reads2 locks2 new r → AreReading reads2 (replace new os) locks2
+  pub reads_asked : (new o : OpenTxn) (r : Read) (reads2 : ℕ) (locks2 : LocksView) → find new.txn os ≡ Some o
+      → new.reading ≡ Some r → reads ≤ reads2 → reads < r.number
+      → ((u : ℕ) → u ≢ new.txn → spans_of locks2 u ≡ spans_of locks u) → IsReading reads2 locks2 new r
+      → AreReading reads2 (replace new os) locks2
   reads_asked new o r reads2 locks2 at some more above spans h =
       changed new reads2 (replace new os) locks2 (replaced_same new o os at) more (λ u other. replaced_other new os u other) spans
       (λ q is. let same : r ≡ q = let e : Some r ≡ Some q = sym some ∙ is in cc in
@@ -89,7 +99,8 @@ module _ (reads : ℕ) (os : List OpenTxn) (locks : LocksView) (k : AreReading r
       (λ u other. find_there new os u (λ e. other (sym e))) (λ u other. refl) (λ r some. absurd (cc))
 
   -- one ends
-  pub reads_ended : (t : ℕ) (locks2 : LocksView) → ((u : ℕ) → u ≢ t → spans_of locks2 u ≡ spans_of locks u) → AreReading reads (without t os) locks2
+  pub reads_ended : (t : ℕ) (locks2 : LocksView) → ((u : ℕ) → u ≢ t → spans_of locks2 u ≡ spans_of locks u)
+      → AreReading reads (without t os) locks2
   reads_ended t locks2 spans = record {
     each = λ u p r found reading.
         let was : (u ≢ t) × (find u os ≡ Some p) = still u p found in

@@ -1,6 +1,5 @@
 -- What is left where the log refuses a record.
-use Rattle.std.proofs.Common.{◌≡◌, ℕ, ◌<◌, Bool, true, false, List, length, Option, Some, None, refl, ap, ◌∙◌, subst, arith, inl, inr}
-use Rattle.std.proofs.lemmas.Bool.Decides.{nat_tests}
+use Rattle.std.proofs.Common.{◌≡◌, ℕ, Bool, true, false, List, Option, Some, None, refl, ap, ◌∙◌, subst, inl, inr}
 use Rattle.record_key.specs.declared.refusal.Refusal.{Refusal}
 use Rattle.record_key.specs.declared.refusal.Refusal.TheVariants.{Device}
 use Rattle.tc_core.specs.declared.open_txn.OpenTxn.{OpenTxn}
@@ -11,7 +10,6 @@ use Rattle.logical_log.specs.LogView.{LogView, spent_refusal, MayRefuse, after_r
 use Rattle.tc_core.specs.Locking.{spent_of}
 use Rattle.tc_core.specs.TcView.{TcView}
 use Rattle.tc_core.specs.Refusing.{Refuses}
-use Rattle.tc_core.specs.Causes.{running_refusal, is_full, begin_refusal}
 use Rattle.tc_core.specs.Calls.{IsAt}
 use Rattle.tc_core.specs.Kept.{IsTc}
 use Rattle.tc_core.proofs.KeepsTc.{keeps_failed}
@@ -23,30 +21,28 @@ log_of w = record { records = w.log; stable = w.stable; failures = w.failures }
 abbrev pub with_log : TcView → LogView → TcView
 with_log w l = record w { log = l.records; stable = l.stable; failures = l.failures }
 
-pub keeps_refused : (w : TcView) (r : Refusal) (l : LogView) → IsTc w → l ≡ after_refusal (log_of w) r → IsTc (with_log w l)
+pub keeps_refused : (w : TcView) (r : Refusal) (l : LogView) → IsTc w → l ≡ after_refusal (log_of w) r
+    → IsTc (with_log w l)
 keeps_refused w Device l k e = rw e (keeps_failed w k)
 keeps_refused w _ l k e = rw e k
 
-pub refuses : (w : TcView) (spent : Bool) (r : Refusal) (l : LogView) → MayRefuse (spent_of spent) r → l ≡ after_refusal (log_of w) r → Refuses (spent_of spent) true true w r (with_log w l)
+pub refuses : (w : TcView) (spent : Bool) (r : Refusal) (l : LogView) → MayRefuse (spent_of spent) r
+    → l ≡ after_refusal (log_of w) r → Refuses (spent_of spent) true true w r (with_log w l)
 refuses w true r l h e = (h, rw (e, h) refl)
 refuses w false r l h e = elim h [
   | inl none ↦ inl (refl, none, rw (e, none) refl)
   | inr device ↦ inr (refl, device, rw (e, device) refl)
 ]
 
-pub refuses_unspent : (w : TcView) → spent_refusal w.log ≡ None → (r : Refusal) (l : LogView) → MayRefuse (spent_refusal w.log) r → l ≡ after_refusal (log_of w) r
+pub refuses_unspent : (w : TcView) → spent_refusal w.log ≡ None → (r : Refusal) (l : LogView)
+    → MayRefuse (spent_refusal w.log) r → l ≡ after_refusal (log_of w) r
     → Refuses None true true w r (with_log w l)
 refuses_unspent w unspent r l h e = let P : Option Refusal → Type 0 = λ x. MayRefuse x r in refuses w false r l (subst P unspent h) e
-
--- where nothing stands in the way
-pub begin_allowed : (w : TcView) → running_refusal w ≡ None → length w.open_txns < 64 → spent_refusal w.log ≡ None → begin_refusal w ≡ None
-begin_allowed w running less unspent =
-    let room : is_full w.open_txns ≡ false = grind (arith, nat_tests, less) in
-    rw (running, room) unspent
 
 -- the open transaction of a number, and what happens to it
 pub at_number : (w : TcView) (t : ℕ) (o : OpenTxn) → IsAt w t o → find t w.open_txns ≡ Some o
 at_number w t o at = let P : ℕ → Type 0 = λ n. find n w.open_txns ≡ Some o in subst P at.number at.is
 
-pub happened : (w : TcView) (t : ℕ) (o : OpenTxn) (what : Change) (new : List OpenTxn) → IsAt w t o → new ≡ happens t what w.open_txns → new ≡ replace (changed what o) w.open_txns
+pub happened : (w : TcView) (t : ℕ) (o : OpenTxn) (what : Change) (new : List OpenTxn) → IsAt w t o
+    → new ≡ happens t what w.open_txns → new ≡ replace (changed what o) w.open_txns
 happened w t o what new at h = h ∙ ap (λ x. happens_to x what w.open_txns) (at_number w t o at)

@@ -11,7 +11,8 @@ pub record Holds (slab : Slab OpenTxn) (es : List (ℕ × ℕ)) (os : List OpenT
   pub are : AreSlots slab es
   pub view : in_slots slab es ≡ os
 
-pub all_joined : {X : Type 0} (P : X → Type 0) (xs ys : List X) → AllByRecursion P xs → AllByRecursion P ys → AllByRecursion P (xs ++ ys)
+pub all_joined : {X : Type 0} (P : X → Type 0) (xs ys : List X) → AllByRecursion P xs → AllByRecursion P ys
+    → AllByRecursion P (xs ++ ys)
 all_joined P [] ys front back = back
 all_joined P (x ∷ xs) ys front back = (front.0, all_joined P xs ys front.1 back)
 
@@ -47,5 +48,6 @@ each_unit [] = tt
 each_unit (e ∷ es) = (tt, each_unit es)
 
 -- the room in a slab doesn't matter
-pub same_slots : (old new : Slab OpenTxn) (es : List (ℕ × ℕ)) → new ≡ record old { capacity = new.capacity } → AreSlots old es → Holds new es (in_slots old es)
+pub same_slots : (old new : Slab OpenTxn) (es : List (ℕ × ℕ)) → new ≡ record old { capacity = new.capacity }
+    → AreSlots old es → Holds new es (in_slots old es)
 same_slots old new es same are = kept old new (λ _. Unit {0}) (λ k _. ap (λ (slab : Slab OpenTxn). get slab k) same) es (each_unit es) are

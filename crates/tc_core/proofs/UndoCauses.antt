@@ -25,12 +25,14 @@ module _ (w : TcView) (t : ℕ) (b : Rollback) (may : MayStep w t b) where
   refusal_is = rw (may.found.allowed, logs_is) refl
 
   -- where it logs, the log may refuse
-  pub refuses_step : logs_next may.open_txn.undo (Some b) ≡ true → (r : Refusal) (l : LogView) → MayRefuse (spent_refusal w.log) r → l ≡ after_refusal (log_of w) r
+  pub refuses_step : logs_next may.open_txn.undo (Some b) ≡ true → (r : Refusal) (l : LogView)
+      → MayRefuse (spent_refusal w.log) r → l ≡ after_refusal (log_of w) r
       → Refuses (undo_refusal w t) (undo_logs (find t w.open_txns)) (undo_logs (find t w.open_txns)) w r (with_log w l)
   refuses_step logs r l h e = rw (refusal_is, logs_is, logs) (refuses w (is_spent w.log) r l h e)
 
   -- it is made where it logs nothing, or the log has a number left
-  pub makes : (step : UndoStep) (new : TcView) → (logs_next may.open_txn.undo (Some b) && is_spent w.log) ≡ false → Undoes w may.open_txn (Some b) step new → UndoesStep w t step new
+  pub makes : (step : UndoStep) (new : TcView) → (logs_next may.open_txn.undo (Some b) && is_spent w.log) ≡ false
+      → Undoes w may.open_txn (Some b) step new → UndoesStep w t step new
   makes step new allowed undoes = record {
     open_txn = may.open_txn;
     at = may.found.at;
@@ -44,7 +46,8 @@ module _ (w : TcView) (t : ℕ) (b : Rollback) (may : MayStep w t b) where
   pub logs_end : b.savepoint ≡ None → logs_next may.open_txn.undo (Some b) ≡ true
   logs_end none = ap (λ x. nat_lt b.above may.open_txn.undo || not (is_some x)) none ∙ or-true (nat_lt b.above may.open_txn.undo)
 
-  pub logs_none : (s : ℕ) → may.open_txn.undo ≤ b.above → b.savepoint ≡ Some s → logs_next may.open_txn.undo (Some b) ≡ false
+  pub logs_none : (s : ℕ) → may.open_txn.undo ≤ b.above → b.savepoint ≡ Some s
+      → logs_next may.open_txn.undo (Some b) ≡ false
   logs_none s below is = let less : nat_lt b.above may.open_txn.undo ≡ false = grind (arith, nat_tests, below) in rw (less, is) refl
 
 pub unspent_and : (x y : Bool) → y ≡ false → (x && y) ≡ false

@@ -64,7 +64,7 @@ impl<D: LogDevice> Parts<D> {
         ensures gives { LowWaterGives (seen self.now) low result }
     {
         self.running()?;
-        if low > self.log.answered_end() {
+        if low > self.greatest_low() {
             return Err(Refusal::BeyondStable);
         }
         Ok(Request::LowWater {

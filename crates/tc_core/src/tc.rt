@@ -8,6 +8,7 @@ ghost use Rattle.tc_core.specs.Calls.{ReconnectGives, BeginGives, ActGives, Read
 ghost use Rattle.tc_core.specs.Replies.{ReplyGives};
 ghost use Rattle.tc_core.specs.Recovery.{RecoverGives};
 ghost use Rattle.tc_core.specs.LowWater.{LowWaterGives, IsGreatestAnnounced};
+ghost use Rattle.tc_core.specs.Causes.{begin_refusal};
 ghost use Rattle.tc_core.specs.Kept.{IsTc};
 
 use crate::open_txn::OpenTxn;
@@ -67,6 +68,15 @@ impl<D: LogDevice> Tc<D> {
         ensures gives { ReconnectGives self.old result self.new }
     {
         self.parts.reconnect()
+    }
+
+    /// Whether a transaction may begin, memory and the device aside. Refused NotConnected, Redoing, Full while 64
+    /// are open, NumbersSpent.
+    pub fn can_begin(&self) -> Result<(), Refusal>
+        ensures allowed { OnOk result (begin_refusal self.now ≡ None) }
+        ensures refused { IfErr result (λ refusal. begin_refusal self.now ≡ Some refusal) }
+    {
+        self.parts.can_begin()
     }
 
     /// Begins a transaction and answers its number. Refused NotConnected, Redoing, Full while 64 are

@@ -1,4 +1,7 @@
 //! How transactions begin, are saved, rolled back and committed.
+ghost use Rattle.std.specs.Prelude.{◌≡◌, ◌<◌, None, Some, OnOk, IfErr, length};
+ghost use Rattle.logical_log.specs.LogView.{spent_refusal};
+ghost use Rattle.tc_core.specs.Causes.{begin_refusal};
 ghost use Rattle.tc_core.specs.Calls.{BeginGives, SaveGives, BackGives, RollbackGives, CommitGives};
 ghost use Rattle.tc_core.specs.Kept.{IsTc};
 ghost use Rattle.tc_core.specs.Seen.{seen};
@@ -14,16 +17,26 @@ use stable::LogDevice;
 const MOST_OPEN: usize = 64;
 
 impl<D: LogDevice> Parts<D> {
-    pub fn begin(&mut self) -> Result<u64, Refusal>
-        requires { IsTc (seen self.old) }
-        ensures kept { IsTc (seen self.new) }
-        ensures gives { BeginGives (seen self.old) result (seen self.new) }
+    /// Whether a transaction may begin, memory and the device aside.
+    pub fn can_begin(&self) -> Result<(), Refusal>
+        ensures allowed { OnOk result (begin_refusal (seen self.now) ≡ None) }
+        ensures below { OnOk result (length self.now.open_txns < 64) }
+        ensures unspent { OnOk result (spent_refusal self.now.log.records ≡ None) }
+        ensures refused { IfErr result (λ refusal. begin_refusal (seen self.now) ≡ Some refusal) }
     {
         self.running()?;
         if self.open_txns.len() >= MOST_OPEN {
             return Err(Refusal::Full);
         }
-        self.can_log()?;
+        self.can_log()
+    }
+
+    pub fn begin(&mut self) -> Result<u64, Refusal>
+        requires { IsTc (seen self.old) }
+        ensures kept { IsTc (seen self.new) }
+        ensures gives { BeginGives (seen self.old) result (seen self.new) }
+    {
+        self.can_begin()?;
         let txn = self.log.len() + 1;
         self.open_txns.add(OpenTxn::begun(txn))?;
         match self.log.append(&Record::Begin) {

@@ -4,7 +4,7 @@ use Rattle.record_key.specs.declared.refusal.Refusal.{Refusal}
 use Rattle.record_key.specs.declared.refusal.Refusal.TheVariants as refusal
 use Rattle.world.specs.declared.event.Out.{Out}
 use Rattle.undo_shell.specs.Printed.{refusal_line}
-use Rattle.undo_shell.specs.Told.{told_line}
+use Rattle.undo_shell.specs.Told.{told_text}
 
 -- `settled`, or why it could not go on
 abbrev pub end_line : Result (Unit {0}) Refusal → List ℕ
@@ -12,7 +12,7 @@ end_line (Ok u) = codes "settled\n"
 end_line (Err r) = refusal_line r
 
 abbrev pub settled_text : List Out → Result (Unit {0}) Refusal → List ℕ
-settled_text outs end = flat_map told_line outs ++ end_line end
+settled_text outs end = flat_map told_text outs ++ end_line end
 
 -- memory or a device failed
 abbrev pub is_failure : Refusal → Bool

@@ -2,7 +2,9 @@ pub mod Words
 pub mod Script
 pub mod Labels
 pub mod Printed
+pub mod Answers
 pub mod Told
+pub mod Outcome
 pub mod Logged
 pub mod Stored
 pub mod View

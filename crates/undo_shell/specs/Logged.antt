@@ -7,7 +7,7 @@ use Rattle.history.specs.declared.record.Record.{Record}
 use Rattle.history.specs.declared.record.Record.TheVariants as record-is
 use Rattle.history.specs.Log.{record_at}
 use Rattle.undo_shell.specs.Printed.{shown, worded, numbered}
-use Rattle.undo_shell.specs.Told.{answered_line}
+use Rattle.undo_shell.specs.Answers.{answered_line}
 
 -- an operation, and the end of its line
 abbrev pub write_text : List ℕ → List ℕ → List ℕ → List ℕ

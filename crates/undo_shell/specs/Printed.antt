@@ -5,8 +5,8 @@ use Rattle.std.specs.Io.KnownBytes.{Appends}
 use Rattle.record_key.specs.declared.refusal.Refusal.{Refusal}
 use Rattle.record_key.specs.declared.refusal.Refusal.TheVariants as refusal
 use Rattle.record_key.specs.Refusals.{number_of, name_of}
-use Rattle.undo_shell.specs.declared.output.Piece.{Piece}
-use Rattle.undo_shell.specs.declared.output.Piece.TheVariants as piece
+use Rattle.undo_shell.specs.declared.pieces.Piece.{Piece}
+use Rattle.undo_shell.specs.declared.pieces.Piece.TheVariants as piece
 
 -- a key or a value: a dot where it is empty
 abbrev pub shown : List ℕ → List ℕ

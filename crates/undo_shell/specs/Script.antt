@@ -43,13 +43,20 @@ bare name =
     else (if bytes_eq name (codes "log") then Some (shows part.Log)
     else (if bytes_eq name (codes "leaves") then Some (shows part.Leaves) else None))))
 
+-- the name of what happens to a label's transaction
+abbrev pub call_named : List ℕ → Option Call
+call_named name =
+    if bytes_eq name (codes "save") then Some call.Save
+    else (if bytes_eq name (codes "rollback") then Some call.Rollback
+    else (if bytes_eq name (codes "commit") then Some call.Commit
+    else (if bytes_eq name (codes "send") then Some call.Send
+    else (if bytes_eq name (codes "undo") then Some call.Undo else None))))
+
 -- a line of two words, the second a label
 abbrev pub with_label : List ℕ → Option (List ℕ) → Option Command
 with_label name None = None
 with_label name (Some label) =
-    if bytes_eq name (codes "begin") then Some (begins label)
-    else (if bytes_eq name (codes "rollback") then Some (calls label call.Rollback)
-    else (if bytes_eq name (codes "send") then Some (calls label call.Send) else None))
+    if bytes_eq name (codes "begin") then Some (begins label) else option_map (calls label) (call_named name)
 
 -- a line of two words, the second a number
 abbrev pub with_number : List ℕ → Option ℕ → Option Command
@@ -70,6 +77,13 @@ with_key name (Some label) None = None
 with_key name (Some label) (Some key) =
     if bytes_eq name (codes "get") then Some (gets label key)
     else (if bytes_eq name (codes "delete") then Some (writes label kind.Delete key []) else None)
+
+-- a line of three words, a label and a savepoint behind its name
+abbrev pub with_savepoint : List ℕ → Option (List ℕ) → Option ℕ → Option Command
+with_savepoint name None savepoint = None
+with_savepoint name (Some label) None = None
+with_savepoint name (Some label) (Some savepoint) =
+    if bytes_eq name (codes "back") then Some (calls label (call.Back savepoint)) else None
 
 -- the name of a write of four words
 abbrev pub kind_with_value : List ℕ → Option Kind
@@ -95,7 +109,8 @@ scan_of (Some label) (Some low) (Some high) = Some (scans label low high)
 abbrev pub command_of : List (List ℕ) → Option Command
 command_of (name ∷ []) = bare name
 command_of (name ∷ word ∷ []) = first_of (with_label name (label_in word)) (with_number name (number_in word))
-command_of (name ∷ label ∷ key ∷ []) = with_key name (label_in label) (text_in key)
+command_of (name ∷ label ∷ word ∷ []) =
+    first_of (with_key name (label_in label) (text_in word)) (with_savepoint name (label_in label) (number_in word))
 command_of (name ∷ label ∷ key ∷ last ∷ []) =
     if bytes_eq name (codes "scan") then scan_of (label_in label) (text_in key) (end_in last)
     else write_of (kind_with_value name) (label_in label) (text_in key) (text_in last)

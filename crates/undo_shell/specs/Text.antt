@@ -23,17 +23,16 @@ use Rattle.undo_shell.specs.Script.{Command, begins, writes, gets, scans, calls,
 use Rattle.undo_shell.specs.Ending.{is_failure, settled_text}
 use Rattle.undo_shell.specs.View.{part_text}
 use Rattle.undo_shell.specs.Printed.{IsCut, refusal_line}
-use Rattle.undo_shell.specs.Told.{out_line}
+use Rattle.undo_shell.specs.Outcome.{out_text}
 
 -- the label of a `begin` is bound to the transaction that it began
 abbrev pub Rebinds : Out → List ℕ → Bindings → Bindings → Type 0
 Rebinds (out.Begun txn) label old new = IsBound old new label txn
 Rebinds _ label old new = AreSame old new
 
--- `begin` is an event, unless there is no memory for the label
+-- `begin` is an event; that it is refused for want of memory may be for want of room for the label
 abbrev pub Begins : List ℕ → NodeView → Bindings → Out → NodeView → Bindings → Type 0
-Begins label before old output after new =
-    (StepsTo before event.Begin output after × Rebinds output label old new) ⊎ ((output ≡ out.Refused refusal.NoMemory) × (after ≡ before) × AreSame old new)
+Begins label before old output after new = StepsTo before event.Begin output after × Rebinds output label old new
 
 -- what is wrong with the lengths of a key and a value: an empty key first, then a word that is too long
 abbrev pub long_fault : List ℕ → List ℕ → Option Refusal
@@ -78,8 +77,12 @@ Scans label low high before labels output after = StepsUnless (keys_fault low hi
 
 -- the event of a transaction
 abbrev pub event_of : Call → ℕ → Event
+event_of call.Save txn = event.Save txn
+event_of (call.Back savepoint) txn = event.GoBack txn savepoint
 event_of call.Rollback txn = event.Rollback txn
+event_of call.Commit txn = event.Commit txn
 event_of call.Send txn = event.Send txn
+event_of call.Undo txn = event.Undo txn
 
 -- a reply that is one event's output of which this holds
 abbrev pub IsEvent : (Out → Type 0) → Reply → Type 0
@@ -108,7 +111,7 @@ Replies (shows p) before old r after new = (r ≡ reply.Shown p) × (after ≡ b
 
 -- what is printed of a reply, where this is the node after it
 abbrev pub reply_text : Reply → NodeView → List ℕ
-reply_text (reply.Event output) view = out_line output
+reply_text (reply.Event output) view = out_text output
 reply_text (reply.Settled outs end) view = settled_text outs.items end
 reply_text (reply.Shown p) view = part_text p view
 

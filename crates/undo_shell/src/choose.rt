@@ -23,9 +23,13 @@ A script is lines; empty lines and lines that begin with # are skipped.
   get T K       asks for the value of the record K
   scan T K K    asks for the records from the first key on, below the second
   scan T K *    asks for the records from K on
+  save T        sets a savepoint of transaction T, and prints its number
+  back T N      rolls transaction T back to its savepoint N
   rollback T    rolls transaction T back
+  commit T      commits transaction T, which is told once the log is stable
   force         makes the log stable
   send T        sends the unanswered request of transaction T, first or again
+  undo T        does one step of the rollback of transaction T
   low N         tells the data component that no number up to N is sent again
   req N         delivers the request numbered N
   rep N         delivers the reply numbered N

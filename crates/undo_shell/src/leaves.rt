@@ -4,10 +4,9 @@ ghost use Rattle.std.specs.Option.{option_copied};
 ghost use Rattle.undo_shell.specs.Printed.{Prints, piece_text, shown_if};
 ghost use Rattle.undo_shell.specs.Stored.{leaf_line, fences_text, counts_text, set_line, more_line, next_number};
 
-use crate::output::{Piece, print};
-use ab_lsn::Entry;
+use crate::pieces::{Piece, print};
 use page::Leaf;
-use record_key::Key;
+use record_key::{Entry, Key};
 use std::io;
 
 /// The line of a leaf.

@@ -15,8 +15,13 @@ pub enum Kind {
 /// What happens to a label's transaction.
 #[derive(Debug, Clone, Copy, PartialEq, Eq)]
 pub enum Call {
+    Save,
+    Back { savepoint: u64 },
     Rollback,
+    Commit,
     Send,
+    /// One step of its rollback.
+    Undo,
 }
 
 /// What is printed of the node.

@@ -2,10 +2,10 @@
 ghost use Rattle.undo_shell.specs.Printed.{Prints};
 ghost use Rattle.undo_shell.specs.Logged.{record_line, record_text, act_text, comp_text};
 
+use crate::answers::print_answered;
 use crate::operations::{print_inverse, print_op};
-use crate::output::{Piece, print};
+use crate::pieces::{Piece, print};
 use crate::printed::print_numbered;
-use crate::told::print_answered;
 use history::Record;
 use record_key::Op;
 use std::io;

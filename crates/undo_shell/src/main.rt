@@ -6,6 +6,7 @@
 //! of the node's own answer to it, nothing else is written, and the exit status says how the script ended.
 #![tactic(auto)]
 
+mod answers;
 mod choose;
 mod label;
 mod leaves;
@@ -13,8 +14,9 @@ mod line;
 mod logged;
 mod names;
 mod operations;
-mod output;
+mod outcome;
 mod parsing;
+mod pieces;
 mod printed;
 mod reply;
 mod rows;
@@ -22,6 +24,7 @@ mod run;
 mod script;
 mod shell;
 mod shown;
+mod stopping;
 mod told;
 mod words;
 
@@ -33,6 +36,7 @@ use run::{DONE, FAILED, FAULT};
 use std::io::{BufWriter, Write};
 use std::process::ExitCode;
 use std::{env, io};
+use stopping::Stopping;
 
 fn main(rt: HostRuntime) -> ExitCode {
     let status = match arguments(&rt) {
@@ -55,9 +59,10 @@ fn start(rt: &HostRuntime, words: &[String]) -> u8 {
     }
 }
 
-/// Runs the script that standard input holds. Its text is gathered and written in large pieces.
+/// Runs the script that standard input holds. Its text is gathered and written in large pieces, and nothing of it
+/// after a write that failed.
 fn run_script(rt: &HostRuntime) -> u8 {
-    let Ok(mut writer) = BufWriter::new(rt.alloc(), io::writer(rt)) else {
+    let Ok(mut writer) = BufWriter::new(rt.alloc(), Stopping::new(io::writer(rt))) else {
         return run::refuse(&mut io::writer(rt), Refusal::NoMemory, FAILED);
     };
     let status = run::run(rt.alloc(), &mut rt.reader(), &mut writer);

@@ -1,7 +1,7 @@
 //! The names that begin lines, by what follows them.
 ghost use Rattle.std.specs.Prelude.{◌≡◌, option_map};
 ghost use Rattle.undo_shell.specs.Words.{label_in, number_in, text_in};
-ghost use Rattle.undo_shell.specs.Script.{bare, with_label, with_number, with_key, kind_with_value, meaning};
+ghost use Rattle.undo_shell.specs.Script.{bare, with_label, call_named, with_number, with_key, with_savepoint, kind_with_value, meaning};
 
 use crate::label::Label;
 use crate::line::{Call, Kind, Line, Part};
@@ -33,13 +33,26 @@ pub fn with_label<'a>(name: &[u8], word: &[u8]) -> Option<Line<'a>>
 {
     let label = Label::new(word)?;
     if name == b"begin".as_slice() {
-        Some(Line::Begin(label))
+        return Some(Line::Begin(label));
+    }
+    let call = call_named(name)?;
+    Some(Line::Call { label, call })
+}
+
+/// What happens to the transaction of a line of two words.
+fn call_named(name: &[u8]) -> Option<Call>
+    ensures { result ≡ call_named name.now }
+{
+    if name == b"save".as_slice() {
+        Some(Call::Save)
     } else if name == b"rollback".as_slice() {
-        let call = Call::Rollback;
-        Some(Line::Call { label, call })
+        Some(Call::Rollback)
+    } else if name == b"commit".as_slice() {
+        Some(Call::Commit)
     } else if name == b"send".as_slice() {
-        let call = Call::Send;
-        Some(Line::Call { label, call })
+        Some(Call::Send)
+    } else if name == b"undo".as_slice() {
+        Some(Call::Undo)
     } else {
         None
     }
@@ -76,6 +89,20 @@ pub fn with_key<'a>(name: &[u8], label: &[u8], key: &'a [u8]) -> Option<Line<'a>
             key,
             value: &key[..0],
         })
+    } else {
+        None
+    }
+}
+
+/// A line of a name, a label and a savepoint.
+pub fn with_savepoint<'a>(name: &[u8], label: &[u8], word: &[u8]) -> Option<Line<'a>>
+    ensures { option_map meaning result ≡ with_savepoint name.now (label_in label.now) (number_in word.now) }
+{
+    let label = Label::new(label)?;
+    let savepoint = number_of(word)?;
+    if name == b"back".as_slice() {
+        let call = Call::Back { savepoint };
+        Some(Line::Call { label, call })
     } else {
         None
     }

@@ -2,7 +2,7 @@
 ghost use Rattle.undo_shell.specs.Printed.{Prints};
 ghost use Rattle.undo_shell.specs.Logged.{op_text, write_text, inverse_text};
 
-use crate::output::{Piece, print};
+use crate::pieces::{Piece, print};
 use crate::printed::print_worded;
 use record_key::{Key, Op, Value};
 use std::io;

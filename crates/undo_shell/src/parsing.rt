@@ -5,7 +5,7 @@ ghost use Rattle.undo_shell.specs.Script.{command_of, write_of, scan_of, meaning
 
 use crate::label::Label;
 use crate::line::{Kind, Line};
-use crate::names::{bare, kind_with_value, with_key, with_label, with_number};
+use crate::names::{bare, kind_with_value, with_key, with_label, with_number, with_savepoint};
 use crate::script::cut_at;
 use crate::words::{end_of, text_of};
 
@@ -38,10 +38,13 @@ fn parse_pair<'a>(name: &[u8], rest: &'a [u8]) -> Option<Line<'a>>
 fn parse_keyed<'a>(name: &[u8], label: &[u8], rest: &'a [u8]) -> Option<Line<'a>>
     ensures { option_map meaning result ≡ command_of (name.now ∷ label.now ∷ words_of rest.now) }
 {
-    let (key, rest) = cut_at(rest, b' ');
+    let (word, rest) = cut_at(rest, b' ');
     match rest {
-        None => with_key(name, label, key),
-        Some(rest) => parse_row(name, label, key, rest),
+        None => match with_key(name, label, word) {
+            Some(line) => Some(line),
+            None => with_savepoint(name, label, word),
+        },
+        Some(rest) => parse_row(name, label, word, rest),
     }
 }
 

@@ -2,7 +2,7 @@
 ghost use Rattle.std.specs.Prelude.{◌≡◌};
 ghost use Rattle.undo_shell.specs.Printed.{Prints, number_behind, number_text, refusal_text, refusal_line, numbered, worded};
 
-use crate::output::{Piece, print};
+use crate::pieces::{Piece, print};
 use record_key::Refusal;
 use std::io;
 

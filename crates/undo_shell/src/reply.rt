@@ -1,14 +1,15 @@
 //! What a line of a script came to, and its text.
 ghost use Rattle.std.specs.Prelude.{◌≡◌, flat_map};
 ghost use Rattle.undo_shell.specs.Printed.{Prints};
-ghost use Rattle.undo_shell.specs.Told.{told_line};
+ghost use Rattle.undo_shell.specs.Told.{told_text};
 ghost use Rattle.undo_shell.specs.Ending.{is_failure, end_line, settled_text};
 
 use crate::line::Part;
-use crate::output::{Piece, print};
+use crate::outcome::print_out;
+use crate::pieces::{Piece, print};
 use crate::printed::print_refusal;
 use crate::shown::print_part;
-use crate::told::{print_out, print_told};
+use crate::told::print_told;
 use record_key::Refusal;
 use std::io;
 use world::{Out, World};
@@ -85,7 +86,7 @@ fn print_settled<W: io::Write>(
 }
 
 fn print_all_told<W: io::Write>(writer: &mut W, outs: &[Out]) -> io::Result<()>
-    ensures { Prints (W.contents writer.old) (W.contents writer.new) result (flat_map told_line outs.now) }
+    ensures { Prints (W.contents writer.old) (W.contents writer.new) result (flat_map told_text outs.now) }
 {
     for out in outs {
         print_told(writer, out)?;

@@ -3,7 +3,7 @@ ghost use Rattle.std.specs.Prelude.{◌≡◌, flat_map};
 ghost use Rattle.undo_shell.specs.Printed.{Prints};
 ghost use Rattle.undo_shell.specs.Stored.{row_line};
 
-use crate::output::{Piece, print};
+use crate::pieces::{Piece, print};
 use record_key::{Key, Value};
 use std::io;
 

@@ -1,6 +1,11 @@
 //! The node with the labels of a script.
-ghost use Rattle.std.specs.Prelude.{◌≡◌, MatchResult, Some, None};
+ghost use Rattle.std.specs.Prelude.{◌≡◌, MatchResult, Some, None, OnOk, IfErr, IsSome};
 ghost use Rattle.std.specs.Option.{option_copied};
+ghost use Rattle.std.specs.Ordering.{nat_cmp};
+ghost use Rattle.std.specs.Cmp.Lexicographic.{slice_cmp};
+ghost use Rattle.std.specs.BTreeMap.{get};
+ghost use Rattle.record_key.specs.FirstCause.{RefusesAs};
+ghost use Rattle.tc_core.specs.Causes.{begin_refusal};
 ghost use Rattle.world.specs.Node.{fresh_node};
 ghost use Rattle.undo_shell.specs.Labels.{number_in, unbound, AreSame};
 ghost use Rattle.undo_shell.specs.Script.{meaning};
@@ -58,18 +63,30 @@ impl Shell {
         }
     }
 
-    /// Begins a transaction and binds the label to it. Room for the binding is made first.
+    /// Begins a transaction and binds the label to it.
     fn begin(&mut self, label: &Label) -> Out
         ensures { Begins label.now self.old.world (number_in self.old.labels) result self.new.world (number_in self.new.labels) }
     {
-        if self.labels.make_room(label).is_err() {
-            return Out::Refused(Refusal::NoMemory);
+        if let Err(refusal) = self.make_way(label) {
+            return Out::Refused(refusal);
         }
         let out = self.world.step(&Event::Begin);
         if let Out::Begun(txn) = &out {
             self.labels.bind(label, *txn);
         }
         out
+    }
+
+    /// Makes room for the label's binding, where nothing else stands in the way of beginning.
+    fn make_way(&mut self, label: &Label) -> Result<(), Refusal>
+        ensures refused { IfErr result (RefusesAs (begin_refusal self.old.world.tc)) }
+        ensures room { OnOk result (IsSome (get (slice_cmp nat_cmp) self.new.labels.numbers label.now)) }
+        ensures world { self.new.world ≡ self.old.world }
+        ensures labels { AreSame (number_in self.old.labels) (number_in self.new.labels) }
+    {
+        self.world.can_begin()?;
+        self.labels.make_room(label)?;
+        Ok(())
     }
 
     /// Writes, where the key and the value have lengths that the node takes.
@@ -146,8 +163,12 @@ fn event_of(call: Call, txn: u64) -> Event
     ensures { result ≡ event_of call txn }
 {
     match call {
+        Call::Save => Event::Save { txn },
+        Call::Back { savepoint } => Event::GoBack { txn, savepoint },
         Call::Rollback => Event::Rollback { txn },
+        Call::Commit => Event::Commit { txn },
         Call::Send => Event::Send { txn },
+        Call::Undo => Event::Undo { txn },
     }
 }
 

@@ -10,7 +10,7 @@ ghost use Rattle.undo_shell.specs.View.{log_of, rows_of, stable_of, part_text};
 use crate::leaves::print_leaf;
 use crate::line::Part;
 use crate::logged::print_record;
-use crate::output::{Piece, print};
+use crate::pieces::{Piece, print};
 use crate::printed::print_numbered;
 use crate::rows::print_rows;
 use std::io;
@@ -67,7 +67,7 @@ fn print_at<W: io::Write>(writer: &mut W, world: &World, lsn: u64) -> io::Result
     ensures { Prints (W.contents writer.old) (W.contents writer.new) result (line_at lsn (record_at (log_of world.now) lsn)) }
 {
     match world.record(lsn) {
-        Some(entry) => print_record(writer, lsn, entry),
+        Some(entry) => print_record(writer, lsn, &entry),
         None => Ok(()),
     }
 }

@@ -4,11 +4,14 @@ use std::process::Abort;
 
 mod bad_input;
 mod command_line;
+mod commits;
+mod examples;
 mod failing;
 mod messages;
 mod orders;
 mod printing;
 mod rows;
+mod savepoints;
 mod writes;
 
 /// Runs the script and compares all that was written, and the exit status.

@@ -89,14 +89,25 @@ pub record AreSessions (session : ℕ) (at : Phase) (dc : DcView) : Type 0 where
   pub begun : dc.stored ≤ session
   pub served : IsServed at session dc
 
+-- the node's invariant; docs/PROOF.md goes by these numbers
 pub record IsKept (w : NodeView) : Type 0 where
+  -- 1. the transaction component keeps its own: log, open and committing transactions, locks, reads
   pub tc : IsTc w.tc
+  -- 2. each answer in the log is the right one
   pub right : HasRightAnswers w.tc.log
+  -- 3. the leaf has every key in its fences
   pub whole : (w.dc.leaf.low_fence ≡ None) × (w.dc.leaf.high_fence ≡ None)
+  -- 4. at each key it has captured a beginning of what the log does there, and holds what that gives
   pub honest : IsHonestLeaf w.tc.log w.dc.leaf
+  -- 5. it has captured stable numbers only
   pub stable : AllByRecursion (λ (e : Entry). e.number ≤ w.tc.stable) w.dc.leaf.ab.entries
+  -- 6. every request up to its low number is answered
   pub low : IsAnsweredTo w.tc w.dc.leaf.ab.low
+  -- 7. a request that is answered was performed
   pub answered : (n : ℕ) (o : Op) → Requests w.tc.log n o → IsSome (answer_of w.tc.log n) → captures w.dc.leaf.ab n ≡ true
+  -- 8. what was ever sent stands
   pub sent : AllByRecursion (IsSent w.tc) w.requests
+  -- 9. what was ever replied stays true
   pub given : AllByRecursion (IsGiven w.tc w.dc) w.replies
+  -- 10. the data component runs a session that the other has started, and while clients are served the same
   pub sessions : AreSessions w.tc.session w.tc.phase w.dc

@@ -1,9 +1,10 @@
 //! The world: a node, one event at a time.
-ghost use Rattle.std.specs.Prelude.{◌≡◌, ◌↔◌, true, IsTrue, length, MatchOption};
+ghost use Rattle.std.specs.Prelude.{◌≡◌, ◌↔◌, true, IsTrue, length, MatchOption, Some, None, OnOk, IfErr};
 ghost use Rattle.std.specs.FinMap.{entries};
 ghost use Rattle.history.specs.History.{plain};
 ghost use Rattle.history.specs.Log.{record_at};
 ghost use Rattle.history.specs.ListMachine.{fresh, Machine};
+ghost use Rattle.tc_core.specs.Causes.{begin_refusal};
 ghost use Rattle.world.specs.Node.{fresh_node, StepsTo};
 ghost use Rattle.world.specs.Simulation.{Stands, Leads, IsSettled};
 ghost use Rattle.world.specs.Kept.{IsKept};
@@ -14,7 +15,7 @@ use crate::node::Node;
 use crate::round::Round;
 use history::Record;
 use page::Leaf;
-use record_key::{Key, Value};
+use record_key::{Key, Refusal, Value};
 use std::alloc::Global;
 use std::marker::Model;
 use tc_core::{OpenTxn, Phase};
@@ -82,6 +83,14 @@ impl World {
         ensures { result.now ≡ self.now.dc.leaf }
     {
         self.node.dc.leaf()
+    }
+
+    /// Whether a transaction may begin, memory and the device aside.
+    pub fn can_begin(&self) -> Result<(), Refusal>
+        ensures allowed { OnOk result (begin_refusal self.now.tc ≡ None) }
+        ensures refused { IfErr result (λ refusal. begin_refusal self.now.tc ≡ Some refusal) }
+    {
+        self.node.tc.can_begin()
     }
 
     /// How many requests were sent.

@@ -12,8 +12,32 @@ fn a_number_sent_three_times(rt: HostRuntime) -> Result<(), Fail> {
     }
     let answer = answered(&mut dc, 8, &op)?;
     assert_eq!(rt; answer, Some(Answer::Was(Some(value(b"v")?))));
-    assert_eq!(rt; dc.performed().len(), 2);
+    assert_eq!(rt; dc.performances(), 2);
     assert_eq!(rt; dc.rows().len(), 1);
+    Ok(())
+}
+
+/// What was performed under this number is at this place.
+fn stands_at(dc: &Dc, place: u64, number: u64, op: &Op, answer: Answer) -> bool {
+    let op = op.copied();
+    let expected = Performance { number, op, answer };
+    dc.performance(place) == Some(expected)
+}
+
+/// Keys and values of each length's bounds, and a number that no log has.
+#[test]
+fn performances_are_read_back(rt: HostRuntime) -> Result<(), Fail> {
+    let mut dc = connected(rt.alloc())?;
+    let put = Op::Upsert(key(&[7; 32])?, value(&[8; 120])?);
+    answered(&mut dc, u64::MAX, &put)?;
+    let delete = Op::Delete(key(b"k")?);
+    answered(&mut dc, 2, &delete)?;
+    answered(&mut dc, 3, &put)?;
+    let was = Answer::Was(Some(value(&[8; 120])?));
+    assert!(rt; stands_at(&dc, 0, u64::MAX, &put, Answer::Was(None)));
+    assert!(rt; stands_at(&dc, 1, 2, &delete, Answer::NoRecord));
+    assert!(rt; stands_at(&dc, 2, 3, &put, was));
+    assert!(rt; dc.performance(3).is_none());
     Ok(())
 }
 
@@ -31,7 +55,7 @@ fn low_water_drops_answers(rt: HostRuntime) -> Result<(), Fail> {
     assert_eq!(rt; answered(&mut dc, 2, &op)?, None);
     assert_eq!(rt; answered(&mut dc, 3, &op)?, None);
     assert_eq!(rt; answered(&mut dc, 5, &op)?, Some(Answer::NoRecord));
-    assert_eq!(rt; dc.performed().len(), 2);
+    assert_eq!(rt; dc.performances(), 2);
     Ok(())
 }
 
@@ -60,7 +84,7 @@ fn answers_as_the_plain_table(rt: HostRuntime) -> Result<(), Fail> {
         assert_eq!(rt; answered(&mut dc, number, &op)?, expected);
         assert_eq!(rt; dc.rows(), table.rows());
     }
-    assert_eq!(rt; dc.performed().len(), 299);
+    assert_eq!(rt; dc.performances(), 299);
     Ok(())
 }
 
@@ -70,11 +94,11 @@ fn a_refused_allocation_changes_nothing(rt: HostRuntime) -> Result<(), Fail> {
     let mut dc = connected(rt.alloc())?;
     for number in 1..80u64 {
         let op = Op::Insert(key(&[number as u8])?, value(b"v")?);
-        let rows = dc.rows().len();
+        let rows = dc.rows().len() as u64;
         if let Err(refusal) = answered(&mut dc, number, &op) {
             assert_eq!(rt; refusal, Refusal::NoMemory);
             assert!(rt; !dc.leaf().captures(number));
-            assert_eq!(rt; (dc.rows().len(), dc.performed().len()), (rows, rows));
+            assert_eq!(rt; (dc.rows().len() as u64, dc.performances()), (rows, rows));
             let answer = answered(&mut dc, number, &op)?;
             assert_eq!(rt; answer, Some(Answer::Inserted));
         }

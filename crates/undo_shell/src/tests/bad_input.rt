@@ -1,99 +1,81 @@
 //! Lines outside the grammar, and those that only look so.
 use super::assert_run;
 use crate::script::first_fault;
+use std::process::Abort;
+
+/// Each of the lines is outside the grammar.
+fn assert_faults<R: Abort + AllocGlobal>(rt: &R, lines: &str) {
+    for line in lines.split('|') {
+        assert_eq!(rt; first_fault(line.as_bytes()), Some(1), "{line:?}");
+    }
+}
+
+/// No line is outside the grammar.
+fn assert_lines<R: Abort + AllocGlobal>(rt: &R, script: &str) {
+    assert_eq!(rt; first_fault(script.as_bytes()), None, "{script:?}");
+}
 
 #[test]
-fn words_that_are_no_line(rt: HostRuntime) {
-    let scripts = [
-        "begin",
-        "begin ",
-        "begin  t",
-        " begin t",
-        "begin t ",
-        "begin T",
-        "begin t u",
-        "begin abcdefghi",
-        "begin a-b",
-        "Begin t",
-        "rollback",
-        "rollback t t",
-        "insert t k",
-        "insert t k v w",
-        "insert t k v ",
-        "insert t  v",
-        "insert T k v",
-        "insert t k- v",
-        "insert t .. v",
-        "insert t k .v",
-        "settle 1",
-        "settle ",
-        " settle",
-        "settled",
-        "table t",
-        "log log",
-        "log\r",
-        "\tlog",
-        " ",
-        " #",
-        "commit t",
-        "update t k",
-        "upsert t k ",
-        "upsert t k v w",
-        "update  k v",
-        "delete t",
-        "delete t k v",
-        "delete T k",
-        "delete t k-",
-        "insert t k",
-        "send",
-        "send T",
-        "force 1",
-        "leaves t",
-        "connect",
-        "get t",
-        "get t a b",
-        "get t *",
-        "get T a",
-        "get t a-",
-        "scan t a",
-        "scan t a b c",
-        "scan t a * *",
-        "scan t * b",
-        "scan t * *",
-        "scan t a ",
-        "scan t a **",
-        "scan T a b",
-        "insert t * v",
-        "insert t k *",
-    ];
-    for script in scripts {
-        assert_run(&rt, script, "no 17 BadScript 1\n", 2);
-    }
+fn lines_of_one_word(rt: HostRuntime) {
+    let lines = "begin|Begin t|rollback|save|commit|undo|send|back|settled| settle|settle |\tlog|\
+                 log\r| | #|connect|tend";
+    assert_faults(&rt, lines);
+}
+
+#[test]
+fn lines_of_a_label(rt: HostRuntime) {
+    let lines = "begin |begin  t| begin t|begin t |begin T|begin abcdefghi|begin a-b|settle 1|\
+                 table t|log log|leaves t|force 1|send T|save T|commit T|commit a-b|undo T|\
+                 checkpoint t|recover t|split a|flush a";
+    assert_faults(&rt, lines);
+}
+
+#[test]
+fn lines_of_a_label_and_a_word(rt: HostRuntime) {
+    let lines = "begin t u|rollback t t|save t 1|commit t t|undo t 1|get t|get t *|get T a|\
+                 get t a-|delete t|delete T k|delete t k-|insert t k|update t k|upsert t k |\
+                 crash tc 0 0";
+    assert_faults(&rt, lines);
+}
+
+#[test]
+fn lines_of_a_label_and_a_savepoint(rt: HostRuntime) {
+    let lines = "back t|back t |back t t|back T 1|back 1|back t 00|back t 01|back t +1|back t 1 |\
+                 back t 1 2|back t 281474976710656|back  t 1|backs t 1";
+    assert_faults(&rt, lines);
+}
+
+#[test]
+fn lines_of_three_words_and_more(rt: HostRuntime) {
+    let lines = "insert t k v w|insert t k v |insert t  v|insert T k v|insert t k- v|\
+                 insert t .. v|insert t k .v|insert t * v|insert t k *|upsert t k v w|\
+                 update  k v|delete t k v|get t a b";
+    assert_faults(&rt, lines);
+}
+
+#[test]
+fn scans(rt: HostRuntime) {
+    let lines = "scan t a|scan t a b c|scan t a * *|scan t * b|scan t * *|scan t a |scan t a **|\
+                 scan T a b";
+    assert_faults(&rt, lines);
 }
 
 #[test]
 fn words_that_are_no_number(rt: HostRuntime) {
-    let scripts = [
-        "req",
-        "req ",
-        "req t",
-        "req 00",
-        "req 01",
-        "rep +1",
-        "rep -1",
-        "rep 1 ",
-        "rep 1 2",
-        "low 1.",
-        "low 1a",
-        "low 281474976710656",
-        "low 2814749767106550",
-        "low 18446744073709551617",
-        "deliver 1",
-    ];
-    for script in scripts {
-        assert_run(&rt, script, "no 17 BadScript 1\n", 2);
-    }
-    assert_eq!(rt; first_fault(b"low 0\nreq 10\nrep 281474976710655"), None);
+    let lines = "req|req |req t|req 00|req 01|rep +1|rep -1|rep 1 |rep 1 2|low 1.|low 1a|\
+                 low 281474976710656|low 2814749767106550|low 18446744073709551617|deliver 1";
+    assert_faults(&rt, lines);
+}
+
+#[test]
+fn numbers_in_the_grammar(rt: HostRuntime) {
+    assert_lines(&rt, "low 0\nreq 10\nrep 281474976710655");
+    assert_lines(&rt, "back t 0\nback 0 1\nback back 281474976710655");
+}
+
+#[test]
+fn calls_in_the_grammar(rt: HostRuntime) {
+    assert_lines(&rt, "save t\ncommit t\nundo t\nsave save\ncommit 1");
 }
 
 #[test]
@@ -117,15 +99,11 @@ fn the_first_fault_counts_skipped_lines(rt: HostRuntime) {
 
 #[test]
 fn words_of_any_length(rt: HostRuntime) {
-    assert_eq!(rt; first_fault(b"begin abcd1234"), None);
-    assert_eq!(rt; first_fault(b"insert 0 . ."), None);
-    assert_eq!(rt;
-        first_fault(b"insert t aZ09aZ09aZ09aZ09aZ09aZ09aZ09aZ09aZ09 v"),
-        None
-    );
-    assert_eq!(rt;
-        first_fault(b"insert t get 1\nget t scan\nscan t get get\nscan t . *"),
-        None
+    assert_lines(&rt, "begin abcd1234\ninsert 0 . .");
+    assert_lines(&rt, "insert t aZ09aZ09aZ09aZ09aZ09aZ09aZ09aZ09aZ09 v");
+    assert_lines(
+        &rt,
+        "insert t get 1\nget t scan\nscan t get get\nscan t . *",
     );
 }
 

@@ -14,36 +14,6 @@ fn request_repeated(rt: HostRuntime) {
         req 3\n\
         rep 5\n\
         rep 3\n\
-        table\n";
-    let text = "\
-        settled\n\
-        txn 2\n\
-        logged 3\n\
-        stable 3\n\
-        request 3\n\
-        reply 3\n\
-        reply 4\n\
-        reply 5\n\
-        answer 2 inserted\n\
-        nothing\n\
-        k=v\n\
-        rows 1\n";
-    assert_run(&rt, script, text, 0);
-}
-
-#[test]
-fn request_repeated_log(rt: HostRuntime) {
-    let script = "\
-        settle\n\
-        begin t\n\
-        insert t k v\n\
-        force\n\
-        send t\n\
-        req 3\n\
-        req 3\n\
-        req 3\n\
-        rep 5\n\
-        rep 3\n\
         table\n\
         log\n";
     let text = "\

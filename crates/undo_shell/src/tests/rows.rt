@@ -63,36 +63,9 @@ fn insert_rolled_back(rt: HostRuntime) {
     assert_run(&rt, script, text, 0);
 }
 
+/// What did nothing is undone by nothing.
 #[test]
 fn refused_insert_rolled_back(rt: HostRuntime) {
-    let script = "\
-        settle\n\
-        begin t\n\
-        insert t k 1\n\
-        settle\n\
-        insert t k 2\n\
-        settle\n\
-        rollback t\n\
-        settle\n\
-        table\n";
-    let text = "\
-        settled\n\
-        txn 2\n\
-        logged 3\n\
-        answer 2 inserted\n\
-        settled\n\
-        logged 5\n\
-        answer 2 exists\n\
-        settled\n\
-        rolling back\n\
-        rolled back 2\n\
-        settled\n\
-        rows 0\n";
-    assert_run(&rt, script, text, 0);
-}
-
-#[test]
-fn refused_insert_rolled_back_log(rt: HostRuntime) {
     let script = "\
         settle\n\
         begin t\n\

@@ -1,31 +1,33 @@
 //! The four writes with their answers, and what undoes them.
 use super::assert_run;
 
-/// Scripts and their texts, each short.
-const SHORT: [(&str, &str); 4] = [
-    (
-        "settle\nbegin t\nupdate t k 1\nsettle\ntable\n",
-        "settled\ntxn 2\nlogged 3\nanswer 2 missing\nsettled\nrows 0\n",
-    ),
-    (
-        "settle\nbegin t\ndelete t k\nsettle\ntable\n",
-        "settled\ntxn 2\nlogged 3\nanswer 2 missing\nsettled\nrows 0\n",
-    ),
-    (
-        "settle\nbegin t\nupsert t k .\nsettle\nupdate t k 1\nsettle\ntable\n",
-        "settled\ntxn 2\nlogged 3\nanswer 2 was -\nsettled\nlogged 5\nanswer 2 updated .\nsettled\nk=1\nrows 1\n",
-    ),
-    (
-        "update t k 1\nupsert t k 1\ndelete t k\nsend t\n",
-        "no 9 NotConnected\nno 9 NotConnected\nno 9 NotConnected\nno 9 NotConnected\n",
-    ),
-];
+#[test]
+fn update_of_nothing(rt: HostRuntime) {
+    let script = "settle\nbegin t\nupdate t k 1\nsettle\ntable\n";
+    let text = "settled\ntxn 2\nlogged 3\nanswer 2 missing\nsettled\nrows 0\n";
+    assert_run(&rt, script, text, 0);
+}
 
 #[test]
-fn short_scripts(rt: HostRuntime) {
-    for (script, text) in SHORT {
-        assert_run(&rt, script, text, 0);
-    }
+fn delete_of_nothing(rt: HostRuntime) {
+    let script = "settle\nbegin t\ndelete t k\nsettle\ntable\n";
+    let text = "settled\ntxn 2\nlogged 3\nanswer 2 missing\nsettled\nrows 0\n";
+    assert_run(&rt, script, text, 0);
+}
+
+#[test]
+fn upsert_and_update(rt: HostRuntime) {
+    let script = "settle\nbegin t\nupsert t k .\nsettle\nupdate t k 1\nsettle\ntable\n";
+    let text = "settled\ntxn 2\nlogged 3\nanswer 2 was -\nsettled\n\
+                logged 5\nanswer 2 updated .\nsettled\nk=1\nrows 1\n";
+    assert_run(&rt, script, text, 0);
+}
+
+#[test]
+fn writes_before_connecting(rt: HostRuntime) {
+    let script = "update t k 1\nupsert t k 1\ndelete t k\nsend t\n";
+    let text = "no 9 NotConnected\nno 9 NotConnected\nno 9 NotConnected\nno 9 NotConnected\n";
+    assert_run(&rt, script, text, 0);
 }
 
 /// Eight writes, a rollback of all, and the log.

@@ -29,12 +29,11 @@ kept_after w n o a leaf all out k done more =
 
 pub returns-clause-kept : goal.returns-clause-kept
 returns-clause-kept c =
-    kept_after (seen c.args.self.now) c.args.number c.args.op.now c.in-Performed.answer c.perform.new.self _ (sym c.if-captures.ensures) c.requires
-    (rw (c.in-Performed.is) at c.in_ok-answer.ensures.done)
-    (rw (c.in_ok-reserve.ensures.items) at c.add.ensures)
+    kept_after (seen c.args.self.now) c.args.number c.args.op.now c.in_ok-answer.answer _ _ (sym c.if-captures.ensures) c.requires
+    c.in_ok-answer.ensures.performed c.in_ok-answer.ensures.noted
 
 pub repeat-requires-clause-within : goal.repeat-requires-clause-within
 repeat-requires-clause-within c = in_fences c.args.self.now.leaf (key_of c.args.op.now) c.requires.whole.0 c.requires.whole.1
 
-pub perform-requires : goal.perform-requires
-perform-requires c = in_fences c.args.self.now.leaf (key_of c.args.op.now) c.requires.whole.0 c.requires.whole.1
+pub perform-requires-clause-within : goal.perform-requires-clause-within
+perform-requires-clause-within c = in_fences c.args.self.now.leaf (key_of c.args.op.now) c.requires.whole.0 c.requires.whole.1

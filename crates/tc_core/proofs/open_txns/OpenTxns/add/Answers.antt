@@ -14,7 +14,8 @@ invariant_of-self-in_err-insert c =
     rw c.in_err-insert.ensures.err
     (same_slots c.self.inside.txns c.reserve.new.self c.self.inside.slots.entries c.reserve.ensures.rest_kept c.self.invariant).are
 
-more : (c : goal.After-insert_reserved) → Holds c.insert_reserved.new.self c.insert.new.self.entries (c.args.opened ∷ c.args.self.now)
+more : (c : goal.After-insert_reserved)
+    → Holds c.insert_reserved.new.self c.insert.new.self.entries (c.args.opened ∷ c.args.self.now)
 more c =
     let old = c.self.inside in
     adds c.args.opened c.insert_reserved.result old.txns c.reserve.new.self c.insert_reserved.new.self old.slots.entries c.insert.new.self.entries c.args.self.now

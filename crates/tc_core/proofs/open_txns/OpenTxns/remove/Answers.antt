@@ -4,7 +4,8 @@ use Rattle.tc_core.proofs.InSlots.{has_slot}
 use Rattle.tc_core.proofs.Changing.{removes}
 use Rattle.tc_core.proofs.open_txns.OpenTxns.remove.Goals as goal
 
-left : (c : goal.After-try_remove) → Holds c.try_remove.new.self c.remove.new.self.entries (without c.args.txn c.args.self.now)
+left : (c : goal.After-try_remove)
+    → Holds c.try_remove.new.self c.remove.new.self.entries (without c.args.txn c.args.self.now)
 left c =
     let old = c.self.inside in
     removes c.args.txn c.in-Some.slot old.txns c.try_remove.new.self old.slots.entries c.remove.new.self.entries c.args.self.now

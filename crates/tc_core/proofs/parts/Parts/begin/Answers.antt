@@ -1,9 +1,9 @@
-use Rattle.std.proofs.Common.{◌≡◌, ◌∙◌, ◌∷◌, ◌+◌, ◌<◌, length, ap, arith, refl}
+use Rattle.std.proofs.Common.{◌≡◌, ◌∙◌, ◌∷◌, ◌+◌, ap, refl}
 use Rattle.tc_core.specs.OpenTxns.{AreBelow, without}
 use Rattle.tc_core.specs.Seen.{seen}
 use Rattle.tc_core.proofs.Finding.{without_new}
 use Rattle.tc_core.proofs.KeepsTc.{all_below, keeps_begin}
-use Rattle.tc_core.proofs.Refused.{keeps_refused, refuses_unspent, begin_allowed}
+use Rattle.tc_core.proofs.Refused.{keeps_refused, refuses_unspent}
 use Rattle.tc_core.proofs.parts.Parts.begin.Goals as goal
 
 pub add-requires : goal.add-requires
@@ -11,9 +11,8 @@ add-requires g c = rw (c.begun.ensures, c.len-txn.ensures.count) (all_below (see
 
 pub returns-in-Ok-clause-kept : goal.returns-in-Ok-clause-kept
 returns-in-Ok-clause-kept g c =
-    let less : length c.args.self.now.open_txns < 64 = omega (arith, c.len.ensures, c.if-len-ge-MOST_OPEN.false) in
     rw (c.in-Ok.ensures.appended.log, c.in_ok-add.ensures.added, c.begun.ensures, c.len-txn.ensures.count)
-    (keeps_begin (seen c.args.self.now) c.requires less c.in-Ok.ensures.appended.unspent)
+    (keeps_begin (seen c.args.self.now) c.requires c.in_ok-can_begin.ensures.below c.in-Ok.ensures.appended.unspent)
 
 -- the one that was added is removed again
 left : (g : _) (c : goal.After-remove g) → c.remove.new.self ≡ c.args.self.now.open_txns
@@ -30,7 +29,6 @@ returns-in-Err-clause-kept g c = rw (left g c) (keeps_refused (seen c.args.self.
 pub returns-in-Err-clause-gives : goal.returns-in-Err-clause-gives
 returns-in-Err-clause-gives g c =
     let w = seen c.args.self.now in
-    let less : length w.open_txns < 64 = omega (arith, c.len.ensures, c.if-len-ge-MOST_OPEN.false) in
-    let unspent = c.in_ok-can_log.ensures.unspent in
-    rw (begin_allowed w c.in_ok-running.ensures.allowed less unspent, left g c)
+    let unspent = c.in_ok-can_begin.ensures.unspent in
+    rw (c.in_ok-can_begin.ensures.allowed, left g c)
     (refuses_unspent w unspent c.in-Err.refusal c.append.new.self c.in-Err.ensures.refused c.in-Err.ensures.left)

@@ -41,7 +41,8 @@ waits_not : (i : Option Op) (x : Option ℕ) (n : ℕ) → is_some i ≡ false �
 waits_not None x n h e = e
 waits_not (Some i) x n h e = absurd (cc)
 
-now : (g : _) (c : goal.After-change g) → seen (record c.args.self.now { log = c.append.new.self; open_txns = c.change.new.self }) ≡ compensated (seen c.args.self.now) c.requires.may_step.open_txn
+now : (g : _) (c : goal.After-change g)
+    → seen (record c.args.self.now { log = c.append.new.self; open_txns = c.change.new.self }) ≡ compensated (seen c.args.self.now) c.requires.may_step.open_txn
 now g c =
     let w = seen c.args.self.now in
     let may = c.requires.may_step in

@@ -1,6 +1,31 @@
-use Rattle.std.proofs.Common.{arith, inr, refl}
+use Rattle.std.proofs.Common.{◌≡◌, Bool, MatchBool, subst, arith, inr, refl}
+use Rattle.logical_log.specs.Low.{IsGreatestLow}
+use Rattle.tc_core.specs.Seen.{seen}
 use Rattle.tc_core.proofs.parts.Parts.low_water.Goals as goal
 
-pub returns-then-low-answered_end : goal.returns-then-low-answered_end
-returns-then-low-answered_end g c =
-    record { gives = inr (c.in_ok-running.ensures.allowed, refl, λ may. omega (arith, c.answered_end.ensures.greatest c.args.low may, c.if-low-answered_end.true)) }
+pub returns-then-low-greatest_low : goal.returns-then-low-greatest_low
+returns-then-low-greatest_low g c =
+    let w = seen c.args.self.now in
+    let n = c.greatest_low.result in
+    let P : Bool → Type 0 = λ b. MatchBool b (IsGreatestLow w.log w.stable n) (n ≡ 0) in
+    let greatest = subst P c.in_ok-running.ensures.ok c.greatest_low.ensures in
+    record { gives = inr (c.in_ok-running.ensures.allowed, refl, λ may. omega (arith, greatest.greatest c.args.low may, c.if-low-greatest_low.true)) }
+
+pub returns : goal.returns
+returns g c =
+    let w = seen c.args.self.now in
+    let n = c.greatest_low.result in
+    let P : Bool → Type 0 = λ b. MatchBool b (IsGreatestLow w.log w.stable n) (n ≡ 0) in
+    let greatest = subst P c.in_ok-running.ensures.ok c.greatest_low.ensures in
+    record {
+      gives = (
+        record {
+          running = c.in_ok-running.ensures.allowed;
+          allowed = record {
+            within = omega (arith, greatest.is.within, c.if-low-greatest_low.false);
+            answered = λ m o below asks. greatest.is.answered m o (omega (arith, below, c.if-low-greatest_low.false)) asks;
+          };
+        },
+        refl,
+      );
+    }

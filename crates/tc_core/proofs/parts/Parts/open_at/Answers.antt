@@ -9,7 +9,8 @@ use Rattle.tc_core.specs.Seen.{seen}
 use Rattle.tc_core.proofs.Finding.{found_number, found_own}
 use Rattle.tc_core.proofs.parts.Parts.open_at.Goals as goal
 
-finds : (w : TcView) (t : ℕ) (o : OpenTxn) → is_running w.phase ≡ true → running_refusal w ≡ None → find t w.open_txns ≡ Some o → FindsOpen w t o
+finds : (w : TcView) (t : ℕ) (o : OpenTxn) → is_running w.phase ≡ true → running_refusal w ≡ None
+    → find t w.open_txns ≡ Some o → FindsOpen w t o
 finds w t o running allowed is = record {
   at = record { is = found_own t w.open_txns o is; number = found_number t w.open_txns o is };
   running = running;

@@ -12,7 +12,8 @@ use Rattle.tc_core.proofs.Refused.{at_number}
 use Rattle.tc_core.proofs.parts.Parts.resend.Goals as goal
 
 -- a read has no record that must be stable
-allowed : (w : TcView) (t : ℕ) (o : OpenTxn) (r : Read) → open_refusal w t ≡ None → find t w.open_txns ≡ Some o → o.waiting ≡ None → o.reading ≡ Some r → resend_refusal w t ≡ None
+allowed : (w : TcView) (t : ℕ) (o : OpenTxn) (r : Read) → open_refusal w t ≡ None → find t w.open_txns ≡ Some o
+    → o.waiting ≡ None → o.reading ≡ Some r → resend_refusal w t ≡ None
 allowed w t o r is_open at none some =
     let stable : nat_lt w.stable 0 ≡ false = grind (arith, nat_tests) in
     rw (is_open, at, none, some, stable) refl

@@ -27,7 +27,8 @@ returns-in-Some-clause-kept g c =
     (keeps_is_back w may.open_txn c.requires.kept may.found.at.is may.found.waiting may.found.reading)
 
 -- nothing of the transaction is left above the bound
-left : (w : TcView) (t : ℕ) (b : Rollback) (may : MayStep w t b) → IsTc w → IsUndone w.log t b.above → may.open_txn.undo ≤ b.above
+left : (w : TcView) (t : ℕ) (b : Rollback) (may : MayStep w t b) → IsTc w → IsUndone w.log t b.above
+    → may.open_txn.undo ≤ b.above
 left w t b may k undone =
     let P : ℕ → Type 0 = λ n. IsUndone w.log n b.above in none_left w may.open_txn b.above k may.found.at.is (subst P (sym may.found.at.number) undone)
 
@@ -42,7 +43,8 @@ returns-in-Some-clause-gives g c =
     (below, c.in-Some.is, sym may.found.at.number, refl))
 
 -- a whole rollback has undone all
-fits : (w : TcView) (t : ℕ) (b : Rollback) (may : MayStep w t b) → IsTc w → IsUndone w.log t b.above → b.savepoint ≡ None → Fits w.log (End may.open_txn.txn)
+fits : (w : TcView) (t : ℕ) (b : Rollback) (may : MayStep w t b) → IsTc w → IsUndone w.log t b.above
+    → b.savepoint ≡ None → Fits w.log (End may.open_txn.txn)
 fits w t b may k undone none =
     let o : OpenTxn = may.open_txn in
     let zero : b.above ≡ 0 = ((open_at w o k may.found.at.is).rolling b may.rolling).whole none in

@@ -1,7 +1,7 @@
 use Rattle.std.proofs.Common.{flat_map, refl}
 use Rattle.undo_shell.proofs.Printing.{stops_first, prints_both}
 use Rattle.undo_shell.specs.Stored.{row_line}
-use Rattle.undo_shell.proofs.told.print_found.Goals as goal
+use Rattle.undo_shell.proofs.answers.print_found.Goals as goal
 
 pub returns-in_err-print : goal.returns-in_err-print
 returns-in_err-print g c =

@@ -1,6 +1,6 @@
 use Rattle.undo_shell.proofs.Printing.{prints_err, cut_in_list}
 use Rattle.undo_shell.specs.Printed.{piece_text}
-use Rattle.undo_shell.proofs.output.print.Goals as goal
+use Rattle.undo_shell.proofs.pieces.print.Goals as goal
 
 pub returns-in_err-put_piece : goal.returns-in_err-put_piece
 returns-in_err-put_piece g c =

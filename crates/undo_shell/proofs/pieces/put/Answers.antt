@@ -1,6 +1,6 @@
 use Rattle.std.proofs.Common.{◌++◌, take, ap, ◌∙◌, sym}
 use Rattle.undo_shell.proofs.Printing.{appends_then, still_all}
-use Rattle.undo_shell.proofs.output.put.Goals as goal
+use Rattle.undo_shell.proofs.pieces.put.Goals as goal
 
 pub loop-preserved : goal.loop-preserved
 loop-preserved g c =

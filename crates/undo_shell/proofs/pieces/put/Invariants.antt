@@ -1,6 +1,6 @@
 use Rattle.std.proofs.Common.{◌≡◌, ℕ, List, ◌++◌}
 use Rattle.std.specs.Io.KnownBytes.{Appends}
-use Rattle.undo_shell.proofs.output.put.Given as goal
+use Rattle.undo_shell.proofs.pieces.put.Given as goal
 
 -- what is written so far, and then what is left, is all
 abbrev pub invariant-loop : goal.invariant-loop

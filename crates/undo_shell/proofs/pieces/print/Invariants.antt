@@ -1,7 +1,7 @@
 use Rattle.std.proofs.Common.{take, flat_map}
 use Rattle.std.specs.Io.KnownBytes.{Appends}
 use Rattle.undo_shell.specs.Printed.{piece_text}
-use Rattle.undo_shell.proofs.output.print.Given as goal
+use Rattle.undo_shell.proofs.pieces.print.Given as goal
 
 -- the pieces so far are written
 abbrev pub invariant-loop-piece : goal.invariant-loop-piece

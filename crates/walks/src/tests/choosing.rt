@@ -1,0 +1,152 @@
+//! The random choice of a walk's next event.
+use super::model::Model;
+use rand_pcg::Pcg32;
+use rand_pcg::rand_core::Rng;
+use record_key::{Key, Op, Refusal, Value};
+use world::{Event, Out, World};
+
+/// About how many transactions are open at a time.
+const OPEN: u64 = 8;
+
+/// What a choice goes by.
+#[derive(Drop)]
+pub struct Chooser {
+    random: Pcg32,
+    /// The transaction that goes on.
+    txn: u64,
+    /// What the event came to that the next useful one goes on from.
+    last: Out,
+}
+
+impl Chooser {
+    pub fn new(seed: u64) -> Chooser {
+        Chooser {
+            random: Pcg32::new(seed, 7),
+            txn: 0,
+            last: Out::Nothing,
+        }
+    }
+
+    /// A number below this one, 0 below 0.
+    pub fn below(&mut self, bound: u64) -> u64 {
+        self.random.next_u64() % bound.max(1)
+    }
+
+    /// The number of a message: of any earlier one, or of one of the latest three.
+    fn earlier(&mut self, count: u64) -> u64 {
+        let span = if self.below(2) == 0 { 3 } else { count };
+        let back = self.below(span);
+        count.saturating_sub(back)
+    }
+
+    /// One of twelve keys.
+    fn key(&mut self) -> Result<Key, Refusal> {
+        Key::new(&[b'a' + (self.below(12) % 12) as u8])
+    }
+
+    fn op(&mut self) -> Result<Op, Refusal> {
+        let key = self.key()?;
+        let value = Value::new(&[b'0' + (self.below(10) % 10) as u8])?;
+        Ok(match self.below(4) {
+            0 => Op::Insert(key, value),
+            1 => Op::Update(key, value),
+            2 => Op::Upsert(key, value),
+            _ => Op::Delete(key),
+        })
+    }
+
+    /// The rows between two keys, seldom to the end.
+    fn scan(&mut self, txn: u64) -> Result<Event, Refusal> {
+        let low = self.key()?;
+        let high = if self.below(4) == 0 {
+            None
+        } else {
+            Some(self.key()?)
+        };
+        Ok(Event::Scan { txn, low, high })
+    }
+
+    /// A call of one of the open transactions, seldom of another, or a beginning.
+    fn call(&mut self, model: &Model) -> Result<Event, Refusal> {
+        let place = self.below(OPEN);
+        self.txn = model.txn_at(place);
+        if self.txn == 0 {
+            return Ok(Event::Begin);
+        }
+        let txn = match self.below(40) {
+            0 => self.below(self.txn),
+            _ => self.txn,
+        };
+        self.call_of(txn, model.saves(txn))
+    }
+
+    /// A call of a transaction with so many savepoints. Some transactions do little else than set them.
+    fn call_of(&mut self, txn: u64, saves: u64) -> Result<Event, Refusal> {
+        let kinds = if txn % 4 == 0 { 60 } else { 23 };
+        match self.below(kinds) {
+            0 => Ok(Event::Rollback { txn }),
+            1 | 2 => Ok(Event::Commit { txn }),
+            3 | 4 => {
+                let savepoint = self.below(saves.saturating_add(2));
+                Ok(Event::GoBack { txn, savepoint })
+            }
+            5..=7 => {
+                let key = self.key()?;
+                Ok(Event::Get { txn, key })
+            }
+            8 | 9 => self.scan(txn),
+            10..=20 => {
+                let op = self.op()?;
+                Ok(Event::Act { txn, op })
+            }
+            _ => Ok(Event::Save { txn }),
+        }
+    }
+
+    /// What would go on from the last event.
+    pub fn useful(&mut self, model: &Model) -> Result<Event, Refusal> {
+        let txn = self.txn;
+        Ok(match &self.last {
+            Out::Logged(_) | Out::Compensated(_) => Event::Force,
+            Out::Stable { .. } | Out::Asked(_) => Event::Send { txn },
+            Out::Sent(number) => Event::Request { number: *number },
+            Out::Replied(number) => Event::Reply { number: *number },
+            Out::RollingBack | Out::Undone(_) => Event::Undo { txn },
+            Out::Refused(Refusal::RollingBack) => Event::Undo { txn },
+            Out::Connects { request, .. } => Event::Request { number: *request },
+            Out::Connected(_) | Out::Refused(Refusal::Redoing) => Event::Recover,
+            Out::Refused(Refusal::NotConnected) => Event::Reconnect,
+            Out::Refused(Refusal::Unanswered) => Event::Force,
+            _ => self.call(model)?,
+        })
+    }
+
+    /// Any event.
+    pub fn any(&mut self, model: &Model, world: &World) -> Result<Event, Refusal> {
+        let txn = self.txn;
+        Ok(match self.below(200) {
+            0..=79 => Event::Request {
+                number: self.earlier(world.requests()),
+            },
+            80..=149 => Event::Reply {
+                number: self.earlier(world.replies()),
+            },
+            150..=159 => Event::Force,
+            160..=169 => Event::Send { txn },
+            170..=175 => Event::Undo { txn },
+            176..=179 => Event::LowWater {
+                low: self.earlier(world.stable_end()),
+            },
+            180..=183 => Event::Recover,
+            184 | 185 => Event::Reconnect,
+            186 => Event::Begin,
+            187 => Event::Send { txn: txn / 2 },
+            _ => self.call(model)?,
+        })
+    }
+
+    /// The next useful event goes on from here.
+    pub fn go_on_from(&mut self, out: Out) {
+        self.last = out;
+    }
+}

@@ -1,0 +1,106 @@
+//! How far a walk came.
+use record_key::Refusal;
+use std::process::Abort;
+use world::Out;
+
+/// How often each thing happened.
+#[derive(Debug, Drop)]
+pub struct Counts {
+    answers: u64,
+    reads: u64,
+    undone: u64,
+    savepoints: u64,
+    backs: u64,
+    rolled_back: u64,
+    committed: u64,
+    sessions: u64,
+    busy: u64,
+    /// Of these, where one held the key that had committed and wasn't told so.
+    busy_committing: u64,
+    full: u64,
+    bad_savepoint: u64,
+}
+
+impl Counts {
+    pub fn new() -> Counts {
+        Counts {
+            answers: 0,
+            reads: 0,
+            undone: 0,
+            savepoints: 0,
+            backs: 0,
+            rolled_back: 0,
+            committed: 0,
+            sessions: 0,
+            busy: 0,
+            busy_committing: 0,
+            full: 0,
+            bad_savepoint: 0,
+        }
+    }
+
+    /// Counts what an event came to. These are committing.
+    pub fn count(&mut self, out: &Out, committing: &[u64]) {
+        match out {
+            Out::Answered { .. } => more(&mut self.answers, 1),
+            Out::Row { .. } | Out::Rows { .. } => more(&mut self.reads, 1),
+            Out::Undone(_) => more(&mut self.undone, 1),
+            Out::Saved(_) => more(&mut self.savepoints, 1),
+            Out::Back { .. } => more(&mut self.backs, 1),
+            Out::RolledBack(_) => more(&mut self.rolled_back, 1),
+            Out::Stable { committed, .. } | Out::Connects { committed, .. } => {
+                more(&mut self.committed, committed.as_slice().len());
+            }
+            Out::RedoEnded(_) => more(&mut self.sessions, 1),
+            Out::Refused(refusal) => self.count_refusal(*refusal, committing),
+            _ => {}
+        }
+    }
+
+    fn count_refusal(&mut self, refusal: Refusal, committing: &[u64]) {
+        match refusal {
+            Refusal::Busy(holder) => {
+                more(&mut self.busy, 1);
+                more(
+                    &mut self.busy_committing,
+                    usize::from(committing.contains(&holder)),
+                );
+            }
+            Refusal::Full => more(&mut self.full, 1),
+            Refusal::BadSavepoint => more(&mut self.bad_savepoint, 1),
+            _ => {}
+        }
+    }
+
+    /// The walk wasn't hollow.
+    pub fn assert_enough(&self, rt: &impl Abort) {
+        self.assert_steps(rt);
+        self.assert_ends(rt);
+        self.assert_refusals(rt);
+    }
+
+    fn assert_steps(&self, rt: &impl Abort) {
+        assert!(rt; self.answers > 60, "{self:?}");
+        assert!(rt; self.reads > 30, "{self:?}");
+        assert!(rt; self.undone > 15, "{self:?}");
+        assert!(rt; self.savepoints > 100, "{self:?}");
+    }
+
+    fn assert_ends(&self, rt: &impl Abort) {
+        assert!(rt; self.backs > 8, "{self:?}");
+        assert!(rt; self.rolled_back > 12, "{self:?}");
+        assert!(rt; self.committed > 30, "{self:?}");
+        assert!(rt; self.sessions > 3, "{self:?}");
+    }
+
+    fn assert_refusals(&self, rt: &impl Abort) {
+        assert!(rt; self.busy > 150, "{self:?}");
+        assert!(rt; self.busy_committing > 4, "{self:?}");
+        assert!(rt; self.full > 4, "{self:?}");
+        assert!(rt; self.bad_savepoint > 20, "{self:?}");
+    }
+}
+
+fn more(count: &mut u64, by: usize) {
+    *count = count.saturating_add(by as u64);
+}
