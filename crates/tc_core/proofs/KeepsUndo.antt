@@ -30,7 +30,7 @@ may_undo w o k at none =
     let h = open_at w o k at in record { legal = k.legal; open_txn = h.is; idle = idle_at w.log o h none; last = h.last }
 
 -- what is left to undo is the latest operation that stands
-undo_found : (w : TcView) (o : OpenTxn) → IsTc w → find o.txn w.open_txns ≡ Some o
+pub undo_found : (w : TcView) (o : OpenTxn) → IsTc w → find o.txn w.open_txns ≡ Some o
     → IsLatestOrNone (Stands w.log o.txn) o.undo
 undo_found w o k at =
     let h = open_at w o k at in

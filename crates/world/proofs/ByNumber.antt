@@ -3,10 +3,6 @@ use Rattle.std.proofs.Common.{◌≡◌, ℕ, ◌+◌, zero, suc, List, [], ◌�
 use Rattle.std.specs.List.{AllByRecursion}
 use Rattle.world.specs.Messages.{message_at}
 
-pub all_map : {A : Type 0} (P Q : A → Type 0) → ((x : A) → P x → Q x) → (xs : List A) → AllByRecursion P xs → AllByRecursion Q xs
-all_map P Q each [] all = tt
-all_map P Q each (x ∷ xs) all = (each x all.0, all_map P Q each xs all.1)
-
 pub all_push : {A : Type 0} (P : A → Type 0) (xs : List A) (x : A) → AllByRecursion P xs → P x → AllByRecursion P (xs ++ x ∷ [])
 all_push P [] x all last = (last, tt)
 all_push P (y ∷ xs) x all last = (all.0, all_push P xs x all.1 last)

@@ -50,8 +50,10 @@ use Rattle.log_laws.proofs.Records.{op_step, op_request}
 use Rattle.compensation.specs.NextUndo.{IsUndone}
 use Rattle.std.proofs.Math.Bool.{or-true}
 use Rattle.codec.specs.declared.request.Request.{Request}
-use Rattle.world.proofs.Undone.{latest_left, undone_above}
-use Rattle.world.proofs.Idle.{IsIdleTxn, both_none, one_false, two_false, by_number, idle_found, found_idle, waits_for_none, not_not}
+use Rattle.tc_core.proofs.KeepsUndo.{undo_found}
+use Rattle.world.proofs.Undone.{undone_above}
+use Rattle.tc_core.proofs.Refused.{at_number}
+use Rattle.world.proofs.Idle.{IsIdleTxn, both_none, one_false, two_false, idle_found, found_idle, waits_for_none, not_not}
 
 -- no number is spent
 unspent : (b : Bool) → first_of ((b, NumbersSpent) ∷ []) ≡ None → b ≡ false
@@ -156,7 +158,7 @@ force_keeps old new (Err r) k h = subst IsTc (sym h.1) (keeps_failed old k)
 -- what is left to undo can be compensated
 fits_comp : (w : TcView) (o : OpenTxn) → IsTc w → find o.txn w.open_txns ≡ Some o → o.waiting ≡ None → 0 < o.undo
     → Fits w.log (is.Comp o.txn o.undo (next_of w.log o.undo) (inverse_at w.log o.undo))
-fits_comp w o k at none some = by (latest_left w o k at)
+fits_comp w o k at none some = by (undo_found w o k at)
   where
     by : IsLatestOrNone (Stands w.log o.txn) o.undo → Fits w.log (is.Comp o.txn o.undo (next_of w.log o.undo) (inverse_at w.log o.undo))
     by (inr zero) = absurd (omega (arith, zero.0, some))
@@ -188,14 +190,14 @@ undoes_keeps old new t o None (undo.RolledBack u) k at allowed rolling h = absur
 undoes_keeps old new t o None (undo.Back u s) k at allowed rolling h = absurd h
 undoes_keeps old new t o (Some r) undo.Idle k at allowed rolling h = absurd h
 undoes_keeps old new t o (Some r) (undo.Compensated n) k at allowed rolling h =
-    let found = by_number old t o at in
+    let found = at_number old t o at in
     let both = both_none (answered_refusal old t) (first_of ((undo_logs (find t old.open_txns) && is_spent old.log, NumbersSpent) ∷ [])) allowed in
     let above : nat_lt r.above o.undo ≡ true = grind (arith, nat_tests, h.0) in
     let logged : undo_logs (find t old.open_txns) ≡ true = ap undo_logs found ∙ ap (logs_next o.undo) rolling ∙ ap (λ b. b || not (is_some r.savepoint)) above in
     let none = waits_for_none old t o at both.0 in
     subst IsTc (sym h.2) (keeps_comp old o r k at.is none.0 rolling (fits_comp old o k at.is none.0 (omega (arith, h.0))) (logged_unspent (undo_logs (find t old.open_txns)) (is_spent old.log) logged both.1))
 undoes_keeps old new t o (Some r) (undo.RolledBack u) k at allowed rolling h =
-    let found = by_number old t o at in
+    let found = at_number old t o at in
     let both = both_none (answered_refusal old t) (first_of ((undo_logs (find t old.open_txns) && is_spent old.log, NumbersSpent) ∷ [])) allowed in
     let logged : undo_logs (find t old.open_txns) ≡ true =
     ap undo_logs found ∙ ap (logs_next o.undo) rolling ∙ ap (λ (s : Option ℕ). nat_lt r.above o.undo || not (is_some s)) h.1 ∙ or-true (nat_lt r.above o.undo) in

@@ -20,6 +20,7 @@ use Rattle.tc_core.specs.Changes.{let_go}
 use Rattle.tc_core.specs.Kept.{commits_in}
 use Rattle.tc_core.specs.Locking.{is_listed}
 use Rattle.world.specs.Simulation.{told_committed}
+use Rattle.tc_core.proofs.Committing.{none_committing}
 
 -- a Commit above the stable records
 pub record IsUnstableCommit (log : List Record) (stable t : ℕ) : Type 0 where
@@ -62,28 +63,6 @@ listed_commit [] stable t h = absurd (true≢false (sym h))
 listed_commit (is.Commit u ∷ log) stable t h = newest_listed log stable t u (listed_commit log stable t) (nat_lt stable (length log + 1)) refl h
 listed_commit (r ∷ log) stable t h = in_longer r log stable t (listed_commit log stable t h)
 
--- and isn't open
-pub listed_ended : (log : List Record) (stable t : ℕ) → is_listed (commits_in log stable) t ≡ true → has_ended log t ≡ true
-listed_ended log stable t h = let c = listed_commit log stable t h in end_ends log t c.number (inl c.is)
-
-pub open_unlisted : (log : List Record) (stable t : ℕ) → IsOpen log t → is_listed (commits_in log stable) t ≡ false
-open_unlisted log stable t is_open = elim (cases_Bool (is_listed (commits_in log stable) t)) [
-  | inl listed ↦ absurd (true≢false (sym (listed_ended log stable t listed) ∙ is_open.goes_on))
-  | inr unlisted ↦ unlisted
-]
-
--- who isn't listed keeps what it holds
-or_false : (a b : Bool) → (a || b) ≡ false → (a ≡ false) × (b ≡ false)
-or_false true b h = absurd (true≢false h)
-or_false false b h = (refl, h)
-
-pub let_go_other : (ts : List ℕ) (locks : LocksView) (t : ℕ) → IsTable locks → is_listed ts t ≡ false → spans_of (let_go ts locks) t ≡ spans_of locks t
-let_go_other [] locks t table unlisted = refl
-let_go_other (u ∷ ts) locks t table unlisted =
-    let both = or_false (u == t) (is_listed ts t) unlisted in
-    let other : t ≢ u = λ e. true≢false (sym (eq-eqb u t (sym e)) ∙ both.0) in
-    let_go_other ts (set_spans u [] locks) t (set_table u [] locks table) both.1 ∙ set_other u [] locks t table other
-
 -- what is told up to a number, and of the next
 told_more : (log : List Record) (stable k : ℕ) → told_after log stable (suc k) ≡ told_after log stable k ++ told_at (record_at log (stable + k + 1))
 told_more log stable zero =
@@ -101,19 +80,6 @@ told_same r log stable (suc k) within =
     let apart : stable + 1 ≢ length log + 1 = λ e. omega (arith, e, within) in
     ap (λ (x : Option Record). told_at x ++ told_after (r ∷ log) (stable + 1) k) (record_old r log (stable + 1) apart)
     ∙ ap (λ (lines : List Line). told_at (record_at log (stable + 1)) ++ lines) (told_same r log (stable + 1) k (omega (arith, within)))
-
-none_above : (log : List Record) (stable : ℕ) → length log ≤ stable → commits_in log stable ≡ []
-none_above [] stable most = refl
-none_above (is.Commit t ∷ log) stable most =
-    let below : nat_lt stable (length log + 1) ≡ false = grind (arith, nat_tests) in
-    ap (λ b. if b then commits_in log stable ++ t ∷ [] else []) below
-none_above (is.Session ∷ log) stable most = none_above log stable (omega (arith, most))
-none_above (is.Begin ∷ log) stable most = none_above log stable (omega (arith, most))
-none_above (is.Op t p o ∷ log) stable most = none_above log stable (omega (arith, most))
-none_above (is.Answer n a ∷ log) stable most = none_above log stable (omega (arith, most))
-none_above (is.Comp t u x i ∷ log) stable most = none_above log stable (omega (arith, most))
-none_above (is.End t ∷ log) stable most = none_above log stable (omega (arith, most))
-none_above (is.Checkpoint l ∷ log) stable most = none_above log stable (omega (arith, most))
 
 -- the newest record tells of its Commit
 one_more : (r : Record) (log : List Record) (stable : ℕ) → stable ≤ length log
@@ -133,7 +99,7 @@ one_more (is.Checkpoint l) log stable within = append-nil (told_committed (commi
 pub told_commits : (log : List Record) (stable k : ℕ) → stable + k ≡ length log → told_after log stable k ≡ told_committed (commits_in log stable)
 told_commits [] stable zero end = refl
 told_commits [] stable (suc k) end = absurd (omega (arith, end))
-told_commits (r ∷ log) stable zero end = sym (ap told_committed (none_above (r ∷ log) stable (omega (arith, end))))
+told_commits (r ∷ log) stable zero end = sym (ap told_committed (none_committing (r ∷ log) stable (omega (arith, end))))
 told_commits (r ∷ log) stable (suc k) end =
     let here : stable + k ≡ length log = omega (arith, end) in
     let place : stable + k + 1 ≡ length log + 1 = omega (arith, here) in

@@ -137,7 +137,7 @@ stops_of w tc q (o ∷ []) r new has h = by o h.1 h.2
         elim (subst rest s.3 h.3) [
           | inl memory ↦ inl memory.0
           | inr refused ↦ elim refused [
-            | inl none ↦ absurd (no_message w.replies s.0 none.0.1)
+            | inl left ↦ elim left.0 [ inl none ↦ absurd (no_message w.replies s.0 none.1) | inr unread ↦ inl unread.memory ]
             | inr found ↦
                 let same : found.reply ≡ s.0 = some_one (message_at (w.replies ++ s.0 ∷ []) (length w.replies + 1)) found.reply s.0 found.found (last_at w.replies s.0) in
                 let P : Reply → Type 0 = λ x. ReplyGives tc x (Err r) new.tc in

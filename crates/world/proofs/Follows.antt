@@ -39,7 +39,7 @@ use Rattle.tc_core.proofs.Finding.{found_number}
 use Rattle.log_laws.proofs.LegalLogs.{begun_number}
 use Rattle.log_laws.proofs.Named.{ended_begun}
 use Rattle.tc_core.proofs.KeepsTc.{keeps_failed as tc_failed}
-use Rattle.world.proofs.Committing.{listed_ended}
+use Rattle.tc_core.proofs.Committing.{committing_ended}
 use Rattle.world.specs.declared.event.Event.{Event}
 use Rattle.world.specs.declared.event.Event.TheVariants as event
 use Rattle.world.specs.declared.event.Out.{Out}
@@ -51,7 +51,8 @@ use Rattle.world.proofs.Undone.{undone_above}
 use Rattle.world.proofs.CallsKeep.{commit_found, begin_keeps, act_keeps, read_keeps, save_keeps, back_keeps, rollback_keeps, commit_keeps, undo_keeps, force_keeps}
 use Rattle.world.proofs.Standing.{stands_begun, stands_acted, stands_asked, stands_saved, stands_going_back, stands_rolled, stands_committed, stands_compensated, stands_ended, stands_back, stands_forced}
 use Rattle.world.proofs.Refused.{RefusesSo, begin_refused, act_refused, read_refused, same_span, save_refused, back_refused, rollback_refused, commit_refused}
-use Rattle.world.proofs.Idle.{IsIdleTxn, both_none, one_false, by_number, idle_found, found_idle, waits_for_none}
+use Rattle.tc_core.proofs.Refused.{at_number}
+use Rattle.world.proofs.Idle.{IsIdleTxn, both_none, one_false, idle_found, found_idle, waits_for_none}
 use Rattle.world.proofs.Readers.{NoneAnew, ReadsOnly, none_same, none_begun, none_replaced, none_without, reads_same, reads_none}
 use Rattle.world.proofs.Keeps.{still_captured, asked_captured, keeps_appended, keeps_same_log}
 
@@ -123,7 +124,7 @@ next_unfound w k = by (find (length w.log + 1) w.open_txns) refl
 next_unlisted : (w : TcView) → IsTc w → is_listed w.committing (length w.log + 1) ≡ false
 next_unlisted w k = elim (cases_Bool (is_listed w.committing (length w.log + 1))) [
   | inl listed ↦
-      let over = listed_ended w.log w.stable (length w.log + 1) (sym (ap (λ (ts : List ℕ). is_listed ts (length w.log + 1)) k.committing) ∙ listed) in
+      let over = committing_ended w.log w.stable (length w.log + 1) (sym (ap (λ (ts : List ℕ). is_listed ts (length w.log + 1)) k.committing) ∙ listed) in
       let bounded = (begun_number w.log (length w.log + 1) (ended_begun w.log (length w.log + 1) k.legal over)).bounded in
       absurd (omega (arith, bounded))
   | inr free ↦ free
@@ -243,7 +244,7 @@ follows_save old new t (out.Saved s) k h =
     let allowed = both_none (idle_refusal old.tc t) (first_of ((nat_le 16 (length (saves_of (find t old.tc.open_txns))), Full) ∷ [])) a.allowed in
     let idle = idle_found old.tc t o a.at allowed.0 in
     let few : nat_le 16 (length o.saves) ≡ false =
-    sym (ap (λ (x : Option OpenTxn). nat_le 16 (length (saves_of x))) (by_number old.tc t o a.at)) ∙ one_false (nat_le 16 (length (saves_of (find t old.tc.open_txns)))) Full allowed.1 in
+    sym (ap (λ (x : Option OpenTxn). nat_le 16 (length (saves_of x))) (at_number old.tc t o a.at)) ∙ one_false (nat_le 16 (length (saves_of (find t old.tc.open_txns)))) Full allowed.1 in
     let after : IsTc tc = subst IsTc a.saved (save_keeps old.tc new.tc t (Ok s) k.tc a) in
     at_tc old new tc (event.Save t) (out.Saved s) h.1 a.saved (record {
       leads = one_line old (with_tc old tc) (event.Save t) (out.Saved s) (saves_line t s) refl

@@ -28,7 +28,7 @@ use Rattle.tc_core.specs.TcView.{TcView}
 use Rattle.tc_core.specs.Kept.{IsTc}
 use Rattle.world.specs.Node.{NodeView, with_tc}
 use Rattle.world.specs.Kept.{IsKept, IsAnsweredTo, IsReadTrue, IsSent, IsAnswered, IsValue, AreRows, IsGiven, AreSessions}
-use Rattle.world.proofs.ByNumber.{all_map}
+use Rattle.record_key.proofs.Lists.{all_from}
 use Rattle.world.proofs.Readers.{NoneAnew}
 
 -- the same log, or with one record more
@@ -126,10 +126,10 @@ keeps_on w tc k is on sessions right answered = record {
   right = right;
   whole = k.whole;
   honest = extend (λ log. IsHonestLeaf log w.dc.leaf) w.tc.log tc.log on.log (λ r. honest_uncaptured r w.tc.log w.dc.leaf (uncaptured_next w k)) k.honest;
-  stable = all_map (λ (e : Entry). e.number ≤ w.tc.stable) (λ (e : Entry). e.number ≤ tc.stable) (λ e h. omega (arith, h, on.stable)) w.dc.leaf.ab.entries k.stable;
+  stable = all_from (λ (e : Entry). e.number ≤ w.tc.stable) (λ (e : Entry). e.number ≤ tc.stable) (λ e h. omega (arith, h, on.stable)) w.dc.leaf.ab.entries k.stable;
   low = answered_on w.tc tc w.dc.leaf.ab.low on k.low;
   answered = answered;
-  sent = all_map (IsSent w.tc) (IsSent tc) (sent_on w.tc tc on) w.requests k.sent;
-  given = all_map (IsGiven w.tc w.dc) (IsGiven tc w.dc) (given_on w.tc tc w.dc on) w.replies k.given;
+  sent = all_from (IsSent w.tc) (IsSent tc) (sent_on w.tc tc on) w.requests k.sent;
+  given = all_from (IsGiven w.tc w.dc) (IsGiven tc w.dc) (given_on w.tc tc w.dc on) w.replies k.given;
   sessions = sessions;
 }

@@ -11,6 +11,7 @@ use Rattle.tc_core.specs.OpenTxns.{find}
 use Rattle.tc_core.specs.TcView.{TcView, is_unconnected, is_running, is_rolling, is_waiting}
 use Rattle.tc_core.specs.Causes.{running_refusal, idle_refusal, open_refusal, answered_refusal}
 use Rattle.tc_core.specs.Calls.{IsAt}
+use Rattle.tc_core.proofs.Refused.{at_number}
 
 -- it neither rolls back nor waits
 pub record IsIdleTxn (o : OpenTxn) : Type 0 where
@@ -41,13 +42,9 @@ none_waits None None h = (refl, refl)
 none_waits None (Some r) h = absurd (true≢false h)
 none_waits (Some n) r h = absurd (true≢false h)
 
--- it is found by the number that was named
-pub by_number : (w : TcView) (t : ℕ) (o : OpenTxn) → IsAt w t o → find t w.open_txns ≡ Some o
-by_number w t o at = let P : ℕ → Type 0 = λ u. find u w.open_txns ≡ Some o in subst P at.number at.is
-
 pub idle_found : (w : TcView) (t : ℕ) (o : OpenTxn) → IsAt w t o → idle_refusal w t ≡ None → IsIdleTxn o
 idle_found w t o at allowed =
-    let found = by_number w t o at in
+    let found = at_number w t o at in
     let both = two_false (is_rolling (find t w.open_txns)) (is_waiting (find t w.open_txns)) RollingBack Unanswered
     (both_none (open_refusal w t) (first_of ((is_rolling (find t w.open_txns), RollingBack) ∷ (is_waiting (find t w.open_txns), Unanswered) ∷ [])) allowed).1 in
     let none = none_waits o.waiting o.reading (sym (ap is_waiting found) ∙ both.1) in
@@ -67,5 +64,5 @@ found_idle w t h =
 pub waits_for_none : (w : TcView) (t : ℕ) (o : OpenTxn) → IsAt w t o → answered_refusal w t ≡ None → (o.waiting ≡ None) × (o.reading ≡ None)
 waits_for_none w t o at allowed =
     none_waits o.waiting o.reading
-    (sym (ap is_waiting (by_number w t o at))
+    (sym (ap is_waiting (at_number w t o at))
     ∙ one_false (is_waiting (find t w.open_txns)) Unanswered (both_none (open_refusal w t) (first_of ((is_waiting (find t w.open_txns), Unanswered) ∷ [])) allowed).1)

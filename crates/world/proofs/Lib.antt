@@ -7,6 +7,7 @@ pub mod Counting
 pub mod Exchanges
 pub mod Falls
 pub mod Follows
+pub mod Framed
 pub mod Grows
 pub mod Headline
 pub mod Idle
@@ -27,6 +28,7 @@ pub mod Sends
 pub mod Serves
 pub mod Settled
 pub mod Shares
+pub mod Spellable
 pub mod Standing
 pub mod Told
 pub mod ToldReads

@@ -34,11 +34,11 @@ use Rattle.tc_core.specs.declared.open_txn.OpenTxn.{OpenTxn}
 use Rattle.tc_core.specs.OpenTxns.{find}
 use Rattle.tc_core.specs.Changes.{shared}
 use Rattle.tc_core.proofs.Finding.{found_own}
-use Rattle.world.proofs.ByNumber.{all_map}
+use Rattle.record_key.proofs.Lists.{all_from}
 use Rattle.tc_core.proofs.HeldSpans.{within_itself}
 use Rattle.world.proofs.Rows.{rows_alike}
 use Rattle.world.proofs.Unread.{unread}
-use Rattle.world.proofs.Repeats.{in_fences}
+use Rattle.dc_core.proofs.KeepsDc.{in_fences}
 
 abbrev pub with_dc : NodeView → DcView → NodeView
 with_dc w dc = record w { dc = dc }
@@ -129,7 +129,7 @@ module _ (w : NodeView) (n : ℕ) (o : Op) (k : IsKept w) (stable : n ≤ w.tc.s
       low = k.low;
       answered = λ m q asks some. captures_more m (k.answered m q asks some);
       sent = k.sent;
-      given = all_map (IsGiven w.tc w.dc) (IsGiven w.tc (performs w.dc n o)) given_more w.replies k.given;
+      given = all_from (IsGiven w.tc w.dc) (IsGiven w.tc (performs w.dc n o)) given_more w.replies k.given;
       sessions = record { runs = k.sessions.runs; begun = k.sessions.begun; served = served_still w.tc.phase w.tc.session w.dc leaf (performs w.dc n o).performed k.sessions.served };
     };
     given = record { op = o; requests = requests; right = right_answer w.tc.log w.dc.leaf n o k.honest next_on; captured = captures_it };
@@ -178,6 +178,6 @@ module _ (w : NodeView) (l : ℕ) (k : IsKept w) (to : IsAnsweredTo w.tc l) wher
     low = answered_low (nat_lt w.dc.leaf.ab.low l) refl;
     answered = λ m q asks some. rises_captures m (k.answered m q asks some);
     sent = k.sent;
-    given = all_map (IsGiven w.tc w.dc) (IsGiven w.tc (lowered w.dc l)) given_lowered w.replies k.given;
+    given = all_from (IsGiven w.tc w.dc) (IsGiven w.tc (lowered w.dc l)) given_lowered w.replies k.given;
     sessions = record { runs = k.sessions.runs; begun = k.sessions.begun; served = served_still w.tc.phase w.tc.session w.dc (raised_to w.dc.leaf l) w.dc.performed k.sessions.served };
   }

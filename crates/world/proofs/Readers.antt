@@ -19,7 +19,7 @@ abbrev pub NoneAnew : ℕ → List OpenTxn → List OpenTxn → Type 0
 NoneAnew reads os news =
     (t : ℕ) (o : OpenTxn) (n : ℕ) (s : Span) → find t news ≡ Some o → o.reading ≡ Some (record { number = n; span = s }) → n ≤ reads → IsAsked os n s
 
-some_txn : (x : Option OpenTxn) (o p : OpenTxn) → x ≡ Some o → x ≡ Some p → o ≡ p
+pub some_txn : (x : Option OpenTxn) (o p : OpenTxn) → x ≡ Some o → x ≡ Some p → o ≡ p
 some_txn x o p a b = let e : Some o ≡ Some p = sym a ∙ b in cc
 
 pub none_same : (reads : ℕ) (os : List OpenTxn) → NoneAnew reads os os

@@ -12,12 +12,9 @@ use Rattle.ab_lsn.specs.AbLsn.{AbLsnView, captures, saved_in}
 use Rattle.record_key.specs.Entries.{numbers}
 use Rattle.page.specs.Leaf.{LeafView, is_in_fences}
 use Rattle.page.specs.Honest.{IsSavedRight}
+use Rattle.dc_core.proofs.KeepsDc.{in_fences}
 use Rattle.world.specs.Node.{NodeView}
 use Rattle.world.specs.Kept.{IsKept, IsAnswered}
-
--- without fences every key is in them
-pub in_fences : (leaf : LeafView) (k : Bytes) → leaf.low_fence ≡ None → leaf.high_fence ≡ None → is_in_fences leaf k ≡ true
-in_fences leaf k low high = rw (low, high) refl
 
 -- the answer that is saved is one of the entries'
 pub record IsFound (P : Entry → Type 0) (n : ℕ) (a : Answer) : Type 0 where

@@ -24,7 +24,8 @@ use Rattle.tc_core.specs.Calls.{UndoesStep, Undoes}
 use Rattle.tc_core.specs.declared.told.UndoStep.{UndoStep}
 use Rattle.tc_core.specs.declared.told.UndoStep.TheVariants as undo
 use Rattle.history.specs.Legal.{IsLatestOrNone, Stands}
-use Rattle.world.proofs.Undone.{latest_left}
+use Rattle.tc_core.proofs.KeepsUndo.{undo_found}
+use Rattle.world.proofs.Readers.{some_txn}
 use Rattle.world.specs.declared.event.Out.{Out}
 use Rattle.world.specs.declared.event.Out.TheVariants as out
 use Rattle.world.specs.Node.{NodeView, UndoesTo, ForcesTo}
@@ -71,7 +72,7 @@ falls_force old new _ k running is_forced h d = absurd h
 -- a rollback
 -- a compensation: one operation less is left
 falls_comp : (w : TcView) (o : OpenTxn) (b : Rollback) → IsTc w → w.phase ≡ phase.Running → find o.txn w.open_txns ≡ Some o → o.rolling ≡ Some b → b.above < o.undo → rounds_left (compensated w o) < rounds_left w
-falls_comp w o b k running at rolling above = by (latest_left w o k at)
+falls_comp w o b k running at rolling above = by (undo_found w o k at)
   where
     by : IsLatestOrNone (Stands w.log o.txn) o.undo → rounds_left (compensated w o) < rounds_left w
     by (inr none) = absurd (omega (arith, none.0, above))
@@ -109,17 +110,13 @@ falls_back w o b k running at rolling =
     let flag = worth (list_any is_busy (is_back w o).open_txns || nat_lt w.stable (length w.log)) in
     rw (running, busy_rolling w.open_txns o.txn o at (ap is_some rolling)) (omega (arith, was, will, step, flag))
 
--- one number has one transaction
-one_open : (x : Option OpenTxn) (o p : OpenTxn) → x ≡ Some o → x ≡ Some p → o ≡ p
-one_open x o p a b = let e : Some o ≡ Some p = sym a ∙ b in cc
-
 -- whoever is undone for rolls back, and each step of it takes a round
 module _ (old new : NodeView) (t : ℕ) (k : IsKept old) (running : old.tc.phase ≡ phase.Running) (next : IsRolling old.tc t) where
   falls_step : (step : UndoStep) → UndoesStep old.tc t step new.tc → rounds_left new.tc < rounds_left old.tc
   falls_step step u = by u.open_txn.rolling refl step u.undoes
     where
       same : next.open_txn ≡ u.open_txn
-      same = one_open (find t old.tc.open_txns) next.open_txn u.open_txn next.is (subst (λ (v : ℕ). find v old.tc.open_txns ≡ Some u.open_txn) u.at.number u.at.is)
+      same = some_txn (find t old.tc.open_txns) next.open_txn u.open_txn next.is (subst (λ (v : ℕ). find v old.tc.open_txns ≡ Some u.open_txn) u.at.number u.at.is)
 
       by : (x : Option Rollback) → u.open_txn.rolling ≡ x → (step : UndoStep) → Undoes old.tc u.open_txn x step new.tc → rounds_left new.tc < rounds_left old.tc
       by None flat step h = absurd (true≢false (sym next.rolling ∙ ap rolls_back same ∙ ap is_some flat))

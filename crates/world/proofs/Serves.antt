@@ -21,7 +21,7 @@ use Rattle.tc_core.specs.declared.phase.Phase.{Phase}
 use Rattle.tc_core.specs.declared.phase.Phase.TheVariants as phase
 use Rattle.world.specs.Node.{NodeView}
 use Rattle.world.specs.Kept.{IsKept, IsSent, IsValue, AreRows, IsGiven, IsServed, AreSessions}
-use Rattle.world.proofs.ByNumber.{all_map}
+use Rattle.record_key.proofs.Lists.{all_from}
 use Rattle.world.proofs.Repeats.{repeated}
 use Rattle.world.proofs.Performs.{IsServing, with_dc, performs_next, lowers}
 
@@ -84,7 +84,7 @@ in_session w stored session redo k more stay sessions = record {
   low = k.low;
   answered = k.answered;
   sent = k.sent;
-  given = all_map (IsGiven w.tc w.dc) (IsGiven w.tc (record w.dc { stored = stored; session = session; redo = redo })) (given_later w stored session redo more stay) w.replies k.given;
+  given = all_from (IsGiven w.tc w.dc) (IsGiven w.tc (record w.dc { stored = stored; session = session; redo = redo })) (given_later w stored session redo more stay) w.replies k.given;
   sessions = sessions;
 }
 

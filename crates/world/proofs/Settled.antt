@@ -38,7 +38,7 @@ use Rattle.world.proofs.Awaited.{IsOpOf, op_waited}
 use Rattle.world.proofs.Idle.{none_rolls}
 use Rattle.world.proofs.Reading.{flat_undoes_none}
 use Rattle.world.proofs.Grows.{captured_stable}
-use Rattle.world.proofs.Repeats.{in_fences}
+use Rattle.dc_core.proofs.KeepsDc.{in_fences}
 use Rattle.world.proofs.PlainAt.{plain_at}
 use Rattle.world.proofs.Waited.{IsAwaited, answered_or}
 

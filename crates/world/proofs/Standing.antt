@@ -48,7 +48,9 @@ use Rattle.tc_core.specs.Kept.{IsTc, commits_in}
 use Rattle.tc_core.proofs.Finding.{find_here, find_there, found_number, without_same}
 use Rattle.world.specs.Simulation.{query_of, doing_of, doing_in, clients, told_committed}
 use Rattle.world.proofs.Clients.{put_is, doing_now, doing_kept, saves_replaced, saves_kept, doing_without, saves_without, spans_put, rests, awaits, looks, rolls}
-use Rattle.world.proofs.Committing.{IsUnstableCommit, listed_commit, open_unlisted, let_go_other, told_commits}
+use Rattle.tc_core.proofs.Committing.{open_unlisted}
+use Rattle.tc_core.proofs.LettingGo.{let_go_other}
+use Rattle.world.proofs.Committing.{IsUnstableCommit, listed_commit, told_commits}
 use Rattle.world.proofs.Idle.{IsIdleTxn}
 
 -- whoever isn't open does nothing
@@ -298,7 +300,7 @@ stands_forced w m k stands =
     unlisted t o at =
         let is_open = (k.open_txns.each t o at).is in
         ap (λ (ts : List ℕ). is_listed ts t) k.committing ∙ ap (λ (u : ℕ). is_listed (commits_in w.log w.stable) u) (sym (found_number t w.open_txns o at))
-        ∙ open_unlisted w.log w.stable o.txn is_open
+        ∙ open_unlisted w.log w.stable o.txn is_open.goes_on
 
     freed : (t : ℕ) (x : Option OpenTxn) → find t w.open_txns ≡ x
         → (spans_of (let_go w.committing w.locks) t ≡ spans_of w.locks t) ⊎ ((doing_in (find t w.open_txns) ≡ None) × IsUncommitting (record (clients w) { stable = length w.log }) t)

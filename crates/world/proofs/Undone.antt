@@ -8,16 +8,11 @@ use Rattle.tc_core.specs.OpenTxns.{find}
 use Rattle.tc_core.specs.TcView.{TcView}
 use Rattle.tc_core.specs.Kept.{IsTc}
 use Rattle.tc_core.proofs.KeepsTc.{open_at}
-
--- what is left to undo is the latest operation that stands
-pub latest_left : (w : TcView) (o : OpenTxn) → IsTc w → find o.txn w.open_txns ≡ Some o → IsLatestOrNone (Stands w.log o.txn) o.undo
-latest_left w o k at =
-    let h = open_at w o k at in
-    subst (IsLatestOrNone (Stands w.log o.txn)) (sym h.undo) (latest_found w.log o.txn k.legal o.last h.last)
+use Rattle.tc_core.proofs.KeepsUndo.{undo_found}
 
 -- where nothing above the bound is left, no operation above it stands
 pub undone_above : (w : TcView) (o : OpenTxn) (r : Rollback) → IsTc w → find o.txn w.open_txns ≡ Some o → o.undo ≤ r.above → (n : ℕ) → Stands w.log o.txn n → n ≤ r.above
-undone_above w o r k at most n stands = elim (latest_left w o k at) [
+undone_above w o r k at most n stands = elim (undo_found w o k at) [
   | inl latest ↦ omega (arith, latest.greatest n stands, most)
   | inr none ↦ absurd (none.1 n stands)
 ]

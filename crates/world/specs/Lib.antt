@@ -3,5 +3,7 @@ pub mod Messages
 pub mod Kept
 pub mod Simulation
 pub mod Seen
+pub mod Sent
+pub mod SentReads
 pub mod Bound
 pub mod Rounds

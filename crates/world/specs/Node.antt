@@ -10,6 +10,7 @@ use Rattle.range_locks.specs.declared.span.Span.TheVariants.{Key, Range}
 use Rattle.codec.specs.declared.request.Request.{Request}
 use Rattle.codec.specs.declared.request.Request.TheVariants as asks
 use Rattle.codec.specs.declared.reply.Reply.{Reply}
+use Rattle.codec.specs.Replies.{has_rows}
 use Rattle.dc_core.specs.DcView.{DcView, fresh as fresh_dc}
 use Rattle.dc_core.specs.Serves.{Serves, serve_refusal}
 use Rattle.tc_core.specs.declared.told.Told.{Told}
@@ -28,6 +29,7 @@ use Rattle.world.specs.declared.event.Event.TheVariants as event
 use Rattle.world.specs.declared.event.Out.{Out}
 use Rattle.world.specs.declared.event.Out.TheVariants as out
 use Rattle.world.specs.Messages.{message_at}
+use Rattle.world.specs.Sent.{IsUnread}
 
 -- every message ever sent stands, the oldest first
 pub record NodeView : Type 0 where
@@ -189,7 +191,8 @@ pub record Untaken (old : NodeView) (i : ℕ) (r : Refusal) (new : NodeView) : T
   pub left : new ≡ with_tc old new.tc
 
 abbrev pub TakesTo : NodeView → ℕ → Out → NodeView → Type 0
-TakesTo old i (out.Refused r) new = (IsUnsent old.replies i r × (new ≡ old)) ⊎ Untaken old i r new
+TakesTo old i (out.Refused r) new =
+    ((IsUnsent old.replies i r ⊎ IsUnread Reply has_rows old.replies i r) × (new ≡ old)) ⊎ Untaken old i r new
 TakesTo old i output new = Taken old i output new
 
 -- from old, the event may have this output and leave new

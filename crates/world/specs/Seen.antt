@@ -3,4 +3,4 @@ use Rattle.world.specs.declared.node.Node.{Node}
 use Rattle.world.specs.Node.{NodeView}
 
 abbrev pub seen : Node → NodeView
-seen n = record { tc = n.tc; dc = n.dc; requests = n.requests.items; replies = n.replies.items }
+seen n = record { tc = n.tc; dc = n.dc; requests = n.requests.messages; replies = n.replies.messages }

@@ -9,9 +9,11 @@
 
 mod driving;
 mod event;
+mod message;
 mod messages;
 mod node;
 mod round;
+mod sent;
 mod settling;
 mod world;
 

@@ -4,22 +4,22 @@ ghost use Rattle.world.specs.Node.{fresh_node, StepsTo, out_of, ReconnectsTo, Re
 ghost use Rattle.world.specs.Seen.{seen};
 
 use crate::event::{Event, Out};
-use crate::messages::message;
+use crate::sent::Sent;
 use codec::{Reply, Request};
 use dc_core::Dc;
 use range_locks::Span;
 use record_key::{Key, Op, Refusal};
-use std::alloc::Global;
 use stable::MemLog;
+use std::alloc::Global;
 use tc_core::{Connecting, Forced, RecoverStep, Tc, Told, UndoStep};
 
-/// A transaction component with its log in memory, a data component, and every message ever sent, the oldest first.
+/// A transaction component with its log in memory, a data component, and every message ever sent.
 #[derive(Drop)]
 pub struct Node {
     pub tc: Tc<MemLog>,
     pub dc: Dc,
-    pub requests: Vec<Request>,
-    pub replies: Vec<Reply>,
+    pub requests: Sent<Request>,
+    pub replies: Sent<Reply>,
 }
 
 impl Node {
@@ -29,8 +29,8 @@ impl Node {
         Node {
             tc: Tc::new(alloc, MemLog::new(alloc)),
             dc: Dc::new(alloc),
-            requests: Vec::new(alloc),
-            replies: Vec::new(alloc),
+            requests: Sent::new(alloc),
+            replies: Sent::new(alloc),
         }
     }
 
@@ -71,11 +71,11 @@ impl Node {
         ensures done { ReconnectsTo (seen self.old) (out_of result) (seen self.new) }
     {
         self.tc.can_log()?;
-        self.requests.reserve(1)?;
+        self.requests.make_room()?;
         let Connecting { request, committed } = self.tc.reconnect()?;
-        self.requests.push_reserved(request);
+        self.requests.push_reserved(&request);
         Ok(Out::Connects {
-            request: self.requests.len() as u64,
+            request: self.requests.len(),
             committed,
         })
     }
@@ -83,14 +83,15 @@ impl Node {
     fn recover(&mut self) -> Result<Out, Refusal>
         ensures done { RecoversTo (seen self.old) (out_of result) (seen self.new) }
     {
+        self.tc.kept();
         if self.tc.phase().is_recovering() {
-            self.requests.reserve(1)?;
+            self.requests.make_room()?;
         }
         match self.tc.recover_step()? {
             RecoverStep::Nothing => Ok(Out::Nothing),
             RecoverStep::Sends(request) => {
-                self.requests.push_reserved(request);
-                Ok(Out::Sent(self.requests.len() as u64))
+                self.requests.push_reserved(&request);
+                Ok(Out::Sent(self.requests.len()))
             }
         }
     }
@@ -166,32 +167,35 @@ impl Node {
     fn send(&mut self, txn: u64) -> Result<Out, Refusal>
         ensures done { SendsTo (seen self.old) txn (out_of result) (seen self.new) }
     {
+        self.tc.kept();
         let request = self.tc.resend(txn)?;
-        self.requests.push(request)?;
-        Ok(Out::Sent(self.requests.len() as u64))
+        self.requests.push(&request)?;
+        Ok(Out::Sent(self.requests.len()))
     }
 
     fn low_water(&mut self, low: u64) -> Result<Out, Refusal>
         ensures done { LowersTo (seen self.old) low (out_of result) (seen self.new) }
     {
+        self.tc.kept();
         let request = self.tc.low_water(low)?;
-        self.requests.push(request)?;
-        Ok(Out::Sent(self.requests.len() as u64))
+        self.requests.push(&request)?;
+        Ok(Out::Sent(self.requests.len()))
     }
 
     fn request(&mut self, number: u64) -> Result<Out, Refusal>
         ensures done { ServesTo (seen self.old) number (out_of result) (seen self.new) }
     {
-        let request = message(self.requests.as_slice(), number)?;
-        self.dc.allows(request)?;
-        if has_reply(request) {
-            self.replies.reserve(1)?;
+        let request = self.requests.message(number)?;
+        self.dc.allows(&request)?;
+        if has_reply(&request) {
+            self.replies.make_room()?;
         }
-        match self.dc.serve(request)? {
+        match self.dc.serve(&request)? {
             None => Ok(Out::Noted),
             Some(reply) => {
-                self.replies.push_reserved(reply);
-                Ok(Out::Replied(self.replies.len() as u64))
+                // Only rows may lack room, and whoever reads them changes nothing.
+                self.replies.push(&reply)?;
+                Ok(Out::Replied(self.replies.len()))
             }
         }
     }
@@ -199,8 +203,8 @@ impl Node {
     fn reply(&mut self, number: u64) -> Result<Out, Refusal>
         ensures done { TakesTo (seen self.old) number (out_of result) (seen self.new) }
     {
-        let reply = message(self.replies.as_slice(), number)?;
-        Ok(out_of_told(self.tc.on_reply(reply)?))
+        let reply = self.replies.message(number)?;
+        Ok(out_of_told(self.tc.on_reply(&reply)?))
     }
 }
 

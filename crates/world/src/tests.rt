@@ -4,6 +4,7 @@ mod allocating;
 mod events;
 mod repeating;
 mod rounds;
+mod sent;
 
 use super::*;
 use record_key::{Answer, Key, Op, Refusal, Value};

@@ -97,14 +97,14 @@ impl World {
     pub fn requests(&self) -> u64
         ensures { result ≡ length self.now.requests }
     {
-        self.node.requests.len() as u64
+        self.node.requests.len()
     }
 
     /// How many replies were given.
     pub fn replies(&self) -> u64
         ensures { result ≡ length self.now.replies }
     {
-        self.node.replies.len() as u64
+        self.node.replies.len()
     }
 
     /// How many records the log has.

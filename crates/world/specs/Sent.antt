@@ -1,0 +1,52 @@
+-- Messages kept as their frames, one after another in a buffer, with the place of each.
+use Rattle.std.specs.Prelude.{◌≡◌, ℕ, ◌<◌, ◌^◌, Bool, true, List, Some, ◌++◌, length, drop}
+use Rattle.record_key.specs.declared.refusal.Refusal.{Refusal}
+use Rattle.record_key.specs.declared.refusal.Refusal.TheVariants.{NoMemory}
+use Rattle.codec.specs.Frames.{frame, any_length}
+use Rattle.codec.specs.Reading.{Reader, frame_at, within, request_at, reply_at}
+use Rattle.codec.specs.Replies.{reply_bytes, IsReply}
+use Rattle.codec.specs.declared.request.Request.{Request}
+use Rattle.codec.specs.declared.request.Request.TheVariants as asks
+use Rattle.codec.specs.declared.reply.Reply.{Reply}
+use Rattle.codec.specs.declared.reply.Reply.TheVariants as says
+use Rattle.world.specs.Messages.{message_at}
+use Rattle.codec.specs.declared.taken.Taken.{Taken}
+use Rattle.codec.specs.declared.taken.Taken.TheVariants as took
+
+-- what is seen of them: the messages, the oldest first, and whether there is room for one more without rows
+pub record SentView (X : Type 0) : Type 0 where
+  pub messages : List X
+  pub has_room : Bool
+
+abbrev pub taken_or : {X : Type 0} → X → Taken X → X
+taken_or other (took.Record x next) = x
+taken_or other took.Short = other
+taken_or other (took.Bad place) = other
+
+-- the message whose frame begins at a place of the bytes; another where none does
+unfoldable pub read_there : {X : Type 0} → Reader X → X → List ℕ → ℕ → X
+read_there read other bytes place = taken_or other (within place read (frame_at any_length place (drop place bytes)))
+
+-- the frame of a message that has a spelling begins at a place of the bytes
+pub record StandsAt (X : Type 0) (spell : X → List ℕ) (Fits : X → Type 0) (bytes : List ℕ) (place : ℕ) : Type 0 where
+  pub message : X
+  pub fits : Fits message
+  pub rest : List ℕ
+  pub parts : drop place bytes ≡ frame (spell message) ++ rest
+
+abbrev pub request_there : List ℕ → ℕ → Request
+request_there bytes place = read_there request_at (asks.RedoEnd 0) bytes place
+
+abbrev pub reply_there : List ℕ → ℕ → Reply
+reply_there bytes place = read_there reply_at (says.RedoEnded 0) bytes place
+
+-- a reply that has a spelling, and a length that can be told
+abbrev pub IsFramedReply : Reply → Type 0
+IsFramedReply r = IsReply r × (length (reply_bytes r) < 2 ^ 64)
+
+-- the message of this number has rows, and memory for these was refused
+pub record IsUnread (X : Type 0) (has_rows : X → Bool) (messages : List X) (i : ℕ) (r : Refusal) : Type 0 where
+  pub message : X
+  pub found : message_at messages i ≡ Some message
+  pub long : has_rows message ≡ true
+  pub memory : r ≡ NoMemory
