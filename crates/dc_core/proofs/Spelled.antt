@@ -35,7 +35,8 @@ answer_there : (bytes : List ℕ) (place : ℕ) (a : Answer) → IsAnswerAt byte
 unfolding read_answer
 answer_there bytes place a h = ap answer_taken (taken_there bytes place (answer_record a) h)
 
-pub read_is : (ops answers : List ℕ) (at : Place) (p : Performance) → Spells ops answers at p → read ops answers at ≡ p
+pub read_is : (ops answers : List ℕ) (at : Place) (p : Performance) → Spells ops answers at p
+    → read ops answers at ≡ p
 read_is ops answers at p h = λ i. record {
   number = h.number i;
   op = op_there ops at.op p.op h.op i;
@@ -76,7 +77,8 @@ within bytes place r h =
     omega (arith, some.0, body, all, length-drop place bytes)
 
 -- a frame stands where it stood
-stands_still : (bytes more : List ℕ) (place : ℕ) (r : Record) → StandsAt bytes place r → StandsAt (bytes ++ more) place r
+stands_still : (bytes more : List ℕ) (place : ℕ) (r : Record) → StandsAt bytes place r
+    → StandsAt (bytes ++ more) place r
 stands_still bytes more place r h = record {
   fits = h.fits;
   rest = h.rest ++ more;
@@ -85,7 +87,8 @@ stands_still bytes more place r h = record {
 }
 
 -- the newest stands where the others end
-stands_newest : (bytes : List ℕ) (r : Record) → IsRecord r → StandsAt (bytes ++ frame (record_bytes r)) (length bytes) r
+stands_newest : (bytes : List ℕ) (r : Record) → IsRecord r
+    → StandsAt (bytes ++ frame (record_bytes r)) (length bytes) r
 stands_newest bytes r fits = record {
   fits = fits;
   rest = [];
@@ -102,7 +105,8 @@ module _ (ops answers more also : List ℕ) where
 
   same_read : (at : Place) → Spells ops answers at (read ops answers at)
       → read (ops ++ more) (answers ++ also) at ≡ read ops answers at
-  same_read at h = read_is (ops ++ more) (answers ++ also) at (read ops answers at) (spells_still at (read ops answers at) h)
+  same_read at h = read_is (ops ++ more) (answers ++ also) at (read ops answers at)
+      (spells_still at (read ops answers at) h)
 
   all_still : (places : List Place) → AreSpelled ops answers places → AreSpelled (ops ++ more) (answers ++ also) places
   all_still = all_from (λ (at : Place). Spells ops answers at (read ops answers at))

@@ -111,7 +111,7 @@ impl Dc {
         self.parts.performed.len()
     }
 
-    /// What was performed at this place, from 0, the oldest first. Takes no memory.
+    /// The performance at this place, from 0, the oldest first. Takes no memory.
     pub fn performance(&self, place: u64) -> Option<Performance>
         ensures { result ≡ slice_get (reverse self.now.performed) place }
     {

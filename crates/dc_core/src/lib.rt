@@ -14,6 +14,7 @@ mod performing;
 mod place;
 mod reading;
 mod serving;
+mod spelling;
 
 pub use dc::Dc;
 pub use performance::Performance;

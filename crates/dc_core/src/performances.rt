@@ -1,18 +1,13 @@
 //! What was performed, kept as bytes.
-ghost use Rattle.std.specs.Prelude.{◌≡◌, ◌+◌, ◌≤◌, ◌∷◌, [], ◌++◌, true, false, length, reverse, slice_get, vec_len, IfOk, IfErr, OnErr};
-ghost use Rattle.std.specs.Vec.{vec_capacity};
+ghost use Rattle.std.specs.Prelude.{◌≡◌, ◌∷◌, [], true, false, length, reverse, slice_get, IfOk, IfErr, OnErr};
 ghost use Rattle.record_key.specs.Table.{key_of};
 ghost use Rattle.ab_lsn.specs.AbLsn.{captures};
 ghost use Rattle.page.specs.Leaf.{is_in_fences};
 ghost use Rattle.page.specs.Performs.{Performs};
-ghost use Rattle.codec.specs.Frames.{frame};
-ghost use Rattle.codec.specs.Records.{record_bytes, HasNumbers, IsRecord};
-ghost use Rattle.dc_core.specs.Spelled.{op_record, answer_record, read_op, read_answer, IsOpAt, IsAnswerAt};
 
 use crate::performance::Performance;
 use crate::place::Place;
-use codec::{Taken, put_record, take_record};
-use history::Record;
+use crate::spelling::{FRAME_LIMIT, answer_at, answer_record, op_at, op_record, put};
 use page::{Done, Leaf};
 use record_key::{Answer, Op, Refusal};
 use std::alloc::Global;
@@ -21,9 +16,9 @@ use std::marker::Model;
 /// A clause sees a list of performances, the newest first.
 #[derive(Debug, Drop)]
 pub struct Performances {
-    // The frames of the operations, as records of a log.
+    // The frames of the operations, as records of a log. Those of the answers stand apart, so that room for both
+    // is made before the leaf changes.
     ops: Vec<u8>,
-    // Those of the answers.
     answers: Vec<u8>,
     // Where the frames of each performance begin, the oldest first.
     places: Vec<Place>,
@@ -53,6 +48,7 @@ impl Performances {
         }
     }
 
+    /// What serves its memory.
     pub fn allocator(&self) -> Global {
         *self.ops.allocator()
     }
@@ -106,64 +102,5 @@ impl Performances {
             }
             Done::Repeated(_) => unreachable!(),
         }
-    }
-}
-
-/// The longest frame of a record, in bytes: eight of length, and a body.
-const FRAME_LIMIT: usize = 189;
-
-/// The record that an operation is spelled as. Its numbers say nothing.
-fn op_record(op: &Op) -> Record
-    ensures { result ≡ op_record op.now }
-{
-    Record::Op {
-        txn: 0,
-        prev: 0,
-        op: op.copied(),
-    }
-}
-
-/// The same of an answer.
-fn answer_record(answer: &Answer) -> Record
-    ensures { result ≡ answer_record answer.now }
-{
-    Record::Answer {
-        of: 0,
-        answer: answer.copied(),
-    }
-}
-
-/// Appends the record's frame. There is room for it.
-fn put(out: &mut Vec<u8>, appended: &Record)
-    requires numbers { HasNumbers appended.now }
-    requires room { vec_len out.old + 189 ≤ vec_capacity out.old }
-    ensures spelling { out.new.items ≡ out.old.items ++ frame (record_bytes appended.now) }
-    ensures has_spelling { IsRecord appended.now }
-{
-    match put_record(out, appended) {
-        Ok(()) => {}
-        Err(_) => unreachable!(),
-    }
-}
-
-/// The operation whose frame begins at a place.
-fn op_at(bytes: &[u8], place: usize) -> Op
-    requires { IsOpAt bytes.now place (read_op bytes.now place) }
-    ensures { result ≡ read_op bytes.now place }
-{
-    match take_record(bytes, place) {
-        Taken::Record(Record::Op { op, .. }, _) => op,
-        _ => unreachable!(),
-    }
-}
-
-/// The answer whose frame begins at a place.
-fn answer_at(bytes: &[u8], place: usize) -> Answer
-    requires { IsAnswerAt bytes.now place (read_answer bytes.now place) }
-    ensures { result ≡ read_answer bytes.now place }
-{
-    match take_record(bytes, place) {
-        Taken::Record(Record::Answer { answer, .. }, _) => answer,
-        _ => unreachable!(),
     }
 }

@@ -24,6 +24,7 @@ fn walked(rt: &impl Abort, alloc: Global, seed: u64) -> Result<Walk, Fail> {
             walk.walk(rt, alloc)?;
         }
         walk.settle(rt, alloc)?;
+        walk.assert_settled(rt, alloc)?;
         walk.assert_history(rt, alloc)?;
     }
     Ok(walk)

@@ -24,7 +24,7 @@ fn stands_at(dc: &Dc, place: u64, number: u64, op: &Op, answer: Answer) -> bool 
     dc.performance(place) == Some(expected)
 }
 
-/// Keys and values of each length's bounds, and a number that no log has.
+/// A key and a value of the greatest lengths, and a number greater than a log gives.
 #[test]
 fn performances_are_read_back(rt: HostRuntime) -> Result<(), Fail> {
     let mut dc = connected(rt.alloc())?;
@@ -33,10 +33,10 @@ fn performances_are_read_back(rt: HostRuntime) -> Result<(), Fail> {
     let delete = Op::Delete(key(b"k")?);
     answered(&mut dc, 2, &delete)?;
     answered(&mut dc, 3, &put)?;
-    let was = Answer::Was(Some(value(&[8; 120])?));
+    let answer = Answer::Was(Some(value(&[8; 120])?));
     assert!(rt; stands_at(&dc, 0, u64::MAX, &put, Answer::Was(None)));
     assert!(rt; stands_at(&dc, 1, 2, &delete, Answer::NoRecord));
-    assert!(rt; stands_at(&dc, 2, 3, &put, was));
+    assert!(rt; stands_at(&dc, 2, 3, &put, answer));
     assert!(rt; dc.performance(3).is_none());
     Ok(())
 }

@@ -62,7 +62,7 @@ impl Walk {
         Ok(())
     }
 
-    /// Settles the node. Then no client waits, and the records are those of the plain table.
+    /// Settles the node.
     pub fn settle(&mut self, rt: &impl Abort, alloc: Global) -> Result<(), Fail> {
         let mut outs = Vec::new(alloc);
         assert!(rt; settle_all(&mut self.world, &mut outs)?);
@@ -70,6 +70,11 @@ impl Walk {
             self.take(rt, alloc, out)?;
         }
         self.chooser.go_on_from(Out::Nothing);
+        Ok(())
+    }
+
+    /// No client of the settled node waits, and its records are those of the plain table.
+    pub fn assert_settled(&self, rt: &impl Abort, alloc: Global) -> Result<(), Fail> {
         assert!(rt; self.model.is_at_rest());
         let table = self.model.table(alloc)?;
         assert_eq!(rt; self.world.rows(), table.rows());

@@ -1,6 +1,6 @@
 use Rattle.std.proofs.Common.{arith}
 use Rattle.dc_core.proofs.Spelled.{frame_short}
-use Rattle.dc_core.proofs.performances.put.Goals as goal
+use Rattle.dc_core.proofs.spelling.put.Goals as goal
 
 pub unreachable-requires : goal.unreachable-requires
 unreachable-requires c =

@@ -1,0 +1,43 @@
+#!/bin/sh
+# Usage: bench/node.sh. Proves and builds crates/bench_node and measures a node over the world's public calls, with no
+# script and no text, in transactions of ten over 20,000 keys, the 10,000 even ones loaded before: a upserts, b the same
+# rolled back, c updates of which a savepoint undoes the first five, d reads, e rows read a hundred at a time, and s
+# updates in transactions of a hundred, a savepoint before each ten, of which every second ten is undone.
+# Prints operations a second at 1,000, 10,000 and 100,000 operations, each the best of five runs, and the ratio of the
+# last to the first; then how many bytes of resident memory each of 400,000 committed upserts takes.
+# The first line is the machine's.
+set -eu
+cd "$(dirname "$0")/../crates/bench_node"
+model=$(sed -n 's/^model name[^:]*: //p' /proc/cpuinfo | head -n 1)
+printf 'machine: %s processors, %s\n' "$(nproc)" "$model"
+folder=$(mktemp -d)
+trap 'rm -rf "$folder"' EXIT
+if ! rt run >"$folder/log" 2>&1; then
+    cat "$folder/log" >&2
+    exit 1
+fi
+
+best() {
+    for run in 1 2 3 4 5; do
+        ./out/bench_node node "$1" "$2"
+    done | cut -d, -f6 | sort -n | tail -n 1
+}
+
+resident() {
+    command time -f %M -o "$folder/memory" ./out/bench_node node "$1" "$2" >"$folder/line"
+    cat "$folder/memory"
+}
+
+for workload in a b c d e s; do
+    first=
+    for operations in 1000 10000 100000; do
+        rate=$(best "$workload" "$operations")
+        printf '%s, %s operations: %s a second\n' "$workload" "$operations" "$rate"
+        first=${first:-$rate}
+    done
+    awk -v workload="$workload" -v first="$first" -v last="$rate" \
+        'BEGIN { printf "%s, ratio of the last to the first: %.2f\n", workload, last / first }'
+done
+operations=400000
+bytes=$(((1024 * ($(resident a $operations) - $(resident base 0))) / operations))
+printf 'resident memory: %s bytes for each of %s upserts\n' "$bytes" "$operations"

@@ -1,0 +1,113 @@
+//! One client of a node, and the messages for it.
+use record_key::{Key, Op, Refusal, Value};
+use std::alloc::Global;
+use world::{Event, Out, World, settle};
+
+/// A node and the transaction of its one client. After each call the node is settled.
+#[derive(Drop)]
+pub struct Client {
+    world: World,
+    outs: Vec<Out>,
+    txn: u64,
+}
+
+impl Client {
+    /// A node whose session runs.
+    pub fn new(alloc: Global) -> Result<Client, Refusal> {
+        let mut client = Client {
+            world: World::new(alloc),
+            outs: Vec::new(alloc),
+            txn: 0,
+        };
+        client.settle()?;
+        Ok(client)
+    }
+
+    pub fn begin(&mut self) -> Result<(), Refusal> {
+        if let Out::Begun(txn) = self.step(&Event::Begin)? {
+            self.txn = txn;
+        }
+        Ok(())
+    }
+
+    pub fn upsert(&mut self, key: Key, value: Value) -> Result<(), Refusal> {
+        let op = Op::Upsert(key, value);
+        self.call(&Event::Act { txn: self.txn, op })
+    }
+
+    /// Whether the key has a value.
+    pub fn get(&mut self, key: Key) -> Result<bool, Refusal> {
+        self.call(&Event::Get { txn: self.txn, key })?;
+        for out in &self.outs {
+            if let Out::Row { value, .. } = out {
+                return Ok(value.is_some());
+            }
+        }
+        Err(Refusal::Unanswered)
+    }
+
+    /// How many rows stand from `low` on and below `high`.
+    pub fn scan(&mut self, low: Key, high: Key) -> Result<usize, Refusal> {
+        let high = Some(high);
+        let txn = self.txn;
+        self.call(&Event::Scan { txn, low, high })?;
+        for out in &self.outs {
+            if let Out::Rows { rows, .. } = out {
+                return Ok(rows.as_slice().len());
+            }
+        }
+        Err(Refusal::Unanswered)
+    }
+
+    pub fn save(&mut self) -> Result<(), Refusal> {
+        self.call(&Event::Save { txn: self.txn })
+    }
+
+    pub fn go_back(&mut self, savepoint: u64) -> Result<(), Refusal> {
+        let txn = self.txn;
+        self.call(&Event::GoBack { txn, savepoint })
+    }
+
+    pub fn roll_back(&mut self) -> Result<(), Refusal> {
+        self.call(&Event::Rollback { txn: self.txn })?;
+        self.lower()
+    }
+
+    pub fn commit(&mut self) -> Result<(), Refusal> {
+        self.call(&Event::Commit { txn: self.txn })?;
+        self.lower()
+    }
+
+    /// The rows, in key order.
+    pub fn rows(&self) -> &[(Key, Value)] {
+        self.world.rows()
+    }
+
+    /// One call, and all that it comes to.
+    fn call(&mut self, event: &Event) -> Result<(), Refusal> {
+        self.step(event)?;
+        self.settle()
+    }
+
+    /// The data component may forget the answers up to the stable end: nothing is sent again.
+    fn lower(&mut self) -> Result<(), Refusal> {
+        let low = self.world.stable_end();
+        self.step(&Event::LowWater { low })?;
+        let number = self.world.requests();
+        self.step(&Event::Request { number })?;
+        Ok(())
+    }
+
+    fn step(&mut self, event: &Event) -> Result<Out, Refusal> {
+        match self.world.step(event) {
+            Out::Refused(refusal) => Err(refusal),
+            out => Ok(out),
+        }
+    }
+
+    fn settle(&mut self) -> Result<(), Refusal> {
+        self.outs.clear();
+        settle(&mut self.world, None, &mut self.outs)?;
+        Ok(())
+    }
+}

@@ -1,0 +1,43 @@
+//! One measurement.
+use crate::work::{Work, Workload};
+use record_key::Refusal;
+use std::alloc::Global;
+use std::io;
+use std::time::{Clock, Duration, Instant};
+
+/// How long the work took, without the load before it, and the digest of the rows after it.
+#[derive(Drop)]
+pub struct Outcome {
+    pub took: Duration,
+    pub digest: u64,
+}
+
+pub fn measured<R: Clock>(
+    rt: &R,
+    alloc: Global,
+    workload: Workload,
+    operations: u64,
+) -> io::Result<Outcome> {
+    let mut work = done(loaded(alloc, workload, operations))?;
+    let start = Instant::now(rt)?;
+    done(work.go())?;
+    let end = Instant::now(rt)?;
+    Ok(Outcome {
+        took: end.duration_since(start),
+        digest: work.digest(),
+    })
+}
+
+fn loaded(alloc: Global, workload: Workload, operations: u64) -> Result<Work, Refusal> {
+    let mut work = Work::new(alloc, workload, operations)?;
+    work.load()?;
+    Ok(work)
+}
+
+fn done<T: Drop>(work: Result<T, Refusal>) -> io::Result<T> {
+    match work {
+        Ok(done) => Ok(done),
+        Err(Refusal::NoMemory) => Err(io::Error::from(io::ErrorKind::OutOfMemory)),
+        Err(_) => Err(io::Error::from(io::ErrorKind::Other)),
+    }
+}
