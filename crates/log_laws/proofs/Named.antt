@@ -1,20 +1,13 @@
--- The numbers that a legal log names: each is below the record that names it. And which transactions are open.
-use Rattle.std.proofs.Common.{◌≡◌, ℕ, ◌+◌, ◌<◌, ◌≤◌, true, false, List, [], ◌∷◌, length, Option, Some, IsSome, is_some, refl, ap, ◌∙◌, subst, arith, inl, inr, eqb-true}
+-- What a legal log names was there before: a step's transaction, what is undone. And which transactions are open.
+use Rattle.std.proofs.Common.{◌≡◌, ℕ, ◌+◌, ◌<◌, true, false, List, [], ◌∷◌, length, Some, IsSome, is_some, refl, ap, ◌∙◌, subst, arith, inl, inr, eqb-true}
 use Rattle.std.specs.Prelude.{◌==◌}
 use Rattle.std.proofs.lemmas.Bool.{cases_Bool, or_cases}
-use Rattle.record_key.specs.declared.op.Op.{Op}
-use Rattle.record_key.specs.declared.op.Answer.{Answer}
 use Rattle.history.specs.declared.record.Record.{Record}
 use Rattle.history.specs.declared.record.Record.TheVariants as is
 use Rattle.history.specs.Log.{record_at, before, answer_of, is_crossed, has_ended, IsOpen, IsStepOf}
-use Rattle.history.specs.Legal.{Fits, IsLegal, Stands, IsLatestOrNone}
-use Rattle.log_laws.proofs.Records.{AStep, IsNumber, at_newest, newest_at, had_at, which, within, length_before, not_newest}
-use Rattle.log_laws.proofs.LegalLogs.{fits_at, falls, ended_push, answered_push, step_open, begun_number, kept_begun, request_number, step_number, stands_number, ended_cases}
-use Rattle.log_laws.proofs.Undo.{latest_number}
-
--- what is at most the length before a number is below it
-below_from : (log : List Record) (n m : ℕ) (r : Record) → record_at log n ≡ Some r → m ≤ length (before log n) → m < n
-below_from log n m r is h = omega (arith, length_before log n (within (λ x. x ≡ Some r) (λ e. cc) log n is))
+use Rattle.history.specs.Legal.{Fits, IsLegal}
+use Rattle.log_laws.proofs.Records.{AStep, IsNumber, at_newest, newest_at, had_at, which, not_newest}
+use Rattle.log_laws.proofs.LegalLogs.{falls, ended_push, answered_push, step_open, begun_number, kept_begun, step_number, ended_cases}
 
 -- the transaction of a step began before it
 pub txn_below : (log : List Record) (t n : ℕ) → IsLegal log → IsStepOf log t n → t < n
@@ -24,32 +17,6 @@ txn_below (r ∷ log) t n legal step =
       | inl e ↦ omega (arith, e, (begun_number log t (step_open log r t legal.0 (newest_at (AStep t) r log n e step)).begun).bounded)
       | inr was ↦ txn_below log t n legal.1 (had_at (AStep t) r log n was step)
     ]
-
--- so did a step before it
-pub prev_below : (log : List Record) (n t p : ℕ) (o : Op) → IsLegal log → record_at log n ≡ Some (is.Op t p o) → p < n
-prev_below log n t p o legal at =
-    below_from log n p (is.Op t p o) at (latest_number (before log n) t p (fits_at log n (is.Op t p o) legal at).prev)
-
--- what is answered stands before its answer
-pub of_below : (log : List Record) (n m : ℕ) (a : Answer) → IsLegal log → record_at log n ≡ Some (is.Answer m a) → m < n
-of_below log n m a legal at =
-    let fits = fits_at log n (is.Answer m a) legal at in
-    below_from log n m (is.Answer m a) at (request_number (before log n) m fits.op fits.requested).bounded
-
--- what is undone stands before the compensation
-pub undoes_below : (log : List Record) (n t u x : ℕ) (i : Option Op) → IsLegal log → record_at log n ≡ Some (is.Comp t u x i) → u < n
-undoes_below log n t u x i legal at =
-    below_from log n u (is.Comp t u x i) at (stands_number (before log n) t u (fits_at log n (is.Comp t u x i) legal at).latest.is).bounded
-
-next_from : (log : List Record) (t u x : ℕ) → 0 < u → IsLatestOrNone (λ n. Stands log t n × (n < u)) x → x < u
-next_from log t u x some (inl h) = h.is.1
-next_from log t u x some (inr h) = omega (arith, h.0)
-
--- and what is left to undo before that
-pub next_below : (log : List Record) (n t u x : ℕ) (i : Option Op) → IsLegal log → record_at log n ≡ Some (is.Comp t u x i) → x < u
-next_below log n t u x i legal at =
-    let fits = fits_at log n (is.Comp t u x i) legal at in
-    next_from (before log n) t u x (stands_number (before log n) t u fits.latest.is).positive fits.next
 
 -- what is undone was answered
 crossed_answered_now : (r : Record) (log : List Record) (n : ℕ) → Fits log r → is_crossed (r ∷ log) n ≡ true → (is_crossed log n ≡ true → IsSome (answer_of log n)) → IsSome (answer_of log n)

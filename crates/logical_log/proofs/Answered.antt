@@ -1,11 +1,10 @@
 -- Up to where every request of a log is answered.
-use Rattle.std.proofs.Common.{◌≡◌, ℕ, ◌+◌, ◌-◌, ◌<◌, ◌≤◌, Bool, true, false, List, [], ◌∷◌, length, Option, Some, None, IsSome, is_some, zero, suc, refl, sym, ap, ◌∙◌, subst, arith, inl, inr, true≢false}
+use Rattle.std.proofs.Common.{◌≡◌, ℕ, ◌-◌, ◌≤◌, Bool, true, List, [], ◌∷◌, length, Option, Some, None, IsSome, is_some, zero, suc, refl, ap, arith}
 use Rattle.std.specs.Prelude.{drop, not, ◌||◌}
-use Rattle.std.proofs.lemmas.Bool.{cases_eq, cases_lt}
 use Rattle.record_key.specs.declared.op.Op.{Op}
 use Rattle.history.specs.declared.record.Record.{Record}
 use Rattle.history.specs.Log.{record_at, answer_of, request_in, Requests}
-use Rattle.history.specs.Legal.{FitsCheckpoint, IsLatest}
+use Rattle.history.specs.Legal.{FitsCheckpoint}
 use Rattle.log_laws.proofs.Records.{ARequest, older_at, within}
 use Rattle.log_laws.proofs.LegalLogs.{answered_push}
 use Rattle.logical_log.specs.Index.{is_answered}

@@ -1,9 +1,8 @@
 -- Records and answers by number: a vector in order, and its index of Answer records.
-use Rattle.std.proofs.Common.{◌≡◌, ◌≢◌, ℕ, ◌+◌, ◌-◌, ◌<◌, ◌≤◌, Bool, false, cond, List, [], ◌∷◌, ◌++◌, length, get_or, set, slice_get, Option, Some, None, reverse, is_some, refl, sym, ap, ◌∙◌, subst, arith, inl, inr, ◌⊎◌, eq-eqb, ne_eqb}
+use Rattle.std.proofs.Common.{◌≡◌, ◌≢◌, ℕ, ◌+◌, ◌-◌, ◌<◌, ◌≤◌, Bool, false, cond, List, [], ◌∷◌, ◌++◌, length, get_or, set, Option, Some, None, is_some, refl, sym, ap, ◌∙◌, subst, arith, inl, inr, ◌⊎◌, eq-eqb, ne_eqb}
 use Rattle.std.proofs.Math.ListN.{length-set, get_or-append}
 use Rattle.std.proofs.Math.Seq.{get_or-append_seam}
-use Rattle.std.proofs.lemmas.List.{length-append, length-reverse, reverse-append, get_or-set_other, get_or-set_same, get_or_past}
-use Rattle.std.proofs.lemmas.Option.{slice_get_past, slice_get-get_or}
+use Rattle.std.proofs.lemmas.List.{length-append, get_or-set_other, get_or-set_same, get_or_past}
 use Rattle.std.proofs.lemmas.Bool.{cases_eq, cases_lt, cases_Bool}
 use Rattle.history.specs.declared.record.Record.{Record}
 use Rattle.history.specs.declared.record.Record.TheVariants as is
@@ -13,40 +12,6 @@ use Rattle.history.specs.Legal.{Fits, IsLegal}
 use Rattle.logical_log.specs.Index.{index, noted, NamesWithin, answer_in}
 use Rattle.log_laws.proofs.Records.{record_new, record_old}
 use Rattle.log_laws.proofs.LegalLogs.{request_number, unanswered_next, answered_is_request}
-
-reverse-cons : (r : Record) (log : List Record) → reverse (r ∷ log) ≡ reverse log ++ r ∷ []
-reverse-cons r log = reverse-append (r ∷ []) log
-
--- in a list with one more at its end, the last and those before it
-at_end : {X : Type 0} (xs : List X) (x : X) (i : ℕ) → i ≡ length xs → slice_get (xs ++ x ∷ []) i ≡ Some x
-at_end xs x i e =
-    slice_get-get_or (xs ++ x ∷ []) i x (omega (arith, length-append xs (x ∷ [])))
-    ∙ ap Some (ap (λ (j : ℕ). get_or (xs ++ x ∷ []) j x) e ∙ get_or-append_seam xs x [] x)
-
-before_end : {X : Type 0} (xs : List X) (x : X) (i : ℕ) → i < length xs → slice_get (xs ++ x ∷ []) i ≡ slice_get xs i
-before_end xs x i lt =
-    slice_get-get_or (xs ++ x ∷ []) i x (omega (arith, length-append xs (x ∷ [])))
-    ∙ ap Some (get_or-append xs (x ∷ []) x i lt) ∙ sym (slice_get-get_or xs i x lt)
-
-after_end : {X : Type 0} (xs : List X) (x : X) (i : ℕ) → length xs < i → slice_get (xs ++ x ∷ []) i ≡ slice_get xs i
-after_end xs x i lt =
-    slice_get_past (xs ++ x ∷ []) i (omega (arith, length-append xs (x ∷ []))) ∙ sym (slice_get_past xs i (omega arith))
-
-elsewhere : {X : Type 0} (xs : List X) (x : X) (i : ℕ) → i ≢ length xs → slice_get (xs ++ x ∷ []) i ≡ slice_get xs i
-elsewhere xs x i apart = elim (cases_lt i (length xs))
-    [ inl lt ↦ before_end xs x i lt | inr ge ↦ after_end xs x i (omega arith) ]
-
--- the record of a number stands one place lower in the vector
-pub get-record_at : (log : List Record) (n : ℕ) → 0 < n → slice_get (reverse log) (n - 1) ≡ record_at log n
-get-record_at [] n some = refl
-get-record_at (r ∷ log) n some =
-    ap (λ (xs : List Record). slice_get xs (n - 1)) (reverse-cons r log)
-    ∙ elim (cases_eq n (length log + 1)) [
-      | inl e ↦ at_end (reverse log) r (n - 1) (omega (arith, length-reverse log))
-          ∙ sym (ap (record_at (r ∷ log)) e ∙ record_new r log)
-      | inr e ↦ elsewhere (reverse log) r (n - 1) (λ same. e (omega (arith, length-reverse log)))
-          ∙ get-record_at log n some ∙ sym (record_old r log n e)
-    ]
 
 pub record_at-zero : (log : List Record) → record_at log 0 ≡ None
 record_at-zero [] = refl

@@ -121,9 +121,6 @@ module _ (v : View) (m : Machine) (t n : ℕ) (a : Answer) (legal : IsLegal (is.
     abbrev view : View
     view = after_answer v t n a
 
-    asked : Op
-    asked = (status_for v m t (Awaits n) stands awaits).0
-
     is_waiting : (m.txns t).status ≡ Waiting n (status_for v m t (Awaits n) stands awaits).0
     is_waiting = (status_for v m t (Awaits n) stands awaits).1
 

@@ -76,9 +76,6 @@ module _ (v : View) (m : Machine) (newer older : List Record) (legal : IsLegal (
         let x = stands.each t in
         survival v m newer older t legal within stands.recorded x.begun (m.txns t).status refl x.status x.spans x.entered
 
-    fell : ℕ → Bool
-    fell t = (survives t).fell
-
     -- an operation that is left counts after the crash as it did before, if its transaction stands
     agrees : (n t : ℕ) (o : Op) → IsOpBy older n t o
         → Agrees whole older (λ e. not (survives e.txn).fell && counts was e) (counts (opened older)) n t o
@@ -116,9 +113,6 @@ module _ (v : View) (m : Machine) (newer older : List Record) (legal : IsLegal (
         stable_all : (h : List Entry) → AllByRecursion (IsRecorded was) h → AllByRecursion (λ e. e.number ≤ v.stable) h
         stable_all [] all = tt
         stable_all (e ∷ h) all = (all.0.stable, stable_all h all.1)
-
-    left_machine : Machine
-    left_machine = record { h = map (fallen (λ t. (survives t).fell)) m.h; txns = λ t. (survives t).new }
 
     txn_left : (t : ℕ) → IsTxnOf (opened older) (map (fallen (λ u. (survives u).fell)) m.h) t (survives t).new
     txn_left t =

@@ -21,13 +21,12 @@ use Rattle.range_locks.specs.Locks.{spans_of, IsFree}
 use Rattle.range_locks.proofs.Tables.{empty_table, set_other}
 use Rattle.tc_core.specs.TcView.{TcView, fresh, failed}
 use Rattle.logical_log.specs.LogView.{is_spent}
-use Rattle.tc_core.specs.Locking.{is_listed, is_holder}
+use Rattle.tc_core.specs.Locking.{is_listed}
 use Rattle.tc_core.specs.Changes.{let_go, logged_session, reconnected, begun_txn, begun, acted_txn, acted, forced, answered_txn, answered, rolling_txn, rolled, saved_txn, saved, going_back_txn, going_back, back_txn, is_back}
 use Rattle.tc_core.specs.Replies.{takes, is_number, if_awaits, asker, awaiting, next_phase, passed}
 use Rattle.tc_core.specs.declared.phase.Phase.{Phase}
 use Rattle.tc_core.specs.declared.phase.Phase.TheVariants as phase
 use Rattle.tc_core.specs.Kept.{IsTc, IsRollback, IsOpenTxn, IsWaiting, Waits, IsReading, IsPhase}
-use Rattle.tc_core.specs.Undo.{HasRequest}
 use Rattle.tc_core.proofs.Finding.{found_number, found_own}
 use Rattle.tc_core.proofs.Committing.{none_committing, open_unlisted}
 use Rattle.tc_core.proofs.LettingGo.{let_go_held, let_go_other}
@@ -165,10 +164,6 @@ waits_at log o n h some = let P : Option ℕ → Type 0 = λ x. Waits log o x in
 pub reading_at : (w : TcView) (o : OpenTxn) (r : Read) → IsTc w → find o.txn w.open_txns ≡ Some o → o.reading ≡ Some r
     → IsReading w.reads w.locks o r
 reading_at w o r k at some = k.reading.each o.txn o r at some
-
--- who is neither open nor committing holds nothing
-pub unheld : (w : TcView) (t : ℕ) → IsTc w → is_holder w.open_txns w.committing t ≡ false → spans_of w.locks t ≡ []
-unheld w t k none = k.locks.others t none
 
 -- an operation of an open transaction holds its key
 pub held_by : (w : TcView) (n u : ℕ) (q : Op) (s : Span) → IsTc w → IsOpBy w.log n u q → IsOpen w.log u
@@ -368,9 +363,3 @@ keeps_passed w n taken k = record {
     by phase.Connecting test h = absurd (cc)
     by (phase.Redoing next ending) test h = (omega arith, grind (arith, nat_tests, test), λ e. absurd (true≢false (sym e)))
     by phase.Running test h = h
-
--- what is sent is what was logged
-pub has_request : (w : TcView) (o : OpenTxn) (n : ℕ) → IsTc w → find o.txn w.open_txns ≡ Some o → o.waiting ≡ Some n
-    → HasRequest w.log n
-has_request w o n k at some =
-    let own = own_request w.log o n (waits_at w.log o n (open_at w o k at) some).request in record { op = own.op; is = own.requests }

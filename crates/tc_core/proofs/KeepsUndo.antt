@@ -6,7 +6,7 @@ use Rattle.history.specs.declared.record.Record.TheVariants as is
 use Rattle.history.specs.Legal.{Fits, Inverts, IsLatest, IsLatestOrNone, Stands}
 use Rattle.log_laws.proofs.LegalLogs.{stands_number}
 use Rattle.log_laws.proofs.Undo.{latest_found, earlier_found}
-use Rattle.compensation.specs.NextUndo.{MayUndo, Compensates, IsUndone}
+use Rattle.compensation.specs.NextUndo.{Compensates, IsUndone}
 use Rattle.range_locks.proofs.Tables.{set_other}
 use Rattle.tc_core.specs.declared.open_txn.OpenTxn.{OpenTxn}
 use Rattle.tc_core.specs.declared.open_txn.Rollback.{Rollback}
@@ -22,12 +22,6 @@ use Rattle.tc_core.proofs.KeepsSteps.{step_leaves, end_leaves, commit_leaves, co
 use Rattle.tc_core.proofs.LocksHeld.{alike, longer, replaced, gives_back}
 use Rattle.tc_core.proofs.Readings.{no_reading, reads_replaced, reads_ended}
 use Rattle.tc_core.proofs.KeepsTc.{one_more, unlisted, open_at, idle_at, reading_at, none_next}
-
--- what a rollback asks of the log holds
-pub may_undo : (w : TcView) (o : OpenTxn) → IsTc w → find o.txn w.open_txns ≡ Some o → o.waiting ≡ None
-    → MayUndo w.log (record { txn = o.txn; last = o.last })
-may_undo w o k at none =
-    let h = open_at w o k at in record { legal = k.legal; open_txn = h.is; idle = idle_at w.log o h none; last = h.last }
 
 -- what is left to undo is the latest operation that stands
 pub undo_found : (w : TcView) (o : OpenTxn) → IsTc w → find o.txn w.open_txns ≡ Some o

@@ -1,8 +1,7 @@
 -- Why a step of a rollback is refused, and what it may find.
-use Rattle.std.proofs.Common.{◌≡◌, ℕ, ◌<◌, ◌≤◌, Bool, true, false, Option, Some, None, is_some, refl, sym, ap, ◌∙◌, subst, arith}
+use Rattle.std.proofs.Common.{◌≡◌, ℕ, ◌<◌, ◌≤◌, Bool, true, false, Option, Some, is_some, refl, sym, ap, ◌∙◌, subst, arith}
 use Rattle.std.specs.Prelude.{nat_lt, ◌&&◌, ◌||◌, not}
 use Rattle.std.proofs.lemmas.Bool.Decides.{nat_tests}
-use Rattle.std.proofs.Math.Bool.{or-true}
 use Rattle.record_key.specs.declared.refusal.Refusal.{Refusal}
 use Rattle.tc_core.specs.declared.open_txn.Rollback.{Rollback}
 use Rattle.tc_core.specs.declared.told.UndoStep.{UndoStep}
@@ -42,9 +41,6 @@ module _ (w : TcView) (t : ℕ) (b : Rollback) (may : MayStep w t b) where
 
   pub logs_comp : b.above < may.open_txn.undo → logs_next may.open_txn.undo (Some b) ≡ true
   logs_comp above = let more : nat_lt b.above may.open_txn.undo ≡ true = grind (arith, nat_tests, above) in ap (λ x. x || not (is_some b.savepoint)) more
-
-  pub logs_end : b.savepoint ≡ None → logs_next may.open_txn.undo (Some b) ≡ true
-  logs_end none = ap (λ x. nat_lt b.above may.open_txn.undo || not (is_some x)) none ∙ or-true (nat_lt b.above may.open_txn.undo)
 
   pub logs_none : (s : ℕ) → may.open_txn.undo ≤ b.above → b.savepoint ≡ Some s
       → logs_next may.open_txn.undo (Some b) ≡ false

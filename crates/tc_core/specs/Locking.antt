@@ -1,8 +1,8 @@
 -- What transactions hold, and when another may take a span.
-use Rattle.std.specs.Prelude.{◌≡◌, ◌≢◌, ◌⊎◌, ℕ, ◌==◌, ◌||◌, Bool, true, false, List, [], ◌∷◌, Option, Some, is_some, filter, if◌then◌else◌}
+use Rattle.std.specs.Prelude.{◌≡◌, ◌≢◌, ◌⊎◌, ℕ, ◌==◌, ◌||◌, Bool, true, false, List, [], ◌∷◌, Option, is_some, filter, if◌then◌else◌}
 use Rattle.std.specs.List.{AllByRecursion, list_any}
 use Rattle.record_key.specs.declared.refusal.Refusal.{Refusal}
-use Rattle.record_key.specs.declared.refusal.Refusal.TheVariants.{NoMemory, Busy, NumbersSpent}
+use Rattle.record_key.specs.declared.refusal.Refusal.TheVariants.{Busy, NumbersSpent}
 use Rattle.record_key.specs.FirstCause.{first_of, RefusesAs}
 use Rattle.record_key.specs.Table.{key_of}
 use Rattle.history.specs.declared.record.Record.{Record}
@@ -54,8 +54,3 @@ RefusesLock locks t s spent r = ((u : ℕ) × (r ≡ Busy u) × IsLeastHolder lo
 
 abbrev pub spent_of : Bool → Option Refusal
 spent_of spent = first_of ((spent, NumbersSpent) ∷ [])
-
--- that no number is left stands before want of memory
-abbrev pub first_cause : Option Refusal → Refusal → Refusal
-first_cause (Some spent) NoMemory = spent
-first_cause spent r = r

@@ -1,9 +1,15 @@
 //! What was sent is read back from its frame.
+ghost use Rattle.std.specs.Prelude.{IfOk};
+ghost use Rattle.codec.specs.Requests.{HasRequestNumbers};
+ghost use Rattle.codec.specs.Replies.{IsOrdered};
+
 use super::*;
 use crate::sent::Sent;
 use codec::{Reply, Request, Rows};
 
-fn get() -> Result<Request, Fail> {
+fn get() -> Result<Request, Fail>
+    ensures { IfOk result HasRequestNumbers }
+{
     Ok(Request::Get {
         session: 1,
         read: 7,
@@ -11,7 +17,9 @@ fn get() -> Result<Request, Fail> {
     })
 }
 
-fn rows_reply(rt: &HostRuntime) -> Result<Reply, Fail> {
+fn rows_reply(rt: &HostRuntime) -> Result<Reply, Fail>
+    ensures { IfOk result IsOrdered }
+{
     let mut rows = Vec::new(rt.alloc());
     rows.push((Key::new(b"k")?, Value::new(b"v")?))?;
     Ok(Reply::Rows {
