@@ -18,7 +18,7 @@ use Rattle.log_laws.proofs.Undo.{stands_since, number_before}
 use Rattle.log_laws.proofs.Values.{values_alike, value_split}
 
 -- a transaction that has ended is crossed no further
-ended_crosses_none : (r : Record) (log : List Record) (n v : ℕ) (q : Op) → Fits log r → IsOpBy log n v q → has_ended log v ≡ true → is_crossed (r ∷ log) n ≡ is_crossed log n
+pub ended_crosses_none : (r : Record) (log : List Record) (n v : ℕ) (q : Op) → Fits log r → IsOpBy log n v q → has_ended log v ≡ true → is_crossed (r ∷ log) n ≡ is_crossed log n
 ended_crosses_none (is.Comp t w x i) log n v q fits is_op ended =
     elim (cases_eq n w) [
       | inl e ↦

@@ -91,7 +91,7 @@ step_ends_none log (is.Comp v w x i) t u s = refl
 step_ends_none log _ t u s = absurd (cc)
 
 -- of a record: it is a Begin
-abbrev ABegin : Option Record → Type 0
+abbrev pub ABegin : Option Record → Type 0
 ABegin r = r ≡ Some is.Begin
 
 -- a transaction that has begun is a number of the log

@@ -81,26 +81,27 @@ pub latest_number : (log : List Record) (t s : ℕ) → IsLatestOrNone (IsStepOf
 latest_number log t s (inl h) = (step_number log s t h.is).bounded
 latest_number log t s (inr h) = omega (arith, h.0)
 
--- the newest record is no step of the transaction
-module _ (r : Record) (log : List Record) (t : ℕ) (other : AStep t (Some r) → ⊥) (fits : Fits log r) where
-  -- steps and what stands are as they were
-  steps_there : (n : ℕ) → IsStepOf (r ∷ log) t n → IsStepOf log t n
+-- the newest record is no step of the transaction: its steps are as they were
+module _ (r : Record) (log : List Record) (t : ℕ) (other : AStep t (Some r) → ⊥) where
+  pub steps_there : (n : ℕ) → IsStepOf (r ∷ log) t n → IsStepOf log t n
   steps_there n h = elim (cases_eq n (length log + 1)) [ inl e ↦ absurd (other (newest_at (AStep t) r log n e h)) | inr e ↦ older_at (AStep t) r log n e h ]
 
-  steps_back : (n : ℕ) → IsStepOf log t n → IsStepOf (r ∷ log) t n
+  pub steps_back : (n : ℕ) → IsStepOf log t n → IsStepOf (r ∷ log) t n
   steps_back n h = kept_at (AStep t) r log n (step_number log n t h) h
 
+-- and so is what stands
+module _ (r : Record) (log : List Record) (t : ℕ) (other : AStep t (Some r) → ⊥) (fits : Fits log r) where
   stands_there : (n : ℕ) → Stands log t n → Stands (r ∷ log) t n
   stands_there n h =
       elim (cases_Bool (is_crossed (r ∷ log) n)) [ inl c ↦ absurd (other (crosses_now r log t n fits h c).step) | inr c ↦ stands_kept r log t n h c ]
 
   stands_back : (n : ℕ) → Stands (r ∷ log) t n → Stands log t n
-  stands_back n h = stands_had r log t n (step_number log n t (steps_there n (stands_step (r ∷ log) t n h))) h
+  stands_back n h = stands_had r log t n (step_number log n t (steps_there r log t other n (stands_step (r ∷ log) t n h))) h
 
   -- so what is left is found as it was
   found_older : LatestIsFound log t → LatestIsFound (r ∷ log) t
   found_older found s h =
-      let was : IsLatestOrNone (IsStepOf log t) s = latest_as (IsStepOf (r ∷ log) t) (IsStepOf log t) steps_there steps_back s h in
+      let was : IsLatestOrNone (IsStepOf log t) s = latest_as (IsStepOf (r ∷ log) t) (IsStepOf log t) (steps_there r log t other) (steps_back r log t other) s h in
       subst (λ x. IsLatestOrNone (Stands (r ∷ log) t) (undo_from x s)) (sym (record_old r log s (λ e. omega (arith, latest_number log t s was))))
       (latest_as (Stands log t) (Stands (r ∷ log) t) stands_there stands_back (undo_from (record_at log s) s) (found s was))
 

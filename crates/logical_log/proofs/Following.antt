@@ -1,5 +1,6 @@
 -- The index by transaction and by key is right again after each record that fits.
 use Rattle.std.proofs.Common.{◌≡◌, ◌≢◌, ℕ, ◌+◌, true, false, List, ◌∷◌, length, Option, Some, None, refl, sym, ap, ◌∙◌, subst, arith, inl, inr, ◌⊎◌, Bool, true≢false, eq-eqb}
+use Rattle.std.specs.Cmp.{Equal-is}
 use Rattle.std.specs.Prelude.{◌||◌, ◌==◌}
 use Rattle.std.proofs.lemmas.Bool.{cases_eq, cases_Bool}
 use Rattle.std.specs.Ordering.{is_eq}
@@ -17,7 +18,6 @@ use Rattle.log_laws.proofs.Undo.{latest_as}
 use Rattle.std.proofs.lemmas.Cmp.{nat_list_cmp_total, tied_itself}
 use Rattle.std.proofs.lemmas.Map.Lookups.{exact_bytes}
 use Rattle.logical_log.specs.declared.replay.Index.{Index}
-use Rattle.logical_log.proofs.Puts.{equal}
 use Rattle.logical_log.specs.Replay.{IsIndex, latest_in, holder_in, KeptOf, KeptOn, Puts, Follows, Holds}
 
 -- the record neither begins nor ends the transaction, and is no step of it
@@ -240,7 +240,7 @@ itself a = ap is_eq (tied_itself nat_list_cmp_total a)
 
 key_cases : (a b : Bytes) → (a ≡ b) ⊎ (a ≢ b)
 key_cases a b = elim (cases_Bool (is_eq (key_cmp a b))) [
-  | inl same ↦ inl (exact_bytes a b (equal (key_cmp a b) same))
+  | inl same ↦ inl (exact_bytes a b ((Equal-is (key_cmp a b)).0 same))
   | inr other ↦ inr (λ e. true≢false (sym (itself a)
       ∙ ap (λ (x : Bytes). is_eq (key_cmp a x)) e ∙ other))
 ]

@@ -1,5 +1,6 @@
 -- The index's order tells all entries apart.
 use Rattle.std.proofs.Common.{◌≡◌, true, false, Option, Some, None, refl, sym, ap, ◌∙◌, true≢false}
+use Rattle.std.specs.Cmp.{Equal-is}
 use Rattle.std.specs.Option.{option_cmp}
 use Rattle.std.specs.Ordering.{is_eq, nat_cmp, ordering_then}
 use Rattle.std.specs.declared.cmp.Ordering.{Ordering}
@@ -15,11 +16,6 @@ use Rattle.range_locks.specs.declared.span.Span.TheVariants.{Key, Range}
 use Rattle.range_locks.specs.declared.span.Lock.{Lock}
 use Rattle.range_locks.specs.declared.entry.Entry.{Entry}
 use Rattle.range_locks.specs.Order.{mode_cmp, span_cmp, lock_cmp, entry_cmp}
-
-pub tied : (o : Ordering) → is_eq o ≡ true → o ≡ Equal
-tied Less h = absurd (true≢false (sym h))
-tied Equal h = refl
-tied Greater h = absurd (true≢false (sym h))
 
 both_tied : (o p : Ordering) → ordering_then o p ≡ Equal → (o ≡ Equal) × (p ≡ Equal)
 both_tied Less p h = absurd (true≢false (sym (ap is_eq h)))
@@ -53,14 +49,14 @@ span_exact (Key k) (Key j) h = ap Key (exact_bytes k j h)
 
 pub lock_exact : (a b : Lock) → is_eq (lock_cmp a b) ≡ true → a ≡ b
 lock_exact a b h =
-    let ties = both_tied (span_cmp a.span b.span) (mode_cmp a.mode b.mode) (tied (lock_cmp a b) h) in
+    let ties = both_tied (span_cmp a.span b.span) (mode_cmp a.mode b.mode) ((Equal-is (lock_cmp a b)).0 h) in
     let spans : a.span ≡ b.span = span_exact a.span b.span ties.0 in
     let modes : a.mode ≡ b.mode = mode_exact a.mode b.mode ties.1 in
     λ i. record { span = spans i; mode = modes i }
 
 pub entry_exact : (a b : Entry) → is_eq (entry_cmp a b) ≡ true → a ≡ b
 entry_exact a b h =
-    let ties = both_tied (lock_cmp a.lock b.lock) (nat_cmp a.txn b.txn) (tied (entry_cmp a b) h) in
+    let ties = both_tied (lock_cmp a.lock b.lock) (nat_cmp a.txn b.txn) ((Equal-is (entry_cmp a b)).0 h) in
     let locks : a.lock ≡ b.lock = lock_exact a.lock b.lock (ap is_eq ties.0) in
     let txns : a.txn ≡ b.txn = exact_unsigned a.txn b.txn ties.1 in
     λ i. record { lock = locks i; txn = txns i }

@@ -1,6 +1,6 @@
 -- What a beginning of a log has of the whole.
 use Rattle.std.proofs.Common.{◌≡◌, ℕ, ◌+◌, ◌<◌, ◌≤◌, Bool, true, false, cond, List, [], ◌∷◌, ◌++◌, length, Option, Some, None, IsSome, is_some, refl, sym, ap, ◌∙◌, subst, arith, inl, inr, ◌⊎◌, true≢false, ne_eqb}
-use Rattle.std.specs.Prelude.{◌&&◌, ◌||◌, not}
+use Rattle.std.specs.Prelude.{◌&&◌, not}
 use Rattle.std.proofs.lemmas.Bool.{cases_eq, cases_lt, cases_Bool}
 use Rattle.record_key.specs.declared.op.Op.{Op}
 use Rattle.history.specs.declared.record.Record.{Record}
@@ -8,9 +8,10 @@ use Rattle.history.specs.declared.record.Record.TheVariants as is
 use Rattle.history.specs.Log.{record_at, answer_of, is_crossed, has_ended, IsOpen, IsOpBy}
 use Rattle.history.specs.Legal.{Fits, IsLegal, Stands}
 use Rattle.history.specs.Chains.{IsEndOf}
-use Rattle.log_laws.proofs.Records.{AStep, AnOp, op_step, op_request, op_same, newest_at, at_older, at_newest, had_at, IsNumber, which, not_newest, within, record_old}
+use Rattle.log_laws.proofs.Records.{AStep, AnOp, op_step, op_request, newest_at, at_older, at_newest, had_at, IsNumber, which, not_newest, within, record_old}
 use Rattle.log_laws.proofs.LegalLogs.{ended_push, ended_cases, crossed_push, answered_push, op_number, step_open, begun_number, legal_end}
 use Rattle.log_laws.proofs.Strict.{AnEnd, end_ends, end_number, ended_answered}
+use Rattle.log_laws.proofs.Compensations.{ended_crosses_none}
 use Rattle.simulation.specs.View.{IsOver, is_begin, is_left_open}
 
 -- a longer log is no shorter
@@ -104,19 +105,6 @@ answer_stays (is.Answer m a) log n fits some =
     ]
 answer_stays _ log n fits some = refl
 
-crossing_stays : (r : Record) (log : List Record) (n t : ℕ) (o : Op) → Fits log r → IsOpBy log n t o
-    → has_ended log t ≡ true → is_crossed (r ∷ log) n ≡ is_crossed log n
-crossing_stays (is.Comp v u x i) log n t o fits by ended =
-    elim (cases_eq n u) [
-      | inl e ↦
-          let latest = fits.latest.is in
-          let there : IsOpBy log n v latest.op = subst (λ (k : ℕ). IsOpBy log k v latest.op) (sym e) latest.is in
-          let one : v ≡ t = (op_same v t latest.op o (record_at log n) there by).0 in
-          absurd (true≢false (sym ended ∙ ap (has_ended log) (sym one) ∙ fits.open_txn.goes_on))
-      | inr apart ↦ ap (λ (b : Bool). b || is_crossed log n) (ne_eqb n u apart)
-    ]
-crossing_stays _ log n t o fits by ended = refl
-
 -- an operation of the beginning is one of the whole
 pub op_longer : (newer older : List Record) (n t : ℕ) (o : Op) → IsOpBy older n t o → IsOpBy (newer ++ older) n t o
 op_longer newer older n t o by = subst (AnOp t o) (sym (record_same newer older n (op_number older n t o by).bounded)) by
@@ -137,7 +125,7 @@ settled_in (r ∷ newer) older n t o legal by ended some =
     let rest = settled_in newer older n t o legal.1 by ended some in
     record {
       answer = answer_stays r (newer ++ older) n legal.0 (answered_longer newer older n some) ∙ rest.answer;
-      crossed = crossing_stays r (newer ++ older) n t o legal.0 (op_longer newer older n t o by) (ended_longer newer older t ended) ∙ rest.crossed;
+      crossed = ended_crosses_none r (newer ++ older) n t o legal.0 (op_longer newer older n t o by) (ended_longer newer older t ended) ∙ rest.crossed;
     }
 
 pub settled_op : (newer older : List Record) (n t : ℕ) (o : Op) → IsLegal (newer ++ older) → IsOpBy older n t o

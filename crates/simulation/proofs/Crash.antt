@@ -52,10 +52,6 @@ pub crossed_out : (f c a : Bool) → c ≡ true → (not f && (not c && a)) ≡ 
 crossed_out true c a e = refl
 crossed_out false c a e = ap (λ (x : Bool). not x && a) e
 
-left_out : (c l a : Bool) → l ≡ true → (not c && (not l && a)) ≡ false
-left_out true l a e = refl
-left_out false l a e = ap (λ (x : Bool). not x && a) e
-
 unentered_opened : (older : List Record) (h : List Entry) (t : ℕ) (s : Status) → HasStatusOf (opened older) t s
     → IsUnentered h s
 unentered_opened older h t (Waiting n o) so = let none : ◌≡◌ {A = Option Doing} None (Some (Awaits n)) = so.0.does in absurd (cc)
@@ -96,7 +92,7 @@ module _ (v : View) (m : Machine) (newer older : List Record) (legal : IsLegal (
                 | inr (inl l) ↦ loses_out (survives t).fell (is_crossed whole n) (v.loses t) (not (is_to_undo (v.doing t) n)) l
                 | inr (inr c) ↦ crossed_out (survives t).fell (is_crossed whole n) (not (v.loses t) && not (is_to_undo (v.doing t) n)) (c n o (longer by))
               ])
-              (λ a. left_out (is_crossed older n) (is_left_open older t) true (left_open older t open_txn))
+              (λ a. crossed_out (is_crossed older n) (is_left_open older t) true (left_open older t open_txn))
         ]
       where
         longer : IsOpBy older n t o → IsOpBy whole n t o

@@ -8,7 +8,8 @@ use Rattle.slab.specs.Slab.{Slab, get, Updates}
 use Rattle.tc_core.specs.declared.open_txn.OpenTxn.{OpenTxn}
 use Rattle.tc_core.specs.OpenTxns.{AreBelow}
 use Rattle.tc_core.specs.Slots.{listed, in_slots, AreSlots}
-use Rattle.tc_core.proofs.Slots.{Holds, all_joined, same_slots}
+use Rattle.record_key.proofs.Lists.{all_appended}
+use Rattle.tc_core.proofs.Slots.{Holds, same_slots}
 
 all_front : {X : Type 0} (P : X → Type 0) (xs ys : List X) → AllByRecursion P (xs ++ ys) → AllByRecursion P xs
 all_front P [] ys all = tt
@@ -50,8 +51,8 @@ module _ (old new : Slab OpenTxn) (s : ℕ) (opened : OpenTxn) (vacant : get old
             open_txn = are.0.open_txn;
             held = u.others e.1 differs ∙ are.0.held;
             number = are.0.number;
-            below = all_joined _ es _ are.0.below (below.0, tt);
-            apart = all_joined _ es _ are.0.apart (λ h. differs (sym h), tt);
+            below = all_appended _ es _ are.0.below (below.0, tt);
+            apart = all_appended _ es _ are.0.apart (λ h. differs (sym h), tt);
           },
           rest.are,
         );

@@ -9,15 +9,12 @@ use Rattle.history.specs.Log.{has_ended, IsOpen, IsStepOf, Requests}
 use Rattle.history.specs.Legal.{IsLegal, IsLatestOrNone}
 use Rattle.log_laws.specs.Laws.{undo_from}
 use Rattle.log_laws.proofs.Records.{AStep, ARequest, newest_at, older_at, kept_at, record_old, not_newest}
-use Rattle.log_laws.proofs.LegalLogs.{begun_number, ended_push, falls, step_number}
+use Rattle.log_laws.proofs.LegalLogs.{ABegin, begun_number, ended_push, falls, step_number}
 use Rattle.log_laws.proofs.Named.{ended_begun}
-use Rattle.log_laws.proofs.Undo.{latest_as, latest_number}
+use Rattle.log_laws.proofs.Undo.{steps_there, steps_back, latest_as, latest_number}
 use Rattle.tc_core.specs.declared.open_txn.OpenTxn.{OpenTxn}
 use Rattle.tc_core.specs.declared.open_txn.Rollback.{Rollback}
 use Rattle.tc_core.specs.Kept.{IsOpenTxn, IsRollback, Waits}
-
-abbrev ABegin : Option Record → Type 0
-ABegin r = r ≡ Some is.Begin
 
 -- a transaction that is open with one record more is the newest record or was open
 pub open_had : (r : Record) (log : List Record) (t : ℕ) → IsOpen (r ∷ log) t
@@ -53,17 +50,11 @@ pub record IsNeutral (r : Record) (log : List Record) (t : ℕ) : Type 0 where
   pub ends_not : has_ended (r ∷ log) t ≡ has_ended log t
 
 module _ (r : Record) (log : List Record) (t : ℕ) (neutral : IsNeutral r log t) where
-  pub step_was : (n : ℕ) → IsStepOf (r ∷ log) t n → IsStepOf log t n
-  step_was n h = elim (cases_eq n (length log + 1)) [ inl e ↦ absurd (neutral.no_step (newest_at (AStep t) r log n e h)) | inr e ↦ older_at (AStep t) r log n e h ]
-
-  step_is : (n : ℕ) → IsStepOf log t n → IsStepOf (r ∷ log) t n
-  step_is n h = kept_at (AStep t) r log n (step_number log n t h) h
-
   last_is : (s : ℕ) → IsLatestOrNone (IsStepOf log t) s → IsLatestOrNone (IsStepOf (r ∷ log) t) s
-  last_is s h = latest_as (IsStepOf log t) (IsStepOf (r ∷ log) t) step_is step_was s h
+  last_is s h = latest_as (IsStepOf log t) (IsStepOf (r ∷ log) t) (steps_back r log t neutral.no_step) (steps_there r log t neutral.no_step) s h
 
   pub request_was : (m : ℕ) (o : Op) → IsStepOf (r ∷ log) t m → Requests (r ∷ log) m o → Requests log m o
-  request_was m o step h = older_at (ARequest o) r log m (not_newest log m (step_number log m t (step_was m step))) h
+  request_was m o step h = older_at (ARequest o) r log m (not_newest log m (step_number log m t (steps_there r log t neutral.no_step m step))) h
 
 -- what lies within a log lies within a longer one
 saves_longer : (m n : ℕ) (saves : List ℕ) → m ≤ n → AllByRecursion (λ end. end ≤ m) saves → AllByRecursion (λ end. end ≤ n) saves

@@ -13,7 +13,8 @@ use Rattle.log_laws.proofs.LegalLogs.{answered_push}
 use Rattle.tc_core.specs.declared.open_txn.OpenTxn.{OpenTxn}
 use Rattle.tc_core.specs.TcView.{rolls_back}
 use Rattle.tc_core.specs.Kept.{IsRequest, IsWaiting, IsOpenTxn, Waits}
-use Rattle.tc_core.proofs.Keeps.{IsNeutral, step_was, request_was, still_open}
+use Rattle.log_laws.proofs.Undo.{steps_there}
+use Rattle.tc_core.proofs.Keeps.{IsNeutral, request_was, still_open}
 
 -- the record that is waited for stays
 a_record : (log : List Record) (n : ℕ) (q : Record) → record_at log n ≡ Some q → IsNumber log n
@@ -48,7 +49,7 @@ own_request log o n h = own_at (rolls_back o) log o n h
 module _ (r : Record) (log : List Record) where
   -- nothing of the transaction is answered by it: who waits waits still
   still_idle : (t : ℕ) → IsNeutral r log t → IsIdle log t → IsIdle (r ∷ log) t
-  still_idle t neutral idle n o step requests = answered_push n r log (idle n o (step_was r log t neutral n step) (request_was r log t neutral n o step requests))
+  still_idle t neutral idle n o step requests = answered_push n r log (idle n o (steps_there r log t neutral.no_step n step) (request_was r log t neutral n o step requests))
 
   still_waits : (o : OpenTxn) (w : Option ℕ) → IsNeutral r log o.txn
       → ((n : ℕ) → w ≡ Some n → answer_of (r ∷ log) n ≡ answer_of log n) → Waits log o w → Waits (r ∷ log) o w
@@ -57,7 +58,7 @@ module _ (r : Record) (log : List Record) where
     request = request_kept r log o n h.request;
     unanswered = same n refl ∙ h.unanswered;
     only = λ m op step requests apart. answered_push m r log
-        (h.only m op (step_was r log o.txn neutral m step) (request_was r log o.txn neutral m op step requests) apart);
+        (h.only m op (steps_there r log o.txn neutral.no_step m step) (request_was r log o.txn neutral m op step requests) apart);
   }
 
   -- so it leaves another transaction's

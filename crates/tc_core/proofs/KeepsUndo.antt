@@ -3,8 +3,9 @@ use Rattle.std.proofs.Common.{◌≡◌, ℕ, ◌+◌, ◌<◌, ◌≤◌, false
 use Rattle.record_key.specs.declared.op.Op.{Op}
 use Rattle.history.specs.declared.record.Record.{Record}
 use Rattle.history.specs.declared.record.Record.TheVariants as is
-use Rattle.history.specs.Legal.{Fits, Inverts, IsLatest, IsLatestOrNone, Stands}
+use Rattle.history.specs.Legal.{Fits, Inverts, IsLatestOrNone, Stands}
 use Rattle.log_laws.proofs.LegalLogs.{stands_number}
+use Rattle.log_laws.proofs.Checking.{latest_unique}
 use Rattle.log_laws.proofs.Undo.{latest_found, earlier_found}
 use Rattle.compensation.specs.NextUndo.{Compensates, IsUndone}
 use Rattle.range_locks.proofs.Tables.{set_other}
@@ -30,16 +31,6 @@ undo_found w o k at =
     let h = open_at w o k at in
     let P : ℕ → Type 0 = IsLatestOrNone (Stands w.log o.txn) in subst P (sym h.undo) (latest_found w.log o.txn k.legal o.last h.last)
 
--- the greatest of a kind is one number
-one_latest : (P : ℕ → Type 0) (m n : ℕ) → IsLatest P m → IsLatestOrNone P n → m ≡ n
-one_latest P m n h (inl other) = omega (arith, h.greatest n other.is, other.greatest m h.is)
-one_latest P m n h (inr none) = absurd (none.1 m h.is)
-
-one_or_none : (P : ℕ → Type 0) (m n : ℕ) → IsLatestOrNone P m → IsLatestOrNone P n → m ≡ n
-one_or_none P m n (inl h) other = one_latest P m n h other
-one_or_none P m n (inr none) (inl other) = absurd (none.1 n other.is)
-one_or_none P m n (inr none) (inr other) = none.0 ∙ sym other.0
-
 -- the inverse is that by the operation and its answer
 inverse_is : (w : TcView) (u : ℕ) (i : Option Op) → Inverts w.log u i → i ≡ inverse_at w.log u
 inverse_is w u i h = rw (h.is, h.answered) h.inverse
@@ -49,9 +40,9 @@ pub is_comp : (w : TcView) (o : OpenTxn) (above : ℕ) (r : Record) → IsTc w �
     → Compensates w.log o.txn above r
     → (r ≡ is.Comp o.txn o.undo (next_of w.log o.undo) (inverse_at w.log o.undo)) × (above < o.undo)
 is_comp w o above r k at h =
-    let same : h.undoes ≡ o.undo = one_latest (Stands w.log o.txn) h.undoes o.undo h.fits.latest (undo_found w o k at) in
+    let same : h.undoes ≡ o.undo = latest_unique (Stands w.log o.txn) h.undoes o.undo (inl h.fits.latest) (undo_found w o k at) in
     let next : h.next ≡ next_of w.log h.undoes =
-    one_or_none (λ n. Stands w.log o.txn n × (n < h.undoes)) h.next (next_of w.log h.undoes) h.fits.next (earlier_found w.log o.txn h.undoes k.legal h.fits.latest.is) in
+    latest_unique (λ n. Stands w.log o.txn n × (n < h.undoes)) h.next (next_of w.log h.undoes) h.fits.next (earlier_found w.log o.txn h.undoes k.legal h.fits.latest.is) in
     let inverse : h.inverse ≡ inverse_at w.log h.undoes = inverse_is w h.undoes h.inverse h.fits.inverse in
     (h.is ∙ rw (next, inverse, same) refl, omega (arith, h.above_bound, same))
 

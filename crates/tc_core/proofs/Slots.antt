@@ -1,7 +1,8 @@
 -- What holds of every slot, and what a change of another slot leaves.
-use Rattle.std.proofs.Common.{◌≡◌, ℕ, List, [], ◌∷◌, ◌++◌, length, refl, sym, ap, ◌∙◌, subst, arith}
+use Rattle.std.proofs.Common.{◌≡◌, ℕ, List, [], ◌∷◌, length, refl, sym, ap, ◌∙◌, subst, arith}
 use Rattle.std.specs.List.{AllByRecursion}
 use Rattle.std.proofs.lemmas.List.{length-append}
+use Rattle.record_key.proofs.Lists.{all_appended}
 use Rattle.slab.specs.Slab.{Slab, get}
 use Rattle.tc_core.specs.declared.open_txn.OpenTxn.{OpenTxn}
 use Rattle.tc_core.specs.Slots.{listed, in_slots, AreSlots}
@@ -11,17 +12,12 @@ pub record Holds (slab : Slab OpenTxn) (es : List (ℕ × ℕ)) (os : List OpenT
   pub are : AreSlots slab es
   pub view : in_slots slab es ≡ os
 
-pub all_joined : {X : Type 0} (P : X → Type 0) (xs ys : List X) → AllByRecursion P xs → AllByRecursion P ys
-    → AllByRecursion P (xs ++ ys)
-all_joined P [] ys front back = back
-all_joined P (x ∷ xs) ys front back = (front.0, all_joined P xs ys front.1 back)
-
 -- the transactions have the entries' numbers
 pub numbers : (P : ℕ → Type 0) (slab : Slab OpenTxn) (es : List (ℕ × ℕ)) → AreSlots slab es → AllByRecursion (λ (e : ℕ × ℕ). P e.0) es
     → AllByRecursion (λ (o : OpenTxn). P o.txn) (in_slots slab es)
 numbers P slab [] are all = tt
 numbers P slab (e ∷ es) are all =
-    all_joined (λ (o : OpenTxn). P o.txn) (in_slots slab es) (listed (get slab e.1)) (numbers P slab es are.1 all.1)
+    all_appended (λ (o : OpenTxn). P o.txn) (in_slots slab es) (listed (get slab e.1)) (numbers P slab es are.1 all.1)
     (rw are.0.held (subst P (sym are.0.number) all.0, tt))
 
 pub as_many : (slab : Slab OpenTxn) (es : List (ℕ × ℕ)) → AreSlots slab es → length (in_slots slab es) ≡ length es

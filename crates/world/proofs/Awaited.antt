@@ -1,6 +1,5 @@
 -- What an open transaction waits for: an operation, or in a rollback a compensation.
-use Rattle.std.proofs.Common.{◌≡◌, ℕ, Bool, true, false, MatchBool, Option, Some, None, List, refl, sym, ap, ◌∙◌, subst, true≢false}
-use Rattle.std.specs.Prelude.{is_some}
+use Rattle.std.proofs.Common.{◌≡◌, ℕ, Bool, true, false, MatchBool, Option, Some, None, List, refl, sym, ◌∙◌, subst, true≢false}
 use Rattle.record_key.specs.declared.op.Op.{Op}
 use Rattle.history.specs.declared.record.Record.{Record}
 use Rattle.history.specs.declared.record.Record.TheVariants as is

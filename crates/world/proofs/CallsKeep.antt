@@ -1,13 +1,12 @@
 -- Each call of the transaction component keeps what holds of it.
-use Rattle.std.proofs.Common.{◌≡◌, ◌⊎◌, ℕ, ◌+◌, ◌<◌, ◌≤◌, Bool, true, false, List, [], ◌∷◌, length, Option, Some, None, is_some, refl, sym, ap, ◌∙◌, subst, arith, inl, inr, true≢false}
+use Rattle.std.proofs.Common.{◌≡◌, ℕ, ◌<◌, ◌≤◌, Bool, true, false, List, [], ◌∷◌, length, Option, Some, None, is_some, refl, sym, ap, ◌∙◌, subst, arith, inl, inr, true≢false}
 use Rattle.std.specs.Prelude.{◌&&◌, ◌||◌, IsSome, Result, Ok, Err, not, nat_le, nat_lt, if◌then◌else◌}
 use Rattle.std.proofs.lemmas.Bool.Decides.{nat_tests}
-use Rattle.std.proofs.lemmas.Bool.{cases_Bool}
 use Rattle.record_key.specs.declared.op.Op.{Op}
 use Rattle.record_key.specs.declared.op.Answer.{Answer}
 use Rattle.record_key.specs.declared.refusal.Refusal.{Refusal}
 use Rattle.record_key.specs.declared.refusal.Refusal.TheVariants.{Full, BadRange, BadSavepoint, NumbersSpent, Stale}
-use Rattle.record_key.specs.FirstCause.{first_of, or_else}
+use Rattle.record_key.specs.FirstCause.{first_of}
 use Rattle.record_key.specs.Table.{Bytes, key_of}
 use Rattle.history.specs.declared.record.Record.TheVariants as is
 use Rattle.history.specs.Spans.{Exclusive, IsRange, at_key}
@@ -15,7 +14,6 @@ use Rattle.record_key.specs.Order.{ends_above}
 use Rattle.history.specs.Legal.{Fits, IsLatestOrNone, Stands, Inverts}
 use Rattle.history.specs.Log.{record_at, answer_of, IsOpBy}
 use Rattle.range_locks.specs.declared.span.Span.{Span}
-use Rattle.range_locks.specs.declared.span.Span.TheVariants.{Key, Range}
 use Rattle.range_locks.specs.Locks.{IsFree}
 use Rattle.logical_log.specs.LogView.{is_spent, spent_refusal}
 use Rattle.codec.specs.declared.reply.Reply.{Reply}
@@ -33,13 +31,13 @@ use Rattle.tc_core.specs.declared.told.UndoStep.TheVariants as undo
 use Rattle.tc_core.specs.declared.told.RecoverStep.{RecoverStep}
 use Rattle.tc_core.specs.declared.told.RecoverStep.TheVariants as step
 use Rattle.tc_core.specs.OpenTxns.{find}
-use Rattle.tc_core.specs.TcView.{TcView, fresh, failed}
+use Rattle.tc_core.specs.TcView.{TcView, fresh}
 use Rattle.tc_core.specs.Refusing.{Refuses}
 use Rattle.tc_core.specs.Causes.{begin_refusal, idle_refusal, is_full, answered_refusal, undo_refusal, undo_logs, logs_next, saves_of, has_savepoint, reads_spent, RefusesTaking, commit_refusal, running_refusal}
-use Rattle.tc_core.specs.Changes.{shared, logged_session, acted, asked_read, committed, compensated, ended, answered, was_told, next_of, inverse_at}
-use Rattle.tc_core.specs.Calls.{ReconnectGives, BeginGives, ActGives, ReadGives, SaveGives, BackGives, RollbackGives, CommitGives, UndoGives, ForceGives, UndoesStep, Undoes, IsAt}
-use Rattle.tc_core.specs.Replies.{ReplyGives, Outcome, on_reply, on_answered, on_awaited, on_connected, on_redo_ended, on_row, on_rows, awaiting, reader, takes, is_key, is_range, span_read, passed, logs, is_logged, is_stale, answered_refusal_of, reply_refusal}
-use Rattle.tc_core.specs.Recovery.{RecoverGives, SendsAt, Redoes, redoing, redo_place}
+use Rattle.tc_core.specs.Changes.{shared, logged_session, committed, answered, was_told, next_of, inverse_at}
+use Rattle.tc_core.specs.Calls.{ReconnectGives, BeginGives, ActGives, ReadGives, SaveGives, BackGives, RollbackGives, CommitGives, UndoGives, ForceGives, Undoes, IsAt}
+use Rattle.tc_core.specs.Replies.{ReplyGives, Outcome, on_reply, on_answered, on_awaited, on_connected, on_redo_ended, on_row, on_rows, awaiting, reader, takes, is_key, is_range, span_read, is_logged, is_stale, answered_refusal_of, reply_refusal}
+use Rattle.tc_core.specs.Recovery.{RecoverGives, SendsAt, redo_place}
 use Rattle.tc_core.specs.Undo.{FindsRequest}
 use Rattle.tc_core.specs.Kept.{IsTc, IsPhase}
 use Rattle.tc_core.proofs.KeepsTc.{keeps_failed, keeps_logged, keeps_force, keeps_session, keeps_begin, keeps_act, keeps_rollback, keeps_save, keeps_back, keeps_is_back, keeps_answer, keeps_passed, awaited_is, open_at, idle_at}

@@ -1,22 +1,18 @@
 -- Transactions whose Commit isn't stable: who they are, and how a force tells them.
-use Rattle.std.proofs.Common.{◌≡◌, ◌≢◌, ℕ, zero, suc, ◌+◌, ◌-◌, ◌<◌, ◌≤◌, Bool, true, false, List, [], ◌∷◌, ◌++◌, length, Option, Some, None, refl, sym, ap, ◌∙◌, subst, arith, inl, inr, true≢false, eqb-true, eq-eqb, append_assoc, append-nil}
-use Rattle.std.specs.Prelude.{◌==◌, ◌||◌, ◌⊎◌, map, nat_lt, is_some, if◌then◌else◌}
+use Rattle.std.proofs.Common.{◌≡◌, ◌≢◌, ℕ, zero, suc, ◌+◌, ◌<◌, ◌≤◌, Bool, true, false, List, [], ◌∷◌, ◌++◌, length, Option, Some, refl, sym, ap, ◌∙◌, arith, inl, inr, true≢false, eqb-true, append_assoc, append-nil}
+use Rattle.std.specs.Prelude.{◌==◌, ◌||◌, ◌⊎◌, nat_lt, if◌then◌else◌}
 use Rattle.std.specs.List.{list_any}
-use Rattle.std.proofs.lemmas.Bool.{cases_Bool, cases_eq}
 use Rattle.std.proofs.lemmas.Bool.Decides.{nat_tests}
 use Rattle.std.proofs.lemmas.List.{map-append}
 use Rattle.std.proofs.lemmas.List.Folds.{list_any-append}
 use Rattle.history.specs.declared.record.Record.{Record}
 use Rattle.history.specs.declared.record.Record.TheVariants as is
-use Rattle.history.specs.Log.{record_at, has_ended, IsOpen}
+use Rattle.history.specs.Log.{record_at}
 use Rattle.history.specs.ListMachine.{Line, TellsCommitted}
 use Rattle.log_laws.proofs.Records.{record_new, record_old}
-use Rattle.log_laws.proofs.Strict.{end_number, end_ends}
+use Rattle.log_laws.proofs.Strict.{end_number}
 use Rattle.simulation.specs.View.{IsCommitAt}
 use Rattle.simulation.specs.Laws.{told_at, told_after}
-use Rattle.range_locks.specs.Locks.{LocksView, spans_of, set_spans, IsTable}
-use Rattle.range_locks.proofs.Tables.{set_table, set_other}
-use Rattle.tc_core.specs.Changes.{let_go}
 use Rattle.tc_core.specs.Kept.{commits_in}
 use Rattle.tc_core.specs.Locking.{is_listed}
 use Rattle.world.specs.Simulation.{told_committed}

@@ -1,6 +1,6 @@
 -- What a call of the transaction component may do is a step of the list machine, and keeps what holds.
-use Rattle.std.proofs.Common.{◌≡◌, ℕ, ◌+◌, ◌<◌, ◌≤◌, Bool, true, false, List, [], ◌∷◌, length, Option, Some, None, is_some, refl, sym, ap, ◌∙◌, subst, arith, inl, inr, ◌⊎◌, true≢false}
-use Rattle.std.specs.Prelude.{◌||◌, ◌&&◌, not, Result, Ok, Err, nat_le}
+use Rattle.std.proofs.Common.{◌≡◌, ℕ, ◌+◌, ◌≤◌, Bool, true, false, List, [], ◌∷◌, length, Option, Some, None, refl, sym, ap, ◌∙◌, subst, arith, inl, inr, ◌⊎◌, true≢false}
+use Rattle.std.specs.Prelude.{◌&&◌, not, Result, Ok, Err, nat_le}
 use Rattle.std.proofs.lemmas.Bool.Decides.{nat_tests}
 use Rattle.std.proofs.lemmas.Bool.{cases_Bool}
 use Rattle.record_key.specs.declared.op.Op.{Op}
@@ -12,10 +12,9 @@ use Rattle.history.specs.Spans.{Exclusive, Span, at_key, IsRange}
 use Rattle.record_key.specs.Order.{ends_above}
 use Rattle.history.specs.declared.record.Record.{Record}
 use Rattle.history.specs.declared.record.Record.TheVariants as is
-use Rattle.history.specs.Log.{record_at, answer_of}
-use Rattle.history.specs.Legal.{Stands as StandsIn}
-use Rattle.history.specs.ListMachine.{Machine, Line, Call, Query, ToBegin, ToAct, ToRead, ToSave, ToGoBack, ToRollBack, ToCommit, IsRefused, Begins, Acts as acts, Reads, Saves as saves_line, GoesBack as goes_back, RollsBack as rolls_back_line, Commits, TellsRolledBack, TellsBack, asked_span, Steps}
-use Rattle.simulation.specs.View.{View, StandsFor}
+use Rattle.history.specs.Log.{record_at}
+use Rattle.history.specs.ListMachine.{Machine, Line, Call, ToBegin, ToAct, ToRead, ToSave, ToGoBack, ToRollBack, ToCommit, IsRefused, Begins, Acts as acts, Reads, Saves as saves_line, GoesBack as goes_back, RollsBack as rolls_back_line, Commits, TellsRolledBack, TellsBack, asked_span, Steps}
+use Rattle.simulation.specs.View.{StandsFor}
 use Rattle.simulation.specs.Running.{Leads as LeadsTo}
 use Rattle.range_locks.specs.declared.span.Span.{Span as Keys}
 use Rattle.range_locks.specs.declared.span.Span.TheVariants.{Key, Range}
@@ -26,13 +25,13 @@ use Rattle.tc_core.specs.declared.open_txn.Rollback.{Rollback}
 use Rattle.tc_core.specs.declared.told.UndoStep.{UndoStep}
 use Rattle.tc_core.specs.declared.told.UndoStep.TheVariants as undo
 use Rattle.tc_core.specs.declared.phase.Phase.{Phase}
-use Rattle.logical_log.specs.LogView.{is_spent, spent_refusal}
+use Rattle.logical_log.specs.LogView.{is_spent}
 use Rattle.tc_core.specs.OpenTxns.{find, replace}
-use Rattle.tc_core.specs.TcView.{TcView, is_rolling, failed}
+use Rattle.tc_core.specs.TcView.{TcView, failed}
 use Rattle.tc_core.specs.Refusing.{Refuses}
-use Rattle.tc_core.specs.Causes.{begin_refusal, commit_refusal, idle_refusal, is_full, read_refusal, save_refusal, saves_of, back_refusal, has_savepoint, undo_refusal, answered_refusal, undo_logs, RefusesTaking}
-use Rattle.tc_core.specs.Changes.{begun, begun_txn, acted, acted_txn, asked_read, reading_txn, shared, saved, saved_txn, going_back, going_back_txn, rolled, rolling_txn, committed, compensated, compensated_txn, ended, is_back, back_txn, next_of, inverse_at, forced}
-use Rattle.tc_core.specs.Calls.{IsAt, Acts, AsksRead, Saves, GoesBack, RollsBack, BeginGives, ActGives, ReadGives, SaveGives, BackGives, RollbackGives, CommitGives, UndoGives, ForceGives, UndoesStep, Undoes}
+use Rattle.tc_core.specs.Causes.{begin_refusal, commit_refusal, idle_refusal, read_refusal, save_refusal, saves_of, back_refusal, has_savepoint, undo_refusal, answered_refusal, undo_logs, RefusesTaking}
+use Rattle.tc_core.specs.Changes.{begun, acted, acted_txn, asked_read, reading_txn, shared, saved, saved_txn, going_back, going_back_txn, rolled, rolling_txn, committed, compensated, compensated_txn, ended, is_back, back_txn, next_of, inverse_at, forced}
+use Rattle.tc_core.specs.Calls.{IsAt, Acts, AsksRead, Saves, GoesBack, RollsBack, ReadGives, UndoGives, UndoesStep, Undoes}
 use Rattle.tc_core.specs.Kept.{IsTc}
 use Rattle.tc_core.specs.Locking.{is_listed}
 use Rattle.tc_core.proofs.Finding.{found_number}
@@ -52,8 +51,8 @@ use Rattle.world.proofs.CallsKeep.{commit_found, begin_keeps, act_keeps, read_ke
 use Rattle.world.proofs.Standing.{stands_begun, stands_acted, stands_asked, stands_saved, stands_going_back, stands_rolled, stands_committed, stands_compensated, stands_ended, stands_back, stands_forced}
 use Rattle.world.proofs.Refused.{RefusesSo, begin_refused, act_refused, read_refused, same_span, save_refused, back_refused, rollback_refused, commit_refused}
 use Rattle.tc_core.proofs.Refused.{at_number}
-use Rattle.world.proofs.Idle.{IsIdleTxn, both_none, one_false, idle_found, found_idle, waits_for_none}
-use Rattle.world.proofs.Readers.{NoneAnew, ReadsOnly, none_same, none_begun, none_replaced, none_without, reads_same, reads_none}
+use Rattle.world.proofs.Idle.{both_none, one_false, idle_found, waits_for_none}
+use Rattle.world.proofs.Readers.{NoneAnew, ReadsOnly, none_same, none_begun, none_replaced, none_without, reads_same}
 use Rattle.world.proofs.Keeps.{still_captured, asked_captured, keeps_appended, keeps_same_log}
 
 pub record Follows (old : NodeView) (e : Event) (output : Out) (new : NodeView) : Type 0 where

@@ -1,14 +1,14 @@
 -- What a call that isn't refused has found of its transaction.
-use Rattle.std.proofs.Common.{◌≡◌, ℕ, Bool, true, false, [], ◌∷◌, Option, Some, None, is_some, refl, sym, ap, ◌∙◌, subst, true≢false}
+use Rattle.std.proofs.Common.{◌≡◌, ℕ, Bool, true, false, [], ◌∷◌, Option, Some, None, is_some, refl, sym, ap, ◌∙◌, true≢false}
 use Rattle.std.specs.Prelude.{◌||◌, not}
 use Rattle.record_key.specs.declared.refusal.Refusal.{Refusal}
-use Rattle.record_key.specs.declared.refusal.Refusal.TheVariants.{NotConnected, Redoing, NotOpen, RollingBack, Unanswered}
+use Rattle.record_key.specs.declared.refusal.Refusal.TheVariants.{NotOpen, RollingBack, Unanswered}
 use Rattle.record_key.specs.FirstCause.{first_of, or_else}
 use Rattle.tc_core.specs.declared.open_txn.OpenTxn.{OpenTxn}
 use Rattle.tc_core.specs.declared.open_txn.Read.{Read}
 use Rattle.tc_core.specs.declared.open_txn.Rollback.{Rollback}
 use Rattle.tc_core.specs.OpenTxns.{find}
-use Rattle.tc_core.specs.TcView.{TcView, is_unconnected, is_running, is_rolling, is_waiting}
+use Rattle.tc_core.specs.TcView.{TcView, is_rolling, is_waiting}
 use Rattle.tc_core.specs.Causes.{running_refusal, idle_refusal, open_refusal, answered_refusal}
 use Rattle.tc_core.specs.Calls.{IsAt}
 use Rattle.tc_core.proofs.Refused.{at_number}

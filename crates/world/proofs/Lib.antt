@@ -30,7 +30,6 @@ pub mod Settled
 pub mod Shares
 pub mod Spellable
 pub mod Standing
-pub mod Told
 pub mod ToldReads
 pub mod Totals
 pub mod TxnRounds

@@ -8,7 +8,6 @@ use Rattle.history.specs.declared.record.Record.{Record}
 use Rattle.history.specs.History.{plain}
 use Rattle.history.specs.Spans.{is_within}
 use Rattle.history.specs.Log.{record_at, answer_of, IsOpBy, IsOpen, Requests}
-use Rattle.history.specs.Values.{value_on}
 use Rattle.history.specs.ListMachine.{Machine}
 use Rattle.log_laws.proofs.Records.{op_request}
 use Rattle.log_laws.proofs.Plain.{value_of-captured}

@@ -1,20 +1,19 @@
 -- A refused call of a client has its cause on the list machine, and leaves what the component stands for.
-use Rattle.std.proofs.Common.{◌≡◌, ◌≢◌, ℕ, ◌+◌, ◌<◌, ◌≤◌, Bool, true, false, List, [], ◌∷◌, length, Option, Some, None, IsSome, is_some, IsTrue, refl, sym, ap, ◌∙◌, subst, arith, inl, inr, ◌⊎◌, true≢false}
+use Rattle.std.proofs.Common.{◌≡◌, ◌≢◌, ℕ, ◌<◌, ◌≤◌, Bool, true, false, List, [], ◌∷◌, length, Option, Some, None, IsSome, is_some, refl, sym, ap, ◌∙◌, subst, arith, inl, inr, ◌⊎◌, true≢false}
 use Rattle.std.specs.Prelude.{◌||◌, ◌&&◌, ◌==◌, not, map, nat_le, if◌then◌else◌}
 use Rattle.std.proofs.lemmas.List.{length-map}
 use Rattle.std.specs.List.{AllByRecursion}
-use Rattle.std.proofs.lemmas.Bool.{cases_Bool}
 use Rattle.std.proofs.lemmas.Bool.Decides.{nat_tests}
 use Rattle.record_key.specs.declared.op.Op.{Op}
 use Rattle.record_key.specs.declared.refusal.Refusal.{Refusal}
 use Rattle.record_key.specs.declared.refusal.Refusal.TheVariants as no
 use Rattle.record_key.specs.FirstCause.{first_of, or_else}
-use Rattle.record_key.specs.Table.{Bytes, key_of}
+use Rattle.record_key.specs.Table.{key_of}
 use Rattle.history.specs.Spans.{Span, Exclusive, IsRange, at_key}
 use Rattle.record_key.specs.Order.{ends_above}
-use Rattle.history.specs.ListMachine.{Machine, Call, Query, ToBegin, ToAct, ToRead, ToSave, ToGoBack, ToRollBack, ToCommit, AreDifferent, asked_span}
-use Rattle.simulation.specs.View.{Ready, Awaits, Looks, Rolls, StandsFor}
-use Rattle.simulation.specs.Refusals.{IsRefusal, IsOfTheNode, caller, wanted}
+use Rattle.history.specs.ListMachine.{Machine, Call, ToBegin, ToAct, ToRead, ToSave, ToGoBack, ToRollBack, ToCommit, AreDifferent, asked_span}
+use Rattle.simulation.specs.View.{Ready, StandsFor}
+use Rattle.simulation.specs.Refusals.{IsRefusal, caller, wanted}
 use Rattle.simulation.proofs.Refusing.{busy_is_a_line, not_open_is_a_line, unanswered_is_a_line, rolling_back_is_a_line, bad_range_is_a_line, full_is_a_line, full_of_savepoints_is_a_line, bad_savepoint_is_a_line, node_refusal_is_a_line}
 use Rattle.range_locks.specs.declared.span.Span.{Span as Keys}
 use Rattle.range_locks.specs.declared.span.Span.TheVariants.{Key, Range}
@@ -26,13 +25,13 @@ use Rattle.logical_log.specs.LogView.{is_spent, spent_refusal}
 use Rattle.tc_core.specs.OpenTxns.{find, AreBelow, AreFalling}
 use Rattle.tc_core.specs.TcView.{TcView, is_unconnected, is_running, is_rolling, is_waiting}
 use Rattle.tc_core.specs.Refusing.{Refuses}
-use Rattle.tc_core.specs.Causes.{running_refusal, open_refusal, idle_refusal, is_full, begin_refusal, commit_refusal, saves_of, save_refusal, has_savepoint, back_refusal, read_refusal, reads_spent, RefusesTaking}
+use Rattle.tc_core.specs.Causes.{running_refusal, open_refusal, idle_refusal, is_full, begin_refusal, commit_refusal, saves_of, save_refusal, has_savepoint, back_refusal, reads_spent, RefusesTaking}
 use Rattle.tc_core.specs.Calls.{BeginGives, ActGives, ReadGives, SaveGives, BackGives, RollbackGives, CommitGives}
 use Rattle.tc_core.specs.Changes.{shared}
 use Rattle.tc_core.specs.Kept.{IsTc}
 use Rattle.tc_core.proofs.Finding.{find_here}
-use Rattle.std.specs.Prelude.{Result, Ok, Err}
-use Rattle.world.specs.Simulation.{query_of, doing_of, doing_in, clients}
+use Rattle.std.specs.Prelude.{Err}
+use Rattle.world.specs.Simulation.{query_of, doing_in, clients}
 use Rattle.world.proofs.Clients.{rolls, looks, awaits, rests}
 use Rattle.world.proofs.Standing.{true_spans}
 use Rattle.world.proofs.Idle.{both_none, one_false, two_false, none_rolls, none_waits}

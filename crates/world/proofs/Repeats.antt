@@ -4,15 +4,12 @@ use Rattle.std.specs.Prelude.{◌==◌, ◌||◌, nat_le, if◌then◌else◌}
 use Rattle.std.specs.List.{AllByRecursion, list_any}
 use Rattle.std.proofs.lemmas.Bool.Decides.{nat_tests}
 use Rattle.record_key.specs.declared.op.Answer.{Answer}
-use Rattle.record_key.specs.Table.{Bytes}
 use Rattle.history.specs.Log.{Requests}
 use Rattle.history.specs.Values.{IsRight}
 use Rattle.record_key.specs.declared.entry.Entry.{Entry}
 use Rattle.ab_lsn.specs.AbLsn.{AbLsnView, captures, saved_in}
 use Rattle.record_key.specs.Entries.{numbers}
-use Rattle.page.specs.Leaf.{LeafView, is_in_fences}
 use Rattle.page.specs.Honest.{IsSavedRight}
-use Rattle.dc_core.proofs.KeepsDc.{in_fences}
 use Rattle.world.specs.Node.{NodeView}
 use Rattle.world.specs.Kept.{IsKept, IsAnswered}
 

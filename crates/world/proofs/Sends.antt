@@ -133,8 +133,7 @@ recovers old new q (phase.Redoing next ending) at k h after left =
     let redo = redo_found old next h.found k bounds.0 bounds.1 h.finds in
     let mid : NodeView = with_tc old (redoing old.tc place sent_end) in
     let same : new ≡ with_request mid q = left ∙ ap (λ tc. record old { tc = tc; requests = old.requests ++ q ∷ [] }) h.left in
-    let P : Request → Type 0 = IsSent old.tc in
-    (
+    let P : Request → Type 0 = IsSent old.tc in (
       subst IsKept (sym same) (keeps_sent mid q (keeps_redoing old next ending place sent_end k at (subst IsTc h.left after)) (sent_on old.tc (redoing old.tc place sent_end) (stays old place sent_end k) q (subst P (sym h.request_is) redo.sent))),
       λ m stands. subst (λ x. StandsFor (clients x) m) (sym h.left) stands,
     )

@@ -1,16 +1,16 @@
 -- A settled node holds what the plain map holds.
 use Rattle.std.proofs.Common.{◌≡◌, ◌⊎◌, ℕ, ◌+◌, ◌<◌, ◌≤◌, Bool, true, false, List, [], ◌∷◌, length, Option, Some, None, IsSome, is_some, refl, sym, ap, ◌∙◌, subst, arith, inl, inr, true≢false}
-use Rattle.std.specs.Prelude.{◌||◌, not, if◌then◌else◌}
+use Rattle.std.specs.Prelude.{◌||◌, if◌then◌else◌}
 use Rattle.std.specs.FinMap.{get}
 use Rattle.std.proofs.lemmas.Bool.{cases_eq, cases_lt, cases_Bool}
 use Rattle.record_key.specs.declared.op.Op.{Op}
 use Rattle.record_key.specs.declared.op.Answer.{Answer}
-use Rattle.record_key.specs.Table.{Bytes, key_of, value_after, after}
+use Rattle.record_key.specs.Table.{Bytes, key_of, value_after}
 use Rattle.record_key.proofs.Tables.{same_table}
 use Rattle.history.specs.declared.record.Record.{Record}
-use Rattle.history.specs.History.{Entry, plain}
+use Rattle.history.specs.History.{plain}
 use Rattle.history.specs.ListMachine.{Machine}
-use Rattle.simulation.specs.View.{is_to_undo, standing}
+use Rattle.simulation.specs.View.{is_to_undo}
 use Rattle.simulation.specs.Views.{IsCalm}
 use Rattle.simulation.proofs.Viewing.{calm_entries}
 use Rattle.history.specs.Log.{record_at, before, answer_of, request_of, request_in, Requests, IsOpBy, hist}
@@ -33,7 +33,8 @@ use Rattle.world.specs.Node.{NodeView}
 use Rattle.world.specs.Kept.{IsKept}
 use Rattle.world.specs.Simulation.{Stands, IsSettled, AreUnrolled, clients, doing_in}
 use Rattle.world.specs.Rounds.{AreIdle, IsAtRest, IsApart, IsRedoing, IsServing}
-use Rattle.world.proofs.Told.{plain_there}
+use Rattle.simulation.proofs.RightAnswers.{plain_there}
+use Rattle.simulation.proofs.Answering.{plain_uncrossed}
 use Rattle.world.proofs.Awaited.{IsOpOf, op_waited}
 use Rattle.world.proofs.Idle.{none_rolls}
 use Rattle.world.proofs.Reading.{flat_undoes_none}
@@ -156,16 +157,6 @@ value_at w k settled key = elim (answered_all w.tc.log w.tc.log key) [
   ]
 ]
 
--- only the entries that stand count
-one_standing : (e : Entry) (h : List Entry) → plain (standing h) ≡ plain h → (b : Bool) → e.crossed ≡ b
-    → plain (if not b then e ∷ standing h else standing h) ≡ (if b then plain h else after (plain h) e.op)
-one_standing e h rest true is = rest
-one_standing e h rest false is = ap (λ c. if c then plain (standing h) else after (plain (standing h)) e.op) is ∙ ap (λ x. after x e.op) rest
-
-plain_standing : (h : List Entry) → plain (standing h) ≡ plain h
-plain_standing [] = refl
-plain_standing (e ∷ h) = one_standing e h (plain_standing h) e.crossed refl
-
 -- nobody rolls back, and nobody loses
 calm : (w : NodeView) → AreUnrolled w.tc.open_txns → IsCalm (clients w.tc)
 calm w unrolled = record { stays = λ t. refl; unrolled = λ t n. by t n (find t w.tc.open_txns) refl }
@@ -181,7 +172,7 @@ calm w unrolled = record { stays = λ t. refl; unrolled = λ t n. by t n (find t
 pub settled_rows : (w : NodeView) (m : Machine) → IsKept w → Stands w m → IsSettled w → w.dc.leaf.rows ≡ plain m.h
 settled_rows w m k stands settled =
     same_table w.dc.leaf.rows (plain (hist w.tc.log)) (λ q. (k.honest.at q (in_fences w.dc.leaf q k.whole.0 k.whole.1)).right ∙ value_at w k settled q)
-    ∙ sym (sym (plain_standing m.h) ∙ ap plain (calm_entries (clients w.tc) m stands (calm w settled.unrolled)) ∙ plain_standing (hist w.tc.log))
+    ∙ sym (sym (plain_uncrossed m.h) ∙ ap plain (calm_entries (clients w.tc) m stands (calm w settled.unrolled)) ∙ plain_uncrossed (hist w.tc.log))
 
 -- nothing is left to do
 nobody_waits : (w : TcView) (n : ℕ) → AreIdle w.open_txns → IsAwaited w n → ⊥

@@ -1,6 +1,6 @@
 -- Each change of the transaction component is a step of the list machine, or none.
-use Rattle.std.proofs.Common.{◌≡◌, ◌≢◌, ℕ, ◌+◌, ◌-◌, ◌<◌, ◌≤◌, Bool, true, false, List, [], ◌∷◌, ◌++◌, length, Option, Some, None, refl, sym, ap, ◌∙◌, subst, arith, inl, inr, ◌⊎◌, take, true≢false}
-use Rattle.std.specs.Prelude.{◌||◌, is_some, slice_get, nat_lt}
+use Rattle.std.proofs.Common.{◌≡◌, ◌≢◌, ℕ, ◌+◌, ◌-◌, ◌<◌, ◌≤◌, true, false, List, [], ◌∷◌, ◌++◌, length, Option, Some, None, refl, sym, ap, ◌∙◌, subst, arith, inl, inr, ◌⊎◌, take, true≢false}
+use Rattle.std.specs.Prelude.{◌||◌, is_some, slice_get}
 use Rattle.std.specs.FinMap.{get}
 use Rattle.std.proofs.lemmas.Bool.{cases_Bool, cases_eq}
 use Rattle.std.proofs.lemmas.Bool.Decides.{nat_tests}
@@ -10,8 +10,7 @@ use Rattle.record_key.specs.Table.{Bytes, key_of}
 use Rattle.history.specs.declared.record.Record.{Record}
 use Rattle.history.specs.declared.record.Record.TheVariants as is
 use Rattle.history.specs.History.{plain}
-use Rattle.history.specs.Spans.{Span, Exclusive, IsRange, at_key, AnyConflict, rows_in}
-use Rattle.history.specs.Spans as law
+use Rattle.history.specs.Spans.{Span, Exclusive, IsRange, at_key, rows_in}
 use Rattle.history.specs.Log.{IsOpBy, IsOpen}
 use Rattle.history.specs.Legal.{Stands, IsLegal}
 use Rattle.history.specs.Values.{HasRightAnswers}
@@ -20,7 +19,7 @@ use Rattle.log_laws.proofs.Records.{newest_at, older_at}
 use Rattle.log_laws.proofs.Strict.{end_number, end_ends}
 use Rattle.simulation.specs.View.{View, Doing, Ready, Awaits, Looks, Rolls, is_to_undo, IsCommitAt, StandsFor}
 use Rattle.simulation.specs.Views.{HasTrueSpans, IsUncommitting}
-use Rattle.simulation.specs.Running.{put, Leads, does, after_begin, after_act, after_commit, after_rollback, after_answer, after_save, after_go_back, after_read}
+use Rattle.simulation.specs.Running.{put, Leads, does, after_begin, after_act, after_answer, after_save, after_go_back, after_read}
 use Rattle.simulation.proofs.Calling.{begin_is_a_step, act_is_a_step}
 use Rattle.simulation.proofs.Answering.{answer_is_told}
 use Rattle.simulation.proofs.Saving.{save_is_a_step, go_back_is_a_step}
@@ -39,7 +38,7 @@ use Rattle.range_locks.specs.Locks as locks
 use Rattle.tc_core.specs.declared.open_txn.OpenTxn.{OpenTxn}
 use Rattle.tc_core.specs.declared.open_txn.Read.{Read}
 use Rattle.tc_core.specs.declared.open_txn.Rollback.{Rollback}
-use Rattle.tc_core.specs.OpenTxns.{find, replace, without}
+use Rattle.tc_core.specs.OpenTxns.{find, without}
 use Rattle.tc_core.specs.TcView.{TcView}
 use Rattle.tc_core.specs.Causes.{saves_of}
 use Rattle.tc_core.specs.Changes.{let_go, forced, logged_session, reconnected, begun_txn, begun, acted_txn, acted, reading_txn, shared, asked_read, told_txn, was_told, saved_txn, saved, rolling_txn, rolled, going_back_txn, going_back, committed, next_of, inverse_at, compensated_txn, compensated, ended, back_txn, is_back, answered_txn, answered}
@@ -50,7 +49,7 @@ use Rattle.world.specs.Simulation.{query_of, doing_of, doing_in, clients, told_c
 use Rattle.world.proofs.Clients.{put_is, doing_now, doing_kept, saves_replaced, saves_kept, doing_without, saves_without, spans_put, rests, awaits, looks, rolls}
 use Rattle.tc_core.proofs.Committing.{open_unlisted}
 use Rattle.tc_core.proofs.LettingGo.{let_go_other}
-use Rattle.world.proofs.Committing.{IsUnstableCommit, listed_commit, told_commits}
+use Rattle.world.proofs.Committing.{listed_commit, told_commits}
 use Rattle.world.proofs.Idle.{IsIdleTxn}
 
 -- whoever isn't open does nothing
@@ -95,15 +94,14 @@ stands_begun w m k unfound unlisted stands =
     let new : OpenTxn = begun_txn t in
     let l = begin_is_a_step (clients w) m k.legal stands in
     let here : find t (new ∷ w.open_txns) ≡ Some new = find_here new w.open_txns t refl in
-    let there : (u : ℕ) → u ≢ t → find u (new ∷ w.open_txns) ≡ find u w.open_txns = λ u apart. find_there new w.open_txns u (λ e. apart (sym e)) in
-    (
+    let there : (u : ℕ) → u ≢ t → find u (new ∷ w.open_txns) ≡ find u w.open_txns = λ u apart. find_there new w.open_txns u (λ e. apart (sym e)) in (
       l.0,
       l.1,
       stands_along (after_begin (clients w)) (clients (begun w)) l.0 refl refl (λ u. refl)
-      (put_is (clients w).doing (clients (begun w)).doing t (Some Ready) (ap doing_in here) (λ u apart. ap doing_in (there u apart)))
-      (put_is (clients w).saves (clients (begun w)).saves t [] (ap saves_of here) (λ u apart. ap saves_of (there u apart)))
-      (put_is (clients w).spans (clients (begun w)).spans t []
-      (k.locks.others t (ap (λ (x : Option OpenTxn). is_some x || is_listed w.committing t) unfound ∙ unlisted)) (λ u apart. refl)) l.2,
+          (put_is (clients w).doing (clients (begun w)).doing t (Some Ready) (ap doing_in here) (λ u apart. ap doing_in (there u apart)))
+          (put_is (clients w).saves (clients (begun w)).saves t [] (ap saves_of here) (λ u apart. ap saves_of (there u apart)))
+          (put_is (clients w).spans (clients (begun w)).spans t []
+          (k.locks.others t (ap (λ (x : Option OpenTxn). is_some x || is_listed w.committing t) unfound ∙ unlisted)) (λ u apart. refl)) l.2,
     )
 
 -- no Commit of an open transaction stands, nor does its End make one
@@ -124,13 +122,12 @@ module _ (w : TcView) (m : Machine) (o : OpenTxn) (k : IsTc w) (at : find o.txn 
       let s : Span = at_key Exclusive (key_of op) in
       let n : ℕ = length w.log + 1 in
       let new : OpenTxn = acted_txn o n in
-      let l = act_is_a_step (clients w) m o.txn o.last op after.legal stands (does_this w o Ready at (idle_rests o idle)) (free_there w m o.txn s k stands free) in
-      (
+      let l = act_is_a_step (clients w) m o.txn o.last op after.legal stands (does_this w o Ready at (idle_rests o idle)) (free_there w m o.txn s k stands free) in (
         l.0,
         l.1,
         stands_along (after_act (clients w) o.txn o.last op) (clients (acted w o op)) l.0 refl refl (λ u. refl)
-        (doing_now w.open_txns new o at (Awaits n) (awaits new n idle.rolling idle.reading refl)) (saves_kept w.open_txns new o at refl)
-        (spans_put w.locks o.txn (s ∷ spans_of w.locks o.txn) k.locks.table) l.2,
+            (doing_now w.open_txns new o at (Awaits n) (awaits new n idle.rolling idle.reading refl)) (saves_kept w.open_txns new o at refl)
+            (spans_put w.locks o.txn (s ∷ spans_of w.locks o.txn) k.locks.table) l.2,
       )
 
   -- asks for a read
@@ -139,14 +136,13 @@ module _ (w : TcView) (m : Machine) (o : OpenTxn) (k : IsTc w) (at : find o.txn 
   stands_asked s idle range free same =
       let n : ℕ = w.reads + 1 in
       let new : OpenTxn = reading_txn o n s in
-      let l = read_is_a_step (clients w) m o.txn (query_of s) stands (does_this w o Ready at (idle_rests o idle)) range (free_there w m o.txn (asked_span (query_of s)) k stands free) in
-      (
+      let l = read_is_a_step (clients w) m o.txn (query_of s) stands (does_this w o Ready at (idle_rests o idle)) range (free_there w m o.txn (asked_span (query_of s)) k stands free) in (
         l.0,
         l.1,
         stands_along (after_read (clients w) o.txn (query_of s)) (clients (asked_read w o s)) l.0 refl refl (λ u. refl)
-        (doing_now w.open_txns new o at (Looks (query_of s)) (looks new (record { number = n; span = s }) idle.rolling refl)) (saves_kept w.open_txns new o at refl)
-        (λ u. ap (λ (x : Span). put (λ t. spans_of w.locks t) o.txn (x ∷ spans_of w.locks o.txn) u) same
-        ∙ spans_put w.locks o.txn (shared s ∷ spans_of w.locks o.txn) k.locks.table u) l.2,
+            (doing_now w.open_txns new o at (Looks (query_of s)) (looks new (record { number = n; span = s }) idle.rolling refl)) (saves_kept w.open_txns new o at refl)
+            (λ u. ap (λ (x : Span). put (λ t. spans_of w.locks t) o.txn (x ∷ spans_of w.locks o.txn) u) same
+            ∙ spans_put w.locks o.txn (shared s ∷ spans_of w.locks o.txn) k.locks.table u) l.2,
       )
 
   -- is told what it read
@@ -172,13 +168,12 @@ module _ (w : TcView) (m : Machine) (o : OpenTxn) (k : IsTc w) (at : find o.txn 
   stands_saved s idle number few =
       let new : OpenTxn = saved_txn o (length w.log) in
       let mine : saves_of (find o.txn w.open_txns) ≡ o.saves = ap saves_of at in
-      let l = save_is_a_step (clients w) m o.txn s stands (does_this w o Ready at (idle_rests o idle)) (ap (λ (x : List ℕ). length x + 1) mine ∙ number) few in
-      (
+      let l = save_is_a_step (clients w) m o.txn s stands (does_this w o Ready at (idle_rests o idle)) (ap (λ (x : List ℕ). length x + 1) mine ∙ number) few in (
         l.0,
         l.1,
         stands_along (after_save (clients w) o.txn) (clients (saved w o)) l.0 refl refl (λ u. refl)
-        (doing_kept w.open_txns new o at refl)
-        (λ u. ap (λ (x : List ℕ). put (λ t. saves_of (find t w.open_txns)) o.txn (x ++ length w.log ∷ []) u) mine ∙ saves_replaced w.open_txns new o at u) (λ u. refl) l.2,
+            (doing_kept w.open_txns new o at refl)
+            (λ u. ap (λ (x : List ℕ). put (λ t. saves_of (find t w.open_txns)) o.txn (x ++ length w.log ∷ []) u) mine ∙ saves_replaced w.open_txns new o at u) (λ u. refl) l.2,
       )
 
   -- goes back to a savepoint
@@ -186,25 +181,23 @@ module _ (w : TcView) (m : Machine) (o : OpenTxn) (k : IsTc w) (at : find o.txn 
   stands_going_back s end idle some found =
       let new : OpenTxn = going_back_txn o s end in
       let mine : saves_of (find o.txn w.open_txns) ≡ o.saves = ap saves_of at in
-      let l = go_back_is_a_step (clients w) m o.txn s end stands (does_this w o Ready at (idle_rests o idle)) some (ap (λ (x : List ℕ). slice_get x (s - 1)) mine ∙ found) in
-      (
+      let l = go_back_is_a_step (clients w) m o.txn s end stands (does_this w o Ready at (idle_rests o idle)) some (ap (λ (x : List ℕ). slice_get x (s - 1)) mine ∙ found) in (
         l.0,
         l.1,
         stands_along (after_go_back (clients w) o.txn s end) (clients (going_back w o s end)) l.0 refl refl (λ u. refl)
-        (doing_now w.open_txns new o at (Rolls (Some s) end) (rolls new (record { savepoint = Some s; above = end }) refl))
-        (λ u. ap (λ (x : List ℕ). put (λ t. saves_of (find t w.open_txns)) o.txn (take s x) u) mine ∙ saves_replaced w.open_txns new o at u) (λ u. refl) l.2,
+            (doing_now w.open_txns new o at (Rolls (Some s) end) (rolls new (record { savepoint = Some s; above = end }) refl))
+            (λ u. ap (λ (x : List ℕ). put (λ t. saves_of (find t w.open_txns)) o.txn (take s x) u) mine ∙ saves_replaced w.open_txns new o at u) (λ u. refl) l.2,
       )
 
   -- rolls back wholly
   pub stands_rolled : IsIdleTxn o → Leads (clients w) m (RollsBack o.txn) (clients (rolled w o))
   stands_rolled idle =
       let new : OpenTxn = rolling_txn o in
-      let l = rollback_is_a_step (clients w) m o.txn stands (does_this w o Ready at (idle_rests o idle)) in
-      (
+      let l = rollback_is_a_step (clients w) m o.txn stands (does_this w o Ready at (idle_rests o idle)) in (
         l.0,
         l.1,
         stands_along (does (clients w) o.txn (Some (Rolls None 0))) (clients (rolled w o)) l.0 refl refl (λ u. refl)
-        (doing_now w.open_txns new o at (Rolls None 0) (rolls new (record { savepoint = None; above = 0 }) refl)) (saves_kept w.open_txns new o at refl) (λ u. refl) l.2,
+            (doing_now w.open_txns new o at (Rolls None 0) (rolls new (record { savepoint = None; above = 0 }) refl)) (saves_kept w.open_txns new o at refl) (λ u. refl) l.2,
       )
 
   -- one that is open no more: its savepoints are forgotten
@@ -236,14 +229,13 @@ module _ (w : TcView) (m : Machine) (o : OpenTxn) (k : IsTc w) (at : find o.txn 
   pub stands_ended : (r : Rollback) → o.rolling ≡ Some r → r.savepoint ≡ None → IsTc (ended w o.txn) → Leads (clients w) m (TellsRolledBack o.txn) (clients (ended w o.txn))
   stands_ended r rolling whole after =
       let l = rolled_back_is_told (clients w) m o.txn r.above after.legal stands (does_this w o (Rolls None r.above) at (rolls o r rolling ∙ ap (λ s. Rolls s r.above) whole)) in
-      let left : View = record (clients w) { log = is.End o.txn ∷ w.log; doing = λ t. doing_in (find t (without o.txn w.open_txns)); saves = λ t. saves_of (find t (without o.txn w.open_txns)) } in
-      (
+      let left : View = record (clients w) { log = is.End o.txn ∷ w.log; doing = λ t. doing_in (find t (without o.txn w.open_txns)); saves = λ t. saves_of (find t (without o.txn w.open_txns)) } in (
         l.0,
         l.1,
         stands_along (record left { spans = put (clients w).spans o.txn [] }) (clients (ended w o.txn)) l.0 refl refl (λ u. refl) (λ u. refl) (λ u. refl)
-        (spans_put w.locks o.txn [] k.locks.table)
-        (let_go_is_no_step left l.0 o.txn (gone_view (is.End o.txn) l.0 l.2) (ap doing_in (without_same o.txn w.open_txns))
-        (λ n is_commit. absurd (no_commit w.log o.txn n (k.open_txns.each o.txn o at).is is_commit))),
+            (spans_put w.locks o.txn [] k.locks.table)
+            (let_go_is_no_step left l.0 o.txn (gone_view (is.End o.txn) l.0 l.2) (ap doing_in (without_same o.txn w.open_txns))
+            (λ n is_commit. absurd (no_commit w.log o.txn n (k.open_txns.each o.txn o at).is is_commit))),
       )
 
   -- is back at its savepoint
@@ -251,12 +243,11 @@ module _ (w : TcView) (m : Machine) (o : OpenTxn) (k : IsTc w) (at : find o.txn 
       → Leads (clients w) m (TellsBack o.txn s) (clients (is_back w o))
   stands_back r s rolling to still unread undone =
       let new : OpenTxn = back_txn o in
-      let l = back_is_told (clients w) m o.txn s r.above stands (does_this w o (Rolls (Some s) r.above) at (rolls o r rolling ∙ ap (λ x. Rolls x r.above) to)) undone in
-      (
+      let l = back_is_told (clients w) m o.txn s r.above stands (does_this w o (Rolls (Some s) r.above) at (rolls o r rolling ∙ ap (λ x. Rolls x r.above) to)) undone in (
         l.0,
         l.1,
         stands_along (does (clients w) o.txn (Some Ready)) (clients (is_back w o)) l.0 refl refl (λ u. refl)
-        (doing_now w.open_txns new o at Ready (rests new refl unread still)) (saves_kept w.open_txns new o at refl) (λ u. refl) l.2,
+            (doing_now w.open_txns new o at Ready (rests new refl unread still)) (saves_kept w.open_txns new o at refl) (λ u. refl) l.2,
       )
 
   -- has its answer
@@ -264,12 +255,11 @@ module _ (w : TcView) (m : Machine) (o : OpenTxn) (k : IsTc w) (at : find o.txn 
       → Leads (clients w) m (TellsAnswer o.txn a) (clients (answered w o n a))
   stands_answered n a flat none waiting legal right stable =
       let new : OpenTxn = answered_txn o in
-      let l = answer_is_told (clients w) m o.txn n a legal right stands (does_this w o (Awaits n) at (awaits o n flat none waiting)) stable in
-      (
+      let l = answer_is_told (clients w) m o.txn n a legal right stands (does_this w o (Awaits n) at (awaits o n flat none waiting)) stable in (
         l.0,
         l.1,
         stands_along (after_answer (clients w) o.txn n a) (clients (answered w o n a)) l.0 refl refl (λ u. refl)
-        (doing_now w.open_txns new o at Ready (rests new flat none refl)) (saves_kept w.open_txns new o at refl) (λ u. refl) l.2,
+            (doing_now w.open_txns new o at Ready (rests new flat none refl)) (saves_kept w.open_txns new o at refl) (λ u. refl) l.2,
       )
 
   -- the answer of its compensation comes
@@ -287,13 +277,12 @@ stands_forced w m k stands =
     let end : w.stable + more ≡ length w.log = omega (arith, k.within) in
     let l = commits_are_told more (clients w) m k.legal stands (omega (arith, end)) in
     let lines = told_commits w.log w.stable more end ∙ ap told_committed (sym k.committing) in
-    let all : View = record (clients w) { stable = length w.log } in
-    (
+    let all : View = record (clients w) { stable = length w.log } in (
       l.0,
       subst (λ x. Steps m x l.0) lines l.1,
       leftovers_are_no_step all l.0 (clients w).saves (λ t. spans_of (let_go w.committing w.locks) t)
-      (subst (λ (s : ℕ). StandsFor (record (clients w) { stable = s }) l.0) end l.2) (λ t. inl refl)
-      (λ t. freed t (find t w.open_txns) refl),
+          (subst (λ (s : ℕ). StandsFor (record (clients w) { stable = s }) l.0) end l.2) (λ t. inl refl)
+          (λ t. freed t (find t w.open_txns) refl),
     )
   where
     unlisted : (t : ℕ) (o : OpenTxn) → find t w.open_txns ≡ Some o → is_listed w.committing t ≡ false

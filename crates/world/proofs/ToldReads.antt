@@ -1,5 +1,5 @@
 -- What the reply to a read is to the list machine.
-use Rattle.std.proofs.Common.{◌≡◌, ℕ, true, false, List, Option, Some, None, refl, sym, ap, ◌∙◌}
+use Rattle.std.proofs.Common.{◌≡◌, ℕ, true, false, List, Option, Some, refl, ap, ◌∙◌}
 use Rattle.std.specs.FinMap.{get}
 use Rattle.std.specs.Ordering.{is_lt}
 use Rattle.std.proofs.lemmas.Cmp.{nat_list_cmp_total, tied_itself}
@@ -7,7 +7,7 @@ use Rattle.record_key.specs.Table.{Bytes}
 use Rattle.history.specs.History.{plain}
 use Rattle.history.specs.Spans.{Span, IsRange, is_within, rows_in}
 use Rattle.record_key.specs.Order.{is_below}
-use Rattle.history.specs.ListMachine.{Machine, TellsRow, TellsRows, asked_span, OfRange}
+use Rattle.history.specs.ListMachine.{Machine, TellsRow, TellsRows}
 use Rattle.simulation.specs.Running.{Leads as LeadsTo}
 use Rattle.range_locks.specs.declared.span.Span.TheVariants.{Key, Range}
 use Rattle.tc_core.specs.declared.open_txn.OpenTxn.{OpenTxn}

@@ -1,13 +1,11 @@
 -- What an open transaction has left to undo.
-use Rattle.std.proofs.Common.{◌≡◌, ℕ, ◌≤◌, List, Option, Some, subst, sym, arith, inl, inr}
-use Rattle.history.specs.Legal.{Stands, IsLatestOrNone}
-use Rattle.log_laws.proofs.Undo.{latest_found}
+use Rattle.std.proofs.Common.{◌≡◌, ℕ, ◌≤◌, Some, arith, inl, inr}
+use Rattle.history.specs.Legal.{Stands}
 use Rattle.tc_core.specs.declared.open_txn.OpenTxn.{OpenTxn}
 use Rattle.tc_core.specs.declared.open_txn.Rollback.{Rollback}
 use Rattle.tc_core.specs.OpenTxns.{find}
 use Rattle.tc_core.specs.TcView.{TcView}
 use Rattle.tc_core.specs.Kept.{IsTc}
-use Rattle.tc_core.proofs.KeepsTc.{open_at}
 use Rattle.tc_core.proofs.KeepsUndo.{undo_found}
 
 -- where nothing above the bound is left, no operation above it stands

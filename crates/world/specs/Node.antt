@@ -15,7 +15,6 @@ use Rattle.dc_core.specs.DcView.{DcView, fresh as fresh_dc}
 use Rattle.dc_core.specs.Serves.{Serves, serve_refusal}
 use Rattle.tc_core.specs.declared.told.Told.{Told}
 use Rattle.tc_core.specs.declared.told.Told.TheVariants as told
-use Rattle.tc_core.specs.declared.told.UndoStep.{UndoStep}
 use Rattle.tc_core.specs.declared.told.UndoStep.TheVariants as undo
 use Rattle.tc_core.specs.declared.told.RecoverStep.TheVariants as recovery
 use Rattle.tc_core.specs.TcView.{TcView, fresh, is_recovering}

@@ -45,7 +45,10 @@ fn no_more_rounds_than_allowed(rt: HostRuntime) -> Result<(), Fail> {
     assert!(rt; !settle_all(&mut world, Some(1), &mut outs)?);
     assert_eq!(rt; outs.as_slice(), connected(rt.alloc()).as_slice());
     assert_eq!(rt; world.next_round(), Some(Round::Recover));
-    assert!(rt; settle_all(&mut world, Some(1), &mut outs)?, "the last round");
+    assert!(rt;
+        settle_all(&mut world, Some(1), &mut outs)?,
+        "the last round"
+    );
     assert!(rt; settle_all(&mut world, Some(0), &mut outs)?, "no round");
     assert_eq!(rt; outs.len(), 6);
     Ok(())
@@ -90,7 +93,12 @@ fn a_request_that_was_lost(rt: HostRuntime) -> Result<(), Fail> {
     step(&mut world, &Event::Force);
     step(&mut world, &SEND);
     assert_eq!(rt; world.next_round(), Some(Round::Exchange { txn: 2 }));
-    let expected = [Out::Sent(4), Out::Replied(3), INSERTED, stable(rt.alloc(), 4)];
+    let expected = [
+        Out::Sent(4),
+        Out::Replied(3),
+        INSERTED,
+        stable(rt.alloc(), 4),
+    ];
     assert_settles(&rt, rt.alloc(), &mut world, &expected)
 }
 
@@ -117,14 +125,20 @@ fn a_rollback_that_is_under_way(rt: HostRuntime) -> Result<(), Fail> {
 fn the_least_comes_first(rt: HostRuntime) -> Result<(), Fail> {
     let mut world = answered(rt.alloc())?;
     step(&mut world, &Event::Begin);
-    step(&mut world, &Event::Act {
-        txn: 5,
-        op: Op::Delete(Key::new(b"b")?),
-    });
-    step(&mut world, &Event::Get {
-        txn: 2,
-        key: Key::new(b"c")?,
-    });
+    step(
+        &mut world,
+        &Event::Act {
+            txn: 5,
+            op: Op::Delete(Key::new(b"b")?),
+        },
+    );
+    step(
+        &mut world,
+        &Event::Get {
+            txn: 2,
+            key: Key::new(b"c")?,
+        },
+    );
     assert_eq!(rt; world.next_round(), Some(Round::Exchange { txn: 2 }));
     let expected = [
         Out::Sent(4),
