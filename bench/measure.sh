@@ -1,7 +1,8 @@
 #!/bin/sh
 # Usage: bench/measure.sh marks|codec. Proves and builds crates/bench_NAME and runs its measurement.
 # marks: how many reads one and three reader threads make in a second beside a thread that raises.
-# codec: how many megabytes a second of a log of 100,000 records are written into memory and read again.
+# codec: how many megabytes a second of a log of 100,000 records are written into memory and read again, and how many
+# records a second of logs of 10,000 and 1,000,000 records are opened.
 # The first line is the machine's.
 set -eu
 cd "$(dirname "$0")/../crates/bench_$1"

@@ -1,4 +1,6 @@
 //! One measurement: a log of records is written into memory, and read again.
+ghost use Rattle.std.specs.Prelude.{◌≤◌};
+
 use codec::{Taken, put_record, take_record};
 use history::Record;
 use record_key::{Answer, Key, Op, Refusal, Value};
@@ -16,15 +18,28 @@ pub struct Times {
     pub taken: u64,
 }
 
+/// An operation with a key of 16 bytes, one of 100,000, and a value of 64.
+fn insert(at: u64) -> Result<Op, Refusal> {
+    let mut key = [b'k'; 16];
+    let mut rest = at % 100_000;
+    for place in 0..5 {
+        key[place] = b'0' + (rest % 10) as u8;
+        rest /= 10;
+    }
+    Ok(Op::Insert(Key::new(&key)?, Value::new(&[b'v'; 64])?))
+}
+
 /// Writes a log of transactions with one operation each.
-fn put_log(log: &mut Vec<u8>, op: &Op) -> Result<(), Refusal> {
-    for at in 0..TRANSACTIONS {
+pub fn put_log(log: &mut Vec<u8>, transactions: u64) -> Result<(), Refusal>
+    requires few { transactions ≤ 1_000_000 }
+{
+    for at in 0..transactions {
         let txn = 4 * at + 1;
         put_record(log, &Record::Begin)?;
         let record = Record::Op {
             txn,
             prev: 0,
-            op: op.copied(),
+            op: insert(at)?,
         };
         put_record(log, &record)?;
         let answer = Record::Answer {
@@ -54,19 +69,11 @@ fn megabytes_a_second(bytes: usize, took: Duration) -> u64 {
     bytes as u64 / micros.max(1)
 }
 
-/// An operation with a key of 16 bytes and a value of 64.
-fn insert() -> Result<Op, Refusal> {
-    Ok(Op::Insert(Key::new(&[b'k'; 16])?, Value::new(&[b'v'; 64])?))
-}
-
 /// Writes the log, then reads it.
 pub fn measured<R: Clock>(rt: &R, alloc: Global) -> io::Result<Times> {
-    let Ok(op) = insert() else {
-        return Err(io::Error::from(io::ErrorKind::InvalidInput));
-    };
     let mut log = Vec::new(alloc);
     let start = Instant::now(rt)?;
-    if put_log(&mut log, &op).is_err() {
+    if put_log(&mut log, TRANSACTIONS).is_err() {
         return Err(io::Error::from(io::ErrorKind::OutOfMemory));
     }
     let written = Instant::now(rt)?;
