@@ -1,5 +1,5 @@
 -- What callers see of a log, and what its calls do to it.
-use Rattle.std.specs.Prelude.{◌≡◌, ◌⊎◌, ℕ, ◌+◌, Bool, false, List, [], ◌∷◌, Option, Some, None, Result, Err, length, nat_le}
+use Rattle.std.specs.Prelude.{◌≡◌, ℕ, ◌+◌, Bool, false, List, [], ◌∷◌, Option, length, nat_le}
 use Rattle.record_key.specs.FirstCause.{first_of}
 use Rattle.record_key.specs.declared.refusal.Refusal.{Refusal}
 use Rattle.record_key.specs.declared.refusal.Refusal.TheVariants.{NoMemory, Device, NumbersSpent}
@@ -26,24 +26,10 @@ pub record Appends (old : LogView) (r : Record) (number : ℕ) (new : LogView) :
   pub number_is : number ≡ length old.records + 1
   pub log : new ≡ record old { records = r ∷ old.records }
 
--- the first cause where there is one, else want of memory or a failure of the device
-abbrev pub MayRefuse : Option Refusal → Refusal → Type 0
-MayRefuse (Some r) given = given ≡ r
-MayRefuse None given = (given ≡ NoMemory) ⊎ (given ≡ Device)
-
 -- the log after a call that was refused so: as it was, but for one failure more where the device failed
 abbrev pub after_refusal : LogView → Refusal → LogView
 after_refusal log Device = record log { failures = log.failures + 1 }
 after_refusal log _ = log
-
--- how many failures of the device a refusal tells, and an answer
-abbrev pub failures_of : Refusal → ℕ
-failures_of Device = 1
-failures_of _ = 0
-
-abbrev pub failures_in : {T : Type 0} → Result T Refusal → ℕ
-failures_in (Err Device) = 1
-failures_in _ = 0
 
 -- the refusal that a device's error is answered with
 abbrev pub refusal_from : DeviceError → Refusal

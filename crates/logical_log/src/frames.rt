@@ -6,7 +6,7 @@ ghost use Rattle.history.specs.declared.record.Record.{Record};
 ghost use Rattle.codec.specs.Frames.{frame, IfTaken, IfBad, IsThere, IsCut};
 ghost use Rattle.codec.specs.Records.{record_bytes, HasNumbers, IsRecord};
 ghost use Rattle.logical_log.specs.Index.{is_answered};
-ghost use Rattle.logical_log.specs.LogView.{MayRefuse, failures_in};
+ghost use Rattle.record_key.specs.FirstCause.{MayRefuse, failures_in};
 ghost use Rattle.logical_log.specs.Spelled.{spelled, IsNext};
 
 use crate::note::{answer_held, answer_place, asks, note};

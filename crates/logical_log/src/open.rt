@@ -3,7 +3,7 @@ ghost use Rattle.std.specs.Prelude.{◌≡◌, ◌⊎◌, ◌+◌, ◌<◌, ◌�
 ghost use Rattle.history.specs.Legal.{Fits, FitsCheckpoint};
 ghost use Rattle.codec.specs.Frames.{frame, IsCut};
 ghost use Rattle.codec.specs.Records.{record_bytes};
-ghost use Rattle.logical_log.specs.LogView.{failures_in, failures_of};
+ghost use Rattle.record_key.specs.FirstCause.{failures_in, failures_of};
 ghost use Rattle.logical_log.specs.Opening.{BeginsAs, IsLogOf, RefusesBytes, RefusesOpen};
 ghost use Rattle.logical_log.specs.Replay.{IsIndex};
 ghost use Rattle.logical_log.specs.Spelled.{spelled, IsNext};

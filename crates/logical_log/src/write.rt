@@ -3,7 +3,8 @@ ghost use Rattle.std.specs.Prelude.{◌≡◌, ◌+◌, ◌++◌, None, length, 
 ghost use Rattle.history.specs.Legal.{Fits};
 ghost use Rattle.codec.specs.Frames.{frame};
 ghost use Rattle.codec.specs.Records.{record_bytes, HasNumbers, IsRecord};
-ghost use Rattle.logical_log.specs.LogView.{Appends, spent_refusal, MayRefuse, after_refusal, failures_in, refusal_from};
+ghost use Rattle.record_key.specs.FirstCause.{MayRefuse, failures_in};
+ghost use Rattle.logical_log.specs.LogView.{Appends, spent_refusal, after_refusal, refusal_from};
 
 use crate::log::Log;
 use codec::put_record;

@@ -3,3 +3,4 @@ pub mod Places
 pub mod Performs
 pub mod Honest
 pub mod Parting
+pub mod Tiles

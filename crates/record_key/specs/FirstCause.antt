@@ -1,7 +1,7 @@
--- Which refusal a call gives: the first whose cause holds, or want of memory where none does.
-use Rattle.std.specs.Prelude.{◌≡◌, Bool, List, [], ◌∷◌, Option, Some, None, if◌then◌else◌}
+-- Which refusal a call gives: the first whose cause holds; where none does, want of memory or a failed device.
+use Rattle.std.specs.Prelude.{◌≡◌, ◌⊎◌, ℕ, Bool, List, [], ◌∷◌, Option, Some, None, Result, Err, if◌then◌else◌}
 use Rattle.record_key.specs.declared.refusal.Refusal.{Refusal}
-use Rattle.record_key.specs.declared.refusal.Refusal.TheVariants.{NoMemory}
+use Rattle.record_key.specs.declared.refusal.Refusal.TheVariants.{NoMemory, Device}
 
 abbrev pub first_of : List (Bool × Refusal) → Option Refusal
 first_of [] = None
@@ -15,3 +15,17 @@ or_else None later = later
 abbrev pub RefusesAs : Option Refusal → Refusal → Type 0
 RefusesAs (Some r) given = given ≡ r
 RefusesAs None given = given ≡ NoMemory
+
+-- the same of a call that uses a device
+abbrev pub MayRefuse : Option Refusal → Refusal → Type 0
+MayRefuse (Some r) given = given ≡ r
+MayRefuse None given = (given ≡ NoMemory) ⊎ (given ≡ Device)
+
+-- how many failures of a device a refusal tells, and an answer
+abbrev pub failures_of : Refusal → ℕ
+failures_of Device = 1
+failures_of _ = 0
+
+abbrev pub failures_in : {T : Type 0} → Result T Refusal → ℕ
+failures_in (Err Device) = 1
+failures_in _ = 0
