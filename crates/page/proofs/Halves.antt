@@ -56,7 +56,7 @@ below_other x fence y Less less is free = absurd (true≢false free)
 below_other x fence y Equal less is free = alike_right nat_list_cmp_total y fence x is ∙ less
 below_other x fence y Greater less is free = nat_list_cmp_total.trans x fence y less (nat_list_cmp_total.antisymm fence y ∙ ap ordering_reverse is)
 
-less_of : (x y : Bytes) → is_below x y ≡ true → key_cmp x y ≡ Less
+pub less_of : (x y : Bytes) → is_below x y ≡ true → key_cmp x y ≡ Less
 less_of x y below = is_lt-Less _ (as_T (is_below x y) below)
 
 pub below_free : (x fence y : Bytes) → is_below x fence ≡ true → is_below y fence ≡ false → is_below x y ≡ true
@@ -102,7 +102,7 @@ upper_between low high fence x starts inside =
 -- ---- rows
 
 -- rows whose keys pass a test
-tied_alike : (test : Bytes → Bool) (q x : Bytes) → key_cmp q x ≡ Equal → test x ≡ test q
+pub tied_alike : (test : Bytes → Bool) (q x : Bytes) → key_cmp q x ≡ Equal → test x ≡ test q
 tied_alike test q x tied = ap test (sym (exact_bytes q x tied))
 
 pub retained : (rows : List Row) (test : Bytes → Bool) → AreInOrder rows
@@ -146,7 +146,7 @@ all_pass : (test : Bytes → Bool) (rows : List Row) → AllByRecursion (λ (row
 all_pass test [] all = refl
 all_pass test (row ∷ rows) all = rw all.0 (ap (λ (rest : List Row). row ∷ rest) (all_pass test rows all.1))
 
-none_pass : (test : Bytes → Bool) (rows : List Row) → AllByRecursion (λ (row : Row). test row.0 ≡ false) rows → filter (λ (row : Row). test row.0) rows ≡ []
+pub none_pass : (test : Bytes → Bool) (rows : List Row) → AllByRecursion (λ (row : Row). test row.0 ≡ false) rows → filter (λ (row : Row). test row.0) rows ≡ []
 none_pass test [] all = refl
 none_pass test (row ∷ rows) all = rw all.0 (none_pass test rows all.1)
 
@@ -176,7 +176,7 @@ pub ordered_both : (fence : Bytes) (rows more : List Row) → AreInOrder rows �
 ordered_both fence rows more one two apart = from_T _ (sorted_both fence rows more (as_T _ one) (as_T _ two) apart.under apart.free)
 
 -- a cut of both at the fence gives each back
-table_again : (m : Table) → table_of (map.entries m) ≡ m
+pub table_again : (m : Table) → table_of (map.entries m) ≡ m
 table_again m = table_of_entries m (map.entries m) (from_T _ (map.entries_sorted m)) refl
 
 entries_ordered : (fence : Bytes) (l r : Table) → Apart fence (map.entries l) (map.entries r) → AreInOrder (map.entries l ++ map.entries r)

@@ -53,7 +53,7 @@ stands_left log test n o (e ∷ es) requests passes all =
     ap test (sym all.0.on_key ∙ ap key_of same) ∙ passes in
     λ i. one_entry n e (test e.key) here i || stands_left log test n o es requests passes all.1 i
 
-captured_left : (log : List Record) (leaf : LeafView) (test : Bytes → Bool) (k : Bytes) → IsHonestLeaf log leaf → test k ≡ true
+pub captured_left : (log : List Record) (leaf : LeafView) (test : Bytes → Bool) (k : Bytes) → IsHonestLeaf log leaf → test k ≡ true
     → (n : ℕ) (o : Op) → Requests log n o → key_of o ≡ k → captures leaf.ab n ≡ captures (record { low = leaf.ab.low; entries = entries_with test leaf.ab.entries }) n
 captured_left log leaf test k honest passes n o requests on =
     ap (λ (b : Bool). nat_le n leaf.ab.low || b) (stands_left log test n o leaf.ab.entries requests (ap test on ∙ passes) honest.saved)
@@ -111,7 +111,7 @@ only_low log other n o kept honest requests outside captured =
     ]
 
 -- so what both capture of the numbers on a leaf's keys, that leaf captures
-captured_both : (log : List Record) (leaf other : LeafView) (k : Bytes) → IsLeaf other → IsHonestLeaf log other → IsCapturedTo log leaf other.ab.low
+pub captured_both : (log : List Record) (leaf other : LeafView) (k : Bytes) → IsLeaf other → IsHonestLeaf log other → IsCapturedTo log leaf other.ab.low
     → is_in_fences leaf k ≡ true → is_in_fences other k ≡ false
     → (n : ℕ) (o : Op) → Requests log n o → key_of o ≡ k → captures leaf.ab n ≡ (captures leaf.ab n || captures other.ab n)
 captured_both log leaf other k kept honest to inside outside n o requests on =

@@ -6,7 +6,7 @@ use Rattle.record_key.specs.Table.{Bytes}
 use Rattle.record_key.specs.declared.entry.Entry.{Entry}
 use Rattle.history.specs.declared.record.Record.{Record}
 use Rattle.ab_lsn.specs.AbLsn.{AbLsnView, stands_in, captures}
-use Rattle.ab_lsn.specs.Parting.{is_under, stands_with, cut_under}
+use Rattle.ab_lsn.specs.Parting.{is_under, entries_with, stands_with}
 use Rattle.ab_lsn.proofs.Capturing.{parted_captures}
 use Rattle.page.specs.Leaf.{LeafView}
 use Rattle.page.specs.Honest.{IsHonestLeaf}
@@ -21,7 +21,7 @@ use Rattle.recovery_laws.proofs.Ready.{recovers, ready_stays, ready_too}
 pub cuts_keep_honest : CutsKeepHonest
 cuts_keep_honest log leaf d cut less inside honest = honest_lower log leaf cut d honest (inside_fences leaf cut inside)
 
--- nothing is captured below a cut that wasn't captured before
+-- nothing is captured by a part that wasn't captured before
 stands_fewer : (test : Bytes → Bool) (es : List Entry) (n : ℕ) → stands_with test es n ≡ true → stands_in es n ≡ true
 stands_fewer test [] n h = h
 stands_fewer test (e ∷ es) n h =
@@ -30,13 +30,12 @@ stands_fewer test (e ∷ es) n h =
       | inr later ↦ or_right (n == e.number) (stands_in es n) (stands_fewer test es n later)
     ]
 
-captures_fewer : (v : AbLsnView) (cut : Bytes) (n : ℕ) → captures (cut_under v cut) n ≡ true → captures v n ≡ true
-captures_fewer v cut n h =
-    elim
-    (or_cases (nat_le n v.low) (stands_with (is_under cut) v.entries n)
-    (sym (parted_captures v.low v.entries (is_under cut) n) ∙ h)) [
+pub captures_fewer : (v : AbLsnView) (test : Bytes → Bool) (n : ℕ) → captures (record v { entries = entries_with test v.entries }) n ≡ true
+    → captures v n ≡ true
+captures_fewer v test n h =
+    elim (or_cases (nat_le n v.low) (stands_with test v.entries n) (sym (parted_captures v.low v.entries test n) ∙ h)) [
       | inl low ↦ or_left (nat_le n v.low) (stands_in v.entries n) low
-      | inr there ↦ or_right (nat_le n v.low) (stands_in v.entries n) (stands_fewer (is_under cut) v.entries n there)
+      | inr there ↦ or_right (nat_le n v.low) (stands_in v.entries n) (stands_fewer test v.entries n there)
     ]
 
 -- the law of low numbers
@@ -70,7 +69,7 @@ bounded_recovered = record {
   recovers = λ log end. recovers (IsHonestTo log end)
       (λ leaf d cut less inside h. record {
         honest = cuts_keep_honest log leaf d cut less inside h.honest;
-        within = λ n got. h.within n (captures_fewer leaf.ab cut n got);
+        within = λ n got. h.within n (captures_fewer leaf.ab (is_under cut) n got);
       });
   stays = λ log end. ready_stays (IsHonestTo log end);
   grow = λ r log end pages changes forced le ready.

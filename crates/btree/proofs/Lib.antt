@@ -1,0 +1,15 @@
+pub mod AtKey
+pub mod Carried
+pub mod Changing
+pub mod Kept
+pub mod Merging
+pub mod Owning
+pub mod Places
+pub mod Raising
+pub mod Scanning
+pub mod Searching
+pub mod Splitting
+pub mod Stays
+pub mod Taking
+pub mod Tiling
+pub mod Together

@@ -1,0 +1,10 @@
+use Rattle.std.proofs.Common.{◌≡◌, true, ap, ◌∙◌}
+use Rattle.btree.specs.Lists.{ListView, leaves_in}
+use Rattle.btree.specs.Parting.{may_merge_at}
+use Rattle.btree.proofs.Stays.{merged_stays}
+use Rattle.btree.proofs.list.LeafListLeafSet.merge.Goals as goal
+
+pub invariant_of-self : goal.invariant_of-self
+invariant_of-self c =
+    let may : may_merge_at (leaves_in c.self.inside.leaves.items) c.args.place ≡ true = ap (λ (l : ListView). may_merge_at l.leaves c.args.place) c.self.view_is ∙ c.requires.may in
+    rw c.merge_in.ensures (merged_stays (leaves_in c.self.inside.leaves.items) c.args.place c.args.merge.merged.value.last c.self.invariant may).leaves

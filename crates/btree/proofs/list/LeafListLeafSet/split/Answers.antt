@@ -1,0 +1,11 @@
+use Rattle.std.proofs.Common.{◌≡◌, true, ap, ◌∙◌}
+use Rattle.btree.specs.Lists.{ListView, leaves_in}
+use Rattle.btree.specs.Parting.{may_split_at}
+use Rattle.btree.proofs.Stays.{split_stays}
+use Rattle.btree.proofs.list.LeafListLeafSet.split.Goals as goal
+
+pub invariant_of-self : goal.invariant_of-self
+invariant_of-self c =
+    let may : may_split_at (leaves_in c.self.inside.leaves.items) c.args.place ≡ true = ap (λ (l : ListView). may_split_at l.leaves c.args.place) c.self.view_is ∙ c.requires.may in
+    rw c.split_in.ensures
+    (split_stays (leaves_in c.self.inside.leaves.items) c.args.place c.args.split.right.value.id c.args.split.right.value.last c.self.invariant may).leaves

@@ -1,0 +1,40 @@
+use Rattle.std.proofs.Common.{◌≡◌, ◌<◌, ◌/◌, ℕ, zero, suc, List, [], ◌∷◌, length, get_or, slice_get, refl, sym, ap, ◌∙◌, arith}
+use Rattle.std.proofs.lemmas.Bool.{leb-true}
+use Rattle.std.specs.FinMap as map
+use Rattle.record_key.specs.Rows.{Row}
+use Rattle.page.specs.Parting.{upper_of}
+use Rattle.page.specs.Leaf.{LeafView, first}
+use Rattle.btree.specs.Parting.{key_in, count, middle}
+use Rattle.btree.proofs.Places.{split_within, split_here}
+use Rattle.btree.proofs.planning.plan_split.Goals as goal
+
+pub leaf-leaf-requires : goal.leaf-leaf-requires
+leaf-leaf-requires g c = split_within (g.L.LeafSet.leaves c.args.leaves.now) c.args.place (sym c.may_split.ensures ∙ c.if-not-may_split.false)
+
+pub bounds-rows-rows : goal.bounds-rows-rows
+bounds-rows-rows g c =
+    let leaves = g.L.LeafSet.leaves c.args.leaves.now in
+    let may = sym c.may_split.ensures ∙ c.if-not-may_split.false in
+    let two = leb-true 2 (count (get_or leaves c.args.place first)) (sym (split_here leaves c.args.place (split_within leaves c.args.place may)) ∙ may) in
+    rw (c.rows.ensures, c.rows-2.ensures, c.leaf-leaf.ensures) (omega (arith, two))
+
+-- the key of a row that is there
+key_there : (rows : List Row) (p : ℕ) (d : Row) → p < length rows → (get_or rows p d).0 ≡ key_in (slice_get rows p)
+key_there [] p d within = absurd (omega (arith, within))
+key_there (row ∷ rows) zero d within = refl
+key_there (row ∷ rows) (suc p) d within = key_there rows p d (omega (arith, within))
+
+pub returns-clause-half : goal.returns-clause-half
+returns-clause-half g c =
+    let leaves = g.L.LeafSet.leaves c.args.leaves.now in
+    let leaf : LeafView = get_or leaves c.args.place first in
+    let may = sym c.may_split.ensures ∙ c.if-not-may_split.false in
+    let two = leb-true 2 (count leaf) (sym (split_here leaves c.args.place (split_within leaves c.args.place may)) ∙ may) in
+    let cut : c.copied-cut.result ≡ middle leaf =
+    c.copied-cut.ensures
+    ∙ rw (c.rows.ensures, c.rows-2.ensures, c.leaf-leaf.ensures) (key_there (map.entries leaf.rows) (count leaf / 2) c.index-rows-rows.result (omega (arith, two))) in
+    record {
+      left = c.id.ensures ∙ ap (λ (l : LeafView). l.id) c.leaf-leaf.ensures;
+      cut = cut;
+      right = c.in_ok-right.ensures.ok ∙ c.in_ok-upper.ensures.upper ∙ (λ i. upper_of (c.leaf-leaf.ensures i) (cut i) c.args.id c.args.number);
+    }

@@ -1,0 +1,22 @@
+-- What a request comes to among leaves.
+use Rattle.std.specs.Prelude.{◌≡◌, ℕ, List}
+use Rattle.std.specs.Bool.{MatchBool}
+use Rattle.record_key.specs.declared.op.Op.{Op}
+use Rattle.record_key.specs.Table.{key_of, answer_in}
+use Rattle.ab_lsn.specs.AbLsn.{captures, saved_in}
+use Rattle.page.specs.declared.leaf.Done.{Done}
+use Rattle.page.specs.declared.leaf.Done.TheVariants.{Performed, Repeated}
+use Rattle.page.specs.Leaf.{LeafView, performed}
+use Rattle.btree.specs.Leaves.{leaf_at, changed_at}
+
+-- the leaf of the key performs it, and the others stay as they were
+abbrev pub performed_at : List LeafView → ℕ → Op → List LeafView
+performed_at leaves n o = changed_at (key_of o) (λ leaf. performed leaf n o) leaves
+
+-- a number that the leaf of the key hasn't captured is performed there; a captured one changes nothing and gives
+-- its saved answer, if that is still kept
+abbrev pub PerformsAt : List LeafView → ℕ → Op → Done → List LeafView → Type 0
+PerformsAt old n o done new =
+    MatchBool (captures (leaf_at old (key_of o)).ab n)
+    ((done ≡ Repeated (saved_in (leaf_at old (key_of o)).ab.entries n)) × (new ≡ old))
+    ((done ≡ Performed (answer_in (leaf_at old (key_of o)).rows o)) × (new ≡ performed_at old n o))

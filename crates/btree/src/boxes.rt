@@ -1,0 +1,122 @@
+//! Leaves in boxes, in key order: the leaf of a key, what is done there, and what a split or a merge puts among them.
+ghost use Rattle.std.specs.Prelude.{◌≡◌, ◌+◌, ◌<◌, true, not, length, map, get_or, vec_len};
+ghost use Rattle.std.specs.Prelude.{OnErr, IfOk, IfErr, IsOk, IsOkUnless};
+ghost use Rattle.std.specs.Option.{option_copied};
+ghost use Rattle.std.specs.Vec.{vec_capacity};
+ghost use Rattle.record_key.specs.Table.{key_of};
+ghost use Rattle.record_key.specs.Order.{ends_above};
+ghost use Rattle.history.specs.Spans.{Shared, rows_in};
+ghost use Rattle.ab_lsn.specs.AbLsn.{captures};
+ghost use Rattle.page.specs.Leaf.{first, raised_to};
+ghost use Rattle.btree.specs.Leaves.{AreLeaves, leaf_at, place_at, rows_of};
+ghost use Rattle.btree.specs.Lists.{leaves_in, is_past};
+ghost use Rattle.btree.specs.Parting.{may_split_at, may_merge_at, split_at, merged_at, IsSplitOf, IsMergeOf};
+ghost use Rattle.btree.specs.Performs.{PerformsAt};
+
+use crate::parting::{Merge, Split};
+use page::{Done, Leaf, add_rows};
+use record_key::{Key, Op, Refusal, Value};
+use std::alloc::Global;
+
+/// The place of the leaf that has the key.
+pub fn place_in(leaves: &[Box<Leaf>], key: &Key) -> usize
+    requires { AreLeaves (leaves_in leaves.now) }
+    ensures place { result ≡ place_at (leaves_in leaves.now) key.now }
+    ensures within { result < length leaves.now }
+{
+    leaves.partition_point(|leaf| ends_at_most(leaf, key))
+}
+
+/// Whether all keys of the leaf are below this one.
+fn ends_at_most(leaf: &Leaf, key: &Key) -> bool
+    ensures { result ≡ not (ends_above leaf.now.high_fence key.now) }
+{
+    match leaf.high_fence() {
+        Some(fence) => !key.cmp(fence).is_lt(),
+        None => false,
+    }
+}
+
+/// Whether no key of the leaf is below the end of a range, where it has one.
+fn begins_past(leaf: &Leaf, high: Option<&Key>) -> bool
+    ensures { result ≡ is_past leaf.now.low_fence (option_copied high.entry) }
+{
+    match (leaf.low_fence(), high) {
+        (Some(fence), Some(high)) => !fence.cmp(high).is_lt(),
+        _ => false,
+    }
+}
+
+/// Copies of the records from `low` on, below `high` where there is one. Refused NoMemory.
+pub fn scan_in(
+    alloc: Global,
+    leaves: &[Box<Leaf>],
+    low: &Key,
+    high: Option<&Key>,
+) -> Result<Vec<(Key, Value)>, Refusal>
+    requires { AreLeaves (leaves_in leaves.now) }
+    ensures rows { IfOk result (λ rows. rows.items
+        ≡ rows_in (record { lo = low.now; hi = option_copied high.entry; mode = Shared })
+        (rows_of (leaves_in leaves.now))) }
+    ensures refused { IfErr result (λ refusal. refusal ≡ Refusal.NoMemory) }
+{
+    let mut rows = Vec::new(alloc);
+    let rest = &leaves[place_in(leaves, low)..];
+    for leaf in rest {
+        if begins_past(leaf, high) {
+            return Ok(rows);
+        }
+        add_rows(&mut rows, leaf.scan(low, high))?;
+    }
+    Ok(rows)
+}
+
+/// Performs the operation at the leaf of its key.
+pub fn perform_in(leaves: &mut Vec<Box<Leaf>>, number: u64, op: &Op) -> Result<Done, Refusal>
+    requires { AreLeaves (leaves_in leaves.old.items) }
+    ensures done { IfOk result (λ done.
+        PerformsAt (leaves_in leaves.old.items) number op.now done (leaves_in leaves.new.items)) }
+    ensures repeated { captures (leaf_at (leaves_in leaves.old.items) (key_of op.now)).ab number ≡ true → IsOk result }
+    ensures refused { OnErr result (leaves_in leaves.new.items ≡ leaves_in leaves.old.items) }
+    ensures memory { IsOkUnless result Refusal.NoMemory }
+{
+    let place = place_in(leaves.as_slice(), op.key());
+    let done = leaves[place].perform(number, op)?;
+    Ok(done)
+}
+
+/// Counts every request up to this number as performed at each leaf. Takes no memory.
+pub fn raise_in(leaves: &mut Vec<Box<Leaf>>, low: u64)
+    ensures { leaves_in leaves.new.items ≡ map (λ leaf. raised_to leaf low) (leaves_in leaves.old.items) }
+{
+    for place in 0..leaves.len() {
+        leaves[place].raise(low);
+    }
+}
+
+/// Parts the leaf at a place and puts its other half beside it. Takes no memory.
+pub fn split_in(leaves: &mut Vec<Box<Leaf>>, place: usize, split: Split)
+    requires may { may_split_at (leaves_in leaves.old.items) place ≡ true }
+    requires half { IsSplitOf (get_or (leaves_in leaves.old.items) place first)
+        split.right.value.id split.right.value.last split }
+    requires room { vec_len leaves.old < vec_capacity leaves.old }
+    ensures { leaves_in leaves.new.items
+        ≡ split_at place split.right.value.id split.right.value.last (leaves_in leaves.old.items) }
+{
+    leaves[place].drop_from(&split.cut, split.right.last());
+    match leaves.insert(place + 1, split.right) {
+        Ok(()) => {}
+        Err(_) => unreachable!(),
+    }
+}
+
+/// Puts the leaf of both in the place of a leaf and the one after it. Takes no memory.
+pub fn merge_in(leaves: &mut Vec<Box<Leaf>>, place: usize, merge: Merge)
+    requires may { may_merge_at (leaves_in leaves.old.items) place ≡ true }
+    requires both { IsMergeOf (get_or (leaves_in leaves.old.items) place first)
+        (get_or (leaves_in leaves.old.items) (place + 1) first) merge.merged.value.last merge }
+    ensures { leaves_in leaves.new.items ≡ merged_at place merge.merged.value.last (leaves_in leaves.old.items) }
+{
+    leaves[place] = merge.merged;
+    leaves.remove(place + 1);
+}

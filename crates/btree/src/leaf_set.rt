@@ -1,0 +1,109 @@
+//! What holds the leaves, seen as their list in key order.
+ghost use Rattle.std.specs.Prelude.{◌≡◌, ℕ, ◌+◌, ◌<◌, true, List, [], ◌∷◌, length, map, get_or};
+ghost use Rattle.std.specs.Prelude.{OnOk, OnErr, IfOk, IsOk, IsOkUnless};
+ghost use Rattle.std.specs.Option.{option_copied};
+ghost use Rattle.std.specs.FinMap as table;
+ghost use Rattle.record_key.specs.Table.{key_of};
+ghost use Rattle.history.specs.Spans.{Shared, rows_in};
+ghost use Rattle.ab_lsn.specs.AbLsn.{captures};
+ghost use Rattle.page.specs.Leaf.{LeafView, first, raised_to};
+ghost use Rattle.btree.specs.Leaves.{AreLeaves, leaf_at, place_at, rows_of};
+ghost use Rattle.btree.specs.Parting.{may_split_at, may_merge_at, split_at, merged_at, IsSplitOf, IsMergeOf};
+ghost use Rattle.btree.specs.Performs.{PerformsAt};
+
+use crate::parting::{Merge, Split};
+use page::{Done, Leaf};
+use record_key::{Key, Op, Refusal, Value};
+use std::alloc::Global;
+
+/// Leaves in key order, which have all keys among them. A place counts them from 0.
+pub trait LeafSet {
+    /// The leaves.
+    ghost leaves: { Self → List LeafView };
+
+    /// For how many more leaves there is room.
+    ghost room: { Self → ℕ };
+
+    /// These leaves, which are in key order. Refused NoMemory.
+    fn from_leaves(alloc: Global, boxes: Vec<Box<Leaf>>) -> Result<Self, Refusal>
+        requires { AreLeaves (map (λ leaf. leaf.value) boxes.items) }
+        ensures these { IfOk result (λ set. leaves set ≡ map (λ leaf. leaf.value) boxes.items) }
+        ensures memory { IsOkUnless result Refusal.NoMemory };
+
+    /// What serves their memory.
+    fn allocator(&self) -> Global;
+
+    /// What holds of them at every moment.
+    fn kept(&self)
+        ensures { AreLeaves (leaves self.now) };
+
+    /// How many leaves there are.
+    fn len(&self) -> usize
+        ensures count { result ≡ length (leaves self.now) }
+        ensures some { 0 < result };
+
+    /// The leaf at a place.
+    fn leaf(&self, place: usize) -> &Leaf
+        requires { place < length (leaves self.now) }
+        ensures { result.now ≡ get_or (leaves self.now) place first };
+
+    /// The place of the leaf that has the key.
+    fn place_of(&self, key: &Key) -> usize
+        ensures place { result ≡ place_at (leaves self.now) key.now }
+        ensures within { result < length (leaves self.now) };
+
+    /// Performs the operation under this number at the leaf of its key, or gives the answer that it had under it
+    /// before, if that is still kept. Refused NoMemory, and unchanged then; a repeated number takes no memory.
+    fn perform(&mut self, number: u64, op: &Op) -> Result<Done, Refusal>
+        ensures done { IfOk result (λ done. PerformsAt (leaves self.old) number op.now done (leaves self.new)) }
+        ensures repeated { captures (leaf_at (leaves self.old) (key_of op.now)).ab number ≡ true → IsOk result }
+        ensures refused { OnErr result (leaves self.new ≡ leaves self.old) }
+        ensures memory { IsOkUnless result Refusal.NoMemory };
+
+    /// The value at the key. Takes no memory.
+    fn get(&self, key: &Key) -> Option<&Value>
+        ensures { option_copied result ≡ table.get (leaf_at (leaves self.now) key.now).rows key.now };
+
+    /// Copies of the records from `low` on, below `high` where there is one. Refused NoMemory.
+    fn scan(&self, low: &Key, high: Option<&Key>) -> Result<Vec<(Key, Value)>, Refusal>
+        ensures rows { IfOk result (λ rows. rows.items
+            ≡ rows_in (record { lo = low.now; hi = option_copied high.entry; mode = Shared })
+            (rows_of (leaves self.now))) }
+        ensures memory { IsOkUnless result Refusal.NoMemory };
+
+    /// Counts every request up to this number as performed at each leaf. Takes no memory.
+    fn raise(&mut self, low: u64)
+        ensures raised { leaves self.new ≡ map (λ leaf. raised_to leaf low) (leaves self.old) };
+
+    /// Makes room for one leaf more. Refused NoMemory.
+    fn make_room(&mut self) -> Result<(), Refusal>
+        ensures room { OnOk result (0 < room self.new) }
+        ensures unchanged { leaves self.new ≡ leaves self.old }
+        ensures memory { IsOkUnless result Refusal.NoMemory };
+
+    /// Parts the leaf at a place and puts its other half beside it. There is room. Takes no memory.
+    fn split(&mut self, place: usize, split: Split)
+        requires may { may_split_at (leaves self.old) place ≡ true }
+        requires half { IsSplitOf (get_or (leaves self.old) place first)
+            split.right.value.id split.right.value.last split }
+        requires room { 0 < room self.old }
+        ensures { leaves self.new
+            ≡ split_at place split.right.value.id split.right.value.last (leaves self.old) };
+
+    /// Puts the leaf of both in the place of a leaf and the one after it. Takes no memory.
+    fn merge(&mut self, place: usize, merge: Merge)
+        requires may { may_merge_at (leaves self.old) place ≡ true }
+        requires both { IsMergeOf (get_or (leaves self.old) place first) (get_or (leaves self.old) (place + 1) first)
+            merge.merged.value.last merge }
+        ensures { leaves self.new ≡ merged_at place merge.merged.value.last (leaves self.old) };
+}
+
+/// The leaves of a new tree: the first leaf alone. Refused NoMemory.
+pub fn one_leaf<L: LeafSet>(alloc: Global) -> Result<L, Refusal>
+    ensures first { IfOk result (λ set. L.leaves set ≡ first ∷ []) }
+    ensures memory { IsOkUnless result Refusal.NoMemory }
+{
+    let mut boxes = Vec::new(alloc);
+    boxes.push(Box::new(alloc, Leaf::first(alloc))?)?;
+    L::from_leaves(alloc, boxes)
+}

@@ -1,0 +1,99 @@
+//! Leaves in a plain list.
+ghost use Rattle.std.specs.Prelude.{◌≡◌};
+
+use crate::boxes::{merge_in, perform_in, place_in, raise_in, scan_in, split_in};
+use crate::leaf_set::LeafSet;
+use crate::parting::{Merge, Split};
+use page::{Done, Leaf};
+use record_key::{Key, Op, Refusal, Value};
+use std::alloc::Global;
+use std::marker::Model;
+
+/// Leaves in a list. The leaf of a key is found by halving, and no leaf is copied when another is put beside it.
+#[derive(Debug, Drop)]
+pub struct LeafList {
+    alloc: Global,
+    leaves: Vec<Box<Leaf>>,
+}
+
+impl Model for LeafList {
+    ghost use Rattle.std.specs.Prelude.{◌-◌, vec_len};
+    ghost use Rattle.std.specs.Vec.{vec_capacity};
+    ghost use Rattle.std.specs.Coded.{codes};
+    ghost use Rattle.record_key.specs.Table.{table_code};
+    ghost use Rattle.btree.specs.Leaves.{AreLeaves};
+    ghost use Rattle.btree.specs.Lists.{ListView, leaves_in};
+
+    ghost Value = { ListView };
+
+    ghost coded = { Prim.hlevel (codes, table_code) };
+
+    ghost view = { λ l. record {
+      leaves = leaves_in l.leaves.items;
+      room = vec_capacity l.leaves - vec_len l.leaves;
+    } };
+
+    ghost invariant = { λ l. AreLeaves (leaves_in l.leaves.items) };
+}
+
+impl LeafSet for LeafList {
+    ghost leaves = { λ list. list.leaves };
+
+    ghost room = { λ list. list.room };
+
+    fn from_leaves(alloc: Global, boxes: Vec<Box<Leaf>>) -> Result<LeafList, Refusal> {
+        Ok(LeafList {
+            alloc,
+            leaves: boxes,
+        })
+    }
+
+    fn allocator(&self) -> Global {
+        self.alloc
+    }
+
+    fn kept(&self) {
+        let _count = self.leaves.len();
+    }
+
+    fn len(&self) -> usize {
+        self.leaves.len()
+    }
+
+    fn leaf(&self, place: usize) -> &Leaf {
+        &self.leaves[place]
+    }
+
+    fn place_of(&self, key: &Key) -> usize {
+        place_in(self.leaves.as_slice(), key)
+    }
+
+    fn perform(&mut self, number: u64, op: &Op) -> Result<Done, Refusal> {
+        perform_in(&mut self.leaves, number, op)
+    }
+
+    fn get(&self, key: &Key) -> Option<&Value> {
+        self.leaves[place_in(self.leaves.as_slice(), key)].get(key)
+    }
+
+    fn scan(&self, low: &Key, high: Option<&Key>) -> Result<Vec<(Key, Value)>, Refusal> {
+        scan_in(self.alloc, self.leaves.as_slice(), low, high)
+    }
+
+    fn raise(&mut self, low: u64) {
+        raise_in(&mut self.leaves, low);
+    }
+
+    fn make_room(&mut self) -> Result<(), Refusal> {
+        self.leaves.reserve(1)?;
+        Ok(())
+    }
+
+    fn split(&mut self, place: usize, split: Split) {
+        split_in(&mut self.leaves, place, split);
+    }
+
+    fn merge(&mut self, place: usize, merge: Merge) {
+        merge_in(&mut self.leaves, place, merge);
+    }
+}
