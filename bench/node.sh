@@ -2,7 +2,8 @@
 # Usage: bench/node.sh. Proves and builds crates/bench_node and measures a node over the world's public calls, with no
 # script and no text, in transactions of ten over 20,000 keys, the 10,000 even ones loaded before: a upserts, b the same
 # rolled back, c updates of which a savepoint undoes the first five, d reads, e rows read a hundred at a time, and s
-# updates in transactions of a hundred, a savepoint before each ten, of which every second ten is undone.
+# updates in transactions of a hundred, a savepoint before each ten, of which every second ten is undone; and, into no rows,
+# r inserts of rising and x of scattered keys, the leaf of each eighth key split.
 # Prints operations a second at 1,000, 10,000 and 100,000 operations, each the best of five runs, and the ratio of the
 # last to the first; then how many bytes of resident memory each of 400,000 committed upserts takes.
 # The first line is the machine's.
@@ -28,7 +29,7 @@ resident() {
     cat "$folder/memory"
 }
 
-for workload in a b c d e s; do
+for workload in a b c d e s r x; do
     first=
     for operations in 1000 10000 100000; do
         rate=$(best "$workload" "$operations")

@@ -15,7 +15,7 @@ impl Client {
     /// A node whose session runs.
     pub fn new(alloc: Global) -> Result<Client, Refusal> {
         let mut client = Client {
-            world: World::new(alloc),
+            world: World::new(alloc)?,
             outs: Vec::new(alloc),
             txn: 0,
         };
@@ -79,8 +79,17 @@ impl Client {
     }
 
     /// The rows, in key order.
-    pub fn rows(&self) -> &[(Key, Value)] {
+    pub fn rows(&self) -> Result<Vec<(Key, Value)>, Refusal> {
         self.world.rows()
+    }
+
+    /// Splits the leaf of the key, where it may be split.
+    pub fn split(&mut self, key: Key) -> Result<(), Refusal> {
+        match self.world.step(&Event::Split { key }) {
+            Out::Refused(Refusal::NotNow) => Ok(()),
+            Out::Refused(refusal) => Err(refusal),
+            _ => Ok(()),
+        }
     }
 
     /// One call, and all that it comes to.

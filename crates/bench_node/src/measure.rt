@@ -24,7 +24,7 @@ pub fn measured<R: Clock>(
     let end = Instant::now(rt)?;
     Ok(Outcome {
         took: end.duration_since(start),
-        digest: work.digest(),
+        digest: done(work.digest())?,
     })
 }
 

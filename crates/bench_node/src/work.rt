@@ -24,6 +24,10 @@ pub enum Workload {
     Reads,
     /// Rows read a hundred at a time, each hundred in a transaction.
     Scans,
+    /// Inserts of rising keys, ten a transaction, into no rows. The leaf of each eighth key is split.
+    Rising,
+    /// The same of scattered keys.
+    Scattered,
 }
 
 impl Workload {
@@ -37,6 +41,8 @@ impl Workload {
             b"s" => Workload::ManySavepoints,
             b"d" => Workload::Reads,
             b"e" => Workload::Scans,
+            b"r" => Workload::Rising,
+            b"x" => Workload::Scattered,
             _ => return None,
         })
     }
@@ -50,6 +56,8 @@ impl Workload {
             Workload::ManySavepoints => b's',
             Workload::Reads => b'd',
             Workload::Scans => b'e',
+            Workload::Rising => b'r',
+            Workload::Scattered => b'x',
         }
     }
 }
@@ -75,6 +83,9 @@ impl Work {
 
     /// The rows that stand before the work.
     pub fn load(&mut self) -> Result<(), Refusal> {
+        if matches!(self.workload, Workload::Rising | Workload::Scattered) {
+            return Ok(());
+        }
         for place in 0..KEYS / 200 {
             self.client.begin()?;
             for key in 0..100 {
@@ -132,6 +143,8 @@ impl Work {
             }
             Workload::ManySavepoints => self.saved_upsert(at, drawn),
             Workload::Reads => self.read(drawn % KEYS),
+            Workload::Rising => self.grow(place, place),
+            Workload::Scattered => self.grow(place, mix(place)),
             _ => self.upsert(drawn % KEYS, drawn >> 8),
         }
     }
@@ -151,6 +164,15 @@ impl Work {
         self.upsert(drawn % (KEYS / 2) * 2, drawn >> 8)?;
         if at % 20 == 19 {
             self.client.go_back(at / 10 + 1)?;
+        }
+        Ok(())
+    }
+
+    /// A new key; the leaf of each eighth one is split.
+    fn grow(&mut self, place: u64, key: u64) -> Result<(), Refusal> {
+        self.upsert(key, mix(place))?;
+        if place % 8 == 7 {
+            self.client.split(key_of(key)?)?;
         }
         Ok(())
     }
@@ -190,13 +212,13 @@ impl Work {
     }
 
     /// A number made of all rows, whatever their order: of each the hash FNV-1a of 64 bits, from a start of its own.
-    pub fn digest(&self) -> u64 {
+    pub fn digest(&self) -> Result<u64, Refusal> {
         let mut sum = 0u64;
-        for (key, value) in self.client.rows() {
+        for (key, value) in &self.client.rows()? {
             let hash = fnv(0x1465_0fb0_739d_0383, key.as_bytes());
             sum = sum.wrapping_add(mix(fnv(hash, value.as_bytes())));
         }
-        sum
+        Ok(sum)
     }
 }
 

@@ -1,74 +1,166 @@
--- What each request leaves is as it must be at every moment.
-use Rattle.std.proofs.Common.{◌≡◌, ◌≢◌, ℕ, ◌==◌, ◌||◌, true, false, List, [], ◌∷◌, None, refl, sym, ap, ◌∙◌, true≢false, eq-eqb}
+-- What each call leaves of the data component is as it must be at every moment.
+use Rattle.std.proofs.Common.{◌≡◌, ◌≢◌, ◌⊎◌, ℕ, ◌≤◌, ◌==◌, ◌||◌, Bool, true, false, List, [], ◌∷◌, refl, sym, ap, ◌∙◌, subst, arith, inl, inr, true≢false, eq-eqb, append-nil}
+use Rattle.std.specs.Prelude.{nat_le}
 use Rattle.std.specs.List.{AllByRecursion}
-use Rattle.std.proofs.lemmas.Bool.{or_left, or_right, or_parts}
+use Rattle.std.proofs.lemmas.Bool.{or_left, or_right}
 use Rattle.record_key.proofs.Lists.{all_from}
 use Rattle.record_key.specs.declared.op.Op.{Op}
+use Rattle.record_key.specs.declared.op.Answer.{Answer}
+use Rattle.record_key.specs.Rows.{table_of}
+use Rattle.std.specs.FinMap as map
 use Rattle.record_key.specs.Table.{Bytes, key_of, answer_in, after}
 use Rattle.record_key.specs.declared.entry.Entry.{Entry}
-use Rattle.ab_lsn.specs.AbLsn.{stands_in, captures}
-use Rattle.ab_lsn.proofs.Noting.{uncaptured}
-use Rattle.ab_lsn.proofs.Capturing.{noted_captures, raised_captures}
-use Rattle.page.specs.Leaf.{LeafView, is_in_fences}
-use Rattle.page.proofs.Performing.{all_placed}
-use Rattle.page.proofs.Raising.{all_raised}
+use Rattle.ab_lsn.specs.AbLsn.{AbLsnView, stands_in, captures}
+use Rattle.page.specs.Leaf.{LeafView, IsLeaf, is_in_fences}
+use Rattle.page.proofs.Halves.{table_again}
+use Rattle.btree.specs.Leaves.{leaf_at, rows_of}
+use Rattle.btree.specs.Performs.{performed_at}
+use Rattle.btree.proofs.AtKey.{captured_performed, captured_not_performed}
+use Rattle.btree.proofs.Carried.{entries_performed}
+use Rattle.btree.proofs.Owning.{own_leaves}
+use Rattle.btree.proofs.Stays.{performs_one}
+use Rattle.recovery_laws.specs.Recovery.{stored_session}
+use Rattle.system_txn.specs.SystemView.{SystemView, fresh as fresh_system}
+use Rattle.system_txn.specs.Kept.{IsSystem}
 use Rattle.dc_core.specs.declared.performance.Performance.{Performance}
-use Rattle.dc_core.specs.DcView.{DcView}
-use Rattle.dc_core.specs.Serves.{performs, lowered}
-use Rattle.dc_core.specs.Kept.{IsDc, IsListed}
-
--- each key lies in a leaf without fences
-pub in_fences : (leaf : LeafView) (k : Bytes) → leaf.low_fence ≡ None → leaf.high_fence ≡ None → is_in_fences leaf k ≡ true
-in_fences leaf k low high = rw (low, high) refl
-
-pub keeps_lowered : (w : DcView) (l : ℕ) → IsDc w → IsDc (lowered w l)
-keeps_lowered w l k = record {
-  whole = k.whole;
-  rows = k.rows;
-  once = k.once;
-  captured = all_from (λ (p : Performance). captures w.leaf.ab p.number ≡ true) (λ (p : Performance). captures (lowered w l).leaf.ab p.number ≡ true)
-      (λ p was. raised_captures w.leaf.ab l p.number ∙ or_left (captures w.leaf.ab p.number) _ was) w.performed k.captured;
-  saved = all_raised (IsListed w.performed) w.leaf.ab l k.saved;
-  session = k.session;
-}
-
--- a number that stands nowhere is no entry's
-other_numbers : (n : ℕ) (es : List Entry) → stands_in es n ≡ false → AllByRecursion (λ (e : Entry). n ≢ e.number) es
-other_numbers n [] out = tt
-other_numbers n (e ∷ es) out =
-    let no_one = or_parts (n == e.number) (stands_in es n) out in
-    (λ same. true≢false (sym (eq-eqb n e.number same) ∙ no_one.0), other_numbers n es no_one.1)
+use Rattle.dc_core.specs.DcView.{DcView, leaves, captures_at}
+use Rattle.dc_core.specs.Serves.{KeepsKey, with_system, performs}
+use Rattle.dc_core.specs.Kept.{IsDc, Saves, IsListed, AreListed}
 
 all_both : {X : Type 0} (P Q R : X → Type 0) → ((x : X) → P x → Q x → R x) → (xs : List X) → AllByRecursion P xs → AllByRecursion Q xs → AllByRecursion R xs
 all_both P Q R from [] all also = tt
 all_both P Q R from (x ∷ xs) all also = (from x all.0 also.0, all_both P Q R from xs all.1 also.1)
 
-module _ (w : DcView) (n : ℕ) (o : Op) (k : IsDc w) (out : captures w.leaf.ab n ≡ false) where
+-- ---- the leaves and their devices change, and the records stay
+
+-- no performance is lost at its key, and what is saved is still listed
+pub record Carries (w : DcView) (v : SystemView) : Type 0 where
+  pub rows : rows_of v.leaves ≡ rows_of (leaves w)
+  pub captured : (p : Performance) → captures_at w (key_of p.op) p.number ≡ true
+      → AllByRecursion (λ (leaf : LeafView). AllByRecursion (Saves p) leaf.ab.entries) (leaves w)
+      → captures (leaf_at v.leaves (key_of p.op)).ab p.number ≡ true
+  pub saved : AllByRecursion (AreListed w.performed) v.leaves
+  pub stored : stored_session w.system.log ≤ stored_session v.log
+
+-- what each entry says of all performances, each performance says of all entries
+saves_of : (ps : List Performance) (es : List Entry) → AllByRecursion (IsListed ps) es → AllByRecursion (λ (p : Performance). AllByRecursion (Saves p) es) ps
+saves_of [] es all = tt
+saves_of (p ∷ ps) es all =
+    (all_from (IsListed (p ∷ ps)) (Saves p) (λ e listed. listed.0) es all, saves_of ps es (all_from (IsListed (p ∷ ps)) (IsListed ps) (λ e listed. listed.1) es all))
+
+all_save : (ps : List Performance) (ls : List LeafView) → AllByRecursion (AreListed ps) ls
+    → AllByRecursion (λ (p : Performance). AllByRecursion (λ (leaf : LeafView). AllByRecursion (Saves p) leaf.ab.entries) ls) ps
+all_save ps [] all = each ps
+  where
+    each : (ps : List Performance) → AllByRecursion (λ (p : Performance). AllByRecursion (λ (leaf : LeafView). AllByRecursion (Saves p) leaf.ab.entries) []) ps
+    each [] = tt
+    each (p ∷ ps) = (tt, each ps)
+all_save ps (leaf ∷ ls) all =
+    all_both (λ (p : Performance). AllByRecursion (Saves p) leaf.ab.entries) (λ (p : Performance). AllByRecursion (λ (leaf : LeafView). AllByRecursion (Saves p) leaf.ab.entries) ls)
+    (λ (p : Performance). AllByRecursion (λ (leaf : LeafView). AllByRecursion (Saves p) leaf.ab.entries) (leaf ∷ ls))
+    (λ p here later. (here, later)) ps (saves_of ps leaf.ab.entries all.0) (all_save ps ls all.1)
+
+pub keeps_carried : (w : DcView) (v : SystemView) → IsDc w → IsSystem v → Carries w v → IsDc (with_system w v)
+keeps_carried w v k is c = record {
+  system = is;
+  rows = c.rows ∙ k.rows;
+  once = k.once;
+  captured = all_both (λ (p : Performance). captures_at w (key_of p.op) p.number ≡ true)
+      (λ (p : Performance). AllByRecursion (λ (leaf : LeafView). AllByRecursion (Saves p) leaf.ab.entries) (leaves w))
+      (λ (p : Performance). captures (leaf_at v.leaves (key_of p.op)).ab p.number ≡ true) c.captured w.performed k.captured (all_save w.performed (leaves w) k.saved);
+  saved = c.saved;
+  session = k.session;
+  stored = omega (arith, k.stored, c.stored);
+}
+
+-- the leaves stay
+pub same_leaves : (w : DcView) (v : SystemView) → IsDc w → v.leaves ≡ leaves w → stored_session w.system.log ≤ stored_session v.log → Carries w v
+same_leaves w v k same stored = record {
+  rows = ap rows_of same;
+  captured = λ p was saves. ap (λ (ls : List LeafView). captures (leaf_at ls (key_of p.op)).ab p.number) same ∙ was;
+  saved = subst (AllByRecursion (AreListed w.performed)) (sym same) k.saved;
+  stored = stored;
+}
+
+-- ---- a new number
+
+module _ (w : DcView) (n : ℕ) (o : Op) (k : IsDc w) (key : KeepsKey w n (key_of o)) (out : captures_at w (key_of o) n ≡ false) where
   apart : AllByRecursion (λ (q : Performance). q.number ≢ n) w.performed
-  apart = all_from (λ (q : Performance). captures w.leaf.ab q.number ≡ true) (λ (q : Performance). q.number ≢ n)
-      (λ q was same. true≢false (sym was ∙ ap (λ (m : ℕ). captures w.leaf.ab m) same ∙ out)) w.performed k.captured
+  apart = all_both (λ (q : Performance). captures_at w (key_of q.op) q.number ≡ true) (λ (q : Performance). q.number ≡ n → key_of q.op ≡ key_of o) (λ (q : Performance). q.number ≢ n)
+      (λ q was on same. true≢false (sym was ∙ ap (λ (z : Bytes). captures_at w z q.number) (on same) ∙ ap (captures_at w (key_of o)) same ∙ out)) w.performed k.captured key.listed
 
-  now : (m : ℕ) → captures (performs w n o).leaf.ab m ≡ (captures w.leaf.ab m || m == n)
-  now m = noted_captures w.leaf.ab n (key_of o) (answer_in w.leaf.rows o) m
+  abbrev now : Performance
+  now = record { number = n; op = o; answer = answer_in (leaf_at (leaves w) (key_of o)).rows o }
 
-  saved_new : IsListed (performs w n o).performed (record { number = n; key = key_of o; answer = answer_in w.leaf.rows o })
-  saved_new = (λ same. refl, all_from (λ (q : Performance). q.number ≢ n) (λ (q : Performance). q.number ≡ n → q.answer ≡ answer_in w.leaf.rows o) (λ q apart same. absurd (apart same)) w.performed apart)
+  -- no entry has the number: it would lie in the leaf of the key, which hasn't captured it
+  abbrev IsApart : LeafView → Type 0
+  IsApart leaf = AllByRecursion (λ (e : Entry). n ≢ e.number) leaf.ab.entries
 
-  saved_old : AllByRecursion (IsListed (performs w n o).performed) w.leaf.ab.entries
-  saved_old = all_both (λ (e : Entry). n ≢ e.number) (IsListed w.performed) (IsListed (performs w n o).performed)
-      (λ e apart listed. (λ same. absurd (apart same), listed)) w.leaf.ab.entries
-      (other_numbers n w.leaf.ab.entries (uncaptured w.leaf.ab n out).1) k.saved
+  abbrev IsOwn : LeafView → Type 0
+  IsOwn leaf = (q : Bytes) → is_in_fences leaf q ≡ true → leaf_at (leaves w) q ≡ leaf
 
-  pub keeps_performed : IsDc (performs w n o)
-  keeps_performed = record {
-    whole = k.whole;
-    rows = ap (λ rows. after rows o) k.rows;
+  entry_apart : (leaf : LeafView) → IsOwn leaf → IsLeaf leaf → AllByRecursion (λ (e : Entry). e.number ≡ n → e.key ≡ key_of o) leaf.ab.entries → IsApart leaf
+  entry_apart leaf own kept keys = by leaf.ab.entries (λ there. or_right (nat_le n leaf.ab.low) (stands_in leaf.ab.entries n) there) kept.entries keys
+    where
+      by : (es : List Entry) → (stands_in es n ≡ true → captures leaf.ab n ≡ true) → AllByRecursion (λ (e : Entry). is_in_fences leaf e.key ≡ true) es
+          → AllByRecursion (λ (e : Entry). e.number ≡ n → e.key ≡ key_of o) es → AllByRecursion (λ (e : Entry). n ≢ e.number) es
+      by [] there inside on = tt
+      by (e ∷ es) there inside on = (
+        λ same.
+            true≢false (sym (there (or_left (n == e.number) (stands_in es n) (eq-eqb n e.number same)))
+            ∙ ap (λ (l : LeafView). captures l.ab n) (sym (own e.key inside.0)) ∙ ap (λ (z : Bytes). captures_at w z n) (on.0 (sym same)) ∙ out),
+        by es (λ later. there (or_right (n == e.number) (stands_in es n) later)) inside.1 on.1,
+      )
+
+  all_apart : AllByRecursion IsApart (leaves w)
+  all_apart =
+      all_both (λ (leaf : LeafView). IsOwn leaf × IsLeaf leaf) (λ (leaf : LeafView). AllByRecursion (λ (e : Entry). e.number ≡ n → e.key ≡ key_of o) leaf.ab.entries) IsApart
+      (λ leaf is keys. entry_apart leaf is.0 is.1 keys) (leaves w)
+      (all_both IsOwn IsLeaf (λ (leaf : LeafView). IsOwn leaf × IsLeaf leaf) (λ leaf own kept. (own, kept)) (leaves w) (own_leaves (leaves w) k.system.leaves) k.system.leaves.each)
+      key.saved
+
+  saved_old : AllByRecursion (AreListed (now ∷ w.performed)) (leaves w)
+  saved_old =
+      all_both IsApart (AreListed w.performed) (AreListed (now ∷ w.performed))
+      (λ leaf other listed. all_both (λ (e : Entry). n ≢ e.number) (IsListed w.performed) (IsListed (now ∷ w.performed)) (λ e no was. (λ same. absurd (no same), was)) leaf.ab.entries other listed)
+      (leaves w) all_apart k.saved
+
+  saved_new : IsListed (now ∷ w.performed) (record { number = n; key = key_of o; answer = now.answer })
+  saved_new = (
+    λ same. (refl, refl),
+    all_from (λ (q : Performance). q.number ≢ n) (λ (q : Performance). q.number ≡ n → (key_of q.op ≡ key_of o) × (q.answer ≡ now.answer)) (λ q other same. absurd (other same)) w.performed apart,
+  )
+
+  pub keeps_performed : IsSystem (performs w n o).system → IsDc (performs w n o)
+  keeps_performed is = record {
+    system = is;
+    rows = (performs_one (leaves w) n o k.system.leaves out).rows ∙ ap (λ rows. after rows o) k.rows;
     once = (apart, k.once);
     captured = (
-      now n ∙ or_right (captures w.leaf.ab n) (n == n) (eq-eqb n n refl),
-      all_from (λ (q : Performance). captures w.leaf.ab q.number ≡ true) (λ (q : Performance). captures (performs w n o).leaf.ab q.number ≡ true)
-          (λ q was. now q.number ∙ or_left (captures w.leaf.ab q.number) (q.number == n) was) w.performed k.captured,
+      captured_performed (leaves w) k.system.leaves n o,
+      all_both (λ (q : Performance). q.number ≢ n) (λ (q : Performance). captures_at w (key_of q.op) q.number ≡ true)
+          (λ (q : Performance). captures_at (performs w n o) (key_of q.op) q.number ≡ true)
+          (λ q other was. captured_not_performed (leaves w) k.system.leaves n o (key_of q.op) q.number other ∙ was) w.performed apart k.captured,
     );
-    saved = all_placed (IsListed (performs w n o).performed) (record { number = n; key = key_of o; answer = answer_in w.leaf.rows o }) w.leaf.ab.entries saved_new saved_old;
+    saved = entries_performed (IsListed (now ∷ w.performed)) (leaves w) n o saved_new saved_old;
     session = k.session;
+    stored = k.stored;
   }
+
+-- ---- what performing leaves is that
+
+pub is_performed : (w : DcView) (n : ℕ) (o : Op) (a : Answer) (v : SystemView) (ps : List Performance) → ps ≡ record { number = n; op = o; answer = a } ∷ w.performed
+    → a ≡ answer_in (leaf_at (leaves w) (key_of o)).rows o → v ≡ record w.system { leaves = performed_at (leaves w) n o } → record w { system = v; performed = ps } ≡ performs w n o
+is_performed w n o a v ps noted answer left =
+    let listed : ps ≡ (performs w n o).performed = noted ∙ ap (λ (b : Answer). record { number = n; op = o; answer = b } ∷ w.performed) answer in
+    λ i. record w { system = left i; performed = listed i }
+
+-- ---- a component of no records
+
+pub keeps_fresh : (v : SystemView) (ps : List Performance) (failures : ℕ) → v ≡ fresh_system failures → ps ≡ [] → IsSystem v
+    → IsDc (record { stored = 0; session = 0; redo = false; system = v; performed = ps })
+keeps_fresh v ps failures same none is =
+    let P : SystemView → Type 0 = λ x. IsDc (record { stored = 0; session = 0; redo = false; system = x; performed = ps }) in
+    let Q : List Performance → Type 0 = λ x. IsDc (record { stored = 0; session = 0; redo = false; system = fresh_system failures; performed = x }) in
+    subst P (sym same) (subst Q (sym none)
+    (record { system = subst IsSystem same is; rows = ap table_of (append-nil (map.entries map.empty)) ∙ table_again map.empty; once = tt; captured = tt; saved = (tt, tt); session = inl refl; stored = omega arith }))

@@ -1,17 +1,33 @@
 -- What is seen of the data component.
-use Rattle.std.specs.Prelude.{ℕ, Bool, false, List, []}
-use Rattle.page.specs.Leaf.{LeafView, first}
+use Rattle.std.specs.Prelude.{ℕ, Bool, false, List, [], Option}
+use Rattle.std.specs.FinMap as map
+use Rattle.record_key.specs.Table.{Bytes}
+use Rattle.ab_lsn.specs.AbLsn.{captures}
+use Rattle.btree.specs.Leaves.{leaf_at}
+use Rattle.page.specs.Leaf.{LeafView}
+use Rattle.system_txn.specs.SystemView.{SystemView, fresh as fresh_system}
 use Rattle.dc_core.specs.declared.performance.Performance.{Performance}
 
--- the greatest session taken and the one that runs, 0 if none; whether redo goes on; the leaf; and what was
--- performed, the newest first
+-- the greatest session taken and the one that runs, 0 if none; whether redo goes on; the leaves with their log and
+-- pages; and what was performed, the newest first
 pub record DcView : Type 0 where
   pub stored : ℕ
   pub session : ℕ
   pub redo : Bool
-  pub leaf : LeafView
+  pub system : SystemView
   pub performed : List Performance
 
--- no session was taken, nothing was performed
-abbrev pub fresh : DcView
-fresh = record { stored = 0; session = 0; redo = false; leaf = first; performed = [] }
+abbrev pub leaves : DcView → List LeafView
+leaves w = w.system.leaves
+
+-- the leaf of the key has captured the number
+abbrev pub captures_at : DcView → Bytes → ℕ → Bool
+captures_at w k n = captures (leaf_at (leaves w) k).ab n
+
+-- what stands at the key
+abbrev pub value_at : DcView → Bytes → Option Bytes
+value_at w k = map.get (leaf_at (leaves w) k).rows k
+
+-- no session was taken, nothing was performed; the devices have failed so often
+abbrev pub fresh : ℕ → DcView
+fresh failures = record { stored = 0; session = 0; redo = false; system = fresh_system failures; performed = [] }

@@ -1,12 +1,15 @@
 -- What holds of the data component at every moment.
-use Rattle.std.specs.Prelude.{◌≡◌, ◌≢◌, ◌⊎◌, true, List, [], ◌∷◌, None}
+use Rattle.std.specs.Prelude.{◌≡◌, ◌≢◌, ◌⊎◌, ℕ, ◌≤◌, true, List, [], ◌∷◌}
 use Rattle.std.specs.List.{AllByRecursion}
 use Rattle.std.specs.FinMap as map
-use Rattle.record_key.specs.Table.{Table, after}
+use Rattle.record_key.specs.Table.{Table, key_of, after}
 use Rattle.record_key.specs.declared.entry.Entry.{Entry}
-use Rattle.ab_lsn.specs.AbLsn.{captures}
+use Rattle.page.specs.Leaf.{LeafView}
+use Rattle.btree.specs.Leaves.{rows_of}
+use Rattle.recovery_laws.specs.Recovery.{stored_session}
+use Rattle.system_txn.specs.Kept.{IsSystem}
 use Rattle.dc_core.specs.declared.performance.Performance.{Performance}
-use Rattle.dc_core.specs.DcView.{DcView}
+use Rattle.dc_core.specs.DcView.{DcView, leaves, captures_at}
 
 -- the table that performances leave, one after another
 abbrev pub replayed : List Performance → Table
@@ -18,14 +21,21 @@ abbrev pub IsOnce : List Performance → Type 0
 IsOnce [] = Unit {0}
 IsOnce (p ∷ ps) = AllByRecursion (λ (q : Performance). q.number ≢ p.number) ps × IsOnce ps
 
--- what is saved under a number is what its performance was answered
+-- an entry of a performance's number has its key and its answer
+abbrev pub Saves : Performance → Entry → Type 0
+Saves p e = p.number ≡ e.number → (key_of p.op ≡ e.key) × (p.answer ≡ e.answer)
+
 abbrev pub IsListed : List Performance → Entry → Type 0
-IsListed performed e = AllByRecursion (λ (p : Performance). p.number ≡ e.number → p.answer ≡ e.answer) performed
+IsListed performed e = AllByRecursion (λ (p : Performance). Saves p e) performed
+
+abbrev pub AreListed : List Performance → LeafView → Type 0
+AreListed performed leaf = AllByRecursion (IsListed performed) leaf.ab.entries
 
 pub record IsDc (w : DcView) : Type 0 where
-  pub whole : (w.leaf.low_fence ≡ None) × (w.leaf.high_fence ≡ None)
-  pub rows : w.leaf.rows ≡ replayed w.performed
+  pub system : IsSystem w.system
+  pub rows : rows_of (leaves w) ≡ replayed w.performed
   pub once : IsOnce w.performed
-  pub captured : AllByRecursion (λ (p : Performance). captures w.leaf.ab p.number ≡ true) w.performed
-  pub saved : AllByRecursion (IsListed w.performed) w.leaf.ab.entries
+  pub captured : AllByRecursion (λ (p : Performance). captures_at w (key_of p.op) p.number ≡ true) w.performed
+  pub saved : AllByRecursion (AreListed w.performed) (leaves w)
   pub session : (w.session ≡ 0) ⊎ (w.session ≡ w.stored)
+  pub stored : w.stored ≤ stored_session w.system.log

@@ -1,20 +1,27 @@
--- What the data component does with a request, and which it refuses.
-use Rattle.std.specs.Prelude.{◌≡◌, ℕ, ◌==◌, ◌&&◌, Bool, true, false, not, [], ◌∷◌, Option, Some, None, nat_lt}
+-- What the data component does with a request, which it refuses, and what a refused one leaves.
+use Rattle.std.specs.Prelude.{◌≡◌, ◌⊎◌, ℕ, ◌==◌, ◌&&◌, Bool, true, false, not, [], ◌∷◌, Option, Some, None, Result, Ok, Err, nat_lt, length}
 use Rattle.std.specs.Bool.{MatchBool}
-use Rattle.std.specs.FinMap as map
+use Rattle.std.specs.List.{AllByRecursion}
 use Rattle.record_key.specs.declared.op.Op.{Op}
+use Rattle.record_key.specs.declared.entry.Entry.{Entry}
 use Rattle.record_key.specs.declared.refusal.Refusal.{Refusal}
-use Rattle.record_key.specs.declared.refusal.Refusal.TheVariants.{NotConnected, Stale, Redoing}
+use Rattle.record_key.specs.declared.refusal.Refusal.TheVariants.{NoMemory, NotConnected, Stale, Redoing, NumbersSpent}
 use Rattle.record_key.specs.FirstCause.{first_of, or_else}
-use Rattle.record_key.specs.Table.{Bytes, answer_in}
+use Rattle.record_key.specs.Table.{Bytes, key_of, answer_in}
 use Rattle.history.specs.Spans.{Span, Shared, rows_in}
 use Rattle.codec.specs.declared.request.Request.{Request}
 use Rattle.codec.specs.declared.request.Request.TheVariants as asks
 use Rattle.codec.specs.declared.reply.Reply.{Reply}
 use Rattle.codec.specs.declared.reply.Reply.TheVariants as says
-use Rattle.ab_lsn.specs.AbLsn.{captures, saved_in}
-use Rattle.page.specs.Leaf.{performed, raised_to}
-use Rattle.dc_core.specs.DcView.{DcView}
+use Rattle.ab_lsn.specs.AbLsn.{saved_in}
+use Rattle.page.specs.Leaf.{LeafView}
+use Rattle.btree.specs.Leaves.{leaf_at, rows_of}
+use Rattle.btree.specs.Performs.{performed_at}
+use Rattle.system_txn.specs.SystemView.{SystemView}
+use Rattle.system_txn.specs.Changes.{lowered, accepted, forced}
+use Rattle.system_txn.specs.Gives.{is_spent, CheckpointGives, AcceptGives}
+use Rattle.dc_core.specs.declared.performance.Performance.{Performance}
+use Rattle.dc_core.specs.DcView.{DcView, leaves, captures_at, value_at}
 
 -- this session runs
 abbrev pub runs : DcView → ℕ → Bool
@@ -28,9 +35,10 @@ session_refusal w s = first_of ((w.session == 0, NotConnected) ∷ (not (w.sessi
 abbrev pub after_redo_refusal : DcView → ℕ → Option Refusal
 after_redo_refusal w s = or_else (session_refusal w s) (first_of ((w.redo, Redoing) ∷ []))
 
--- a session begins once, with a greater number than any before
+-- a session begins once, with a greater number than any before, and its record needs a number
 abbrev pub connect_refusal : DcView → ℕ → Option Refusal
-connect_refusal w s = first_of ((not (runs w s) && not (nat_lt w.stored s), Stale) ∷ [])
+connect_refusal w s =
+    first_of ((not (runs w s) && not (nat_lt w.stored s), Stale) ∷ (not (runs w s) && is_spent (length w.system.log), NumbersSpent) ∷ [])
 
 abbrev pub serve_refusal : DcView → Request → Option Refusal
 serve_refusal w (asks.Connect s) = connect_refusal w s
@@ -41,19 +49,32 @@ serve_refusal w (asks.LowWater s l) = after_redo_refusal w s
 serve_refusal w (asks.Checkpoint s l) = after_redo_refusal w s
 serve_refusal w (asks.RedoEnd s) = session_refusal w s
 
--- the session runs, and redo goes on until it says that it has ended
+-- a request's number is on the key that it has where it is known: among the performances, and in each leaf's entries
+pub record KeepsKey (w : DcView) (n : ℕ) (k : Bytes) : Type 0 where
+  pub listed : AllByRecursion (λ (p : Performance). p.number ≡ n → key_of p.op ≡ k) w.performed
+  pub saved : AllByRecursion (λ (leaf : LeafView). AllByRecursion (λ (e : Entry). e.number ≡ n → e.key ≡ k) leaf.ab.entries) (leaves w)
+
+-- what the caller owes: an operation of the running session keeps to its number's key
+abbrev pub MayAsk : DcView → Request → Type 0
+MayAsk w (asks.Perform s n o) = session_refusal w s ≡ None → KeepsKey w n (key_of o)
+MayAsk w _ = Unit {0}
+
+abbrev pub with_system : DcView → SystemView → DcView
+with_system w system = record w { system = system }
+
+-- the session runs, its record is stable, and redo goes on until it says that it has ended
 abbrev pub connected : DcView → ℕ → DcView
-connected w s = record w { stored = s; session = s; redo = true }
+connected w s = record w { stored = s; session = s; redo = true; system = forced (accepted w.system s) }
 
 -- a new number was performed
 abbrev pub performs : DcView → ℕ → Op → DcView
 performs w n o = record w {
-  leaf = performed w.leaf n o;
-  performed = record { number = n; op = o; answer = answer_in w.leaf.rows o } ∷ w.performed;
+  system = record w.system { leaves = performed_at (leaves w) n o };
+  performed = record { number = n; op = o; answer = answer_in (leaf_at (leaves w) (key_of o)).rows o } ∷ w.performed;
 }
 
-abbrev pub lowered : DcView → ℕ → DcView
-lowered w l = record w { leaf = raised_to w.leaf l }
+abbrev pub lowers : DcView → ℕ → DcView
+lowers w l = with_system w (lowered w.system l)
 
 abbrev pub range : Bytes → Option Bytes → Span
 range lo hi = record { lo = lo; hi = hi; mode = Shared }
@@ -63,17 +84,33 @@ abbrev pub Serves : DcView → Request → Option Reply → DcView → Type 0
 Serves old (asks.Connect s) reply new =
     (reply ≡ Some (says.Connected s)) × MatchBool (runs old s) (new ≡ old) (new ≡ connected old s)
 Serves old (asks.Perform s n o) reply new =
-    MatchBool (captures old.leaf.ab n)
-    ((reply ≡ Some (says.Answered s n (saved_in old.leaf.ab.entries n))) × (new ≡ old))
-    ((reply ≡ Some (says.Answered s n (Some (answer_in old.leaf.rows o)))) × (new ≡ performs old n o))
-Serves old (asks.Get s r k) reply new = (reply ≡ Some (says.Row s r (map.get old.leaf.rows k))) × (new ≡ old)
-Serves old (asks.Scan s r lo hi) reply new = (reply ≡ Some (says.Rows s r (rows_in (range lo hi) old.leaf.rows))) × (new ≡ old)
-Serves old (asks.LowWater s l) reply new = (reply ≡ None) × (new ≡ lowered old l)
-Serves old (asks.Checkpoint s l) reply new = (reply ≡ Some (says.Checkpointed s l)) × (new ≡ lowered old l)
+    MatchBool (captures_at old (key_of o) n)
+    ((reply ≡ Some (says.Answered s n (saved_in (leaf_at (leaves old) (key_of o)).ab.entries n))) × (new ≡ old))
+    ((reply ≡ Some (says.Answered s n (Some (answer_in (leaf_at (leaves old) (key_of o)).rows o)))) × (new ≡ performs old n o))
+Serves old (asks.Get s r k) reply new = (reply ≡ Some (says.Row s r (value_at old k))) × (new ≡ old)
+Serves old (asks.Scan s r lo hi) reply new = (reply ≡ Some (says.Rows s r (rows_in (range lo hi) (rows_of (leaves old))))) × (new ≡ old)
+Serves old (asks.LowWater s l) reply new = (reply ≡ None) × (new ≡ lowers old l)
+Serves old (asks.Checkpoint s l) reply new = (reply ≡ Some (says.Checkpointed s l)) × CheckpointGives old.system l (Ok tt) new.system × (new ≡ with_system old new.system)
 Serves old (asks.RedoEnd s) reply new = (reply ≡ Some (says.RedoEnded s)) × (new ≡ record old { redo = false })
 
--- only a new number and a scan take memory
-abbrev pub takes_memory : DcView → Request → Bool
-takes_memory w (asks.Perform s n o) = not (captures w.leaf.ab n)
-takes_memory w (asks.Scan s r lo hi) = true
-takes_memory w _ = false
+-- memory was refused, and nothing has changed
+abbrev pub LacksMemory : DcView → Refusal → DcView → Type 0
+LacksMemory old r new = (r ≡ NoMemory) × (new ≡ old)
+
+-- an allowed request that is refused: for want of memory, where it makes something new; where a device fails, as the
+-- system transaction says. All others are served
+abbrev pub Stops : DcView → Request → Refusal → DcView → Type 0
+Stops old (asks.Connect s) r new = (runs old s ≡ false) × AcceptGives old.system s (Err r) new.system × (new ≡ with_system old new.system)
+Stops old (asks.Perform s n o) r new = (captures_at old (key_of o) n ≡ false) × LacksMemory old r new
+Stops old (asks.Scan s n lo hi) r new = LacksMemory old r new
+Stops old (asks.Checkpoint s l) r new = CheckpointGives old.system l (Err r) new.system × (new ≡ with_system old new.system)
+Stops old _ r new = ⊥
+
+abbrev pub StopsUnless : Option Refusal → DcView → Request → Refusal → DcView → Type 0
+StopsUnless (Some cause) old request r new = (r ≡ cause) × (new ≡ old)
+StopsUnless None old request r new = Stops old request r new
+
+-- what a request is given, and what it leaves
+abbrev pub ServeGives : DcView → Request → Result (Option Reply) Refusal → DcView → Type 0
+ServeGives old request (Ok reply) new = (serve_refusal old request ≡ None) × Serves old request reply new
+ServeGives old request (Err r) new = StopsUnless (serve_refusal old request) old request r new

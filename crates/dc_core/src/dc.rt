@@ -1,9 +1,12 @@
 //! The data component.
-ghost use Rattle.std.specs.Prelude.{◌≡◌, false, None, Some, length, reverse, slice_get, IsOk, IfOk, IfErr, OnOk, OnErr};
+ghost use Rattle.std.specs.Prelude.{◌≡◌, ◌+◌, ◌<◌, [], None, Some, length, get_or, reverse, slice_get, IsTrue, IfOk, IfErr, OnOk};
 ghost use Rattle.std.specs.FinMap as map;
-ghost use Rattle.record_key.specs.FirstCause.{RefusesAs};
-ghost use Rattle.dc_core.specs.DcView.{fresh};
-ghost use Rattle.dc_core.specs.Serves.{serve_refusal, Serves, takes_memory};
+ghost use Rattle.codec.specs.Requests.{HasRequestNumbers};
+ghost use Rattle.page.specs.Leaf.{first};
+ghost use Rattle.btree.specs.Leaves.{all_rows};
+ghost use Rattle.dc_core.specs.DcView.{fresh, leaves};
+ghost use Rattle.dc_core.specs.Serves.{serve_refusal, MayAsk, ServeGives};
+ghost use Rattle.dc_core.specs.Tends.{SplitsTo, MergesTo, TendsTo, FlushesTo};
 ghost use Rattle.dc_core.specs.Kept.{IsDc};
 
 use crate::parts::Parts;
@@ -11,11 +14,13 @@ use crate::performance::Performance;
 use codec::{Reply, Request};
 use page::Leaf;
 use record_key::{Key, Refusal, Value};
+use stable::{MemLog, MemPages};
 use std::alloc::Global;
 use std::marker::Model;
+use system_txn::{Neighbours, Tended};
 
-/// One leaf, and the session that it serves.
-#[derive(Debug, Drop)]
+/// Leaves with their log and their pages, and the session that they serve.
+#[derive(Drop)]
 pub struct Dc {
     parts: Parts,
 }
@@ -23,13 +28,14 @@ pub struct Dc {
 impl Model for Dc {
     ghost use Rattle.std.specs.Coded.{codes};
     ghost use Rattle.record_key.specs.Table.{table_code};
+    ghost use Rattle.system_txn.specs.SystemView.{pages_code};
     ghost use Rattle.dc_core.specs.DcView.{DcView};
     ghost use Rattle.dc_core.specs.Kept.{IsDc};
     ghost use Rattle.dc_core.specs.Seen.{seen};
 
     ghost Value = { DcView };
 
-    ghost coded = { Prim.hlevel (codes, table_code) };
+    ghost coded = { Prim.hlevel (codes, table_code, pages_code) };
 
     ghost view = { λ d. seen d.parts };
 
@@ -37,18 +43,21 @@ impl Model for Dc {
 }
 
 impl Dc {
-    /// A component of no records that has taken no session. Takes no memory; the allocator serves what
-    /// comes later.
-    pub fn new(alloc: Global) -> Dc
-        ensures { result ≡ fresh }
+    /// A component of no records that has taken no session, on empty devices. Refused NoMemory.
+    pub fn new(alloc: Global, log: MemLog, pages: MemPages) -> Result<Dc, Refusal>
+        requires logged { (log.forced ≡ []) × (log.pending ≡ []) }
+        requires written { pages.pages ≡ map.empty }
+        ensures fresh { IfOk result (λ dc. dc ≡ fresh (log.failures + pages.failures)) }
+        ensures memory { IfErr result (λ refusal. refusal ≡ Refusal.NoMemory) }
     {
-        Dc {
-            parts: Parts::new(alloc),
-        }
+        Ok(Dc {
+            parts: Parts::new(alloc, log, pages)?,
+        })
     }
 
     /// Whether the request is taken, and if not, why: NotConnected where no session runs, Stale where
-    /// another one does, Redoing where it has to wait for the end of redo. Changes nothing.
+    /// another one does, Redoing where it has to wait for the end of redo, NumbersSpent where a session's record
+    /// has no number. Changes nothing.
     pub fn allows(&self, request: &Request) -> Result<(), Refusal>
         ensures allowed { OnOk result (serve_refusal self.now request.now ≡ None) }
         ensures refused { IfErr result (λ refusal. serve_refusal self.now request.now ≡ Some refusal) }
@@ -56,17 +65,57 @@ impl Dc {
         self.parts.allows(request)
     }
 
-    /// Does what the request asks, and gives the reply to it, if there is one. Refused as `allows` says, or
-    /// NoMemory; unchanged then. Only a new number and a Scan take memory.
+    /// What a caller asks who doesn't know a request's numbers: whether each is below 2^48, and an operation's number is
+    /// on the key that it has among the performances and in each leaf's entries. It costs as much as the history is long,
+    /// so a caller that knows its numbers doesn't ask.
+    pub fn may_ask(&self, request: &Request) -> bool
+        ensures { IsTrue result → HasRequestNumbers request.now × MayAsk self.now request.now }
+    {
+        self.parts.may_ask(request)
+    }
+
+    /// Does what the request asks, and gives the reply to it, if there is one. Refused as `allows` says and unchanged
+    /// then; else NoMemory for a new number or a Scan, and unchanged; NoMemory or Device for a Connect, which may leave
+    /// its record in the log and takes no session then, and for a Checkpoint, which may have raised all leaves and
+    /// written some.
     pub fn serve(&mut self, request: &Request) -> Result<Option<Reply>, Refusal>
-        ensures served { IfOk result (λ reply. Serves self.old request.now reply self.new) }
-        ensures allowed { OnOk result (serve_refusal self.old request.now ≡ None) }
-        ensures refused { IfErr result (RefusesAs (serve_refusal self.old request.now)) }
-        ensures memory { takes_memory self.old request.now ≡ false
-            → serve_refusal self.old request.now ≡ None → IsOk result }
-        ensures unchanged { OnErr result (self.new ≡ self.old) }
+        requires numbers { HasRequestNumbers request.now }
+        requires key { MayAsk self.old request.now }
+        ensures gives { ServeGives self.old request.now result self.new }
     {
         self.parts.serve(request)
+    }
+
+    /// Splits the leaf of the key, where it has two records at least; else refused NotNow, then NumbersSpent, NoMemory
+    /// or Device, and unchanged.
+    pub fn split(&mut self, key: &Key) -> Result<Neighbours, Refusal>
+        ensures gives { SplitsTo self.old key.now result self.new }
+    {
+        self.parts.split(key)
+    }
+
+    /// Joins the leaf of the key and the one after it, in a session past redo, where they have few records; else refused
+    /// as `split` is.
+    pub fn merge(&mut self, key: &Key) -> Result<Neighbours, Refusal>
+        ensures gives { MergesTo self.old key.now result self.new }
+    {
+        self.parts.merge(key)
+    }
+
+    /// Splits the first leaf of more than eight records, else joins the first two that may be joined, else does nothing.
+    /// Refused NumbersSpent, NoMemory or Device, and unchanged.
+    pub fn tend(&mut self) -> Result<Tended, Refusal>
+        ensures gives { TendsTo self.old result self.new }
+    {
+        self.parts.tend()
+    }
+
+    /// Writes the leaf of the key to its page, its last system transaction being stable first, and gives its number.
+    /// Refused NoMemory or Device; the log may be stable further then.
+    pub fn flush(&mut self, key: &Key) -> Result<u64, Refusal>
+        ensures gives { FlushesTo self.old key.now result self.new }
+    {
+        self.parts.flush(key)
     }
 
     /// The session that runs, 0 if none.
@@ -90,18 +139,27 @@ impl Dc {
         self.parts.redo
     }
 
-    /// The leaf.
-    pub fn leaf(&self) -> &Leaf
-        ensures { result.now ≡ self.now.leaf }
+    /// How many leaves there are.
+    pub fn leaves(&self) -> usize
+        ensures { result ≡ length (leaves self.now) }
     {
-        &self.parts.leaf
+        self.parts.system.len()
     }
 
-    /// The records, in key order.
-    pub fn rows(&self) -> &[(Key, Value)]
-        ensures { result.now ≡ map.entries self.now.leaf.rows }
+    /// The leaf at a place in key order, from 0.
+    pub fn leaf(&self, place: usize) -> &Leaf
+        requires { place < length (leaves self.now) }
+        ensures { result.now ≡ get_or (leaves self.now) place first }
     {
-        self.parts.leaf.rows()
+        self.parts.system.leaf(place)
+    }
+
+    /// Copies of the records, in key order. Refused NoMemory.
+    pub fn rows(&self) -> Result<Vec<(Key, Value)>, Refusal>
+        ensures rows { IfOk result (λ rows. rows.items ≡ all_rows (leaves self.now)) }
+        ensures memory { IfErr result (λ refusal. refusal ≡ Refusal.NoMemory) }
+    {
+        self.parts.rows()
     }
 
     /// How many operations were performed.
@@ -118,8 +176,8 @@ impl Dc {
         self.parts.performed.get(place)
     }
 
-    /// What holds at every moment: the records are what was performed, no number stands twice, each is
-    /// captured, and what is saved under a number is its answer.
+    /// What holds at every moment: the leaves and their devices are well formed, the records are what was performed,
+    /// no number stands twice, each is captured, and what is saved under a number is its answer.
     pub fn kept(&self)
         ensures { IsDc self.now }
     {

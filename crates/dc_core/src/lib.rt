@@ -1,11 +1,14 @@
-//! The data component: one leaf, the session that it serves, and a list of what it has performed.
+//! The data component: leaves that outlive it in a log and in pages, the session that they serve, and a list of what it
+//! has performed.
 //!
-//! Knows: requests and replies, sessions, and the leaf with what it captures.
-//! Must not know: transactions, logs, compensation, locks, how messages come or go.
+//! Knows: requests and replies, sessions, and leaves with what they capture.
+//! Must not know: transactions, the transactions' log, compensation, locks, how messages come or go.
 //! Promises the next crates: each number is performed once, however often it is sent; what a message of
-//! another session or at another time comes to; and that the leaf's records are what was performed.
+//! another session or at another time comes to; that the records are what was performed; and that leaves are merged
+//! only in a session past its redo.
 #![tactic(auto)]
 
+mod asking;
 mod dc;
 mod parts;
 mod performance;
@@ -14,10 +17,14 @@ mod performing;
 mod place;
 mod reading;
 mod serving;
+mod sessions;
 mod spelling;
+mod system;
+mod tending;
 
 pub use dc::Dc;
 pub use performance::Performance;
+pub use system_txn::{Neighbours, Tended};
 
 #[cfg(test)]
 mod tests;

@@ -1,40 +1,51 @@
 //! The parts of the data component, and which messages it takes.
-ghost use Rattle.std.specs.Prelude.{◌≡◌, None, Some, IfErr, OnOk};
+ghost use Rattle.std.specs.Prelude.{◌≡◌, ◌+◌, [], None, Some, IfOk, IfErr, OnOk};
+ghost use Rattle.std.specs.FinMap as map;
 ghost use Rattle.dc_core.specs.Serves.{runs, session_refusal, after_redo_refusal, connect_refusal, serve_refusal};
+ghost use Rattle.dc_core.specs.Tends.{may_merge};
 ghost use Rattle.dc_core.specs.DcView.{fresh};
 ghost use Rattle.dc_core.specs.Kept.{IsDc};
 ghost use Rattle.dc_core.specs.Seen.{seen};
 
 use crate::performances::Performances;
+use crate::system::System;
 use codec::Request;
-use page::Leaf;
 use record_key::Refusal;
+use stable::{MemLog, MemPages};
 use std::alloc::Global;
 
-/// The sessions, the leaf, and what was performed.
-#[derive(Debug, Drop)]
+/// The sessions, the leaves, and what was performed.
+#[derive(Drop)]
 pub struct Parts {
     /// The greatest session taken, 0 if none.
     pub stored: u64,
     /// The session that runs, 0 if none.
     pub session: u64,
     pub redo: bool,
-    pub leaf: Leaf,
+    pub system: System,
     pub performed: Performances,
 }
 
 impl Parts {
-    pub fn new(alloc: Global) -> Parts
-        ensures kept { IsDc (seen result) }
-        ensures fresh { seen result ≡ fresh }
+    pub fn new(alloc: Global, log: MemLog, pages: MemPages) -> Result<Parts, Refusal>
+        requires logged { (log.forced ≡ []) × (log.pending ≡ []) }
+        requires written { pages.pages ≡ map.empty }
+        ensures kept { IfOk result (λ parts. IsDc (seen parts)) }
+        ensures fresh { IfOk result (λ parts. seen parts ≡ fresh (log.failures + pages.failures)) }
+        ensures memory { IfErr result (λ refusal. refusal ≡ Refusal.NoMemory) }
     {
-        Parts {
+        let system = match System::new(alloc, log, pages) {
+            Ok(system) => system,
+            Err(left) => return Err(left.refusal),
+        };
+        system.kept();
+        Ok(Parts {
             stored: 0,
             session: 0,
             redo: false,
-            leaf: Leaf::first(alloc),
+            system,
             performed: Performances::new(alloc),
-        }
+        })
     }
 
     /// Whether this session runs.
@@ -42,6 +53,13 @@ impl Parts {
         ensures { result ≡ runs (seen self.now) session }
     {
         session != 0 && self.session == session
+    }
+
+    /// Whether merges are let.
+    pub fn may_merge(&self) -> bool
+        ensures { result ≡ may_merge (seen self.now) }
+    {
+        self.session != 0 && !self.redo
     }
 
     /// Whether the request is taken.
@@ -64,10 +82,13 @@ impl Parts {
         ensures ok { OnOk result (connect_refusal (seen self.now) session ≡ None) }
         ensures refused { IfErr result (λ refusal. connect_refusal (seen self.now) session ≡ Some refusal) }
     {
-        if !self.runs(session) && session <= self.stored {
+        if self.runs(session) {
+            return Ok(());
+        }
+        if session <= self.stored {
             return Err(Refusal::Stale);
         }
-        Ok(())
+        self.system.can_log()
     }
 
     fn in_session(&self, session: u64) -> Result<(), Refusal>

@@ -1,14 +1,15 @@
 //! What was performed, kept as bytes.
-ghost use Rattle.std.specs.Prelude.{◌≡◌, ◌∷◌, [], true, false, length, reverse, slice_get, IfOk, IfErr, OnErr};
-ghost use Rattle.record_key.specs.Table.{key_of};
+ghost use Rattle.std.specs.Prelude.{◌≡◌, ◌∷◌, ◌<◌, ◌^◌, [], false, length, reverse, slice_get, IfOk, IfErr, OnOk, OnErr};
+ghost use Rattle.record_key.specs.Table.{key_of, answer_in};
 ghost use Rattle.ab_lsn.specs.AbLsn.{captures};
-ghost use Rattle.page.specs.Leaf.{is_in_fences};
-ghost use Rattle.page.specs.Performs.{Performs};
+ghost use Rattle.btree.specs.Leaves.{leaf_at};
+ghost use Rattle.btree.specs.Performs.{performed_at};
 
 use crate::performance::Performance;
 use crate::place::Place;
 use crate::spelling::{FRAME_LIMIT, answer_at, answer_record, op_at, op_record, put};
-use page::{Done, Leaf};
+use crate::system::System;
+use page::Done;
 use record_key::{Answer, Op, Refusal};
 use std::alloc::Global;
 use std::marker::Model;
@@ -75,21 +76,23 @@ impl Performances {
         })
     }
 
-    /// Performs a new number at the leaf and notes it. Room for the note is made before the leaf changes.
-    pub fn perform(&mut self, leaf: &mut Leaf, number: u64, op: &Op) -> Result<Answer, Refusal>
-        requires within { is_in_fences leaf.old (key_of op.now) ≡ true }
-        requires uncaptured { captures leaf.old.ab number ≡ false }
+    /// Performs a new number at the leaf of its key and notes it. Room for the note is made before the leaf changes.
+    pub fn perform(&mut self, system: &mut System, number: u64, op: &Op) -> Result<Answer, Refusal>
+        requires numbered { number < 2 ^ 48 }
+        requires uncaptured { captures (leaf_at system.old.leaves (key_of op.now)).ab number ≡ false }
         ensures noted { IfOk result (λ answer. self.new
             ≡ record { number = number; op = op.now; answer = answer } ∷ self.old) }
-        ensures performed { IfOk result (λ answer. Performs leaf.old number op.now (Done.Performed answer) leaf.new) }
+        ensures answer { IfOk result (λ answer. answer ≡ answer_in (leaf_at system.old.leaves (key_of op.now)).rows op.now) }
+        ensures performed { OnOk result (system.new
+            ≡ record system.old { leaves = performed_at system.old.leaves number op.now }) }
         ensures refused { IfErr result (λ refusal. refusal ≡ Refusal.NoMemory) }
         ensures unnoted { OnErr result (self.new ≡ self.old) }
-        ensures unchanged { OnErr result (leaf.new ≡ leaf.old) }
+        ensures unchanged { OnErr result (system.new ≡ system.old) }
     {
         self.ops.reserve(FRAME_LIMIT)?;
         self.answers.reserve(FRAME_LIMIT)?;
         self.places.reserve(1)?;
-        match leaf.perform(number, op)? {
+        match system.perform(number, op)? {
             Done::Performed(answer) => {
                 self.places.push_reserved(Place {
                     number,

@@ -1,56 +1,52 @@
 //! Numbers that are sent once and again.
-ghost use Rattle.std.specs.Prelude.{◌≡◌, true, IsOk, IfOk, IfErr, OnErr};
+ghost use Rattle.std.specs.Prelude.{◌≡◌, ◌<◌, ◌^◌, true, IsOk, IfOk, IfErr, OnErr};
 ghost use Rattle.record_key.specs.Table.{key_of};
 ghost use Rattle.ab_lsn.specs.AbLsn.{captures, saved_in};
-ghost use Rattle.page.specs.Leaf.{is_in_fences};
+ghost use Rattle.btree.specs.Leaves.{leaf_at};
+ghost use Rattle.dc_core.specs.DcView.{captures_at};
+ghost use Rattle.dc_core.specs.Serves.{KeepsKey};
 ghost use Rattle.dc_core.specs.Kept.{IsDc};
-ghost use Rattle.dc_core.specs.Seen.{seen, Performs, Answers};
+ghost use Rattle.dc_core.specs.Seen.{seen, Answers};
 
 use crate::parts::Parts;
-use codec::Reply;
 use page::Done;
-use record_key::{Answer, Op, Refusal};
+use record_key::{Answer, Key, Op, Refusal};
 
 impl Parts {
-    pub fn perform(&mut self, session: u64, number: u64, op: &Op) -> Result<Reply, Refusal>
-        requires { IsDc (seen self.old) }
-        ensures kept { IsDc (seen self.new) }
-        ensures replied { IfOk result (λ reply. Performs (seen self.old) session number op.now reply (seen self.new)) }
-        ensures refused { IfErr result (λ refusal. refusal ≡ Refusal.NoMemory) }
-        ensures memory { captures self.old.leaf.ab number ≡ true → IsOk result }
-        ensures unchanged { OnErr result (seen self.new ≡ seen self.old) }
-    {
-        let answer = self.answer(number, op)?;
-        Ok(Reply::Answered {
-            session,
-            number,
-            answer,
-        })
-    }
-
     /// Performs a new number, or answers a repeated one.
-    fn answer(&mut self, number: u64, op: &Op) -> Result<Option<Answer>, Refusal>
-        requires { IsDc (seen self.old) }
+    pub fn perform(&mut self, number: u64, op: &Op) -> Result<Option<Answer>, Refusal>
+        requires kept { IsDc (seen self.old) }
+        requires numbered { number < 2 ^ 48 }
+        requires key { KeepsKey (seen self.old) number (key_of op.now) }
         ensures kept { IsDc (seen self.new) }
         ensures answered { IfOk result (λ answer. Answers (seen self.old) number op.now answer (seen self.new)) }
         ensures refused { IfErr result (λ refusal. refusal ≡ Refusal.NoMemory) }
-        ensures memory { captures self.old.leaf.ab number ≡ true → IsOk result }
+        ensures memory { captures_at (seen self.old) (key_of op.now) number ≡ true → IsOk result }
         ensures unchanged { OnErr result (seen self.new ≡ seen self.old) }
     {
-        if self.leaf.captures(number) {
+        if self.captures(number, op.key()) {
             return Ok(self.repeat(number, op));
         }
-        let answer = self.performed.perform(&mut self.leaf, number, op)?;
+        let answer = self.performed.perform(&mut self.system, number, op)?;
+        self.system.kept();
         Ok(Some(answer))
     }
 
+    /// Whether the leaf of the key has captured the number.
+    fn captures(&self, number: u64, key: &Key) -> bool
+        ensures { result ≡ captures_at (seen self.now) key.now number }
+    {
+        let place = self.system.place_of(key);
+        self.system.leaf(place).captures(number)
+    }
+
     fn repeat(&mut self, number: u64, op: &Op) -> Option<Answer>
-        requires within { is_in_fences self.old.leaf (key_of op.now) ≡ true }
-        requires captured { captures self.old.leaf.ab number ≡ true }
-        ensures answer { result ≡ saved_in self.old.leaf.ab.entries number }
+        requires numbered { number < 2 ^ 48 }
+        requires captured { captures (leaf_at self.old.system.leaves (key_of op.now)).ab number ≡ true }
+        ensures answer { result ≡ saved_in (leaf_at self.old.system.leaves (key_of op.now)).ab.entries number }
         ensures unchanged { seen self.new ≡ seen self.old }
     {
-        match self.leaf.perform(number, op) {
+        match self.system.perform(number, op) {
             Ok(Done::Repeated(answer)) => answer,
             Ok(Done::Performed(_)) => unreachable!(),
             Err(_) => unreachable!(),

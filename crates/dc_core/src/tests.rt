@@ -1,11 +1,15 @@
-//! Messages at their times, requests that are sent again, and the plain table beside.
+//! Messages at their times, requests that are sent again, the plain table beside, and devices that fail.
+mod asking;
+mod failing;
 mod performing;
 mod reading;
 mod sessions;
+mod tending;
 
 use super::*;
 use codec::{Reply, Request};
 use record_key::{Answer, Key, Op, Refusal, Value};
+use stable::{MemLog, MemPages};
 use std::alloc::Global;
 use std::test::Fail;
 
@@ -17,11 +21,24 @@ fn value(text: &[u8]) -> Result<Value, Fail> {
     Ok(Value::new(text)?)
 }
 
+/// A component on devices that don't fail.
+fn fresh(alloc: Global) -> Result<Dc, Refusal> {
+    Dc::new(alloc, MemLog::new(alloc), MemPages::new(alloc))
+}
+
+/// What a request is given, NotNow where it may not be asked.
+fn served(dc: &mut Dc, request: &Request) -> Result<Option<Reply>, Refusal> {
+    if !dc.may_ask(request) {
+        return Err(Refusal::NotNow);
+    }
+    dc.serve(request)
+}
+
 /// A component in session 4, past redo.
-fn connected(alloc: Global) -> Result<Dc, Fail> {
-    let mut dc = Dc::new(alloc);
-    dc.serve(&Request::Connect { session: 4 })?;
-    dc.serve(&Request::RedoEnd { session: 4 })?;
+fn connected(alloc: Global) -> Result<Dc, Refusal> {
+    let mut dc = fresh(alloc)?;
+    served(&mut dc, &Request::Connect { session: 4 })?;
+    served(&mut dc, &Request::RedoEnd { session: 4 })?;
     Ok(dc)
 }
 
@@ -33,11 +50,49 @@ fn answered(dc: &mut Dc, number: u64, op: &Op) -> Result<Option<Answer>, Refusal
         number,
         op,
     };
-    let Some(reply) = dc.serve(&request)? else {
+    let Some(reply) = served(dc, &request)? else {
         return Err(Refusal::NotNow);
     };
     match reply {
         Reply::Answered { answer, .. } => Ok(answer),
         _other => Err(Refusal::NotNow),
+    }
+}
+
+// Each of these drops what its call promises, so that a test of many calls is checked soon.
+
+fn split(dc: &mut Dc, byte: u8) -> Result<Neighbours, Refusal> {
+    dc.split(&Key::new(&[byte])?)
+}
+
+fn merge(dc: &mut Dc, byte: u8) -> Result<Neighbours, Refusal> {
+    dc.merge(&Key::new(&[byte])?)
+}
+
+fn tend(dc: &mut Dc) -> Result<Tended, Refusal> {
+    dc.tend()
+}
+
+fn flush(dc: &mut Dc, byte: u8) -> Result<u64, Refusal> {
+    dc.flush(&Key::new(&[byte])?)
+}
+
+/// How many records there are.
+fn count(dc: &Dc) -> Result<usize, Refusal> {
+    Ok(dc.rows()?.len())
+}
+
+/// Performs an Insert of one byte in session 4, under the byte's own number.
+fn insert(dc: &mut Dc, byte: u8) -> Result<(), Fail> {
+    answered(dc, byte as u64, &Op::Insert(key(&[byte])?, value(b"v")?))?;
+    Ok(())
+}
+
+/// How many records the leaf at a place has, 0 where there is none.
+fn rows_at(dc: &Dc, place: usize) -> usize {
+    if place < dc.leaves() {
+        dc.leaf(place).rows().len()
+    } else {
+        0
     }
 }

@@ -1,6 +1,6 @@
 -- One text after another to a writer.
-use Rattle.std.proofs.Common.{◌≡◌, ℕ, List, [], ◌∷◌, ◌++◌, Option, Some, None, Result, Ok, Err, ap, sym, ◌∙◌, append_assoc, append-nil, take, drop, length, get_or, ◌<◌, flat_map, subst, ◌+◌, refl, add-one, drop-cons}
-use Rattle.std.proofs.lemmas.List.{take-append-drop}
+use Rattle.std.proofs.Common.{◌≡◌, ℕ, List, [], ◌∷◌, ◌++◌, Option, Some, None, Result, Ok, Err, ap, sym, ◌∙◌, append_assoc, append-nil, take, drop, length, get_or, ◌<◌, ◌≤◌, flat_map, subst, ◌+◌, refl, add-one, drop-cons}
+use Rattle.std.proofs.lemmas.List.{take-append-drop, take_more, take_all}
 use Rattle.std.specs.Prelude.{IsErr}
 use Rattle.std.proofs.lemmas.List.Concat.{flat_map-append}
 use Rattle.std.proofs.lemmas.Bool.{false≢true}
@@ -75,7 +75,20 @@ cut_in_list f a b c xs i d lt before cut =
     let first = cut_later a b c (flat_map f (take i xs)) (f (get_or xs i d)) before cut in
     subst P (sym (list_at f xs i d lt)) (cut_longer a c (flat_map f (take i xs) ++ f (get_or xs i d)) (flat_map f (drop (i + 1) xs)) first)
 
-pub cut_at_item : {X : Type 0} (f : X → List ℕ) (a b c : Option (List ℕ)) (xs : List X) (i : ℕ) (x : X) → i < length xs → x ≡ get_or xs i x → Appends a b (flat_map f (take i xs)) → IsCut b c (f x) → IsCut a c (flat_map f xs)
-cut_at_item {X} f a b c xs i x lt at before cut =
+-- the text of a list up to an element, and that element's
+pub item_more : {X : Type 0} (f : X → List ℕ) (a b c : Option (List ℕ)) (xs : List X) (i : ℕ) (x d : X) → i < length xs → x ≡ get_or xs i d → Appends a b (flat_map f (take i xs)) → Appends b c (f x) → Appends a c (flat_map f (take (i + 1) xs))
+item_more {X} f a b c xs i x d lt at before item =
+    let P : List ℕ → Type 0 = λ v. Appends a c v in
+    let whole : flat_map f (take (i + 1) xs) ≡ flat_map f (take i xs) ++ f x =
+        ap (flat_map f) (take_more xs i d lt) ∙ flat_map-append f (take i xs) (get_or xs i d ∷ [])
+        ∙ ap (λ v. flat_map f (take i xs) ++ v) (append-nil (f (get_or xs i d)) ∙ ap f (sym at)) in
+    subst P (sym whole) (appends_then a b c (flat_map f (take i xs)) (f x) before item)
+
+-- the text of all elements
+pub items_all : {X : Type 0} (f : X → List ℕ) (a b : Option (List ℕ)) (xs : List X) (i : ℕ) → length xs ≤ i → Appends a b (flat_map f (take i xs)) → Appends a b (flat_map f xs)
+items_all {X} f a b xs i most before = let P : List X → Type 0 = λ v. Appends a b (flat_map f v) in subst P (take_all i xs most) before
+
+pub cut_at_item : {X : Type 0} (f : X → List ℕ) (a b c : Option (List ℕ)) (xs : List X) (i : ℕ) (x d : X) → i < length xs → x ≡ get_or xs i d → Appends a b (flat_map f (take i xs)) → IsCut b c (f x) → IsCut a c (flat_map f xs)
+cut_at_item {X} f a b c xs i x d lt at before cut =
     let P : X → Type 0 = λ v. IsCut b c (f v) in
-    cut_in_list f a b c xs i x lt before (subst P at cut)
+    cut_in_list f a b c xs i d lt before (subst P at cut)

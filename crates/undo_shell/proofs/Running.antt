@@ -1,14 +1,14 @@
 -- One line after another.
-use Rattle.std.proofs.Common.{◌≡◌, ◌⊎◌, ℕ, Bool, true, false, not, List, [], ◌++◌, Option, Some, inl, inr, sym, subst, refl, append_assoc, append-nil}
+use Rattle.std.proofs.Common.{◌≡◌, ◌⊎◌, ℕ, Bool, true, false, not, List, [], ◌++◌, Option, Some, None, inl, inr, sym, subst, refl, append_assoc, append-nil}
 use Rattle.std.specs.Io.KnownBytes.{Appends}
 use Rattle.record_key.specs.declared.refusal.Refusal.{Refusal}
 use Rattle.record_key.specs.declared.refusal.Refusal.TheVariants as refusal
 use Rattle.world.specs.Node.{NodeView}
 use Rattle.undo_shell.specs.declared.reply.Reply.{Reply}
 use Rattle.undo_shell.specs.Labels.{Bindings}
-use Rattle.undo_shell.specs.Script.{Command, onto}
+use Rattle.undo_shell.specs.Script.{Command, onto, first_fault}
 use Rattle.undo_shell.specs.Printed.{IsCut, refusal_line}
-use Rattle.undo_shell.specs.Text.{Replies, Runs, goes_on, fails, is_cut, done, Shows, ends_run, reply_text, WritesLine, WritesRun, WritesAlone, WritesText, IsAlone}
+use Rattle.undo_shell.specs.Text.{Replies, Runs, goes_on, fails, is_cut, done, Shows, ends_run, reply_text, WritesLine, WritesRun, WritesLines, WritesAlone, WritesText, IsAlone, IsAllOf, IsTextAfterCheck}
 use Rattle.undo_shell.proofs.Printing.{appends_then}
 
 pub shows_by : (e : Bool) (r : Reply) (view : NodeView) (old new : Option (List ℕ)) → e ≡ ends_run r → Appends old new (reply_text r view) → Shows (not e) r view old new
@@ -79,3 +79,10 @@ unread given old new r status (inl e) h =
 unread given old new r status (inr e) h =
     let P : Refusal → Type 0 = λ q. IsAlone (refusal_line q) 3 h.text status in
     record { text = h.text; appended = h.appended; is_text = inr (inr (subst P e h.alone)) }
+
+-- a script without a fault that was run, or for whose node there was no memory
+pub ran : (given old new : Option (List ℕ)) (script : List ℕ) (status : ℕ) → IsAllOf given script → first_fault script ≡ None → WritesLines script old new status → WritesText given old new status
+ran given old new script status all ok (inl h) =
+    let P : Option ℕ → Type 0 = λ fault. IsTextAfterCheck fault script h.2.text status in
+    record { text = h.2.text; appended = h.2.appended; is_text = inl (script, all, subst P (sym ok) (h.0, h.1, h.2.runs)) }
+ran given old new script status all ok (inr h) = record { text = h.text; appended = h.appended; is_text = inr (inl h.alone) }

@@ -1,9 +1,15 @@
 -- The exact bytes of what an event came to.
-use Rattle.std.specs.Prelude.{ℕ, List, ◌++◌, codes}
+use Rattle.std.specs.Prelude.{ℕ, List, [], ◌∷◌, ◌++◌, codes, decimal}
+use Rattle.std.specs.List.{concat}
+use Rattle.system_txn.specs.declared.tended.Neighbours.{Neighbours}
 use Rattle.world.specs.declared.event.Out.{Out}
 use Rattle.world.specs.declared.event.Out.TheVariants as out
 use Rattle.undo_shell.specs.Printed.{numbered, refusal_line}
 use Rattle.undo_shell.specs.Told.{committed_text, told_text}
+
+-- what happened to two leaves, with their numbers
+abbrev pub pair_line : List ℕ → Neighbours → List ℕ
+pair_line text pair = concat (text ∷ decimal pair.left ∷ codes " " ∷ decimal pair.right ∷ codes "\n" ∷ [])
 
 -- the lines of one event's output: its own, and what clients are told
 abbrev pub out_text : Out → List ℕ
@@ -23,6 +29,9 @@ out_text out.Noted = codes "noted\n"
 out_text (out.Connected session) = numbered (codes "connected ") session
 out_text (out.RedoEnded session) = numbered (codes "redo ended ") session
 out_text (out.Undone lsn) = numbered (codes "undone ") lsn
+out_text (out.Split pair) = pair_line (codes "split ") pair
+out_text (out.Merged pair) = pair_line (codes "merged ") pair
+out_text (out.Flushed id) = numbered (codes "flushed ") id
 out_text (out.Refused refusal) = refusal_line refusal
 out_text (out.Answered txn answer) = told_text (out.Answered txn answer)
 out_text (out.Row txn value) = told_text (out.Row txn value)

@@ -7,6 +7,8 @@ use Rattle.undo_shell.specs.declared.line.Kind.{Kind}
 use Rattle.undo_shell.specs.declared.line.Kind.TheVariants as kind
 use Rattle.undo_shell.specs.declared.line.Call.{Call}
 use Rattle.undo_shell.specs.declared.line.Call.TheVariants as call
+use Rattle.undo_shell.specs.declared.line.LeafCall.{LeafCall}
+use Rattle.undo_shell.specs.declared.line.LeafCall.TheVariants as leaf_call
 use Rattle.undo_shell.specs.declared.line.Part.{Part}
 use Rattle.undo_shell.specs.declared.line.Part.TheVariants as part
 use Rattle.undo_shell.specs.declared.line.Line.{Line}
@@ -29,9 +31,13 @@ pub data Command : Type 0 where
   scans : List ℕ → List ℕ → Option (List ℕ) → Command
   -- an event of this label's transaction
   calls : List ℕ → Call → Command
+  -- what happens to the leaf that has a key
+  treats : LeafCall → List ℕ → Command
   -- an event
   steps : Event → Command
   settles : Command
+  -- the records are printed
+  tables : Command
   shows : Part → Command
 
 -- a line of one word
@@ -39,9 +45,10 @@ abbrev pub bare : List ℕ → Option Command
 bare name =
     if bytes_eq name (codes "settle") then Some settles
     else (if bytes_eq name (codes "force") then Some (steps event.Force)
-    else (if bytes_eq name (codes "table") then Some (shows part.Table)
+    else (if bytes_eq name (codes "tend") then Some (steps event.Tend)
+    else (if bytes_eq name (codes "table") then Some tables
     else (if bytes_eq name (codes "log") then Some (shows part.Log)
-    else (if bytes_eq name (codes "leaves") then Some (shows part.Leaves) else None))))
+    else (if bytes_eq name (codes "leaves") then Some (shows part.Leaves) else None)))))
 
 -- the name of what happens to a label's transaction
 abbrev pub call_named : List ℕ → Option Call
@@ -65,6 +72,18 @@ with_number name (Some n) =
     if bytes_eq name (codes "low") then Some (steps (event.LowWater n))
     else (if bytes_eq name (codes "req") then Some (steps (event.Request n))
     else (if bytes_eq name (codes "rep") then Some (steps (event.Reply n)) else None))
+
+-- the name of what happens to a leaf
+abbrev pub leaf_call_named : List ℕ → Option LeafCall
+leaf_call_named name =
+    if bytes_eq name (codes "split") then Some leaf_call.Split
+    else (if bytes_eq name (codes "merge") then Some leaf_call.Merge
+    else (if bytes_eq name (codes "flush") then Some leaf_call.Flush else None))
+
+-- a line of two words, the second the key of a leaf
+abbrev pub with_leaf : List ℕ → Option (List ℕ) → Option Command
+with_leaf name None = None
+with_leaf name (Some key) = option_map (λ c. treats c key) (leaf_call_named name)
 
 abbrev pub first_of : Option Command → Option Command → Option Command
 first_of None second = second
@@ -108,7 +127,8 @@ scan_of (Some label) (Some low) (Some high) = Some (scans label low high)
 -- the grammar: one case for each number of words
 abbrev pub command_of : List (List ℕ) → Option Command
 command_of (name ∷ []) = bare name
-command_of (name ∷ word ∷ []) = first_of (with_label name (label_in word)) (with_number name (number_in word))
+command_of (name ∷ word ∷ []) =
+    first_of (with_label name (label_in word)) (first_of (with_number name (number_in word)) (with_leaf name (text_in word)))
 command_of (name ∷ label ∷ word ∷ []) =
     first_of (with_key name (label_in label) (text_in word)) (with_savepoint name (label_in label) (number_in word))
 command_of (name ∷ label ∷ key ∷ last ∷ []) =
@@ -152,8 +172,10 @@ meaning (line.Write label k key value) = writes label k key.now value.now
 meaning (line.Get label key) = gets label key.now
 meaning (line.Scan label low high) = scans label low.now (option_map (λ text. text.now) high)
 meaning (line.Call label c) = calls label c
+meaning (line.Leaf c key) = treats c key.now
 meaning (line.Step e) = steps e
 meaning line.Settle = settles
+meaning line.Table = tables
 meaning (line.Show p) = shows p
 
 -- the parts of what is left, cut at this byte

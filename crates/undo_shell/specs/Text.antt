@@ -17,11 +17,14 @@ use Rattle.undo_shell.specs.declared.line.Kind.{Kind}
 use Rattle.undo_shell.specs.declared.line.Kind.TheVariants as kind
 use Rattle.undo_shell.specs.declared.line.Call.{Call}
 use Rattle.undo_shell.specs.declared.line.Call.TheVariants as call
+use Rattle.undo_shell.specs.declared.line.LeafCall.{LeafCall}
+use Rattle.undo_shell.specs.declared.line.LeafCall.TheVariants as leaf_call
 use Rattle.undo_shell.specs.declared.reply.Reply.{Reply}
 use Rattle.undo_shell.specs.declared.reply.Reply.TheVariants as reply
-use Rattle.undo_shell.specs.Script.{Command, begins, writes, gets, scans, calls, steps, settles, shows, lines_of, first_fault, commands_of, onto}
+use Rattle.undo_shell.specs.Script.{Command, begins, writes, gets, scans, calls, treats, steps, settles, tables, shows, lines_of, first_fault, commands_of, onto}
 use Rattle.undo_shell.specs.Ending.{is_failure, settled_text}
-use Rattle.undo_shell.specs.View.{part_text}
+use Rattle.undo_shell.specs.Stored.{table_text}
+use Rattle.undo_shell.specs.View.{records_of, part_text}
 use Rattle.undo_shell.specs.Printed.{IsCut, refusal_line}
 use Rattle.undo_shell.specs.Outcome.{out_text}
 
@@ -75,6 +78,15 @@ Gets label key before labels output after = StepsUnless (keys_fault key None) be
 abbrev pub Scans : List ℕ → List ℕ → Option (List ℕ) → NodeView → Bindings → Out → NodeView → Type 0
 Scans label low high before labels output after = StepsUnless (keys_fault low high) before (event.Scan (labels label) low high) output after
 
+-- the event of a leaf
+abbrev pub leaf_event : LeafCall → List ℕ → Event
+leaf_event leaf_call.Split key = event.Split key
+leaf_event leaf_call.Merge key = event.Merge key
+leaf_event leaf_call.Flush key = event.Flush key
+
+abbrev pub Treats : LeafCall → List ℕ → NodeView → Out → NodeView → Type 0
+Treats c key before output after = StepsUnless (keys_fault key None) before (leaf_event c key) output after
+
 -- the event of a transaction
 abbrev pub event_of : Call → ℕ → Event
 event_of call.Save txn = event.Save txn
@@ -98,6 +110,12 @@ abbrev pub IsSettling : NodeView → Reply → NodeView → Type 0
 IsSettling before (reply.Settled outs end) after = Settles before None [] outs.items (settling_of end) after
 IsSettling before _ after = ⊥
 
+-- the records as they are, or memory for them was refused
+abbrev pub IsTable : NodeView → Reply → Type 0
+IsTable view (reply.Table rows) = rows ≡ records_of view
+IsTable view (reply.Event output) = output ≡ out.Refused refusal.NoMemory
+IsTable view _ = ⊥
+
 -- what a line may come to, from a node and labels, and what it leaves
 abbrev pub Replies : Command → NodeView → Bindings → Reply → NodeView → Bindings → Type 0
 Replies (begins label) before old r after new = IsEvent (λ output. Begins label before old output after new) r
@@ -105,14 +123,17 @@ Replies (writes label k key value) before old r after new = IsEvent (λ output. 
 Replies (gets label key) before old r after new = IsEvent (λ output. Gets label key before old output after) r × AreSame old new
 Replies (scans label low high) before old r after new = IsEvent (λ output. Scans label low high before old output after) r × AreSame old new
 Replies (calls label c) before old r after new = IsEvent (λ output. StepsTo before (event_of c (old label)) output after) r × AreSame old new
+Replies (treats c key) before old r after new = IsEvent (λ output. Treats c key before output after) r × AreSame old new
 Replies (steps e) before old r after new = IsEvent (λ output. StepsTo before e output after) r × AreSame old new
 Replies settles before old r after new = IsSettling before r after × AreSame old new
+Replies tables before old r after new = IsTable before r × (after ≡ before) × AreSame old new
 Replies (shows p) before old r after new = (r ≡ reply.Shown p) × (after ≡ before) × AreSame old new
 
 -- what is printed of a reply, where this is the node after it
 abbrev pub reply_text : Reply → NodeView → List ℕ
 reply_text (reply.Event output) view = out_text output
 reply_text (reply.Settled outs end) view = settled_text outs.items end
+reply_text (reply.Table rows) view = table_text rows
 reply_text (reply.Shown p) view = part_text p view
 
 abbrev pub out_ends : Out → Bool
@@ -173,6 +194,12 @@ pub record WritesAlone (line : List ℕ) (own : ℕ) (old new : Option (List ℕ
   pub appended : Appends old new text
   pub alone : IsAlone line own text status
 
+-- what the lines of a script that was checked write; where memory for a node is refused, that alone
+abbrev pub WritesLines : List ℕ → Option (List ℕ) → Option (List ℕ) → ℕ → Type 0
+WritesLines script old new status =
+    ((labels : Bindings) × AreSame unbound labels × WritesRun (commands_of (lines_of script)) fresh_node labels old new status)
+    ⊎ WritesAlone (refusal_line refusal.NoMemory) 3 old new status
+
 -- the text of a script, where this is its first fault
 abbrev pub IsTextAfterCheck : Option ℕ → List ℕ → List ℕ → ℕ → Type 0
 IsTextAfterCheck (Some line) script text status = IsAlone (refusal_line (refusal.BadScript line)) 2 text status
@@ -181,7 +208,7 @@ IsTextAfterCheck None script text status = (labels : Bindings) × AreSame unboun
 abbrev pub IsTextOf : List ℕ → List ℕ → ℕ → Type 0
 IsTextOf script text status = IsTextAfterCheck (first_fault script) script text status
 
--- what is written where the script could not be read: a device failed, or there was no memory for it
+-- what is written where the script could not be read: a device failed, or there was no memory for it or for a node
 abbrev pub IsUnread : List ℕ → ℕ → Type 0
 IsUnread text status = IsAlone (refusal_line refusal.NoMemory) 3 text status ⊎ IsAlone (refusal_line refusal.Device) 3 text status
 

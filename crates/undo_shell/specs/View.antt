@@ -1,14 +1,16 @@
--- What is printed of a node: its log and how much of it is stable, its rows, and its leaf.
-use Rattle.std.specs.Prelude.{ℕ, List}
+-- What is printed of a node: its records, its log and how much of it is stable, and its leaves.
+use Rattle.std.specs.Prelude.{ℕ, List, flat_map}
 use Rattle.std.specs.FinMap.{entries}
-use Rattle.record_key.specs.Table.{Table}
+use Rattle.record_key.specs.Rows.{Row}
 use Rattle.history.specs.declared.record.Record.{Record}
 use Rattle.page.specs.Leaf.{LeafView}
+use Rattle.btree.specs.Leaves.{rows_of}
+use Rattle.dc_core.specs.DcView.{leaves}
 use Rattle.world.specs.Node.{NodeView}
 use Rattle.undo_shell.specs.declared.line.Part.{Part}
 use Rattle.undo_shell.specs.declared.line.Part.TheVariants as part
 use Rattle.undo_shell.specs.Logged.{log_text}
-use Rattle.undo_shell.specs.Stored.{table_text, leaf_line}
+use Rattle.undo_shell.specs.Stored.{leaf_line}
 
 abbrev pub log_of : NodeView → List Record
 log_of view = view.tc.log
@@ -16,14 +18,14 @@ log_of view = view.tc.log
 abbrev pub stable_of : NodeView → ℕ
 stable_of view = view.tc.stable
 
-abbrev pub leaf_of : NodeView → LeafView
-leaf_of view = view.dc.leaf
+abbrev pub leaves_of : NodeView → List LeafView
+leaves_of view = leaves view.dc
 
-abbrev pub rows_of : NodeView → Table
-rows_of view = (leaf_of view).rows
+-- the records, in key order
+abbrev pub records_of : NodeView → List Row
+records_of view = entries (rows_of (leaves view.dc))
 
 -- what is printed of a part
 abbrev pub part_text : Part → NodeView → List ℕ
-part_text part.Table view = table_text (entries (rows_of view))
 part_text part.Log view = log_text (log_of view) (stable_of view)
-part_text part.Leaves view = leaf_line (leaf_of view)
+part_text part.Leaves view = flat_map leaf_line (leaves_of view)

@@ -24,10 +24,18 @@ pub enum Call {
     Undo,
 }
 
-/// What is printed of the node.
+/// What happens to the leaf that has a key.
+#[derive(Debug, Clone, Copy, PartialEq, Eq)]
+pub enum LeafCall {
+    Split,
+    /// It is joined with the leaf after it.
+    Merge,
+    Flush,
+}
+
+/// What is printed of the node as it is.
 #[derive(Debug, Clone, Copy, PartialEq, Eq)]
 pub enum Part {
-    Table,
     Log,
     Leaves,
 }
@@ -56,7 +64,13 @@ pub enum Line<'a> {
         label: Label,
         call: Call,
     },
+    Leaf {
+        call: LeafCall,
+        key: &'a [u8],
+    },
     Step(Event),
     Settle,
+    /// The records are printed.
+    Table,
     Show(Part),
 }

@@ -1,10 +1,10 @@
 //! The names that begin lines, by what follows them.
 ghost use Rattle.std.specs.Prelude.{◌≡◌, option_map};
 ghost use Rattle.undo_shell.specs.Words.{label_in, number_in, text_in};
-ghost use Rattle.undo_shell.specs.Script.{bare, with_label, call_named, with_number, with_key, with_savepoint, kind_with_value, meaning};
+ghost use Rattle.undo_shell.specs.Script.{bare, with_label, call_named, with_number, with_leaf, leaf_call_named, with_key, with_savepoint, kind_with_value, meaning};
 
 use crate::label::Label;
-use crate::line::{Call, Kind, Line, Part};
+use crate::line::{Call, Kind, LeafCall, Line, Part};
 use crate::words::{number_of, text_of};
 use world::Event;
 
@@ -16,8 +16,10 @@ pub fn bare<'a>(name: &[u8]) -> Option<Line<'a>>
         Some(Line::Settle)
     } else if name == b"force".as_slice() {
         Some(Line::Step(Event::Force))
+    } else if name == b"tend".as_slice() {
+        Some(Line::Step(Event::Tend))
     } else if name == b"table".as_slice() {
-        Some(Line::Show(Part::Table))
+        Some(Line::Table)
     } else if name == b"log".as_slice() {
         Some(Line::Show(Part::Log))
     } else if name == b"leaves".as_slice() {
@@ -69,6 +71,30 @@ pub fn with_number<'a>(name: &[u8], word: &[u8]) -> Option<Line<'a>>
         Some(Line::Step(Event::Request { number }))
     } else if name == b"rep".as_slice() {
         Some(Line::Step(Event::Reply { number }))
+    } else {
+        None
+    }
+}
+
+/// A line of a name and the key of a leaf.
+pub fn with_leaf<'a>(name: &[u8], word: &'a [u8]) -> Option<Line<'a>>
+    ensures { option_map meaning result ≡ with_leaf name.now (text_in word.now) }
+{
+    let key = text_of(word)?;
+    let call = leaf_call_named(name)?;
+    Some(Line::Leaf { call, key })
+}
+
+/// What happens to the leaf of a line of two words.
+fn leaf_call_named(name: &[u8]) -> Option<LeafCall>
+    ensures { result ≡ leaf_call_named name.now }
+{
+    if name == b"split".as_slice() {
+        Some(LeafCall::Split)
+    } else if name == b"merge".as_slice() {
+        Some(LeafCall::Merge)
+    } else if name == b"flush".as_slice() {
+        Some(LeafCall::Flush)
     } else {
         None
     }

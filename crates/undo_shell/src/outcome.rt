@@ -2,13 +2,13 @@
 ghost use Rattle.std.specs.Prelude.{◌≡◌, ◌++◌};
 ghost use Rattle.undo_shell.specs.Printed.{Prints, numbered};
 ghost use Rattle.undo_shell.specs.Told.{committed_text};
-ghost use Rattle.undo_shell.specs.Outcome.{out_text};
+ghost use Rattle.undo_shell.specs.Outcome.{out_text, pair_line};
 
 use crate::pieces::{Piece, print};
 use crate::printed::{print_numbered, print_refusal};
 use crate::told::{print_committed, print_told};
 use std::io;
-use world::Out;
+use world::{Neighbours, Out};
 
 /// The lines of one event's output.
 pub fn print_out<W: io::Write>(writer: &mut W, out: &Out) -> io::Result<()>
@@ -35,9 +35,28 @@ pub fn print_out<W: io::Write>(writer: &mut W, out: &Out) -> io::Result<()>
         Out::Connected(session) => print_numbered(writer, "connected ", *session),
         Out::RedoEnded(session) => print_numbered(writer, "redo ended ", *session),
         Out::Undone(lsn) => print_numbered(writer, "undone ", *lsn),
+        Out::Split(pair) => print_pair(writer, "split ", *pair),
+        Out::Merged(pair) => print_pair(writer, "merged ", *pair),
+        Out::Flushed(id) => print_numbered(writer, "flushed ", *id),
         Out::Refused(refusal) => print_refusal(writer, *refusal),
         _ => print_told(writer, out),
     }
+}
+
+/// What happened to two leaves.
+fn print_pair<W: io::Write>(writer: &mut W, text: &str, pair: Neighbours) -> io::Result<()>
+    ensures { Prints (W.contents writer.old) (W.contents writer.new) result (pair_line text.now pair) }
+{
+    print(
+        writer,
+        &[
+            Piece::Text(text),
+            Piece::Number(pair.left),
+            Piece::Text(" "),
+            Piece::Number(pair.right),
+            Piece::Text("\n"),
+        ],
+    )
 }
 
 /// A line of a text and a number, and then one of each of those who have committed.

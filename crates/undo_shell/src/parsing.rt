@@ -1,11 +1,13 @@
 //! The grammar of a line: one place for each number of words.
 ghost use Rattle.std.specs.Prelude.{◌≡◌, ◌∷◌, option_map};
-ghost use Rattle.undo_shell.specs.Words.{words_of, label_in, text_in, end_in};
-ghost use Rattle.undo_shell.specs.Script.{command_of, write_of, scan_of, meaning};
+ghost use Rattle.undo_shell.specs.Words.{words_of, label_in, number_in, text_in, end_in};
+ghost use Rattle.undo_shell.specs.Script.{command_of, first_of, with_number, with_leaf, write_of, scan_of, meaning};
 
 use crate::label::Label;
 use crate::line::{Kind, Line};
-use crate::names::{bare, kind_with_value, with_key, with_label, with_number, with_savepoint};
+use crate::names::{
+    bare, kind_with_value, with_key, with_label, with_leaf, with_number, with_savepoint,
+};
 use crate::script::cut_at;
 use crate::words::{end_of, text_of};
 
@@ -28,9 +30,20 @@ fn parse_pair<'a>(name: &[u8], rest: &'a [u8]) -> Option<Line<'a>>
     match rest {
         None => match with_label(name, word) {
             Some(line) => Some(line),
-            None => with_number(name, word),
+            None => parse_numbered(name, word),
         },
         Some(rest) => parse_keyed(name, word, rest),
+    }
+}
+
+/// A line of two words, the second a number or the key of a leaf.
+fn parse_numbered<'a>(name: &[u8], word: &'a [u8]) -> Option<Line<'a>>
+    ensures { option_map meaning result
+        ≡ first_of (with_number name.now (number_in word.now)) (with_leaf name.now (text_in word.now)) }
+{
+    match with_number(name, word) {
+        Some(line) => Some(line),
+        None => with_leaf(name, word),
     }
 }
 

@@ -8,8 +8,10 @@ use crate::line::Part;
 use crate::outcome::print_out;
 use crate::pieces::{Piece, print};
 use crate::printed::print_refusal;
+use crate::rows::print_table;
 use crate::shown::print_part;
 use crate::told::print_told;
+use codec::Rows;
 use record_key::Refusal;
 use std::io;
 use world::{Out, World};
@@ -24,6 +26,8 @@ pub enum Reply {
         outs: Vec<Out>,
         end: Result<(), Refusal>,
     },
+    /// The records as they are.
+    Table(Rows),
     /// A part of the node is to be printed.
     Shown(Part),
 }
@@ -62,6 +66,7 @@ impl Reply {
         match self {
             Reply::Event(out) => print_out(writer, out),
             Reply::Settled { outs, end } => print_settled(writer, outs.as_slice(), end),
+            Reply::Table(rows) => print_table(writer, rows.as_slice()),
             Reply::Shown(part) => print_part(writer, *part, world),
         }
     }

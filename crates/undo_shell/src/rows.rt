@@ -1,11 +1,20 @@
 //! The text of rows, one after another.
 ghost use Rattle.std.specs.Prelude.{◌≡◌, flat_map};
 ghost use Rattle.undo_shell.specs.Printed.{Prints};
-ghost use Rattle.undo_shell.specs.Stored.{row_line};
+ghost use Rattle.undo_shell.specs.Stored.{row_line, table_text};
 
 use crate::pieces::{Piece, print};
+use crate::printed::print_numbered;
 use record_key::{Key, Value};
 use std::io;
+
+/// The lines of a table: its rows, and how many they are.
+pub fn print_table<W: io::Write>(writer: &mut W, rows: &[(Key, Value)]) -> io::Result<()>
+    ensures { Prints (W.contents writer.old) (W.contents writer.new) result (table_text rows.now) }
+{
+    print_rows(writer, rows)?;
+    print_numbered(writer, "rows ", rows.len() as u64)
+}
 
 /// The lines of the rows.
 pub fn print_rows<W: io::Write>(writer: &mut W, rows: &[(Key, Value)]) -> io::Result<()>

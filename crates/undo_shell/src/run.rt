@@ -1,10 +1,9 @@
 //! A script from its bytes to its text.
 ghost use Rattle.std.specs.Prelude.{◌≡◌, ◌⊎◌};
-ghost use Rattle.world.specs.Node.{fresh_node};
-ghost use Rattle.undo_shell.specs.Labels.{Bindings, unbound, AreSame, number_in};
+ghost use Rattle.undo_shell.specs.Labels.{number_in};
 ghost use Rattle.undo_shell.specs.Script.{lines_of, commands_of, asked};
 ghost use Rattle.undo_shell.specs.Printed.{refusal_line};
-ghost use Rattle.undo_shell.specs.Text.{WritesText, WritesRun, WritesLine, WritesAlone};
+ghost use Rattle.undo_shell.specs.Text.{WritesText, WritesLines, WritesRun, WritesLine, WritesAlone};
 
 use crate::printed::print_refusal;
 use crate::script::{cut_at, first_fault, request};
@@ -57,10 +56,12 @@ pub fn refuse<W: io::Write>(writer: &mut W, refusal: Refusal, status: u8) -> u8
 
 /// Runs the lines of a script that was checked.
 fn run_lines<W: io::Write>(alloc: Global, script: &[u8], writer: &mut W) -> u8
-    ensures { (labels : Bindings) × AreSame unbound labels × WritesRun (commands_of (lines_of script.now)) fresh_node labels (W.contents writer.old) (W.contents writer.new) result }
+    ensures { WritesLines script.now (W.contents writer.old) (W.contents writer.new) result }
 {
-    let mut shell = Shell::new(alloc);
-    run_from(&mut shell, script, writer)
+    match Shell::new(alloc) {
+        Ok(mut shell) => run_from(&mut shell, script, writer),
+        Err(refusal) => refuse(writer, refusal, FAILED),
+    }
 }
 
 fn run_from<W: io::Write>(shell: &mut Shell, script: &[u8], writer: &mut W) -> u8

@@ -1,5 +1,5 @@
 //! The node with the labels of a script.
-ghost use Rattle.std.specs.Prelude.{◌≡◌, MatchResult, Some, None, OnOk, IfErr, IsSome};
+ghost use Rattle.std.specs.Prelude.{◌≡◌, MatchResult, Some, None, OnOk, IfOk, IfErr, IsSome};
 ghost use Rattle.std.specs.Option.{option_copied};
 ghost use Rattle.std.specs.Ordering.{nat_cmp};
 ghost use Rattle.std.specs.Cmp.Lexicographic.{slice_cmp};
@@ -9,11 +9,12 @@ ghost use Rattle.tc_core.specs.Causes.{begin_refusal};
 ghost use Rattle.world.specs.Node.{fresh_node};
 ghost use Rattle.undo_shell.specs.Labels.{number_in, unbound, AreSame};
 ghost use Rattle.undo_shell.specs.Script.{meaning};
-ghost use Rattle.undo_shell.specs.Text.{Replies, Begins, Writes, Gets, Scans, IsSettling, event_of, op_of, length_fault, keys_fault};
+ghost use Rattle.undo_shell.specs.Text.{Replies, Begins, Writes, Gets, Scans, Treats, IsTable, IsSettling, event_of, leaf_event, op_of, length_fault, keys_fault};
 
 use crate::label::{Label, Labels};
-use crate::line::{Call, Kind, Line};
+use crate::line::{Call, Kind, LeafCall, Line};
 use crate::reply::Reply;
+use codec::Rows;
 use record_key::{Key, Op, Refusal, Value};
 use std::alloc::Global;
 use world::{Event, Out, World, settle};
@@ -28,15 +29,16 @@ pub struct Shell {
 
 impl Shell {
     /// A new node, and no label bound.
-    pub fn new(alloc: Global) -> Shell
-        ensures world { result.world ≡ fresh_node }
-        ensures labels { AreSame unbound (number_in result.labels) }
+    pub fn new(alloc: Global) -> Result<Shell, Refusal>
+        ensures world { IfOk result (λ shell. shell.world ≡ fresh_node) }
+        ensures labels { IfOk result (λ shell. AreSame unbound (number_in shell.labels)) }
+        ensures memory { IfErr result (λ refusal. refusal ≡ Refusal.NoMemory) }
     {
-        Shell {
+        Ok(Shell {
             alloc,
-            world: World::new(alloc),
+            world: World::new(alloc)?,
             labels: Labels::new(alloc),
-        }
+        })
     }
 
     /// Runs the line.
@@ -57,8 +59,10 @@ impl Shell {
                 let event = event_of(*call, self.labels.number(label));
                 Reply::Event(self.world.step(&event))
             }
+            Line::Leaf { call, key } => Reply::Event(self.treat(*call, key)),
             Line::Step(event) => Reply::Event(self.world.step(event)),
             Line::Settle => settled(self.alloc, &mut self.world),
+            Line::Table => self.table(),
             Line::Show(part) => Reply::Shown(*part),
         }
     }
@@ -100,6 +104,28 @@ impl Shell {
         };
         let txn = self.labels.number(label);
         self.world.step(&Event::Act { txn, op })
+    }
+
+    /// Splits, merges or writes the leaf of a key that has a length that the node takes.
+    fn treat(&mut self, call: LeafCall, key: &[u8]) -> Out
+        ensures event { Treats call key.now self.old.world result self.new.world }
+        ensures labels { AreSame (number_in self.old.labels) (number_in self.new.labels) }
+    {
+        let event = match leaf_event(call, key) {
+            Ok(event) => event,
+            Err(refusal) => return Out::Refused(refusal),
+        };
+        self.world.step(&event)
+    }
+
+    /// The records as they are.
+    fn table(&self) -> Reply
+        ensures { IsTable self.now.world result }
+    {
+        match self.world.rows() {
+            Ok(rows) => Reply::Table(Rows::new(rows)),
+            Err(refusal) => Reply::Event(Out::Refused(refusal)),
+        }
     }
 
     /// Asks for the value at a key that has a length that the node takes.
@@ -156,6 +182,18 @@ fn ends_of(low: &[u8], high: Option<&[u8]>) -> Result<(Key, Option<Key>), Refusa
             Ok((low, Some(Key::new(high)?)))
         }
     }
+}
+
+/// What is to happen to the leaf of this key, unless it has a length that no key has.
+fn leaf_event(call: LeafCall, key: &[u8]) -> Result<Event, Refusal>
+    ensures { MatchResult result (λ event. (keys_fault key.now None ≡ None) × (event ≡ leaf_event call key.now)) (λ refusal. keys_fault key.now None ≡ Some refusal) }
+{
+    let key = Key::new(key)?;
+    Ok(match call {
+        LeafCall::Split => Event::Split { key },
+        LeafCall::Merge => Event::Merge { key },
+        LeafCall::Flush => Event::Flush { key },
+    })
 }
 
 /// What is to happen to the transaction of this number.

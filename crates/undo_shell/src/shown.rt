@@ -1,18 +1,15 @@
-//! What is printed of a node: its table, its log or its leaves.
-ghost use Rattle.std.specs.Prelude.{◌≡◌};
-ghost use Rattle.std.specs.FinMap.{entries};
+//! What is printed of a node: its log or its leaves.
+ghost use Rattle.std.specs.Prelude.{◌≡◌, flat_map};
 ghost use Rattle.history.specs.Log.{record_at};
 ghost use Rattle.undo_shell.specs.Printed.{Prints};
 ghost use Rattle.undo_shell.specs.Logged.{line_at, lines_to, log_text};
-ghost use Rattle.undo_shell.specs.Stored.{table_text};
-ghost use Rattle.undo_shell.specs.View.{log_of, rows_of, stable_of, part_text};
+ghost use Rattle.undo_shell.specs.Stored.{leaf_line};
+ghost use Rattle.undo_shell.specs.View.{log_of, leaves_of, stable_of, part_text};
 
 use crate::leaves::print_leaf;
 use crate::line::Part;
 use crate::logged::print_record;
 use crate::pieces::{Piece, print};
-use crate::printed::print_numbered;
-use crate::rows::print_rows;
 use std::io;
 use world::World;
 
@@ -21,18 +18,18 @@ pub fn print_part<W: io::Write>(writer: &mut W, part: Part, world: &World) -> io
     ensures { Prints (W.contents writer.old) (W.contents writer.new) result (part_text part world.now) }
 {
     match part {
-        Part::Table => print_table(writer, world),
         Part::Log => print_log(writer, world),
-        Part::Leaves => print_leaf(writer, world.leaf()),
+        Part::Leaves => print_leaves(writer, world),
     }
 }
 
-fn print_table<W: io::Write>(writer: &mut W, world: &World) -> io::Result<()>
-    ensures { Prints (W.contents writer.old) (W.contents writer.new) result (table_text (entries (rows_of world.now))) }
+fn print_leaves<W: io::Write>(writer: &mut W, world: &World) -> io::Result<()>
+    ensures { Prints (W.contents writer.old) (W.contents writer.new) result (flat_map leaf_line (leaves_of world.now)) }
 {
-    let rows = world.rows();
-    print_rows(writer, rows)?;
-    print_numbered(writer, "rows ", rows.len() as u64)
+    for place in 0..world.leaves() {
+        print_leaf(writer, world.leaf(place))?;
+    }
+    Ok(())
 }
 
 fn print_log<W: io::Write>(writer: &mut W, world: &World) -> io::Result<()>

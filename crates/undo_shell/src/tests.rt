@@ -7,6 +7,7 @@ mod command_line;
 mod commits;
 mod examples;
 mod failing;
+mod leaves;
 mod messages;
 mod orders;
 mod printing;

@@ -18,7 +18,7 @@ use walking::Walk;
 
 /// Four thousand events. The node is settled and compared after each hundred.
 fn walked(rt: &impl Abort, alloc: Global, seed: u64) -> Result<Walk, Fail> {
-    let mut walk = Walk::new(alloc, seed);
+    let mut walk = Walk::new(alloc, seed)?;
     for _ in 0..40 {
         for _ in 0..100 {
             walk.walk(rt, alloc)?;

@@ -2,11 +2,11 @@
 use Rattle.std.proofs.Common.{◌≡◌, ◌⊎◌, ℕ, ◌+◌, List, [], ◌∷◌, ◌++◌, length, Option, Some, None, sym, ap, ◌∙◌, subst, inl, inr}
 use Rattle.record_key.specs.declared.refusal.Refusal.{Refusal}
 use Rattle.record_key.specs.declared.refusal.Refusal.TheVariants.{NoMemory}
-use Rattle.std.specs.Prelude.{Err}
+use Rattle.std.specs.Prelude.{Result, Ok, Err}
 use Rattle.codec.specs.declared.request.Request.{Request}
 use Rattle.codec.specs.declared.reply.Reply.{Reply}
 use Rattle.dc_core.specs.DcView.{DcView}
-use Rattle.dc_core.specs.Serves.{Serves, serve_refusal}
+use Rattle.dc_core.specs.Serves.{Serves, ServeGives, serve_refusal}
 use Rattle.tc_core.specs.TcView.{TcView}
 use Rattle.tc_core.specs.Replies.{on_reply, ReplyGives}
 use Rattle.world.specs.declared.event.Event.TheVariants as event
@@ -40,12 +40,12 @@ pub record Exchanged (w : NodeView) (tc : TcView) (q : Request) (new : NodeView)
   pub left : new.tc ≡ (on_reply tc reply).1
 
 -- what is served when the last request arrives
-pub served_last : (w : NodeView) (tc : TcView) (q : Request) (reply : Option Reply) (dc : DcView) → Served (asked w tc q) (length w.requests + 1) reply dc
-    → (serve_refusal w.dc q ≡ None) × Serves w.dc q reply dc
-served_last w tc q reply dc h =
+pub served_last : (w : NodeView) (tc : TcView) (q : Request) (given : Result (Option Reply) Refusal) (dc : DcView) → Served (asked w tc q) (length w.requests + 1) given dc
+    → ServeGives w.dc q given dc
+served_last w tc q given dc h =
     let same : h.request ≡ q = some_one (message_at (w.requests ++ q ∷ []) (length w.requests + 1)) h.request q h.found (last_at w.requests q) in
-    let P : Request → Type 0 = λ x. (serve_refusal w.dc x ≡ None) × Serves w.dc x reply dc in
-    subst P same (h.allowed, h.served)
+    let P : Request → Type 0 = λ x. ServeGives w.dc x given dc in
+    subst P same h.gives
 
 taken_last : (w : NodeView) (tc : TcView) (q : Request) (dc : DcView) (reply : Reply) (output : Out) (new : NodeView)
     → Taken (told w tc q dc reply) (length w.replies + 1) output new → new.tc ≡ (on_reply tc reply).1
@@ -77,6 +77,9 @@ took w tc q dc reply (out.RedoEnded s) new h d = taken_last w tc q dc reply (out
 took w tc q dc reply (out.Answered t a) new h d = taken_last w tc q dc reply (out.Answered t a) new h
 took w tc q dc reply (out.Row t v) new h d = taken_last w tc q dc reply (out.Row t v) new h
 took w tc q dc reply (out.Rows t rows) new h d = taken_last w tc q dc reply (out.Rows t rows) new h
+took w tc q dc reply (out.Split pair) new h d = taken_last w tc q dc reply (out.Split pair) new h
+took w tc q dc reply (out.Merged pair) new h d = taken_last w tc q dc reply (out.Merged pair) new h
+took w tc q dc reply (out.Flushed id) new h d = taken_last w tc q dc reply (out.Flushed id) new h
 took w tc q dc reply (out.Undone n) new h d = taken_last w tc q dc reply (out.Undone n) new h
 
 -- these requests have replies
@@ -95,10 +98,10 @@ rest_of w tc q (o ∷ p ∷ []) new has h = by o h.1 h.2
 
     by : (o : Out) → ServesTo (asked w tc q) (length w.requests + 1) o h.0 → IsDone o → Exchanged w tc q new
     by (out.Replied j) s d =
-        let served = served_last w tc q (Some s.0) h.0.dc s.1 in
+        let served = served_last w tc q (Ok (Some s.0)) h.0.dc s.1 in
         let last = subst rest s.3 h.3 in
         record { dc = h.0.dc; reply = s.0; allowed = served.0; served = served.1; left = ap (λ (x : NodeView). x.tc) last.3 ∙ took w tc q h.0.dc s.0 p last.0 last.1 last.2 }
-    by out.Noted s d = absurd (has w.dc h.0.dc (served_last w tc q None h.0.dc s.0).1)
+    by out.Noted s d = absurd (has w.dc h.0.dc (served_last w tc q (Ok None) h.0.dc s.0).1)
     by (out.Refused r) s d = absurd d
     by _ s d = absurd s
 
@@ -112,19 +115,20 @@ exchanged w mid tc q i os new has sends h =
 -- why an exchange stops after its request was sent: as the data component refuses it, or the reply is refused
 abbrev pub Stops : NodeView → TcView → Request → Refusal → Type 0
 Stops w tc q r =
-    (r ≡ NoMemory) ⊎ LacksRoom (serve_refusal w.dc q) (is_replied_to q) r
+    (r ≡ NoMemory) ⊎ LacksRoom (serve_refusal w.dc q) (is_replied_to q) r ⊎ ((dc : DcView) × ServeGives w.dc q (Err r) dc)
     ⊎ ((dc : DcView) × (reply : Reply) × (left : TcView) × Serves w.dc q (Some reply) dc × ReplyGives tc reply (Err r) left)
 
 stops_of : (w : NodeView) (tc : TcView) (q : Request) (os : List Out) (r : Refusal) (new : NodeView) → HasReply q
     → StopsAt (asked w tc q) (event.Request (length w.requests + 1) ∷ event.Reply (length w.replies + 1) ∷ []) os r new → Stops w tc q r
 stops_of w tc q [] r new has (inl h) = inl h.0
-stops_of w tc q [] r new has (inr h) = elim h.0 [
+stops_of w tc q [] r new has (inr (inl h)) = elim h.0 [
   | inl none ↦ absurd (no_message w.requests q none.1)
   | inr refused ↦
       let same : refused.request ≡ q = some_one (message_at (w.requests ++ q ∷ []) (length w.requests + 1)) refused.request q refused.found (last_at w.requests q) in
       let P : Request → Type 0 = λ x. LacksRoom (serve_refusal w.dc x) (is_replied_to x) r in
       inr (inl (subst P same refused.refused))
 ]
+stops_of w tc q [] r new has (inr (inr h)) = inr (inr (inl (new.dc, served_last w tc q (Err r) new.dc h.0)))
 stops_of w tc q (o ∷ p ∷ os) r new has h = absurd h.3.3
 stops_of w tc q (o ∷ []) r new has h = by o h.1 h.2
   where
@@ -133,7 +137,7 @@ stops_of w tc q (o ∷ []) r new has h = by o h.1 h.2
 
     by : (o : Out) → ServesTo (asked w tc q) (length w.requests + 1) o h.0 → IsDone o → Stops w tc q r
     by (out.Replied j) s d =
-        let served = served_last w tc q (Some s.0) h.0.dc s.1 in
+        let served = served_last w tc q (Ok (Some s.0)) h.0.dc s.1 in
         elim (subst rest s.3 h.3) [
           | inl memory ↦ inl memory.0
           | inr refused ↦ elim refused [
@@ -141,10 +145,10 @@ stops_of w tc q (o ∷ []) r new has h = by o h.1 h.2
             | inr found ↦
                 let same : found.reply ≡ s.0 = some_one (message_at (w.replies ++ s.0 ∷ []) (length w.replies + 1)) found.reply s.0 found.found (last_at w.replies s.0) in
                 let P : Reply → Type 0 = λ x. ReplyGives tc x (Err r) new.tc in
-                inr (inr (h.0.dc, s.0, new.tc, served.1, subst P same found.refused))
+                inr (inr (inr (h.0.dc, s.0, new.tc, served.1, subst P same found.refused)))
           ]
         ]
-    by out.Noted s d = absurd (has w.dc h.0.dc (served_last w tc q None h.0.dc s.0).1)
+    by out.Noted s d = absurd (has w.dc h.0.dc (served_last w tc q (Ok None) h.0.dc s.0).1)
     by (out.Refused r) s d = absurd d
     by _ s d = absurd s
 

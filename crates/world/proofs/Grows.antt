@@ -1,9 +1,7 @@
 -- A log that grows keeps what was sent, replied and captured.
-use Rattle.std.proofs.Common.{◌≡◌, ℕ, ◌+◌, ◌≤◌, ◌⊎◌, Bool, true, false, List, [], ◌∷◌, length, Option, Some, None, IsSome, refl, sym, subst, arith, inl, inr, eqb-true}
-use Rattle.std.specs.Prelude.{◌==◌, ◌||◌, nat_le}
-use Rattle.std.specs.List.{AllByRecursion, list_any}
+use Rattle.std.proofs.Common.{◌≡◌, ℕ, ◌+◌, ◌≤◌, ◌⊎◌, false, List, ◌∷◌, length, Some, None, sym, subst, arith, inl, inr}
+use Rattle.std.specs.List.{AllByRecursion}
 use Rattle.std.proofs.lemmas.Bool.{cases_Bool}
-use Rattle.std.proofs.lemmas.Bool.Decides.{nat_tests}
 use Rattle.record_key.specs.declared.op.Op.{Op}
 use Rattle.record_key.specs.declared.op.Answer.{Answer}
 use Rattle.history.specs.declared.record.Record.{Record}
@@ -18,18 +16,22 @@ use Rattle.codec.specs.declared.request.Request.{Request}
 use Rattle.codec.specs.declared.request.Request.TheVariants as asks
 use Rattle.codec.specs.declared.reply.Reply.{Reply}
 use Rattle.codec.specs.declared.reply.Reply.TheVariants as says
-use Rattle.record_key.specs.declared.entry.Entry.{Entry}
-use Rattle.ab_lsn.specs.AbLsn.{AbLsnView, captures}
-use Rattle.record_key.specs.Entries.{numbers}
+use Rattle.ab_lsn.specs.AbLsn.{captures}
+use Rattle.page.specs.Leaf.{LeafView}
+use Rattle.recovery_laws.specs.Ready.{IsHonestTo}
+use Rattle.system_txn.specs.SystemView.{SystemView}
+use Rattle.system_txn.specs.Devices.{pages_of}
+use Rattle.dc_core.specs.declared.performance.Performance.{Performance}
 use Rattle.page.specs.Honest.{IsHonestLeaf}
 use Rattle.page.proofs.Honest.{right_longer, honest_uncaptured}
 use Rattle.dc_core.specs.DcView.{DcView}
 use Rattle.tc_core.specs.TcView.{TcView}
 use Rattle.tc_core.specs.Kept.{IsTc}
 use Rattle.world.specs.Node.{NodeView, with_tc}
-use Rattle.world.specs.Kept.{IsKept, IsAnsweredTo, IsReadTrue, IsSent, IsAnswered, IsValue, AreRows, IsGiven, AreSessions}
+use Rattle.world.specs.Kept.{IsKept, IsAnsweredTo, IsReadTrue, IsSent, IsAnswerOf, IsValue, AreRows, IsGiven, AreSessions, IsTrueTo, AnsweredAreCaptured}
 use Rattle.record_key.proofs.Lists.{all_from}
 use Rattle.world.proofs.Readers.{NoneAnew}
+use Rattle.world.proofs.Written.{have_all}
 
 -- the same log, or with one record more
 abbrev pub Extends : List Record → List Record → Type 0
@@ -46,9 +48,8 @@ request_longer r log n o h = kept_at (ARequest o) r log n (request_number log n 
 answers_longer : (r : Record) (log : List Record) (l : ℕ) → l ≤ length log → AreAnswered log l → AreAnswered (r ∷ log) l
 answers_longer r log l within h n o below asks = answered_push n r log (h n o below (older_at (ARequest o) r log n (λ e. omega (arith, e, within, below)) asks))
 
-answer_longer : (r : Record) (log : List Record) (dc : DcView) (n : ℕ) (a : Option Answer) → IsAnswered log dc.leaf n a → IsAnswered (r ∷ log) dc.leaf n a
-answer_longer r log dc n None h = h
-answer_longer r log dc n (Some a) h = record {
+answer_longer : (r : Record) (log : List Record) (dc : DcView) (n : ℕ) (a : Answer) → IsAnswerOf log dc n a → IsAnswerOf (r ∷ log) dc n a
+answer_longer r log dc n a h = record {
   op = h.op;
   requests = request_longer r log n h.op h.requests;
   right = right_longer r log n h.op a h.requests h.right;
@@ -85,49 +86,49 @@ sent_on old new on (asks.RedoEnd s) h = h
 
 given_on : (old new : TcView) (dc : DcView) → GoesOn old new → (reply : Reply) → IsGiven old dc reply → IsGiven new dc reply
 given_on old new dc on (says.Connected s) h = h
-given_on old new dc on (says.Answered s n a) h = extend (λ log. IsAnswered log dc.leaf n a) old.log new.log on.log (λ r. answer_longer r old.log dc n a) h
+given_on old new dc on (says.Answered s n None) h = answered_on old new n on h
+given_on old new dc on (says.Answered s n (Some a)) h = extend (λ log. IsAnswerOf log dc n a) old.log new.log on.log (λ r. answer_longer r old.log dc n a) h
 given_on old new dc on (says.Row s n v) h = read_on old new n (IsValue dc v) on h
 given_on old new dc on (says.Rows s n rows) h = read_on old new n (AreRows dc rows) on h
 given_on old new dc on (says.Checkpointed s l) h = h
 given_on old new dc on (says.RedoEnded s) h = h
 
--- whatever is captured is stable
-any_bounded : (n bound : ℕ) (es : List Entry) → list_any (λ m. n == m) (numbers es) ≡ true → AllByRecursion (λ (e : Entry). e.number ≤ bound) es → n ≤ bound
-any_bounded n bound [] h all = absurd (cc)
-any_bounded n bound (e ∷ es) h all = pick (n == e.number) refl h (λ any. any_bounded n bound es any all.1)
+-- a leaf that is honest, and has captured stable numbers only, stays so
+honest_to_on : (old new : TcView) → GoesOn old new → (leaf : LeafView) → IsHonestTo old.log old.stable leaf → IsHonestTo new.log new.stable leaf
+honest_to_on old new on leaf h = record {
+  honest = extend (λ log. IsHonestLeaf log leaf) old.log new.log on.log (λ r. honest_uncaptured r old.log leaf next) h.honest;
+  within = λ n captured. omega (arith, h.within n captured, on.stable);
+}
   where
-    pick : (b : Bool) → (n == e.number) ≡ b → (b || list_any (λ m. n == m) (numbers es)) ≡ true → (list_any (λ m. n == m) (numbers es) ≡ true → n ≤ bound) → n ≤ bound
-    pick true same h rest = omega (arith, eqb-true n e.number same, all.0)
-    pick false apart h rest = rest h
-
-pub captured_bounded : (v : AbLsnView) (n bound : ℕ) → v.low ≤ bound → AllByRecursion (λ (e : Entry). e.number ≤ bound) v.entries → captures v n ≡ true → n ≤ bound
-captured_bounded v n bound low all h = pick (nat_le n v.low) refl h
-  where
-    pick : (b : Bool) → nat_le n v.low ≡ b → (b || list_any (λ m. n == m) (numbers v.entries)) ≡ true → n ≤ bound
-    pick true below h = let le : n ≤ v.low = grind (arith, nat_tests, below) in omega (arith, le, low)
-    pick false above h = any_bounded n bound v.entries h all
-
-pub captured_stable : (w : NodeView) (n : ℕ) → IsKept w → captures w.dc.leaf.ab n ≡ true → n ≤ w.tc.stable
-captured_stable w n k h = captured_bounded w.dc.leaf.ab n w.tc.stable k.low.stable k.stable h
-
--- so the next number isn't captured
-pub uncaptured_next : (w : NodeView) → IsKept w → captures w.dc.leaf.ab (length w.tc.log + 1) ≡ false
-uncaptured_next w k =
-    elim (cases_Bool (captures w.dc.leaf.ab (length w.tc.log + 1))) [
-      | inl h ↦ let below = captured_stable w (length w.tc.log + 1) k h in absurd (omega (arith, below, k.tc.within))
-      | inr h ↦ h
+    next : captures leaf.ab (length old.log + 1) ≡ false
+    next = elim (cases_Bool (captures leaf.ab (length old.log + 1))) [
+      | inl captured ↦ absurd (omega (arith, h.within (length old.log + 1) captured, on.within))
+      | inr uncaptured ↦ uncaptured
     ]
+
+true_on : (old new : TcView) (v : SystemView) → GoesOn old new → IsTrueTo old v → IsTrueTo new v
+true_on old new v on h = record {
+  leaves = all_from (IsHonestTo old.log old.stable) (IsHonestTo new.log new.stable) (honest_to_on old new on) v.leaves h.leaves;
+  written = have_all (IsHonestTo old.log old.stable) (IsHonestTo new.log new.stable) (honest_to_on old new on) (pages_of v.pages) v.log h.written;
+  low = all_from (λ (leaf : LeafView). IsAnsweredTo old leaf.ab.low) (λ (leaf : LeafView). IsAnsweredTo new leaf.ab.low)
+      (λ leaf. answered_on old new leaf.ab.low on) v.leaves h.low;
+}
+
+performed_on : (old new : TcView) → GoesOn old new → (ps : List Performance) → AllByRecursion (λ (p : Performance). Requests old.log p.number p.op) ps
+    → AllByRecursion (λ (p : Performance). Requests new.log p.number p.op) ps
+performed_on old new on ps h =
+    all_from (λ (p : Performance). Requests old.log p.number p.op) (λ (p : Performance). Requests new.log p.number p.op)
+    (λ p. extend (λ log. Requests log p.number p.op) old.log new.log on.log (λ r. request_longer r old.log p.number p.op)) ps h
 
 -- all holds still, where the answers are right and what is answered is captured
 pub keeps_on : (w : NodeView) (tc : TcView) → IsKept w → IsTc tc → GoesOn w.tc tc → AreSessions tc.session tc.phase w.dc → HasRightAnswers tc.log
-    → ((n : ℕ) (o : Op) → Requests tc.log n o → IsSome (answer_of tc.log n) → captures w.dc.leaf.ab n ≡ true) → IsKept (with_tc w tc)
+    → AnsweredAreCaptured tc.log w.dc → IsKept (with_tc w tc)
 keeps_on w tc k is on sessions right answered = record {
   tc = is;
   right = right;
-  whole = k.whole;
-  honest = extend (λ log. IsHonestLeaf log w.dc.leaf) w.tc.log tc.log on.log (λ r. honest_uncaptured r w.tc.log w.dc.leaf (uncaptured_next w k)) k.honest;
-  stable = all_from (λ (e : Entry). e.number ≤ w.tc.stable) (λ (e : Entry). e.number ≤ tc.stable) (λ e h. omega (arith, h, on.stable)) w.dc.leaf.ab.entries k.stable;
-  low = answered_on w.tc tc w.dc.leaf.ab.low on k.low;
+  dc = k.dc;
+  true_to = true_on w.tc tc w.dc.system on k.true_to;
+  performed = performed_on w.tc tc on w.dc.performed k.performed;
   answered = answered;
   sent = all_from (IsSent w.tc) (IsSent tc) (sent_on w.tc tc on) w.requests k.sent;
   given = all_from (IsGiven w.tc w.dc) (IsGiven tc w.dc) (given_on w.tc tc w.dc on) w.replies k.given;

@@ -4,6 +4,7 @@ use Rattle.std.specs.List.{AllByRecursion}
 use Rattle.std.proofs.lemmas.Bool.{cases_eq}
 use Rattle.record_key.specs.declared.op.Op.{Op}
 use Rattle.record_key.specs.declared.op.Answer.{Answer}
+use Rattle.record_key.specs.Table.{key_of}
 use Rattle.history.specs.declared.record.Record.{Record}
 use Rattle.history.specs.declared.record.Record.TheVariants as is
 use Rattle.history.specs.Log.{answer_of, Requests}
@@ -12,7 +13,8 @@ use Rattle.log_laws.proofs.Records.{ARequest, newest_at, older_at, IsNumber}
 use Rattle.log_laws.proofs.LegalLogs.{step_number}
 use Rattle.codec.specs.declared.request.Request.{Request}
 use Rattle.codec.specs.declared.reply.Reply.{Reply}
-use Rattle.ab_lsn.specs.AbLsn.{captures}
+use Rattle.page.proofs.Performing.{one_request}
+use Rattle.dc_core.specs.DcView.{captures_at}
 use Rattle.tc_core.specs.declared.open_txn.OpenTxn.{OpenTxn}
 use Rattle.tc_core.specs.OpenTxns.{find}
 use Rattle.tc_core.specs.TcView.{TcView}
@@ -21,17 +23,13 @@ use Rattle.tc_core.proofs.KeepsTc.{open_at, waits_at, none_next}
 use Rattle.tc_core.proofs.KeepsIdle.{own_request}
 use Rattle.tc_core.proofs.Finding.{found_own}
 use Rattle.world.specs.Node.{NodeView, with_tc}
-use Rattle.world.specs.Kept.{IsKept, IsSent, IsGiven, AreSessions}
+use Rattle.world.specs.Kept.{IsKept, IsSent, IsAnswerOf, IsGiven, AreSessions, AnsweredAreCaptured}
 use Rattle.world.proofs.ByNumber.{all_push}
 use Rattle.world.proofs.Readers.{NoneAnew}
 use Rattle.world.proofs.Grows.{keeps_on}
 
--- what is answered in this log is captured
-abbrev pub AnsweredCaptured : NodeView → List Record → Type 0
-AnsweredCaptured w log = (m : ℕ) (o : Op) → Requests log m o → IsSome (answer_of log m) → captures w.dc.leaf.ab m ≡ true
-
 -- a record that neither asks nor answers leaves what is answered captured
-pub still_captured : (w : NodeView) (r : Record) → IsKept w → ((o : Op) → ARequest o (Some r) → ⊥) → ((m : ℕ) → answer_of (r ∷ w.tc.log) m ≡ answer_of w.tc.log m) → AnsweredCaptured w (r ∷ w.tc.log)
+pub still_captured : (w : NodeView) (r : Record) → IsKept w → ((o : Op) → ARequest o (Some r) → ⊥) → ((m : ℕ) → answer_of (r ∷ w.tc.log) m ≡ answer_of w.tc.log m) → AnsweredAreCaptured (r ∷ w.tc.log) w.dc
 still_captured w r k none same m o asks some =
     elim (cases_eq m (length w.tc.log + 1)) [
       | inl e ↦ absurd (none o (newest_at (ARequest o) r w.tc.log m e asks))
@@ -39,7 +37,7 @@ still_captured w r k none same m o asks some =
     ]
 
 -- one that asks isn't answered yet
-pub asked_captured : (w : NodeView) (r : Record) → IsKept w → ((m : ℕ) → answer_of (r ∷ w.tc.log) m ≡ answer_of w.tc.log m) → AnsweredCaptured w (r ∷ w.tc.log)
+pub asked_captured : (w : NodeView) (r : Record) → IsKept w → ((m : ℕ) → answer_of (r ∷ w.tc.log) m ≡ answer_of w.tc.log m) → AnsweredAreCaptured (r ∷ w.tc.log) w.dc
 asked_captured w r k same m o asks some =
     elim (cases_eq m (length w.tc.log + 1)) [
       | inl e ↦
@@ -49,15 +47,19 @@ asked_captured w r k same m o asks some =
     ]
 
 -- an answer is of a captured number
-pub answer_captured : (w : NodeView) (n : ℕ) (a : Answer) → IsKept w → captures w.dc.leaf.ab n ≡ true → AnsweredCaptured w (is.Answer n a ∷ w.tc.log)
-answer_captured w n a k captured m o asks some =
+pub answer_captured : (w : NodeView) (n : ℕ) (a : Answer) → IsKept w → IsAnswerOf w.tc.log w.dc n a → AnsweredAreCaptured (is.Answer n a ∷ w.tc.log) w.dc
+answer_captured w n a k given m o asks some =
     let r : Record = is.Answer n a in
     elim (cases_eq m (length w.tc.log + 1)) [
       | inl e ↦ let none : ARequest o (Some r) = newest_at (ARequest o) r w.tc.log m e asks in absurd (cc)
-      | inr e ↦ elim (cases_eq m n) [
-        | inl same ↦ subst (λ (z : ℕ). captures w.dc.leaf.ab z ≡ true) (sym same) captured
-        | inr apart ↦ k.answered m o (older_at (ARequest o) r w.tc.log m e asks) (subst (λ (b : Bool). IsSome (cond b (Some a) (answer_of w.tc.log m))) (ne_eqb m n apart) some)
-      ]
+      | inr e ↦
+          let older : Requests w.tc.log m o = older_at (ARequest o) r w.tc.log m e asks in
+          elim (cases_eq m n) [
+            | inl same ↦
+                let one : given.op ≡ o = one_request w.tc.log n o given.op (subst (λ (z : ℕ). Requests w.tc.log z o) same older) given.requests in
+                subst (λ (z : ℕ). captures_at w.dc (key_of o) z ≡ true) (sym same) (subst (λ (p : Op). captures_at w.dc (key_of p) n ≡ true) one given.captured)
+            | inr apart ↦ k.answered m o older (subst (λ (b : Bool). IsSome (cond b (Some a) (answer_of w.tc.log m))) (ne_eqb m n apart) some)
+          ]
     ]
 
 -- whatever is waited for is a number of the log
@@ -67,17 +69,17 @@ awaited_number w k t o n found some =
 
 -- one record more
 pub keeps_appended : (w : NodeView) (tc : TcView) (r : Record) → IsKept w → IsTc tc → tc.log ≡ r ∷ w.tc.log → w.tc.stable ≤ tc.stable → w.tc.session ≤ tc.session → w.tc.reads ≤ tc.reads
-    → NoneAnew w.tc.reads w.tc.open_txns tc.open_txns → AreSessions tc.session tc.phase w.dc → HasRightAnswers (r ∷ w.tc.log) → AnsweredCaptured w (r ∷ w.tc.log) → IsKept (with_tc w tc)
+    → NoneAnew w.tc.reads w.tc.open_txns tc.open_txns → AreSessions tc.session tc.phase w.dc → HasRightAnswers (r ∷ w.tc.log) → AnsweredAreCaptured (r ∷ w.tc.log) w.dc → IsKept (with_tc w tc)
 keeps_appended w tc r k is log stable session reads none_anew sessions right answered =
     keeps_on w tc k is (record { within = k.tc.within; log = inr (r, log); stable = stable; session = session; reads = reads; none_anew = none_anew }) sessions (subst HasRightAnswers (sym log) right)
-    (subst (AnsweredCaptured w) (sym log) answered)
+    (subst (λ (log : List Record). AnsweredAreCaptured log w.dc) (sym log) answered)
 
 -- the same log
 pub keeps_same_log : (w : NodeView) (tc : TcView) → IsKept w → IsTc tc → tc.log ≡ w.tc.log → w.tc.stable ≤ tc.stable → w.tc.session ≤ tc.session → w.tc.reads ≤ tc.reads
     → NoneAnew w.tc.reads w.tc.open_txns tc.open_txns → AreSessions tc.session tc.phase w.dc → IsKept (with_tc w tc)
 keeps_same_log w tc k is log stable session reads none_anew sessions =
     keeps_on w tc k is (record { within = k.tc.within; log = inl log; stable = stable; session = session; reads = reads; none_anew = none_anew }) sessions (subst HasRightAnswers (sym log) k.right)
-    (subst (AnsweredCaptured w) (sym log) k.answered)
+    (subst (λ (log : List Record). AnsweredAreCaptured log w.dc) (sym log) k.answered)
 
 -- messages that were sent and given stand beside it
 keeps_messages : (w : NodeView) (requests : List Request) (replies : List Reply) → IsKept w → AllByRecursion (IsSent w.tc) requests → AllByRecursion (IsGiven w.tc w.dc) replies
@@ -85,10 +87,9 @@ keeps_messages : (w : NodeView) (requests : List Request) (replies : List Reply)
 keeps_messages w requests replies k sent given = record {
   tc = k.tc;
   right = k.right;
-  whole = k.whole;
-  honest = k.honest;
-  stable = k.stable;
-  low = k.low;
+  dc = k.dc;
+  true_to = k.true_to;
+  performed = k.performed;
   answered = k.answered;
   sent = sent;
   given = given;

@@ -1,6 +1,8 @@
+pub mod AtKeys
 pub mod Awaited
 pub mod ByNumber
 pub mod CallsKeep
+pub mod Carries
 pub mod Clients
 pub mod Committing
 pub mod Counting
@@ -12,6 +14,7 @@ pub mod Grows
 pub mod Headline
 pub mod Idle
 pub mod Keeps
+pub mod MayAsk
 pub mod Performs
 pub mod PlainAt
 pub mod Playing
@@ -30,10 +33,14 @@ pub mod Settled
 pub mod Shares
 pub mod Spellable
 pub mod Standing
+pub mod Systems
+pub mod Tends
 pub mod ToldReads
 pub mod Totals
+pub mod Trees
 pub mod TxnRounds
 pub mod Undone
 pub mod Unread
 pub mod Waited
 pub mod Wants
+pub mod Written

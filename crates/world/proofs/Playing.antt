@@ -37,6 +37,9 @@ done_if (out.RedoEnded n) h = tt
 done_if (out.Answered u a) h = tt
 done_if (out.Row u v) h = tt
 done_if (out.Rows u rows) h = tt
+done_if (out.Flushed id) h = tt
+done_if (out.Merged pair) h = tt
+done_if (out.Split pair) h = tt
 done_if (out.Undone n) h = tt
 
 -- one event

@@ -13,7 +13,7 @@ use Rattle.log_laws.proofs.Records.{op_request}
 use Rattle.log_laws.proofs.Plain.{value_of-captured}
 use Rattle.simulation.specs.View.{is_to_undo}
 use Rattle.simulation.proofs.Viewing.{plain_is_the_logs}
-use Rattle.ab_lsn.specs.AbLsn.{captures}
+use Rattle.dc_core.specs.DcView.{captures_at, value_at}
 use Rattle.page.proofs.OnKey.{all_done}
 use Rattle.tc_core.specs.declared.open_txn.OpenTxn.{OpenTxn}
 use Rattle.tc_core.specs.declared.open_txn.Read.{Read}
@@ -27,6 +27,7 @@ use Rattle.tc_core.proofs.KeepsTc.{reading_at}
 use Rattle.world.specs.Node.{NodeView}
 use Rattle.world.specs.Kept.{IsKept}
 use Rattle.world.specs.Simulation.{Stands, clients, rolling_as, reading_as, waiting_as, doing_of, doing_in}
+use Rattle.world.proofs.AtKeys.{honest_at}
 use Rattle.world.proofs.Unread.{unread}
 
 -- who isn't rolling back has nothing to undo
@@ -80,10 +81,11 @@ module _ (w : NodeView) (o : OpenTxn) (r : Read) (k : IsKept w) (at : find o.txn
       by_txn None none = ap (λ y. is_to_undo (doing_in y) n) none
       by_txn (Some p) some = ap (λ y. is_to_undo (doing_in y) n) some ∙ by_rolling p some p.rolling refl
 
-  pub read_plain : (m : Machine) → Stands w m → (key : Bytes) → is_within (shared r.span) key ≡ true → get w.dc.leaf.rows key ≡ get (plain m.h) key
+  pub read_plain : (m : Machine) → Stands w m → (key : Bytes) → is_within (shared r.span) key ≡ true → value_at w.dc key ≡ get (plain m.h) key
   read_plain m stands key within =
-      (k.honest.at key (rw (k.whole.0, k.whole.1) refl)).right
-      ∙ value_of-captured log key (captures w.dc.leaf.ab)
-      (all_done (λ n. captures w.dc.leaf.ab n ≡ true) key log (λ n q asks on. k.answered n q asks (answered_there key within n q asks on)))
+      (honest_at w key k).right
+      ∙ value_of-captured log key (captures_at w.dc key)
+      (all_done (λ n. captures_at w.dc key n ≡ true) key log (λ n q asks on.
+      subst (λ (z : Bytes). captures_at w.dc z n ≡ true) on (k.answered n q asks (answered_there key within n q asks on))))
       ∙ sym (plain_is_the_logs (clients w.tc) m key k.tc.legal k.right stands (λ n t q by on uncrossed.
       (answered_there key within n q (op_request t q (record_at log n) by) (sym on), refl, not_undone key n t q within by (sym on))))

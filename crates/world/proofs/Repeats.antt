@@ -4,14 +4,22 @@ use Rattle.std.specs.Prelude.{◌==◌, ◌||◌, nat_le, if◌then◌else◌}
 use Rattle.std.specs.List.{AllByRecursion, list_any}
 use Rattle.std.proofs.lemmas.Bool.Decides.{nat_tests}
 use Rattle.record_key.specs.declared.op.Answer.{Answer}
+use Rattle.record_key.specs.declared.op.Op.{Op}
+use Rattle.record_key.specs.Table.{key_of}
 use Rattle.history.specs.Log.{Requests}
 use Rattle.history.specs.Values.{IsRight}
 use Rattle.record_key.specs.declared.entry.Entry.{Entry}
 use Rattle.ab_lsn.specs.AbLsn.{AbLsnView, captures, saved_in}
 use Rattle.record_key.specs.Entries.{numbers}
+use Rattle.page.specs.Leaf.{LeafView}
 use Rattle.page.specs.Honest.{IsSavedRight}
+use Rattle.btree.specs.Leaves.{leaf_at}
+use Rattle.btree.proofs.AtKey.{all_at}
+use Rattle.dc_core.specs.DcView.{leaves, captures_at}
+use Rattle.tc_core.specs.TcView.{TcView}
 use Rattle.world.specs.Node.{NodeView}
-use Rattle.world.specs.Kept.{IsKept, IsAnswered}
+use Rattle.world.specs.Kept.{IsKept, IsAnsweredTo, IsAnswered}
+use Rattle.world.proofs.AtKeys.{own_leaf}
 
 -- the answer that is saved is one of the entries'
 pub record IsFound (P : Entry → Type 0) (n : ℕ) (a : Answer) : Type 0 where
@@ -47,20 +55,22 @@ unsaved_low v n captured none = pick (nat_le n v.low) refl captured
     pick true below h = grind (arith, nat_tests, below)
     pick false above h = absurd (not_listed n v.entries none h)
 
+-- all is answered up to a number, so up to each that is no greater
+answered_less : (w : TcView) (n l : ℕ) → n ≤ l → IsAnsweredTo w l → IsAnsweredTo w n
+answered_less w n l less h = record { stable = omega (arith, less, h.stable); answered = λ m o below asks. h.answered m o (omega (arith, below, less)) asks }
+
 -- a captured number is answered as it was
-pub repeated : (w : NodeView) (n : ℕ) → IsKept w → captures w.dc.leaf.ab n ≡ true → IsAnswered w.tc.log w.dc.leaf n (saved_in w.dc.leaf.ab.entries n)
-repeated w n k captured = by (saved_in w.dc.leaf.ab.entries n) refl
+pub repeated : (w : NodeView) (n : ℕ) (o : Op) → IsKept w → Requests w.tc.log n o → captures_at w.dc (key_of o) n ≡ true
+    → IsAnswered w.tc w.dc n (saved_in (leaf_at (leaves w.dc) (key_of o)).ab.entries n)
+repeated w n o k requests captured = by (saved_in (leaf_at (leaves w.dc) (key_of o)).ab.entries n) refl
   where
-    by : (a : Option Answer) → saved_in w.dc.leaf.ab.entries n ≡ a → IsAnswered w.tc.log w.dc.leaf n a
-    by None none = unsaved_low w.dc.leaf.ab n captured none
+    by : (a : Option Answer) → saved_in (leaf_at (leaves w.dc) (key_of o)).ab.entries n ≡ a → IsAnswered w.tc w.dc n a
+    by None none =
+        answered_less w.tc n (leaf_at (leaves w.dc) (key_of o)).ab.low (unsaved_low (leaf_at (leaves w.dc) (key_of o)).ab n captured none)
+        (all_at (λ (l : LeafView). IsAnsweredTo w.tc l.ab.low) (leaves w.dc) (key_of o) k.dc.system.leaves k.true_to.low)
     by (Some a) found =
-        let f = saved_found (IsSavedRight w.tc.log) n a w.dc.leaf.ab.entries k.honest.saved found in
-        record {
-          op = f.holds.op;
-          requests = subst (λ (m : ℕ). Requests w.tc.log m f.holds.op) f.number f.holds.requests;
-          right = by_parts f.entry.number f.entry.answer f.number f.answer f.holds.right;
-          captured = captured;
-        }
+        let f = saved_found (IsSavedRight w.tc.log) n a (leaf_at (leaves w.dc) (key_of o)).ab.entries (own_leaf w (key_of o) k).honest.saved found in
+        record { op = o; requests = requests; right = by_parts f.entry.number f.entry.answer f.number f.answer f.holds.right; captured = captured }
       where
         by_parts : (m : ℕ) (b : Answer) → m ≡ n → b ≡ a → IsRight w.tc.log m b → IsRight w.tc.log n a
         by_parts m b same answer right = rw (← same, ← answer) right

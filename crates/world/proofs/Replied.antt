@@ -1,9 +1,8 @@
 -- What the data component replies to what settling sends.
 use Rattle.std.proofs.Common.{◌≡◌, ℕ, Bool, true, false, List, Option, Some, None, refl, sym, ap, ◌∙◌, subst, inl, inr, MatchBool}
-use Rattle.std.specs.FinMap.{get}
 use Rattle.record_key.specs.declared.op.Op.{Op}
 use Rattle.record_key.specs.declared.op.Answer.{Answer}
-use Rattle.record_key.specs.Table.{Bytes, answer_in}
+use Rattle.record_key.specs.Table.{Bytes, key_of, answer_in}
 use Rattle.history.specs.Log.{Requests}
 use Rattle.history.specs.Spans.{rows_in}
 use Rattle.range_locks.specs.declared.span.Span.{Span}
@@ -12,8 +11,11 @@ use Rattle.codec.specs.declared.request.Request.{Request}
 use Rattle.codec.specs.declared.request.Request.TheVariants as asks
 use Rattle.codec.specs.declared.reply.Reply.{Reply}
 use Rattle.codec.specs.declared.reply.Reply.TheVariants as says
-use Rattle.ab_lsn.specs.AbLsn.{captures, saved_in}
-use Rattle.dc_core.specs.DcView.{DcView}
+use Rattle.ab_lsn.specs.AbLsn.{saved_in}
+use Rattle.page.specs.Leaf.{LeafView}
+use Rattle.btree.specs.Leaves.{leaf_at, rows_of}
+use Rattle.btree.proofs.AtKey.{all_at}
+use Rattle.dc_core.specs.DcView.{DcView, leaves, captures_at, value_at}
 use Rattle.dc_core.specs.Serves.{Serves, performs, range}
 use Rattle.tc_core.specs.declared.open_txn.OpenTxn.{OpenTxn}
 use Rattle.tc_core.specs.OpenTxns.{find}
@@ -25,7 +27,7 @@ use Rattle.tc_core.specs.Recovery.{redo_request}
 use Rattle.tc_core.specs.Kept.{IsTc}
 use Rattle.tc_core.proofs.KeepsReads.{reads}
 use Rattle.world.specs.Node.{NodeView}
-use Rattle.world.specs.Kept.{IsKept}
+use Rattle.world.specs.Kept.{IsKept, IsAnsweredTo}
 use Rattle.world.proofs.Repeats.{unsaved_low}
 use Rattle.world.proofs.Exchanges.{HasReply}
 use Rattle.world.proofs.RoundsLeft.{IsSound}
@@ -40,19 +42,20 @@ pub some_reply : (a b : Reply) → Some a ≡ Some b → a ≡ b
 some_reply a b e = cc
 
 pub sound_reply : (w : NodeView) (s n : ℕ) (o : Op) (reply : Reply) (dc : DcView) → IsKept w → Requests w.tc.log n o → Serves w.dc (asks.Perform s n o) (Some reply) dc → IsSoundReply w s n reply
-sound_reply w s n o reply dc k requests h = pick (captures w.dc.leaf.ab n) refl h
+sound_reply w s n o reply dc k requests h = pick (captures_at w.dc (key_of o) n) refl h
   where
-    pick : (b : Bool) → captures w.dc.leaf.ab n ≡ b
-        → MatchBool b ((Some reply ≡ Some (says.Answered s n (saved_in w.dc.leaf.ab.entries n))) × (dc ≡ w.dc))
-        ((Some reply ≡ Some (says.Answered s n (Some (answer_in w.dc.leaf.rows o)))) × (dc ≡ performs w.dc n o)) → IsSoundReply w s n reply
+    pick : (b : Bool) → captures_at w.dc (key_of o) n ≡ b
+        → MatchBool b ((Some reply ≡ Some (says.Answered s n (saved_in (leaf_at (leaves w.dc) (key_of o)).ab.entries n))) × (dc ≡ w.dc))
+        ((Some reply ≡ Some (says.Answered s n (Some (answer_in (leaf_at (leaves w.dc) (key_of o)).rows o)))) × (dc ≡ performs w.dc n o)) → IsSoundReply w s n reply
     pick true captured h = record {
-      answer = saved_in w.dc.leaf.ab.entries n;
-      reply_is = some_reply reply (says.Answered s n (saved_in w.dc.leaf.ab.entries n)) h.0;
-      sound = λ none. k.low.answered n o (unsaved_low w.dc.leaf.ab n captured none) requests;
+      answer = saved_in (leaf_at (leaves w.dc) (key_of o)).ab.entries n;
+      reply_is = some_reply reply (says.Answered s n (saved_in (leaf_at (leaves w.dc) (key_of o)).ab.entries n)) h.0;
+      sound = λ none. (all_at (λ (l : LeafView). IsAnsweredTo w.tc l.ab.low) (leaves w.dc) (key_of o) k.dc.system.leaves k.true_to.low).answered n o
+          (unsaved_low (leaf_at (leaves w.dc) (key_of o)).ab n captured none) requests;
     }
     pick false new h = record {
-      answer = Some (answer_in w.dc.leaf.rows o);
-      reply_is = some_reply reply (says.Answered s n (Some (answer_in w.dc.leaf.rows o))) h.0;
+      answer = Some (answer_in (leaf_at (leaves w.dc) (key_of o)).rows o);
+      reply_is = some_reply reply (says.Answered s n (Some (answer_in (leaf_at (leaves w.dc) (key_of o)).rows o))) h.0;
       sound = λ none. absurd (cc);
     }
 
@@ -62,9 +65,9 @@ IsReadReply s n (Key k) reply = (v : Option Bytes) × (reply ≡ says.Row s n v)
 IsReadReply s n (Range low high) reply = (rows : List (Bytes × Bytes)) × (reply ≡ says.Rows s n rows)
 
 pub read_reply : (s n : ℕ) (q : Span) (old new : DcView) (reply : Reply) → Serves old (read_request s n q) (Some reply) new → IsReadReply s n q reply
-read_reply s n (Key k) old new reply h = let v : Option Bytes = get old.leaf.rows k in (v, some_reply reply (says.Row s n v) h.0)
+read_reply s n (Key k) old new reply h = let v : Option Bytes = value_at old k in (v, some_reply reply (says.Row s n v) h.0)
 read_reply s n (Range low high) old new reply h =
-    let rows : List (Bytes × Bytes) = rows_in (range low high) old.leaf.rows in (rows, some_reply reply (says.Rows s n rows) h.0)
+    let rows : List (Bytes × Bytes) = rows_in (range low high) (rows_of (leaves old)) in (rows, some_reply reply (says.Rows s n rows) h.0)
 
 pub read_session : (s n : ℕ) (q : Span) (reply : Reply) → IsReadReply s n q reply → session_of reply ≡ s
 read_session s n (Key k) reply h = ap session_of h.1
@@ -88,20 +91,20 @@ redo_end_replied : (s : ℕ) → HasReply (asks.RedoEnd s)
 redo_end_replied s old new h = let e : None ≡ Some (says.RedoEnded s) = h.0 in cc
 
 pub perform_replied : (s n : ℕ) (o : Op) → HasReply (asks.Perform s n o)
-perform_replied s n o old new h = pick (captures old.leaf.ab n) h
+perform_replied s n o old new h = pick (captures_at old (key_of o) n) h
   where
-    pick : (b : Bool) → MatchBool b ((None ≡ Some (says.Answered s n (saved_in old.leaf.ab.entries n))) × (new ≡ old))
-        ((None ≡ Some (says.Answered s n (Some (answer_in old.leaf.rows o)))) × (new ≡ performs old n o)) → ⊥
-    pick true h = let e : None ≡ Some (says.Answered s n (saved_in old.leaf.ab.entries n)) = h.0 in cc
-    pick false h = let e : None ≡ Some (says.Answered s n (Some (answer_in old.leaf.rows o))) = h.0 in cc
+    pick : (b : Bool) → MatchBool b ((None ≡ Some (says.Answered s n (saved_in (leaf_at (leaves old) (key_of o)).ab.entries n))) × (new ≡ old))
+        ((None ≡ Some (says.Answered s n (Some (answer_in (leaf_at (leaves old) (key_of o)).rows o)))) × (new ≡ performs old n o)) → ⊥
+    pick true h = let e : None ≡ Some (says.Answered s n (saved_in (leaf_at (leaves old) (key_of o)).ab.entries n)) = h.0 in cc
+    pick false h = let e : None ≡ Some (says.Answered s n (Some (answer_in (leaf_at (leaves old) (key_of o)).rows o))) = h.0 in cc
 
 pub redo_replied : (s : ℕ) (found : Option (ℕ × Op)) → HasReply (redo_request s found)
 redo_replied s None = redo_end_replied s
 redo_replied s (Some x) = perform_replied s x.0 x.1
 
 pub read_replied : (s n : ℕ) (q : Span) → HasReply (read_request s n q)
-read_replied s n (Key k) old new h = let e : None ≡ Some (says.Row s n (get old.leaf.rows k)) = h.0 in cc
-read_replied s n (Range low high) old new h = let e : None ≡ Some (says.Rows s n (rows_in (range low high) old.leaf.rows)) = h.0 in cc
+read_replied s n (Key k) old new h = let e : None ≡ Some (says.Row s n (value_at old k)) = h.0 in cc
+read_replied s n (Range low high) old new h = let e : None ≡ Some (says.Rows s n (rows_in (range low high) (rows_of (leaves old)))) = h.0 in cc
 
 pub request_replied : (w : TcView) (t : ℕ) (q : Request) → IsRequestOf w t q → HasReply q
 request_replied w t q (inl r) = let P : Request → Type 0 = HasReply in subst P (sym r.is) (perform_replied w.session r.number r.op)

@@ -11,7 +11,7 @@ use Rattle.simulation.specs.View.{StandsFor}
 use Rattle.codec.specs.declared.reply.Reply.{Reply}
 use Rattle.codec.specs.declared.reply.Reply.TheVariants as says
 use Rattle.codec.specs.Replies.{has_rows}
-use Rattle.record_key.specs.Table.{Bytes}
+use Rattle.record_key.specs.Table.{Bytes, key_of}
 use Rattle.range_locks.specs.declared.span.Span.{Span}
 use Rattle.range_locks.specs.declared.span.Span.TheVariants.{Key, Range}
 use Rattle.dc_core.specs.DcView.{DcView}
@@ -40,7 +40,7 @@ use Rattle.world.proofs.CallsKeep.{reply_keeps}
 use Rattle.world.proofs.Awaited.{comp_waited, reads_nothing}
 use Rattle.world.proofs.Standing.{stands_answered, stands_undone}
 use Rattle.world.proofs.ToldReads.{tells_row, tells_rows}
-use Rattle.world.proofs.Grows.{captured_stable}
+use Rattle.world.proofs.AtKeys.{captured_stable}
 use Rattle.world.proofs.Readers.{none_same, none_replaced, reads_same, reads_none}
 use Rattle.world.proofs.Keeps.{answer_captured, keeps_appended, keeps_same_log}
 use Rattle.world.proofs.Follows.{Follows, at_new, no_line, one_line, unchanged, left_refused, kept_left, stands_left}
@@ -70,16 +70,16 @@ passes w n k after =
     (record { runs = k.sessions.runs; begun = k.sessions.begun; served = served_next w.tc.phase n w.tc.session w.dc k.sessions.served })
 
 -- the answer that is waited for
-answers : (w : NodeView) (o : OpenTxn) (n : ℕ) (a : Answer) → IsKept w → find o.txn w.tc.open_txns ≡ Some o → IsTc (passed (answered w.tc o n a) n) → IsAnswerOf w.tc.log w.dc.leaf n a
+answers : (w : NodeView) (o : OpenTxn) (n : ℕ) (a : Answer) → IsKept w → find o.txn w.tc.open_txns ≡ Some o → IsTc (passed (answered w.tc o n a) n) → IsAnswerOf w.tc.log w.dc n a
     → IsKept (with_tc w (passed (answered w.tc o n a) n))
 answers w o n a k at after given =
     keeps_appended w (passed (answered w.tc o n a) n) (is.Answer n a) k after refl (omega arith) (omega arith) (omega arith)
     (none_replaced w.tc.reads w.tc.open_txns o (answered_txn o) at (reads_same w.tc.reads o (answered_txn o) refl))
     (record { runs = k.sessions.runs; begun = k.sessions.begun; served = served_next w.tc.phase n w.tc.session w.dc k.sessions.served })
-    (given.right, k.right) (answer_captured w n a k given.captured)
+    (given.right, k.right) (answer_captured w n a k given)
 
 -- is told to its client, or is that of a compensation
-tells : (w : NodeView) (i : ℕ) (o : OpenTxn) (n : ℕ) (a : Answer) → IsKept w → find o.txn w.tc.open_txns ≡ Some o → o.waiting ≡ Some n → IsAnswerOf w.tc.log w.dc.leaf n a
+tells : (w : NodeView) (i : ℕ) (o : OpenTxn) (n : ℕ) (a : Answer) → IsKept w → find o.txn w.tc.open_txns ≡ Some o → o.waiting ≡ Some n → IsAnswerOf w.tc.log w.dc n a
     → IsTc (passed (answered w.tc o n a) n) → (x : Option Rollback) → o.rolling ≡ x
     → Leads w (event.Reply i) (as_out (if is_some x then told.Undone n else told.Answered o.txn a)) (with_tc w (passed (answered w.tc o n a) n))
 tells w i o n a k at waiting given after (Some r) rolling =
@@ -88,16 +88,16 @@ tells w i o n a k at waiting given after (Some r) rolling =
     (comp_waited w.tc.log o n (ap is_some rolling) (waits_at w.tc.log o n (open_at w.tc o k.tc at) waiting).request))
 tells w i o n a k at waiting given after None flat =
     one_line w (with_tc w (passed (answered w.tc o n a) n)) (event.Reply i) (out.Answered o.txn a) (TellsAnswer o.txn a) refl (λ m stands.
-    stands_answered w.tc m o k.tc at stands n a flat (reads_nothing w.tc o n k.tc at waiting) waiting after.legal (given.right, k.right) (captured_stable w n k given.captured))
+    stands_answered w.tc m o k.tc at stands n a flat (reads_nothing w.tc o n k.tc at waiting) waiting after.legal (given.right, k.right) (captured_stable w (key_of given.op) n k given.captured))
 
-awaited_goes : (w : NodeView) (i n : ℕ) (a : Option Answer) (x : Option OpenTxn) → IsKept w → awaiting w.tc n ≡ x → IsAnswered w.tc.log w.dc.leaf n a → Goes w i (on_awaited w.tc n a x)
+awaited_goes : (w : NodeView) (i n : ℕ) (a : Option Answer) (x : Option OpenTxn) → IsKept w → awaiting w.tc n ≡ x → IsAnswered w.tc w.dc n a → Goes w i (on_awaited w.tc n a x)
 awaited_goes w i n a None k none given after = quietly w i (told.Nothing, passed w.tc n) refl (λ m stands. stands) (passes w n k after)
 awaited_goes w i n None (Some o) k some given after = nothing w i k after
 awaited_goes w i n (Some a) (Some o) k some given after =
     let at = awaited_is w.tc n o some in
     record { leads = tells w i o n a k at.0 at.1 given after o.rolling refl; kept = answers w o n a k at.0 after given }
 
-answered_goes : (w : NodeView) (i n : ℕ) (a : Option Answer) → IsKept w → IsAnswered w.tc.log w.dc.leaf n a → Goes w i (on_answered w.tc n a)
+answered_goes : (w : NodeView) (i n : ℕ) (a : Option Answer) → IsKept w → IsAnswered w.tc w.dc n a → Goes w i (on_answered w.tc n a)
 answered_goes w i n a k given = pick (takes w.tc.session w.tc.phase n) refl
   where
     pick : (b : Bool) → takes w.tc.session w.tc.phase n ≡ b → Goes w i (if b then on_awaited w.tc n a (awaiting w.tc n) else (told.Nothing, w.tc))
@@ -231,6 +231,9 @@ follows_reply old new i (out.Answered t a) k h = taken old new i (out.Answered t
 follows_reply old new i (out.Asked n) k h = taken old new i (out.Asked n) k h
 follows_reply old new i (out.Row t v) k h = taken old new i (out.Row t v) k h
 follows_reply old new i (out.Rows t rows) k h = taken old new i (out.Rows t rows) k h
+follows_reply old new i (out.Split pair) k h = taken old new i (out.Split pair) k h
+follows_reply old new i (out.Merged pair) k h = taken old new i (out.Merged pair) k h
+follows_reply old new i (out.Flushed id) k h = taken old new i (out.Flushed id) k h
 follows_reply old new i (out.Undone n) k h = taken old new i (out.Undone n) k h
 follows_reply old new i out.RollingBack k h = taken old new i out.RollingBack k h
 follows_reply old new i out.Nothing k h = taken old new i out.Nothing k h

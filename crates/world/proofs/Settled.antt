@@ -21,7 +21,9 @@ use Rattle.log_laws.proofs.LegalLogs.{answered_push, request_number}
 use Rattle.log_laws.proofs.Named.{unanswered_uncrossed}
 use Rattle.log_laws.proofs.Strict.{one_at_a_time}
 use Rattle.log_laws.proofs.Plain.{value_of-captured}
-use Rattle.ab_lsn.specs.AbLsn.{captures}
+use Rattle.btree.specs.Leaves.{rows_of}
+use Rattle.btree.proofs.Together.{one_table}
+use Rattle.dc_core.specs.DcView.{leaves, captures_at}
 use Rattle.page.proofs.OnKey.{all_done, newest_done, on_key, key_on}
 use Rattle.tc_core.specs.declared.open_txn.OpenTxn.{OpenTxn}
 use Rattle.tc_core.specs.declared.phase.Phase.{Phase}
@@ -38,8 +40,7 @@ use Rattle.simulation.proofs.Answering.{plain_uncrossed}
 use Rattle.world.proofs.Awaited.{IsOpOf, op_waited}
 use Rattle.world.proofs.Idle.{none_rolls}
 use Rattle.world.proofs.Reading.{flat_undoes_none}
-use Rattle.world.proofs.Grows.{captured_stable}
-use Rattle.dc_core.proofs.KeepsDc.{in_fences}
+use Rattle.world.proofs.AtKeys.{honest_at, captured_stable}
 use Rattle.world.proofs.PlainAt.{plain_at}
 use Rattle.world.proofs.Waited.{IsAwaited, answered_or}
 
@@ -98,7 +99,7 @@ module _ (w : NodeView) (k : IsKept w) (x : OpenTxn) (n : ℕ) (o : Op) (at : fi
   log = w.tc.log
 
   abbrev cap : ℕ → Bool
-  cap = captures w.dc.leaf.ab
+  cap = captures_at w.dc (key_of o)
 
   abbrev older : List Done
   older = done_on (key_of o) (before log n)
@@ -111,7 +112,7 @@ module _ (w : NodeView) (k : IsKept w) (x : OpenTxn) (n : ℕ) (o : Op) (at : fi
 
   uncaptured : cap n ≡ false
   uncaptured = elim (cases_Bool (cap n)) [
-    | inl h ↦ absurd (omega (arith, captured_stable w n k h, unstable))
+    | inl h ↦ absurd (omega (arith, captured_stable w (key_of o) n k h, unstable))
     | inr h ↦ h
   ]
 
@@ -127,7 +128,7 @@ module _ (w : NodeView) (k : IsKept w) (x : OpenTxn) (n : ℕ) (o : Op) (at : fi
       let number : IsNumber log n = request_number log n o requests in
       let below : m < n = omega (arith, (request_number (before log n) m q asks).bounded, length_before log n number) in
       let there : Requests log m q = subst (λ r. request_in r ≡ Some q) (record_before log m n number below) asks in
-      k.answered m q there (answered_since m (one_at_a_time log k.tc.legal m n q o there below requests (sym same))))
+      subst (λ (key : Bytes). captures_at w.dc key m ≡ true) same (k.answered m q there (answered_since m (one_at_a_time log k.tc.legal m n q o there below requests (sym same)))))
 
   pub waiting_value : value_of cap (done_on (key_of o) log) ≡ get (plain (hist log)) (key_of o)
   waiting_value =
@@ -136,9 +137,10 @@ module _ (w : NodeView) (k : IsKept w) (x : OpenTxn) (n : ℕ) (o : Op) (at : fi
       ∙ sym (plain_there log n x.txn o k.tc.legal k.right (open_at w.tc x k.tc at).is by unanswered (unanswered_uncrossed log n k.tc.legal (ap is_some unanswered)))
 
 -- so at each key
-value_at : (w : NodeView) → IsKept w → IsSettled w → (key : Bytes) → value_of (captures w.dc.leaf.ab) (done_on key w.tc.log) ≡ get (plain (hist w.tc.log)) key
-value_at w k settled key = elim (answered_all w.tc.log w.tc.log key) [
-  | inl each ↦ plain_at w.tc.log key (captures w.dc.leaf.ab) k.tc.legal k.right each (λ n o asks on. k.answered n o asks (each n o asks on))
+settled_value : (w : NodeView) → IsKept w → IsSettled w → (key : Bytes) → value_of (captures_at w.dc key) (done_on key w.tc.log) ≡ get (plain (hist w.tc.log)) key
+settled_value w k settled key = elim (answered_all w.tc.log w.tc.log key) [
+  | inl each ↦ plain_at w.tc.log key (captures_at w.dc key) k.tc.legal k.right each
+      (λ n o asks on. subst (λ (q : Bytes). captures_at w.dc q n ≡ true) on (k.answered n o asks (each n o asks on)))
   | inr u ↦ elim (answered_or w.tc u.number u.op k.tc u.requests) [
     | inl some ↦ absurd (true≢false (sym some ∙ ap is_some u.unanswered))
     | inr a ↦
@@ -152,7 +154,7 @@ value_at w k settled key = elim (answered_all w.tc.log w.tc.log key) [
           | inl less ↦ less
           | inr most ↦ absurd (true≢false (sym (settled.answered u.number u.op most u.requests) ∙ ap is_some u.unanswered))
         ] in
-        subst (λ q. value_of (captures w.dc.leaf.ab) (done_on q w.tc.log) ≡ get (plain (hist w.tc.log)) q) (ap key_of same ∙ u.on)
+        subst (λ q. value_of (captures_at w.dc q) (done_on q w.tc.log) ≡ get (plain (hist w.tc.log)) q) (ap key_of same ∙ u.on)
         (waiting_value w k x u.number found.op a.is found.is a.waiting unstable)
   ]
 ]
@@ -169,9 +171,9 @@ calm w unrolled = record { stays = λ t. refl; unrolled = λ t n. by t n (find t
     by t n (Some o) some = ap (λ y. is_to_undo (doing_in y) n) some ∙ flat_undoes_none o n (flat o (sym (ap is_rolling some) ∙ unrolled t))
 
 -- a settled node holds what a plain map holds after the operations that stand
-pub settled_rows : (w : NodeView) (m : Machine) → IsKept w → Stands w m → IsSettled w → w.dc.leaf.rows ≡ plain m.h
+pub settled_rows : (w : NodeView) (m : Machine) → IsKept w → Stands w m → IsSettled w → rows_of (leaves w.dc) ≡ plain m.h
 settled_rows w m k stands settled =
-    same_table w.dc.leaf.rows (plain (hist w.tc.log)) (λ q. (k.honest.at q (in_fences w.dc.leaf q k.whole.0 k.whole.1)).right ∙ value_at w k settled q)
+    same_table (rows_of (leaves w.dc)) (plain (hist w.tc.log)) (λ q. (one_table (leaves w.dc) k.dc.system.leaves).value q ∙ (honest_at w q k).right ∙ settled_value w k settled q)
     ∙ sym (sym (plain_uncrossed m.h) ∙ ap plain (calm_entries (clients w.tc) m stands (calm w settled.unrolled)) ∙ plain_uncrossed (hist w.tc.log))
 
 -- nothing is left to do

@@ -5,7 +5,11 @@ use Rattle.std.proofs.lemmas.Bool.Decides.{nat_tests}
 use Rattle.record_key.specs.declared.op.Op.{Op}
 use Rattle.record_key.specs.declared.refusal.Refusal.{Refusal}
 use Rattle.record_key.specs.declared.refusal.Refusal.TheVariants.{Stale, NumbersSpent}
-use Rattle.record_key.specs.FirstCause.{first_of, RefusesAs}
+use Rattle.record_key.specs.FirstCause.{first_of, RefusesAs, MayRefuse}
+use Rattle.page.specs.Leaf.{LeafView}
+use Rattle.system_txn.specs.SystemView.{SystemView}
+use Rattle.system_txn.specs.Changes.{lowered, written_to}
+use Rattle.system_txn.specs.Gives.{StopsAmong}
 use Rattle.tc_core.specs.Refusing.{Refuses}
 use Rattle.range_locks.specs.declared.span.Span.{Span}
 use Rattle.range_locks.specs.declared.span.Span.TheVariants.{Key, Range}
@@ -14,11 +18,12 @@ use Rattle.codec.specs.declared.request.Request.TheVariants as asks
 use Rattle.codec.specs.declared.reply.Reply.{Reply}
 use Rattle.codec.specs.declared.reply.Reply.TheVariants as says
 use Rattle.dc_core.specs.DcView.{DcView}
-use Rattle.dc_core.specs.Serves.{session_refusal, after_redo_refusal, connect_refusal, serve_refusal, runs}
+use Rattle.dc_core.specs.Serves.{session_refusal, after_redo_refusal, connect_refusal, serve_refusal, runs, Stops as StopsServing, StopsUnless}
 use Rattle.tc_core.specs.declared.open_txn.OpenTxn.{OpenTxn}
 use Rattle.tc_core.specs.declared.phase.Phase.{Phase}
 use Rattle.tc_core.specs.declared.phase.Phase.TheVariants as phase
-use Rattle.logical_log.specs.LogView.{is_spent}
+use Rattle.logical_log.specs.LogView.{is_spent as log_is_spent}
+use Rattle.system_txn.specs.Gives.{is_spent}
 use Rattle.tc_core.specs.TcView.{TcView, is_recovering, is_waiting, waits}
 use Rattle.tc_core.specs.Causes.{resend_refusal, undo_refusal, undo_logs}
 use Rattle.tc_core.specs.OpenTxns.{find}
@@ -66,7 +71,7 @@ reply_want : (w : TcView) (reply : Reply) (r : Refusal) (new : TcView) → sessi
 reply_want w reply r new same some h =
     let a : (w.session == 0) ≡ false = ne_eqb w.session 0 (λ e. omega (arith, e, some)) in
     let b : (session_of reply == w.session) ≡ true = eq-eqb (session_of reply) w.session same in
-    fresh (w.session == 0) (session_of reply == w.session) (logs w reply && is_spent w.log) a b h
+    fresh (w.session == 0) (session_of reply == w.session) (logs w reply && log_is_spent w.log) a b h
   where
     fresh : (a b c : Bool) → a ≡ false → b ≡ true → Refuses (first_of ((a || not b, Stale) ∷ (c, NumbersSpent) ∷ [])) (takes_memory w reply) (logs w reply) w r new → IsWant r
     fresh true b c e f h = absurd (true≢false e)
@@ -80,21 +85,56 @@ serves_session dc s same some =
     let a : (dc.session == 0) ≡ false = ne_eqb dc.session 0 (λ e. omega (arith, e, some, same)) in
     let b : (dc.session == s) ≡ true = eq-eqb dc.session s same in rw (a, b) refl
 
-connects : (dc : DcView) (s : ℕ) → dc.stored < s → connect_refusal dc s ≡ None
-connects dc s less =
-    let greater : nat_lt dc.stored s ≡ true = grind (arith, nat_tests, less) in either (runs dc s) (nat_lt dc.stored s) greater
+-- a later session's Connect is refused for want of a number alone
+connect_causes : (P : Option Refusal → Type 0) (dc : DcView) (s : ℕ) → dc.stored < s → P None → P (Some NumbersSpent) → P (connect_refusal dc s)
+connect_causes P dc s less none spent =
+    let greater : nat_lt dc.stored s ≡ true = grind (arith, nat_tests, less) in by (runs dc s) (nat_lt dc.stored s) (is_spent (length dc.system.log)) greater
   where
-    either : (a b : Bool) → b ≡ true → first_of ((not a && not b, Stale) ∷ []) ≡ None
-    either true b e = refl
-    either false true e = refl
-    either false false e = absurd (true≢false (sym e))
+    by : (a b c : Bool) → b ≡ true → P (first_of ((not a && not b, Stale) ∷ (not a && c, NumbersSpent) ∷ []))
+    by true b c e = none
+    by false true true e = spent
+    by false true false e = none
+    by false false c e = absurd (true≢false (sym e))
+
+-- what stops an allowed request
+may_want : (b : Bool) (r : Refusal) → MayRefuse (first_of ((b, NumbersSpent) ∷ [])) r → IsWant r
+may_want true r h = inr (inl h)
+may_want false r (inl h) = inl h
+may_want false r (inr h) = inr (inr h)
+
+writing_want : (v : SystemView) (leaves : List LeafView) (r : Refusal) (new : SystemView) → StopsAmong v leaves r new → IsWant r
+writing_want v [] r new h = absurd h
+writing_want v (leaf ∷ leaves) r new (inl h) = may_want false r h.0
+writing_want v (leaf ∷ leaves) r new (inr h) = writing_want (written_to v leaf) leaves r new h.1
+
+stopped_want : (dc : DcView) (q : Request) (r : Refusal) (new : DcView) → StopsServing dc q r new → IsWant r
+stopped_want dc (asks.Connect s) r new h = may_want (is_spent (length dc.system.log)) r h.1.0
+stopped_want dc (asks.Perform s n o) r new h = inl h.1.0
+stopped_want dc (asks.Get s n k) r new h = absurd h
+stopped_want dc (asks.Scan s n low high) r new h = inl h.0
+stopped_want dc (asks.LowWater s l) r new h = absurd h
+stopped_want dc (asks.Checkpoint s l) r new h = elim h.0 [
+  | inl memory ↦ inl memory.0
+  | inr later ↦ writing_want (lowered dc.system l) (lowered dc.system l).leaves r new.system later
+]
+stopped_want dc (asks.RedoEnd s) r new h = absurd h
+
+unserved_want : (x : Option Refusal) (dc : DcView) (q : Request) (r : Refusal) (new : DcView) → x ≡ None → StopsUnless x dc q r new → IsWant r
+unserved_want None dc q r new e h = stopped_want dc q r new h
+unserved_want (Some cause) dc q r new e h = absurd (cc)
 
 -- after a request was sent
+later_session : (w : NodeView) → IsKept w → w.dc.stored < length w.tc.log + 1
+later_session w k = omega (arith, k.sessions.begun, k.tc.session, k.tc.within)
+
 stops_connect : (w : NodeView) (r : Refusal) → IsKept w → Stops w (reconnected w.tc) (asks.Connect (length w.tc.log + 1)) r → IsWant r
 stops_connect w r k (inl h) = inl h
 stops_connect w r k (inr (inl h)) =
-    no_room (connect_refusal w.dc (length w.tc.log + 1)) true r (connects w.dc (length w.tc.log + 1) (omega (arith, k.sessions.begun, k.tc.session, k.tc.within))) h
-stops_connect w r k (inr (inr h)) =
+    connect_causes (λ x. LacksRoom x true r → IsWant r) w.dc (length w.tc.log + 1) (later_session w k) (λ room. inl room.1) (λ spent. inr (inl spent)) h
+stops_connect w r k (inr (inr (inl h))) =
+    connect_causes (λ x. StopsUnless x w.dc (asks.Connect (length w.tc.log + 1)) r h.0 → IsWant r) w.dc (length w.tc.log + 1) (later_session w k)
+    (stopped_want w.dc (asks.Connect (length w.tc.log + 1)) r h.0) (λ spent. inr (inl spent.0)) h.1
+stops_connect w r k (inr (inr (inr h))) =
     let reply : h.1 ≡ says.Connected (length w.tc.log + 1) = some_reply h.1 (says.Connected (length w.tc.log + 1)) h.3.0 in
     reply_want (reconnected w.tc) h.1 r h.2 (ap session_of reply) (omega arith) h.4
 
@@ -102,7 +142,9 @@ stops_perform : (w : NodeView) (tc : TcView) (n : ℕ) (o : Op) (r : Refusal) �
     → Requests w.tc.log n o → Stops w tc (asks.Perform w.tc.session n o) r → IsWant r
 stops_perform w tc n o r k session same some requests (inl h) = inl h
 stops_perform w tc n o r k session same some requests (inr (inl h)) = no_room (session_refusal w.dc w.tc.session) true r (serves_session w.dc w.tc.session same some) h
-stops_perform w tc n o r k session same some requests (inr (inr h)) =
+stops_perform w tc n o r k session same some requests (inr (inr (inl h))) =
+    unserved_want (session_refusal w.dc w.tc.session) w.dc (asks.Perform w.tc.session n o) r h.0 (serves_session w.dc w.tc.session same some) h.1
+stops_perform w tc n o r k session same some requests (inr (inr (inr h))) =
     let sound = sound_reply w w.tc.session n o h.1 h.0 k requests h.3 in
     reply_want tc h.1 r h.2 (ap session_of sound.reply_is ∙ sym session) (omega (arith, some, session)) h.4
 
@@ -110,7 +152,9 @@ stops_redo_end : (w : NodeView) (tc : TcView) (r : Refusal) → tc.session ≡ w
     → Stops w tc (asks.RedoEnd w.tc.session) r → IsWant r
 stops_redo_end w tc r session same some (inl h) = inl h
 stops_redo_end w tc r session same some (inr (inl h)) = no_room (session_refusal w.dc w.tc.session) true r (serves_session w.dc w.tc.session same some) h
-stops_redo_end w tc r session same some (inr (inr h)) =
+stops_redo_end w tc r session same some (inr (inr (inl h))) =
+    unserved_want (session_refusal w.dc w.tc.session) w.dc (asks.RedoEnd w.tc.session) r h.0 (serves_session w.dc w.tc.session same some) h.1
+stops_redo_end w tc r session same some (inr (inr (inr h))) =
     let reply : h.1 ≡ says.RedoEnded w.tc.session = some_reply h.1 (says.RedoEnded w.tc.session) h.3.0 in
     reply_want tc h.1 r h.2 (ap session_of reply ∙ sym session) (omega (arith, some, session)) h.4
 
@@ -125,13 +169,19 @@ serves_read dc s n q same some done = by q
     by (Key k) = either
     by (Range low high) = either
 
+read_allowed : (w : NodeView) (n : ℕ) (q : Span) → IsKept w → IsServing w → 0 < w.tc.session → serve_refusal w.dc (read_request w.tc.session n q) ≡ None
+read_allowed w n q k serving some =
+    let P : Phase → Type 0 = λ p. IsServed p w.tc.session w.dc in
+    let served = subst P serving.running k.sessions.served in
+    serves_read w.dc w.tc.session n q serving.session some served.1
+
 stops_read : (w : NodeView) (n : ℕ) (q : Span) (r : Refusal) → IsKept w → IsServing w → 0 < w.tc.session → Stops w w.tc (read_request w.tc.session n q) r → IsWant r
 stops_read w n q r k serving some (inl h) = inl h
 stops_read w n q r k serving some (inr (inl h)) =
-    let P : Phase → Type 0 = λ p. IsServed p w.tc.session w.dc in
-    let served = subst P serving.running k.sessions.served in
-    no_room (serve_refusal w.dc (read_request w.tc.session n q)) (is_replied_to (read_request w.tc.session n q)) r (serves_read w.dc w.tc.session n q serving.session some served.1) h
-stops_read w n q r k serving some (inr (inr h)) =
+    no_room (serve_refusal w.dc (read_request w.tc.session n q)) (is_replied_to (read_request w.tc.session n q)) r (read_allowed w n q k serving some) h
+stops_read w n q r k serving some (inr (inr (inl h))) =
+    unserved_want (serve_refusal w.dc (read_request w.tc.session n q)) w.dc (read_request w.tc.session n q) r h.0 (read_allowed w n q k serving some) h.1
+stops_read w n q r k serving some (inr (inr (inr h))) =
     reply_want w.tc h.1 r h.2 (read_session w.tc.session n q h.1 (read_reply w.tc.session n q w.dc h.0 h.1 h.3)) some h.4
 
 -- each round
@@ -200,11 +250,11 @@ undo_want w t r new running rolls h =
     let o : OpenTxn = rolls.open_txn in
     let none : waits o ≡ false = sym (ap is_waiting rolls.is) ∙ rolls.idle t in
     let logged : Bool = undo_logs (find t w.open_txns) in
-    let same : undo_refusal w t ≡ first_of ((logged && is_spent w.log, NumbersSpent) ∷ []) = rw (running, rolls.is, none) refl in
-    spent_want (logged && is_spent w.log) logged logged w r new (subst (λ x. Refuses x logged logged w r new) same h)
+    let same : undo_refusal w t ≡ first_of ((logged && log_is_spent w.log, NumbersSpent) ∷ []) = rw (running, rolls.is, none) refl in
+    spent_want (logged && log_is_spent w.log) logged logged w r new (subst (λ x. Refuses x logged logged w r new) same h)
 
 reconnect_want : (w : TcView) (r : Refusal) (new : TcView) → ReconnectGives w (Err r) new → IsWant r
-reconnect_want w r new (inl h) = spent_want (is_spent w.log) true true w r new h
+reconnect_want w r new (inl h) = spent_want (log_is_spent w.log) true true w r new h
 reconnect_want w r new (inr h) = inr (inr h.1)
 
 pub wants : (old new : NodeView) (round : Round) (outs : List Out) (r : Refusal) → IsKept old → IsNext old round → StopsAt old (events_of old round) outs r new → IsWant r

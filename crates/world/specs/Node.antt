@@ -2,6 +2,7 @@
 -- side, and the messages that they send and take.
 use Rattle.std.specs.Prelude.{◌≡◌, ◌⊎◌, ℕ, ◌+◌, Bool, true, false, List, [], ◌∷◌, ◌++◌, Option, Some, None, Result, Ok, Err, length}
 use Rattle.record_key.specs.declared.op.Op.{Op}
+use Rattle.record_key.specs.Table.{Bytes}
 use Rattle.record_key.specs.declared.refusal.Refusal.{Refusal}
 use Rattle.record_key.specs.declared.refusal.Refusal.TheVariants.{NoMemory, Unsent}
 use Rattle.record_key.specs.FirstCause.{RefusesAs}
@@ -12,7 +13,9 @@ use Rattle.codec.specs.declared.request.Request.TheVariants as asks
 use Rattle.codec.specs.declared.reply.Reply.{Reply}
 use Rattle.codec.specs.Replies.{has_rows}
 use Rattle.dc_core.specs.DcView.{DcView, fresh as fresh_dc}
-use Rattle.dc_core.specs.Serves.{Serves, serve_refusal}
+use Rattle.dc_core.specs.Serves.{ServeGives, serve_refusal}
+use Rattle.dc_core.specs.Tends.{SplitsTo, MergesTo, TendsTo, FlushesTo}
+use Rattle.system_txn.specs.declared.tended.Tended.TheVariants as tended
 use Rattle.tc_core.specs.declared.told.Told.{Told}
 use Rattle.tc_core.specs.declared.told.Told.TheVariants as told
 use Rattle.tc_core.specs.declared.told.UndoStep.TheVariants as undo
@@ -39,7 +42,7 @@ pub record NodeView : Type 0 where
 
 -- nothing is logged, stored or sent
 abbrev pub fresh_node : NodeView
-fresh_node = record { tc = fresh 0; dc = fresh_dc; requests = []; replies = [] }
+fresh_node = record { tc = fresh 0; dc = fresh_dc 0; requests = []; replies = [] }
 
 abbrev pub out_of : Result Out Refusal → Out
 out_of (Ok o) = o
@@ -48,6 +51,10 @@ out_of (Err r) = out.Refused r
 -- the transaction component is in this state; the rest stays
 abbrev pub with_tc : NodeView → TcView → NodeView
 with_tc w tc = record w { tc = tc }
+
+-- the same of the data component
+abbrev pub with_dc : NodeView → DcView → NodeView
+with_dc w dc = record w { dc = dc }
 
 -- a call of the transaction component that sends nothing: its contract, and nothing else changes
 abbrev pub Calls : (TcView → Type 0) → NodeView → NodeView → Type 0
@@ -145,25 +152,51 @@ is_replied_to (asks.LowWater s l) = false
 is_replied_to _ = true
 
 -- the request of this number reaches the data component
-pub record Served (old : NodeView) (i : ℕ) (reply : Option Reply) (dc : DcView) : Type 0 where
+pub record Served (old : NodeView) (i : ℕ) (given : Result (Option Reply) Refusal) (dc : DcView) : Type 0 where
   pub request : Request
   pub found : message_at old.requests i ≡ Some request
-  pub allowed : serve_refusal old.dc request ≡ None
-  pub served : Serves old.dc request reply dc
+  pub gives : ServeGives old.dc request given dc
 
--- it is refused; only one that is replied to wants memory
-pub record Unserved (old : NodeView) (i : ℕ) (r : Refusal) : Type 0 where
+-- room for its reply is refused, after the request's own causes
+pub record Unreplied (old : NodeView) (i : ℕ) (r : Refusal) : Type 0 where
   pub request : Request
   pub found : message_at old.requests i ≡ Some request
   pub refused : LacksRoom (serve_refusal old.dc request) (is_replied_to request) r
 
 abbrev pub ServesTo : NodeView → ℕ → Out → NodeView → Type 0
 ServesTo old i (out.Replied j) new =
-    (reply : Reply) × Served old i (Some reply) new.dc × (j ≡ length old.replies + 1)
+    (reply : Reply) × Served old i (Ok (Some reply)) new.dc × (j ≡ length old.replies + 1)
     × (new ≡ record old { dc = new.dc; replies = old.replies ++ reply ∷ [] })
-ServesTo old i out.Noted new = Served old i None new.dc × (new ≡ record old { dc = new.dc })
-ServesTo old i (out.Refused r) new = (IsUnsent old.requests i r ⊎ Unserved old i r) × (new ≡ old)
+ServesTo old i out.Noted new = Served old i (Ok None) new.dc × (new ≡ with_dc old new.dc)
+ServesTo old i (out.Refused r) new =
+    ((IsUnsent old.requests i r ⊎ Unreplied old i r) × (new ≡ old)) ⊎ (Served old i (Err r) new.dc × (new ≡ with_dc old new.dc))
 ServesTo old i _ new = ⊥
+
+-- a call of the data component
+abbrev pub CallsDc : (DcView → Type 0) → NodeView → NodeView → Type 0
+CallsDc Gives old new = Gives new.dc × (new ≡ with_dc old new.dc)
+
+abbrev pub PartsTo : NodeView → Bytes → Out → NodeView → Type 0
+PartsTo old k (out.Split pair) new = CallsDc (SplitsTo old.dc k (Ok pair)) old new
+PartsTo old k (out.Refused r) new = CallsDc (SplitsTo old.dc k (Err r)) old new
+PartsTo old k _ new = ⊥
+
+abbrev pub JoinsTo : NodeView → Bytes → Out → NodeView → Type 0
+JoinsTo old k (out.Merged pair) new = CallsDc (MergesTo old.dc k (Ok pair)) old new
+JoinsTo old k (out.Refused r) new = CallsDc (MergesTo old.dc k (Err r)) old new
+JoinsTo old k _ new = ⊥
+
+abbrev pub KeepsUpTo : NodeView → Out → NodeView → Type 0
+KeepsUpTo old (out.Split pair) new = CallsDc (TendsTo old.dc (Ok (tended.Split pair))) old new
+KeepsUpTo old (out.Merged pair) new = CallsDc (TendsTo old.dc (Ok (tended.Merged pair))) old new
+KeepsUpTo old out.Nothing new = CallsDc (TendsTo old.dc (Ok tended.Nothing)) old new
+KeepsUpTo old (out.Refused r) new = CallsDc (TendsTo old.dc (Err r)) old new
+KeepsUpTo old _ new = ⊥
+
+abbrev pub WritesTo : NodeView → Bytes → Out → NodeView → Type 0
+WritesTo old k (out.Flushed id) new = CallsDc (FlushesTo old.dc k (Ok id)) old new
+WritesTo old k (out.Refused r) new = CallsDc (FlushesTo old.dc k (Err r)) old new
+WritesTo old k _ new = ⊥
 
 abbrev pub as_out : Told → Out
 as_out told.Nothing = out.Nothing
@@ -210,6 +243,10 @@ StepsTo old (event.Undo t) output new = UndoesTo old t output new
 StepsTo old event.Force output new = ForcesTo old output new
 StepsTo old (event.Send t) output new = SendsTo old t output new
 StepsTo old (event.LowWater l) output new = LowersTo old l output new
+StepsTo old (event.Split k) output new = PartsTo old k output new
+StepsTo old (event.Merge k) output new = JoinsTo old k output new
+StepsTo old event.Tend output new = KeepsUpTo old output new
+StepsTo old (event.Flush k) output new = WritesTo old k output new
 StepsTo old (event.Request i) output new = ServesTo old i output new
 StepsTo old (event.Reply i) output new = TakesTo old i output new
 

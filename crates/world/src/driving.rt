@@ -2,6 +2,8 @@
 ghost use Rattle.std.specs.Prelude.{◌≡◌, IfOk, OnErr, IsOkUnless};
 ghost use Rattle.history.specs.History.{plain};
 ghost use Rattle.history.specs.ListMachine.{Machine};
+ghost use Rattle.btree.specs.Leaves.{rows_of};
+ghost use Rattle.dc_core.specs.DcView.{leaves};
 ghost use Rattle.world.specs.Node.{Chain};
 ghost use Rattle.world.specs.Simulation.{LeadsAll, Stands, IsSettled};
 
@@ -17,7 +19,7 @@ use std::alloc::Global;
 pub fn drive(alloc: Global, world: &mut World, events: &[Event]) -> Result<Vec<Out>, Refusal>
     ensures chain { IfOk result (λ outs. Chain world.old events.now outs.items world.new) }
     ensures run { IfOk result (λ outs. LeadsAll world.old events.now outs.items world.new) }
-    ensures rows { (m : Machine) → Stands world.new m → IsSettled world.new → world.new.dc.leaf.rows ≡ plain m.h }
+    ensures rows { (m : Machine) → Stands world.new m → IsSettled world.new → rows_of (leaves world.new.dc) ≡ plain m.h }
     ensures refused { OnErr result (world.new ≡ world.old) }
     ensures memory { IsOkUnless result Refusal.NoMemory }
 {

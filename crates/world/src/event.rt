@@ -1,5 +1,6 @@
 //! What may happen to a node, and what comes of it.
 use codec::Rows;
+use dc_core::Neighbours;
 use record_key::{Answer, Key, Op, Refusal, Value};
 use tc_core::Committed;
 
@@ -55,6 +56,20 @@ pub enum Event {
     LowWater {
         low: u64,
     },
+    /// The leaf that has the key is split.
+    Split {
+        key: Key,
+    },
+    /// The leaf that has the key and the one after it are joined.
+    Merge {
+        key: Key,
+    },
+    /// One leaf that is large is split, or two that are small are joined.
+    Tend,
+    /// The leaf that has the key is written to its page.
+    Flush {
+        key: Key,
+    },
     /// The request of this number reaches the data component.
     Request {
         number: u64,
@@ -97,5 +112,11 @@ pub enum Out {
     Row { txn: u64, value: Option<Value> },
     Rows { txn: u64, rows: Rows },
     Undone(u64),
+    /// A leaf was split: its number, and that of the new one.
+    Split(Neighbours),
+    /// A leaf took in the one after it, which is gone.
+    Merged(Neighbours),
+    /// The leaf of this number was written.
+    Flushed(u64),
     Refused(Refusal),
 }

@@ -18,6 +18,7 @@ mod settling;
 mod world;
 
 pub use driving::drive;
+pub use dc_core::Neighbours;
 pub use event::{Event, Out};
 pub use round::Round;
 pub use settling::settle;

@@ -1,19 +1,21 @@
 //! The two components, and the messages between them.
-ghost use Rattle.std.specs.Prelude.{◌≡◌, true};
-ghost use Rattle.world.specs.Node.{fresh_node, StepsTo, out_of, ReconnectsTo, RecoversTo, BeginsTo, ActsTo, ReadsTo, SavesTo, GoesBackTo, RollsBackTo, CommitsTo, UndoesTo, ForcesTo, SendsTo, LowersTo, ServesTo, TakesTo, as_out, is_replied_to};
+ghost use Rattle.std.specs.Prelude.{◌≡◌, true, IfOk, IfErr};
+ghost use Rattle.world.specs.Node.{fresh_node, StepsTo, out_of, ReconnectsTo, RecoversTo, BeginsTo, ActsTo, ReadsTo, SavesTo, GoesBackTo, RollsBackTo, CommitsTo, UndoesTo, ForcesTo, SendsTo, LowersTo, ServesTo, TakesTo, PartsTo, JoinsTo, KeepsUpTo, WritesTo, as_out, is_replied_to};
+ghost use Rattle.dc_core.specs.Kept.{IsDc};
+ghost use Rattle.world.specs.Kept.{IsKept};
 ghost use Rattle.world.specs.Seen.{seen};
 
 use crate::event::{Event, Out};
 use crate::sent::Sent;
 use codec::{Reply, Request};
-use dc_core::Dc;
+use dc_core::{Dc, Tended};
 use range_locks::Span;
 use record_key::{Key, Op, Refusal};
-use stable::MemLog;
+use stable::{MemLog, MemPages};
 use std::alloc::Global;
 use tc_core::{Connecting, Forced, RecoverStep, Tc, Told, UndoStep};
 
-/// A transaction component with its log in memory, a data component, and every message ever sent.
+/// A transaction component with its log in memory, a data component with its devices, and every message ever sent.
 #[derive(Drop)]
 pub struct Node {
     pub tc: Tc<MemLog>,
@@ -23,28 +25,37 @@ pub struct Node {
 }
 
 impl Node {
-    pub fn new(alloc: Global) -> Node
-        ensures { seen result ≡ fresh_node }
+    pub fn new(alloc: Global) -> Result<Node, Refusal>
+        ensures fresh { IfOk result (λ node. seen node ≡ fresh_node) }
+        ensures dc { IfOk result (λ node. IsDc (seen node).dc) }
+        ensures memory { IfErr result (λ refusal. refusal ≡ Refusal.NoMemory) }
     {
-        Node {
+        let dc = Dc::new(alloc, MemLog::new(alloc), MemPages::new(alloc))?;
+        dc.kept();
+        Ok(Node {
             tc: Tc::new(alloc, MemLog::new(alloc)),
-            dc: Dc::new(alloc),
+            dc,
             requests: Sent::new(alloc),
             replies: Sent::new(alloc),
-        }
+        })
     }
 
     /// One event.
     pub fn step(&mut self, event: &Event) -> Out
+        requires { IsKept (seen self.old) }
         ensures step { StepsTo (seen self.old) event.now result (seen self.new) }
+        ensures dc { IsDc (seen self.new).dc }
     {
-        match self.happen(event) {
+        let out = match self.happen(event) {
             Ok(out) => out,
             Err(refusal) => Out::Refused(refusal),
-        }
+        };
+        self.dc.kept();
+        out
     }
 
     fn happen(&mut self, event: &Event) -> Result<Out, Refusal>
+        requires { IsKept (seen self.old) }
         ensures done { StepsTo (seen self.old) event.now (out_of result) (seen self.new) }
     {
         match event {
@@ -62,6 +73,10 @@ impl Node {
             Event::Force => self.force(),
             Event::Send { txn } => self.send(*txn),
             Event::LowWater { low } => self.low_water(*low),
+            Event::Split { key } => self.split(key),
+            Event::Merge { key } => self.merge(key),
+            Event::Tend => self.tend(),
+            Event::Flush { key } => self.flush(key),
             Event::Request { number } => self.request(*number),
             Event::Reply { number } => self.reply(*number),
         }
@@ -182,7 +197,36 @@ impl Node {
         Ok(Out::Sent(self.requests.len()))
     }
 
+    fn split(&mut self, key: &Key) -> Result<Out, Refusal>
+        ensures done { PartsTo (seen self.old) key.now (out_of result) (seen self.new) }
+    {
+        Ok(Out::Split(self.dc.split(key)?))
+    }
+
+    fn merge(&mut self, key: &Key) -> Result<Out, Refusal>
+        ensures done { JoinsTo (seen self.old) key.now (out_of result) (seen self.new) }
+    {
+        Ok(Out::Merged(self.dc.merge(key)?))
+    }
+
+    fn tend(&mut self) -> Result<Out, Refusal>
+        ensures done { KeepsUpTo (seen self.old) (out_of result) (seen self.new) }
+    {
+        Ok(match self.dc.tend()? {
+            Tended::Split(pair) => Out::Split(pair),
+            Tended::Merged(pair) => Out::Merged(pair),
+            Tended::Nothing => Out::Nothing,
+        })
+    }
+
+    fn flush(&mut self, key: &Key) -> Result<Out, Refusal>
+        ensures done { WritesTo (seen self.old) key.now (out_of result) (seen self.new) }
+    {
+        Ok(Out::Flushed(self.dc.flush(key)?))
+    }
+
     fn request(&mut self, number: u64) -> Result<Out, Refusal>
+        requires { IsKept (seen self.old) }
         ensures done { ServesTo (seen self.old) number (out_of result) (seen self.new) }
     {
         let request = self.requests.message(number)?;

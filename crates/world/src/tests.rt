@@ -7,6 +7,7 @@ mod rounds;
 mod sent;
 
 use super::*;
+use page::Leaf;
 use record_key::{Answer, Key, Op, Refusal, Value};
 use std::alloc::Global;
 use std::process::Abort;
@@ -37,6 +38,22 @@ fn step(world: &mut World, event: &Event) -> Out {
 
 fn settle_all(world: &mut World, most: Option<u64>, outs: &mut Vec<Out>) -> Result<bool, Refusal> {
     settle(world, most, outs)
+}
+
+/// How many records the leaves have, told without memory.
+fn rows_in(world: &World) -> u64 {
+    let mut count = 0u64;
+    for place in 0..world.leaves() {
+        count = count.saturating_add(world.leaf(place).rows().len() as u64);
+    }
+    count
+}
+
+fn first_leaf(world: &World) -> Result<&Leaf, Refusal> {
+    if world.leaves() == 0 {
+        return Err(Refusal::NotNow);
+    }
+    Ok(world.leaf(0))
 }
 
 /// The log is stable up to `end`, and nobody has committed by that.
@@ -73,16 +90,16 @@ fn exchange(world: &mut World, event: &Event) -> Out {
 }
 
 /// Session 1 is past its redo; two requests and their replies were sent.
-fn running(alloc: Global) -> World {
-    let mut world = World::new(alloc);
+fn running(alloc: Global) -> Result<World, Fail> {
+    let mut world = World::new(alloc)?;
     exchange(&mut world, &Event::Reconnect);
     exchange(&mut world, &Event::Recover);
-    world
+    Ok(world)
 }
 
 /// Transaction 2 waits for the answer of its insert, number 3, which isn't stable.
 fn waiting(alloc: Global) -> Result<World, Fail> {
-    let mut world = running(alloc);
+    let mut world = running(alloc)?;
     step(&mut world, &Event::Begin);
     step(&mut world, &insert(b"a", b"1")?);
     Ok(world)

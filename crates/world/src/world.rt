@@ -1,9 +1,12 @@
 //! The world: a node, one event at a time.
-ghost use Rattle.std.specs.Prelude.{◌≡◌, ◌↔◌, true, IsTrue, length, MatchOption, Some, None, OnOk, IfErr};
+ghost use Rattle.std.specs.Prelude.{◌≡◌, ◌<◌, ◌↔◌, true, IsTrue, length, get_or, MatchOption, Some, None, OnOk, IfOk, IfErr};
 ghost use Rattle.std.specs.FinMap.{entries};
 ghost use Rattle.history.specs.History.{plain};
 ghost use Rattle.history.specs.Log.{record_at};
 ghost use Rattle.history.specs.ListMachine.{fresh, Machine};
+ghost use Rattle.page.specs.Leaf.{first};
+ghost use Rattle.btree.specs.Leaves.{rows_of};
+ghost use Rattle.dc_core.specs.DcView.{leaves};
 ghost use Rattle.tc_core.specs.Causes.{begin_refusal};
 ghost use Rattle.world.specs.Node.{fresh_node, StepsTo};
 ghost use Rattle.world.specs.Simulation.{Stands, Leads, IsSettled};
@@ -29,13 +32,14 @@ pub struct World {
 impl Model for World {
     ghost use Rattle.std.specs.Coded.{codes};
     ghost use Rattle.record_key.specs.Table.{table_code};
+    ghost use Rattle.system_txn.specs.SystemView.{pages_code};
     ghost use Rattle.world.specs.Node.{NodeView};
     ghost use Rattle.world.specs.Kept.{IsKept};
     ghost use Rattle.world.specs.Seen.{seen};
 
     ghost Value = { NodeView };
 
-    ghost coded = { Prim.hlevel (codes, table_code) };
+    ghost coded = { Prim.hlevel (codes, table_code, pages_code) };
 
     ghost view = { λ w. seen w.node };
 
@@ -43,14 +47,15 @@ impl Model for World {
 }
 
 impl World {
-    /// A new node: nothing is logged, stored or sent, and no session runs.
-    pub fn new(alloc: Global) -> World
-        ensures node { result ≡ fresh_node }
-        ensures stands { Stands result fresh }
+    /// A new node: nothing is logged, stored or sent, and no session runs. Refused NoMemory.
+    pub fn new(alloc: Global) -> Result<World, Refusal>
+        ensures node { IfOk result (λ world. world ≡ fresh_node) }
+        ensures stands { IfOk result (λ world. Stands world fresh) }
+        ensures memory { IfErr result (λ refusal. refusal ≡ Refusal.NoMemory) }
     {
-        World {
-            node: Node::new(alloc),
-        }
+        Ok(World {
+            node: Node::new(alloc)?,
+        })
     }
 
     /// One event. What it came to and what it left are what the components' contracts say. Whatever list machine the
@@ -66,23 +71,32 @@ impl World {
     /// machine that it stands for.
     pub fn kept(&self)
         ensures kept { IsKept self.now }
-        ensures rows { (m : Machine) → Stands self.now m → IsSettled self.now → self.now.dc.leaf.rows ≡ plain m.h }
+        ensures rows { (m : Machine) → Stands self.now m → IsSettled self.now → rows_of (leaves self.now.dc) ≡ plain m.h }
     {
         let _ = &self.node;
     }
 
-    /// The records of the data component, in key order.
-    pub fn rows(&self) -> &[(Key, Value)]
-        ensures { result.now ≡ entries self.now.dc.leaf.rows }
+    /// Copies of the records of the data component, in key order. Refused NoMemory.
+    pub fn rows(&self) -> Result<Vec<(Key, Value)>, Refusal>
+        ensures rows { IfOk result (λ rows. rows.items ≡ entries (rows_of (leaves self.now.dc))) }
+        ensures memory { IfErr result (λ refusal. refusal ≡ Refusal.NoMemory) }
     {
-        self.node.dc.rows()
+        Ok(self.node.dc.rows()?)
     }
 
-    /// The leaf of the data component.
-    pub fn leaf(&self) -> &Leaf
-        ensures { result.now ≡ self.now.dc.leaf }
+    /// How many leaves the data component has.
+    pub fn leaves(&self) -> usize
+        ensures { result ≡ length (leaves self.now.dc) }
     {
-        self.node.dc.leaf()
+        self.node.dc.leaves()
+    }
+
+    /// The leaf at a place in key order, from 0.
+    pub fn leaf(&self, place: usize) -> &Leaf
+        requires { place < length (leaves self.now.dc) }
+        ensures { result.now ≡ get_or (leaves self.now.dc) place first }
+    {
+        self.node.dc.leaf(place)
     }
 
     /// Whether a transaction may begin, memory and the device aside.

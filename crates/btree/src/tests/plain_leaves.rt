@@ -1,8 +1,7 @@
 //! A slow program that can't be wrong, for tests to compare leaves with.
 use page::Done;
-use record_key::{Answer, Key, Op, PlainTable, Value};
+use record_key::{Answer, Key, Op, PlainTable, Refusal, Value};
 use std::alloc::Global;
-use std::test::Fail;
 
 /// All records in one table, the keys at which all leaves but the first begin, and every answer.
 #[derive(Drop)]
@@ -23,7 +22,8 @@ impl PlainLeaves {
         }
     }
 
-    pub(super) fn perform(&mut self, number: u64, op: &Op) -> Result<Done, Fail> {
+    /// A refused one changes nothing.
+    pub(super) fn perform(&mut self, number: u64, op: &Op) -> Result<Done, Refusal> {
         if number <= self.low {
             return Ok(Done::Repeated(None));
         }
@@ -32,6 +32,7 @@ impl PlainLeaves {
                 return Ok(Done::Repeated(Some(answer.copied())));
             }
         }
+        self.answers.reserve(1)?;
         let answer = self.table.apply(op)?;
         self.answers.push((number, answer.copied()))?;
         Ok(Done::Performed(answer))
@@ -76,8 +77,8 @@ impl PlainLeaves {
         count
     }
 
-    /// Parts the leaf of the key in its middle, where that may be.
-    pub(super) fn split(&mut self, key: &Key) -> Result<bool, Fail> {
+    /// Parts the leaf of the key in its middle, where that may be. A refused one changes nothing.
+    pub(super) fn split(&mut self, key: &Key) -> Result<bool, Refusal> {
         let place = self.place_of(key);
         let count = self.count(place);
         if count < 2 {
@@ -85,7 +86,7 @@ impl PlainLeaves {
         }
         if let Some(cut) = self.nth_key(place, count / 2) {
             self.fences.push(cut)?;
-            self.fences.sort()?;
+            self.fences.sort_unstable();
         }
         Ok(true)
     }

@@ -17,7 +17,7 @@ fn got(dc: &mut Dc, name: &[u8]) -> Result<Option<Value>, Fail> {
         read: 6,
         key: key(name)?,
     };
-    let Some(reply) = dc.serve(&request)? else {
+    let Some(reply) = served(dc, &request)? else {
         return Err(Fail::from(Refusal::NotNow));
     };
     match reply {
@@ -34,7 +34,7 @@ fn scanned(dc: &mut Dc, low: &[u8], high: Option<Key>) -> Result<usize, Fail> {
         low: key(low)?,
         high,
     };
-    let Some(reply) = dc.serve(&request)? else {
+    let Some(reply) = served(dc, &request)? else {
         return Err(Fail::from(Refusal::NotNow));
     };
     match reply {
@@ -60,6 +60,6 @@ fn ranges(rt: HostRuntime) -> Result<(), Fail> {
     assert_eq!(rt; scanned(&mut dc, b"b", m)?, 1);
     let b = Some(key(b"b")?);
     assert_eq!(rt; scanned(&mut dc, b"c", b)?, 0);
-    assert_eq!(rt; dc.rows().len(), 3);
+    assert_eq!(rt; count(&dc)?, 3);
     Ok(())
 }

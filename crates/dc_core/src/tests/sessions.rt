@@ -2,7 +2,7 @@
 use super::*;
 
 /// An Insert of number 3.
-fn insert(session: u64) -> Result<Request, Fail> {
+fn third(session: u64) -> Result<Request, Fail> {
     Ok(Request::Perform {
         session,
         number: 3,
@@ -13,7 +13,7 @@ fn insert(session: u64) -> Result<Request, Fail> {
 /// Why the message is refused, by both calls.
 fn refusal(dc: &mut Dc, request: &Request) -> Option<Refusal> {
     let before = dc.allows(request).err();
-    let given = dc.serve(request).err();
+    let given = served(dc, request).err();
     if before == given {
         given
     } else {
@@ -23,9 +23,9 @@ fn refusal(dc: &mut Dc, request: &Request) -> Option<Refusal> {
 
 #[test]
 fn no_session_yet(rt: HostRuntime) -> Result<(), Fail> {
-    let mut dc = Dc::new(rt.alloc());
+    let mut dc = fresh(rt.alloc())?;
     for session in [0, 1] {
-        let given = refusal(&mut dc, &insert(session)?);
+        let given = refusal(&mut dc, &third(session)?);
         assert_eq!(rt; given, Some(Refusal::NotConnected));
     }
     let given = refusal(&mut dc, &Request::Connect { session: 0 });
@@ -39,13 +39,13 @@ fn no_session_yet(rt: HostRuntime) -> Result<(), Fail> {
 fn another_session(rt: HostRuntime) -> Result<(), Fail> {
     let mut dc = connected(rt.alloc())?;
     for session in [0, 3, 5] {
-        let given = refusal(&mut dc, &insert(session)?);
+        let given = refusal(&mut dc, &third(session)?);
         assert_eq!(rt; given, Some(Refusal::Stale), "{session}");
     }
     let given = refusal(&mut dc, &Request::Connect { session: 3 });
     assert_eq!(rt; given, Some(Refusal::Stale));
-    assert!(rt; dc.performances() == 0 && dc.leaf().entries().is_empty());
-    let given = refusal(&mut dc, &insert(4)?);
+    assert!(rt; dc.performances() == 0 && rows_at(&dc, 0) == 0);
+    let given = refusal(&mut dc, &third(4)?);
     assert_eq!(rt; given, None);
     assert_eq!(rt; dc.performances(), 1);
     Ok(())
@@ -53,13 +53,13 @@ fn another_session(rt: HostRuntime) -> Result<(), Fail> {
 
 #[test]
 fn a_connect_repeated(rt: HostRuntime) -> Result<(), Fail> {
-    let mut dc = Dc::new(rt.alloc());
-    dc.serve(&Request::Connect { session: 4 })?;
+    let mut dc = fresh(rt.alloc())?;
+    served(&mut dc, &Request::Connect { session: 4 })?;
     assert!(rt; dc.redoes());
-    dc.serve(&Request::RedoEnd { session: 4 })?;
-    dc.serve(&Request::Connect { session: 4 })?;
+    served(&mut dc, &Request::RedoEnd { session: 4 })?;
+    served(&mut dc, &Request::Connect { session: 4 })?;
     assert!(rt; !dc.redoes());
-    dc.serve(&Request::Connect { session: 9 })?;
+    served(&mut dc, &Request::Connect { session: 9 })?;
     assert!(rt; dc.redoes());
     assert_eq!(rt; (dc.stored(), dc.session()), (9, 9));
     Ok(())
@@ -81,13 +81,13 @@ fn reads_wait_for_the_end_of_redo(rt: HostRuntime) -> Result<(), Fail> {
     let (session, low) = (4, 1);
     let lower = Request::LowWater { session, low };
     let checkpoint = Request::Checkpoint { session, low };
-    let mut dc = Dc::new(rt.alloc());
-    dc.serve(&Request::Connect { session })?;
+    let mut dc = fresh(rt.alloc())?;
+    served(&mut dc, &Request::Connect { session })?;
     for request in [&get, &scan, &lower, &checkpoint] {
         let given = refusal(&mut dc, request);
         assert_eq!(rt; given, Some(Refusal::Redoing));
     }
-    dc.serve(&Request::RedoEnd { session })?;
+    served(&mut dc, &Request::RedoEnd { session })?;
     for request in [&get, &scan, &lower, &checkpoint] {
         assert_eq!(rt; refusal(&mut dc, request), None);
     }

@@ -18,7 +18,7 @@ fn assert_lines<R: Abort + AllocGlobal>(rt: &R, script: &str) {
 #[test]
 fn lines_of_one_word(rt: HostRuntime) {
     let lines = "begin|Begin t|rollback|save|commit|undo|send|back|settled| settle|settle |\tlog|\
-                 log\r| | #|connect|tend";
+                 log\r| | #|connect|tends";
     assert_faults(&rt, lines);
 }
 
@@ -26,7 +26,7 @@ fn lines_of_one_word(rt: HostRuntime) {
 fn lines_of_a_label(rt: HostRuntime) {
     let lines = "begin |begin  t| begin t|begin t |begin T|begin abcdefghi|begin a-b|settle 1|\
                  table t|log log|leaves t|force 1|send T|save T|commit T|commit a-b|undo T|\
-                 checkpoint t|recover t|split a|flush a";
+                 checkpoint t|recover t|split|flush a b";
     assert_faults(&rt, lines);
 }
 

@@ -103,6 +103,17 @@ impl Chooser {
         }
     }
 
+    /// Something that happens to the leaves.
+    fn tree(&mut self) -> Result<Event, Refusal> {
+        let key = self.key()?;
+        Ok(match self.below(5) {
+            0 | 1 => Event::Split { key },
+            2 => Event::Merge { key },
+            3 => Event::Tend,
+            _ => Event::Flush { key },
+        })
+    }
+
     /// What would go on from the last event.
     pub fn useful(&mut self, model: &Model) -> Result<Event, Refusal> {
         let txn = self.txn;
@@ -124,7 +135,7 @@ impl Chooser {
     /// Any event.
     pub fn any(&mut self, model: &Model, world: &World) -> Result<Event, Refusal> {
         let txn = self.txn;
-        Ok(match self.below(200) {
+        Ok(match self.below(220) {
             0..=79 => Event::Request {
                 number: self.earlier(world.requests()),
             },
@@ -141,6 +152,7 @@ impl Chooser {
             184 | 185 => Event::Reconnect,
             186 => Event::Begin,
             187 => Event::Send { txn: txn / 2 },
+            188..=207 => self.tree()?,
             _ => self.call(model)?,
         })
     }

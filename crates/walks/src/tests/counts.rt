@@ -19,6 +19,9 @@ pub struct Counts {
     busy_committing: u64,
     full: u64,
     bad_savepoint: u64,
+    splits: u64,
+    merges: u64,
+    flushes: u64,
 }
 
 impl Counts {
@@ -36,6 +39,9 @@ impl Counts {
             busy_committing: 0,
             full: 0,
             bad_savepoint: 0,
+            splits: 0,
+            merges: 0,
+            flushes: 0,
         }
     }
 
@@ -52,6 +58,9 @@ impl Counts {
                 more(&mut self.committed, committed.as_slice().len());
             }
             Out::RedoEnded(_) => more(&mut self.sessions, 1),
+            Out::Split(_) => more(&mut self.splits, 1),
+            Out::Merged(_) => more(&mut self.merges, 1),
+            Out::Flushed(_) => more(&mut self.flushes, 1),
             Out::Refused(refusal) => self.count_refusal(*refusal, committing),
             _ => {}
         }
@@ -77,6 +86,7 @@ impl Counts {
         self.assert_steps(rt);
         self.assert_ends(rt);
         self.assert_refusals(rt);
+        self.assert_leaves(rt);
     }
 
     fn assert_steps(&self, rt: &impl Abort) {
@@ -91,6 +101,12 @@ impl Counts {
         assert!(rt; self.rolled_back > 12, "{self:?}");
         assert!(rt; self.committed > 30, "{self:?}");
         assert!(rt; self.sessions > 3, "{self:?}");
+    }
+
+    fn assert_leaves(&self, rt: &impl Abort) {
+        assert!(rt; self.splits > 10, "{self:?}");
+        assert!(rt; self.merges > 10, "{self:?}");
+        assert!(rt; self.flushes > 10, "{self:?}");
     }
 
     fn assert_refusals(&self, rt: &impl Abort) {

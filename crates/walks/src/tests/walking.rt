@@ -20,13 +20,13 @@ pub struct Walk {
 }
 
 impl Walk {
-    pub fn new(alloc: Global, seed: u64) -> Walk {
-        Walk {
-            world: World::new(alloc),
+    pub fn new(alloc: Global, seed: u64) -> Result<Walk, Refusal> {
+        Ok(Walk {
+            world: World::new(alloc)?,
             model: Model::new(alloc),
             chooser: Chooser::new(seed),
             counts: Counts::new(),
-        }
+        })
     }
 
     /// One event: two of three go on from the last, the others are any.
@@ -77,7 +77,7 @@ impl Walk {
     pub fn assert_settled(&self, rt: &impl Abort, alloc: Global) -> Result<(), Fail> {
         assert!(rt; self.model.is_at_rest());
         let table = self.model.table(alloc)?;
-        assert_eq!(rt; self.world.rows(), table.rows());
+        assert_eq!(rt; self.world.rows()?.as_slice(), table.rows());
         Ok(())
     }
 
@@ -95,7 +95,7 @@ impl Walk {
     /// The settled node has the rows of its log's history.
     pub fn assert_history(&self, rt: &impl Abort, alloc: Global) -> Result<(), Fail> {
         let table = plain_history(alloc, &self.log(alloc)?)?;
-        assert_eq!(rt; self.world.rows(), table.rows());
+        assert_eq!(rt; self.world.rows()?.as_slice(), table.rows());
         Ok(())
     }
 }

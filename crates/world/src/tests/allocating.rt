@@ -8,7 +8,7 @@ fn sight(world: &World) -> [u64; 5] {
         world.stable_end(),
         world.requests(),
         world.replies(),
-        world.rows().len() as u64,
+        rows_in(world),
     ]
 }
 
@@ -45,7 +45,7 @@ fn assert_inserts(rt: &impl Abort, world: &mut World, number: u8) -> Result<(), 
 /// A session and nine inserts. Run also with each allocation refused in turn.
 #[test]
 fn refused_memory_changes_nothing(rt: HostRuntime) -> Result<(), Fail> {
-    let mut world = World::new(rt.alloc());
+    let mut world = World::new(rt.alloc())?;
     let connected = exchanged(&rt, &mut world, &Event::Reconnect);
     assert_eq!(rt; connected, Out::Connected(1));
     let ended = exchanged(&rt, &mut world, &Event::Recover);
@@ -54,14 +54,14 @@ fn refused_memory_changes_nothing(rt: HostRuntime) -> Result<(), Fail> {
     for place in 0..9 {
         assert_inserts(&rt, &mut world, 2 * place + 3)?;
     }
-    assert_eq!(rt; world.rows().len(), 9);
+    assert_eq!(rt; rows_in(&world), 9);
     Ok(())
 }
 
 /// Where a round was refused memory, what it had done stands, and the next call goes on.
 #[test]
 fn refused_memory_stops_settling(rt: HostRuntime) -> Result<(), Fail> {
-    let mut world = World::new(rt.alloc());
+    let mut world = World::new(rt.alloc())?;
     let mut outs = Vec::new(rt.alloc());
     if let Err(refusal) = settle_all(&mut world, None, &mut outs) {
         assert_eq!(rt; refusal, Refusal::NoMemory);
@@ -75,7 +75,7 @@ fn refused_memory_stops_settling(rt: HostRuntime) -> Result<(), Fail> {
 /// Where a list of events is refused memory, none of them has come.
 #[test]
 fn refused_memory_before_any_event(rt: HostRuntime) -> Result<(), Fail> {
-    let mut world = running(rt.alloc());
+    let mut world = running(rt.alloc())?;
     let before = sight(&world);
     let events = [Event::Begin, insert(b"a", b"1")?];
     if let Err(refusal) = drive(rt.alloc(), &mut world, &events) {

@@ -4,8 +4,8 @@ use codec::Rows;
 use history::Record;
 
 #[test]
-fn a_session_begins(rt: HostRuntime) {
-    let mut world = World::new(rt.alloc());
+fn a_session_begins(rt: HostRuntime) -> Result<(), Fail> {
+    let mut world = World::new(rt.alloc())?;
     let steps = [
         (Event::Begin, Out::Refused(Refusal::NotConnected)),
         (Event::Recover, Out::Refused(Refusal::NotConnected)),
@@ -22,11 +22,12 @@ fn a_session_begins(rt: HostRuntime) {
         (Event::Begin, Out::Begun(3)),
     ];
     assert_outs(&rt, &mut world, steps);
+    Ok(())
 }
 
 #[test]
 fn an_operation_is_answered(rt: HostRuntime) -> Result<(), Fail> {
-    let mut world = running(rt.alloc());
+    let mut world = running(rt.alloc())?;
     step(&mut world, &Event::Begin);
     let steps = [
         (SEND, Out::Refused(Refusal::Unsent)),
@@ -43,7 +44,7 @@ fn an_operation_is_answered(rt: HostRuntime) -> Result<(), Fail> {
     ];
     assert_outs(&rt, &mut world, steps);
     assert_eq!(rt; (world.records(), world.stable_end()), (4, 3));
-    assert_eq!(rt; world.rows().len(), 1);
+    assert_eq!(rt; rows_in(&world), 1);
     Ok(())
 }
 
@@ -64,7 +65,7 @@ fn a_transaction_is_rolled_back(rt: HostRuntime) -> Result<(), Fail> {
         (UNDO, Out::Refused(Refusal::NotOpen)),
     ];
     assert_outs(&rt, &mut world, steps);
-    assert_eq!(rt; world.rows().len(), 0);
+    assert_eq!(rt; rows_in(&world), 0);
     assert_eq!(rt; world.record(7), Some(Record::End { txn: 2 }));
     assert_eq!(rt; world.record(8), None);
     Ok(())
@@ -146,7 +147,7 @@ fn low_water_is_told(rt: HostRuntime) -> Result<(), Fail> {
         (Event::Request { number: 4 }, Out::Noted),
     ];
     assert_outs(&rt, &mut world, steps);
-    assert_eq!(rt; world.leaf().low(), 4);
+    assert_eq!(rt; first_leaf(&world)?.low(), 4);
     assert_eq!(rt; (world.requests(), world.replies()), (5, 3));
     Ok(())
 }
@@ -154,7 +155,7 @@ fn low_water_is_told(rt: HostRuntime) -> Result<(), Fail> {
 /// A list of events is driven to the same outputs.
 #[test]
 fn events_are_driven(rt: HostRuntime) -> Result<(), Fail> {
-    let mut world = running(rt.alloc());
+    let mut world = running(rt.alloc())?;
     let events = [
         Event::Begin,
         insert(b"a", b"1")?,

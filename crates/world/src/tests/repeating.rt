@@ -17,7 +17,7 @@ fn served_three_times(alloc: Global) -> Result<World, Fail> {
 fn a_request_that_comes_again(rt: HostRuntime) -> Result<(), Fail> {
     for first in 3..6 {
         let mut world = served_three_times(rt.alloc())?;
-        assert_eq!(rt; (world.replies(), world.rows().len()), (5, 1));
+        assert_eq!(rt; (world.replies(), rows_in(&world)), (5, 1));
         assert_out(&rt, &mut world, &Event::Reply { number: first }, &INSERTED);
         for number in 3..6 {
             assert_out(&rt, &mut world, &Event::Reply { number }, &Out::Nothing);
@@ -41,7 +41,7 @@ fn a_request_that_is_sent_again(rt: HostRuntime) -> Result<(), Fail> {
         (Event::Reply { number: 3 }, Out::Nothing),
     ];
     assert_outs(&rt, &mut world, steps);
-    assert_eq!(rt; world.leaf().entries().len(), 1);
+    assert_eq!(rt; first_leaf(&world)?.entries().len(), 1);
     Ok(())
 }
 
@@ -60,7 +60,7 @@ fn a_message_that_is_not_there(rt: HostRuntime) -> Result<(), Fail> {
 #[test]
 fn a_request_below_the_low_water(rt: HostRuntime) -> Result<(), Fail> {
     let mut world = answered(rt.alloc())?;
-    assert_eq!(rt; world.leaf().entries().len(), 1);
+    assert_eq!(rt; first_leaf(&world)?.entries().len(), 1);
     let steps = [
         (Event::Force, stable(rt.alloc(), 4)),
         (Event::LowWater { low: 4 }, Out::Sent(4)),
@@ -69,8 +69,8 @@ fn a_request_below_the_low_water(rt: HostRuntime) -> Result<(), Fail> {
         (Event::Reply { number: 4 }, Out::Nothing),
     ];
     assert_outs(&rt, &mut world, steps);
-    assert_eq!(rt; world.leaf().entries().len(), 0);
-    assert_eq!(rt; (world.rows().len(), world.records()), (1, 4));
+    assert_eq!(rt; first_leaf(&world)?.entries().len(), 0);
+    assert_eq!(rt; (rows_in(&world), world.records()), (1, 4));
     Ok(())
 }
 
@@ -84,7 +84,7 @@ fn redo_below_the_low_water(rt: HostRuntime) -> Result<(), Fail> {
     assert_eq!(rt; exchange(&mut world, &Event::Reconnect), Out::Connected(5));
     assert_eq!(rt; exchange(&mut world, &Event::Recover), Out::Nothing);
     assert_eq!(rt; exchange(&mut world, &Event::Recover), Out::RedoEnded(5));
-    assert_eq!(rt; world.rows().len(), 1);
+    assert_eq!(rt; rows_in(&world), 1);
     Ok(())
 }
 
@@ -99,15 +99,15 @@ fn messages_of_the_session_before(rt: HostRuntime) -> Result<(), Fail> {
         assert_out(&rt, &mut world, &Event::Reply { number }, &stale);
     }
     assert_eq!(rt; exchange(&mut world, &Event::Recover), INSERTED);
-    assert_eq!(rt; world.rows().len(), 1);
+    assert_eq!(rt; rows_in(&world), 1);
     Ok(())
 }
 
 /// Session 1 is given up for session 2 before its Connect arrives: that comes too late, and a Connect that
 /// comes again is answered again.
 #[test]
-fn a_connect_that_comes_late(rt: HostRuntime) {
-    let mut world = World::new(rt.alloc());
+fn a_connect_that_comes_late(rt: HostRuntime) -> Result<(), Fail> {
+    let mut world = World::new(rt.alloc())?;
     let steps = [
         (Event::Reconnect, connects(rt.alloc(), 1)),
         (Event::Reconnect, connects(rt.alloc(), 2)),
@@ -118,4 +118,5 @@ fn a_connect_that_comes_late(rt: HostRuntime) {
         (Event::Reply { number: 1 }, Out::Nothing),
     ];
     assert_outs(&rt, &mut world, steps);
+    Ok(())
 }

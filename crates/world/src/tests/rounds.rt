@@ -22,7 +22,7 @@ fn connected(alloc: Global) -> [Out; 3] {
 
 #[test]
 fn a_fresh_node(rt: HostRuntime) -> Result<(), Fail> {
-    let mut world = World::new(rt.alloc());
+    let mut world = World::new(rt.alloc())?;
     assert_eq!(rt; world.next_round(), Some(Round::Connect));
     let expected = [
         connects(rt.alloc(), 1),
@@ -38,7 +38,7 @@ fn a_fresh_node(rt: HostRuntime) -> Result<(), Fail> {
 
 #[test]
 fn no_more_rounds_than_allowed(rt: HostRuntime) -> Result<(), Fail> {
-    let mut world = World::new(rt.alloc());
+    let mut world = World::new(rt.alloc())?;
     let mut outs = Vec::new(rt.alloc());
     assert!(rt; !settle_all(&mut world, Some(0), &mut outs)?);
     assert_eq!(rt; (outs.len(), world.requests()), (0, 0));
@@ -57,7 +57,7 @@ fn no_more_rounds_than_allowed(rt: HostRuntime) -> Result<(), Fail> {
 /// A Connect that was never answered is given up for another session.
 #[test]
 fn a_session_that_did_not_come_up(rt: HostRuntime) -> Result<(), Fail> {
-    let mut world = World::new(rt.alloc());
+    let mut world = World::new(rt.alloc())?;
     step(&mut world, &Event::Reconnect);
     let expected = [
         connects(rt.alloc(), 2),
@@ -82,7 +82,7 @@ fn an_operation_that_is_not_stable(rt: HostRuntime) -> Result<(), Fail> {
         stable(rt.alloc(), 4),
     ];
     assert_settles(&rt, rt.alloc(), &mut world, &expected)?;
-    assert_eq!(rt; world.rows().len(), 1);
+    assert_eq!(rt; rows_in(&world), 1);
     Ok(())
 }
 
@@ -116,7 +116,7 @@ fn a_rollback_that_is_under_way(rt: HostRuntime) -> Result<(), Fail> {
         stable(rt.alloc(), 7),
     ];
     assert_settles(&rt, rt.alloc(), &mut world, &expected)?;
-    assert_eq!(rt; world.rows().len(), 0);
+    assert_eq!(rt; rows_in(&world), 0);
     Ok(())
 }
 
@@ -186,6 +186,6 @@ fn a_session_amid_a_rollback(rt: HostRuntime) -> Result<(), Fail> {
         stable(rt.alloc(), 9),
     ];
     assert_settles(&rt, rt.alloc(), &mut world, &expected)?;
-    assert_eq!(rt; world.rows().len(), 0);
+    assert_eq!(rt; rows_in(&world), 0);
     Ok(())
 }

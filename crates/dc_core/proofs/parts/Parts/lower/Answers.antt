@@ -1,6 +1,14 @@
+use Rattle.std.proofs.Common.{sym, subst}
 use Rattle.dc_core.specs.Seen.{seen}
-use Rattle.dc_core.proofs.KeepsDc.{keeps_lowered}
+use Rattle.dc_core.specs.Kept.{IsDc}
+use Rattle.dc_core.specs.Serves.{with_system}
+use Rattle.dc_core.proofs.KeepsSystems.{lower_keeps}
+use Rattle.system_txn.specs.SystemView.{SystemView}
+use Rattle.system_txn.specs.Kept.{IsSystem}
 use Rattle.dc_core.proofs.parts.Parts.lower.Goals as goal
 
 pub returns-clause-kept : goal.returns-clause-kept
-returns-clause-kept c = rw (c.raise.ensures) (keeps_lowered (seen c.args.self.now) c.args.low c.requires)
+returns-clause-kept c =
+    let w = seen c.args.self.now in
+    subst (λ (v : SystemView). IsDc (with_system w v)) (sym c.lower.ensures)
+    (lower_keeps w c.args.low c.requires.kept (subst IsSystem c.lower.ensures c.kept.ensures))

@@ -1,13 +1,18 @@
 use Rattle.std.proofs.Common.{sym, subst}
 use Rattle.history.specs.ListMachine.{fresh}
+use Rattle.dc_core.specs.DcView.{DcView}
+use Rattle.dc_core.specs.Kept.{IsDc}
 use Rattle.world.specs.Kept.{IsKept}
-use Rattle.world.specs.Node.{NodeView}
+use Rattle.world.specs.Node.{NodeView, fresh_node}
+use Rattle.world.specs.Seen.{seen}
 use Rattle.world.specs.Simulation.{Stands}
 use Rattle.world.proofs.Headline.{kept_fresh, fresh_stands_for}
 use Rattle.world.proofs.world.World.new.Goals as goal
 
 pub invariant_of-result : goal.invariant_of-result
-invariant_of-result c = subst IsKept (sym c.new.ensures) kept_fresh
+invariant_of-result c =
+    let Dc : NodeView → Type 0 = λ w. IsDc w.dc in
+    subst IsKept (sym c.in_ok-new.ensures.fresh) (kept_fresh (subst Dc c.in_ok-new.ensures.fresh c.in_ok-new.ensures.dc))
 
 pub returns-clause-stands : goal.returns-clause-stands
-returns-clause-stands c = let P : NodeView → Type 0 = λ w. Stands w fresh in subst P (sym c.new.ensures) fresh_stands_for
+returns-clause-stands c = let P : NodeView → Type 0 = λ w. Stands w fresh in subst P (sym c.in_ok-new.ensures.fresh) fresh_stands_for

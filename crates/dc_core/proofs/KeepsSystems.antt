@@ -1,0 +1,220 @@
+-- What system transactions leave of the data component is as it must be at every moment.
+use Rattle.std.proofs.Common.{◌≡◌, ℕ, ◌≤◌, ◌==◌, ◌||◌, Bool, true, false, List, [], ◌∷◌, refl, sym, ap, ◌∙◌, subst, arith, inl, inr, map, eqb-true, max}
+use Rattle.std.specs.Prelude.{Result, Ok, Err, ◌&&◌, nat_le, Option, Some, None, length, if◌then◌else◌}
+use Rattle.std.specs.List.{AllByRecursion, list_any}
+use Rattle.std.proofs.lemmas.Bool.{or_cases, or_left, or_right, and_from}
+use Rattle.record_key.specs.declared.refusal.Refusal.{Refusal}
+use Rattle.record_key.specs.declared.entry.Entry.{Entry}
+use Rattle.record_key.specs.Table.{Bytes, key_of}
+use Rattle.ab_lsn.specs.AbLsn.{AbLsnView, stands_in, captures}
+use Rattle.ab_lsn.specs.Parting.{is_under, is_from, entries_with, stands_with, joined}
+use Rattle.ab_lsn.proofs.Capturing.{parted_captures, joined_captures}
+use Rattle.page.specs.Leaf.{LeafView, raised_to}
+use Rattle.btree.specs.Leaves.{leaf_at, rows_of}
+use Rattle.btree.specs.Parting.{middle}
+use Rattle.btree.proofs.AtKey.{all_at, captured_raised}
+use Rattle.btree.proofs.Carried.{entries_raised, entries_split, entries_merged}
+use Rattle.btree.proofs.Merging.{AreJoinable, joinable, leaf_merged}
+use Rattle.btree.proofs.Splitting.{leaf_split}
+use Rattle.btree.proofs.Stays.{raised_stays, split_stays, merged_stays}
+use Rattle.codec.specs.declared.dc_record.DcRecord.{DcRecord}
+use Rattle.recovery_laws.specs.Recovery.{stored_session}
+use Rattle.system_txn.specs.SystemView.{SystemView, refused_so}
+use Rattle.system_txn.specs.Kept.{IsSystem}
+use Rattle.system_txn.specs.Changes.{next_id, next_number, split_to, merged_to, lowered, covered, forced, accepted, written_to, written_all}
+use Rattle.system_txn.specs.Gives as gives
+use Rattle.system_txn.specs.Gives.{Splits, Merges, SplitGives, MergeGives, TendGives, FlushGives, CheckpointGives, AcceptGives, StopsWriting, StopsAmong, tending}
+use Rattle.system_txn.specs.declared.tended.Neighbours.{Neighbours}
+use Rattle.system_txn.specs.declared.tended.Tended.{Tended}
+use Rattle.system_txn.specs.declared.tended.Tended.TheVariants as tended
+use Rattle.dc_core.specs.declared.performance.Performance.{Performance}
+use Rattle.dc_core.specs.DcView.{DcView, leaves, captures_at}
+use Rattle.dc_core.specs.Serves.{with_system, connected}
+use Rattle.dc_core.specs.Kept.{IsDc, Saves, IsListed, AreListed}
+use Rattle.dc_core.proofs.KeepsDc.{Carries, keeps_carried, same_leaves}
+
+-- ---- a leaf parted
+
+-- a number whose entry lies on this side is still captured
+stands_on : (p : Performance) (test : Bytes → Bool) (es : List Entry) → test (key_of p.op) ≡ true → AllByRecursion (Saves p) es → stands_in es p.number ≡ true
+    → stands_with test es p.number ≡ true
+stands_on p test [] passes saves there = there
+stands_on p test (e ∷ es) passes saves there =
+    elim (or_cases (p.number == e.number) (stands_in es p.number) there) [
+      | inl here ↦
+          let on : key_of p.op ≡ e.key = (saves.0 (eqb-true p.number e.number here)).0 in
+          or_left ((p.number == e.number) && test e.key) (stands_with test es p.number) (and_from (p.number == e.number) (test e.key) here (ap test (sym on) ∙ passes))
+      | inr later ↦ or_right ((p.number == e.number) && test e.key) (stands_with test es p.number) (stands_on p test es passes saves.1 later)
+    ]
+
+captured_on : (p : Performance) (test : Bytes → Bool) (v : AbLsnView) → test (key_of p.op) ≡ true → AllByRecursion (Saves p) v.entries → captures v p.number ≡ true
+    → captures (record v { entries = entries_with test v.entries }) p.number ≡ true
+captured_on p test v passes saves was =
+    parted_captures v.low v.entries test p.number
+    ∙ elim (or_cases (nat_le p.number v.low) (stands_in v.entries p.number) was) [
+      | inl low ↦ or_left (nat_le p.number v.low) (stands_with test v.entries p.number) low
+      | inr there ↦ or_right (nat_le p.number v.low) (stands_with test v.entries p.number) (stands_on p test v.entries passes saves there)
+    ]
+
+carries_split : (w : DcView) (p : ℕ) (pair : Neighbours) (v : SystemView) → IsDc w → Splits w.system p pair v → Carries w v
+carries_split w p pair v k h = subst (Carries w) (sym h.after) (record {
+  rows = (split_stays (leaves w) p (next_id w.system) (next_number w.system) k.system.leaves h.may).rows;
+  captured = λ q was saves.
+      let old : LeafView = leaf_at (leaves w) (key_of q.op) in
+      let mine : AllByRecursion (Saves q) old.ab.entries =
+      all_at (λ (leaf : LeafView). AllByRecursion (Saves q) leaf.ab.entries) (leaves w) (key_of q.op) k.system.leaves saves in
+      elim (leaf_split (leaves w) p (next_id w.system) (next_number w.system) (key_of q.op) k.system.leaves.each h.may) [
+        | inl same ↦ ap (λ (leaf : LeafView). captures leaf.ab q.number) same ∙ was
+        | inr half ↦ elim half [
+          | inl lower ↦ ap (λ (leaf : LeafView). captures leaf.ab q.number) lower.is ∙ captured_on q (is_under (middle old)) old.ab lower.under mine was
+          | inr upper ↦ ap (λ (leaf : LeafView). captures leaf.ab q.number) upper.is ∙ captured_on q (is_from (middle old)) old.ab upper.from mine was
+        ]
+      ];
+  saved = entries_split (IsListed w.performed) (leaves w) p (next_id w.system) (next_number w.system) k.system.leaves h.may k.saved;
+  stored = omega arith;
+})
+
+-- ---- two neighbours joined
+
+carries_merge : (w : DcView) (p : ℕ) (pair : Neighbours) (v : SystemView) → IsDc w → Merges w.system p pair v → Carries w v
+carries_merge w p pair v k h = subst (Carries w) (sym h.after) (record {
+  rows = (merged_stays (leaves w) p (next_number w.system) k.system.leaves h.may).rows;
+  captured = λ q was saves.
+      let old : LeafView = leaf_at (leaves w) (key_of q.op) in
+      elim (leaf_merged AreJoinable (λ left right both. both.next) (next_number w.system) (key_of q.op) (leaves w) p (joinable (leaves w) p k.system.leaves)) [
+        | inl same ↦ ap (λ (leaf : LeafView). captures leaf.ab q.number) same ∙ was
+        | inr both ↦ elim both [
+          | inl left ↦
+              ap (λ (leaf : LeafView). captures leaf.ab q.number) left.is ∙ joined_captures old.ab left.right.ab q.number
+              ∙ or_left (captures old.ab q.number) (captures left.right.ab q.number) was
+          | inr right ↦
+              ap (λ (leaf : LeafView). captures leaf.ab q.number) right.is ∙ joined_captures right.left.ab old.ab q.number
+              ∙ or_right (captures right.left.ab q.number) (captures old.ab q.number) was
+        ]
+      ];
+  saved = entries_merged (IsListed w.performed) (leaves w) p (next_number w.system) k.saved;
+  stored = omega arith;
+})
+
+-- ---- low numbers raised
+
+pub carries_lowered : (w : DcView) (l : ℕ) → IsDc w → Carries w (lowered w.system l)
+carries_lowered w l k = record {
+  rows = (raised_stays (leaves w) l k.system.leaves).rows;
+  captured = λ q was saves. captured_raised (leaves w) k.system.leaves l (key_of q.op) q.number ∙ or_left (captures_at w (key_of q.op) q.number) (nat_le q.number l) was;
+  saved = entries_raised (IsListed w.performed) (leaves w) l k.saved;
+  stored = omega arith;
+}
+
+-- ---- leaves written
+
+-- the leaves and the log are as they were
+record IsAlike (old v : SystemView) : Type 0 where
+  leaves : v.leaves ≡ old.leaves
+  log : v.log ≡ old.log
+
+covered_alike : (v : SystemView) (leaf : LeafView) → IsAlike v (covered v leaf)
+covered_alike v leaf = by (nat_le leaf.last v.stable)
+  where
+    by : (b : Bool) → IsAlike v (if b then v else forced v)
+    by true = record { leaves = refl; log = refl }
+    by false = record { leaves = refl; log = refl }
+
+alike_then : (a b c : SystemView) → IsAlike a b → IsAlike b c → IsAlike a c
+alike_then a b c h g = record { leaves = g.leaves ∙ h.leaves; log = g.log ∙ h.log }
+
+written_alike : (v : SystemView) (leaf : LeafView) → IsAlike v (written_to v leaf)
+written_alike v leaf = let h = covered_alike v leaf in record { leaves = h.leaves; log = h.log }
+
+all_alike : (v : SystemView) (ls : List LeafView) → IsAlike v (written_all v ls)
+all_alike v [] = record { leaves = refl; log = refl }
+all_alike v (leaf ∷ ls) = alike_then v (written_to v leaf) (written_all (written_to v leaf) ls) (written_alike v leaf) (all_alike (written_to v leaf) ls)
+
+refused_alike : (old v : SystemView) (r : Refusal) → IsAlike old v → IsAlike old (refused_so v r)
+refused_alike old v r h = record { leaves = h.leaves; log = h.log }
+
+stops_alike : (v : SystemView) (leaf : LeafView) (r : Refusal) (new : SystemView) → StopsWriting v leaf r new → IsAlike v new
+stops_alike v leaf r new h = elim h.1 [
+  | inl same ↦ subst (IsAlike v) (sym same) (refused_alike v v r (record { leaves = refl; log = refl }))
+  | inr more ↦ subst (IsAlike v) (sym more) (refused_alike v (covered v leaf) r (covered_alike v leaf))
+]
+
+among_alike : (v : SystemView) (ls : List LeafView) (r : Refusal) (new : SystemView) → StopsAmong v ls r new → IsAlike v new
+among_alike v [] r new h = absurd h
+among_alike v (leaf ∷ ls) r new (inl h) = stops_alike v leaf r new h
+among_alike v (leaf ∷ ls) r new (inr h) = alike_then v (written_to v leaf) new (written_alike v leaf) (among_alike (written_to v leaf) ls r new h.1)
+
+carries_alike : (w : DcView) (u v : SystemView) → Carries w u → IsAlike u v → Carries w v
+carries_alike w u v c h = record {
+  rows = ap rows_of h.leaves ∙ c.rows;
+  captured = λ q was saves. ap (λ (ls : List LeafView). captures (leaf_at ls (key_of q.op)).ab q.number) h.leaves ∙ c.captured q was saves;
+  saved = subst (AllByRecursion (AreListed w.performed)) (sym h.leaves) c.saved;
+  stored = subst (λ (log : List DcRecord). stored_session w.system.log ≤ stored_session log) (sym h.log) c.stored;
+}
+
+-- ---- each call
+
+-- the same leaves and log, or a failure more
+carries_same : (w : DcView) → IsDc w → Carries w w.system
+carries_same w k = same_leaves w w.system k refl (omega arith)
+
+carries_refused : (w : DcView) (r : Refusal) (v : SystemView) → IsDc w → v ≡ refused_so w.system r → Carries w v
+carries_refused w r v k same =
+    subst (Carries w) (sym same) (carries_alike w w.system (refused_so w.system r) (carries_same w k) (refused_alike w.system w.system r (record { leaves = refl; log = refl })))
+
+pub split_keeps : (w : DcView) (key : Bytes) (given : Result Neighbours Refusal) (v : SystemView) → IsDc w → IsSystem v → SplitGives w.system key given v → IsDc (with_system w v)
+split_keeps w key (Ok pair) v k is h = keeps_carried w v k is (carries_split w _ pair v k h)
+split_keeps w key (Err r) v k is h = keeps_carried w v k is (carries_refused w r v k h.1)
+
+pub merge_keeps : (w : DcView) (key : Bytes) (given : Result Neighbours Refusal) (v : SystemView) → IsDc w → IsSystem v → MergeGives w.system key given v → IsDc (with_system w v)
+merge_keeps w key (Ok pair) v k is h = keeps_carried w v k is (carries_merge w _ pair v k h)
+merge_keeps w key (Err r) v k is h = keeps_carried w v k is (carries_refused w r v k h.1)
+
+carries_tended : (w : DcView) (what : gives.Tending) (done : Tended) (v : SystemView) → IsDc w → gives.TendsTo w.system what done v → Carries w v
+carries_tended w (gives.SplitsAt p) (tended.Split pair) v k h = carries_split w p pair v k h
+carries_tended w (gives.MergesAt p) (tended.Merged pair) v k h = carries_merge w p pair v k h
+carries_tended w gives.Rests tended.Nothing v k h = subst (Carries w) (sym h) (carries_same w k)
+carries_tended w (gives.SplitsAt p) (tended.Merged pair) v k h = absurd h
+carries_tended w (gives.SplitsAt p) tended.Nothing v k h = absurd h
+carries_tended w (gives.MergesAt p) (tended.Split pair) v k h = absurd h
+carries_tended w (gives.MergesAt p) tended.Nothing v k h = absurd h
+carries_tended w gives.Rests (tended.Split pair) v k h = absurd h
+carries_tended w gives.Rests (tended.Merged pair) v k h = absurd h
+
+pub tend_keeps : (w : DcView) (merges : Bool) (given : Result Tended Refusal) (v : SystemView) → IsDc w → IsSystem v → TendGives w.system merges given v → IsDc (with_system w v)
+tend_keeps w merges (Ok done) v k is h = keeps_carried w v k is (carries_tended w (tending w.system merges) done v k h)
+tend_keeps w merges (Err r) v k is h = keeps_carried w v k is (carries_refused w r v k h.1)
+
+pub flush_keeps : (w : DcView) (key : Bytes) (given : Result ℕ Refusal) (v : SystemView) → IsDc w → IsSystem v → FlushGives w.system key given v → IsDc (with_system w v)
+flush_keeps w key (Ok id) v k is h =
+    keeps_carried w v k is (subst (Carries w) (sym h.2) (carries_alike w w.system _ (carries_same w k) (written_alike w.system (leaf_at (leaves w) key))))
+flush_keeps w key (Err r) v k is h =
+    keeps_carried w v k is (carries_alike w w.system v (carries_same w k) (stops_alike w.system (leaf_at (leaves w) key) r v h))
+
+pub lower_keeps : (w : DcView) (l : ℕ) → IsDc w → IsSystem (lowered w.system l) → IsDc (with_system w (lowered w.system l))
+lower_keeps w l k is = keeps_carried w (lowered w.system l) k is (carries_lowered w l k)
+
+pub checkpoint_keeps : (w : DcView) (l : ℕ) (given : Result Unit Refusal) (v : SystemView) → IsDc w → IsSystem v → CheckpointGives w.system l given v → IsDc (with_system w v)
+checkpoint_keeps w l (Ok done) v k is h =
+    let u : SystemView = lowered w.system l in
+    keeps_carried w v k is (subst (Carries w) (sym h.1) (carries_alike w u (written_all u u.leaves) (carries_lowered w l k) (all_alike u u.leaves)))
+checkpoint_keeps w l (Err r) v k is (inl h) = keeps_carried w v k is (subst (Carries w) (sym h.1) (carries_same w k))
+checkpoint_keeps w l (Err r) v k is (inr h) =
+    let u : SystemView = lowered w.system l in
+    keeps_carried w v k is (carries_alike w u v (carries_lowered w l k) (among_alike u u.leaves r v h))
+
+-- ---- a session accepted
+
+accept_carries : (w : DcView) (s stable failures : ℕ) → IsDc w → Carries w (record (accepted w.system s) { stable = stable; failures = failures })
+accept_carries w s stable failures k = same_leaves w (record (accepted w.system s) { stable = stable; failures = failures }) k refl (omega arith)
+
+pub stopped_keeps : (w : DcView) (s : ℕ) (r : Refusal) (v : SystemView) → IsDc w → IsSystem v → AcceptGives w.system s (Err r) v → IsDc (with_system w v)
+stopped_keeps w s r v k is h = elim h.1 [
+  | inl same ↦ keeps_carried w v k is (carries_refused w r v k same)
+  | inr more ↦ keeps_carried w v k is (subst (Carries w) (sym more.2) (accept_carries w s _ _ k))
+]
+
+pub connected_keeps : (w : DcView) (s : ℕ) → IsDc w → IsSystem (connected w s).system → IsDc (connected w s)
+connected_keeps w s k is =
+    let c : IsDc (with_system w (connected w s).system) = keeps_carried w (connected w s).system k is (accept_carries w s _ _ k) in
+    record { system = is; rows = c.rows; once = c.once; captured = c.captured; saved = c.saved; session = inr refl; stored = omega arith }

@@ -1,0 +1,26 @@
+-- What a walk over a list has found of each element.
+use Rattle.std.proofs.Common.{◌≡◌, ℕ, ◌+◌, ◌≤◌, Some, suc, List, [], ◌∷◌, ◌++◌, length, get_or, take, reverse, sym, subst}
+use Rattle.std.specs.Prelude.{slice_get}
+use Rattle.std.specs.List.{AllByRecursion}
+use mathlib.Core.List.{reverse_aux}
+use Rattle.std.proofs.lemmas.List.{take_more, take_all, reverse-reverse}
+use Rattle.std.proofs.lemmas.Option.{slice_get_within, get_or_from_slice_get}
+use Rattle.record_key.proofs.Lists.{all_appended}
+
+-- one element more
+pub all_more : {X : Type 0} (P : X → Type 0) (xs : List X) (p : ℕ) (x : X) → slice_get xs p ≡ Some x → AllByRecursion P (take p xs) → P x → AllByRecursion P (take (p + 1) xs)
+all_more P xs p x there all holds =
+    subst (AllByRecursion P) (sym (take_more xs p x (slice_get_within xs p x there)))
+    (all_appended P (take p xs) (get_or xs p x ∷ []) all (subst P (sym (get_or_from_slice_get xs p x x there)) holds, tt))
+
+-- the end
+pub all_through : {X : Type 0} (P : X → Type 0) (xs : List X) (p : ℕ) → length xs ≤ p → AllByRecursion P (take p xs) → AllByRecursion P xs
+all_through P xs p most all = subst (AllByRecursion P) (take_all p xs most) all
+
+all_onto : {X : Type 0} (P : X → Type 0) (xs ys : List X) → AllByRecursion P xs → AllByRecursion P ys → AllByRecursion P (reverse_aux xs ys)
+all_onto P [] ys all more = more
+all_onto P (x ∷ xs) ys all more = all_onto P xs (x ∷ ys) all.1 (all.0, more)
+
+-- what holds the other way round
+pub all_reversed : {X : Type 0} (P : X → Type 0) (xs : List X) → AllByRecursion P (reverse xs) → AllByRecursion P xs
+all_reversed P xs all = subst (AllByRecursion P) (reverse-reverse xs) (all_onto P (reverse xs) [] all tt)

@@ -1,0 +1,86 @@
+-- The log of the data component is kept by each of its calls.
+use Rattle.std.proofs.Common.{◌≡◌, ℕ, ◌+◌, List, [], ◌∷◌, ◌++◌, length, refl, sym, ap, ◌∙◌, subst, arith, append_assoc}
+use Rattle.std.proofs.lemmas.List.{append-nil, length-append}
+use Rattle.codec.specs.declared.dc_record.DcRecord.{DcRecord}
+use Rattle.codec.specs.DcRecords.{dc_record_bytes, FitsFrame}
+use Rattle.codec.specs.Frames.{frame}
+use Rattle.stable.specs.Crash.{BeginsWith}
+use Rattle.recovery_laws.specs.Shape.{named, beginning}
+use Rattle.system_txn.specs.Devices.{spelled, places, records_at}
+use Rattle.system_txn.specs.LogView.{IsStored, AreFrames}
+use Rattle.system_txn.proofs.Spelled.{read_back}
+use Rattle.recovery_laws.proofs.Beginnings.{whole, shorter}
+
+-- both halves of what holds of the log
+abbrev pub IsKept : List DcRecord → ℕ → List ℕ → List ℕ → List ℕ → ℕ → ℕ → Type 0
+IsKept log stable forced pending begins end next_id =
+    IsStored log stable forced pending × AreFrames log begins end next_id
+
+-- the records that are read at the places are those of the log that is kept
+pub same_log : (log : List DcRecord) (stable : ℕ) (forced pending begins : List ℕ) (end next_id : ℕ)
+    → IsKept log stable forced pending begins end next_id → records_at (forced ++ pending) begins ≡ log
+same_log log stable forced pending begins end next_id h =
+    ap (λ (b : List ℕ). records_at b begins) (h.0.stored ∙ sym (append-nil (spelled log)))
+    ∙ ap (records_at (spelled log ++ [])) h.1.begins_are ∙ read_back log [] h.1.spellable
+
+-- so it holds of what is seen
+pub kept_so : (log : List DcRecord) (stable : ℕ) (forced pending begins : List ℕ) (end next_id : ℕ)
+    → IsKept log stable forced pending begins end next_id
+    → IsKept (records_at (forced ++ pending) begins) stable forced pending begins end next_id
+kept_so log stable forced pending begins end next_id h =
+    let Of : List DcRecord → Type 0 = λ l. IsKept l stable forced pending begins end next_id in
+    subst Of (sym (same_log log stable forced pending begins end next_id h)) h
+
+-- a log of no records
+pub kept_empty : (forced pending : List ℕ) → forced ≡ [] → pending ≡ [] → IsKept [] 0 forced pending [] 0 2
+unfolding spelled places
+kept_empty forced pending f p = (
+  record {
+    within = omega arith;
+    stored = ap (λ (x : List ℕ). x ++ pending) f ∙ p;
+    covered = (forced, refl);
+  },
+  record { spellable = tt; begins_are = refl; end_is = refl; next_is = refl },
+)
+
+-- a record is appended
+pub kept_longer : (log : List DcRecord) (stable : ℕ) (forced pending begins : List ℕ) (end next_id : ℕ)
+    (r : DcRecord) (next : ℕ)
+    → IsKept log stable forced pending begins end next_id → FitsFrame r → next ≡ named (r ∷ log) + 1
+    → IsKept (r ∷ log) stable forced (pending ++ frame (dc_record_bytes r)) (begins ++ end ∷ [])
+    (end + length (frame (dc_record_bytes r))) next
+unfolding spelled places
+kept_longer log stable forced pending begins end next_id r next h fits is = (
+  record {
+    within = omega (arith, h.0.within);
+    stored = sym (append_assoc forced pending (frame (dc_record_bytes r)))
+        ∙ ap (λ (b : List ℕ). b ++ frame (dc_record_bytes r)) h.0.stored;
+    covered = let P : List DcRecord → Type 0 = λ x. BeginsWith forced (spelled x) in
+        subst P (sym (shorter r log stable h.0.within)) h.0.covered;
+  },
+  record {
+    spellable = (fits, h.1.spellable);
+    begins_are = ap (λ (b : List ℕ). b ++ end ∷ []) h.1.begins_are ∙ ap (λ (n : ℕ). places log ++ n ∷ []) h.1.end_is;
+    end_is = ap (λ (n : ℕ). n + length (frame (dc_record_bytes r))) h.1.end_is
+        ∙ sym (length-append (spelled log) (frame (dc_record_bytes r)));
+    next_is = is;
+  },
+)
+
+-- all records are forced
+pub kept_forced : (log : List DcRecord) (stable : ℕ) (forced pending forced' pending' begins : List ℕ) (end next_id : ℕ)
+    → IsKept log stable forced pending begins end next_id → forced' ≡ forced ++ pending → pending' ≡ []
+    → IsKept log (length log) forced' pending' begins end next_id
+kept_forced log stable forced pending forced' pending' begins end next_id h f p =
+    let all : forced' ≡ spelled log = f ∙ h.0.stored in (
+      record {
+        within = omega arith;
+        stored = ap (λ (x : List ℕ). forced' ++ x) p ∙ append-nil forced' ∙ all;
+        covered = (
+          [],
+          all ∙ ap spelled (sym (whole log (length log) (omega arith)))
+              ∙ sym (append-nil (spelled (beginning log (length log)))),
+        );
+      },
+      h.1,
+    )

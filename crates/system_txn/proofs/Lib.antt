@@ -1,0 +1,11 @@
+pub mod AllWritten
+pub mod Amid
+pub mod Fresh
+pub mod Keeps
+pub mod KeepsLeaves
+pub mod KeepsLog
+pub mod KeepsMerge
+pub mod KeepsSplit
+pub mod Places
+pub mod Spelled
+pub mod Written

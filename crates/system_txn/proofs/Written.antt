@@ -1,0 +1,132 @@
+-- Leaves that are written to their pages.
+use Rattle.std.proofs.Common.{◌≡◌, ℕ, zero, suc, ◌<◌, ◌≤◌, ◌==◌, Bool, cond, List, [], ◌∷◌, length, get_or, Option, Some, refl, sym, ap, ◌∙◌, subst, arith, append-nil, inl, inr}
+use Rattle.std.specs.Prelude.{nat_le}
+use Rattle.std.specs.List.{AllByRecursion}
+use Rattle.std.specs.FinMap as table
+use Rattle.std.specs.Cmp.{nat_cmp_total, unsigned_tied}
+use Rattle.std.proofs.lemmas.Bool.{cases_Bool, leb-true}
+use Rattle.codec.specs.declared.image.LeafImage.{LeafImage}
+use Rattle.codec.specs.Images.{image_bytes, IsOrderedImage, IsImage}
+use Rattle.codec.specs.Reading.{image_at}
+use Rattle.codec.proofs.Images.{image_reads}
+use Rattle.stable.specs.PagesState.{Pages}
+use Rattle.page.specs.Leaf.{LeafView, IsLeaf, first}
+use Rattle.recovery_laws.specs.Images.{image_of, HasLeafNumbers}
+use Rattle.recovery_laws.specs.Laws.{IsCurrent}
+use Rattle.recovery_laws.specs.Recovery.{FitPages, written}
+use Rattle.recovery_laws.proofs.Images.{images_keep_leaves}
+use Rattle.recovery_laws.proofs.Fitting.{fit_stays}
+use Rattle.system_txn.specs.Changes.{covered, forced, written_to}
+use Rattle.system_txn.specs.Devices.{page_in, pages_of}
+use Rattle.record_key.specs.declared.refusal.Refusal.{Refusal}
+use Rattle.system_txn.specs.Gives.{StopsWriting}
+use Rattle.system_txn.specs.Kept.{IsSystem}
+use Rattle.system_txn.specs.SystemView.{SystemView}
+use Rattle.system_txn.proofs.Keeps.{keeps_forced, keeps_failures}
+
+-- the leaf of a page is read from its image
+pub page_again : (leaf : LeafView) → IsImage (image_of leaf) → page_in (image_bytes (image_of leaf)) ≡ Some leaf
+unfolding page_in
+page_again leaf fits =
+    let image : LeafImage = image_of leaf in
+    let all : image_at (image_bytes image) ≡ Some (image, []) =
+    ap image_at (sym (append-nil (image_bytes image))) ∙ image_reads.again image [] fits in
+    rw all (ap (λ (l : LeafView). Some l) (images_keep_leaves.leaf leaf))
+
+-- what is read of a page where one was written
+get_written : (pages : Pages) (id : ℕ) (bytes : List ℕ) (q : ℕ)
+    → table.get (table.insert pages id bytes) q ≡ cond (q == id) (Some bytes) (table.get pages q)
+get_written pages id bytes q =
+    table.get-insert nat_cmp_total pages id bytes q
+    ∙ ap (λ (b : Bool). cond b (Some bytes) (table.get pages q)) (unsigned_tied q id)
+
+-- the leaves of the pages are those of before, with the leaf that was written
+pub pages_written : (pages : Pages) (leaf : LeafView) → IsImage (image_of leaf) → (id : ℕ)
+    → pages_of (table.insert pages leaf.id (image_bytes (image_of leaf))) id ≡ written (pages_of pages) leaf.id leaf id
+pages_written pages leaf fits id =
+    let bytes : List ℕ = image_bytes (image_of leaf) in
+    let new : Pages = table.insert pages leaf.id bytes in
+    let got = get_written pages leaf.id bytes id in
+    elim (cases_Bool (id == leaf.id)) [
+      | inl here ↦
+          let found : table.get new id ≡ Some bytes = rw here at got in
+          rw (found, here) (page_again leaf fits)
+      | inr other ↦
+          let same : table.get new id ≡ table.get pages id = rw other at got in
+          rw (same, other) refl
+    ]
+
+-- a leaf that is no younger than the stable records is written
+keeps_page : (v : SystemView) (leaf : LeafView) → IsSystem v → IsLeaf leaf → IsImage (image_of leaf)
+    → IsCurrent v.log leaf.id leaf → leaf.last ≤ v.stable
+    → IsSystem (record v { pages = table.insert v.pages leaf.id (image_bytes (image_of leaf)) })
+keeps_page v leaf h kept fits current stable = record {
+  leaves = h.leaves;
+  numbers = h.numbers;
+  legal = h.legal;
+  records = h.records;
+  numbered = h.numbered;
+  named = h.named;
+  current = h.current;
+  fit = subst (λ (pages : ℕ → Option LeafView). FitPages pages v.log v.stable)
+      (sym (λ i id. pages_written v.pages leaf fits id i))
+      (fit_stays.write (pages_of v.pages) v.log v.stable leaf.id leaf h.fit current stable);
+  pages = λ id bytes is.
+      let image : List ℕ = image_bytes (image_of leaf) in
+      let got = get_written v.pages leaf.id image id in
+      elim (cases_Bool (id == leaf.id)) [
+        | inl here ↦
+            let found : table.get (table.insert v.pages leaf.id image) id ≡ Some image = rw here at got in
+            let same : Some image ≡ Some bytes = sym found ∙ is in
+            (leaf, record { kept = kept; image = fits; spelled = cc })
+        | inr other ↦ h.pages id bytes (sym (rw other at got) ∙ is)
+      ];
+}
+
+-- a leaf is written, once the log is forced where it has to be
+pub keeps_written : (v : SystemView) (leaf : LeafView) → IsSystem v → IsLeaf leaf → IsImage (image_of leaf)
+    → IsCurrent v.log leaf.id leaf → IsSystem (written_to v leaf)
+keeps_written v leaf h kept fits current =
+    elim (cases_Bool (nat_le leaf.last v.stable)) [
+      | inl stable ↦ rw stable (keeps_page v leaf h kept fits current (leb-true leaf.last v.stable stable))
+      | inr young ↦ rw young (keeps_page (forced v) leaf (keeps_forced v h) kept fits current current.last)
+    ]
+
+-- the log is forced where it has to be
+pub keeps_covered : (v : SystemView) (leaf : LeafView) → IsSystem v → IsSystem (covered v leaf)
+keeps_covered v leaf h =
+    elim (cases_Bool (nat_le leaf.last v.stable)) [
+      | inl stable ↦ rw stable h
+      | inr young ↦ rw young (keeps_forced v h)
+    ]
+
+-- what each leaf has, the one at a place has
+pub at_place : (P : LeafView → Type 0) (leaves : List LeafView) (p : ℕ) → p < length leaves → AllByRecursion P leaves
+    → P (get_or leaves p first)
+at_place P [] p lt all = absurd (omega (arith, lt))
+at_place P (leaf ∷ leaves) zero lt all = all.0
+at_place P (leaf ∷ leaves) (suc p) lt all = at_place P leaves p (omega (arith, lt)) all.1
+
+-- a write was refused
+pub keeps_stopped : (v : SystemView) (leaf : LeafView) (r : Refusal) (new : SystemView) → IsSystem v
+    → StopsWriting v leaf r new → IsSystem new
+keeps_stopped v leaf r new h stops =
+    elim stops.1 [
+      | inl before ↦ subst IsSystem (sym before) (keeps_failures v _ h)
+      | inr after ↦ subst IsSystem (sym after) (keeps_failures (covered v leaf) _ (keeps_covered v leaf h))
+    ]
+
+-- the leaf at a place is written
+pub keeps_written_at : (v : SystemView) (p : ℕ) → IsSystem v → p < length v.leaves
+    → IsImage (image_of (get_or v.leaves p first))
+    → IsSystem (written_to v (get_or v.leaves p first))
+keeps_written_at v p h there fits =
+    keeps_written v (get_or v.leaves p first) h (at_place IsLeaf v.leaves p there h.leaves.each) fits
+    (at_place (λ (leaf : LeafView). IsCurrent v.log leaf.id leaf) v.leaves p there h.current.each)
+
+-- the image of each leaf is in order
+pub ordered_images : (leaves : List LeafView) → AllByRecursion IsLeaf leaves → AllByRecursion HasLeafNumbers leaves
+    → AllByRecursion (λ (leaf : LeafView). IsOrderedImage (image_of leaf)) leaves
+ordered_images [] each numbers = tt
+ordered_images (leaf ∷ leaves) each numbers =
+    (images_keep_leaves.ordered leaf each.0 numbers.0, ordered_images leaves each.1 numbers.1)

@@ -1,0 +1,72 @@
+-- What each call does to the leaves, their log and their pages.
+use Rattle.std.specs.Prelude.{ℕ, ◌+◌, List, [], ◌∷◌, Option, Some, None, get_or, length, map, nat_le, if◌then◌else◌}
+use Rattle.std.specs.FinMap as table
+use Rattle.std.specs.Option.{option_map}
+use Rattle.codec.specs.declared.dc_record.DcRecord.TheVariants as is
+use Rattle.codec.specs.Images.{image_bytes}
+use Rattle.page.specs.Leaf.{LeafView, first, raised_to}
+use Rattle.btree.specs.Parting.{middle, is_large, may_join, split_at, merged_at}
+use Rattle.recovery_laws.specs.Images.{image_of}
+use Rattle.recovery_laws.specs.Leaves.{split_of, merge_of}
+use Rattle.recovery_laws.specs.Shape.{named}
+use Rattle.system_txn.specs.SystemView.{SystemView}
+
+-- the numbers of the next record and of the next leaf
+abbrev pub next_number : SystemView → ℕ
+next_number v = length v.log + 1
+
+abbrev pub next_id : SystemView → ℕ
+next_id v = named v.log + 1
+
+abbrev pub leaf_in : SystemView → ℕ → LeafView
+leaf_in v p = get_or v.leaves p first
+
+-- the leaf at a place is split; the record holds the new leaf
+abbrev pub split_to : SystemView → ℕ → SystemView
+split_to v p = record v {
+  leaves = split_at p (next_id v) (next_number v) v.leaves;
+  log = split_of v.log (leaf_in v p) (middle (leaf_in v p)) ∷ v.log;
+}
+
+-- the leaf at a place and the one after it are joined; the record holds the leaf of both
+abbrev pub merged_to : SystemView → ℕ → SystemView
+merged_to v p = record v {
+  leaves = merged_at p (next_number v) v.leaves;
+  log = merge_of v.log (leaf_in v p) (leaf_in v (p + 1)) ∷ v.log;
+}
+
+-- the first large leaf, and the first two neighbours that may be joined
+abbrev pub first_large : List LeafView → Option ℕ
+first_large [] = None
+first_large (leaf ∷ leaves) = if is_large leaf then Some 0 else option_map (λ p. p + 1) (first_large leaves)
+
+abbrev pub first_pair : List LeafView → Option ℕ
+first_pair [] = None
+first_pair (leaf ∷ []) = None
+first_pair (left ∷ right ∷ leaves) =
+    if may_join left right then Some 0 else option_map (λ p. p + 1) (first_pair (right ∷ leaves))
+
+-- every record is stable
+abbrev pub forced : SystemView → SystemView
+forced v = record v { stable = length v.log }
+
+-- the log is forced where the leaf's last system transaction isn't stable
+abbrev pub covered : SystemView → LeafView → SystemView
+covered v leaf = if nat_le leaf.last v.stable then v else forced v
+
+-- the leaf is written to its page
+abbrev pub written_to : SystemView → LeafView → SystemView
+written_to v leaf = record (covered v leaf) { pages = table.insert v.pages leaf.id (image_bytes (image_of leaf)) }
+
+-- the leaves are written one after another
+abbrev pub written_all : SystemView → List LeafView → SystemView
+written_all v [] = v
+written_all v (leaf ∷ leaves) = written_all (written_to v leaf) leaves
+
+-- each leaf counts every number up to this one as performed
+abbrev pub lowered : SystemView → ℕ → SystemView
+lowered v l = record v { leaves = map (λ leaf. raised_to leaf l) v.leaves }
+
+-- a session's record stands in the log
+abbrev pub accepted : SystemView → ℕ → SystemView
+accepted v session = record v { log = is.Accept session ∷ v.log }

@@ -1,0 +1,27 @@
+-- What holds of the leaves and their devices at every moment.
+use Rattle.std.specs.Prelude.{◌≡◌, ℕ, ◌<◌, ◌^◌, List, Some, length}
+use Rattle.std.specs.List.{AllByRecursion}
+use Rattle.std.specs.FinMap.{get}
+use Rattle.page.specs.Leaf.{LeafView}
+use Rattle.btree.specs.Leaves.{AreLeaves}
+use Rattle.recovery_laws.specs.Images.{HasLeafNumbers}
+use Rattle.recovery_laws.specs.Shape.{IsLegal, named}
+use Rattle.recovery_laws.specs.Leaves.{AreCurrent}
+use Rattle.recovery_laws.specs.Recovery.{FitPages}
+use Rattle.system_txn.specs.Devices.{IsPage, pages_of, AreRecords}
+use Rattle.system_txn.specs.SystemView.{SystemView}
+
+pub record IsSystem (v : SystemView) : Type 0 where
+  -- the leaves have all keys among them, and numbers below 2 to the power of 48
+  pub leaves : AreLeaves v.leaves
+  pub numbers : AllByRecursion HasLeafNumbers v.leaves
+  -- each record of the log fits those before it, and has a spelling
+  pub legal : IsLegal v.log
+  pub records : AreRecords v.log
+  pub numbered : length v.log < 2 ^ 48
+  pub named : named v.log < 2 ^ 48
+  -- the leaves are those that the log says, with their fences
+  pub current : AreCurrent v.log v.leaves
+  -- each page is an image, no younger than the stable records, with the fences that its leaf had then
+  pub fit : FitPages (pages_of v.pages) v.log v.stable
+  pub pages : (id : ℕ) (bytes : List ℕ) → get v.pages id ≡ Some bytes → (leaf : LeafView) × IsPage bytes leaf

@@ -1,0 +1,34 @@
+-- The log of the data component: what is seen of it, and what holds of it.
+use Rattle.std.specs.Prelude.{◌≡◌, ℕ, ◌+◌, ◌≤◌, List, ◌++◌, length}
+use Rattle.record_key.specs.declared.refusal.Refusal.{Refusal}
+use Rattle.record_key.specs.declared.refusal.Refusal.TheVariants.{NoMemory, Device}
+use Rattle.codec.specs.declared.dc_record.DcRecord.{DcRecord}
+use Rattle.stable.specs.Crash.{BeginsWith}
+use Rattle.stable.specs.declared.error.DeviceError.{DeviceError}
+use Rattle.stable.specs.declared.error.DeviceError.TheVariants as device
+use Rattle.recovery_laws.specs.Shape.{named, beginning}
+use Rattle.system_txn.specs.Devices.{spelled, places, AreRecords}
+
+-- the records, the newest first, how many of them are stable, and how often the device has failed
+pub record ChangeLogView : Type 0 where
+  pub log : List DcRecord
+  pub stable : ℕ
+  pub failures : ℕ
+
+-- the device holds just the frames of the records, and the stable ones are among what every crash leaves
+pub record IsStored (log : List DcRecord) (stable : ℕ) (forced pending : List ℕ) : Type 0 where
+  pub within : stable ≤ length log
+  pub stored : forced ++ pending ≡ spelled log
+  pub covered : BeginsWith forced (spelled (beginning log stable))
+
+-- the records have spellings, and what is kept of them is right
+pub record AreFrames (log : List DcRecord) (begins : List ℕ) (end next_id : ℕ) : Type 0 where
+  pub spellable : AreRecords log
+  pub begins_are : begins ≡ places log
+  pub end_is : end ≡ length (spelled log)
+  pub next_is : next_id ≡ named log + 1
+
+-- the refusal that a device's error is answered with
+abbrev pub refusal_from : DeviceError → Refusal
+refusal_from device.NoMemory = NoMemory
+refusal_from device.Device = Device

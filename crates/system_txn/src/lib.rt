@@ -1,0 +1,26 @@
+//! System transactions: what a data component does to its leaves beside what it is asked to perform.
+//!
+//! Knows: leaves as a list in key order, records of their log, images of leaves, and what both devices promise.
+//! Must not know: sessions' rules, requests, transactions, or how the leaves are held.
+//! Promises the next crates: a split or a merge stands in the log before the leaves change, and the log is stable
+//! before a page tells of it; a refused call names its cause and leaves what its definition says; `IsSystem` holds.
+#![tactic(auto)]
+
+mod change_log;
+mod choosing;
+mod devices;
+mod image;
+mod parting;
+mod parts;
+mod system;
+mod tended;
+mod writing;
+
+pub use change_log::ChangeLog;
+pub use devices::{Devices, Refused};
+pub use image::image_of;
+pub use system::SystemTxns;
+pub use tended::{Neighbours, Tended};
+
+#[cfg(test)]
+mod tests;

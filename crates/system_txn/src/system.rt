@@ -1,0 +1,218 @@
+//! The leaves of a data component with the devices that outlive them.
+ghost use Rattle.std.specs.Prelude.{◌≡◌, ◌+◌, ◌++◌, ◌<◌, ◌^◌, [], true, length, get_or, Some, None, IsOk, IfOk, IfErr, OnOk, OnErr, IsOkUnless};
+ghost use Rattle.std.specs.FinMap as map;
+ghost use Rattle.std.specs.Option.{option_copied};
+ghost use Rattle.record_key.specs.Table.{key_of};
+ghost use Rattle.history.specs.Spans.{Shared, rows_in};
+ghost use Rattle.ab_lsn.specs.AbLsn.{captures};
+ghost use Rattle.page.specs.Leaf.{first};
+ghost use Rattle.stable.specs.Crash.{BeginsWith};
+ghost use Rattle.btree.specs.Leaves.{leaf_at, place_at, rows_of};
+ghost use Rattle.btree.specs.Performs.{PerformsAt};
+ghost use Rattle.recovery_laws.specs.Shape.{beginning};
+ghost use Rattle.system_txn.specs.SystemView.{fresh};
+ghost use Rattle.system_txn.specs.Devices.{spelled};
+ghost use Rattle.system_txn.specs.Changes.{lowered};
+ghost use Rattle.system_txn.specs.Gives.{append_refusal, SplitGives, MergeGives, TendGives};
+ghost use Rattle.system_txn.specs.Gives.{FlushGives, CheckpointGives, AcceptGives};
+ghost use Rattle.system_txn.specs.Kept.{IsSystem};
+
+use crate::devices::{Devices, Refused};
+use crate::parts::Parts;
+use crate::tended::{Neighbours, Tended};
+use btree::LeafSet;
+use page::{Done, Leaf};
+use record_key::{Key, Op, Refusal, Value};
+use stable::{LogDevice, PageDevice};
+use std::alloc::Global;
+use std::marker::Model;
+
+/// Leaves, the log of what was done to them, and their pages.
+#[derive(Drop)]
+pub struct SystemTxns<L: LeafSet, D: LogDevice, P: PageDevice> {
+    parts: Parts<L, D, P>,
+}
+
+impl<L: LeafSet, D: LogDevice, P: PageDevice> Model for SystemTxns<L, D, P> {
+    ghost use Rattle.std.specs.Coded.{codes};
+    ghost use Rattle.record_key.specs.Table.{table_code};
+    ghost use Rattle.system_txn.specs.SystemView.{SystemView, pages_code};
+    ghost use Rattle.system_txn.specs.Kept.{IsSystem};
+    ghost use Rattle.system_txn.specs.Seen.{seen};
+
+    ghost Value = { SystemView };
+
+    ghost coded = { Prim.hlevel (codes, table_code, pages_code) };
+
+    ghost view = { λ s. seen L.leaves P.pages P.failures s.parts };
+
+    ghost invariant = { λ s. IsSystem (seen L.leaves P.pages P.failures s.parts) };
+}
+
+impl<L: LeafSet, D: LogDevice, P: PageDevice> SystemTxns<L, D, P> {
+    /// One leaf for all keys, on devices that hold nothing. Refused NoMemory, with the devices.
+    pub fn new(alloc: Global, log: D, pages: P) -> Result<SystemTxns<L, D, P>, Refused<D, P>>
+        requires no_log { (D.forced log ≡ []) × (D.pending log ≡ []) }
+        requires no_pages { P.pages pages ≡ map.empty }
+        ensures fresh { IfOk result (λ system. system ≡ fresh (D.failures log + P.failures pages)) }
+        ensures refused { IfErr result (λ left. left.refusal ≡ Refusal.NoMemory) }
+        ensures same_log { IfErr result (λ left. left.devices.log ≡ log) }
+        ensures same_pages { IfErr result (λ left. left.devices.pages ≡ pages) }
+    {
+        let parts = Parts::new(alloc, log, pages)?;
+        Ok(SystemTxns { parts })
+    }
+
+    /// The devices, as a crash finds them: all records stand on the log's, and the stable ones are forced.
+    pub fn stop(self) -> Devices<D, P>
+    where
+        L: Drop,
+        ensures holds { D.forced result.log ++ D.pending result.log ≡ spelled self.log }
+        ensures forced { BeginsWith (D.forced result.log) (spelled (beginning self.log self.stable)) }
+        ensures pages { P.pages result.pages ≡ self.pages }
+        ensures failures { D.failures result.log + P.failures result.pages ≡ self.failures }
+    {
+        let SystemTxns { parts } = self;
+        let Parts {
+            leaves: _,
+            log,
+            pages,
+            image: _,
+        } = parts;
+        Devices {
+            log: log.stop(),
+            pages,
+        }
+    }
+
+    /// Splits the leaf that has the key at its middle record: one append to the log, then the leaves. Refused NotNow
+    /// where it has fewer than two records, NumbersSpent, NoMemory, Device.
+    pub fn split(&mut self, key: &Key) -> Result<Neighbours, Refusal>
+        ensures gives { SplitGives self.old key.now result self.new }
+    {
+        self.parts.split(key)
+    }
+
+    /// Joins the leaf that has the key with the one after it, under its own number: one append to the log, then the
+    /// leaves. Refused NotNow where the two may not be joined, NumbersSpent, NoMemory, Device.
+    pub fn merge(&mut self, key: &Key) -> Result<Neighbours, Refusal>
+        ensures gives { MergeGives self.old key.now result self.new }
+    {
+        self.parts.merge(key)
+    }
+
+    /// Splits the first large leaf; where there is none and merges are let, joins the first two that may be. Refused
+    /// NumbersSpent, NoMemory, Device.
+    pub fn tend(&mut self, merges: bool) -> Result<Tended, Refusal>
+        ensures gives { TendGives self.old merges result self.new }
+    {
+        self.parts.tend(merges)
+    }
+
+    /// Writes the leaf that has the key to its page, the log first where it has to be forced, and answers the leaf's
+    /// number. Refused NoMemory, Device.
+    pub fn flush(&mut self, key: &Key) -> Result<u64, Refusal>
+        ensures gives { FlushGives self.old key.now result self.new }
+    {
+        self.parts.flush(key)
+    }
+
+    /// Counts every request up to this number as performed, and writes each leaf. Refused NoMemory, Device.
+    pub fn checkpoint(&mut self, low: u64) -> Result<(), Refusal>
+        requires { low < 2 ^ 48 }
+        ensures gives { CheckpointGives self.old low result self.new }
+    {
+        self.parts.checkpoint(low)
+    }
+
+    /// Logs that the session is accepted, and forces the log. Refused NumbersSpent, NoMemory, Device.
+    pub fn accept(&mut self, session: u64) -> Result<(), Refusal>
+        requires { session < 2 ^ 48 }
+        ensures gives { AcceptGives self.old session result self.new }
+    {
+        self.parts.accept(session)
+    }
+
+    /// Whether the log has a number for one record more. Refused NumbersSpent.
+    pub fn can_log(&self) -> Result<(), Refusal>
+        ensures allowed { OnOk result (append_refusal self.now ≡ None) }
+        ensures refused { IfErr result (λ refusal. append_refusal self.now ≡ Some refusal) }
+    {
+        self.parts.can_log()
+    }
+
+    /// Performs the operation under this number at the leaf of its key, or gives the answer that it had under it
+    /// before, if that is still kept. Refused NoMemory, and unchanged then; a repeated number takes no memory.
+    pub fn perform(&mut self, number: u64, op: &Op) -> Result<Done, Refusal>
+        requires { number < 2 ^ 48 }
+        ensures done { IfOk result (λ done. PerformsAt self.old.leaves number op.now done self.new.leaves) }
+        ensures rest { self.new ≡ record self.old { leaves = self.new.leaves } }
+        ensures repeated { captures (leaf_at self.old.leaves (key_of op.now)).ab number ≡ true → IsOk result }
+        ensures refused { OnErr result (self.new ≡ self.old) }
+        ensures memory { IsOkUnless result Refusal.NoMemory }
+    {
+        self.parts.perform(number, op)
+    }
+
+    /// Counts every request up to this number as performed at each leaf. Takes no memory.
+    pub fn lower(&mut self, low: u64)
+        requires { low < 2 ^ 48 }
+        ensures { self.new ≡ lowered self.old low }
+    {
+        self.parts.lower(low);
+    }
+
+    /// The value at the key. Takes no memory.
+    pub fn get(&self, key: &Key) -> Option<&Value>
+        ensures { option_copied result ≡ map.get (leaf_at self.now.leaves key.now).rows key.now }
+    {
+        self.parts.leaves.get(key)
+    }
+
+    /// Copies of the records from `low` on, below `high` where there is one. Refused NoMemory.
+    pub fn scan(&self, low: &Key, high: Option<&Key>) -> Result<Vec<(Key, Value)>, Refusal>
+        ensures rows { IfOk result (λ rows. rows.items
+            ≡ rows_in (record { lo = low.now; hi = option_copied high.entry; mode = Shared })
+            (rows_of self.now.leaves)) }
+        ensures memory { IsOkUnless result Refusal.NoMemory }
+    {
+        self.parts.leaves.scan(low, high)
+    }
+
+    /// How many leaves there are.
+    pub fn len(&self) -> usize
+        ensures count { result ≡ length self.now.leaves }
+        ensures some { 0 < result }
+    {
+        self.parts.leaves.len()
+    }
+
+    /// The leaf at a place, from 0, in key order.
+    pub fn leaf(&self, place: usize) -> &Leaf
+        requires { place < length self.now.leaves }
+        ensures { result.now ≡ get_or self.now.leaves place first }
+    {
+        self.parts.leaves.leaf(place)
+    }
+
+    /// The place of the leaf that has the key.
+    pub fn place_of(&self, key: &Key) -> usize
+        ensures place { result ≡ place_at self.now.leaves key.now }
+        ensures within { result < length self.now.leaves }
+    {
+        self.parts.leaves.place_of(key)
+    }
+
+    /// What serves the leaves' memory.
+    pub fn allocator(&self) -> Global {
+        self.parts.leaves.allocator()
+    }
+
+    /// What holds at every moment: the leaves are those that the log says, each record fits those before it, and
+    /// each page is an image no younger than the stable records.
+    pub fn kept(&self)
+        ensures { IsSystem self.now }
+    {
+        let _ = &self.parts;
+    }
+}

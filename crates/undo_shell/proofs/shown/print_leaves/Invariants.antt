@@ -1,0 +1,9 @@
+use Rattle.std.proofs.Common.{take, flat_map}
+use Rattle.std.specs.Io.KnownBytes.{Appends}
+use Rattle.undo_shell.specs.Stored.{leaf_line}
+use Rattle.undo_shell.specs.View.{leaves_of}
+use Rattle.undo_shell.proofs.shown.print_leaves.Given as goal
+
+-- the leaves so far are written
+abbrev pub invariant-loop-place : goal.invariant-loop-place
+invariant-loop-place g l = Appends (g.W.Write.contents l.initial.writer) (g.W.Write.contents l.writer) (flat_map leaf_line (take l.place (leaves_of l.world)))

@@ -1,0 +1,20 @@
+-- What holds of the leaf of a key.
+use Rattle.std.proofs.Common.{◌≡◌, ℕ, ◌+◌, ◌≤◌, true, false, length, arith, inl, inr}
+use Rattle.std.proofs.lemmas.Bool.{cases_Bool}
+use Rattle.record_key.specs.Table.{Bytes}
+use Rattle.history.specs.Honest.{IsHonestAt}
+use Rattle.btree.specs.Leaves.{leaf_at}
+use Rattle.btree.proofs.AtKey.{all_at, within_at}
+use Rattle.recovery_laws.specs.Ready.{IsHonestTo}
+use Rattle.dc_core.specs.DcView.{leaves, captures_at, value_at}
+use Rattle.world.specs.Node.{NodeView}
+use Rattle.world.specs.Kept.{IsKept}
+
+pub own_leaf : (w : NodeView) (key : Bytes) → IsKept w → IsHonestTo w.tc.log w.tc.stable (leaf_at (leaves w.dc) key)
+own_leaf w key k = all_at (IsHonestTo w.tc.log w.tc.stable) (leaves w.dc) key k.dc.system.leaves k.true_to.leaves
+
+pub honest_at : (w : NodeView) (key : Bytes) → IsKept w → IsHonestAt w.tc.log (captures_at w.dc key) key (value_at w.dc key)
+honest_at w key k = (own_leaf w key k).honest.at key (within_at (leaves w.dc) key k.dc.system.leaves)
+
+pub captured_stable : (w : NodeView) (key : Bytes) (n : ℕ) → IsKept w → captures_at w.dc key n ≡ true → n ≤ w.tc.stable
+captured_stable w key n k h = (own_leaf w key k).within n h
