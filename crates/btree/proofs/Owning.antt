@@ -25,9 +25,10 @@ owns_later from leaf rest on other owns k inside =
     (from_low from k on.fence past (starts_weaker from on.fence on.above), rw outside (owns k inside).1)
 
 owns_first : (from : Option Bytes) (leaf : LeafView) (rest : List LeafView) → leaf.low_fence ≡ from → Owns from (leaf ∷ rest) leaf
-owns_first from leaf rest begins k inside =
-    (subst (λ (low : Option Bytes). starts_at_most low k ≡ true) begins (and_parts (starts_at_most leaf.low_fence k) (ends_above leaf.high_fence k) inside).0,
-    rw inside refl)
+owns_first from leaf rest begins k inside = (
+  subst (λ (low : Option Bytes). starts_at_most low k ≡ true) begins (and_parts (starts_at_most leaf.low_fence k) (ends_above leaf.high_fence k) inside).0,
+  rw inside refl,
+)
 
 all_own : (from : Option Bytes) (leaves : List LeafView) → TileFrom from (parts_of leaves) → AllByRecursion (Owns from leaves) leaves
 all_own from [] tile = absurd tile
@@ -35,9 +36,10 @@ all_own from (leaf ∷ rest) tile =
     elim (cases_tile from leaf rest tile) [
       | inl last ↦
           (owns_first from leaf rest last.begins, subst (λ (ls : List LeafView). AllByRecursion (Owns from (leaf ∷ rest)) ls) (sym last.alone) tt)
-      | inr on ↦
-          (owns_first from leaf rest on.begins,
-          all_from (Owns (Some on.fence) rest) (Owns from (leaf ∷ rest)) (λ other. owns_later from leaf rest on other) rest (all_own (Some on.fence) rest on.later))
+      | inr on ↦ (
+        owns_first from leaf rest on.begins,
+        all_from (Owns (Some on.fence) rest) (Owns from (leaf ∷ rest)) (λ other. owns_later from leaf rest on other) rest (all_own (Some on.fence) rest on.later),
+      )
     ]
 
 pub own_leaves : (leaves : List LeafView) → AreLeaves leaves

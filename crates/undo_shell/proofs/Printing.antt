@@ -80,8 +80,8 @@ pub item_more : {X : Type 0} (f : X → List ℕ) (a b c : Option (List ℕ)) (x
 item_more {X} f a b c xs i x d lt at before item =
     let P : List ℕ → Type 0 = λ v. Appends a c v in
     let whole : flat_map f (take (i + 1) xs) ≡ flat_map f (take i xs) ++ f x =
-        ap (flat_map f) (take_more xs i d lt) ∙ flat_map-append f (take i xs) (get_or xs i d ∷ [])
-        ∙ ap (λ v. flat_map f (take i xs) ++ v) (append-nil (f (get_or xs i d)) ∙ ap f (sym at)) in
+    ap (flat_map f) (take_more xs i d lt) ∙ flat_map-append f (take i xs) (get_or xs i d ∷ [])
+    ∙ ap (λ v. flat_map f (take i xs) ++ v) (append-nil (f (get_or xs i d)) ∙ ap f (sym at)) in
     subst P (sym whole) (appends_then a b c (flat_map f (take i xs)) (f x) before item)
 
 -- the text of all elements

@@ -17,8 +17,8 @@ mod sent;
 mod settling;
 mod world;
 
-pub use driving::drive;
 pub use dc_core::Neighbours;
+pub use driving::drive;
 pub use event::{Event, Out};
 pub use round::Round;
 pub use settling::settle;

@@ -19,7 +19,7 @@ serve-requires-clause-key c =
     let w = seen c.args.self.now in
     let Asks : Node → Type 0 = λ node. MayAsk node.dc c.in_ok-request.request in
     let asked : MayAsk w.dc c.in_ok-request.request = may_ask w c.in_ok-request.request c.requires
-        (all_at (IsSent w.tc) w.requests c.args.number c.in_ok-request.request c.requires.sent c.in_ok-request.ensures.found) in
+    (all_at (IsSent w.tc) w.requests c.args.number c.in_ok-request.request c.requires.sent c.in_ok-request.ensures.found) in
     elim c.if-has_reply.branch [ then-has_reply+in_ok-make_room b ↦ subst Asks (sym b.self-is) asked | else-has_reply b ↦ subst Asks (sym b.self-is) asked ]
 
 pub push-requires : goal.push-requires
