@@ -64,7 +64,7 @@ fn undoing<D: LogDevice>(log: &Log<D>, undoes: u64) -> (u64, Option<Op>)
 }
 
 /// What is left to undo from a step on: the step where it is an operation, else its undo-next.
-fn left_from<D: LogDevice>(log: &Log<D>, step: u64) -> u64
+pub fn left_from<D: LogDevice>(log: &Log<D>, step: u64) -> u64
     ensures { result ≡ undo_from (record_at log.now.records step) step }
 {
     match log.record(step) {

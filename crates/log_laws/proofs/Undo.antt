@@ -91,11 +91,11 @@ module _ (r : Record) (log : List Record) (t : ℕ) (other : AStep t (Some r) �
 
 -- and so is what stands
 module _ (r : Record) (log : List Record) (t : ℕ) (other : AStep t (Some r) → ⊥) (fits : Fits log r) where
-  stands_there : (n : ℕ) → Stands log t n → Stands (r ∷ log) t n
+  pub stands_there : (n : ℕ) → Stands log t n → Stands (r ∷ log) t n
   stands_there n h =
       elim (cases_Bool (is_crossed (r ∷ log) n)) [ inl c ↦ absurd (other (crosses_now r log t n fits h c).step) | inr c ↦ stands_kept r log t n h c ]
 
-  stands_back : (n : ℕ) → Stands (r ∷ log) t n → Stands log t n
+  pub stands_back : (n : ℕ) → Stands (r ∷ log) t n → Stands log t n
   stands_back n h = stands_had r log t n (step_number log n t (steps_there r log t other n (stands_step (r ∷ log) t n h))) h
 
   -- so what is left is found as it was

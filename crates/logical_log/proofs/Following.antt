@@ -28,7 +28,7 @@ record Apart (r : Record) (log : List Record) (t : ℕ) : Type 0 where
   ends_none : r ≡ is.End t → ⊥
 
 module _ (r : Record) (log : List Record) where
-  goes_on : (t : ℕ) → (r ≡ is.Commit t → ⊥) → (r ≡ is.End t → ⊥) → has_ended log t ≡ false
+  pub goes_on : (t : ℕ) → (r ≡ is.Commit t → ⊥) → (r ≡ is.End t → ⊥) → has_ended log t ≡ false
       → has_ended (r ∷ log) t ≡ false
   goes_on t commits ends h =
       elim (cases_Bool (has_ended (r ∷ log) t)) [
@@ -40,7 +40,7 @@ module _ (r : Record) (log : List Record) where
       ]
 
   -- what is open now was open, unless it begins
-  was_open : (t : ℕ) → (r ≡ is.Begin → t ≢ length log + 1) → IsOpen (r ∷ log) t → IsOpen log t
+  pub was_open : (t : ℕ) → (r ≡ is.Begin → t ≢ length log + 1) → IsOpen (r ∷ log) t → IsOpen log t
   was_open t begins h =
       elim (which r log t (begun_number (r ∷ log) t h.begun)) [
         | inl e ↦ let now : Some r ≡ Some is.Begin = newest_at (λ x. x ≡ Some is.Begin) r log t e h.begun in

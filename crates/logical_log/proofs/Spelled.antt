@@ -118,7 +118,7 @@ pub read_back : (log : List Record) (rest : List ℕ) → AreRecords log
 unfolding records_at
 read_back log rest each = ap reverse (read_all log rest each) ∙ reverse-reverse log
 
-has_record : (log : List Record) (n : ℕ) → 0 < n → n ≤ length log → (r : Record) × (record_at log n ≡ Some r)
+pub has_record : (log : List Record) (n : ℕ) → 0 < n → n ≤ length log → (r : Record) × (record_at log n ≡ Some r)
 has_record [] n some there = absurd (omega arith)
 has_record (q ∷ log) n some there =
     elim (cases_eq n (length log + 1)) [

@@ -12,3 +12,4 @@ pub mod Placing
 pub mod Returning
 pub mod Forgetting
 pub mod Tables
+pub mod Rebuilding

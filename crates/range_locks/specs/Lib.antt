@@ -4,3 +4,4 @@ pub mod Least
 pub mod Order
 pub mod Index
 pub mod Places
+pub mod Rebuilt

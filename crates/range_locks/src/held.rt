@@ -1,15 +1,16 @@
 //! The locks of each transaction, the oldest first.
-ghost use Rattle.std.specs.Prelude.{◌≡◌, ◌≢◌, ℕ, ◌∷◌, ◌++◌, [], drop, IfErr, IfSome, IfNone, OnOk, OnErr};
+ghost use Rattle.std.specs.Prelude.{◌≡◌, ◌≢◌, ℕ, ◌∷◌, ◌++◌, [], drop, IfOk, IfErr, IfSome, IfNone, OnOk, OnErr};
 ghost use Rattle.std.specs.Bool.{MatchBool};
 ghost use Rattle.std.specs.List.{list_any};
 ghost use Rattle.range_locks.specs.Locks.{spans_of, set_spans, IsFree, IsLeastHolder};
 ghost use Rattle.range_locks.specs.Meant.{span_of, seen, items_of, locks_in, Lists, clashes_with, blocks};
 ghost use Rattle.range_locks.specs.Index.{stands};
 ghost use Rattle.range_locks.specs.Least.{lesser};
+ghost use Rattle.range_locks.specs.Rebuilt.{IsRebuilt};
 
 use crate::entry::Entry;
 use crate::span::Lock;
-use record_key::Refusal;
+use record_key::{Key, Refusal};
 use std::alloc::Global;
 use std::collections::BTreeMap;
 
@@ -26,6 +27,18 @@ impl Held {
         Held {
             by_txn: BTreeMap::new(alloc),
         }
+    }
+
+    /// Where just these keys are held. Refused NoMemory.
+    pub fn of_keys(alloc: Global, locks: &[(u64, Key)]) -> Result<Held, Refusal>
+        ensures rebuilt { IfOk result (λ held. IsRebuilt locks.now (seen held)) }
+        ensures refused { IfErr result (λ refusal. refusal ≡ Refusal.NoMemory) }
+    {
+        let mut held = Held::new(alloc);
+        for (txn, key) in locks {
+            held.push(alloc, *txn, Lock::exclusive(key))?;
+        }
+        Ok(held)
     }
 
     /// Adds the newest lock of a transaction. Refused NoMemory.

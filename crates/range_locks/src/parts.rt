@@ -1,17 +1,18 @@
 //! The locks and their index together.
-ghost use Rattle.std.specs.Prelude.{◌≡◌, ◌≢◌, ◌∷◌, [], drop, true, IfErr, IfSome, IfNone, OnOk, OnErr};
+ghost use Rattle.std.specs.Prelude.{◌≡◌, ◌≢◌, ◌∷◌, [], drop, true, IfOk, IfErr, IfSome, IfNone, OnOk, OnErr};
 ghost use Rattle.history.specs.Spans.{IsRange};
 ghost use Rattle.record_key.specs.Order.{ends_above};
 ghost use Rattle.range_locks.specs.Locks.{spans_of, set_spans, IsFree, IsLeastHolder, Refuses};
 ghost use Rattle.range_locks.specs.Meant.{low_of, high_of, meant, span_of, seen};
 ghost use Rattle.range_locks.specs.Index.{IsIndexed};
+ghost use Rattle.range_locks.specs.Rebuilt.{IsRebuilt};
 
 use crate::entry::Entry;
 use crate::held::Held;
 use crate::index::{forget, search};
 use crate::places::{first_at, keys_to, ranges_to};
 use crate::span::{Lock, Mode, Span};
-use record_key::Refusal;
+use record_key::{Key, Refusal};
 use std::alloc::Global;
 use std::collections::BTreeSet;
 use std::ops::Bound;
@@ -34,6 +35,19 @@ impl Parts {
             index: BTreeSet::new(alloc),
             alloc,
         }
+    }
+
+    /// Where just these keys are held. Refused NoMemory.
+    pub fn of_keys(alloc: Global, locks: &[(u64, Key)]) -> Result<Parts, Refusal>
+        ensures kept { IfOk result (λ parts. IsIndexed parts.held parts.index) }
+        ensures rebuilt { IfOk result (λ parts. IsRebuilt locks.now (seen parts.held)) }
+        ensures refused { IfErr result (λ refusal. refusal ≡ Refusal.NoMemory) }
+    {
+        let mut parts = Parts::new(alloc);
+        for (txn, key) in locks {
+            parts.add(*txn, Lock::exclusive(key))?;
+        }
+        Ok(parts)
     }
 
     /// Takes the span where it is one and nobody else's conflicts. Refused BadRange, Busy, NoMemory.

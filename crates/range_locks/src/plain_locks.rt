@@ -4,10 +4,11 @@ ghost use Rattle.std.specs.Bool.{MatchBool};
 ghost use Rattle.history.specs.Spans.{IsRange};
 ghost use Rattle.range_locks.specs.Locks.{spans_of, set_spans, IsFree, Refuses};
 ghost use Rattle.range_locks.specs.Meant.{meant};
+ghost use Rattle.range_locks.specs.Rebuilt.{IsRebuilt};
 
 use crate::held::Held;
 use crate::span::{Lock, Mode, Span};
-use record_key::Refusal;
+use record_key::{Key, Refusal};
 use std::alloc::Global;
 use std::marker::Model;
 
@@ -59,6 +60,17 @@ impl PlainLocks {
             return Err(Refusal::Busy(holder));
         }
         self.held.push(self.alloc, txn, lock)
+    }
+
+    /// Holds just these keys from now on, each alone, in the order in which they are listed, a key twice where it is
+    /// listed twice. Whether two transactions' keys conflict isn't asked. Refused NoMemory; unchanged then.
+    pub fn rebuild(&mut self, locks: &[(u64, Key)]) -> Result<(), Refusal>
+        ensures rebuilt { OnOk result (IsRebuilt locks.now self.new) }
+        ensures refused { IfErr result (λ refusal. refusal ≡ Refusal.NoMemory) }
+        ensures unchanged { OnErr result (self.new ≡ self.old) }
+    {
+        self.held = Held::of_keys(self.alloc, locks)?;
+        Ok(())
     }
 
     /// Whether the transaction holds a span.

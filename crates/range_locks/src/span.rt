@@ -1,6 +1,7 @@
 //! Spans of keys, and when two locks conflict.
 ghost use Rattle.std.specs.Prelude.{◌≡◌};
-ghost use Rattle.history.specs.Spans.{do_conflict};
+ghost use Rattle.history.specs.Spans as law;
+ghost use Rattle.history.specs.Spans.{at_key, do_conflict};
 ghost use Rattle.record_key.specs.Order.{ends_above};
 ghost use Rattle.range_locks.specs.Meant.{mode_of, low_of, high_of, span_of, later, clash};
 
@@ -81,6 +82,16 @@ impl Span {
 }
 
 impl Lock {
+    /// One key, held alone.
+    pub fn exclusive(key: &Key) -> Lock
+        ensures { span_of result ≡ at_key law.Exclusive key.now }
+    {
+        Lock {
+            span: Span::Key(key.copied()),
+            mode: Mode::Exclusive,
+        }
+    }
+
     /// Whether no two transactions may hold both.
     pub fn conflicts(&self, other: &Lock) -> bool
         ensures { result ≡ clash (span_of self.now) (span_of other.now) }

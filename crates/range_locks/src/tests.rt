@@ -2,6 +2,7 @@
 mod conflicts;
 mod giving_back;
 mod mixed;
+mod rebuilding;
 
 use super::*;
 use record_key::{Key, Refusal};

@@ -1,0 +1,19 @@
+use Rattle.std.proofs.Common.{ℕ, ◌∷◌, ◌∙◌, ap}
+use Rattle.history.specs.Spans.{Span}
+use Rattle.range_locks.specs.Locks.{spans_of, set_spans}
+use Rattle.range_locks.specs.Meant.{seen}
+use Rattle.range_locks.proofs.Rebuilding.{one_rebuilt}
+use Rattle.range_locks.proofs.parts.Parts.of_keys.Goals as goal
+
+pub loop-txn-preserved : goal.loop-txn-preserved
+loop-txn-preserved c =
+    let v = seen c.loop-txn.parts.held in
+    let t : ℕ = c.loop-txn-item.result.0 in
+    record {
+      kept = c.in_ok-add.ensures.kept;
+      rebuilt = one_rebuilt c.args.locks.now c.loop-txn.txn-index c.loop-txn-item.result c.loop-txn-test.true
+          c.loop-txn-item.is v
+          (seen c.add.new.self.held)
+          (c.in_ok-add.ensures.taken ∙ ap (λ (s : Span). set_spans t (s ∷ spans_of v t) v) c.exclusive.ensures)
+          c.loop-txn.invariant.rebuilt;
+    }

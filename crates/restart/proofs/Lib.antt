@@ -1,0 +1,8 @@
+pub mod Lists
+pub mod Losing
+pub mod Listed
+pub mod Taking
+pub mod Tops
+pub mod Passing
+pub mod Found
+pub mod Building
