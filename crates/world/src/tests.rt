@@ -32,6 +32,34 @@ const INSERTED: Out = Out::Answered {
     answer: Answer::Inserted,
 };
 
+fn fresh(alloc: Global) -> Result<World, Refusal> {
+    World::new(alloc)
+}
+
+fn requests(world: &World) -> u64 {
+    world.requests()
+}
+
+fn replies(world: &World) -> u64 {
+    world.replies()
+}
+
+fn records(world: &World) -> u64 {
+    world.records()
+}
+
+fn stable_end(world: &World) -> u64 {
+    world.stable_end()
+}
+
+fn next_round(world: &World) -> Option<Round> {
+    world.next_round()
+}
+
+fn driven(alloc: Global, world: &mut World, events: &[Event]) -> Result<Vec<Out>, Refusal> {
+    drive(alloc, world, events)
+}
+
 fn step(world: &mut World, event: &Event) -> Out {
     world.step(event)
 }
@@ -83,15 +111,15 @@ fn assert_outs<const N: usize>(rt: &impl Abort, world: &mut World, steps: [(Even
 /// An event that sends a request, the request's delivery, and that of its reply.
 fn exchange(world: &mut World, event: &Event) -> Out {
     step(world, event);
-    let number = world.requests();
+    let number = requests(world);
     step(world, &Event::Request { number });
-    let number = world.replies();
+    let number = replies(world);
     step(world, &Event::Reply { number })
 }
 
 /// Session 1 is past its redo; two requests and their replies were sent.
 fn running(alloc: Global) -> Result<World, Fail> {
-    let mut world = World::new(alloc)?;
+    let mut world = fresh(alloc)?;
     exchange(&mut world, &Event::Reconnect);
     exchange(&mut world, &Event::Recover);
     Ok(world)

@@ -4,10 +4,10 @@ use super::*;
 /// The counts that a client can see.
 fn sight(world: &World) -> [u64; 5] {
     [
-        world.records(),
-        world.stable_end(),
-        world.requests(),
-        world.replies(),
+        records(world),
+        stable_end(world),
+        requests(world),
+        replies(world),
         rows_in(world),
     ]
 }
@@ -26,9 +26,9 @@ fn came_to(rt: &impl Abort, world: &mut World, event: &Event) -> Out {
 /// An event that sends a request, the request's delivery, and that of its reply.
 fn exchanged(rt: &impl Abort, world: &mut World, event: &Event) -> Out {
     came_to(rt, world, event);
-    let number = world.requests();
+    let number = requests(world);
     came_to(rt, world, &Event::Request { number });
-    let number = world.replies();
+    let number = replies(world);
     came_to(rt, world, &Event::Reply { number })
 }
 
@@ -45,7 +45,7 @@ fn assert_inserts(rt: &impl Abort, world: &mut World, number: u8) -> Result<(), 
 /// A session and nine inserts. Run also with each allocation refused in turn.
 #[test]
 fn refused_memory_changes_nothing(rt: HostRuntime) -> Result<(), Fail> {
-    let mut world = World::new(rt.alloc())?;
+    let mut world = fresh(rt.alloc())?;
     let connected = exchanged(&rt, &mut world, &Event::Reconnect);
     assert_eq!(rt; connected, Out::Connected(1));
     let ended = exchanged(&rt, &mut world, &Event::Recover);
@@ -61,14 +61,14 @@ fn refused_memory_changes_nothing(rt: HostRuntime) -> Result<(), Fail> {
 /// Where a round was refused memory, what it had done stands, and the next call goes on.
 #[test]
 fn refused_memory_stops_settling(rt: HostRuntime) -> Result<(), Fail> {
-    let mut world = World::new(rt.alloc())?;
+    let mut world = fresh(rt.alloc())?;
     let mut outs = Vec::new(rt.alloc());
     if let Err(refusal) = settle_all(&mut world, None, &mut outs) {
         assert_eq!(rt; refusal, Refusal::NoMemory);
         assert!(rt; settle_all(&mut world, None, &mut outs)?);
     }
     assert_eq!(rt; outs.last().is_some(), true);
-    assert_eq!(rt; world.next_round(), None);
+    assert_eq!(rt; next_round(&world), None);
     Ok(())
 }
 
@@ -78,10 +78,10 @@ fn refused_memory_before_any_event(rt: HostRuntime) -> Result<(), Fail> {
     let mut world = running(rt.alloc())?;
     let before = sight(&world);
     let events = [Event::Begin, insert(b"a", b"1")?];
-    if let Err(refusal) = drive(rt.alloc(), &mut world, &events) {
+    if let Err(refusal) = driven(rt.alloc(), &mut world, &events) {
         assert_eq!(rt; refusal, Refusal::NoMemory);
         assert_eq!(rt; sight(&world), before);
-        drive(rt.alloc(), &mut world, &events)?;
+        driven(rt.alloc(), &mut world, &events)?;
     }
     Ok(())
 }

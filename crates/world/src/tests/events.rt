@@ -5,7 +5,7 @@ use history::Record;
 
 #[test]
 fn a_session_begins(rt: HostRuntime) -> Result<(), Fail> {
-    let mut world = World::new(rt.alloc())?;
+    let mut world = fresh(rt.alloc())?;
     let steps = [
         (Event::Begin, Out::Refused(Refusal::NotConnected)),
         (Event::Recover, Out::Refused(Refusal::NotConnected)),
@@ -43,7 +43,7 @@ fn an_operation_is_answered(rt: HostRuntime) -> Result<(), Fail> {
         (UNDO, Out::Nothing),
     ];
     assert_outs(&rt, &mut world, steps);
-    assert_eq!(rt; (world.records(), world.stable_end()), (4, 3));
+    assert_eq!(rt; (records(&world), stable_end(&world)), (4, 3));
     assert_eq!(rt; rows_in(&world), 1);
     Ok(())
 }
@@ -128,7 +128,7 @@ fn reads_are_told(rt: HostRuntime) -> Result<(), Fail> {
         (ROLLBACK, Out::RollingBack),
     ];
     assert_outs(&rt, &mut world, steps);
-    assert_eq!(rt; world.records(), 4);
+    assert_eq!(rt; records(&world), 4);
     Ok(())
 }
 
@@ -148,7 +148,7 @@ fn low_water_is_told(rt: HostRuntime) -> Result<(), Fail> {
     ];
     assert_outs(&rt, &mut world, steps);
     assert_eq!(rt; first_leaf(&world)?.low(), 4);
-    assert_eq!(rt; (world.requests(), world.replies()), (5, 3));
+    assert_eq!(rt; (requests(&world), replies(&world)), (5, 3));
     Ok(())
 }
 
@@ -164,7 +164,7 @@ fn events_are_driven(rt: HostRuntime) -> Result<(), Fail> {
         Event::Request { number: 3 },
         Event::Reply { number: 3 },
     ];
-    let outs = drive(rt.alloc(), &mut world, &events)?;
+    let outs = driven(rt.alloc(), &mut world, &events)?;
     let expected = [
         Out::Begun(2),
         Out::Logged(3),

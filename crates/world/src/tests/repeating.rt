@@ -17,12 +17,12 @@ fn served_three_times(alloc: Global) -> Result<World, Fail> {
 fn a_request_that_comes_again(rt: HostRuntime) -> Result<(), Fail> {
     for first in 3..6 {
         let mut world = served_three_times(rt.alloc())?;
-        assert_eq!(rt; (world.replies(), rows_in(&world)), (5, 1));
+        assert_eq!(rt; (replies(&world), rows_in(&world)), (5, 1));
         assert_out(&rt, &mut world, &Event::Reply { number: first }, &INSERTED);
         for number in 3..6 {
             assert_out(&rt, &mut world, &Event::Reply { number }, &Out::Nothing);
         }
-        assert_eq!(rt; world.records(), 4);
+        assert_eq!(rt; records(&world), 4);
     }
     Ok(())
 }
@@ -70,7 +70,7 @@ fn a_request_below_the_low_water(rt: HostRuntime) -> Result<(), Fail> {
     ];
     assert_outs(&rt, &mut world, steps);
     assert_eq!(rt; first_leaf(&world)?.entries().len(), 0);
-    assert_eq!(rt; (rows_in(&world), world.records()), (1, 4));
+    assert_eq!(rt; (rows_in(&world), records(&world)), (1, 4));
     Ok(())
 }
 
@@ -107,7 +107,7 @@ fn messages_of_the_session_before(rt: HostRuntime) -> Result<(), Fail> {
 /// comes again is answered again.
 #[test]
 fn a_connect_that_comes_late(rt: HostRuntime) -> Result<(), Fail> {
-    let mut world = World::new(rt.alloc())?;
+    let mut world = fresh(rt.alloc())?;
     let steps = [
         (Event::Reconnect, connects(rt.alloc(), 1)),
         (Event::Reconnect, connects(rt.alloc(), 2)),

@@ -11,7 +11,7 @@ fn assert_settles(
     let mut outs = Vec::new(alloc);
     assert!(rt; settle_all(world, None, &mut outs)?);
     assert_eq!(rt; outs.as_slice(), expected);
-    assert_eq!(rt; world.next_round(), None);
+    assert_eq!(rt; next_round(world), None);
     Ok(())
 }
 
@@ -22,8 +22,8 @@ fn connected(alloc: Global) -> [Out; 3] {
 
 #[test]
 fn a_fresh_node(rt: HostRuntime) -> Result<(), Fail> {
-    let mut world = World::new(rt.alloc())?;
-    assert_eq!(rt; world.next_round(), Some(Round::Connect));
+    let mut world = fresh(rt.alloc())?;
+    assert_eq!(rt; next_round(&world), Some(Round::Connect));
     let expected = [
         connects(rt.alloc(), 1),
         Out::Replied(1),
@@ -38,13 +38,13 @@ fn a_fresh_node(rt: HostRuntime) -> Result<(), Fail> {
 
 #[test]
 fn no_more_rounds_than_allowed(rt: HostRuntime) -> Result<(), Fail> {
-    let mut world = World::new(rt.alloc())?;
+    let mut world = fresh(rt.alloc())?;
     let mut outs = Vec::new(rt.alloc());
     assert!(rt; !settle_all(&mut world, Some(0), &mut outs)?);
-    assert_eq!(rt; (outs.len(), world.requests()), (0, 0));
+    assert_eq!(rt; (outs.len(), requests(&world)), (0, 0));
     assert!(rt; !settle_all(&mut world, Some(1), &mut outs)?);
     assert_eq!(rt; outs.as_slice(), connected(rt.alloc()).as_slice());
-    assert_eq!(rt; world.next_round(), Some(Round::Recover));
+    assert_eq!(rt; next_round(&world), Some(Round::Recover));
     assert!(rt;
         settle_all(&mut world, Some(1), &mut outs)?,
         "the last round"
@@ -57,7 +57,7 @@ fn no_more_rounds_than_allowed(rt: HostRuntime) -> Result<(), Fail> {
 /// A Connect that was never answered is given up for another session.
 #[test]
 fn a_session_that_did_not_come_up(rt: HostRuntime) -> Result<(), Fail> {
-    let mut world = World::new(rt.alloc())?;
+    let mut world = fresh(rt.alloc())?;
     step(&mut world, &Event::Reconnect);
     let expected = [
         connects(rt.alloc(), 2),
@@ -73,7 +73,7 @@ fn a_session_that_did_not_come_up(rt: HostRuntime) -> Result<(), Fail> {
 #[test]
 fn an_operation_that_is_not_stable(rt: HostRuntime) -> Result<(), Fail> {
     let mut world = waiting(rt.alloc())?;
-    assert_eq!(rt; world.next_round(), Some(Round::Force));
+    assert_eq!(rt; next_round(&world), Some(Round::Force));
     let expected = [
         stable(rt.alloc(), 3),
         Out::Sent(3),
@@ -92,7 +92,7 @@ fn a_request_that_was_lost(rt: HostRuntime) -> Result<(), Fail> {
     let mut world = waiting(rt.alloc())?;
     step(&mut world, &Event::Force);
     step(&mut world, &SEND);
-    assert_eq!(rt; world.next_round(), Some(Round::Exchange { txn: 2 }));
+    assert_eq!(rt; next_round(&world), Some(Round::Exchange { txn: 2 }));
     let expected = [
         Out::Sent(4),
         Out::Replied(3),
@@ -105,7 +105,7 @@ fn a_request_that_was_lost(rt: HostRuntime) -> Result<(), Fail> {
 #[test]
 fn a_rollback_that_is_under_way(rt: HostRuntime) -> Result<(), Fail> {
     let mut world = rolling(rt.alloc())?;
-    assert_eq!(rt; world.next_round(), Some(Round::Undo { txn: 2 }));
+    assert_eq!(rt; next_round(&world), Some(Round::Undo { txn: 2 }));
     let expected = [
         Out::Compensated(5),
         stable(rt.alloc(), 5),
@@ -139,7 +139,7 @@ fn the_least_comes_first(rt: HostRuntime) -> Result<(), Fail> {
             key: Key::new(b"c")?,
         },
     );
-    assert_eq!(rt; world.next_round(), Some(Round::Exchange { txn: 2 }));
+    assert_eq!(rt; next_round(&world), Some(Round::Exchange { txn: 2 }));
     let expected = [
         Out::Sent(4),
         Out::Replied(4),
@@ -159,7 +159,7 @@ fn the_least_comes_first(rt: HostRuntime) -> Result<(), Fail> {
     assert_settles(&rt, rt.alloc(), &mut world, &expected)?;
     step(&mut world, &Event::Rollback { txn: 5 });
     step(&mut world, &ROLLBACK);
-    assert_eq!(rt; world.next_round(), Some(Round::Undo { txn: 2 }));
+    assert_eq!(rt; next_round(&world), Some(Round::Undo { txn: 2 }));
     Ok(())
 }
 
