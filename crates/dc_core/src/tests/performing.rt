@@ -117,8 +117,9 @@ fn answers_as_the_plain_table(rt: HostRuntime) -> Result<(), Fail> {
 }
 
 /// Where memory is refused nothing has changed, and the request can be sent again.
-fn sent_again(rt: &impl Abort, dc: &mut Dc, number: u64) -> Result<(), Fail> {
-    let op = Op::Insert(key(&[number as u8])?, value(b"v")?);
+fn sent_again(rt: &impl Abort, dc: &mut Dc, name: u8) -> Result<(), Fail> {
+    let op = Op::Insert(key(&[name])?, value(b"v")?);
+    let number = u64::from(name);
     let before = (rows_at(dc, 0), dc.performances());
     if let Err(refusal) = answered(dc, number, &op) {
         assert_eq!(rt; refusal, Refusal::NoMemory);
@@ -134,8 +135,8 @@ fn a_refused_allocation_changes_nothing(rt: HostRuntime) -> Result<(), Fail> {
     let Ok(mut dc) = connected(rt.alloc()) else {
         return Ok(());
     };
-    for number in 1..80u64 {
-        sent_again(&rt, &mut dc, number)?;
+    for name in 1..80u8 {
+        sent_again(&rt, &mut dc, name)?;
     }
     Ok(())
 }
