@@ -30,7 +30,6 @@ use Rattle.page.proofs.Performing.{all_placed}
 use Rattle.page.proofs.Raising.{all_raised}
 use Rattle.page.proofs.Halves.{all_kept, all_joined, below_free, between_lower, between_upper, lower_between, upper_between, retained, table_again, Apart, apart_of, ordered_both}
 use Rattle.btree.specs.Parting.{key_in, count, middle, may_split}
-use Rattle.btree.proofs.Tiling.{starts_weaker}
 use Rattle.btree.proofs.Together.{own_rows}
 
 -- ---- keys of a table
@@ -188,6 +187,3 @@ cuts_inside leaf kept may =
       under = (and_parts (starts_at_most leaf.low_fence (middle leaf)) (ends_above leaf.high_fence (middle leaf)) inside).1;
       above = past_first leaf.low_fence leaf.high_fence (map.entries leaf.rows) (count leaf / 2) (map.entries_sorted leaf.rows) kept.rows half.0 half.1;
     }
-
-pub held_inside : (leaf : LeafView) (k : Bytes) → IsInside (part_of leaf) k → is_in_fences leaf k ≡ true
-held_inside leaf k cut = and_from (starts_at_most leaf.low_fence k) (ends_above leaf.high_fence k) (starts_weaker leaf.low_fence k cut.above) cut.under

@@ -11,7 +11,8 @@ use Rattle.page.specs.Tiles.{parts_of, TileFrom}
 use Rattle.page.proofs.Halves.{between_lower, between_upper, lower_between, upper_between}
 use Rattle.btree.specs.Leaves.{AreLeaves, leaf_at}
 use Rattle.btree.specs.Parting.{may_merge_at, merged_at}
-use Rattle.btree.proofs.Tiling.{GoesOn, cases_tile, tile_last, tile_on, starts_weaker, starts_further}
+use Rattle.page.proofs.Starts.{starts_weaker, starts_further}
+use Rattle.btree.proofs.Tiling.{GoesOn, cases_tile, tile_last, tile_on}
 
 -- ---- the keys of both
 

@@ -11,7 +11,8 @@ use Rattle.page.specs.Tiles.{parts_of, TileFrom}
 use Rattle.page.proofs.Halves.{from_low}
 use Rattle.btree.specs.Leaves.{AreLeaves, leaf_at}
 use Rattle.btree.specs.Parting.{middle, may_split_at, may_merge_at, split_at, merged_at}
-use Rattle.btree.proofs.Tiling.{GoesOn, cases_tile, starts_weaker}
+use Rattle.page.proofs.Starts.{starts_weaker}
+use Rattle.btree.proofs.Tiling.{GoesOn, cases_tile}
 
 -- a key in the leaf's fences has this leaf, and lies where the leaves begin, or above
 abbrev Owns : Option Bytes → List LeafView → LeafView → Type 0

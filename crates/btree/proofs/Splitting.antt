@@ -11,7 +11,8 @@ use Rattle.page.specs.Tiles.{IsInside, part_of, parts_of, TileFrom}
 use Rattle.page.proofs.Halves.{between_lower, between_upper, lower_between, upper_between}
 use Rattle.btree.specs.Leaves.{leaf_at}
 use Rattle.btree.specs.Parting.{middle, may_split, may_split_at, split_at}
-use Rattle.btree.proofs.Tiling.{cases_tile, tile_last, tile_on, starts_weaker}
+use Rattle.page.proofs.Starts.{starts_weaker}
+use Rattle.btree.proofs.Tiling.{cases_tile, tile_last, tile_on}
 use Rattle.btree.proofs.Kept.{cuts_inside}
 
 none_to_split : (rest : List LeafView) (p : ℕ) → rest ≡ [] → may_split_at rest p ≡ true → ⊥

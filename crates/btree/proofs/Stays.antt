@@ -21,7 +21,8 @@ use Rattle.btree.specs.Parting.{middle, may_split_at, may_merge_at, split_at, me
 use Rattle.btree.specs.Performs.{performed_at, PerformsAt}
 use Rattle.btree.specs.TreeLaw.{PerformsOne, SameTable, AreHonest, AreCaptured}
 use Rattle.btree.proofs.Together.{value_from}
-use Rattle.btree.proofs.Kept.{cuts_inside, held_inside, kept_performed, kept_raised, kept_lower, kept_upper, kept_joined}
+use Rattle.page.proofs.Starts.{inside_fences}
+use Rattle.btree.proofs.Kept.{cuts_inside, kept_performed, kept_raised, kept_lower, kept_upper, kept_joined}
 use Rattle.btree.proofs.Changing.{all_changed, parts_changed, all_mapped, parts_mapped}
 use Rattle.btree.proofs.Splitting.{all_split, tile_split}
 use Rattle.btree.proofs.Merging.{AreJoinable, joinable, pair_with, all_merged, tile_merged}
@@ -144,7 +145,7 @@ pub split_honest : (log : List Record) (leaves : List LeafView) (p id d : ℕ) �
     → AreHonest log (split_at p id d leaves)
 split_honest log leaves p id d kept may honest =
     all_split (IsHonestLeaf log) id d (λ leaf is may right.
-    let cut = held_inside leaf (middle leaf) (cuts_inside leaf is may) in
+    let cut = inside_fences leaf (middle leaf) (cuts_inside leaf is may) in
     (honest_lower log leaf (middle leaf) d right cut, honest_upper log leaf (middle leaf) id d right cut)) leaves p kept.each may honest
 
 pub merged_honest : (log : List Record) (leaves : List LeafView) (p d : ℕ) → AreLeaves leaves → AreHonest log leaves → AreCaptured log leaves

@@ -1,26 +1,14 @@
 -- Leaves that divide all keys among them, from the first of them on.
 use Rattle.std.proofs.Common.{◌≡◌, ◌⊎◌, ◌<◌, true, false, List, [], ◌∷◌, length, Option, Some, None, MatchOption, refl, ap, ◌∙◌, subst, arith, inl, inr}
 use Rattle.std.specs.Prelude.{not}
-use Rattle.std.specs.Ordering.{is_lt, ordering_reverse}
 use Rattle.std.proofs.lemmas.Bool.{cases_Bool, and_parts, not_from_false, not-true, and_right}
-use Rattle.std.proofs.lemmas.Cmp.{nat_list_cmp_total}
 use Rattle.record_key.specs.Table.{Bytes}
 use Rattle.record_key.specs.Order.{is_below, starts_at_most, ends_above}
 use Rattle.page.specs.Leaf.{LeafView, is_in_fences}
 use Rattle.page.specs.Tiles.{parts_of, starts_below, TileFrom}
-use Rattle.page.proofs.Halves.{less_of, below_trans, from_low}
+use Rattle.page.proofs.Halves.{from_low}
+use Rattle.page.proofs.Starts.{starts_weaker}
 use Rattle.btree.specs.Leaves.{leaf_at, place_at}
-
--- ---- fences
-
-pub starts_weaker : (low : Option Bytes) (k : Bytes) → starts_below low k ≡ true → starts_at_most low k ≡ true
-starts_weaker None k below = refl
-starts_weaker (Some low) k below =
-    ap (λ o. not (is_lt o)) (nat_list_cmp_total.antisymm k low ∙ ap ordering_reverse (less_of low k below))
-
-pub starts_further : (low : Option Bytes) (k further : Bytes) → starts_below low k ≡ true → is_below k further ≡ true → starts_below low further ≡ true
-starts_further None k further below more = refl
-starts_further (Some low) k further below more = below_trans low k further below more
 
 -- ---- the first leaf, and those after it
 

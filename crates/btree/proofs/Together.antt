@@ -15,7 +15,8 @@ use Rattle.page.specs.Tiles.{parts_of, TileFrom}
 use Rattle.page.proofs.Halves.{Apart, apart_of, ordered_both, upper_between, get_retained, first_again, second_again, table_again}
 use Rattle.btree.specs.Leaves.{AreLeaves, leaf_at, all_rows, rows_of}
 use Rattle.btree.specs.TreeLaw.{OneTable}
-use Rattle.btree.proofs.Tiling.{IsLast, GoesOn, cases_tile, where_lies, within_from, there_from, starts_weaker, starts_later}
+use Rattle.page.proofs.Starts.{starts_weaker}
+use Rattle.btree.proofs.Tiling.{IsLast, GoesOn, cases_tile, where_lies, within_from, there_from, starts_later}
 
 -- rows in key order, from a fence on
 pub record Ordered (from : Option Bytes) (rows : List Row) : Type 0 where

@@ -202,19 +202,3 @@ checkpoint_keeps w l (Err r) v k is (inl h) = keeps_carried w v k is (subst (Car
 checkpoint_keeps w l (Err r) v k is (inr h) =
     let u : SystemView = lowered w.system l in
     keeps_carried w v k is (carries_alike w u v (carries_lowered w l k) (among_alike u u.leaves r v h))
-
--- ---- a session accepted
-
-accept_carries : (w : DcView) (s stable failures : ℕ) → IsDc w → Carries w (record (accepted w.system s) { stable = stable; failures = failures })
-accept_carries w s stable failures k = same_leaves w (record (accepted w.system s) { stable = stable; failures = failures }) k refl (omega arith)
-
-pub stopped_keeps : (w : DcView) (s : ℕ) (r : Refusal) (v : SystemView) → IsDc w → IsSystem v → AcceptGives w.system s (Err r) v → IsDc (with_system w v)
-stopped_keeps w s r v k is h = elim h.1 [
-  | inl same ↦ keeps_carried w v k is (carries_refused w r v k same)
-  | inr more ↦ keeps_carried w v k is (subst (Carries w) (sym more.2) (accept_carries w s _ _ k))
-]
-
-pub connected_keeps : (w : DcView) (s : ℕ) → IsDc w → IsSystem (connected w s).system → IsDc (connected w s)
-connected_keeps w s k is =
-    let c : IsDc (with_system w (connected w s).system) = keeps_carried w (connected w s).system k is (accept_carries w s _ _ k) in
-    record { system = is; rows = c.rows; once = c.once; captured = c.captured; saved = c.saved; session = inr refl; stored = omega arith }

@@ -1,4 +1,4 @@
--- Leaves one after another, and the one at a key's place.
+-- The rows of leaves, one after another.
 use Rattle.std.proofs.Common.{◌≡◌, ℕ, ◌+◌, ◌<◌, true, false, suc, List, [], ◌∷◌, ◌++◌, length, get_or, take, refl, sym, ap, ◌∙◌, arith, inl, inr, append_assoc, append-nil, add-one}
 use Rattle.std.proofs.lemmas.Bool.{cases_Bool}
 use Rattle.std.proofs.lemmas.List.{take_more}
@@ -6,16 +6,6 @@ use Rattle.std.specs.FinMap.{entries}
 use Rattle.record_key.specs.Table.{Bytes}
 use Rattle.page.specs.Leaf.{LeafView, first, is_in_fences}
 use Rattle.btree.specs.Leaves.{leaf_at, place_at, all_rows}
-
--- the leaf at the place of a key has the key
-pub leaf_placed : (leaves : List LeafView) (k : Bytes) → place_at leaves k < length leaves → get_or leaves (place_at leaves k) first ≡ leaf_at leaves k
-leaf_placed [] k there = absurd (omega (arith, there))
-leaf_placed (leaf ∷ leaves) k there = elim (cases_Bool (is_in_fences leaf k)) [
-  | inl inside ↦ rw inside refl
-  | inr outside ↦
-      let less : place_at leaves k + 1 < length (leaf ∷ leaves) = rw outside at there in
-      rw (outside, add-one) (leaf_placed leaves k (omega (arith, less)))
-]
 
 rows_after : (xs : List LeafView) (leaf : LeafView) → all_rows (xs ++ leaf ∷ []) ≡ all_rows xs ++ entries leaf.rows
 rows_after [] leaf = append-nil (entries leaf.rows)

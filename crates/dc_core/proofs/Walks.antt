@@ -1,11 +1,20 @@
 -- What a walk over a list has found of each element.
-use Rattle.std.proofs.Common.{◌≡◌, ℕ, ◌+◌, ◌≤◌, Some, suc, List, [], ◌∷◌, ◌++◌, length, get_or, take, reverse, sym, subst}
+use Rattle.std.proofs.Common.{◌≡◌, ℕ, ◌+◌, ◌≤◌, Some, zero, suc, List, [], ◌∷◌, ◌++◌, length, get_or, take, reverse, sym, subst}
 use Rattle.std.specs.Prelude.{slice_get}
 use Rattle.std.specs.List.{AllByRecursion}
 use mathlib.Core.List.{reverse_aux}
 use Rattle.std.proofs.lemmas.List.{take_more, take_all, reverse-reverse}
 use Rattle.std.proofs.lemmas.Option.{slice_get_within, get_or_from_slice_get}
 use Rattle.record_key.proofs.Lists.{all_appended}
+
+-- at one of them
+pub all_get : {X : Type 0} (P : X → Type 0) (xs : List X) (n : ℕ) (x : X) → AllByRecursion P xs → slice_get xs n ≡ Some x → P x
+all_get P [] n x all found = absurd (cc)
+all_get P (y ∷ xs) zero x all found = subst P (same found) all.0
+  where
+    same : Some y ≡ Some x → y ≡ x
+    same e = cc
+all_get P (y ∷ xs) (suc n) x all found = all_get P xs n x all.1 found
 
 -- one element more
 pub all_more : {X : Type 0} (P : X → Type 0) (xs : List X) (p : ℕ) (x : X) → slice_get xs p ≡ Some x → AllByRecursion P (take p xs) → P x → AllByRecursion P (take (p + 1) xs)
@@ -22,5 +31,8 @@ all_onto P [] ys all more = more
 all_onto P (x ∷ xs) ys all more = all_onto P xs (x ∷ ys) all.1 (all.0, more)
 
 -- what holds the other way round
+pub all_turned : {X : Type 0} (P : X → Type 0) (xs : List X) → AllByRecursion P xs → AllByRecursion P (reverse xs)
+all_turned P xs all = all_onto P xs [] all tt
+
 pub all_reversed : {X : Type 0} (P : X → Type 0) (xs : List X) → AllByRecursion P (reverse xs) → AllByRecursion P xs
-all_reversed P xs all = subst (AllByRecursion P) (reverse-reverse xs) (all_onto P (reverse xs) [] all tt)
+all_reversed P xs all = subst (AllByRecursion P) (reverse-reverse xs) (all_turned P (reverse xs) all)

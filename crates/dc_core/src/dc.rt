@@ -1,5 +1,5 @@
 //! The data component.
-ghost use Rattle.std.specs.Prelude.{◌≡◌, ◌+◌, ◌<◌, [], None, Some, length, get_or, reverse, slice_get, IsTrue, IfOk, IfErr, OnOk};
+ghost use Rattle.std.specs.Prelude.{◌≡◌, ◌+◌, ◌<◌, ◌↔◌, [], None, Some, length, get_or, reverse, slice_get, IsTrue, IfOk, IfErr, OnOk};
 ghost use Rattle.std.specs.FinMap as map;
 ghost use Rattle.codec.specs.Requests.{HasRequestNumbers};
 ghost use Rattle.page.specs.Leaf.{first};
@@ -69,7 +69,7 @@ impl Dc {
     /// on the key that it has among the performances and in each leaf's entries. It costs as much as the history is long,
     /// so a caller that knows its numbers doesn't ask.
     pub fn may_ask(&self, request: &Request) -> bool
-        ensures { IsTrue result → HasRequestNumbers request.now × MayAsk self.now request.now }
+        ensures { IsTrue result ↔ (HasRequestNumbers request.now × MayAsk self.now request.now) }
     {
         self.parts.may_ask(request)
     }

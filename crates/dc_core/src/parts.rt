@@ -91,7 +91,8 @@ impl Parts {
         self.system.can_log()
     }
 
-    fn in_session(&self, session: u64) -> Result<(), Refusal>
+    /// Refused where no session runs, or another one.
+    pub fn in_session(&self, session: u64) -> Result<(), Refusal>
         ensures ok { OnOk result (session_refusal (seen self.now) session ≡ None) }
         ensures refused { IfErr result (λ refusal. session_refusal (seen self.now) session ≡ Some refusal) }
     {

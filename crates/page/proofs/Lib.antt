@@ -8,3 +8,4 @@ pub mod Honest
 pub mod Ranges
 pub mod Halves
 pub mod Sides
+pub mod Starts

@@ -14,7 +14,7 @@ use Rattle.page.proofs.Honest.{honest_uncaptured}
 use Rattle.page.proofs.Sides.{honest_lower}
 use Rattle.recovery_laws.specs.Laws.{CutsKeepHonest}
 use Rattle.recovery_laws.specs.Ready.{IsLow, LowIsRecovered, HonestIsRecovered, IsHonestTo, BoundedIsRecovered}
-use Rattle.recovery_laws.proofs.Keys.{inside_fences}
+use Rattle.page.proofs.Starts.{inside_fences}
 use Rattle.recovery_laws.proofs.Ready.{recovers, ready_stays, ready_too}
 
 -- the law of cuts

@@ -3,9 +3,8 @@ use Rattle.std.proofs.Common.{◌≡◌, ◌≢◌, ℕ, ◌==◌, true, List, [
 use Rattle.std.specs.Prelude.{if◌then◌else◌}
 use Rattle.std.proofs.lemmas.Bool.{cases_eq}
 use Rattle.record_key.specs.Table.{Bytes}
-use Rattle.record_key.specs.Order.{is_below}
 use Rattle.page.specs.Tiles.{Part, starts_below, TileFrom}
-use Rattle.page.proofs.Halves.{below_trans}
+use Rattle.page.proofs.Starts.{starts_further}
 use Rattle.recovery_laws.specs.Shape.{part_in, first_id, next_id, with_next, merge_parts, IsOnce}
 use Rattle.recovery_laws.proofs.Finding.{not_in, none_in, next_there}
 use Rattle.recovery_laws.proofs.Splitting.{Rest, rest_kept}
@@ -109,17 +108,12 @@ merge_once left (p ∷ ps) once =
       | inr apart ↦ rw (ne_eqb p.id left apart) (merge_none left p.id ps once.0, merge_once left ps once.1)
     ]
 
-starts_trans : (low : Option Bytes) (b c : Bytes) → starts_below low b ≡ true → is_below b c ≡ true
-    → starts_below low c ≡ true
-starts_trans None b c h k = refl
-starts_trans (Some low) b c h k = below_trans low b c h k
-
 rest_joined : (low from high : Option Bytes) (h : Bytes) (ps : List Part) → starts_below low h ≡ true → from ≡ Some h
     → Rest from high ps → Rest low high ps
 rest_joined low from None h ps above e r = r
 rest_joined low from (Some k) h ps above e r =
     let under : starts_below (Some h) k ≡ true = subst (λ (x : Option Bytes). starts_below x k ≡ true) e r.0 in
-    (starts_trans low h k above under, r.1)
+    (starts_further low h k above under, r.1)
 
 with_rest : (low high : Option Bytes) (q : Part) (qs : List Part) → Rest low high (q ∷ qs) → Rest low q.high qs
 with_rest low None q qs r = absurd (cc)

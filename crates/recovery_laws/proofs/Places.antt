@@ -12,7 +12,7 @@ use Rattle.page.specs.Tiles.{Part, part_of, parts_of, starts_below, TileFrom, Ti
 use Rattle.recovery_laws.specs.Shape.{part_in, next_id, named, IsLegal, IsOnce}
 use Rattle.recovery_laws.specs.Laws.{IsCurrent}
 use Rattle.recovery_laws.specs.Leaves.{AreCurrent, AreInPlace}
-use Rattle.recovery_laws.proofs.Keys.{starts_too}
+use Rattle.page.proofs.Starts.{starts_weaker}
 use Rattle.recovery_laws.proofs.Finding.{not_in, not_before, once_after, next_at}
 use Rattle.recovery_laws.proofs.Splitting.{Rest}
 use Rattle.recovery_laws.proofs.Shapes.{tile, once, known}
@@ -67,7 +67,7 @@ meet left right after (Some h) ends r = record {
   fence = h;
   ends = ends;
   begins = r.1.0;
-  above = starts_too left.low_fence h r.0;
+  above = starts_weaker left.low_fence h r.0;
   below = ends_after right.low_fence right.high_fence h (parts_of after) r.1.0 r.1.1;
 }
 

@@ -1,19 +1,12 @@
 -- Messages by their numbers, and what holds of each.
 use Rattle.std.proofs.Common.{◌≡◌, ℕ, ◌+◌, zero, suc, List, [], ◌∷◌, ◌++◌, length, Some, slice_get, refl, ap, ◌∙◌, subst, arith}
 use Rattle.std.specs.List.{AllByRecursion}
+use Rattle.dc_core.proofs.Walks.{all_get}
 use Rattle.world.specs.Messages.{message_at}
 
 pub all_push : {A : Type 0} (P : A → Type 0) (xs : List A) (x : A) → AllByRecursion P xs → P x → AllByRecursion P (xs ++ x ∷ [])
 all_push P [] x all last = (last, tt)
 all_push P (y ∷ xs) x all last = (all.0, all_push P xs x all.1 last)
-
-some_same : {A : Type 0} (P : A → Type 0) (x y : A) → Some y ≡ Some x → P y → P x
-some_same P x y e h = let same : y ≡ x = cc in subst P same h
-
-all_get : {A : Type 0} (P : A → Type 0) (xs : List A) (n : ℕ) (x : A) → AllByRecursion P xs → slice_get xs n ≡ Some x → P x
-all_get P [] n x all found = absurd (cc)
-all_get P (y ∷ xs) zero x all found = some_same P x y found all.0
-all_get P (y ∷ xs) (suc n) x all found = all_get P xs n x all.1 found
 
 -- it holds of the message of any number
 pub all_at : {A : Type 0} (P : A → Type 0) (xs : List A) (i : ℕ) (x : A) → AllByRecursion P xs → message_at xs i ≡ Some x → P x

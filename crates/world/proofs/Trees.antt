@@ -37,14 +37,11 @@ use Rattle.system_txn.specs.SystemView.{SystemView}
 use Rattle.system_txn.specs.Devices.{pages_of}
 use Rattle.system_txn.specs.Changes.{next_id, next_number, leaf_in as leaf_of_place, split_to, merged_to, lowered, accepted, forced}
 use Rattle.dc_core.specs.DcView.{leaves}
+use Rattle.dc_core.proofs.KeepsDc.{all_both}
 use Rattle.tc_core.specs.TcView.{TcView}
 use Rattle.world.specs.Node.{NodeView}
 use Rattle.world.specs.Kept.{IsKept, IsAnsweredTo, IsTrueTo}
 use Rattle.world.proofs.Systems.{LeavesCarry}
-
-all_both : {X : Type 0} (P Q R : X → Type 0) → ((x : X) → P x → Q x → R x) → (xs : List X) → AllByRecursion P xs → AllByRecursion Q xs → AllByRecursion R xs
-all_both P Q R from [] all also = tt
-all_both P Q R from (x ∷ xs) all also = (from x all.0 also.0, all_both P Q R from xs all.1 also.1)
 
 -- ---- what is answered up to a number is captured by the leaf of its key
 

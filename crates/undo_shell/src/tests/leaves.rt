@@ -28,6 +28,7 @@ fn split_and_merge_amid_rollback(rt: HostRuntime) {
         insert t i 1\n\
         settle\n\
         tend\n\
+        leaves\n\
         begin u\n\
         delete u a\n\
         settle\n\
@@ -76,6 +77,8 @@ fn split_and_merge_amid_rollback(rt: HostRuntime) {
         answer 20 inserted\n\
         settled\n\
         split 1 2\n\
+        leaf 1 - e low 0 last 2 n 4 set 3,5,7,9\n\
+        leaf 2 e - low 0 last 2 n 5 set 11,13,15,17,21\n\
         txn 23\n\
         logged 24\n\
         answer 23 deleted 1\n\
@@ -99,74 +102,6 @@ fn split_and_merge_amid_rollback(rt: HostRuntime) {
         g=1\n\
         h=1\n\
         rows 5\n";
-    assert_run(&rt, script, text, 0);
-}
-
-#[test]
-fn split_and_merge_amid_rollback_leaves(rt: HostRuntime) {
-    let script = "\
-        settle\n\
-        begin t\n\
-        insert t a 1\n\
-        settle\n\
-        insert t b 1\n\
-        settle\n\
-        insert t c 1\n\
-        settle\n\
-        insert t d 1\n\
-        settle\n\
-        insert t e 1\n\
-        settle\n\
-        insert t f 1\n\
-        settle\n\
-        insert t g 1\n\
-        settle\n\
-        insert t h 1\n\
-        settle\n\
-        commit t\n\
-        settle\n\
-        begin t\n\
-        insert t i 1\n\
-        settle\n\
-        tend\n\
-        leaves\n";
-    let text = "\
-        settled\n\
-        txn 2\n\
-        logged 3\n\
-        answer 2 inserted\n\
-        settled\n\
-        logged 5\n\
-        answer 2 inserted\n\
-        settled\n\
-        logged 7\n\
-        answer 2 inserted\n\
-        settled\n\
-        logged 9\n\
-        answer 2 inserted\n\
-        settled\n\
-        logged 11\n\
-        answer 2 inserted\n\
-        settled\n\
-        logged 13\n\
-        answer 2 inserted\n\
-        settled\n\
-        logged 15\n\
-        answer 2 inserted\n\
-        settled\n\
-        logged 17\n\
-        answer 2 inserted\n\
-        settled\n\
-        commit logged 19\n\
-        committed 2\n\
-        settled\n\
-        txn 20\n\
-        logged 21\n\
-        answer 20 inserted\n\
-        settled\n\
-        split 1 2\n\
-        leaf 1 - e low 0 last 2 n 4 set 3,5,7,9\n\
-        leaf 2 e - low 0 last 2 n 5 set 11,13,15,17,21\n";
     assert_run(&rt, script, text, 0);
 }
 

@@ -1,15 +1,29 @@
-use Rattle.std.proofs.Common.{◌≡◌, length, refl}
+use Rattle.std.proofs.Common.{◌≡◌, Some, length, refl}
+use Rattle.std.specs.Prelude.{slice_get}
 use Rattle.std.proofs.lemmas.Option.{slice_get_read}
 use Rattle.record_key.specs.declared.entry.Entry.{Entry}
-use Rattle.dc_core.proofs.Walks.{all_more, all_through}
+use Rattle.dc_core.proofs.Walks.{all_get, all_more, all_through}
 use Rattle.dc_core.proofs.asking.are_on.Goals as goal
+
+pub returns-then-not-is_on : goal.returns-then-not-is_on
+returns-then-not-is_on c =
+    let entries = c.args.entries.now in
+    let entry = c.index-entries-place.result in
+    let there : slice_get entries c.loop-place.place ≡ Some entry =
+    slice_get_read entries (length entries) c.loop-place.place entry refl c.loop-place-test.true c.index-entries-place.is in (
+      λ wrong. absurd (cc),
+      λ all.
+          let on = c.is_on.ensures.1 (all_get (λ (e : Entry). e.number ≡ c.args.number → e.key ≡ c.args.key.now) entries c.loop-place.place entry all there) in
+          absurd (cc),
+    )
 
 pub loop-place-preserved : goal.loop-place-preserved
 loop-place-preserved c =
     let entries = c.args.entries.now in
     let entry = c.index-entries-place.result in
     all_more (λ (e : Entry). e.number ≡ c.args.number → e.key ≡ c.args.key.now) entries c.loop-place.place entry
-    (slice_get_read entries (length entries) c.loop-place.place entry refl c.loop-place-test.true c.index-entries-place.is) c.loop-place.invariant (c.is_on.ensures c.if-not-is_on.false)
+    (slice_get_read entries (length entries) c.loop-place.place entry refl c.loop-place-test.true c.index-entries-place.is) c.loop-place.invariant (c.is_on.ensures.0 c.if-not-is_on.false)
 
 pub returns : goal.returns
-returns c = λ _. all_through (λ (e : Entry). e.number ≡ c.args.number → e.key ≡ c.args.key.now) c.args.entries.now c.loop-place.place c.loop-place-test.false c.loop-place.invariant
+returns c =
+    (λ _. all_through (λ (e : Entry). e.number ≡ c.args.number → e.key ≡ c.args.key.now) c.args.entries.now c.loop-place.place c.loop-place-test.false c.loop-place.invariant, λ all. refl)
