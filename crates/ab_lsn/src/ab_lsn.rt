@@ -40,6 +40,17 @@ impl AbLsn {
         }
     }
 
+    /// Captures every number up to a low one, and those of these entries. Takes no memory.
+    pub fn from_parts(low: u64, entries: Vec<Entry>) -> AbLsn
+        requires { RiseAbove low entries.items }
+        ensures { result ≡ record { low = low; entries = entries.items } }
+    {
+        AbLsn {
+            low,
+            entries: SmallVec::from_vec(entries),
+        }
+    }
+
     /// The low number: every number up to it is captured, and their answers are gone.
     pub fn low(&self) -> u64
         ensures { result ≡ self.now.low }

@@ -41,6 +41,14 @@ impl Entries {
     {
         self.entries.as_slice()
     }
+
+    /// The entries as a plain list.
+    pub fn into_entries(self) -> Vec<Entry>
+        ensures { result.items ≡ self }
+    {
+        let Entries { entries } = self;
+        entries
+    }
 }
 
 /// Whether each entry's number is above the one before it, the first entry's above `low`.

@@ -47,6 +47,14 @@ impl Rows {
         self.rows.as_slice()
     }
 
+    /// The rows as a plain list.
+    pub fn into_rows(self) -> Vec<(Key, Value)>
+        ensures { result.items ≡ self }
+    {
+        let Rows { rows } = self;
+        rows
+    }
+
     /// The same rows again.
     pub fn copied(&self) -> Result<Rows, AllocError>
         ensures { IfOk result (λ rows. rows ≡ self.now) }

@@ -1,5 +1,5 @@
 -- What each call leaves of the data component is as it must be at every moment.
-use Rattle.std.proofs.Common.{◌≡◌, ◌≢◌, ◌⊎◌, ℕ, ◌≤◌, ◌==◌, ◌||◌, Bool, true, false, List, [], ◌∷◌, refl, sym, ap, ◌∙◌, subst, arith, inl, inr, true≢false, eq-eqb, append-nil}
+use Rattle.std.proofs.Common.{◌≡◌, ◌≢◌, ℕ, ◌≤◌, ◌==◌, true, false, List, [], ◌∷◌, length, refl, sym, ap, ◌∙◌, subst, arith, inl, true≢false, eq-eqb, append-nil}
 use Rattle.std.specs.Prelude.{nat_le}
 use Rattle.std.specs.List.{AllByRecursion}
 use Rattle.std.proofs.lemmas.Bool.{or_left, or_right}
@@ -8,9 +8,9 @@ use Rattle.record_key.specs.declared.op.Op.{Op}
 use Rattle.record_key.specs.declared.op.Answer.{Answer}
 use Rattle.record_key.specs.Rows.{table_of}
 use Rattle.std.specs.FinMap as map
-use Rattle.record_key.specs.Table.{Bytes, key_of, answer_in, after}
+use Rattle.record_key.specs.Table.{Bytes, Table, key_of, answer_in, after}
 use Rattle.record_key.specs.declared.entry.Entry.{Entry}
-use Rattle.ab_lsn.specs.AbLsn.{AbLsnView, stands_in, captures}
+use Rattle.ab_lsn.specs.AbLsn.{stands_in, captures}
 use Rattle.page.specs.Leaf.{LeafView, IsLeaf, is_in_fences}
 use Rattle.page.proofs.Halves.{table_again}
 use Rattle.btree.specs.Leaves.{leaf_at, rows_of}
@@ -20,12 +20,14 @@ use Rattle.btree.proofs.Carried.{entries_performed}
 use Rattle.btree.proofs.Owning.{own_leaves}
 use Rattle.btree.proofs.Stays.{performs_one}
 use Rattle.recovery_laws.specs.Recovery.{stored_session}
+use Rattle.recovery_laws.specs.Shape.{beginning}
 use Rattle.system_txn.specs.SystemView.{SystemView, fresh as fresh_system}
 use Rattle.system_txn.specs.Kept.{IsSystem}
 use Rattle.dc_core.specs.declared.performance.Performance.{Performance}
 use Rattle.dc_core.specs.DcView.{DcView, leaves, captures_at}
 use Rattle.dc_core.specs.Serves.{KeepsKey, with_system, performs}
 use Rattle.dc_core.specs.Kept.{IsDc, Saves, IsListed, AreListed}
+use Rattle.dc_core.proofs.Stored.{stored_all}
 
 -- what two facts give at each element
 pub all_both : {X : Type 0} (P Q R : X → Type 0) → ((x : X) → P x → Q x → R x) → (xs : List X) → AllByRecursion P xs → AllByRecursion Q xs → AllByRecursion R xs
@@ -41,7 +43,7 @@ pub record Carries (w : DcView) (v : SystemView) : Type 0 where
       → AllByRecursion (λ (leaf : LeafView). AllByRecursion (Saves p) leaf.ab.entries) (leaves w)
       → captures (leaf_at v.leaves (key_of p.op)).ab p.number ≡ true
   pub saved : AllByRecursion (AreListed w.performed) v.leaves
-  pub stored : stored_session w.system.log ≤ stored_session v.log
+  pub stored : stored_session (beginning w.system.log w.system.stable) ≤ stored_session (beginning v.log v.stable)
 
 -- what each entry says of all performances, each performance says of all entries
 saves_of : (ps : List Performance) (es : List Entry) → AllByRecursion (IsListed ps) es → AllByRecursion (λ (p : Performance). AllByRecursion (Saves p) es) ps
@@ -75,7 +77,8 @@ keeps_carried w v k is c = record {
 }
 
 -- the leaves stay
-pub same_leaves : (w : DcView) (v : SystemView) → IsDc w → v.leaves ≡ leaves w → stored_session w.system.log ≤ stored_session v.log → Carries w v
+pub same_leaves : (w : DcView) (v : SystemView) → IsDc w → v.leaves ≡ leaves w
+    → stored_session (beginning w.system.log w.system.stable) ≤ stored_session (beginning v.log v.stable) → Carries w v
 same_leaves w v k same stored = record {
   rows = ap rows_of same;
   captured = λ p was saves. ap (λ (ls : List LeafView). captures (leaf_at ls (key_of p.op)).ab p.number) same ∙ was;
@@ -156,12 +159,40 @@ is_performed w n o a v ps noted answer left =
     let listed : ps ≡ (performs w n o).performed = noted ∙ ap (λ (b : Answer). record { number = n; op = o; answer = b } ∷ w.performed) answer in
     λ i. record w { system = left i; performed = listed i }
 
--- ---- a component of no records
+-- ---- a component in which nothing was performed yet
 
-pub keeps_fresh : (v : SystemView) (ps : List Performance) (failures : ℕ) → v ≡ fresh_system failures → ps ≡ [] → IsSystem v
-    → IsDc (record { stored = 0; session = 0; redo = false; system = v; performed = ps })
-keeps_fresh v ps failures same none is =
-    let P : SystemView → Type 0 = λ x. IsDc (record { stored = 0; session = 0; redo = false; system = x; performed = ps }) in
-    let Q : List Performance → Type 0 = λ x. IsDc (record { stored = 0; session = 0; redo = false; system = fresh_system failures; performed = x }) in
-    subst P (sym same) (subst Q (sym none)
-    (record { system = subst IsSystem same is; rows = ap table_of (append-nil (map.entries map.empty)) ∙ table_again map.empty; once = tt; captured = tt; saved = (tt, tt); session = inl refl; stored = omega arith }))
+nothing_saved : (leaves : List LeafView) → AllByRecursion (AreListed []) leaves
+nothing_saved [] = tt
+nothing_saved (leaf ∷ leaves) = (each leaf.ab.entries, nothing_saved leaves)
+  where
+    each : (es : List Entry) → AllByRecursion (IsListed []) es
+    each [] = tt
+    each (e ∷ es) = (tt, each es)
+
+pub keeps_opened : (v : SystemView) (stored : ℕ) (opened : Table) (ps : List Performance) → IsSystem v
+    → v.stable ≡ length v.log → stored ≡ stored_session v.log → opened ≡ rows_of v.leaves → ps ≡ []
+    → IsDc (record { stored = stored; session = 0; redo = false; system = v; opened = opened; performed = ps })
+keeps_opened v stored opened ps is stable greatest rows none =
+    let P : List Performance → Type 0 = λ x.
+    IsDc (record { stored = stored; session = 0; redo = false; system = v; opened = opened; performed = x }) in
+    subst P (sym none) (record {
+      system = is;
+      rows = sym rows;
+      once = tt;
+      captured = tt;
+      saved = nothing_saved v.leaves;
+      session = inl refl;
+      stored = omega (
+        arith,
+        greatest,
+        stored_all v.log,
+        ap (λ (n : ℕ). stored_session (beginning v.log n)) stable,
+      );
+    })
+
+-- the first leaf has no records
+pub first_rows : (v : SystemView) (opened : Table) (failures : ℕ) → v ≡ fresh_system failures
+    → opened ≡ rows_of v.leaves → opened ≡ map.empty
+first_rows v opened failures same rows =
+    rows ∙ ap (λ (x : SystemView). rows_of x.leaves) same ∙ ap table_of (append-nil (map.entries map.empty))
+    ∙ table_again map.empty

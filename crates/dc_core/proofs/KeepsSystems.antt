@@ -1,15 +1,15 @@
 -- What system transactions leave of the data component is as it must be at every moment.
-use Rattle.std.proofs.Common.{◌≡◌, ℕ, ◌≤◌, ◌==◌, ◌||◌, Bool, true, false, List, [], ◌∷◌, refl, sym, ap, ◌∙◌, subst, arith, inl, inr, map, eqb-true, max}
-use Rattle.std.specs.Prelude.{Result, Ok, Err, ◌&&◌, nat_le, Option, Some, None, length, if◌then◌else◌}
-use Rattle.std.specs.List.{AllByRecursion, list_any}
+use Rattle.std.proofs.Common.{◌≡◌, ℕ, ◌≤◌, ◌==◌, Bool, true, false, List, [], ◌∷◌, refl, sym, ap, ◌∙◌, subst, arith, inl, inr, eqb-true}
+use Rattle.std.specs.Prelude.{Result, Ok, Err, ◌&&◌, nat_le, if◌then◌else◌}
+use Rattle.std.specs.List.{AllByRecursion}
 use Rattle.std.proofs.lemmas.Bool.{or_cases, or_left, or_right, and_from}
 use Rattle.record_key.specs.declared.refusal.Refusal.{Refusal}
 use Rattle.record_key.specs.declared.entry.Entry.{Entry}
 use Rattle.record_key.specs.Table.{Bytes, key_of}
 use Rattle.ab_lsn.specs.AbLsn.{AbLsnView, stands_in, captures}
-use Rattle.ab_lsn.specs.Parting.{is_under, is_from, entries_with, stands_with, joined}
+use Rattle.ab_lsn.specs.Parting.{is_under, is_from, entries_with, stands_with}
 use Rattle.ab_lsn.proofs.Capturing.{parted_captures, joined_captures}
-use Rattle.page.specs.Leaf.{LeafView, raised_to}
+use Rattle.page.specs.Leaf.{LeafView}
 use Rattle.btree.specs.Leaves.{leaf_at, rows_of}
 use Rattle.btree.specs.Parting.{middle}
 use Rattle.btree.proofs.AtKey.{all_at, captured_raised}
@@ -17,21 +17,22 @@ use Rattle.btree.proofs.Carried.{entries_raised, entries_split, entries_merged}
 use Rattle.btree.proofs.Merging.{AreJoinable, joinable, leaf_merged}
 use Rattle.btree.proofs.Splitting.{leaf_split}
 use Rattle.btree.proofs.Stays.{raised_stays, split_stays, merged_stays}
-use Rattle.codec.specs.declared.dc_record.DcRecord.{DcRecord}
 use Rattle.recovery_laws.specs.Recovery.{stored_session}
+use Rattle.recovery_laws.specs.Shape.{beginning}
 use Rattle.system_txn.specs.SystemView.{SystemView, refused_so}
 use Rattle.system_txn.specs.Kept.{IsSystem}
-use Rattle.system_txn.specs.Changes.{next_id, next_number, split_to, merged_to, lowered, covered, forced, accepted, written_to, written_all}
+use Rattle.system_txn.specs.Changes.{next_id, next_number, lowered, covered, forced, written_to, written_all}
 use Rattle.system_txn.specs.Gives as gives
-use Rattle.system_txn.specs.Gives.{Splits, Merges, SplitGives, MergeGives, TendGives, FlushGives, CheckpointGives, AcceptGives, StopsWriting, StopsAmong, tending}
+use Rattle.system_txn.specs.Gives.{Splits, Merges, SplitGives, MergeGives, TendGives, FlushGives, CheckpointGives, StopsWriting, StopsAmong, tending}
 use Rattle.system_txn.specs.declared.tended.Neighbours.{Neighbours}
 use Rattle.system_txn.specs.declared.tended.Tended.{Tended}
 use Rattle.system_txn.specs.declared.tended.Tended.TheVariants as tended
 use Rattle.dc_core.specs.declared.performance.Performance.{Performance}
 use Rattle.dc_core.specs.DcView.{DcView, leaves, captures_at}
-use Rattle.dc_core.specs.Serves.{with_system, connected}
+use Rattle.dc_core.specs.Serves.{with_system}
 use Rattle.dc_core.specs.Kept.{IsDc, Saves, IsListed, AreListed}
 use Rattle.dc_core.proofs.KeepsDc.{Carries, keeps_carried, same_leaves}
+use Rattle.dc_core.proofs.Stored.{stored_grown, stored_forced}
 
 -- ---- a leaf parted
 
@@ -71,7 +72,7 @@ carries_split w p pair v k h = subst (Carries w) (sym h.after) (record {
         ]
       ];
   saved = entries_split (IsListed w.performed) (leaves w) p (next_id w.system) (next_number w.system) k.system.leaves h.may k.saved;
-  stored = omega arith;
+  stored = stored_grown _ w.system.log w.system.stable;
 })
 
 -- ---- two neighbours joined
@@ -93,7 +94,7 @@ carries_merge w p pair v k h = subst (Carries w) (sym h.after) (record {
         ]
       ];
   saved = entries_merged (IsListed w.performed) (leaves w) p (next_number w.system) k.saved;
-  stored = omega arith;
+  stored = stored_grown _ w.system.log w.system.stable;
 })
 
 -- ---- low numbers raised
@@ -108,34 +109,37 @@ carries_lowered w l k = record {
 
 -- ---- leaves written
 
--- the leaves and the log are as they were
+-- the leaves are as they were, and no stored session is lost
 record IsAlike (old v : SystemView) : Type 0 where
   leaves : v.leaves ≡ old.leaves
-  log : v.log ≡ old.log
+  stored : stored_session (beginning old.log old.stable) ≤ stored_session (beginning v.log v.stable)
+
+alike_itself : (v : SystemView) → IsAlike v v
+alike_itself v = record { leaves = refl; stored = omega arith }
 
 covered_alike : (v : SystemView) (leaf : LeafView) → IsAlike v (covered v leaf)
 covered_alike v leaf = by (nat_le leaf.last v.stable)
   where
     by : (b : Bool) → IsAlike v (if b then v else forced v)
-    by true = record { leaves = refl; log = refl }
-    by false = record { leaves = refl; log = refl }
+    by true = alike_itself v
+    by false = record { leaves = refl; stored = stored_forced v.log v.stable }
 
 alike_then : (a b c : SystemView) → IsAlike a b → IsAlike b c → IsAlike a c
-alike_then a b c h g = record { leaves = g.leaves ∙ h.leaves; log = g.log ∙ h.log }
+alike_then a b c h g = record { leaves = g.leaves ∙ h.leaves; stored = omega (arith, h.stored, g.stored) }
 
 written_alike : (v : SystemView) (leaf : LeafView) → IsAlike v (written_to v leaf)
-written_alike v leaf = let h = covered_alike v leaf in record { leaves = h.leaves; log = h.log }
+written_alike v leaf = let h = covered_alike v leaf in record { leaves = h.leaves; stored = h.stored }
 
 all_alike : (v : SystemView) (ls : List LeafView) → IsAlike v (written_all v ls)
-all_alike v [] = record { leaves = refl; log = refl }
+all_alike v [] = alike_itself v
 all_alike v (leaf ∷ ls) = alike_then v (written_to v leaf) (written_all (written_to v leaf) ls) (written_alike v leaf) (all_alike (written_to v leaf) ls)
 
 refused_alike : (old v : SystemView) (r : Refusal) → IsAlike old v → IsAlike old (refused_so v r)
-refused_alike old v r h = record { leaves = h.leaves; log = h.log }
+refused_alike old v r h = record { leaves = h.leaves; stored = h.stored }
 
 stops_alike : (v : SystemView) (leaf : LeafView) (r : Refusal) (new : SystemView) → StopsWriting v leaf r new → IsAlike v new
 stops_alike v leaf r new h = elim h.1 [
-  | inl same ↦ subst (IsAlike v) (sym same) (refused_alike v v r (record { leaves = refl; log = refl }))
+  | inl same ↦ subst (IsAlike v) (sym same) (refused_alike v v r (alike_itself v))
   | inr more ↦ subst (IsAlike v) (sym more) (refused_alike v (covered v leaf) r (covered_alike v leaf))
 ]
 
@@ -149,7 +153,7 @@ carries_alike w u v c h = record {
   rows = ap rows_of h.leaves ∙ c.rows;
   captured = λ q was saves. ap (λ (ls : List LeafView). captures (leaf_at ls (key_of q.op)).ab q.number) h.leaves ∙ c.captured q was saves;
   saved = subst (AllByRecursion (AreListed w.performed)) (sym h.leaves) c.saved;
-  stored = subst (λ (log : List DcRecord). stored_session w.system.log ≤ stored_session log) (sym h.log) c.stored;
+  stored = omega (arith, c.stored, h.stored);
 }
 
 -- ---- each call
@@ -160,7 +164,7 @@ carries_same w k = same_leaves w w.system k refl (omega arith)
 
 carries_refused : (w : DcView) (r : Refusal) (v : SystemView) → IsDc w → v ≡ refused_so w.system r → Carries w v
 carries_refused w r v k same =
-    subst (Carries w) (sym same) (carries_alike w w.system (refused_so w.system r) (carries_same w k) (refused_alike w.system w.system r (record { leaves = refl; log = refl })))
+    subst (Carries w) (sym same) (carries_alike w w.system (refused_so w.system r) (carries_same w k) (refused_alike w.system w.system r (alike_itself w.system)))
 
 pub split_keeps : (w : DcView) (key : Bytes) (given : Result Neighbours Refusal) (v : SystemView) → IsDc w → IsSystem v → SplitGives w.system key given v → IsDc (with_system w v)
 split_keeps w key (Ok pair) v k is h = keeps_carried w v k is (carries_split w _ pair v k h)

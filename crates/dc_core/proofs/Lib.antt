@@ -1,5 +1,7 @@
 pub mod KeepsDc
 pub mod KeepsSystems
 pub mod Leaves
+pub mod Recoverable
 pub mod Spelled
+pub mod Stored
 pub mod Walks

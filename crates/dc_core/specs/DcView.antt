@@ -1,7 +1,7 @@
 -- What is seen of the data component.
 use Rattle.std.specs.Prelude.{ℕ, Bool, false, List, [], Option}
 use Rattle.std.specs.FinMap as map
-use Rattle.record_key.specs.Table.{Bytes}
+use Rattle.record_key.specs.Table.{Table, Bytes}
 use Rattle.ab_lsn.specs.AbLsn.{captures}
 use Rattle.btree.specs.Leaves.{leaf_at}
 use Rattle.page.specs.Leaf.{LeafView}
@@ -9,12 +9,13 @@ use Rattle.system_txn.specs.SystemView.{SystemView, fresh as fresh_system}
 use Rattle.dc_core.specs.declared.performance.Performance.{Performance}
 
 -- the greatest session taken and the one that runs, 0 if none; whether redo goes on; the leaves with their log and
--- pages; and what was performed, the newest first
+-- pages; and the records when they were opened, with what was performed since, the newest first
 pub record DcView : Type 0 where
   pub stored : ℕ
   pub session : ℕ
   pub redo : Bool
   pub system : SystemView
+  pub opened : Table
   pub performed : List Performance
 
 abbrev pub leaves : DcView → List LeafView
@@ -30,4 +31,5 @@ value_at w k = map.get (leaf_at (leaves w) k).rows k
 
 -- no session was taken, nothing was performed; the devices have failed so often
 abbrev pub fresh : ℕ → DcView
-fresh failures = record { stored = 0; session = 0; redo = false; system = fresh_system failures; performed = [] }
+fresh failures =
+    record { stored = 0; session = 0; redo = false; system = fresh_system failures; opened = map.empty; performed = [] }

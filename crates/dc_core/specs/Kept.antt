@@ -1,20 +1,20 @@
 -- What holds of the data component at every moment.
 use Rattle.std.specs.Prelude.{◌≡◌, ◌≢◌, ◌⊎◌, ℕ, ◌≤◌, true, List, [], ◌∷◌}
 use Rattle.std.specs.List.{AllByRecursion}
-use Rattle.std.specs.FinMap as map
 use Rattle.record_key.specs.Table.{Table, key_of, after}
 use Rattle.record_key.specs.declared.entry.Entry.{Entry}
 use Rattle.page.specs.Leaf.{LeafView}
 use Rattle.btree.specs.Leaves.{rows_of}
+use Rattle.recovery_laws.specs.Shape.{beginning}
 use Rattle.recovery_laws.specs.Recovery.{stored_session}
 use Rattle.system_txn.specs.Kept.{IsSystem}
 use Rattle.dc_core.specs.declared.performance.Performance.{Performance}
 use Rattle.dc_core.specs.DcView.{DcView, leaves, captures_at}
 
--- the table that performances leave, one after another
-abbrev pub replayed : List Performance → Table
-replayed [] = map.empty
-replayed (p ∷ ps) = after (replayed ps) p.op
+-- the table that performances leave of this one, one after another
+abbrev pub replayed : Table → List Performance → Table
+replayed opened [] = opened
+replayed opened (p ∷ ps) = after (replayed opened ps) p.op
 
 -- no number stands twice
 abbrev pub IsOnce : List Performance → Type 0
@@ -33,9 +33,9 @@ AreListed performed leaf = AllByRecursion (IsListed performed) leaf.ab.entries
 
 pub record IsDc (w : DcView) : Type 0 where
   pub system : IsSystem w.system
-  pub rows : rows_of (leaves w) ≡ replayed w.performed
+  pub rows : rows_of (leaves w) ≡ replayed w.opened w.performed
   pub once : IsOnce w.performed
   pub captured : AllByRecursion (λ (p : Performance). captures_at w (key_of p.op) p.number ≡ true) w.performed
   pub saved : AllByRecursion (AreListed w.performed) (leaves w)
   pub session : (w.session ≡ 0) ⊎ (w.session ≡ w.stored)
-  pub stored : w.stored ≤ stored_session w.system.log
+  pub stored : w.stored ≤ stored_session (beginning w.system.log w.system.stable)

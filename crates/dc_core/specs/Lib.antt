@@ -4,3 +4,4 @@ pub mod Tends
 pub mod Kept
 pub mod Seen
 pub mod Spelled
+pub mod Restarting

@@ -1,6 +1,12 @@
 //! The data component.
-ghost use Rattle.std.specs.Prelude.{◌≡◌, ◌+◌, ◌<◌, ◌↔◌, [], None, Some, length, get_or, reverse, slice_get, IsTrue, IfOk, IfErr, OnOk};
+ghost use Rattle.std.specs.Prelude.{◌≡◌, ◌+◌, ◌<◌, ◌≤◌, ◌↔◌, ◌++◌, [], None, Some, length, get_or, reverse, slice_get, IsTrue, IfOk, IfErr, OnOk};
 ghost use Rattle.std.specs.FinMap as map;
+ghost use Rattle.record_key.specs.FirstCause.{failures_of};
+ghost use Rattle.stable.specs.Crash.{BeginsWith};
+ghost use Rattle.recovery_laws.specs.Shape.{beginning};
+ghost use Rattle.system_txn.specs.Devices.{spelled};
+ghost use Rattle.system_txn.specs.Recovering.{Recovers, RefusesRecovery, LeavesFrames};
+ghost use Rattle.dc_core.specs.Restarting.{restarted};
 ghost use Rattle.codec.specs.Requests.{HasRequestNumbers};
 ghost use Rattle.page.specs.Leaf.{first};
 ghost use Rattle.btree.specs.Leaves.{all_rows};
@@ -17,7 +23,7 @@ use record_key::{Key, Refusal, Value};
 use stable::{MemLog, MemPages};
 use std::alloc::Global;
 use std::marker::Model;
-use system_txn::{Neighbours, Tended};
+use system_txn::{Devices, Neighbours, Refused, Tended};
 
 /// Leaves with their log and their pages, and the session that they serve.
 #[derive(Drop)]
@@ -53,6 +59,41 @@ impl Dc {
         Ok(Dc {
             parts: Parts::new(alloc, log, pages)?,
         })
+    }
+
+    /// Opens what a crash left on the devices. No session runs until a Connect above the stored one. A cut last record
+    /// is cut off the log. Refused NoMemory, Device; BadBytes where the bytes are no log of leaves and their images. The
+    /// devices are handed back.
+    pub fn restart(
+        alloc: Global,
+        devices: Devices<MemLog, MemPages>,
+    ) -> Result<Dc, Refused<MemLog, MemPages>>
+        requires none_pending { devices.log.pending ≡ [] }
+        ensures recovers { IfOk result (λ dc. Recovers devices.log.forced devices.pages.pages dc.system) }
+        ensures restarted { IfOk result (λ dc. dc ≡ restarted dc.system) }
+        ensures failures { IfOk result (λ dc. dc.system.failures ≡ devices.log.failures + devices.pages.failures) }
+        ensures refused { IfErr result (λ left.
+            RefusesRecovery devices.log.forced devices.pages.pages left.refusal) }
+        ensures log_left { IfErr result (λ left. LeavesFrames devices.log.forced left.devices.log.forced) }
+        ensures none_left { IfErr result (λ left. left.devices.log.pending ≡ []) }
+        ensures pages_left { IfErr result (λ left. left.devices.pages.pages ≡ devices.pages.pages) }
+        ensures failures_left { IfErr result (λ left. left.devices.log.failures + left.devices.pages.failures
+            ≡ devices.log.failures + devices.pages.failures + failures_of left.refusal) }
+    {
+        Ok(Dc {
+            parts: Parts::restart(alloc, devices)?,
+        })
+    }
+
+    /// The devices, as a crash finds them: all records of the log stand on it, and the stable ones are forced.
+    pub fn stop(self) -> Devices<MemLog, MemPages>
+        ensures holds { result.log.forced ++ result.log.pending ≡ spelled self.system.log }
+        ensures forced { BeginsWith result.log.forced (spelled (beginning self.system.log self.system.stable)) }
+        ensures pages { result.pages.pages ≡ self.system.pages }
+        ensures failures { result.log.failures + result.pages.failures ≡ self.system.failures }
+    {
+        let Dc { parts } = self;
+        parts.stop()
     }
 
     /// Whether the request is taken, and if not, why: NotConnected where no session runs, Stale where
@@ -137,6 +178,28 @@ impl Dc {
         ensures { result ≡ self.now.redo }
     {
         self.parts.redo
+    }
+
+    /// How many records the log of the leaves has.
+    pub fn records(&self) -> u64
+        ensures { result ≡ length self.now.system.log }
+    {
+        self.parts.system.records()
+    }
+
+    /// The number up to which they are stable.
+    pub fn stable_end(&self) -> u64
+        ensures { result ≡ self.now.system.stable }
+    {
+        self.parts.system.stable_end()
+    }
+
+    /// How many bytes of the log the first records have, so many.
+    pub fn end_of(&self, count: u64) -> usize
+        requires { count ≤ length self.now.system.log }
+        ensures { result ≡ length (spelled (beginning self.now.system.log count)) }
+    {
+        self.parts.system.end_of(count)
     }
 
     /// How many leaves there are.

@@ -9,6 +9,7 @@
 #![tactic(auto)]
 
 mod asking;
+mod base;
 mod dc;
 mod parts;
 mod performance;
@@ -24,7 +25,7 @@ mod tending;
 
 pub use dc::Dc;
 pub use performance::Performance;
-pub use system_txn::{Neighbours, Tended};
+pub use system_txn::{Devices, Neighbours, Refused, Tended};
 
 #[cfg(test)]
 mod tests;

@@ -1,18 +1,26 @@
 //! The parts of the data component, and which messages it takes.
-ghost use Rattle.std.specs.Prelude.{◌≡◌, ◌+◌, [], None, Some, IfOk, IfErr, OnOk};
+ghost use Rattle.std.specs.Prelude.{◌≡◌, ◌+◌, ◌++◌, [], None, Some, IfOk, IfErr, OnOk};
 ghost use Rattle.std.specs.FinMap as map;
+ghost use Rattle.record_key.specs.FirstCause.{failures_of};
+ghost use Rattle.stable.specs.Crash.{BeginsWith};
+ghost use Rattle.recovery_laws.specs.Shape.{beginning};
+ghost use Rattle.system_txn.specs.Devices.{spelled};
+ghost use Rattle.system_txn.specs.Recovering.{Recovers, RefusesRecovery, LeavesFrames};
+ghost use Rattle.dc_core.specs.Restarting.{restarted};
 ghost use Rattle.dc_core.specs.Serves.{runs, session_refusal, after_redo_refusal, connect_refusal, serve_refusal};
 ghost use Rattle.dc_core.specs.Tends.{may_merge};
 ghost use Rattle.dc_core.specs.DcView.{fresh};
 ghost use Rattle.dc_core.specs.Kept.{IsDc};
 ghost use Rattle.dc_core.specs.Seen.{seen};
 
+use crate::base::Base;
 use crate::performances::Performances;
 use crate::system::System;
 use codec::Request;
 use record_key::Refusal;
 use stable::{MemLog, MemPages};
 use std::alloc::Global;
+use system_txn::{Devices, Refused};
 
 /// The sessions, the leaves, and what was performed.
 #[derive(Drop)]
@@ -23,6 +31,8 @@ pub struct Parts {
     pub session: u64,
     pub redo: bool,
     pub system: System,
+    /// The records when these leaves were opened.
+    pub opened: Base,
     pub performed: Performances,
 }
 
@@ -39,13 +49,64 @@ impl Parts {
             Err(left) => return Err(left.refusal),
         };
         system.kept();
+        let opened = Base::of(&system);
         Ok(Parts {
             stored: 0,
             session: 0,
             redo: false,
             system,
+            opened,
             performed: Performances::new(alloc),
         })
+    }
+
+    /// No session runs until a Connect above the greatest one that the log accepted, and nothing was performed yet.
+    pub fn restart(
+        alloc: Global,
+        devices: Devices<MemLog, MemPages>,
+    ) -> Result<Parts, Refused<MemLog, MemPages>>
+        requires none_pending { devices.log.pending ≡ [] }
+        ensures kept { IfOk result (λ parts. IsDc (seen parts)) }
+        ensures recovers { IfOk result (λ parts. Recovers devices.log.forced devices.pages.pages parts.system) }
+        ensures restarted { IfOk result (λ parts. seen parts ≡ restarted parts.system) }
+        ensures failures { IfOk result (λ parts. parts.system.failures ≡ devices.log.failures + devices.pages.failures) }
+        ensures refused { IfErr result (λ left.
+            RefusesRecovery devices.log.forced devices.pages.pages left.refusal) }
+        ensures log_left { IfErr result (λ left. LeavesFrames devices.log.forced left.devices.log.forced) }
+        ensures none_left { IfErr result (λ left. left.devices.log.pending ≡ []) }
+        ensures pages_left { IfErr result (λ left. left.devices.pages.pages ≡ devices.pages.pages) }
+        ensures failures_left { IfErr result (λ left. left.devices.log.failures + left.devices.pages.failures
+            ≡ devices.log.failures + devices.pages.failures + failures_of left.refusal) }
+    {
+        let Devices { log, pages } = devices;
+        let opened = System::open(alloc, log, pages)?;
+        opened.system.kept();
+        let base = Base::of(&opened.system);
+        Ok(Parts {
+            stored: opened.stored_session,
+            session: 0,
+            redo: false,
+            system: opened.system,
+            opened: base,
+            performed: Performances::new(alloc),
+        })
+    }
+
+    pub fn stop(self) -> Devices<MemLog, MemPages>
+        ensures holds { result.log.forced ++ result.log.pending ≡ spelled self.system.log }
+        ensures forced { BeginsWith result.log.forced (spelled (beginning self.system.log self.system.stable)) }
+        ensures pages { result.pages.pages ≡ self.system.pages }
+        ensures failures { result.log.failures + result.pages.failures ≡ self.system.failures }
+    {
+        let Parts {
+            stored: _,
+            session: _,
+            redo: _,
+            system,
+            opened: _,
+            performed: _,
+        } = self;
+        system.stop()
     }
 
     /// Whether this session runs.

@@ -3,6 +3,7 @@ mod asking;
 mod failing;
 mod performing;
 mod reading;
+mod restarting;
 mod sessions;
 mod tending;
 

@@ -2,6 +2,8 @@
 ghost use Rattle.std.specs.Prelude.{◌≡◌};
 ghost use Rattle.std.specs.Option.{option_copied};
 ghost use Rattle.std.specs.FinMap as map;
+ghost use Rattle.record_key.specs.Entries.{StandBetween};
+ghost use Rattle.record_key.specs.Rows.{AreInOrder, LieBetween, table_of};
 ghost use Rattle.history.specs.Spans.{Shared, rows_in};
 ghost use Rattle.ab_lsn.specs.AbLsn.{captures};
 ghost use Rattle.page.specs.Leaf.{first, IsLeaf};
@@ -69,6 +71,38 @@ impl Leaf {
             high_fence: None,
             rows: Vec::new(alloc),
             ab: AbLsn::new(alloc),
+        }
+    }
+
+    /// The leaf of these parts: its number, the last system transaction that changed it, its fences, its records in key
+    /// order, and what it has captured. Takes no memory.
+    pub fn from_parts(
+        id: u64,
+        last: u64,
+        fences: (Option<Key>, Option<Key>),
+        rows: Vec<(Key, Value)>,
+        ab: AbLsn,
+    ) -> Leaf
+        requires in_order { AreInOrder rows.items }
+        requires rows_between { LieBetween fences.0 fences.1 rows.items }
+        requires entries_between { StandBetween fences.0 fences.1 ab.entries }
+        ensures { result ≡ record {
+          id = id;
+          last = last;
+          low_fence = fences.0;
+          high_fence = fences.1;
+          rows = table_of rows.items;
+          ab = ab;
+        } }
+    {
+        let (low_fence, high_fence) = fences;
+        Leaf {
+            id,
+            last,
+            low_fence,
+            high_fence,
+            rows,
+            ab,
         }
     }
 

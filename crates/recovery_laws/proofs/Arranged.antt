@@ -40,13 +40,13 @@ pub record IsLater (low : Option Bytes) (xs : List LeafView) : Type 0 where
   pub above : starts_below low key ≡ true
   pub tile : TileFrom (Some key) (parts_of xs)
 
-later : (low high : Option Bytes) (x : LeafView) (xs : List LeafView) → Rest low high (parts_of xs) → IsIn x xs
+pub later : (low high : Option Bytes) (x : LeafView) (xs : List LeafView) → Rest low high (parts_of xs) → IsIn x xs
     → IsLater low xs
 later low None x [] r at = absurd at
 later low None x (y ∷ ys) r at = absurd (cc)
 later low (Some h) x xs r at = record { key = h; above = r.0; tile = r.1 }
 
-all_from : (h : Bytes) (xs : List LeafView) (x : LeafView) → TileFrom (Some h) (parts_of xs) → IsIn x xs
+pub all_from : (h : Bytes) (xs : List LeafView) (x : LeafView) → TileFrom (Some h) (parts_of xs) → IsIn x xs
     → IsFrom h x.low_fence
 all_from h [] x tile at = absurd at
 all_from h (y ∷ ys) x tile (inl e) =
@@ -63,14 +63,14 @@ no_start (Some low) other h above f e =
     let same : f.key ≡ low = cc in
     true≢false (sym above ∙ ap (λ x. is_below x h) (sym same) ∙ f.above)
 
-not_later : (x : LeafView) (y : LeafView) (ys : List LeafView) → Rest y.low_fence y.high_fence (parts_of ys)
+pub not_later : (x : LeafView) (y : LeafView) (ys : List LeafView) → Rest y.low_fence y.high_fence (parts_of ys)
     → x.low_fence ≡ y.low_fence → IsIn x ys → ⊥
 not_later x y ys r e at =
     let l = later y.low_fence y.high_fence x ys r at in
     no_start y.low_fence x.low_fence l.key l.above (all_from l.key ys x l.tile at) e
 
 -- what follows in each
-same_rest : (x y : LeafView) (xs ys : List LeafView) → Rest x.low_fence x.high_fence (parts_of xs) → x ≡ y
+pub same_rest : (x y : LeafView) (xs ys : List LeafView) → Rest x.low_fence x.high_fence (parts_of xs) → x ≡ y
     → ((z : LeafView) → IsIn z (x ∷ xs) → IsIn z (y ∷ ys))
     → (z : LeafView) → IsIn z xs → IsIn z ys
 same_rest x y xs ys r e to z at =
@@ -79,7 +79,7 @@ same_rest x y xs ys r e to z at =
       | inr there ↦ there
     ]
 
-no_parts : (xs : List LeafView) → parts_of xs ≡ [] → xs ≡ []
+pub no_parts : (xs : List LeafView) → parts_of xs ≡ [] → xs ≡ []
 no_parts [] e = refl
 no_parts (x ∷ xs) e = absurd (cc)
 

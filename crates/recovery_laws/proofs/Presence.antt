@@ -20,7 +20,7 @@ pub there : (o : Option Part) → o ≢ None → is_some o ≡ true
 there None h = absurd (h refl)
 there (Some p) h = refl
 
-some_changed : (f : LeafView → LeafView) (o : Option LeafView) → is_some (changed f o) ≡ is_some o
+pub some_changed : (f : LeafView → LeafView) (o : Option LeafView) → is_some (changed f o) ≡ is_some o
 some_changed f None = refl
 some_changed f (Some x) = refl
 

@@ -1,17 +1,14 @@
 -- What holds of the first leaf on devices that hold nothing.
-use Rattle.std.proofs.Common.{◌≡◌, ℕ, List, [], ◌∷◌, Option, Some, None, refl, sym, ap, ◌∙◌, arith}
+use Rattle.std.proofs.Common.{◌≡◌, ℕ, [], ◌∷◌, Some, None, refl, sym, ap, ◌∙◌, arith}
 use Rattle.std.specs.FinMap as table
 use Rattle.std.specs.Ordering.{nat_cmp}
 use Rattle.std.proofs.lemmas.List.{nil_from_length}
-use Rattle.codec.specs.Reading.{◌>>=◌}
 use Rattle.record_key.specs.Laws.{key_cmp}
 use Rattle.record_key.specs.Table.{Bytes}
 use Rattle.stable.specs.PagesState.{Pages}
 use Rattle.page.specs.Leaf.{IsLeaf, first}
 use Rattle.btree.specs.Leaves.{AreLeaves}
 use Rattle.recovery_laws.proofs.Images.{numbers_stay}
-use Rattle.recovery_laws.proofs.Leaves.{leaves_are_the_shapes}
-use Rattle.system_txn.specs.Devices.{pages_of, page_in}
 use Rattle.system_txn.specs.Kept.{IsSystem}
 use Rattle.system_txn.specs.SystemView.{fresh}
 
@@ -26,24 +23,15 @@ pub first_alone : AreLeaves (first ∷ [])
 first_alone = record { each = (first_kept, tt); tile = (refl, refl) }
 
 -- no page was written
-no_page : (id : ℕ) (pages : Pages) → pages ≡ table.empty → table.get pages id ≡ None
+pub no_page : (id : ℕ) (pages : Pages) → pages ≡ table.empty → table.get pages id ≡ None
 no_page id pages none = ap (λ (m : Pages). table.get m id) none ∙ table.get-empty nat_cmp id
 
 pub fresh_kept : (n : ℕ) → IsSystem (fresh n)
 fresh_kept n = record {
   leaves = first_alone;
   numbers = (numbers_stay.first, tt);
-  legal = tt;
   records = tt;
   numbered = omega arith;
   named = omega arith;
-  current = leaves_are_the_shapes.start;
-  fit = record {
-    kept = omega arith;
-    each = λ id page is. absurd
-        (let none : pages_of (fresh n).pages id ≡ None =
-        ap (λ (o : Option (List ℕ)). o >>= page_in) (no_page id (fresh n).pages refl) in
-        let no : None ≡ Some page = sym none ∙ is in cc);
-  };
   pages = λ id bytes is. absurd (let no : None ≡ Some bytes = sym (no_page id (fresh n).pages refl) ∙ is in cc);
 }

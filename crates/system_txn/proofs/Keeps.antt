@@ -2,8 +2,6 @@
 use Rattle.std.proofs.Common.{ℕ, ◌<◌, length, arith}
 use Rattle.codec.specs.declared.dc_record.DcRecord.TheVariants as is
 use Rattle.codec.specs.DcRecords.{FitsFrame}
-use Rattle.recovery_laws.proofs.Leaves.{leaves_are_the_shapes}
-use Rattle.recovery_laws.proofs.Fitting.{fit_stays}
 use Rattle.system_txn.specs.SystemView.{SystemView}
 use Rattle.system_txn.specs.Changes.{accepted, forced}
 use Rattle.system_txn.specs.Kept.{IsSystem}
@@ -13,12 +11,9 @@ pub keeps_failures : (v : SystemView) (n : ℕ) → IsSystem v → IsSystem (rec
 keeps_failures v n h = record {
   leaves = h.leaves;
   numbers = h.numbers;
-  legal = h.legal;
   records = h.records;
   numbered = h.numbered;
   named = h.named;
-  current = h.current;
-  fit = h.fit;
   pages = h.pages;
 }
 
@@ -27,12 +22,9 @@ pub keeps_forced : (v : SystemView) → IsSystem v → IsSystem (forced v)
 keeps_forced v h = record {
   leaves = h.leaves;
   numbers = h.numbers;
-  legal = h.legal;
   records = h.records;
   numbered = h.numbered;
   named = h.named;
-  current = h.current;
-  fit = fit_stays.force _ v.log v.stable (length v.log) h.fit h.fit.kept (omega arith);
   pages = h.pages;
 }
 
@@ -42,11 +34,8 @@ pub keeps_accepted : (v : SystemView) (session : ℕ) → IsSystem v → length 
 keeps_accepted v session h room fits = record {
   leaves = h.leaves;
   numbers = h.numbers;
-  legal = (tt, h.legal);
   records = (fits, h.records);
   numbered = omega (arith, room);
   named = h.named;
-  current = leaves_are_the_shapes.accept v.log session v.leaves h.current;
-  fit = fit_stays.grow _ (is.Accept session) v.log v.stable h.fit;
   pages = h.pages;
 }

@@ -1,44 +1,33 @@
--- Leaves that change, and keep their numbers, fences and last changes.
-use Rattle.std.proofs.Common.{◌≡◌, ℕ, false, List, [], ◌∷◌, map, refl, sym, ap, subst, inl, inr}
+-- Leaves that change, and keep numbers that have spellings.
+use Rattle.std.proofs.Common.{◌≡◌, ℕ, false, List, map, sym, subst, inl, inr}
 use Rattle.std.specs.List.{AllByRecursion}
 use Rattle.std.proofs.lemmas.Bool.{cases_Bool, MatchBool-at_true, MatchBool-at_false}
-use Rattle.record_key.specs.Table.{Bytes, key_of}
+use Rattle.record_key.specs.Table.{key_of}
 use Rattle.record_key.specs.declared.op.Op.{Op}
 use Rattle.ab_lsn.specs.AbLsn.{captures}
 use Rattle.codec.specs.Fields.{IsNumber}
 use Rattle.page.specs.declared.leaf.Done.{Done}
-use Rattle.page.specs.Leaf.{LeafView, is_in_fences, performed, raised_to}
-use Rattle.page.specs.Tiles.{parts_of}
-use Rattle.btree.specs.Leaves.{AreLeaves, leaf_at, changed_at}
+use Rattle.page.specs.Leaf.{LeafView, performed, raised_to}
+use Rattle.btree.specs.Leaves.{AreLeaves, leaf_at}
 use Rattle.btree.specs.Performs.{PerformsAt, performed_at}
-use Rattle.btree.proofs.Changing.{all_changed, all_mapped, parts_changed, parts_mapped}
+use Rattle.btree.proofs.Changing.{all_changed, all_mapped}
 use Rattle.btree.proofs.Stays.{performed_leaves, raised_stays}
 use Rattle.recovery_laws.specs.Images.{HasLeafNumbers}
-use Rattle.recovery_laws.specs.Leaves.{lasts_of}
 use Rattle.recovery_laws.proofs.Images.{numbers_stay}
-use Rattle.recovery_laws.proofs.Leaves.{leaves_are_the_shapes}
 use Rattle.system_txn.specs.SystemView.{SystemView}
 use Rattle.system_txn.specs.Changes.{lowered}
 use Rattle.system_txn.specs.Kept.{IsSystem}
 
 keeps_changed : (v : SystemView) (leaves : List LeafView) → IsSystem v → AreLeaves leaves
-    → AllByRecursion HasLeafNumbers leaves → parts_of leaves ≡ parts_of v.leaves → lasts_of leaves ≡ lasts_of v.leaves
-    → IsSystem (record v { leaves = leaves })
-keeps_changed v leaves h kept numbers parts lasts = record {
+    → AllByRecursion HasLeafNumbers leaves → IsSystem (record v { leaves = leaves })
+keeps_changed v leaves h kept numbers = record {
   leaves = kept;
   numbers = numbers;
-  legal = h.legal;
   records = h.records;
   numbered = h.numbered;
   named = h.named;
-  current = leaves_are_the_shapes.change v.log v.leaves leaves h.current parts lasts;
-  fit = h.fit;
   pages = h.pages;
 }
-
-lasts_raised : (l : ℕ) (leaves : List LeafView) → lasts_of (map (λ leaf. raised_to leaf l) leaves) ≡ lasts_of leaves
-lasts_raised l [] = refl
-lasts_raised l (leaf ∷ leaves) = ap (λ (ns : List ℕ). leaf.last ∷ ns) (lasts_raised l leaves)
 
 pub keeps_lowered : (v : SystemView) (l : ℕ) → IsNumber l → IsSystem v → IsSystem (lowered v l)
 keeps_lowered v l small h =
@@ -46,16 +35,6 @@ keeps_lowered v l small h =
     (raised_stays v.leaves l h.leaves).leaves
     (all_mapped HasLeafNumbers HasLeafNumbers (λ leaf. raised_to leaf l)
     (λ leaf has. numbers_stay.raise leaf l has small) v.leaves h.numbers)
-    (parts_mapped (λ leaf. raised_to leaf l) (λ leaf. refl) v.leaves) (lasts_raised l v.leaves)
-
-lasts_changed : (k : Bytes) (change : LeafView → LeafView) → ((leaf : LeafView) → (change leaf).last ≡ leaf.last)
-    → (leaves : List LeafView) → lasts_of (changed_at k change leaves) ≡ lasts_of leaves
-lasts_changed k change same [] = refl
-lasts_changed k change same (leaf ∷ leaves) =
-    elim (cases_Bool (is_in_fences leaf k)) [
-      | inl here ↦ rw here (ap (λ (n : ℕ). n ∷ lasts_of leaves) (same leaf))
-      | inr other ↦ rw other (ap (λ (ns : List ℕ). leaf.last ∷ ns) (lasts_changed k change same leaves))
-    ]
 
 pub keeps_performed : (v : SystemView) (n : ℕ) (o : Op) → IsNumber n → IsSystem v
     → captures (leaf_at v.leaves (key_of o)).ab n ≡ false → IsSystem (record v { leaves = performed_at v.leaves n o })
@@ -65,7 +44,6 @@ keeps_performed v n o small h out =
     (performed_leaves v.leaves n o h.leaves out)
     (all_changed HasLeafNumbers (key_of o) act v.leaves
     (λ has. numbers_stay.perform (leaf_at v.leaves (key_of o)) n o has small) h.numbers)
-    (parts_changed act (λ leaf. refl) (key_of o) v.leaves) (lasts_changed (key_of o) act (λ leaf. refl) v.leaves)
 
 -- the same, whatever the request came to
 pub keeps_performs : (v : SystemView) (n : ℕ) (o : Op) (done : Done) (new : List LeafView) → IsNumber n → IsSystem v

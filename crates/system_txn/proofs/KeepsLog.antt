@@ -67,20 +67,25 @@ kept_longer log stable forced pending begins end next_id r next h fits is = (
   },
 )
 
+-- the device holds just the records' frames, all of them forced
+pub kept_stable : (log : List DcRecord) (forced pending begins : List ℕ) (end next_id : ℕ) → forced ≡ spelled log
+    → pending ≡ [] → AreFrames log begins end next_id → IsKept log (length log) forced pending begins end next_id
+kept_stable log forced pending begins end next_id all none frames = (
+  record {
+    within = omega arith;
+    stored = ap (λ (x : List ℕ). forced ++ x) none ∙ append-nil forced ∙ all;
+    covered = (
+      [],
+      all ∙ ap spelled (sym (whole log (length log) (omega arith)))
+          ∙ sym (append-nil (spelled (beginning log (length log)))),
+    );
+  },
+  frames,
+)
+
 -- all records are forced
 pub kept_forced : (log : List DcRecord) (stable : ℕ) (forced pending forced' pending' begins : List ℕ) (end next_id : ℕ)
     → IsKept log stable forced pending begins end next_id → forced' ≡ forced ++ pending → pending' ≡ []
     → IsKept log (length log) forced' pending' begins end next_id
 kept_forced log stable forced pending forced' pending' begins end next_id h f p =
-    let all : forced' ≡ spelled log = f ∙ h.0.stored in (
-      record {
-        within = omega arith;
-        stored = ap (λ (x : List ℕ). forced' ++ x) p ∙ append-nil forced' ∙ all;
-        covered = (
-          [],
-          all ∙ ap spelled (sym (whole log (length log) (omega arith)))
-              ∙ sym (append-nil (spelled (beginning log (length log)))),
-        );
-      },
-      h.1,
-    )
+    kept_stable log forced' pending' begins end next_id (f ∙ h.0.stored) p h.1

@@ -6,17 +6,15 @@ use Rattle.codec.specs.declared.dc_record.DcRecord.TheVariants as is
 use Rattle.codec.specs.declared.image.LeafImage.{LeafImage}
 use Rattle.codec.specs.DcRecords.{FitsFrame, IsOrderedDcRecord}
 use Rattle.page.specs.Leaf.{LeafView, IsLeaf, first}
-use Rattle.page.specs.Parting.{joined_of, AreNeighbours}
+use Rattle.page.specs.Parting.{joined_of}
 use Rattle.btree.specs.declared.parting.Merge.{Merge}
 use Rattle.btree.specs.Parting.{may_merge_at, merged_at, IsMergeOf}
 use Rattle.btree.proofs.Kept.{kept_joined}
+use Rattle.btree.proofs.Merging.{AreJoinable, joinable, pair_there}
+use Rattle.btree.proofs.Places.{merge_within}
 use Rattle.btree.proofs.Stays.{merged_stays}
 use Rattle.recovery_laws.specs.Images.{HasLeafNumbers, image_of}
-use Rattle.recovery_laws.specs.Shape.{IsLegal}
-use Rattle.recovery_laws.specs.Leaves.{AreCurrent, AreInPlace, merge_of}
-use Rattle.recovery_laws.proofs.Leaves.{leaves_are_the_shapes}
-use Rattle.recovery_laws.proofs.Halves.{halves_fit}
-use Rattle.recovery_laws.proofs.Fitting.{fit_stays}
+use Rattle.recovery_laws.specs.Leaves.{merge_of}
 use Rattle.recovery_laws.proofs.Images.{images_keep_leaves, numbers_stay}
 use Rattle.system_txn.specs.SystemView.{SystemView}
 use Rattle.system_txn.specs.Changes.{leaf_in, next_number, merged_to}
@@ -54,16 +52,13 @@ module _ (v : SystemView) (p : ℕ) (m : Mergeable v p) where
       subst (AllByRecursion P) (sym (pair.new (next_number v)))
       (all_appended P pair.before (both ∷ pair.after) (has P all).earlier (one, (has P all).later.1))
 
-  stand : AreInPlace v.log v.leaves
-  stand = leaves_are_the_shapes.place v.log v.leaves m.kept.legal m.kept.current
-
-  side : AreNeighbours left right
-  side = stand.neighbours pair.before pair.after left right pair.all
+  joinable_here : AreJoinable left right
+  joinable_here =
+      pair_there AreJoinable v.leaves p (joinable v.leaves p m.kept.leaves) (merge_within v.leaves p m.may)
 
   joined_kept : IsLeaf both
   joined_kept =
-      kept_joined left right (next_number v) (has IsLeaf m.kept.leaves.each).here
-      (has IsLeaf m.kept.leaves.each).later.0 side
+      kept_joined left right (next_number v) joinable_here.left_kept joinable_here.right_kept joinable_here.next
 
   left_numbered : HasLeafNumbers left
   left_numbered = (has HasLeafNumbers m.kept.numbers).here
@@ -80,30 +75,14 @@ module _ (v : SystemView) (p : ℕ) (m : Mergeable v p) where
     (right_numbered.id, (images_keep_leaves.ordered both joined_kept numbers_of_both, refl)),
   )
 
-  legal : IsLegal (merge_of v.log left right ∷ v.log)
-  legal = (
-    halves_fit.join v.log left right m.kept.legal (has _ m.kept.current.each).here (has _ m.kept.current.each).later.0
-        (stand.next pair.before pair.after left right pair.all),
-    m.kept.legal,
-  )
-
-  current : AreCurrent (merge_of v.log left right ∷ v.log) new
-  current =
-      subst (AreCurrent (merge_of v.log left right ∷ v.log)) (sym (pair.new (next_number v)))
-      (leaves_are_the_shapes.merge v.log pair.before pair.after left right m.kept.legal
-      (subst (AreCurrent v.log) pair.all m.kept.current))
-
   merged : FitsFrame (merge_of v.log left right)
       → IsSystem (record v { leaves = new; log = merge_of v.log left right ∷ v.log })
   merged fits = record {
     leaves = (merged_stays v.leaves p (next_number v) m.kept.leaves m.may).leaves;
     numbers = have HasLeafNumbers m.kept.numbers numbers_of_both;
-    legal = legal;
     records = (fits, m.kept.records);
     numbered = omega (arith, m.room);
     named = m.kept.named;
-    current = current;
-    fit = fit_stays.grow _ _ v.log v.stable m.kept.fit;
     pages = m.kept.pages;
   }
 

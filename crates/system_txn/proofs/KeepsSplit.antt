@@ -6,18 +6,14 @@ use Rattle.codec.specs.declared.image.LeafImage.{LeafImage}
 use Rattle.codec.specs.DcRecords.{FitsFrame, IsOrderedDcRecord}
 use Rattle.page.specs.Leaf.{LeafView, IsLeaf}
 use Rattle.page.specs.Parting.{upper_of}
-use Rattle.page.specs.Tiles.{IsInside, part_of}
 use Rattle.btree.specs.declared.parting.Split.{Split}
 use Rattle.btree.specs.Parting.{middle, may_split_at, split_at, IsSplitOf}
-use Rattle.btree.proofs.Kept.{kept_upper, cuts_inside}
+use Rattle.btree.proofs.Kept.{kept_upper}
 use Rattle.btree.proofs.Splitting.{all_split}
 use Rattle.btree.proofs.Stays.{split_stays}
 use Rattle.recovery_laws.specs.Images.{HasLeafNumbers, image_of}
-use Rattle.recovery_laws.specs.Shape.{IsLegal, named}
-use Rattle.recovery_laws.specs.Leaves.{AreCurrent, split_of}
-use Rattle.recovery_laws.proofs.Leaves.{leaves_are_the_shapes}
-use Rattle.recovery_laws.proofs.Halves.{halves_fit}
-use Rattle.recovery_laws.proofs.Fitting.{fit_stays}
+use Rattle.recovery_laws.specs.Shape.{named}
+use Rattle.recovery_laws.specs.Leaves.{split_of}
 use Rattle.recovery_laws.proofs.Images.{images_keep_leaves, numbers_stay}
 use Rattle.system_txn.specs.SystemView.{SystemView}
 use Rattle.system_txn.specs.Changes.{leaf_in, next_id, next_number, split_to}
@@ -42,9 +38,6 @@ module _ (v : SystemView) (p : ℕ) (s : Splittable v p) where
   abbrev upper : LeafView
   upper = upper_of leaf cut (next_id v) (next_number v)
 
-  abbrev new : List LeafView
-  new = split_at p (next_id v) (next_number v) v.leaves
-
   amid : IsSplitAmid v.leaves p
   amid = split_amid p v.leaves s.may
 
@@ -67,18 +60,6 @@ module _ (v : SystemView) (p : ℕ) (s : Splittable v p) where
     images_keep_leaves.ordered upper (kept_upper leaf cut (next_id v) (next_number v) kept) numbers_of_upper,
   )
 
-  inside : IsInside (part_of leaf) cut
-  inside = cuts_inside leaf kept amid.may
-
-  legal : IsLegal (split_of v.log leaf cut ∷ v.log)
-  legal = (halves_fit.cut v.log leaf cut s.kept.legal (has _ s.kept.current.each).here inside, s.kept.legal)
-
-  current : AreCurrent (split_of v.log leaf cut ∷ v.log) new
-  current =
-      subst (AreCurrent (split_of v.log leaf cut ∷ v.log)) (sym (amid.new (next_id v) (next_number v)))
-      (leaves_are_the_shapes.split v.log amid.before amid.after leaf cut s.kept.legal
-      (subst (AreCurrent v.log) amid.all s.kept.current) inside)
-
   keeps_split : FitsFrame (split_of v.log leaf cut) → IsSystem (split_to v p)
   keeps_split fits = record {
     leaves = (split_stays v.leaves p (next_id v) (next_number v) s.kept.leaves s.may).leaves;
@@ -87,12 +68,9 @@ module _ (v : SystemView) (p : ℕ) (s : Splittable v p) where
       numbers_stay.upper other (middle other) (next_id v) (next_number v) has (omega (arith, s.more))
           (omega (arith, s.room)),
     )) v.leaves p s.kept.leaves.each s.may s.kept.numbers;
-    legal = legal;
     records = (fits, s.kept.records);
     numbered = omega (arith, s.room);
     named = omega (arith, s.more);
-    current = current;
-    fit = fit_stays.grow _ _ v.log v.stable s.kept.fit;
     pages = s.kept.pages;
   }
 

@@ -1,10 +1,10 @@
 -- Leaves that are written to their pages.
-use Rattle.std.proofs.Common.{◌≡◌, ℕ, zero, suc, ◌<◌, ◌≤◌, ◌==◌, Bool, cond, List, [], ◌∷◌, length, get_or, Option, Some, refl, sym, ap, ◌∙◌, subst, arith, append-nil, inl, inr}
+use Rattle.std.proofs.Common.{◌≡◌, ℕ, zero, suc, ◌<◌, ◌==◌, Bool, cond, List, [], ◌∷◌, length, get_or, Some, refl, sym, ap, ◌∙◌, subst, arith, append-nil, inl, inr}
 use Rattle.std.specs.Prelude.{nat_le}
 use Rattle.std.specs.List.{AllByRecursion}
 use Rattle.std.specs.FinMap as table
 use Rattle.std.specs.Cmp.{nat_cmp_total, unsigned_tied}
-use Rattle.std.proofs.lemmas.Bool.{cases_Bool, leb-true}
+use Rattle.std.proofs.lemmas.Bool.{cases_Bool}
 use Rattle.codec.specs.declared.image.LeafImage.{LeafImage}
 use Rattle.codec.specs.Images.{image_bytes, IsOrderedImage, IsImage}
 use Rattle.codec.specs.Reading.{image_at}
@@ -12,10 +12,8 @@ use Rattle.codec.proofs.Images.{image_reads}
 use Rattle.stable.specs.PagesState.{Pages}
 use Rattle.page.specs.Leaf.{LeafView, IsLeaf, first}
 use Rattle.recovery_laws.specs.Images.{image_of, HasLeafNumbers}
-use Rattle.recovery_laws.specs.Laws.{IsCurrent}
-use Rattle.recovery_laws.specs.Recovery.{FitPages, written}
+use Rattle.recovery_laws.specs.Recovery.{written}
 use Rattle.recovery_laws.proofs.Images.{images_keep_leaves}
-use Rattle.recovery_laws.proofs.Fitting.{fit_stays}
 use Rattle.system_txn.specs.Changes.{covered, forced, written_to}
 use Rattle.system_txn.specs.Devices.{page_in, pages_of}
 use Rattle.record_key.specs.declared.refusal.Refusal.{Refusal}
@@ -56,21 +54,15 @@ pages_written pages leaf fits id =
           rw (same, other) refl
     ]
 
--- a leaf that is no younger than the stable records is written
+-- a leaf is written
 keeps_page : (v : SystemView) (leaf : LeafView) → IsSystem v → IsLeaf leaf → IsImage (image_of leaf)
-    → IsCurrent v.log leaf.id leaf → leaf.last ≤ v.stable
     → IsSystem (record v { pages = table.insert v.pages leaf.id (image_bytes (image_of leaf)) })
-keeps_page v leaf h kept fits current stable = record {
+keeps_page v leaf h kept fits = record {
   leaves = h.leaves;
   numbers = h.numbers;
-  legal = h.legal;
   records = h.records;
   numbered = h.numbered;
   named = h.named;
-  current = h.current;
-  fit = subst (λ (pages : ℕ → Option LeafView). FitPages pages v.log v.stable)
-      (sym (λ i id. pages_written v.pages leaf fits id i))
-      (fit_stays.write (pages_of v.pages) v.log v.stable leaf.id leaf h.fit current stable);
   pages = λ id bytes is.
       let image : List ℕ = image_bytes (image_of leaf) in
       let got = get_written v.pages leaf.id image id in
@@ -85,11 +77,11 @@ keeps_page v leaf h kept fits current stable = record {
 
 -- a leaf is written, once the log is forced where it has to be
 pub keeps_written : (v : SystemView) (leaf : LeafView) → IsSystem v → IsLeaf leaf → IsImage (image_of leaf)
-    → IsCurrent v.log leaf.id leaf → IsSystem (written_to v leaf)
-keeps_written v leaf h kept fits current =
+    → IsSystem (written_to v leaf)
+keeps_written v leaf h kept fits =
     elim (cases_Bool (nat_le leaf.last v.stable)) [
-      | inl stable ↦ rw stable (keeps_page v leaf h kept fits current (leb-true leaf.last v.stable stable))
-      | inr young ↦ rw young (keeps_page (forced v) leaf (keeps_forced v h) kept fits current current.last)
+      | inl stable ↦ rw stable (keeps_page v leaf h kept fits)
+      | inr young ↦ rw young (keeps_page (forced v) leaf (keeps_forced v h) kept fits)
     ]
 
 -- the log is forced where it has to be
@@ -122,7 +114,6 @@ pub keeps_written_at : (v : SystemView) (p : ℕ) → IsSystem v → p < length 
     → IsSystem (written_to v (get_or v.leaves p first))
 keeps_written_at v p h there fits =
     keeps_written v (get_or v.leaves p first) h (at_place IsLeaf v.leaves p there h.leaves.each) fits
-    (at_place (λ (leaf : LeafView). IsCurrent v.log leaf.id leaf) v.leaves p there h.current.each)
 
 -- the image of each leaf is in order
 pub ordered_images : (leaves : List LeafView) → AllByRecursion IsLeaf leaves → AllByRecursion HasLeafNumbers leaves

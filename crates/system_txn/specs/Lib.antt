@@ -3,5 +3,15 @@ pub mod Devices
 pub mod LogView
 pub mod Seen
 pub mod Kept
+pub mod Recovering
 pub mod Changes
 pub mod Gives
+pub mod Finding
+pub mod Known
+pub mod Reading
+pub mod Shelf
+pub mod Replaying
+pub mod Paging
+pub mod Arranging
+pub mod Restarts
+pub mod Crashed

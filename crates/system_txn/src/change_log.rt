@@ -1,12 +1,12 @@
 //! The log of the data component: splits, merges and accepted sessions, as bytes on a device.
-ghost use Rattle.std.specs.Prelude.{◌≡◌, ◌+◌, ◌∷◌, ◌++◌, [], List, None, length, OnOk, OnErr, IfOk, IfErr};
+ghost use Rattle.std.specs.Prelude.{◌≡◌, ◌≤◌, ◌+◌, ◌∷◌, ◌++◌, [], List, None, length, OnOk, OnErr, IfOk, IfErr};
 ghost use Rattle.codec.specs.declared.dc_record.DcRecord.{DcRecord};
 ghost use Rattle.codec.specs.DcRecords.{record_in, dc_record_bytes, IsOrderedDcRecord, FitsFrame};
 ghost use Rattle.codec.specs.Frames.{frame};
 ghost use Rattle.record_key.specs.FirstCause.{MayRefuse, failures_of, failures_in};
 ghost use Rattle.stable.specs.Crash.{BeginsWith};
 ghost use Rattle.recovery_laws.specs.Shape.{named, beginning};
-ghost use Rattle.system_txn.specs.LogView.{refusal_from};
+ghost use Rattle.system_txn.specs.LogView.{AreFrames, refusal_from};
 ghost use Rattle.system_txn.specs.Devices.{spelled, AreRecords};
 
 use codec::{DcRecordRef, put_dc_record};
@@ -65,6 +65,31 @@ impl<D: LogDevice> ChangeLog<D> {
         }
     }
 
+    /// The log of the records whose frames are all that the device holds.
+    pub(crate) fn reopened(
+        alloc: Global,
+        device: D,
+        places: Vec<usize>,
+        end: usize,
+        next_id: u64,
+    ) -> ChangeLog<D>
+        requires none_pending { D.pending device ≡ [] }
+        requires records { (log : List DcRecord) × (D.forced device ≡ spelled log)
+            × AreFrames log places.items end next_id }
+        ensures { (log : List DcRecord) → AreRecords log → D.forced device ≡ spelled log
+            → result ≡ record { log = log; stable = length log; failures = D.failures device } }
+    {
+        let stable = places.len() as u64;
+        ChangeLog {
+            device,
+            places,
+            end,
+            stable,
+            next_id,
+            frame: Vec::new(alloc),
+        }
+    }
+
     /// The device, as a crash finds it: all records stand on it, and the stable ones are forced.
     pub fn stop(self) -> D
         ensures holds { D.forced result ++ D.pending result ≡ spelled self.log }
@@ -95,6 +120,18 @@ impl<D: LogDevice> ChangeLog<D> {
         ensures { result ≡ self.now.stable }
     {
         self.stable
+    }
+
+    /// How many bytes the first records have, so many.
+    pub fn end_of(&self, count: u64) -> usize
+        requires { count ≤ length self.now.log }
+        ensures { result ≡ length (spelled (beginning self.now.log count)) }
+    {
+        if count < self.places.len() as u64 {
+            self.places[count as usize]
+        } else {
+            self.end
+        }
     }
 
     /// The number of the next leaf that is made.

@@ -1,9 +1,10 @@
-//! The image of a leaf, its parts borrowed.
+//! A leaf and its image.
 ghost use Rattle.std.specs.Prelude.{◌≡◌};
-ghost use Rattle.codec.specs.Images.{image_in};
-ghost use Rattle.recovery_laws.specs.Images.{image_of};
+ghost use Rattle.codec.specs.Images.{image_in, IsImage};
+ghost use Rattle.recovery_laws.specs.Images.{image_of, leaf_of};
 
-use codec::LeafImageRef;
+use ab_lsn::AbLsn;
+use codec::{LeafImage, LeafImageRef};
 use page::Leaf;
 
 /// The leaf's parts, to be written.
@@ -19,4 +20,18 @@ pub fn image_of(leaf: &Leaf) -> LeafImageRef<'_>
         rows: leaf.rows(),
         entries: leaf.entries(),
     }
+}
+
+/// The leaf that an image keeps. Takes no memory.
+pub fn leaf_of(image: LeafImage) -> Leaf
+    requires { IsImage image }
+    ensures { result ≡ leaf_of image }
+{
+    Leaf::from_parts(
+        image.id,
+        image.last,
+        (image.low_fence, image.high_fence),
+        image.rows.into_rows(),
+        AbLsn::from_parts(image.low, image.entries.into_entries()),
+    )
 }

@@ -6,19 +6,32 @@
 //! before a page tells of it; a refused call names its cause and leaves what its definition says; `IsSystem` holds.
 #![tactic(auto)]
 
+mod arranging;
 mod change_log;
 mod choosing;
 mod devices;
+mod frames;
 mod image;
+mod known;
+mod laws;
+mod opening;
+mod pages;
 mod parting;
 mod parts;
+mod reading;
+mod recovering;
+mod replaying;
+mod shelf;
 mod system;
 mod tended;
 mod writing;
 
 pub use change_log::ChangeLog;
 pub use devices::{Devices, Refused};
-pub use image::image_of;
+pub use image::{image_of, leaf_of};
+pub use laws::{beginning_law, crash_law, never_bad_law, reading_law, restart_law};
+pub use opening::Opened;
+pub use recovering::{Recovered, recover};
 pub use system::SystemTxns;
 pub use tended::{Neighbours, Tended};
 

@@ -1,5 +1,5 @@
 //! The leaves of a data component with the devices that outlive them.
-ghost use Rattle.std.specs.Prelude.{◌≡◌, ◌+◌, ◌++◌, ◌<◌, ◌^◌, [], true, length, get_or, Some, None, IsOk, IfOk, IfErr, OnOk, OnErr, IsOkUnless};
+ghost use Rattle.std.specs.Prelude.{◌≡◌, ◌+◌, ◌++◌, ◌<◌, ◌≤◌, ◌^◌, [], true, length, get_or, Some, None, IsOk, IfOk, IfErr, OnOk, OnErr, IsOkUnless};
 ghost use Rattle.std.specs.FinMap as map;
 ghost use Rattle.std.specs.Option.{option_copied};
 ghost use Rattle.record_key.specs.Table.{key_of};
@@ -30,7 +30,7 @@ use std::marker::Model;
 /// Leaves, the log of what was done to them, and their pages.
 #[derive(Drop)]
 pub struct SystemTxns<L: LeafSet, D: LogDevice, P: PageDevice> {
-    parts: Parts<L, D, P>,
+    pub(crate) parts: Parts<L, D, P>,
 }
 
 impl<L: LeafSet, D: LogDevice, P: PageDevice> Model for SystemTxns<L, D, P> {
@@ -179,6 +179,28 @@ impl<L: LeafSet, D: LogDevice, P: PageDevice> SystemTxns<L, D, P> {
         self.parts.leaves.scan(low, high)
     }
 
+    /// How many records the log has.
+    pub fn records(&self) -> u64
+        ensures { result ≡ length self.now.log }
+    {
+        self.parts.log.len()
+    }
+
+    /// The number up to which records are stable.
+    pub fn stable_end(&self) -> u64
+        ensures { result ≡ self.now.stable }
+    {
+        self.parts.log.stable_end()
+    }
+
+    /// How many bytes of the log the first records have, so many.
+    pub fn end_of(&self, count: u64) -> usize
+        requires { count ≤ length self.now.log }
+        ensures { result ≡ length (spelled (beginning self.now.log count)) }
+    {
+        self.parts.log.end_of(count)
+    }
+
     /// How many leaves there are.
     pub fn len(&self) -> usize
         ensures count { result ≡ length self.now.leaves }
@@ -208,8 +230,8 @@ impl<L: LeafSet, D: LogDevice, P: PageDevice> SystemTxns<L, D, P> {
         self.parts.leaves.allocator()
     }
 
-    /// What holds at every moment: the leaves are those that the log says, each record fits those before it, and
-    /// each page is an image no younger than the stable records.
+    /// What holds at every moment, whatever the devices held when they were opened: the leaves have all keys among
+    /// them, each record of the log has a spelling, and each page is an image.
     pub fn kept(&self)
         ensures { IsSystem self.now }
     {

@@ -12,6 +12,9 @@ use std::test::Fail;
 
 mod bytes;
 mod failing;
+mod frames;
+mod opening;
+mod refusing;
 
 use bytes::{ACCEPT, LEFT, MERGE, RAISED_LEFT, RAISED_RIGHT, SPLIT};
 

@@ -6,12 +6,13 @@ use Rattle.world.specs.declared.event.Out.{Out}
 use Rattle.undo_shell.specs.Printed.{refusal_line}
 use Rattle.undo_shell.specs.Told.{told_text}
 
--- `settled`, or why it could not go on
-abbrev pub end_line : Result (Unit {0}) Refusal → List ℕ
-end_line (Ok u) = codes "settled\n"
+-- no round is left, or as many were played as may be, or why it could not go on
+abbrev pub end_line : Result Bool Refusal → List ℕ
+end_line (Ok true) = codes "settled\n"
+end_line (Ok false) = codes "paused\n"
 end_line (Err r) = refusal_line r
 
-abbrev pub settled_text : List Out → Result (Unit {0}) Refusal → List ℕ
+abbrev pub settled_text : List Out → Result Bool Refusal → List ℕ
 settled_text outs end = flat_map told_text outs ++ end_line end
 
 -- memory or a device failed

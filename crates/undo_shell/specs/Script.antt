@@ -9,6 +9,8 @@ use Rattle.undo_shell.specs.declared.line.Call.{Call}
 use Rattle.undo_shell.specs.declared.line.Call.TheVariants as call
 use Rattle.undo_shell.specs.declared.line.LeafCall.{LeafCall}
 use Rattle.undo_shell.specs.declared.line.LeafCall.TheVariants as leaf_call
+use Rattle.undo_shell.specs.declared.line.Component.{Component}
+use Rattle.undo_shell.specs.declared.line.Component.TheVariants as component
 use Rattle.undo_shell.specs.declared.line.Part.{Part}
 use Rattle.undo_shell.specs.declared.line.Part.TheVariants as part
 use Rattle.undo_shell.specs.declared.line.Line.{Line}
@@ -35,7 +37,8 @@ pub data Command : Type 0 where
   treats : LeafCall → List ℕ → Command
   -- an event
   steps : Event → Command
-  settles : Command
+  -- the node works, for so many rounds at most where there is a number
+  settles : Option ℕ → Command
   -- the records are printed
   tables : Command
   shows : Part → Command
@@ -43,12 +46,14 @@ pub data Command : Type 0 where
 -- a line of one word
 abbrev pub bare : List ℕ → Option Command
 bare name =
-    if bytes_eq name (codes "settle") then Some settles
+    if bytes_eq name (codes "settle") then Some (settles None)
     else (if bytes_eq name (codes "force") then Some (steps event.Force)
     else (if bytes_eq name (codes "tend") then Some (steps event.Tend)
+    else (if bytes_eq name (codes "connect") then Some (steps event.Reconnect)
+    else (if bytes_eq name (codes "recover") then Some (steps event.Recover)
     else (if bytes_eq name (codes "table") then Some tables
     else (if bytes_eq name (codes "log") then Some (shows part.Log)
-    else (if bytes_eq name (codes "leaves") then Some (shows part.Leaves) else None)))))
+    else (if bytes_eq name (codes "leaves") then Some (shows part.Leaves) else None)))))))
 
 -- the name of what happens to a label's transaction
 abbrev pub call_named : List ℕ → Option Call
@@ -71,7 +76,8 @@ with_number name None = None
 with_number name (Some n) =
     if bytes_eq name (codes "low") then Some (steps (event.LowWater n))
     else (if bytes_eq name (codes "req") then Some (steps (event.Request n))
-    else (if bytes_eq name (codes "rep") then Some (steps (event.Reply n)) else None))
+    else (if bytes_eq name (codes "rep") then Some (steps (event.Reply n))
+    else (if bytes_eq name (codes "settle") then Some (settles (Some n)) else None)))
 
 -- the name of what happens to a leaf
 abbrev pub leaf_call_named : List ℕ → Option LeafCall
@@ -84,6 +90,24 @@ leaf_call_named name =
 abbrev pub with_leaf : List ℕ → Option (List ℕ) → Option Command
 with_leaf name None = None
 with_leaf name (Some key) = option_map (λ c. treats c key) (leaf_call_named name)
+
+-- the component that a word names
+abbrev pub component_in : List ℕ → Option Component
+component_in word = if bytes_eq word (codes "dc") then Some component.Dc else None
+
+-- a component loses what isn't on its devices; of its log's records that aren't stable so many stay, and so many
+-- bytes of the next one
+abbrev pub crash_of : Component → ℕ → ℕ → Event
+crash_of component.Dc frames bytes = event.CrashDc frames bytes
+
+-- a component is opened on its devices
+abbrev pub restart_of : Component → Event
+restart_of component.Dc = event.RestartDc
+
+-- a line of two words, the second a component
+abbrev pub with_component : List ℕ → Option Component → Option Command
+with_component name None = None
+with_component name (Some c) = if bytes_eq name (codes "restart") then Some (steps (restart_of c)) else None
 
 abbrev pub first_of : Option Command → Option Command → Option Command
 first_of None second = second
@@ -124,16 +148,31 @@ scan_of (Some label) None high = None
 scan_of (Some label) (Some low) None = None
 scan_of (Some label) (Some low) (Some high) = Some (scans label low high)
 
+abbrev pub crash_in : Option Component → Option ℕ → Option ℕ → Option Command
+crash_in None frames bytes = None
+crash_in (Some c) None bytes = None
+crash_in (Some c) (Some frames) None = None
+crash_in (Some c) (Some frames) (Some bytes) = Some (steps (crash_of c frames bytes))
+
+-- a line of two words that has no label
+abbrev pub unlabelled : List ℕ → List ℕ → Option Command
+unlabelled name word =
+    first_of (with_number name (number_in word)) (first_of (with_leaf name (text_in word)) (with_component name (component_in word)))
+
+-- a line of four words
+abbrev pub of_four : List ℕ → List ℕ → List ℕ → List ℕ → Option Command
+of_four name first second last =
+    if bytes_eq name (codes "scan") then scan_of (label_in first) (text_in second) (end_in last)
+    else (if bytes_eq name (codes "crash") then crash_in (component_in first) (number_in second) (number_in last)
+    else write_of (kind_with_value name) (label_in first) (text_in second) (text_in last))
+
 -- the grammar: one case for each number of words
 abbrev pub command_of : List (List ℕ) → Option Command
 command_of (name ∷ []) = bare name
-command_of (name ∷ word ∷ []) =
-    first_of (with_label name (label_in word)) (first_of (with_number name (number_in word)) (with_leaf name (text_in word)))
+command_of (name ∷ word ∷ []) = first_of (with_label name (label_in word)) (unlabelled name word)
 command_of (name ∷ label ∷ word ∷ []) =
     first_of (with_key name (label_in label) (text_in word)) (with_savepoint name (label_in label) (number_in word))
-command_of (name ∷ label ∷ key ∷ last ∷ []) =
-    if bytes_eq name (codes "scan") then scan_of (label_in label) (text_in key) (end_in last)
-    else write_of (kind_with_value name) (label_in label) (text_in key) (text_in last)
+command_of (name ∷ first ∷ second ∷ last ∷ []) = of_four name first second last
 command_of _ = None
 
 -- a line that is passed over: an empty one, or one that begins with `#`
@@ -174,7 +213,7 @@ meaning (line.Scan label low high) = scans label low.now (option_map (λ text. t
 meaning (line.Call label c) = calls label c
 meaning (line.Leaf c key) = treats c key.now
 meaning (line.Step e) = steps e
-meaning line.Settle = settles
+meaning (line.Settle most) = settles most
 meaning line.Table = tables
 meaning (line.Show p) = shows p
 

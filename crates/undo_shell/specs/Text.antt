@@ -101,19 +101,14 @@ abbrev pub IsEvent : (Out → Type 0) → Reply → Type 0
 IsEvent P (reply.Event output) = P output
 IsEvent P _ = ⊥
 
--- settling that may play as many rounds as there are ends with none left, or is refused
-abbrev pub settling_of : Result (Unit {0}) Refusal → Result Bool Refusal
-settling_of (Ok u) = Ok true
-settling_of (Err r) = Err r
+abbrev pub IsSettling : Option ℕ → NodeView → Reply → NodeView → Type 0
+IsSettling most before (reply.Settled outs end) after = Settles before most [] outs.items end after
+IsSettling most before _ after = ⊥
 
-abbrev pub IsSettling : NodeView → Reply → NodeView → Type 0
-IsSettling before (reply.Settled outs end) after = Settles before None [] outs.items (settling_of end) after
-IsSettling before _ after = ⊥
-
--- the records as they are, or memory for them was refused
+-- the records as they are, or memory for them was refused, or the data component is down
 abbrev pub IsTable : NodeView → Reply → Type 0
-IsTable view (reply.Table rows) = rows ≡ records_of view
-IsTable view (reply.Event output) = output ≡ out.Refused refusal.NoMemory
+IsTable view (reply.Table rows) = (view.dc_up ≡ true) × (rows ≡ records_of view)
+IsTable view (reply.Event output) = output ≡ out.Refused (if view.dc_up then refusal.NoMemory else refusal.NotConnected)
 IsTable view _ = ⊥
 
 -- what a line may come to, from a node and labels, and what it leaves
@@ -125,7 +120,7 @@ Replies (scans label low high) before old r after new = IsEvent (λ output. Scan
 Replies (calls label c) before old r after new = IsEvent (λ output. StepsTo before (event_of c (old label)) output after) r × AreSame old new
 Replies (treats c key) before old r after new = IsEvent (λ output. Treats c key before output after) r × AreSame old new
 Replies (steps e) before old r after new = IsEvent (λ output. StepsTo before e output after) r × AreSame old new
-Replies settles before old r after new = IsSettling before r after × AreSame old new
+Replies (settles most) before old r after new = IsSettling most before r after × AreSame old new
 Replies tables before old r after new = IsTable before r × (after ≡ before) × AreSame old new
 Replies (shows p) before old r after new = (r ≡ reply.Shown p) × (after ≡ before) × AreSame old new
 
@@ -140,8 +135,8 @@ abbrev pub out_ends : Out → Bool
 out_ends (out.Refused r) = is_failure r
 out_ends _ = false
 
-abbrev pub settling_ends : Result (Unit {0}) Refusal → Bool
-settling_ends (Ok u) = false
+abbrev pub settling_ends : Result Bool Refusal → Bool
+settling_ends (Ok done) = false
 settling_ends (Err r) = is_failure r
 
 abbrev pub ends_run : Reply → Bool

@@ -33,7 +33,18 @@ A script is lines; empty lines and lines that begin with # are skipped.
   low N         tells the data component that no number up to N is sent again
   req N         delivers the request numbered N
   rep N         delivers the reply numbered N
+  split K       splits the leaf that has the key K
+  merge K       joins the leaf that has the key K with the leaf after it
+  tend          splits one leaf that is large, or joins two that are small
+  flush K       writes the leaf that has the key K to its page
+  crash dc N N  the data component loses what isn't on its devices; of the records
+                of its log that aren't stable the first N stay, and of the next
+                one the second N bytes
+  restart dc    opens the data component on its devices
+  connect       starts a session of the two components
+  recover       does one step of recovery
   settle        lets the node work until nothing is left to do
+  settle N      lets it work for N rounds at most
   table         prints each record of the data component
   log           prints each record of the transaction log
   leaves        prints each leaf of the data component

@@ -33,6 +33,13 @@ pub enum LeafCall {
     Flush,
 }
 
+/// What may crash and be restarted.
+#[derive(Debug, Clone, Copy, PartialEq, Eq)]
+pub enum Component {
+    /// The data component.
+    Dc,
+}
+
 /// What is printed of the node as it is.
 #[derive(Debug, Clone, Copy, PartialEq, Eq)]
 pub enum Part {
@@ -69,7 +76,8 @@ pub enum Line<'a> {
         key: &'a [u8],
     },
     Step(Event),
-    Settle,
+    /// The node works, for so many rounds at most where there is a number.
+    Settle(Option<u64>),
     /// The records are printed.
     Table,
     Show(Part),

@@ -8,6 +8,7 @@
 
 mod answers;
 mod choose;
+mod components;
 mod label;
 mod leaves;
 mod line;

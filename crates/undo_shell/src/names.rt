@@ -13,11 +13,15 @@ pub fn bare<'a>(name: &[u8]) -> Option<Line<'a>>
     ensures { option_map meaning result ≡ bare name.now }
 {
     if name == b"settle".as_slice() {
-        Some(Line::Settle)
+        Some(Line::Settle(None))
     } else if name == b"force".as_slice() {
         Some(Line::Step(Event::Force))
     } else if name == b"tend".as_slice() {
         Some(Line::Step(Event::Tend))
+    } else if name == b"connect".as_slice() {
+        Some(Line::Step(Event::Reconnect))
+    } else if name == b"recover".as_slice() {
+        Some(Line::Step(Event::Recover))
     } else if name == b"table".as_slice() {
         Some(Line::Table)
     } else if name == b"log".as_slice() {
@@ -71,6 +75,8 @@ pub fn with_number<'a>(name: &[u8], word: &[u8]) -> Option<Line<'a>>
         Some(Line::Step(Event::Request { number }))
     } else if name == b"rep".as_slice() {
         Some(Line::Step(Event::Reply { number }))
+    } else if name == b"settle".as_slice() {
+        Some(Line::Settle(Some(number)))
     } else {
         None
     }

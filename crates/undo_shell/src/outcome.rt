@@ -38,6 +38,8 @@ pub fn print_out<W: io::Write>(writer: &mut W, out: &Out) -> io::Result<()>
         Out::Split(pair) => print_pair(writer, "split ", *pair),
         Out::Merged(pair) => print_pair(writer, "merged ", *pair),
         Out::Flushed(id) => print_numbered(writer, "flushed ", *id),
+        Out::Down => print(writer, &[Piece::Text("down\n")]),
+        Out::Up(count) => print_numbered(writer, "up ", *count),
         Out::Refused(refusal) => print_refusal(writer, *refusal),
         _ => print_told(writer, out),
     }

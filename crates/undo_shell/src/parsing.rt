@@ -1,8 +1,9 @@
 //! The grammar of a line: one place for each number of words.
 ghost use Rattle.std.specs.Prelude.{◌≡◌, ◌∷◌, option_map};
-ghost use Rattle.undo_shell.specs.Words.{words_of, label_in, number_in, text_in, end_in};
-ghost use Rattle.undo_shell.specs.Script.{command_of, first_of, with_number, with_leaf, write_of, scan_of, meaning};
+ghost use Rattle.undo_shell.specs.Words.{words_of, label_in, text_in, end_in};
+ghost use Rattle.undo_shell.specs.Script.{command_of, unlabelled, of_four, write_of, scan_of, meaning};
 
+use crate::components::{crash, with_component};
 use crate::label::Label;
 use crate::line::{Kind, Line};
 use crate::names::{
@@ -30,20 +31,22 @@ fn parse_pair<'a>(name: &[u8], rest: &'a [u8]) -> Option<Line<'a>>
     match rest {
         None => match with_label(name, word) {
             Some(line) => Some(line),
-            None => parse_numbered(name, word),
+            None => parse_unlabelled(name, word),
         },
         Some(rest) => parse_keyed(name, word, rest),
     }
 }
 
-/// A line of two words, the second a number or the key of a leaf.
-fn parse_numbered<'a>(name: &[u8], word: &'a [u8]) -> Option<Line<'a>>
-    ensures { option_map meaning result
-        ≡ first_of (with_number name.now (number_in word.now)) (with_leaf name.now (text_in word.now)) }
+/// A line of two words, the second a number, the key of a leaf or a component.
+fn parse_unlabelled<'a>(name: &[u8], word: &'a [u8]) -> Option<Line<'a>>
+    ensures { option_map meaning result ≡ unlabelled name.now word.now }
 {
-    match with_number(name, word) {
+    if let Some(line) = with_number(name, word) {
+        return Some(line);
+    }
+    match with_leaf(name, word) {
         Some(line) => Some(line),
-        None => with_leaf(name, word),
+        None => with_component(name, word),
     }
 }
 
@@ -67,9 +70,20 @@ fn parse_row<'a>(name: &[u8], label: &[u8], key: &'a [u8], rest: &'a [u8]) -> Op
 {
     let (last, rest) = cut_at(rest, b' ');
     match rest {
-        None if name == b"scan".as_slice() => scan(label, key, last),
-        None => write(kind_with_value(name), label, key, last),
+        None => parse_four(name, label, key, last),
         Some(_) => None,
+    }
+}
+
+fn parse_four<'a>(name: &[u8], first: &[u8], second: &'a [u8], last: &'a [u8]) -> Option<Line<'a>>
+    ensures { option_map meaning result ≡ of_four name.now first.now second.now last.now }
+{
+    if name == b"scan".as_slice() {
+        scan(first, second, last)
+    } else if name == b"crash".as_slice() {
+        crash(first, second, last)
+    } else {
+        write(kind_with_value(name), first, second, last)
     }
 }
 

@@ -24,7 +24,7 @@ pub enum Reply {
     /// The outputs of settling, and how it ended.
     Settled {
         outs: Vec<Out>,
-        end: Result<(), Refusal>,
+        end: Result<bool, Refusal>,
     },
     /// The records as they are.
     Table(Rows),
@@ -82,7 +82,7 @@ fn is_failure(refusal: Refusal) -> bool
 fn print_settled<W: io::Write>(
     writer: &mut W,
     outs: &[Out],
-    end: &Result<(), Refusal>,
+    end: &Result<bool, Refusal>,
 ) -> io::Result<()>
     ensures { Prints (W.contents writer.old) (W.contents writer.new) result (settled_text outs.now end.now) }
 {
@@ -99,11 +99,12 @@ fn print_all_told<W: io::Write>(writer: &mut W, outs: &[Out]) -> io::Result<()>
     Ok(())
 }
 
-fn print_end<W: io::Write>(writer: &mut W, end: &Result<(), Refusal>) -> io::Result<()>
+fn print_end<W: io::Write>(writer: &mut W, end: &Result<bool, Refusal>) -> io::Result<()>
     ensures { Prints (W.contents writer.old) (W.contents writer.new) result (end_line end.now) }
 {
     match end {
-        Ok(()) => print(writer, &[Piece::Text("settled\n")]),
+        Ok(true) => print(writer, &[Piece::Text("settled\n")]),
+        Ok(false) => print(writer, &[Piece::Text("paused\n")]),
         Err(refusal) => print_refusal(writer, *refusal),
     }
 }

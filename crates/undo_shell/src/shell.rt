@@ -61,7 +61,7 @@ impl Shell {
             }
             Line::Leaf { call, key } => Reply::Event(self.treat(*call, key)),
             Line::Step(event) => Reply::Event(self.world.step(event)),
-            Line::Settle => settled(self.alloc, &mut self.world),
+            Line::Settle(most) => settled(self.alloc, &mut self.world, *most),
             Line::Table => self.table(),
             Line::Show(part) => Reply::Shown(*part),
         }
@@ -210,16 +210,11 @@ fn event_of(call: Call, txn: u64) -> Event
     }
 }
 
-/// Lets the node work until nothing is left to do.
-fn settled(alloc: Global, world: &mut World) -> Reply
-    ensures { IsSettling world.old result world.new }
+/// Lets the node work until nothing is left to do, or for so many rounds at most.
+fn settled(alloc: Global, world: &mut World, most: Option<u64>) -> Reply
+    ensures { IsSettling most world.old result world.new }
 {
     let mut outs = Vec::new(alloc);
-    let end = match settle(world, None, &mut outs) {
-        Ok(true) => Ok(()),
-        // It may play as many rounds as there are.
-        Ok(false) => unreachable!(),
-        Err(refusal) => Err(refusal),
-    };
+    let end = settle(world, most, &mut outs);
     Reply::Settled { outs, end }
 }

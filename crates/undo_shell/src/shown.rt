@@ -1,15 +1,16 @@
 //! What is printed of a node: its log or its leaves.
-ghost use Rattle.std.specs.Prelude.{◌≡◌, flat_map};
+ghost use Rattle.std.specs.Prelude.{◌≡◌, true, length, flat_map};
 ghost use Rattle.history.specs.Log.{record_at};
 ghost use Rattle.undo_shell.specs.Printed.{Prints};
 ghost use Rattle.undo_shell.specs.Logged.{line_at, lines_to, log_text};
 ghost use Rattle.undo_shell.specs.Stored.{leaf_line};
-ghost use Rattle.undo_shell.specs.View.{log_of, leaves_of, stable_of, part_text};
+ghost use Rattle.undo_shell.specs.View.{log_of, leaves_of, leaves_text, stable_of, part_text};
 
 use crate::leaves::print_leaf;
 use crate::line::Part;
 use crate::logged::print_record;
 use crate::pieces::{Piece, print};
+use crate::printed::print_refusal;
 use std::io;
 use world::World;
 
@@ -23,10 +24,23 @@ pub fn print_part<W: io::Write>(writer: &mut W, part: Part, world: &World) -> io
     }
 }
 
+/// The lines of the leaves, or that the data component is down.
 fn print_leaves<W: io::Write>(writer: &mut W, world: &World) -> io::Result<()>
+    ensures { Prints (W.contents writer.old) (W.contents writer.new) result (leaves_text world.now.dc_up (leaves_of world.now)) }
+{
+    match world.leaves() {
+        Ok(count) => print_each_leaf(writer, world, count),
+        Err(refusal) => print_refusal(writer, refusal),
+    }
+}
+
+/// The lines of the leaves, of which there are so many.
+fn print_each_leaf<W: io::Write>(writer: &mut W, world: &World, count: usize) -> io::Result<()>
+    requires up { world.now.dc_up ≡ true }
+    requires all { count ≡ length (leaves_of world.now) }
     ensures { Prints (W.contents writer.old) (W.contents writer.new) result (flat_map leaf_line (leaves_of world.now)) }
 {
-    for place in 0..world.leaves() {
+    for place in 0..count {
         print_leaf(writer, world.leaf(place))?;
     }
     Ok(())

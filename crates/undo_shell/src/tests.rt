@@ -5,6 +5,7 @@ use std::process::Abort;
 mod bad_input;
 mod command_line;
 mod commits;
+mod crashes;
 mod examples;
 mod failing;
 mod leaves;

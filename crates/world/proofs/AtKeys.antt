@@ -8,7 +8,7 @@ use Rattle.btree.proofs.AtKey.{all_at, within_at}
 use Rattle.recovery_laws.specs.Ready.{IsHonestTo}
 use Rattle.dc_core.specs.DcView.{leaves, captures_at, value_at}
 use Rattle.world.specs.Node.{NodeView}
-use Rattle.world.specs.Kept.{IsKept}
+use Rattle.world.specs.Kept.{IsKept, IsLowAnswered}
 
 pub own_leaf : (w : NodeView) (key : Bytes) → IsKept w → IsHonestTo w.tc.log w.tc.stable (leaf_at (leaves w.dc) key)
 own_leaf w key k = all_at (IsHonestTo w.tc.log w.tc.stable) (leaves w.dc) key k.dc.system.leaves k.true_to.leaves
@@ -18,3 +18,6 @@ honest_at w key k = (own_leaf w key k).honest.at key (within_at (leaves w.dc) ke
 
 pub captured_stable : (w : NodeView) (key : Bytes) (n : ℕ) → IsKept w → captures_at w.dc key n ≡ true → n ≤ w.tc.stable
 captured_stable w key n k h = (own_leaf w key k).within n h
+
+pub own_low : (w : NodeView) (key : Bytes) → IsKept w → IsLowAnswered w.tc (leaf_at (leaves w.dc) key)
+own_low w key k = all_at (IsLowAnswered w.tc) (leaves w.dc) key k.dc.system.leaves k.true_to.low

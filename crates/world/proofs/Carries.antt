@@ -1,73 +1,96 @@
 -- What the data component does by itself keeps what was sent, replied and captured.
-use Rattle.std.proofs.Common.{◌≡◌, ℕ, ◌≤◌, true, false, List, Option, Some, None, sym, ◌∙◌, arith}
+use Rattle.std.proofs.Common.{◌≡◌, ◌≢◌, ℕ, ◌≤◌, true, false, List, Option, sym, ◌∙◌, subst, arith}
 use Rattle.std.specs.List.{AllByRecursion}
 use Rattle.record_key.specs.declared.op.Op.{Op}
 use Rattle.record_key.specs.declared.op.Answer.{Answer}
 use Rattle.record_key.specs.Table.{Bytes, key_of}
 use Rattle.record_key.proofs.Lists.{all_from}
 use Rattle.history.specs.Log.{Requests}
-use Rattle.history.specs.Spans.{is_within}
-use Rattle.range_locks.specs.declared.span.Span.{Span}
-use Rattle.range_locks.specs.declared.span.Span.TheVariants.{Key, Range}
+use Rattle.codec.specs.declared.request.Request.{Request}
+use Rattle.codec.specs.declared.request.Request.TheVariants as asks
 use Rattle.codec.specs.declared.reply.Reply.{Reply}
 use Rattle.codec.specs.declared.reply.Reply.TheVariants as says
-use Rattle.page.specs.Leaf.{LeafView}
-use Rattle.btree.specs.Leaves.{rows_of}
-use Rattle.btree.proofs.Together.{one_table}
+use Rattle.system_txn.specs.Kept.{IsRecoverable}
 use Rattle.dc_core.specs.declared.performance.Performance.{Performance}
-use Rattle.dc_core.specs.DcView.{DcView, leaves, captures_at, value_at}
+use Rattle.dc_core.specs.DcView.{DcView, captures_at}
+use Rattle.dc_core.specs.Serves.{runs}
+use Rattle.dc_core.specs.Tends.{may_merge}
 use Rattle.dc_core.specs.Kept.{IsDc}
-use Rattle.tc_core.specs.declared.open_txn.OpenTxn.{OpenTxn}
-use Rattle.tc_core.specs.OpenTxns.{find}
-use Rattle.tc_core.specs.Changes.{shared}
-use Rattle.tc_core.proofs.HeldSpans.{within_itself}
 use Rattle.world.specs.Node.{NodeView, with_dc}
-use Rattle.world.specs.Kept.{IsKept, IsAnswered, IsValue, AreRows, IsGiven, IsTrueTo, AreSessions}
-use Rattle.world.proofs.Rows.{rows_alike}
+use Rattle.world.specs.Kept.{IsKept, InSession, IsSent, IsAnswered, IsGiven, IsTrueTo, AreSessions, AnsweredAreCaptured, EarlierAreCaptured}
+use Rattle.world.proofs.Running.{run_is, some_session}
 
--- no number is lost at its key, what is being read stands as it did, and no redo that has ended goes on
+-- where a session runs it ran before, as far past its redo at least, and no request's number was lost at its key
 pub record Carries (w : NodeView) (dc : DcView) : Type 0 where
-  pub captured : (n : ℕ) (o : Op) → Requests w.tc.log n o → captures_at w.dc (key_of o) n ≡ true → captures_at dc (key_of o) n ≡ true
-  pub values : (t : ℕ) (x : OpenTxn) (m : ℕ) (q : Span) → find t w.tc.open_txns ≡ Some x → x.reading ≡ Some (record { number = m; span = q })
-      → (key : Bytes) → is_within (shared q) key ≡ true → value_at dc key ≡ value_at w.dc key
+  pub captured : dc.session ≢ 0 → (n : ℕ) (o : Op) → Requests w.tc.log n o → captures_at w.dc (key_of o) n ≡ true
+      → captures_at dc (key_of o) n ≡ true
   pub stored : w.dc.stored ≤ dc.stored
-  pub ended : (s : ℕ) → s ≤ w.dc.stored → (s ≡ w.dc.session → w.dc.redo ≡ false) → s ≡ dc.session → dc.redo ≡ false
+  pub ran : (s : ℕ) → s ≤ w.dc.stored → runs dc s ≡ true → runs w.dc s ≡ true
+  pub past : (s : ℕ) → s ≤ w.dc.stored → runs dc s ≡ true → w.dc.redo ≡ false → dc.redo ≡ false
 
 module _ (w : NodeView) (dc : DcView) (k : IsKept w) (is : IsDc dc) (c : Carries w dc) where
-  value_carried : (v : Option Bytes) (t : ℕ) (x : OpenTxn) (m : ℕ) (q : Span) → find t w.tc.open_txns ≡ Some x → x.reading ≡ Some (record { number = m; span = q })
-      → IsValue w.dc v q → IsValue dc v q
-  value_carried v t x m (Key key) found reading h = h ∙ sym (c.values t x m (Key key) found reading key (within_itself key))
-  value_carried v t x m (Range low high) found reading h = h
+  -- what holds in a session that still runs
+  carried : (s : ℕ) (P Q : Type 0) → (runs dc s ≡ true → P → Q) → InSession w.dc s P → InSession dc s Q
+  carried s P Q from h = record {
+    begun = omega (arith, h.begun, c.stored);
+    holds = λ r. from r (h.holds (c.ran s h.begun r));
+  }
 
-  rows_carried : (rows : List (Bytes × Bytes)) (t : ℕ) (x : OpenTxn) (m : ℕ) (q : Span) → find t w.tc.open_txns ≡ Some x → x.reading ≡ Some (record { number = m; span = q })
-      → AreRows w.dc rows q → AreRows dc rows q
-  rows_carried rows t x m (Key key) found reading h = h
-  rows_carried rows t x m (Range low high) found reading h =
-      h ∙ rows_alike (shared (Range low high)) (rows_of (leaves w.dc)) (rows_of (leaves dc)) (λ key within.
-      (one_table (leaves w.dc) k.dc.system.leaves).value key ∙ sym (c.values t x m (Range low high) found reading key within) ∙ sym ((one_table (leaves dc) is.system.leaves).value key))
+  earlier_carried : (s n : ℕ) (key : Bytes) → runs dc s ≡ true → EarlierAreCaptured w.tc.log w.dc n key
+      → EarlierAreCaptured w.tc.log dc n key
+  earlier_carried s n key r h m o asks below on =
+      let run = run_is dc s r in
+      subst (λ (z : Bytes). captures_at dc z m ≡ true) on
+      (c.captured (λ zero. run.some (sym run.is ∙ zero)) m o asks
+      (subst (λ (z : Bytes). captures_at w.dc z m ≡ true) (sym on) (h m o asks below on)))
 
-  answered_carried : (n : ℕ) (a : Option Answer) → IsAnswered w.tc w.dc n a → IsAnswered w.tc dc n a
-  answered_carried n None h = h
-  answered_carried n (Some a) h = record { op = h.op; requests = h.requests; right = h.right; captured = c.captured n h.op h.requests h.captured }
+  all_carried : dc.session ≢ 0 → AnsweredAreCaptured w.tc.log w.dc → AnsweredAreCaptured w.tc.log dc
+  all_carried some h n o asks answered = c.captured some n o asks (h n o asks answered)
+
+  some_run : (s : ℕ) → runs dc s ≡ true → dc.session ≢ 0
+  some_run s r zero = let run = run_is dc s r in run.some (sym run.is ∙ zero)
+
+  sent_carried : (q : Request) → IsSent w.tc w.dc q → IsSent w.tc dc q
+  sent_carried (asks.Connect s) h = h
+  sent_carried (asks.Perform s n o) h =
+      (h.0, h.1, carried s (EarlierAreCaptured w.tc.log w.dc n (key_of o)) (EarlierAreCaptured w.tc.log dc n (key_of o)) (earlier_carried s n (key_of o)) h.2)
+  sent_carried (asks.Get s n key) h = h
+  sent_carried (asks.Scan s n low high) h = h
+  sent_carried (asks.LowWater s l) h = h
+  sent_carried (asks.Checkpoint s l) h = h
+  sent_carried (asks.RedoEnd s) h =
+      carried s (AnsweredAreCaptured w.tc.log w.dc) (AnsweredAreCaptured w.tc.log dc) (λ r. all_carried (some_run s r)) h
+
+  answered_carried : (s n : ℕ) (a : Option Answer) → IsAnswered w.tc w.dc s n a → IsAnswered w.tc dc s n a
+  answered_carried s n a h = record {
+    op = h.op;
+    requests = h.requests;
+    stable = h.stable;
+    answer = h.answer;
+    captured = carried s (captures_at w.dc (key_of h.op) n ≡ true) (captures_at dc (key_of h.op) n ≡ true)
+        (λ r. c.captured (some_run s r) n h.op h.requests) h.captured;
+  }
 
   pub given_carried : (reply : Reply) → IsGiven w.tc w.dc reply → IsGiven w.tc dc reply
   given_carried (says.Connected s) h = omega (arith, h, c.stored)
-  given_carried (says.Answered s n a) h = answered_carried n a h
-  given_carried (says.Row s m v) h = (h.0, λ t x q found reading. value_carried v t x m q found reading (h.1 t x q found reading))
-  given_carried (says.Rows s m rows) h = (h.0, λ t x q found reading. rows_carried rows t x m q found reading (h.1 t x q found reading))
+  given_carried (says.Answered s n a) h = answered_carried s n a h
+  given_carried (says.Row s m v) h = h
+  given_carried (says.Rows s m rows) h = h
   given_carried (says.Checkpointed s l) h = h
-  given_carried (says.RedoEnded s) h = (omega (arith, h.0, c.stored), c.ended s h.0 h.1)
+  given_carried (says.RedoEnded s) h = record { begun = omega (arith, h.begun, c.stored); holds = λ r. c.past s h.begun r (h.holds (c.ran s h.begun r)) }
 
-  pub keeps_dc : IsTrueTo w.tc dc.system → AllByRecursion (λ (p : Performance). Requests w.tc.log p.number p.op) dc.performed → AreSessions w.tc.session w.tc.phase dc
-      → IsKept (with_dc w dc)
-  keeps_dc true_to performed sessions = record {
+  -- what is past redo now was, or its redo has ended
+  pub keeps_dc : IsRecoverable dc.system → IsTrueTo w.tc dc.system → AllByRecursion (λ (p : Performance). Requests w.tc.log p.number p.op) dc.performed
+      → (may_merge dc ≡ true → AnsweredAreCaptured w.tc.log w.dc) → AreSessions w.tc.session w.tc.phase w.tc.log dc → IsKept (with_dc w dc)
+  keeps_dc recoverable true_to performed past sessions = record {
     tc = k.tc;
     right = k.right;
     dc = is;
+    recoverable = recoverable;
     true_to = true_to;
     performed = performed;
-    answered = λ n o asks some. c.captured n o asks (k.answered n o asks some);
-    sent = k.sent;
+    answered = λ may. all_carried (some_session dc may) (past may);
+    sent = all_from (IsSent w.tc w.dc) (IsSent w.tc dc) sent_carried w.requests k.sent;
     given = all_from (IsGiven w.tc w.dc) (IsGiven w.tc dc) given_carried w.replies k.given;
     sessions = sessions;
   }

@@ -1,5 +1,7 @@
 -- An exchange: a request is sent, served and answered, with no other message between.
-use Rattle.std.proofs.Common.{◌≡◌, ◌⊎◌, ℕ, ◌+◌, List, [], ◌∷◌, ◌++◌, length, Option, Some, None, sym, ap, ◌∙◌, subst, inl, inr}
+use Rattle.std.proofs.Common.{◌≡◌, ◌⊎◌, ℕ, ◌+◌, Bool, true, false, List, [], ◌∷◌, ◌++◌, length, Option, Some, None, refl, sym, ap, ◌∙◌, subst, inl, inr}
+use Rattle.std.proofs.lemmas.List.{length-append}
+use Rattle.std.proofs.lemmas.Bool.{MatchBool-at_true, MatchBool-at_false}
 use Rattle.record_key.specs.declared.refusal.Refusal.{Refusal}
 use Rattle.record_key.specs.declared.refusal.Refusal.TheVariants.{NoMemory}
 use Rattle.std.specs.Prelude.{Result, Ok, Err}
@@ -13,7 +15,7 @@ use Rattle.world.specs.declared.event.Event.TheVariants as event
 use Rattle.world.specs.declared.event.Out.{Out}
 use Rattle.world.specs.declared.event.Out.TheVariants as out
 use Rattle.world.specs.Messages.{message_at}
-use Rattle.world.specs.Node.{NodeView, Sends, LacksRoom, is_replied_to, Served, ServesTo, Taken, TakesTo}
+use Rattle.world.specs.Node.{NodeView, Sends, LacksRoom, is_replied_to, Served, ServesTo, IfUp, StepsTo, Taken, TakesTo}
 use Rattle.world.specs.Rounds.{IsDone, Plays, StopsAt}
 use Rattle.world.proofs.ByNumber.{last_at}
 
@@ -38,6 +40,8 @@ pub record Exchanged (w : NodeView) (tc : TcView) (q : Request) (new : NodeView)
   pub allowed : serve_refusal w.dc q ≡ None
   pub served : Serves w.dc q (Some reply) dc
   pub left : new.tc ≡ (on_reply tc reply).1
+  pub dc_is : new.dc ≡ dc
+  pub up : new.dc_up ≡ w.dc_up
 
 -- what is served when the last request arrives
 pub served_last : (w : NodeView) (tc : TcView) (q : Request) (given : Result (Option Reply) Refusal) (dc : DcView) → Served (asked w tc q) (length w.requests + 1) given dc
@@ -47,15 +51,25 @@ served_last w tc q given dc h =
     let P : Request → Type 0 = λ x. ServeGives w.dc x given dc in
     subst P same h.gives
 
+-- what the last reply leaves
+record IsTook (w : NodeView) (tc : TcView) (dc : DcView) (reply : Reply) (new : NodeView) : Type 0 where
+  tc_is : new.tc ≡ (on_reply tc reply).1
+  dc_is : new.dc ≡ dc
+  up : new.dc_up ≡ w.dc_up
+
 taken_last : (w : NodeView) (tc : TcView) (q : Request) (dc : DcView) (reply : Reply) (output : Out) (new : NodeView)
-    → Taken (told w tc q dc reply) (length w.replies + 1) output new → new.tc ≡ (on_reply tc reply).1
+    → Taken (told w tc q dc reply) (length w.replies + 1) output new → IsTook w tc dc reply new
 taken_last w tc q dc reply output new h =
     let same : h.reply ≡ reply = some_one (message_at (w.replies ++ reply ∷ []) (length w.replies + 1)) h.reply reply h.found (last_at w.replies reply) in
-    h.taken.1.left ∙ ap (λ x. (on_reply tc x).1) same
+    record {
+      tc_is = h.taken.1.left ∙ ap (λ x. (on_reply tc x).1) same;
+      dc_is = ap (λ (x : NodeView). x.dc) h.left;
+      up = ap (λ (x : NodeView). x.dc_up) h.left;
+    }
 
 -- the last reply arrives
 took : (w : NodeView) (tc : TcView) (q : Request) (dc : DcView) (reply : Reply) (output : Out) (new : NodeView)
-    → TakesTo (told w tc q dc reply) (length w.replies + 1) output new → IsDone output → new.tc ≡ (on_reply tc reply).1
+    → TakesTo (told w tc q dc reply) (length w.replies + 1) output new → IsDone output → IsTook w tc dc reply new
 took w tc q dc reply (out.Refused r) new h d = absurd d
 took w tc q dc reply (out.Begun t) new h d = taken_last w tc q dc reply (out.Begun t) new h
 took w tc q dc reply (out.Logged n) new h d = taken_last w tc q dc reply (out.Logged n) new h
@@ -81,17 +95,37 @@ took w tc q dc reply (out.Split pair) new h d = taken_last w tc q dc reply (out.
 took w tc q dc reply (out.Merged pair) new h d = taken_last w tc q dc reply (out.Merged pair) new h
 took w tc q dc reply (out.Flushed id) new h d = taken_last w tc q dc reply (out.Flushed id) new h
 took w tc q dc reply (out.Undone n) new h d = taken_last w tc q dc reply (out.Undone n) new h
+took w tc q dc reply out.Down new h d = taken_last w tc q dc reply out.Down new h
+took w tc q dc reply (out.Up count) new h d = taken_last w tc q dc reply (out.Up count) new h
 
 -- these requests have replies
 abbrev pub HasReply : Request → Type 0
 HasReply q = (old new : DcView) → Serves old q None new → ⊥
 
-rest_of : (w : NodeView) (tc : TcView) (q : Request) (os : List Out) (new : NodeView) → HasReply q
+served_once : (w : NodeView) (tc : TcView) (q : Request) (output : Out) (new : NodeView) → HasReply q → ServesTo (asked w tc q) (length w.requests + 1) output new → IsDone output
+    → length new.replies ≡ length w.replies + 1
+served_once w tc q (out.Replied j) new has s d = ap (λ (x : NodeView). length x.replies) s.3 ∙ length-append w.replies (s.0 ∷ [])
+served_once w tc q out.Noted new has s d = absurd (has w.dc new.dc (served_last w tc q (Ok None) new.dc s.0).1)
+served_once w tc q (out.Refused r) new has s d = absurd d
+served_once w tc q _ new has s d = absurd s
+
+-- a request that was sent is replied to once where it isn't refused
+pub replied_once : (w mid : NodeView) (tc : TcView) (q : Request) (i : ℕ) (output : Out) (new : NodeView) → HasReply q → Sends w tc q i mid
+    → StepsTo mid (event.Request (length w.requests + 1)) output new → IsDone output → length new.replies ≡ length w.replies + 1
+replied_once w mid tc q i output new has sends h d =
+    let P : NodeView → Type 0 = λ m. StepsTo m (event.Request (length w.requests + 1)) output new in
+    by w.dc_up refl (subst P sends.left h)
+  where
+    by : (up : Bool) → w.dc_up ≡ up → IfUp (asked w tc q) output new (ServesTo (asked w tc q) (length w.requests + 1) output new) → length new.replies ≡ length w.replies + 1
+    by true up h = served_once w tc q output new has (MatchBool-at_true _ _ up h) d
+    by false down h = let refused = MatchBool-at_false _ _ down h in absurd (subst IsDone refused.0 d)
+
+rest_of : (w : NodeView) (tc : TcView) (q : Request) (os : List Out) (new : NodeView) → w.dc_up ≡ true → HasReply q
     → Plays (asked w tc q) (event.Request (length w.requests + 1) ∷ event.Reply (length w.replies + 1) ∷ []) os new → Exchanged w tc q new
-rest_of w tc q [] new has h = absurd h
-rest_of w tc q (o ∷ []) new has h = absurd h.3
-rest_of w tc q (o ∷ p ∷ r ∷ os) new has h = absurd h.3.3
-rest_of w tc q (o ∷ p ∷ []) new has h = by o h.1 h.2
+rest_of w tc q [] new up has h = absurd h
+rest_of w tc q (o ∷ []) new up has h = absurd h.3
+rest_of w tc q (o ∷ p ∷ r ∷ os) new up has h = absurd h.3.3
+rest_of w tc q (o ∷ p ∷ []) new up has h = by o (MatchBool-at_true _ _ up h.1) h.2
   where
     rest : (mid : NodeView) → Type 0
     rest mid = (last : NodeView) × TakesTo mid (length w.replies + 1) p last × IsDone p × (new ≡ last)
@@ -100,17 +134,26 @@ rest_of w tc q (o ∷ p ∷ []) new has h = by o h.1 h.2
     by (out.Replied j) s d =
         let served = served_last w tc q (Ok (Some s.0)) h.0.dc s.1 in
         let last = subst rest s.3 h.3 in
-        record { dc = h.0.dc; reply = s.0; allowed = served.0; served = served.1; left = ap (λ (x : NodeView). x.tc) last.3 ∙ took w tc q h.0.dc s.0 p last.0 last.1 last.2 }
+        let t = took w tc q h.0.dc s.0 p last.0 last.1 last.2 in
+        record {
+          dc = h.0.dc;
+          reply = s.0;
+          allowed = served.0;
+          served = served.1;
+          left = ap (λ (x : NodeView). x.tc) last.3 ∙ t.tc_is;
+          dc_is = ap (λ (x : NodeView). x.dc) last.3 ∙ t.dc_is;
+          up = ap (λ (x : NodeView). x.dc_up) last.3 ∙ t.up;
+        }
     by out.Noted s d = absurd (has w.dc h.0.dc (served_last w tc q (Ok None) h.0.dc s.0).1)
     by (out.Refused r) s d = absurd d
     by _ s d = absurd s
 
 -- the whole exchange, from a step that sends
-pub exchanged : (w mid : NodeView) (tc : TcView) (q : Request) (i : ℕ) (os : List Out) (new : NodeView) → HasReply q → Sends w tc q i mid
+pub exchanged : (w mid : NodeView) (tc : TcView) (q : Request) (i : ℕ) (os : List Out) (new : NodeView) → w.dc_up ≡ true → HasReply q → Sends w tc q i mid
     → Plays mid (event.Request (length w.requests + 1) ∷ event.Reply (length w.replies + 1) ∷ []) os new → Exchanged w tc q new
-exchanged w mid tc q i os new has sends h =
+exchanged w mid tc q i os new up has sends h =
     let P : NodeView → Type 0 = λ m. Plays m (event.Request (length w.requests + 1) ∷ event.Reply (length w.replies + 1) ∷ []) os new in
-    rest_of w tc q os new has (subst P sends.left h)
+    rest_of w tc q os new up has (subst P sends.left h)
 
 -- why an exchange stops after its request was sent: as the data component refuses it, or the reply is refused
 abbrev pub Stops : NodeView → TcView → Request → Refusal → Type 0
@@ -118,19 +161,23 @@ Stops w tc q r =
     (r ≡ NoMemory) ⊎ LacksRoom (serve_refusal w.dc q) (is_replied_to q) r ⊎ ((dc : DcView) × ServeGives w.dc q (Err r) dc)
     ⊎ ((dc : DcView) × (reply : Reply) × (left : TcView) × Serves w.dc q (Some reply) dc × ReplyGives tc reply (Err r) left)
 
-stops_of : (w : NodeView) (tc : TcView) (q : Request) (os : List Out) (r : Refusal) (new : NodeView) → HasReply q
-    → StopsAt (asked w tc q) (event.Request (length w.requests + 1) ∷ event.Reply (length w.replies + 1) ∷ []) os r new → Stops w tc q r
-stops_of w tc q [] r new has (inl h) = inl h.0
-stops_of w tc q [] r new has (inr (inl h)) = elim h.0 [
+-- the request was refused
+unserved : (w : NodeView) (tc : TcView) (q : Request) (r : Refusal) (new : NodeView) → ServesTo (asked w tc q) (length w.requests + 1) (out.Refused r) new → Stops w tc q r
+unserved w tc q r new (inl h) = elim h.0 [
   | inl none ↦ absurd (no_message w.requests q none.1)
   | inr refused ↦
       let same : refused.request ≡ q = some_one (message_at (w.requests ++ q ∷ []) (length w.requests + 1)) refused.request q refused.found (last_at w.requests q) in
       let P : Request → Type 0 = λ x. LacksRoom (serve_refusal w.dc x) (is_replied_to x) r in
       inr (inl (subst P same refused.refused))
 ]
-stops_of w tc q [] r new has (inr (inr h)) = inr (inr (inl (new.dc, served_last w tc q (Err r) new.dc h.0)))
-stops_of w tc q (o ∷ p ∷ os) r new has h = absurd h.3.3
-stops_of w tc q (o ∷ []) r new has h = by o h.1 h.2
+unserved w tc q r new (inr h) = inr (inr (inl (new.dc, served_last w tc q (Err r) new.dc h.0)))
+
+stops_of : (w : NodeView) (tc : TcView) (q : Request) (os : List Out) (r : Refusal) (new : NodeView) → w.dc_up ≡ true → HasReply q
+    → StopsAt (asked w tc q) (event.Request (length w.requests + 1) ∷ event.Reply (length w.replies + 1) ∷ []) os r new → Stops w tc q r
+stops_of w tc q [] r new up has (inl h) = inl h.0
+stops_of w tc q [] r new up has (inr refused) = unserved w tc q r new (MatchBool-at_true _ _ up refused)
+stops_of w tc q (o ∷ p ∷ os) r new up has h = absurd h.3.3
+stops_of w tc q (o ∷ []) r new up has h = by o (MatchBool-at_true _ _ up h.1) h.2
   where
     rest : (mid : NodeView) → Type 0
     rest mid = ((r ≡ NoMemory) × (new ≡ mid)) ⊎ TakesTo mid (length w.replies + 1) (out.Refused r) new
@@ -152,8 +199,8 @@ stops_of w tc q (o ∷ []) r new has h = by o h.1 h.2
     by (out.Refused r) s d = absurd d
     by _ s d = absurd s
 
-pub stops : (w mid : NodeView) (tc : TcView) (q : Request) (i : ℕ) (os : List Out) (r : Refusal) (new : NodeView) → HasReply q → Sends w tc q i mid
+pub stops : (w mid : NodeView) (tc : TcView) (q : Request) (i : ℕ) (os : List Out) (r : Refusal) (new : NodeView) → w.dc_up ≡ true → HasReply q → Sends w tc q i mid
     → StopsAt mid (event.Request (length w.requests + 1) ∷ event.Reply (length w.replies + 1) ∷ []) os r new → Stops w tc q r
-stops w mid tc q i os r new has sends h =
+stops w mid tc q i os r new up has sends h =
     let P : NodeView → Type 0 = λ m. StopsAt m (event.Request (length w.requests + 1) ∷ event.Reply (length w.replies + 1) ∷ []) os r new in
-    stops_of w tc q os r new has (subst P sends.left h)
+    stops_of w tc q os r new up has (subst P sends.left h)

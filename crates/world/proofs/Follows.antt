@@ -25,11 +25,11 @@ use Rattle.tc_core.specs.declared.open_txn.Rollback.{Rollback}
 use Rattle.tc_core.specs.declared.told.UndoStep.{UndoStep}
 use Rattle.tc_core.specs.declared.told.UndoStep.TheVariants as undo
 use Rattle.tc_core.specs.declared.phase.Phase.{Phase}
-use Rattle.logical_log.specs.LogView.{is_spent}
+use Rattle.logical_log.specs.LogView.{is_spent, spent_refusal}
 use Rattle.tc_core.specs.OpenTxns.{find, replace}
 use Rattle.tc_core.specs.TcView.{TcView, failed}
 use Rattle.tc_core.specs.Refusing.{Refuses}
-use Rattle.tc_core.specs.Causes.{begin_refusal, commit_refusal, idle_refusal, read_refusal, save_refusal, saves_of, back_refusal, has_savepoint, undo_refusal, answered_refusal, undo_logs, RefusesTaking}
+use Rattle.tc_core.specs.Causes.{running_refusal, begin_refusal, commit_refusal, idle_refusal, read_refusal, save_refusal, saves_of, back_refusal, has_savepoint, undo_refusal, answered_refusal, undo_logs, RefusesTaking}
 use Rattle.tc_core.specs.Changes.{begun, acted, acted_txn, asked_read, reading_txn, shared, saved, saved_txn, going_back, going_back_txn, rolled, rolling_txn, committed, compensated, compensated_txn, ended, is_back, back_txn, next_of, inverse_at, forced}
 use Rattle.tc_core.specs.Calls.{IsAt, Acts, AsksRead, Saves, GoesBack, RollsBack, ReadGives, UndoGives, UndoesStep, Undoes}
 use Rattle.tc_core.specs.Kept.{IsTc}
@@ -51,9 +51,9 @@ use Rattle.world.proofs.CallsKeep.{commit_found, begin_keeps, act_keeps, read_ke
 use Rattle.world.proofs.Standing.{stands_begun, stands_acted, stands_asked, stands_saved, stands_going_back, stands_rolled, stands_committed, stands_compensated, stands_ended, stands_back, stands_forced}
 use Rattle.world.proofs.Refused.{RefusesSo, begin_refused, act_refused, read_refused, same_span, save_refused, back_refused, rollback_refused, commit_refused}
 use Rattle.tc_core.proofs.Refused.{at_number}
-use Rattle.world.proofs.Idle.{both_none, one_false, idle_found, waits_for_none}
+use Rattle.world.proofs.Idle.{both_none, one_false, idle_found, waits_for_none, serves_clients, serves_idle, serves_undo}
 use Rattle.world.proofs.Readers.{NoneAnew, ReadsOnly, none_same, none_begun, none_replaced, none_without, reads_same}
-use Rattle.world.proofs.Keeps.{still_captured, asked_captured, keeps_appended, keeps_same_log}
+use Rattle.world.proofs.Keeps.{still_captured, asked_captured, keeps_appended, keeps_same_log, logs_on}
 
 pub record Follows (old : NodeView) (e : Event) (output : Out) (new : NodeView) : Type 0 where
   pub leads : Leads old e output new
@@ -138,7 +138,8 @@ follows_begin old new (out.Begun t) k h =
       leads = one_line old (with_tc old (begun old.tc)) event.Begin (out.Begun t) (Begins t) refl
           (λ m stands. subst (λ (x : ℕ). LeadsTo (clients old.tc) m (Begins x) (clients (begun old.tc))) (sym h.0.1)
           (stands_begun old.tc m k.tc (next_unfound old.tc k.tc) (next_unlisted old.tc k.tc) stands));
-      kept = keeps_appended old (begun old.tc) is.Begin k after refl (omega arith) (omega arith) (omega arith) (none_begun old.tc.reads old.tc.open_txns number) k.sessions k.right (still_captured old is.Begin k (λ o h. cc) (λ m. refl));
+      kept = keeps_appended old (begun old.tc) is.Begin k after refl (omega arith) (omega arith) (omega arith) (none_begun old.tc.reads old.tc.open_txns number)
+          (logs_on old (begun old.tc).log k (serves_clients old.tc (both_none (running_refusal old.tc) _ h.0.0).0)) k.right (λ some. still_captured old is.Begin (λ o h. cc) (λ m. refl));
     })
 follows_begin old new (out.Refused r) k h =
     refused old new event.Begin ToBegin r k refl h.1 (left_refused (begin_refusal old.tc) true true old.tc r new.tc h.0) (λ m stands. begin_refused old.tc new.tc m r k.tc stands h.0)
@@ -160,7 +161,7 @@ follows_act old new t op (out.Logged n) k h =
           (stands_acted old.tc m o k.tc a.at.is stands op idle after free)));
       kept = keeps_appended old tc (is.Op o.txn o.last op) k after refl (omega arith) (omega arith) (omega arith)
           (none_replaced old.tc.reads old.tc.open_txns o (acted_txn o (length old.tc.log + 1)) a.at.is (reads_same old.tc.reads o (acted_txn o (length old.tc.log + 1)) refl))
-          k.sessions k.right (asked_captured old (is.Op o.txn o.last op) k (λ m. refl));
+          (logs_on old tc.log k (serves_idle old.tc t a.allowed)) k.right (λ some. asked_captured old (is.Op o.txn o.last op) k (λ m. refl));
     })
 follows_act old new t op (out.Refused r) k h =
     refused old new (event.Act t op) (ToAct t op) r k refl h.1 (left_taking (idle_refusal old.tc t) _ true old.tc t (at_key Exclusive (key_of op)) r new.tc h.0)
@@ -172,10 +173,11 @@ module _ (old : NodeView) (k : IsKept old) (o : OpenTxn) (new : OpenTxn) (tc : T
     (only : ReadsOnly old.tc.reads o new) where
   kept_same : tc.log ≡ old.tc.log → tc.stable ≡ old.tc.stable → tc.session ≡ old.tc.session → tc.phase ≡ old.tc.phase → old.tc.reads ≤ tc.reads
       → tc.open_txns ≡ replace new old.tc.open_txns → IsKept (with_tc old tc)
-  kept_same log stable session phase reads opens =
+  kept_same log stable session phases reads opens =
       keeps_same_log old tc k after log (omega (arith, stable)) (omega (arith, session)) reads
       (subst (NoneAnew old.tc.reads old.tc.open_txns) (sym opens) (none_replaced old.tc.reads old.tc.open_txns o new at only))
-      (subst (λ (s : ℕ). AreSessions s tc.phase old.dc) (sym session) (subst (λ (p : Phase). AreSessions old.tc.session p old.dc) (sym phase) k.sessions))
+      (subst (λ (l : List Record). AreSessions tc.session tc.phase l old.dc) (sym log)
+      (subst (λ (s : ℕ). AreSessions s tc.phase old.tc.log old.dc) (sym session) (subst (λ (p : Phase). AreSessions old.tc.session p old.tc.log old.dc) (sym phases) k.sessions)))
 
 -- get, scan
 follows_read : (old new : NodeView) (t : ℕ) (s : Keys) (n : ℕ) (e : Event) → IsKept old → lines_of e (out.Asked n) ≡ Some (Reads t (query_of s) ∷ [])
@@ -313,7 +315,9 @@ follows_commit old new t (out.CommitLogged n) k h =
       leads = one_line old (with_tc old tc) (event.Commit t) (out.CommitLogged n) (Commits t) refl
           (λ m stands. subst (λ (x : ℕ). LeadsTo (clients old.tc) m (Commits x) (clients (committed old.tc x))) found.at.number
           (stands_committed old.tc m o k.tc found.at.is stands found.idle (subst (λ (x : ℕ). IsTc (committed old.tc x)) (sym found.at.number) after)));
-      kept = keeps_appended old tc r k after refl (omega arith) (omega arith) (omega arith) (none_without old.tc.reads old.tc.open_txns t) k.sessions k.right (still_captured old r k (λ q asks. cc) (λ m. refl));
+      kept = keeps_appended old tc r k after refl (omega arith) (omega arith) (omega arith) (none_without old.tc.reads old.tc.open_txns t)
+          (logs_on old tc.log k (serves_idle old.tc t (both_none (idle_refusal old.tc t) (spent_refusal old.tc.log) h.0.0).0)) k.right
+          (λ some. still_captured old r (λ q asks. cc) (λ m. refl));
     })
 follows_commit old new t (out.Refused r) k h =
     refused old new (event.Commit t) (ToCommit t) r k refl h.1 (left_refused (commit_refusal old.tc t) true true old.tc r new.tc h.0) (λ m stands. commit_refused old.tc new.tc m t r k.tc stands h.0)
@@ -349,9 +353,9 @@ module _ (old : NodeView) (t : ℕ) (k : IsKept old) where
   undoes_idle new o (Some r) h = absurd h
 
   -- a compensation
-  compensates : (new : NodeView) (n : ℕ) (o : OpenTxn) (r : Rollback) → IsAt old.tc t o → o.rolling ≡ Some r → new ≡ with_tc old new.tc → IsTc new.tc
+  compensates : (new : NodeView) (n : ℕ) (o : OpenTxn) (r : Rollback) → IsAt old.tc t o → answered_refusal old.tc t ≡ None → o.rolling ≡ Some r → new ≡ with_tc old new.tc → IsTc new.tc
       → Undoes old.tc o (Some r) (undo.Compensated n) new.tc → Follows old (event.Undo t) (out.Compensated n) new
-  compensates new n o r at rolling left is_tc h =
+  compensates new n o r at allowed rolling left is_tc h =
       let tc : TcView = compensated old.tc o in
       let mine : OpenTxn = compensated_txn o (length old.tc.log + 1) (next_of old.tc.log o.undo) (inverse_at old.tc.log o.undo) in
       let after : IsTc tc = subst IsTc h.2 is_tc in
@@ -359,20 +363,22 @@ module _ (old : NodeView) (t : ℕ) (k : IsKept old) where
       at_tc old new tc (event.Undo t) (out.Compensated n) left h.2 (record {
         leads = no_line old (with_tc old tc) (event.Undo t) (out.Compensated n) refl (λ m stands. stands_compensated old.tc m o k.tc at.is stands r rolling h.0 after);
         kept = keeps_appended old tc c k after refl (omega arith) (omega arith) (omega arith)
-            (none_replaced old.tc.reads old.tc.open_txns o mine at.is (reads_same old.tc.reads o mine refl)) k.sessions k.right (asked_captured old c k (λ m. refl));
+            (none_replaced old.tc.reads old.tc.open_txns o mine at.is (reads_same old.tc.reads o mine refl))
+            (logs_on old tc.log k (serves_undo old.tc t allowed)) k.right (λ some. asked_captured old c k (λ m. refl));
       })
 
   -- the end of a whole rollback
-  ends : (new : NodeView) (u : ℕ) (o : OpenTxn) (r : Rollback) → IsAt old.tc t o → o.rolling ≡ Some r → new ≡ with_tc old new.tc → IsTc new.tc
+  ends : (new : NodeView) (u : ℕ) (o : OpenTxn) (r : Rollback) → IsAt old.tc t o → answered_refusal old.tc t ≡ None → o.rolling ≡ Some r → new ≡ with_tc old new.tc → IsTc new.tc
       → Undoes old.tc o (Some r) (undo.RolledBack u) new.tc → Follows old (event.Undo t) (out.RolledBack u) new
-  ends new u o r at rolling left is_tc h =
+  ends new u o r at allowed rolling left is_tc h =
       let tc : TcView = ended old.tc o.txn in
       let after : IsTc tc = subst IsTc h.3 is_tc in
       let e : Record = is.End o.txn in
       at_tc old new tc (event.Undo t) (out.RolledBack u) left h.3 (record {
         leads = one_line old (with_tc old tc) (event.Undo t) (out.RolledBack u) (TellsRolledBack u) refl
             (λ m stands. subst (λ (x : ℕ). LeadsTo (clients old.tc) m (TellsRolledBack x) (clients tc)) (sym h.2) (stands_ended old.tc m o k.tc at.is stands r rolling h.1 after));
-        kept = keeps_appended old tc e k after refl (omega arith) (omega arith) (omega arith) (none_without old.tc.reads old.tc.open_txns o.txn) k.sessions k.right (still_captured old e k (λ q asks. cc) (λ m. refl));
+        kept = keeps_appended old tc e k after refl (omega arith) (omega arith) (omega arith) (none_without old.tc.reads old.tc.open_txns o.txn)
+            (logs_on old tc.log k (serves_undo old.tc t allowed)) k.right (λ some. still_captured old e (λ q asks. cc) (λ m. refl));
       })
 
   -- the end of a rollback to a savepoint
@@ -401,12 +407,12 @@ follows_undo old new t (out.Compensated n) k h = by h.0.open_txn.rolling refl h.
   where
     by : (x : Option Rollback) → h.0.open_txn.rolling ≡ x → Undoes old.tc h.0.open_txn x (undo.Compensated n) new.tc → Follows old (event.Undo t) (out.Compensated n) new
     by None is u = absurd u
-    by (Some r) is u = compensates old t k new n h.0.open_txn r h.0.at is h.1 (kept_undo old t k new (Ok (undo.Compensated n)) h.0) u
+    by (Some r) is u = compensates old t k new n h.0.open_txn r h.0.at (answered_first old.tc t h.0.allowed) is h.1 (kept_undo old t k new (Ok (undo.Compensated n)) h.0) u
 follows_undo old new t (out.RolledBack v) k h = by h.0.open_txn.rolling refl h.0.undoes
   where
     by : (x : Option Rollback) → h.0.open_txn.rolling ≡ x → Undoes old.tc h.0.open_txn x (undo.RolledBack v) new.tc → Follows old (event.Undo t) (out.RolledBack v) new
     by None is u = absurd u
-    by (Some r) is u = ends old t k new v h.0.open_txn r h.0.at is h.1 (kept_undo old t k new (Ok (undo.RolledBack v)) h.0) u
+    by (Some r) is u = ends old t k new v h.0.open_txn r h.0.at (answered_first old.tc t h.0.allowed) is h.1 (kept_undo old t k new (Ok (undo.RolledBack v)) h.0) u
 follows_undo old new t (out.Back v s) k h = by h.0.open_txn.rolling refl h.0.undoes
   where
     by : (x : Option Rollback) → h.0.open_txn.rolling ≡ x → Undoes old.tc h.0.open_txn x (undo.Back v s) new.tc → Follows old (event.Undo t) (out.Back v s) new

@@ -1,5 +1,5 @@
 -- Every step follows the list machine.
-use Rattle.std.proofs.Common.{◌≡◌, ℕ, ◌+◌, ◌<◌, List, [], ◌∷◌, ◌++◌, length, Option, Some, None, refl, subst, arith, take, get_or, inl, inr}
+use Rattle.std.proofs.Common.{◌≡◌, ℕ, ◌+◌, ◌<◌, List, [], ◌∷◌, ◌++◌, length, Bool, true, false, Option, Some, None, MatchBool, refl, sym, ap, ◌∙◌, subst, arith, take, get_or, inl, inr}
 use Rattle.std.specs.Ordering.{nat_cmp}
 use Rattle.std.specs.Cmp.Lexicographic.{slice_cmp}
 use Rattle.std.specs.FinMap.{get-empty}
@@ -11,18 +11,29 @@ use Rattle.record_key.specs.Table.{Bytes}
 use Rattle.page.specs.Leaf.{LeafView, first}
 use Rattle.recovery_laws.specs.Ready.{IsHonestTo}
 use Rattle.system_txn.specs.Devices.{pages_of}
+use Rattle.system_txn.specs.SystemView.{refused_so}
+use Rattle.system_txn.specs.Crashed.{crashed}
+use Rattle.system_txn.proofs.Recoverable.{recoverable_fresh}
+use Rattle.dc_core.specs.Restarting.{restarted}
+use Rattle.dc_core.specs.Serves.{with_system}
+use Rattle.dc_core.proofs.Recoverable.{recoverable_served}
+use Rattle.tc_core.specs.TcView.{fresh}
+use Rattle.record_key.specs.declared.refusal.Refusal.TheVariants.{NotConnected}
+use Rattle.world.specs.Component.{ComponentView}
+use Rattle.world.proofs.Crashes.{crash_keeps, keeps_up, refused_keeps}
 use Rattle.system_txn.specs.declared.tended.Tended.TheVariants as tended
 use Rattle.dc_core.specs.Kept.{IsDc}
 use Rattle.std.proofs.lemmas.List.{take_more}
-use Rattle.history.specs.ListMachine.{Machine, fresh}
+use Rattle.history.specs.ListMachine as machine
+use Rattle.history.specs.ListMachine.{Machine}
 use Rattle.codec.specs.declared.reply.Reply.{Reply}
 use Rattle.dc_core.specs.DcView.{DcView, fresh as fresh_dc}
 use Rattle.world.specs.declared.event.Event.{Event}
 use Rattle.world.specs.declared.event.Event.TheVariants as event
 use Rattle.world.specs.declared.event.Out.{Out}
 use Rattle.world.specs.declared.event.Out.TheVariants as out
-use Rattle.world.specs.Node.{NodeView, with_dc, StepsTo, ServesTo, Served, PartsTo, JoinsTo, KeepsUpTo, WritesTo, Chain, fresh_node}
-use Rattle.world.specs.Kept.{IsKept, IsSent}
+use Rattle.world.specs.Node.{NodeView, with_dc, StepsTo, IfUp, ServesTo, Served, PartsTo, JoinsTo, KeepsUpTo, WritesTo, CrashesDcTo, RestartsDcTo, Chain, fresh_node}
+use Rattle.world.specs.Kept.{IsKept, IsSent, IsAnsweredTo}
 use Rattle.world.specs.Simulation.{lines_of, Happens, Run, Leads, LeadsAll, Stands}
 use Rattle.world.proofs.CallsKeep.{fresh_tc}
 use Rattle.simulation.proofs.Told.{fresh_stands}
@@ -36,11 +47,12 @@ use Rattle.world.proofs.Sends.{follows_reconnect, follows_recover, follows_send,
 use Rattle.world.proofs.Replies.{follows_reply}
 
 -- a request reaches the data component
-sent_there : (old : NodeView) (i : ℕ) (given : Result (Option Reply) Refusal) (dc : DcView) → IsKept old → (h : Served old i given dc) → IsSent old.tc h.request
-sent_there old i given dc k h = all_at (IsSent old.tc) old.requests i h.request k.sent h.found
+sent_there : (old : NodeView) (i : ℕ) (given : Result (Option Reply) Refusal) (dc : DcView) → IsKept old → (h : Served old i given dc) → IsSent old.tc old.dc h.request
+sent_there old i given dc k h = all_at (IsSent old.tc old.dc) old.requests i h.request k.sent h.found
 
 served : (old : NodeView) (i : ℕ) (reply : Option Reply) (dc : DcView) → IsKept old → IsDc dc → Served old i (Ok reply) dc → IsServing old reply dc
-served old i reply dc k is h = serves old h.request reply dc k is (sent_there old i (Ok reply) dc k h) h.gives.0 h.gives.1
+served old i reply dc k is h =
+    serves old h.request reply dc k is (recoverable_served old.dc h.request (Ok reply) dc k.dc k.recoverable h.gives) (sent_there old i (Ok reply) dc k h) h.gives.0 h.gives.1
 
 -- the data component goes on, and no client is told anything
 follows_dc : (old new : NodeView) (e : Event) (output : Out) → lines_of e output ≡ Some [] → IsKept (with_dc old new.dc) → new ≡ with_dc old new.dc → Follows old e output new
@@ -82,6 +94,50 @@ follows_flush old new key (out.Flushed id) k is h = follows_dc old new (event.Fl
 follows_flush old new key (out.Refused r) k is h = follows_dc old new (event.Flush key) (out.Refused r) refl (flushes_keep old key (Err r) new.dc k is h.0) h.1
 follows_flush old new key _ k is h = absurd h
 
+-- an event of the data component that doesn't run is refused
+if_up : (old new : NodeView) (e : Event) (output : Out) (Does : Type 0) → IsKept old → lines_of e (out.Refused NotConnected) ≡ Some [] → (Does → Follows old e output new)
+    → IfUp old output new Does → Follows old e output new
+if_up old new e output Does k quiet does h = by old.dc_up h
+  where
+    by : (b : Bool) → MatchBool b Does ((output ≡ out.Refused NotConnected) × (new ≡ old)) → Follows old e output new
+    by true h = does h
+    by false h =
+        let P : Out → Type 0 = λ o. Follows old e o new in
+        subst P (sym h.0) (unchanged old new e (out.Refused NotConnected) k h.1 quiet)
+
+-- a crash of the data component, and its restart
+follows_crash : (old new : NodeView) (frames bytes : ℕ) (output : Out) → IsKept old → CrashesDcTo old frames output new → Follows old (event.CrashDc frames bytes) output new
+follows_crash old new frames bytes out.Down k h =
+    let n : ℕ = h.0.1.0 in
+    let dc : DcView = restarted (crashed old.dc.system n) in
+    let same : new ≡ record old { dc_up = false; dc = dc } = h.1 ∙ ap (λ (c : ComponentView). record old { dc_up = c.up; dc = c.dc }) h.0.1.2 in
+    at_new old new (record old { dc_up = false; dc = dc }) (event.CrashDc frames bytes) out.Down same (record {
+      leads = no_line old (record old { dc_up = false; dc = dc }) (event.CrashDc frames bytes) out.Down refl (λ m stands. stands);
+      kept = keeps_up (with_dc old dc) false (crash_keeps old n k h.0.1.1.stable);
+    })
+follows_crash old new frames bytes out.Nothing k h =
+    unchanged old new (event.CrashDc frames bytes) out.Nothing k (h.1 ∙ ap (λ (c : ComponentView). record old { dc_up = c.up; dc = c.dc }) h.0.1) refl
+follows_crash old new frames bytes _ k h = absurd h
+
+follows_restart : (old new : NodeView) (output : Out) → IsKept old → IsDc new.dc → RestartsDcTo old output new → Follows old event.RestartDc output new
+follows_restart old new (out.Up count) k is h =
+    let same : new ≡ record old { dc_up = true } = h.1 ∙ ap (λ (c : ComponentView). record old { dc_up = c.up; dc = c.dc }) h.0.2 in
+    at_new old new (record old { dc_up = true }) event.RestartDc (out.Up count) same (record {
+      leads = no_line old (record old { dc_up = true }) event.RestartDc (out.Up count) refl (λ m stands. stands);
+      kept = keeps_up old true k;
+    })
+follows_restart old new out.Nothing k is h =
+    unchanged old new event.RestartDc out.Nothing k (h.1 ∙ ap (λ (c : ComponentView). record old { dc_up = c.up; dc = c.dc }) h.0.1) refl
+follows_restart old new (out.Refused r) k is h =
+    let dc : DcView = with_system old.dc (refused_so old.dc.system r) in
+    let same : new ≡ record old { dc_up = false; dc = dc } =
+    h.1 ∙ ap (λ (c : ComponentView). record old { dc_up = c.up; dc = c.dc }) (h.0.1 ∙ ap (λ (x : DcView). record { up = false; dc = x }) h.0.2.1) in
+    at_new old new (record old { dc_up = false; dc = dc }) event.RestartDc (out.Refused r) same (record {
+      leads = no_line old (record old { dc_up = false; dc = dc }) event.RestartDc (out.Refused r) refl (λ m stands. stands);
+      kept = keeps_up (with_dc old dc) false (refused_keeps old r k (subst IsDc h.0.2.1 is));
+    })
+follows_restart old new _ k is h = absurd h
+
 pub follows : (old new : NodeView) (e : Event) (output : Out) → IsKept old → IsDc new.dc → StepsTo old e output new → Follows old e output new
 follows old new event.Reconnect output k is h = follows_reconnect old new output k h
 follows old new event.Recover output k is h = follows_recover old new output k h
@@ -97,12 +153,14 @@ follows old new (event.Undo t) output k is h = follows_undo old new t output k h
 follows old new event.Force output k is h = follows_force old new output k h
 follows old new (event.Send t) output k is h = follows_send old new t output k h
 follows old new (event.LowWater l) output k is h = follows_low_water old new l output k h
-follows old new (event.Split key) output k is h = follows_split old new key output k is h
-follows old new (event.Merge key) output k is h = follows_merge old new key output k is h
-follows old new event.Tend output k is h = follows_tend old new output k is h
-follows old new (event.Flush key) output k is h = follows_flush old new key output k is h
-follows old new (event.Request i) output k is h = follows_request old new i output k is h
+follows old new (event.Split key) output k is h = if_up old new (event.Split key) output _ k refl (follows_split old new key output k is) h
+follows old new (event.Merge key) output k is h = if_up old new (event.Merge key) output _ k refl (follows_merge old new key output k is) h
+follows old new event.Tend output k is h = if_up old new event.Tend output _ k refl (follows_tend old new output k is) h
+follows old new (event.Flush key) output k is h = if_up old new (event.Flush key) output _ k refl (follows_flush old new key output k is) h
+follows old new (event.Request i) output k is h = if_up old new (event.Request i) output _ k refl (follows_request old new i output k is) h
 follows old new (event.Reply i) output k is h = follows_reply old new i output k h
+follows old new (event.CrashDc frames bytes) output k is h = follows_crash old new frames bytes output k h
+follows old new event.RestartDc output k is h = follows_restart old new output k is h
 
 -- a new node
 first_honest : IsHonestTo [] 0 first
@@ -111,28 +169,33 @@ first_honest = record {
   within = λ n captured. grind (arith, nat_tests, captured);
 }
 
+low_answered : IsAnsweredTo (fresh 0) 0
+low_answered = record { stable = omega arith; answered = λ n o below asks. absurd (cc) }
+
 pub kept_fresh : IsDc (fresh_dc 0) → IsKept fresh_node
 kept_fresh is = record {
   tc = fresh_tc;
   right = tt;
   dc = is;
+  recoverable = recoverable_fresh 0;
   true_to = record {
     leaves = (first_honest, tt);
     written = record { first_leaf = first_honest; page = λ id page h. absurd (no_page id page h); logged = tt };
-    low = (record { stable = omega arith; answered = λ n o below asks. absurd (cc) }, tt);
+    low = (low_answered, tt);
+    written_low = record { first_leaf = low_answered; page = λ id page h. absurd (no_page id page h); logged = tt };
   };
   performed = tt;
-  answered = λ n o requests some. absurd (cc);
+  answered = λ may. absurd (cc);
   sent = tt;
   given = tt;
-  sessions = record { runs = refl; begun = omega arith; served = tt };
+  sessions = record { begun = omega arith; served = tt };
 }
   where
     no_page : (id : ℕ) (page : LeafView) → pages_of map.empty id ≡ Some page → ⊥
     no_page id page h = let none : None ≡ Some page = rw (get-empty nat_cmp id) at h in absurd (cc)
 
 -- and stands for the machine to which nothing was done
-pub fresh_stands_for : Stands fresh_node fresh
+pub fresh_stands_for : Stands fresh_node machine.fresh
 fresh_stands_for = fresh_stands
 
 -- a run goes on by one event

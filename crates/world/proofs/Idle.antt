@@ -2,13 +2,15 @@
 use Rattle.std.proofs.Common.{◌≡◌, ℕ, Bool, true, false, [], ◌∷◌, Option, Some, None, is_some, refl, sym, ap, ◌∙◌, true≢false}
 use Rattle.std.specs.Prelude.{◌||◌, not}
 use Rattle.record_key.specs.declared.refusal.Refusal.{Refusal}
-use Rattle.record_key.specs.declared.refusal.Refusal.TheVariants.{NotOpen, RollingBack, Unanswered}
+use Rattle.record_key.specs.declared.refusal.Refusal.TheVariants.{NotConnected, Redoing, NotOpen, RollingBack, Unanswered}
 use Rattle.record_key.specs.FirstCause.{first_of, or_else}
 use Rattle.tc_core.specs.declared.open_txn.OpenTxn.{OpenTxn}
 use Rattle.tc_core.specs.declared.open_txn.Read.{Read}
 use Rattle.tc_core.specs.declared.open_txn.Rollback.{Rollback}
 use Rattle.tc_core.specs.OpenTxns.{find}
-use Rattle.tc_core.specs.TcView.{TcView, is_rolling, is_waiting}
+use Rattle.tc_core.specs.TcView.{TcView, is_unconnected, is_running, is_rolling, is_waiting}
+use Rattle.tc_core.specs.declared.phase.Phase.{Phase}
+use Rattle.tc_core.specs.declared.phase.Phase.TheVariants as phase
 use Rattle.tc_core.specs.Causes.{running_refusal, idle_refusal, open_refusal, answered_refusal}
 use Rattle.tc_core.specs.Calls.{IsAt}
 use Rattle.tc_core.proofs.Refused.{at_number}
@@ -66,3 +68,24 @@ waits_for_none w t o at allowed =
     none_waits o.waiting o.reading
     (sym (ap is_waiting (at_number w t o at))
     ∙ one_false (is_waiting (find t w.open_txns)) Unanswered (both_none (open_refusal w t) (first_of ((is_waiting (find t w.open_txns), Unanswered) ∷ [])) allowed).1)
+
+-- clients are served where a call of one is let
+pub serves_clients : (w : TcView) → running_refusal w ≡ None → w.phase ≡ phase.Running
+serves_clients w h = by w.phase h
+  where
+    by : (p : Phase) → first_of ((is_unconnected p, NotConnected) ∷ (not (is_running p), Redoing) ∷ []) ≡ None → p ≡ phase.Running
+    by phase.Unconnected h = absurd (cc)
+    by phase.Connecting h = absurd (cc)
+    by (phase.Redoing next ending) h = absurd (cc)
+    by phase.Running h = refl
+
+pub serves_open : (w : TcView) (t : ℕ) → open_refusal w t ≡ None → w.phase ≡ phase.Running
+serves_open w t h = serves_clients w (both_none (running_refusal w) (first_of ((not (is_some (find t w.open_txns)), NotOpen) ∷ [])) h).0
+
+pub serves_idle : (w : TcView) (t : ℕ) → idle_refusal w t ≡ None → w.phase ≡ phase.Running
+serves_idle w t h =
+    serves_open w t
+    (both_none (open_refusal w t) (first_of ((is_rolling (find t w.open_txns), RollingBack) ∷ (is_waiting (find t w.open_txns), Unanswered) ∷ [])) h).0
+
+pub serves_undo : (w : TcView) (t : ℕ) → answered_refusal w t ≡ None → w.phase ≡ phase.Running
+serves_undo w t h = serves_open w t (both_none (open_refusal w t) (first_of ((is_waiting (find t w.open_txns), Unanswered) ∷ [])) h).0

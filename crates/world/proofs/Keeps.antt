@@ -1,5 +1,5 @@
 -- What the transaction component does by itself keeps what holds of a node.
-use Rattle.std.proofs.Common.{◌≡◌, ℕ, ◌+◌, ◌≤◌, Bool, true, cond, List, [], ◌∷◌, ◌++◌, length, Some, None, IsSome, is_some, sym, ap, ◌∙◌, subst, inl, inr, true≢false, ne_eqb}
+use Rattle.std.proofs.Common.{◌≡◌, ◌≢◌, ℕ, ◌+◌, ◌≤◌, Bool, true, cond, List, [], ◌∷◌, ◌++◌, length, Some, None, IsSome, is_some, sym, ap, ◌∙◌, subst, arith, inl, inr, true≢false, ne_eqb}
 use Rattle.std.specs.List.{AllByRecursion}
 use Rattle.std.proofs.lemmas.Bool.{cases_eq}
 use Rattle.record_key.specs.declared.op.Op.{Op}
@@ -14,7 +14,9 @@ use Rattle.log_laws.proofs.LegalLogs.{step_number}
 use Rattle.codec.specs.declared.request.Request.{Request}
 use Rattle.codec.specs.declared.reply.Reply.{Reply}
 use Rattle.page.proofs.Performing.{one_request}
-use Rattle.dc_core.specs.DcView.{captures_at}
+use Rattle.dc_core.specs.DcView.{DcView, captures_at}
+use Rattle.tc_core.specs.declared.phase.Phase.{Phase}
+use Rattle.tc_core.specs.declared.phase.Phase.TheVariants as phase
 use Rattle.tc_core.specs.declared.open_txn.OpenTxn.{OpenTxn}
 use Rattle.tc_core.specs.OpenTxns.{find}
 use Rattle.tc_core.specs.TcView.{TcView}
@@ -23,32 +25,35 @@ use Rattle.tc_core.proofs.KeepsTc.{open_at, waits_at, none_next}
 use Rattle.tc_core.proofs.KeepsIdle.{own_request}
 use Rattle.tc_core.proofs.Finding.{found_own}
 use Rattle.world.specs.Node.{NodeView, with_tc}
-use Rattle.world.specs.Kept.{IsKept, IsSent, IsAnswerOf, IsGiven, AreSessions, AnsweredAreCaptured}
+use Rattle.world.specs.Kept.{IsKept, IsSent, IsGiven, IsServed, AreSessions, AnsweredAreCaptured, AreBefore, AllAreCaptured}
 use Rattle.world.proofs.ByNumber.{all_push}
 use Rattle.world.proofs.Readers.{NoneAnew}
 use Rattle.world.proofs.Grows.{keeps_on}
 
 -- a record that neither asks nor answers leaves what is answered captured
-pub still_captured : (w : NodeView) (r : Record) → IsKept w → ((o : Op) → ARequest o (Some r) → ⊥) → ((m : ℕ) → answer_of (r ∷ w.tc.log) m ≡ answer_of w.tc.log m) → AnsweredAreCaptured (r ∷ w.tc.log) w.dc
-still_captured w r k none same m o asks some =
+pub still_captured : (w : NodeView) (r : Record) → ((o : Op) → ARequest o (Some r) → ⊥) → ((m : ℕ) → answer_of (r ∷ w.tc.log) m ≡ answer_of w.tc.log m)
+    → AnsweredAreCaptured w.tc.log w.dc → AnsweredAreCaptured (r ∷ w.tc.log) w.dc
+still_captured w r none same captured m o asks some =
     elim (cases_eq m (length w.tc.log + 1)) [
       | inl e ↦ absurd (none o (newest_at (ARequest o) r w.tc.log m e asks))
-      | inr e ↦ k.answered m o (older_at (ARequest o) r w.tc.log m e asks) (subst IsSome (same m) some)
+      | inr e ↦ captured m o (older_at (ARequest o) r w.tc.log m e asks) (subst IsSome (same m) some)
     ]
 
 -- one that asks isn't answered yet
-pub asked_captured : (w : NodeView) (r : Record) → IsKept w → ((m : ℕ) → answer_of (r ∷ w.tc.log) m ≡ answer_of w.tc.log m) → AnsweredAreCaptured (r ∷ w.tc.log) w.dc
-asked_captured w r k same m o asks some =
+pub asked_captured : (w : NodeView) (r : Record) → IsKept w → ((m : ℕ) → answer_of (r ∷ w.tc.log) m ≡ answer_of w.tc.log m)
+    → AnsweredAreCaptured w.tc.log w.dc → AnsweredAreCaptured (r ∷ w.tc.log) w.dc
+asked_captured w r k same captured m o asks some =
     elim (cases_eq m (length w.tc.log + 1)) [
       | inl e ↦
           let none : answer_of (r ∷ w.tc.log) m ≡ None = same m ∙ ap (answer_of w.tc.log) e ∙ none_next w.tc.log k.tc.legal in
           absurd (true≢false (sym some ∙ ap is_some none))
-      | inr e ↦ k.answered m o (older_at (ARequest o) r w.tc.log m e asks) (subst IsSome (same m) some)
+      | inr e ↦ captured m o (older_at (ARequest o) r w.tc.log m e asks) (subst IsSome (same m) some)
     ]
 
 -- an answer is of a captured number
-pub answer_captured : (w : NodeView) (n : ℕ) (a : Answer) → IsKept w → IsAnswerOf w.tc.log w.dc n a → AnsweredAreCaptured (is.Answer n a ∷ w.tc.log) w.dc
-answer_captured w n a k given m o asks some =
+pub answer_captured : (w : NodeView) (n : ℕ) (a : Answer) (p : Op) → Requests w.tc.log n p → captures_at w.dc (key_of p) n ≡ true
+    → AnsweredAreCaptured w.tc.log w.dc → AnsweredAreCaptured (is.Answer n a ∷ w.tc.log) w.dc
+answer_captured w n a p requests there captured m o asks some =
     let r : Record = is.Answer n a in
     elim (cases_eq m (length w.tc.log + 1)) [
       | inl e ↦ let none : ARequest o (Some r) = newest_at (ARequest o) r w.tc.log m e asks in absurd (cc)
@@ -56,11 +61,18 @@ answer_captured w n a k given m o asks some =
           let older : Requests w.tc.log m o = older_at (ARequest o) r w.tc.log m e asks in
           elim (cases_eq m n) [
             | inl same ↦
-                let one : given.op ≡ o = one_request w.tc.log n o given.op (subst (λ (z : ℕ). Requests w.tc.log z o) same older) given.requests in
-                subst (λ (z : ℕ). captures_at w.dc (key_of o) z ≡ true) (sym same) (subst (λ (p : Op). captures_at w.dc (key_of p) n ≡ true) one given.captured)
-            | inr apart ↦ k.answered m o older (subst (λ (b : Bool). IsSome (cond b (Some a) (answer_of w.tc.log m))) (ne_eqb m n apart) some)
+                let one : p ≡ o = one_request w.tc.log n o p (subst (λ (z : ℕ). Requests w.tc.log z o) same older) requests in
+                subst (λ (z : ℕ). captures_at w.dc (key_of o) z ≡ true) (sym same) (subst (λ (q : Op). captures_at w.dc (key_of q) n ≡ true) one there)
+            | inr apart ↦ captured m o older (subst (λ (b : Bool). IsSome (cond b (Some a) (answer_of w.tc.log m))) (ne_eqb m n apart) some)
           ]
     ]
+
+-- a record that asks for nothing leaves what was asked before, and what of it is captured
+pub before_on : (r : Record) (log : List Record) (s : ℕ) → ((o : Op) → ARequest o (Some r) → ⊥) → AreBefore log s → AreBefore (r ∷ log) s
+before_on r log s none before n o asks = before n o (older_at (ARequest o) r log n (λ e. absurd (none o (newest_at (ARequest o) r log n e asks))) asks)
+
+pub all_on : (r : Record) (log : List Record) (dc : DcView) (next : ℕ) → ((o : Op) → ARequest o (Some r) → ⊥) → AllAreCaptured log dc next → AllAreCaptured (r ∷ log) dc next
+all_on r log dc next none all n o asks = all n o (older_at (ARequest o) r log n (λ e. absurd (none o (newest_at (ARequest o) r log n e asks))) asks)
 
 -- whatever is waited for is a number of the log
 pub awaited_number : (w : TcView) → IsTc w → (t : ℕ) (o : OpenTxn) (n : ℕ) → find t w.open_txns ≡ Some o → o.waiting ≡ Some n → IsNumber w.log n
@@ -69,25 +81,37 @@ awaited_number w k t o n found some =
 
 -- one record more
 pub keeps_appended : (w : NodeView) (tc : TcView) (r : Record) → IsKept w → IsTc tc → tc.log ≡ r ∷ w.tc.log → w.tc.stable ≤ tc.stable → w.tc.session ≤ tc.session → w.tc.reads ≤ tc.reads
-    → NoneAnew w.tc.reads w.tc.open_txns tc.open_txns → AreSessions tc.session tc.phase w.dc → HasRightAnswers (r ∷ w.tc.log) → AnsweredAreCaptured (r ∷ w.tc.log) w.dc → IsKept (with_tc w tc)
-keeps_appended w tc r k is log stable session reads none_anew sessions right answered =
+    → NoneAnew w.tc.reads w.tc.open_txns tc.open_txns → AreSessions tc.session tc.phase tc.log w.dc → HasRightAnswers (r ∷ w.tc.log)
+    → (w.dc.session ≢ 0 → AnsweredAreCaptured w.tc.log w.dc → AnsweredAreCaptured (r ∷ w.tc.log) w.dc) → IsKept (with_tc w tc)
+keeps_appended w tc r k is log stable session reads none_anew sessions right captured =
     keeps_on w tc k is (record { within = k.tc.within; log = inr (r, log); stable = stable; session = session; reads = reads; none_anew = none_anew }) sessions (subst HasRightAnswers (sym log) right)
-    (subst (λ (log : List Record). AnsweredAreCaptured log w.dc) (sym log) answered)
+    (λ some h. subst (λ (log : List Record). AnsweredAreCaptured log w.dc) (sym log) (captured some h))
 
 -- the same log
 pub keeps_same_log : (w : NodeView) (tc : TcView) → IsKept w → IsTc tc → tc.log ≡ w.tc.log → w.tc.stable ≤ tc.stable → w.tc.session ≤ tc.session → w.tc.reads ≤ tc.reads
-    → NoneAnew w.tc.reads w.tc.open_txns tc.open_txns → AreSessions tc.session tc.phase w.dc → IsKept (with_tc w tc)
+    → NoneAnew w.tc.reads w.tc.open_txns tc.open_txns → AreSessions tc.session tc.phase tc.log w.dc → IsKept (with_tc w tc)
 keeps_same_log w tc k is log stable session reads none_anew sessions =
     keeps_on w tc k is (record { within = k.tc.within; log = inl log; stable = stable; session = session; reads = reads; none_anew = none_anew }) sessions (subst HasRightAnswers (sym log) k.right)
-    (subst (λ (log : List Record). AnsweredAreCaptured log w.dc) (sym log) k.answered)
+    (λ some h. subst (λ (log : List Record). AnsweredAreCaptured log w.dc) (sym log) h)
+
+-- where clients are served the sessions stand, whatever is logged
+pub logs_on : (w : NodeView) (log : List Record) → IsKept w → w.tc.phase ≡ phase.Running → AreSessions w.tc.session w.tc.phase log w.dc
+logs_on w log k running = record {
+  begun = k.sessions.begun;
+  served =
+      let P : Phase → Type 0 = λ p. IsServed p w.tc.session w.tc.log w.dc in
+      let Q : Phase → Type 0 = λ p. IsServed p w.tc.session log w.dc in
+      subst Q (sym running) (subst P running k.sessions.served);
+}
 
 -- messages that were sent and given stand beside it
-keeps_messages : (w : NodeView) (requests : List Request) (replies : List Reply) → IsKept w → AllByRecursion (IsSent w.tc) requests → AllByRecursion (IsGiven w.tc w.dc) replies
+keeps_messages : (w : NodeView) (requests : List Request) (replies : List Reply) → IsKept w → AllByRecursion (IsSent w.tc w.dc) requests → AllByRecursion (IsGiven w.tc w.dc) replies
     → IsKept (record w { requests = requests; replies = replies })
 keeps_messages w requests replies k sent given = record {
   tc = k.tc;
   right = k.right;
   dc = k.dc;
+  recoverable = k.recoverable;
   true_to = k.true_to;
   performed = k.performed;
   answered = k.answered;
@@ -100,8 +124,8 @@ keeps_messages w requests replies k sent given = record {
 abbrev pub with_request : NodeView → Request → NodeView
 with_request w q = record w { requests = w.requests ++ q ∷ [] }
 
-pub keeps_sent : (w : NodeView) (q : Request) → IsKept w → IsSent w.tc q → IsKept (with_request w q)
-keeps_sent w q k sent = keeps_messages w (w.requests ++ q ∷ []) w.replies k (all_push (IsSent w.tc) w.requests q k.sent sent) k.given
+pub keeps_sent : (w : NodeView) (q : Request) → IsKept w → IsSent w.tc w.dc q → IsKept (with_request w q)
+keeps_sent w q k sent = keeps_messages w (w.requests ++ q ∷ []) w.replies k (all_push (IsSent w.tc w.dc) w.requests q k.sent sent) k.given
 
 -- one reply more
 abbrev pub with_reply : NodeView → Reply → NodeView

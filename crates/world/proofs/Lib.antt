@@ -6,6 +6,9 @@ pub mod Carries
 pub mod Clients
 pub mod Committing
 pub mod Counting
+pub mod Crashes
+pub mod Downs
+pub mod Ends
 pub mod Exchanges
 pub mod Falls
 pub mod Follows
@@ -28,6 +31,7 @@ pub mod Rounds
 pub mod RoundsLeft
 pub mod Rows
 pub mod Sends
+pub mod Running
 pub mod Serves
 pub mod Settled
 pub mod Shares

@@ -31,7 +31,7 @@ module _ (w : NodeView) (k : IsKept w) (n : ℕ) (o : Op) (requests : Requests w
       (λ leaf h. all_from (IsSavedRight w.tc.log) (λ (e : Entry). e.number ≡ n → e.key ≡ key_of o)
       (λ e right same. sym right.on_key ∙ ap key_of (one e.number right.op right.requests same)) leaf.ab.entries h.honest.saved) (leaves w.dc) k.true_to.leaves
 
-pub may_ask : (w : NodeView) (q : Request) → IsKept w → IsSent w.tc q → MayAsk w.dc q
+pub may_ask : (w : NodeView) (q : Request) → IsKept w → IsSent w.tc w.dc q → MayAsk w.dc q
 may_ask w (asks.Connect s) k sent = tt
 may_ask w (asks.Perform s n o) k sent = λ running. record { listed = listed w k n o sent.1; saved = saved w k n o sent.1 }
 may_ask w (asks.Get s n key) k sent = tt

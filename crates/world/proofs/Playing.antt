@@ -32,6 +32,8 @@ done_if (out.Connects n cs) h = tt
 done_if (out.Sent n) h = tt
 done_if (out.Replied n) h = tt
 done_if out.Noted h = tt
+done_if out.Down h = tt
+done_if (out.Up n) h = tt
 done_if (out.Connected n) h = tt
 done_if (out.RedoEnded n) h = tt
 done_if (out.Answered u a) h = tt
@@ -121,7 +123,7 @@ LeftAfter (Some most) n left = (n ≤ most) × (left ≡ Some (most - n))
 -- the rounds so far
 pub record SoFar (old : NodeView) (most : Option ℕ) (before : List Out) (left : Option ℕ) (after : List Out) (now : NodeView) : Type 0 where
   pub played : Played old before after now
-  pub count : length played.rounds + rounds_left now.tc ≤ rounds_left old.tc
+  pub count : length played.rounds + rounds_left now ≤ rounds_left old
   pub left_is : LeftAfter most (length played.rounds) left
 
 pub none_yet : (old : NodeView) (most : Option ℕ) (before : List Out) → SoFar old most before most before old
@@ -157,7 +159,7 @@ fewer_left (Some m) n left h some =
     elim_less m n most apart = omega (arith, most, apart)
 
 pub one_more : (old now new : NodeView) (most left : Option ℕ) (before after grown : List Out) (r : Round) → SoFar old most before left after now → (left ≡ Some 0 → ⊥) → IsNext now r
-    → Performed now (events_of now r) after grown new → rounds_left new.tc < rounds_left now.tc → SoFar old most before (fewer left) grown new
+    → Performed now (events_of now r) after grown new → rounds_left new < rounds_left now → SoFar old most before (fewer left) grown new
 one_more old now new most left before after grown r far some next h less =
     let p = far.played in
     let count : length (p.rounds ++ r ∷ []) ≡ length p.rounds + 1 = length-append p.rounds (r ∷ []) in
@@ -192,7 +194,7 @@ one_allowed (Some m) left n h some = elim (cases_eq n m) [
 
 -- a round stopped
 pub broken : (old now new : NodeView) (most left : Option ℕ) (before after grown : List Out) (r : Round) (refusal : Refusal) → SoFar old most before left after now → (left ≡ Some 0 → ⊥) → IsKept now
-    → IsNext now r → Stopped now (events_of now r) after grown refusal new → rounds_left old.tc < most_rounds old.tc.log
+    → IsNext now r → Stopped now (events_of now r) after grown refusal new → rounds_left old < most_rounds old.tc.log
     → (b : Broken old before grown refusal new) × IsAllowed most (length b.rounds.rounds + 1) × (length b.rounds.rounds < most_rounds old.tc.log)
 broken old now new most left before after grown r refusal far some kept next h bound = (
   record {

@@ -7,6 +7,7 @@ use Rattle.record_key.specs.Table.{Bytes, key_of}
 use Rattle.history.specs.declared.record.Record.{Record}
 use Rattle.history.specs.History.{plain}
 use Rattle.history.specs.Spans.{is_within}
+use Rattle.history.specs.Values.{value_on}
 use Rattle.history.specs.Log.{record_at, answer_of, IsOpBy, IsOpen, Requests}
 use Rattle.history.specs.ListMachine.{Machine}
 use Rattle.log_laws.proofs.Records.{op_request}
@@ -14,6 +15,7 @@ use Rattle.log_laws.proofs.Plain.{value_of-captured}
 use Rattle.simulation.specs.View.{is_to_undo}
 use Rattle.simulation.proofs.Viewing.{plain_is_the_logs}
 use Rattle.dc_core.specs.DcView.{captures_at, value_at}
+use Rattle.dc_core.specs.Tends.{may_merge}
 use Rattle.page.proofs.OnKey.{all_done}
 use Rattle.tc_core.specs.declared.open_txn.OpenTxn.{OpenTxn}
 use Rattle.tc_core.specs.declared.open_txn.Read.{Read}
@@ -81,11 +83,16 @@ module _ (w : NodeView) (o : OpenTxn) (r : Read) (k : IsKept w) (at : find o.txn
       by_txn None none = ap (λ y. is_to_undo (doing_in y) n) none
       by_txn (Some p) some = ap (λ y. is_to_undo (doing_in y) n) some ∙ by_rolling p some p.rolling refl
 
-  pub read_plain : (m : Machine) → Stands w m → (key : Bytes) → is_within (shared r.span) key ≡ true → value_at w.dc key ≡ get (plain m.h) key
-  read_plain m stands key within =
+  -- what the leaf has there is what the log gives
+  pub read_logged : may_merge w.dc ≡ true → (key : Bytes) → is_within (shared r.span) key ≡ true → value_at w.dc key ≡ value_on key log
+  read_logged past key within =
       (honest_at w key k).right
       ∙ value_of-captured log key (captures_at w.dc key)
       (all_done (λ n. captures_at w.dc key n ≡ true) key log (λ n q asks on.
-      subst (λ (z : Bytes). captures_at w.dc z n ≡ true) on (k.answered n q asks (answered_there key within n q asks on))))
-      ∙ sym (plain_is_the_logs (clients w.tc) m key k.tc.legal k.right stands (λ n t q by on uncrossed.
+      subst (λ (z : Bytes). captures_at w.dc z n ≡ true) on (k.answered past n q asks (answered_there key within n q asks on))))
+
+  -- and that is what the plain map has
+  pub logged_plain : (m : Machine) → Stands w m → (key : Bytes) → is_within (shared r.span) key ≡ true → value_on key log ≡ get (plain m.h) key
+  logged_plain m stands key within =
+      sym (plain_is_the_logs (clients w.tc) m key k.tc.legal k.right stands (λ n t q by on uncrossed.
       (answered_there key within n q (op_request t q (record_at log n) by) (sym on), refl, not_undone key n t q within by (sym on))))

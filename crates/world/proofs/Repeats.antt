@@ -6,20 +6,18 @@ use Rattle.std.proofs.lemmas.Bool.Decides.{nat_tests}
 use Rattle.record_key.specs.declared.op.Answer.{Answer}
 use Rattle.record_key.specs.declared.op.Op.{Op}
 use Rattle.record_key.specs.Table.{key_of}
-use Rattle.history.specs.Log.{Requests}
 use Rattle.history.specs.Values.{IsRight}
+use Rattle.codec.specs.declared.request.Request.TheVariants as asks
 use Rattle.record_key.specs.declared.entry.Entry.{Entry}
 use Rattle.ab_lsn.specs.AbLsn.{AbLsnView, captures, saved_in}
 use Rattle.record_key.specs.Entries.{numbers}
-use Rattle.page.specs.Leaf.{LeafView}
 use Rattle.page.specs.Honest.{IsSavedRight}
 use Rattle.btree.specs.Leaves.{leaf_at}
-use Rattle.btree.proofs.AtKey.{all_at}
 use Rattle.dc_core.specs.DcView.{leaves, captures_at}
 use Rattle.tc_core.specs.TcView.{TcView}
 use Rattle.world.specs.Node.{NodeView}
-use Rattle.world.specs.Kept.{IsKept, IsAnsweredTo, IsAnswered}
-use Rattle.world.proofs.AtKeys.{own_leaf}
+use Rattle.world.specs.Kept.{IsKept, IsSent, IsAnsweredTo, IsRightOrNone, IsAnswered}
+use Rattle.world.proofs.AtKeys.{own_leaf, own_low}
 
 -- the answer that is saved is one of the entries'
 pub record IsFound (P : Entry → Type 0) (n : ℕ) (a : Answer) : Type 0 where
@@ -60,17 +58,21 @@ answered_less : (w : TcView) (n l : ℕ) → n ≤ l → IsAnsweredTo w l → Is
 answered_less w n l less h = record { stable = omega (arith, less, h.stable); answered = λ m o below asks. h.answered m o (omega (arith, below, less)) asks }
 
 -- a captured number is answered as it was
-pub repeated : (w : NodeView) (n : ℕ) (o : Op) → IsKept w → Requests w.tc.log n o → captures_at w.dc (key_of o) n ≡ true
-    → IsAnswered w.tc w.dc n (saved_in (leaf_at (leaves w.dc) (key_of o)).ab.entries n)
-repeated w n o k requests captured = by (saved_in (leaf_at (leaves w.dc) (key_of o)).ab.entries n) refl
+pub repeated : (w : NodeView) (s n : ℕ) (o : Op) → IsKept w → IsSent w.tc w.dc (asks.Perform s n o) → captures_at w.dc (key_of o) n ≡ true
+    → IsAnswered w.tc w.dc s n (saved_in (leaf_at (leaves w.dc) (key_of o)).ab.entries n)
+repeated w s n o k sent captured = record {
+  op = o;
+  requests = sent.1;
+  stable = sent.0;
+  answer = by (saved_in (leaf_at (leaves w.dc) (key_of o)).ab.entries n) refl;
+  captured = record { begun = sent.2.begun; holds = λ r. captured };
+}
   where
-    by : (a : Option Answer) → saved_in (leaf_at (leaves w.dc) (key_of o)).ab.entries n ≡ a → IsAnswered w.tc w.dc n a
-    by None none =
-        answered_less w.tc n (leaf_at (leaves w.dc) (key_of o)).ab.low (unsaved_low (leaf_at (leaves w.dc) (key_of o)).ab n captured none)
-        (all_at (λ (l : LeafView). IsAnsweredTo w.tc l.ab.low) (leaves w.dc) (key_of o) k.dc.system.leaves k.true_to.low)
+    by_parts : (m : ℕ) (b a : Answer) → m ≡ n → b ≡ a → IsRight w.tc.log m b → IsRight w.tc.log n a
+    by_parts m b a same answer right = rw (← same, ← answer) right
+
+    by : (a : Option Answer) → saved_in (leaf_at (leaves w.dc) (key_of o)).ab.entries n ≡ a → IsRightOrNone w.tc n a
+    by None none = answered_less w.tc n (leaf_at (leaves w.dc) (key_of o)).ab.low (unsaved_low (leaf_at (leaves w.dc) (key_of o)).ab n captured none) (own_low w (key_of o) k)
     by (Some a) found =
         let f = saved_found (IsSavedRight w.tc.log) n a (leaf_at (leaves w.dc) (key_of o)).ab.entries (own_leaf w (key_of o) k).honest.saved found in
-        record { op = o; requests = requests; right = by_parts f.entry.number f.entry.answer f.number f.answer f.holds.right; captured = captured }
-      where
-        by_parts : (m : ℕ) (b : Answer) → m ≡ n → b ≡ a → IsRight w.tc.log m b → IsRight w.tc.log n a
-        by_parts m b same answer right = rw (← same, ← answer) right
+        by_parts f.entry.number f.entry.answer a f.number f.answer f.holds.right

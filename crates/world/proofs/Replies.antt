@@ -1,6 +1,7 @@
 -- A reply is a told line or nothing to the list machine.
-use Rattle.std.proofs.Common.{◌≡◌, ◌⊎◌, ℕ, ◌≤◌, Bool, true, false, List, [], ◌∷◌, Option, Some, None, is_some, refl, sym, ap, ◌∙◌, subst, arith, inl, inr, eqb-true}
-use Rattle.std.specs.Prelude.{◌==◌, ◌&&◌, ◌||◌, not, Ok, if◌then◌else◌}
+use Rattle.std.proofs.Common.{◌≡◌, ◌≢◌, ◌⊎◌, ℕ, ◌+◌, ◌<◌, ◌≤◌, Bool, true, false, List, [], ◌∷◌, Option, Some, None, is_some, refl, sym, ap, ◌∙◌, subst, arith, inl, inr, true≢false, eqb-true}
+use Rattle.std.specs.Prelude.{◌==◌, ◌&&◌, ◌||◌, nat_lt, not, Ok, if◌then◌else◌}
+use Rattle.std.proofs.lemmas.Bool.{cases_eq, and_parts}
 use Rattle.record_key.specs.declared.op.Answer.{Answer}
 use Rattle.record_key.specs.declared.refusal.Refusal.{Refusal}
 use Rattle.record_key.specs.declared.refusal.Refusal.TheVariants.{Stale, NumbersSpent}
@@ -14,7 +15,12 @@ use Rattle.codec.specs.Replies.{has_rows}
 use Rattle.record_key.specs.Table.{Bytes, key_of}
 use Rattle.range_locks.specs.declared.span.Span.{Span}
 use Rattle.range_locks.specs.declared.span.Span.TheVariants.{Key, Range}
-use Rattle.dc_core.specs.DcView.{DcView}
+use Rattle.record_key.specs.declared.op.Op.{Op}
+use Rattle.history.specs.declared.record.Record.{Record}
+use Rattle.history.specs.Log.{Requests}
+use Rattle.log_laws.proofs.LegalLogs.{request_number}
+use Rattle.page.proofs.Performing.{one_request}
+use Rattle.dc_core.specs.DcView.{DcView, captures_at}
 use Rattle.tc_core.specs.declared.open_txn.OpenTxn.{OpenTxn}
 use Rattle.tc_core.specs.declared.open_txn.Read.{Read}
 use Rattle.tc_core.specs.declared.open_txn.Rollback.{Rollback}
@@ -25,7 +31,7 @@ use Rattle.logical_log.specs.LogView.{is_spent}
 use Rattle.tc_core.specs.OpenTxns.{find}
 use Rattle.tc_core.specs.Changes.{answered, answered_txn, was_told, told_txn}
 use Rattle.tc_core.specs.Replies.{Outcome, takes, awaiting, next_phase, passed, on_awaited, on_answered, on_connected, on_redo_ended, on_reply, on_row, on_rows, is_key, is_range, span_read, reader, logs, takes_memory, reply_refusal}
-use Rattle.tc_core.specs.Kept.{IsTc}
+use Rattle.tc_core.specs.Kept.{IsTc, IsPhase}
 use Rattle.tc_core.proofs.KeepsReads.{reader_is}
 use Rattle.tc_core.proofs.KeepsTc.{open_at, waits_at, awaited_is}
 use Rattle.world.specs.declared.event.Event.TheVariants as event
@@ -33,16 +39,17 @@ use Rattle.world.specs.declared.event.Out.{Out}
 use Rattle.world.specs.declared.event.Out.TheVariants as out
 use Rattle.world.specs.Node.{NodeView, with_tc, as_out, IsUnsent, Taken, Untaken, TakesTo}
 use Rattle.world.specs.Sent.{IsUnread}
-use Rattle.world.specs.Kept.{IsKept, IsReadTrue, IsValue, AreRows, IsAnswered, IsAnswerOf, IsGiven, IsServed}
+use Rattle.world.specs.Kept.{IsKept, IsReadTrue, InSession, IsValue, AreRows, IsAnswered, IsGiven, IsServed}
 use Rattle.world.specs.Simulation.{Leads, Stands, lines_of, clients}
 use Rattle.world.proofs.ByNumber.{all_at}
 use Rattle.world.proofs.CallsKeep.{reply_keeps}
 use Rattle.world.proofs.Awaited.{comp_waited, reads_nothing}
 use Rattle.world.proofs.Standing.{stands_answered, stands_undone}
 use Rattle.world.proofs.ToldReads.{tells_row, tells_rows}
-use Rattle.world.proofs.AtKeys.{captured_stable}
 use Rattle.world.proofs.Readers.{none_same, none_replaced, reads_same, reads_none}
-use Rattle.world.proofs.Keeps.{answer_captured, keeps_appended, keeps_same_log}
+use Rattle.world.proofs.Keeps.{answer_captured, before_on, all_on, keeps_appended, keeps_same_log}
+use Rattle.world.proofs.Running.{is_run, stored_begun, same_runs}
+use Rattle.world.proofs.Sends.{redo_served, redoing_phase}
 use Rattle.world.proofs.Follows.{Follows, at_new, no_line, one_line, unchanged, left_refused, kept_left, stands_left}
 
 -- this outcome follows
@@ -57,75 +64,136 @@ quietly w i x none stands kept = record { leads = no_line w (with_tc w x.1) (eve
 nothing : (w : NodeView) (i : ℕ) → IsKept w → Goes w i (told.Nothing, w.tc)
 nothing w i k after = quietly w i (told.Nothing, w.tc) refl (λ m stands. stands) k
 
--- redo goes on
-served_next : (p : Phase) (n s : ℕ) (dc : DcView) → IsServed p s dc → IsServed (next_phase p n) s dc
-served_next phase.Unconnected n s dc h = h
-served_next phase.Connecting n s dc h = h
-served_next (phase.Redoing next ending) n s dc h = h
-served_next phase.Running n s dc h = h
+-- redo goes on past a number that is captured
+next_served : (p : Phase) (n s : ℕ) (log : List Record) (dc : DcView) → takes s p n ≡ true → (dc.session ≡ s → (o : Op) → Requests log n o → captures_at dc (key_of o) n ≡ true)
+    → IsServed p s log dc → IsServed (next_phase p n) s log dc
+next_served phase.Unconnected n s log dc taken captured h = h
+next_served phase.Connecting n s log dc taken captured h = h
+next_served (phase.Redoing next ending) n s log dc taken captured h = (
+  h.0,
+  h.1,
+  λ runs m o asks below. elim (cases_eq m n) [
+    | inl same ↦
+        subst (λ (z : ℕ). captures_at dc (key_of o) z ≡ true) (sym same)
+        (captured runs o (subst (λ (z : ℕ). Requests log z o) same asks))
+    | inr apart ↦ h.2 runs m o asks (omega (arith, apart, below, here))
+  ],
+)
+  where
+    here : next ≡ n
+    here = eqb-true next n (and_parts (next == n) (nat_lt n s) taken).0
+next_served phase.Running n s log dc taken captured h = h
 
-passes : (w : NodeView) (n : ℕ) → IsKept w → IsTc (passed w.tc n) → IsKept (with_tc w (passed w.tc n))
-passes w n k after =
+-- a session that is taken from has a number
+some_taken : (p : Phase) (n s : ℕ) → takes s p n ≡ true → IsPhase s p → s ≢ 0
+some_taken phase.Unconnected n s taken h = absurd (true≢false (sym taken))
+some_taken phase.Connecting n s taken h = absurd (true≢false (sym taken))
+some_taken (phase.Redoing next ending) n s taken h = λ zero. absurd (omega (arith, h.0, h.1, zero))
+some_taken phase.Running n s taken h = λ zero. absurd (omega (arith, h, zero))
+
+-- an answer of the session that runs
+pub record IsTaken (w : NodeView) (s n : ℕ) (a : Option Answer) : Type 0 where
+  pub taken : takes w.tc.session w.tc.phase n ≡ true
+  pub same : s ≡ w.tc.session
+  pub given : IsAnswered w.tc w.dc s n a
+
+-- is of a captured number, while the data component runs some session
+taken_captured : (w : NodeView) (s n : ℕ) (a : Option Answer) (k : IsKept w) (t : IsTaken w s n a) → w.dc.session ≢ 0 → captures_at w.dc (key_of t.given.op) n ≡ true
+taken_captured w s n a k t some = t.given.captured.holds (same_runs w s k t.same t.given.captured.begun some)
+
+taken_there : (w : NodeView) (s n : ℕ) (a : Option Answer) → IsKept w → IsTaken w s n a → w.dc.session ≡ w.tc.session → (o : Op) → Requests w.tc.log n o
+    → captures_at w.dc (key_of o) n ≡ true
+taken_there w s n a k t runs o asks =
+    let some : w.dc.session ≢ 0 = λ zero. some_taken w.tc.phase n w.tc.session t.taken k.tc.phase (sym runs ∙ zero) in
+    let one : t.given.op ≡ o = one_request w.tc.log n o t.given.op asks t.given.requests in
+    subst (λ (p : Op). captures_at w.dc (key_of p) n ≡ true) one (taken_captured w s n a k t some)
+
+passes : (w : NodeView) (s n : ℕ) (a : Option Answer) → IsKept w → IsTaken w s n a → IsTc (passed w.tc n) → IsKept (with_tc w (passed w.tc n))
+passes w s n a k t after =
     keeps_same_log w (passed w.tc n) k after refl (omega arith) (omega arith) (omega arith) (none_same w.tc.reads w.tc.open_txns)
-    (record { runs = k.sessions.runs; begun = k.sessions.begun; served = served_next w.tc.phase n w.tc.session w.dc k.sessions.served })
+    (record { begun = k.sessions.begun; served = next_served w.tc.phase n w.tc.session w.tc.log w.dc t.taken (taken_there w s n a k t) k.sessions.served })
+
+-- an Answer record asks for nothing
+answer_served : (p : Phase) (s n : ℕ) (a : Answer) (log : List Record) (dc : DcView) → IsServed p s log dc → IsServed p s (is.Answer n a ∷ log) dc
+answer_served phase.Unconnected s n a log dc h = tt
+answer_served phase.Connecting s n a log dc h = before_on (is.Answer n a) log s (λ o h. cc) h
+answer_served (phase.Redoing next ending) s n a log dc h =
+    (before_on (is.Answer n a) log s (λ o h. cc) h.0, h.1, λ runs. all_on (is.Answer n a) log dc next (λ o h. cc) (h.2 runs))
+answer_served phase.Running s n a log dc h = h
 
 -- the answer that is waited for
-answers : (w : NodeView) (o : OpenTxn) (n : ℕ) (a : Answer) → IsKept w → find o.txn w.tc.open_txns ≡ Some o → IsTc (passed (answered w.tc o n a) n) → IsAnswerOf w.tc.log w.dc n a
+answers : (w : NodeView) (o : OpenTxn) (s n : ℕ) (a : Answer) → IsKept w → find o.txn w.tc.open_txns ≡ Some o → IsTc (passed (answered w.tc o n a) n) → IsTaken w s n (Some a)
     → IsKept (with_tc w (passed (answered w.tc o n a) n))
-answers w o n a k at after given =
+answers w o s n a k at after t =
     keeps_appended w (passed (answered w.tc o n a) n) (is.Answer n a) k after refl (omega arith) (omega arith) (omega arith)
     (none_replaced w.tc.reads w.tc.open_txns o (answered_txn o) at (reads_same w.tc.reads o (answered_txn o) refl))
-    (record { runs = k.sessions.runs; begun = k.sessions.begun; served = served_next w.tc.phase n w.tc.session w.dc k.sessions.served })
-    (given.right, k.right) (answer_captured w n a k given)
+    (record {
+      begun = k.sessions.begun;
+      served = answer_served (next_phase w.tc.phase n) w.tc.session n a w.tc.log w.dc
+          (next_served w.tc.phase n w.tc.session w.tc.log w.dc t.taken (taken_there w s n (Some a) k t) k.sessions.served);
+    })
+    (t.given.answer, k.right)
+    (λ some. answer_captured w n a t.given.op t.given.requests (taken_captured w s n (Some a) k t some))
 
 -- is told to its client, or is that of a compensation
-tells : (w : NodeView) (i : ℕ) (o : OpenTxn) (n : ℕ) (a : Answer) → IsKept w → find o.txn w.tc.open_txns ≡ Some o → o.waiting ≡ Some n → IsAnswerOf w.tc.log w.dc n a
+tells : (w : NodeView) (i : ℕ) (o : OpenTxn) (s n : ℕ) (a : Answer) → IsKept w → find o.txn w.tc.open_txns ≡ Some o → o.waiting ≡ Some n → IsAnswered w.tc w.dc s n (Some a)
     → IsTc (passed (answered w.tc o n a) n) → (x : Option Rollback) → o.rolling ≡ x
     → Leads w (event.Reply i) (as_out (if is_some x then told.Undone n else told.Answered o.txn a)) (with_tc w (passed (answered w.tc o n a) n))
-tells w i o n a k at waiting given after (Some r) rolling =
+tells w i o s n a k at waiting given after (Some r) rolling =
     no_line w (with_tc w (passed (answered w.tc o n a) n)) (event.Reply i) (out.Undone n) refl (λ m stands.
     stands_undone w.tc m o k.tc at stands r n a rolling after.legal
     (comp_waited w.tc.log o n (ap is_some rolling) (waits_at w.tc.log o n (open_at w.tc o k.tc at) waiting).request))
-tells w i o n a k at waiting given after None flat =
+tells w i o s n a k at waiting given after None flat =
     one_line w (with_tc w (passed (answered w.tc o n a) n)) (event.Reply i) (out.Answered o.txn a) (TellsAnswer o.txn a) refl (λ m stands.
-    stands_answered w.tc m o k.tc at stands n a flat (reads_nothing w.tc o n k.tc at waiting) waiting after.legal (given.right, k.right) (captured_stable w (key_of given.op) n k given.captured))
+    stands_answered w.tc m o k.tc at stands n a flat (reads_nothing w.tc o n k.tc at waiting) waiting after.legal (given.answer, k.right) given.stable)
 
-awaited_goes : (w : NodeView) (i n : ℕ) (a : Option Answer) (x : Option OpenTxn) → IsKept w → awaiting w.tc n ≡ x → IsAnswered w.tc w.dc n a → Goes w i (on_awaited w.tc n a x)
-awaited_goes w i n a None k none given after = quietly w i (told.Nothing, passed w.tc n) refl (λ m stands. stands) (passes w n k after)
-awaited_goes w i n None (Some o) k some given after = nothing w i k after
-awaited_goes w i n (Some a) (Some o) k some given after =
+awaited_goes : (w : NodeView) (i s n : ℕ) (a : Option Answer) (x : Option OpenTxn) → IsKept w → awaiting w.tc n ≡ x → IsTaken w s n a → Goes w i (on_awaited w.tc n a x)
+awaited_goes w i s n a None k none t after = quietly w i (told.Nothing, passed w.tc n) refl (λ m stands. stands) (passes w s n a k t after)
+awaited_goes w i s n None (Some o) k some t after = nothing w i k after
+awaited_goes w i s n (Some a) (Some o) k some t after =
     let at = awaited_is w.tc n o some in
-    record { leads = tells w i o n a k at.0 at.1 given after o.rolling refl; kept = answers w o n a k at.0 after given }
+    record { leads = tells w i o s n a k at.0 at.1 t.given after o.rolling refl; kept = answers w o s n a k at.0 after t }
 
-answered_goes : (w : NodeView) (i n : ℕ) (a : Option Answer) → IsKept w → IsAnswered w.tc w.dc n a → Goes w i (on_answered w.tc n a)
-answered_goes w i n a k given = pick (takes w.tc.session w.tc.phase n) refl
+answered_goes : (w : NodeView) (i s n : ℕ) (a : Option Answer) → IsKept w → s ≡ w.tc.session → IsAnswered w.tc w.dc s n a → Goes w i (on_answered w.tc n a)
+answered_goes w i s n a k same given = pick (takes w.tc.session w.tc.phase n) refl
   where
     pick : (b : Bool) → takes w.tc.session w.tc.phase n ≡ b → Goes w i (if b then on_awaited w.tc n a (awaiting w.tc n) else (told.Nothing, w.tc))
-    pick true taken = awaited_goes w i n a (awaiting w.tc n) k refl given
+    pick true taken = awaited_goes w i s n a (awaiting w.tc n) k refl (record { taken = taken; same = same; given = given })
     pick false not_taken = nothing w i k
 
--- the reply to Connect comes from the session that runs
+-- the reply to Connect is of a session that was taken
 connected_goes : (w : NodeView) (i s : ℕ) (p : Phase) → w.tc.phase ≡ p → IsKept w → s ≡ w.tc.session → s ≤ w.dc.stored → Goes w i (on_connected w.tc p)
 connected_goes w i s phase.Unconnected at k same given after = nothing w i k after
 connected_goes w i s phase.Connecting at k same given after =
+    let P : Phase → Type 0 = λ p. IsServed p w.tc.session w.tc.log w.dc in
     quietly w i (told.Connected w.tc.session, record w.tc { phase = phase.Redoing 1 false }) refl (λ m stands. stands)
     (keeps_same_log w (record w.tc { phase = phase.Redoing 1 false }) k after refl (omega arith) (omega arith) (omega arith) (none_same w.tc.reads w.tc.open_txns)
-    (record { runs = k.sessions.runs; begun = k.sessions.begun; served = omega (arith, same, given, k.sessions.runs, k.sessions.begun) }))
+    (record {
+      begun = k.sessions.begun;
+      served = (
+        subst P at k.sessions.served,
+        omega (arith, same, given, stored_begun w k),
+        λ runs n o asks below. absurd (omega (arith, (request_number w.tc.log n o asks).positive, below)),
+      );
+    }))
 connected_goes w i s (phase.Redoing next ending) at k same given after = nothing w i k after
 connected_goes w i s phase.Running at k same given after = nothing w i k after
 
 -- redo ends
-redo_ended_goes : (w : NodeView) (i : ℕ) (p : Phase) → w.tc.phase ≡ p → IsKept w → (w.tc.session ≡ w.dc.session → w.dc.redo ≡ false) → Goes w i (on_redo_ended w.tc p)
-redo_ended_goes w i phase.Unconnected at k past after = nothing w i k after
-redo_ended_goes w i phase.Connecting at k past after = nothing w i k after
-redo_ended_goes w i (phase.Redoing next false) at k past after = nothing w i k after
-redo_ended_goes w i (phase.Redoing next true) at k past after =
-    let Q : Phase → Type 0 = λ p. IsServed p w.tc.session w.dc in
-    let runs : w.dc.session ≡ w.tc.session = subst Q at k.sessions.served in
+redo_ended_goes : (w : NodeView) (i s : ℕ) (p : Phase) → w.tc.phase ≡ p → IsKept w → s ≡ w.tc.session → InSession w.dc s (w.dc.redo ≡ false) → Goes w i (on_redo_ended w.tc p)
+redo_ended_goes w i s phase.Unconnected at k same past after = nothing w i k after
+redo_ended_goes w i s phase.Connecting at k same past after = nothing w i k after
+redo_ended_goes w i s (phase.Redoing next false) at k same past after = nothing w i k after
+redo_ended_goes w i s (phase.Redoing next true) at k same past after =
+    let served = redo_served w next true k at in
+    let bounds = redoing_phase w next true k at in
     quietly w i (told.RedoEnded w.tc.session, record w.tc { phase = phase.Running }) refl (λ m stands. stands)
     (keeps_same_log w (record w.tc { phase = phase.Running }) k after refl (omega arith) (omega arith) (omega arith) (none_same w.tc.reads w.tc.open_txns)
-    (record { runs = k.sessions.runs; begun = k.sessions.begun; served = (runs, past (sym runs)) }))
-redo_ended_goes w i phase.Running at k past after = nothing w i k after
+    (record {
+      begun = k.sessions.begun;
+      served = (served.1, λ runs. past.holds (is_run w.dc s (λ zero. absurd (omega (arith, zero, same, bounds.0, bounds.1))) (runs ∙ sym same)));
+    }))
+redo_ended_goes w i s phase.Running at k same past after = nothing w i k after
 
 -- a reply that isn't refused is of the session
 fresh_session : (s session : ℕ) (c : Bool) → first_of (((session == 0) || not (s == session), Stale) ∷ (c, NumbersSpent) ∷ []) ≡ None → s ≡ session
@@ -142,7 +210,7 @@ kept_told w o k at after =
     keeps_same_log w (was_told w.tc o) k after refl (omega arith) (omega arith) (omega arith)
     (none_replaced w.tc.reads w.tc.open_txns o (told_txn o) at (reads_none w.tc.reads o (told_txn o) refl)) k.sessions
 
-row_goes : (w : NodeView) (i n : ℕ) (v : Option Bytes) (x : Option OpenTxn) → IsKept w → reader w.tc n ≡ x → IsReadTrue w.tc n (IsValue w.dc v) → Goes w i (on_row w.tc v x)
+row_goes : (w : NodeView) (i n : ℕ) (v : Option Bytes) (x : Option OpenTxn) → IsKept w → reader w.tc n ≡ x → IsReadTrue w.tc n (IsValue w.tc.log v) → Goes w i (on_row w.tc v x)
 row_goes w i n v None k is given = nothing w i k
 row_goes w i n v (Some o) k is given =
     let found = reader_is w.tc n o k.tc is in
@@ -151,7 +219,7 @@ row_goes w i n v (Some o) k is given =
     told_if : Bool → Outcome
     told_if b = if b then (told.Row o.txn v, was_told w.tc o) else (told.Nothing, w.tc)
 
-    by : (q : Span) → o.reading ≡ Some (record { number = n; span = q }) → IsValue w.dc v q → Goes w i (told_if (is_key (span_read o.reading)))
+    by : (q : Span) → o.reading ≡ Some (record { number = n; span = q }) → IsValue w.tc.log v q → Goes w i (told_if (is_key (span_read o.reading)))
     by (Key key) reads value =
         let P : Option Read → Type 0 = λ x. Goes w i (told_if (is_key (span_read x))) in
         let at = (reader_is w.tc n o k.tc is).0 in
@@ -161,7 +229,7 @@ row_goes w i n v (Some o) k is given =
         })
     by (Range low high) reads value = let P : Option Read → Type 0 = λ x. Goes w i (told_if (is_key (span_read x))) in subst P (sym reads) (nothing w i k)
 
-rows_goes : (w : NodeView) (i n : ℕ) (rows : List (Bytes × Bytes)) (x : Option OpenTxn) → IsKept w → reader w.tc n ≡ x → IsReadTrue w.tc n (AreRows w.dc rows) → Goes w i (on_rows w.tc rows x)
+rows_goes : (w : NodeView) (i n : ℕ) (rows : List (Bytes × Bytes)) (x : Option OpenTxn) → IsKept w → reader w.tc n ≡ x → IsReadTrue w.tc n (AreRows w.tc.log rows) → Goes w i (on_rows w.tc rows x)
 rows_goes w i n rows None k is given = nothing w i k
 rows_goes w i n rows (Some o) k is given =
     let found = reader_is w.tc n o k.tc is in
@@ -170,7 +238,7 @@ rows_goes w i n rows (Some o) k is given =
     told_if : Bool → Outcome
     told_if b = if b then (told.Rows o.txn rows, was_told w.tc o) else (told.Nothing, w.tc)
 
-    by : (q : Span) → o.reading ≡ Some (record { number = n; span = q }) → AreRows w.dc rows q → Goes w i (told_if (is_range (span_read o.reading)))
+    by : (q : Span) → o.reading ≡ Some (record { number = n; span = q }) → AreRows w.tc.log rows q → Goes w i (told_if (is_range (span_read o.reading)))
     by (Key key) reads these = let P : Option Read → Type 0 = λ x. Goes w i (told_if (is_range (span_read x))) in subst P (sym reads) (nothing w i k)
     by (Range low high) reads these =
         let P : Option Read → Type 0 = λ x. Goes w i (told_if (is_range (span_read x))) in
@@ -183,13 +251,13 @@ rows_goes w i n rows (Some o) k is given =
 replied : (w : NodeView) (i : ℕ) (reply : Reply) → IsKept w → IsGiven w.tc w.dc reply → reply_refusal w.tc reply ≡ None → Goes w i (on_reply w.tc reply)
 replied w i (says.Connected s) k given allowed =
     connected_goes w i s w.tc.phase refl k (fresh_session s w.tc.session (logs w.tc (says.Connected s) && is_spent w.tc.log) allowed) given
-replied w i (says.Answered s n a) k given allowed = answered_goes w i n a k given
+replied w i (says.Answered s n a) k given allowed =
+    answered_goes w i s n a k (fresh_session s w.tc.session (logs w.tc (says.Answered s n a) && is_spent w.tc.log) allowed) given
 replied w i (says.Row s n v) k given allowed = row_goes w i n v (reader w.tc n) k refl given
 replied w i (says.Rows s n rows) k given allowed = rows_goes w i n rows (reader w.tc n) k refl given
 replied w i (says.Checkpointed s l) k given allowed = nothing w i k
 replied w i (says.RedoEnded s) k given allowed =
-    let same : s ≡ w.tc.session = fresh_session s w.tc.session (logs w.tc (says.RedoEnded s) && is_spent w.tc.log) allowed in
-    redo_ended_goes w i w.tc.phase refl k (λ runs. given.1 (same ∙ runs))
+    redo_ended_goes w i s w.tc.phase refl k (fresh_session s w.tc.session (logs w.tc (says.RedoEnded s) && is_spent w.tc.log) allowed) given
 
 pub taken : (old new : NodeView) (i : ℕ) (output : Out) → IsKept old → Taken old i output new → Follows old (event.Reply i) output new
 taken old new i output k t =
@@ -238,3 +306,5 @@ follows_reply old new i (out.Undone n) k h = taken old new i (out.Undone n) k h
 follows_reply old new i out.RollingBack k h = taken old new i out.RollingBack k h
 follows_reply old new i out.Nothing k h = taken old new i out.Nothing k h
 follows_reply old new i out.Noted k h = taken old new i out.Noted k h
+follows_reply old new i out.Down k h = taken old new i out.Down k h
+follows_reply old new i (out.Up count) k h = taken old new i (out.Up count) k h

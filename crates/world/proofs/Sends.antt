@@ -6,7 +6,18 @@ use Rattle.record_key.specs.declared.refusal.Refusal.TheVariants.{Device}
 use Rattle.history.specs.ListMachine.{Machine, Steps}
 use Rattle.simulation.specs.View.{StandsFor}
 use Rattle.std.proofs.lemmas.List.{length-drop}
+use Rattle.std.proofs.lemmas.Bool.{cases_lt}
+use Rattle.std.specs.Prelude.{IsSome}
+use Rattle.record_key.specs.Table.{Bytes, key_of}
 use Rattle.record_key.specs.declared.op.Op.{Op}
+use Rattle.history.specs.declared.record.Record.{Record}
+use Rattle.history.specs.Log.{answer_of, Requests}
+use Rattle.log_laws.proofs.Records.{ARequest, older_at, newest_at, since}
+use Rattle.log_laws.proofs.LegalLogs.{answered_push, request_number}
+use Rattle.log_laws.proofs.Strict.{one_at_a_time}
+use Rattle.dc_core.specs.DcView.{DcView, captures_at}
+use Rattle.dc_core.specs.Serves.{runs}
+use Rattle.tc_core.specs.Causes.{open_refusal}
 use Rattle.history.specs.declared.record.Record.TheVariants as is
 use Rattle.codec.specs.declared.request.Request.{Request}
 use Rattle.codec.specs.declared.request.Request.TheVariants as asks
@@ -24,7 +35,7 @@ use Rattle.tc_core.specs.Changes.{logged_session, reconnected}
 use Rattle.tc_core.specs.Calls.{read_request, IsRequestOf}
 use Rattle.tc_core.specs.declared.told.RecoverStep.TheVariants as recovery
 use Rattle.tc_core.specs.Recovery.{SendsAt, redo_request, redo_place, redoing}
-use Rattle.tc_core.specs.Undo.{FindsRequest}
+use Rattle.tc_core.specs.Undo.{AsksNothing, FindsRequest}
 use Rattle.tc_core.specs.LowWater.{MayAnnounce}
 use Rattle.logical_log.specs.Low.{stable_part}
 use Rattle.tc_core.specs.Kept.{IsPhase, IsTc}
@@ -33,28 +44,46 @@ use Rattle.world.specs.declared.event.Event.TheVariants as event
 use Rattle.world.specs.declared.event.Out.{Out}
 use Rattle.world.specs.declared.event.Out.TheVariants as out
 use Rattle.world.specs.Node.{NodeView, with_tc, ReconnectsTo, RecoversTo, SendsTo, LowersTo}
-use Rattle.world.specs.Kept.{IsKept, IsReadTrue, IsSent, IsAnsweredTo, IsServed}
+use Rattle.world.specs.Kept.{IsKept, IsReadTrue, IsSent, IsAnsweredTo, IsServed, AreBefore, AllAreCaptured, EarlierAreCaptured}
 use Rattle.world.specs.Simulation.{Stands, clients, told_committed}
 use Rattle.world.proofs.CallsKeep.{reconnect_keeps, session_keeps, recover_keeps}
 use Rattle.world.proofs.Standing.{stands_logged, stands_reconnected}
 use Rattle.world.proofs.Grows.{GoesOn, sent_on}
 use Rattle.tc_core.proofs.KeepsTc.{reading_at}
 use Rattle.world.proofs.Readers.{none_same}
-use Rattle.world.proofs.Keeps.{still_captured, keeps_appended, keeps_same_log, with_request, keeps_sent}
+use Rattle.world.proofs.Idle.{both_none, serves_open}
+use Rattle.world.proofs.Keeps.{still_captured, before_on, all_on, keeps_appended, keeps_same_log, with_request, keeps_sent}
+use Rattle.world.proofs.Running.{run_is, past_is}
 use Rattle.world.proofs.Follows.{Follows, at_new, no_line, unchanged, left_refused, kept_left, keeps_failed, stands_left}
+
+-- every request so far is before the next record
+all_before : (log : List Record) → AreBefore log (length log + 1)
+all_before log n o asks = let number = request_number log n o asks in omega (arith, number.bounded)
 
 -- a session begins
 begins : (w : NodeView) → IsKept w → IsTc (reconnected w.tc) → IsKept (with_tc w (reconnected w.tc))
 begins w k after =
+    let before : AreBefore (is.Session ∷ w.tc.log) (length w.tc.log + 1) =
+    λ n o asks. all_before w.tc.log n o (older_at (ARequest o) is.Session w.tc.log n
+    (λ e. let none : ARequest o (Some is.Session) = newest_at (ARequest o) is.Session w.tc.log n e asks in cc) asks) in
     keeps_appended w (reconnected w.tc) is.Session k after refl (omega (arith, k.tc.within)) (omega (arith, k.tc.session, k.tc.within)) (omega arith) (none_same w.tc.reads w.tc.open_txns)
-    (record { runs = k.sessions.runs; begun = omega (arith, k.sessions.begun, k.tc.session, k.tc.within); served = tt })
-    k.right (still_captured w is.Session k (λ o h. cc) (λ m. refl))
+    (record { begun = omega (arith, k.sessions.begun, k.tc.session, k.tc.within); served = before })
+    k.right (λ some. still_captured w is.Session (λ o h. cc) (λ m. refl))
+
+-- a session's record asks for nothing
+session_served : (p : Phase) (s : ℕ) (log : List Record) (dc : DcView) → IsServed p s log dc → IsServed p s (is.Session ∷ log) dc
+session_served phase.Unconnected s log dc h = tt
+session_served phase.Connecting s log dc h = before_on is.Session log s (λ o h. cc) h
+session_served (phase.Redoing next ending) s log dc h =
+    (before_on is.Session log s (λ o h. cc) h.0, h.1, λ runs. all_on is.Session log dc next (λ o h. cc) (h.2 runs))
+session_served phase.Running s log dc h = h
 
 -- or only its record is logged, since the force failed
 logs_session : (w : NodeView) → IsKept w → IsTc (logged_session w.tc) → IsKept (with_tc w (logged_session w.tc))
 logs_session w k after =
-    keeps_appended w (logged_session w.tc) is.Session k after refl (omega arith) (omega arith) (omega arith) (none_same w.tc.reads w.tc.open_txns) k.sessions
-    k.right (still_captured w is.Session k (λ o h. cc) (λ m. refl))
+    keeps_appended w (logged_session w.tc) is.Session k after refl (omega arith) (omega arith) (omega arith) (none_same w.tc.reads w.tc.open_txns)
+    (record { begun = k.sessions.begun; served = session_served w.tc.phase w.tc.session w.tc.log w.dc k.sessions.served })
+    k.right (λ some. still_captured w is.Session (λ o h. cc) (λ m. refl))
 
 -- why no session was started
 module _ (old new : NodeView) (r : Refusal) (k : IsKept old) (left : new ≡ with_tc old new.tc) where
@@ -92,27 +121,62 @@ follows_reconnect old new (out.Refused r) k h = by h.0
     by (inr c) = was_logged old new r k h.1 c.0 c.2
 follows_reconnect old new _ k h = absurd h
 
+-- redo goes on in the session that the data component took last
+pub redo_served : (w : NodeView) (next : ℕ) (ending : Bool) → IsKept w → w.tc.phase ≡ phase.Redoing next ending → IsServed (phase.Redoing next ending) w.tc.session w.tc.log w.dc
+redo_served w next ending k at = let P : Phase → Type 0 = λ p. IsServed p w.tc.session w.tc.log w.dc in subst P at k.sessions.served
+
 -- redo stands at a number up to the session's
 pub keeps_redoing : (w : NodeView) (next : ℕ) (was : Bool) (n : ℕ) (ending : Bool) → IsKept w → w.tc.phase ≡ phase.Redoing next was → IsTc (redoing w.tc n ending)
-    → IsKept (with_tc w (redoing w.tc n ending))
-keeps_redoing w next was n ending k at tc =
-    let P : Phase → Type 0 = λ p. IsServed p w.tc.session w.dc in
+    → (w.dc.session ≡ w.tc.session → AllAreCaptured w.tc.log w.dc n) → IsKept (with_tc w (redoing w.tc n ending))
+keeps_redoing w next was n ending k at tc captured =
+    let was_served = redo_served w next was k at in
     keeps_same_log w (redoing w.tc n ending) k tc refl (omega arith) (omega arith) (omega arith) (none_same w.tc.reads w.tc.open_txns)
-    (record { runs = k.sessions.runs; begun = k.sessions.begun; served = subst P at k.sessions.served })
+    (record { begun = k.sessions.begun; served = (was_served.0, was_served.1, captured) })
 
 -- the place of redo, and what it sends
 pub record IsRedo (w : NodeView) (found : Option (ℕ × Op)) : Type 0 where
   pub some : 0 < redo_place w.tc.session found
   pub most : redo_place w.tc.session found ≤ w.tc.session
-  pub sent : IsSent w.tc (redo_request w.tc.session found)
+  pub captured : w.dc.session ≡ w.tc.session → AllAreCaptured w.tc.log w.dc (redo_place w.tc.session found)
+  pub sent : IsSent w.tc w.dc (redo_request w.tc.session found)
 
-pub redo_found : (w : NodeView) (next : ℕ) (found : Option (ℕ × Op)) → IsKept w → 0 < next → next ≤ w.tc.session → FindsRequest w.tc.log next w.tc.session found → IsRedo w found
-redo_found w next None k some most h = record { some = omega (arith, some, most); most = omega arith; sent = tt }
-redo_found w next (Some x) k some most h = record {
-  some = omega (arith, some, h.0);
-  most = omega (arith, h.1);
-  sent = (omega (arith, h.1, k.tc.session), h.2);
-}
+-- nothing is asked for between the two
+all_further : (w : NodeView) (next n : ℕ) → AsksNothing w.tc.log next n → AllAreCaptured w.tc.log w.dc next → AllAreCaptured w.tc.log w.dc n
+all_further w next n nothing all m o asks below = elim (cases_lt m next) [
+  | inl before ↦ all m o asks before
+  | inr from ↦ absurd (nothing m o from below asks)
+]
+
+pub redo_found : (w : NodeView) (next : ℕ) (ending : Bool) (found : Option (ℕ × Op)) → IsKept w → w.tc.phase ≡ phase.Redoing next ending → 0 < next → next ≤ w.tc.session
+    → FindsRequest w.tc.log next w.tc.session found → IsRedo w found
+redo_found w next ending None k at some most h =
+    let served = redo_served w next ending k at in
+    let captured : w.dc.session ≡ w.tc.session → AllAreCaptured w.tc.log w.dc w.tc.session = λ runs. all_further w next w.tc.session h (served.2 runs) in
+    record {
+      some = omega (arith, some, most);
+      most = omega arith;
+      captured = captured;
+      sent = record {
+        begun = omega (arith, served.1);
+        holds = λ r n o asks answered. captured (run_is w.dc w.tc.session r).is n o asks (served.0 n o asks);
+      };
+    }
+redo_found w next ending (Some x) k at some most h =
+    let served = redo_served w next ending k at in
+    let captured : w.dc.session ≡ w.tc.session → AllAreCaptured w.tc.log w.dc x.0 = λ runs. all_further w next x.0 h.3 (served.2 runs) in
+    record {
+      some = omega (arith, some, h.0);
+      most = omega (arith, h.1);
+      captured = captured;
+      sent = (
+        omega (arith, h.1, k.tc.session),
+        h.2,
+        record {
+          begun = omega (arith, served.1);
+          holds = λ r m o asks below on. subst (λ (z : Bytes). captures_at w.dc z m ≡ true) on (captured (run_is w.dc w.tc.session r).is m o asks below);
+        },
+      );
+    }
 
 pub redoing_phase : (w : NodeView) (next : ℕ) (ending : Bool) → IsKept w → w.tc.phase ≡ phase.Redoing next ending → (0 < next) × (next ≤ w.tc.session)
 redoing_phase w next ending k at =
@@ -124,17 +188,19 @@ pub recovers : (old new : NodeView) (q : Request) (p : Phase) → old.tc.phase �
 recovers old new q phase.Unconnected at k h after left = absurd h
 recovers old new q phase.Connecting at k h after left =
     let same : new ≡ with_request old q = left ∙ ap (λ tc. record old { tc = tc; requests = old.requests ++ q ∷ [] }) h.1 in
-    let P : Request → Type 0 = IsSent old.tc in
+    let P : Request → Type 0 = IsSent old.tc old.dc in
     (subst IsKept (sym same) (keeps_sent old q k (subst P (sym h.0) (omega arith))), λ m stands. subst (λ x. StandsFor (clients x) m) (sym h.1) stands)
 recovers old new q (phase.Redoing next ending) at k h after left =
     let place : ℕ = redo_place old.tc.session h.found in
     let sent_end : Bool = not (is_some h.found) in
     let bounds = redoing_phase old next ending k at in
-    let redo = redo_found old next h.found k bounds.0 bounds.1 h.finds in
+    let redo = redo_found old next ending h.found k at bounds.0 bounds.1 h.finds in
     let mid : NodeView = with_tc old (redoing old.tc place sent_end) in
     let same : new ≡ with_request mid q = left ∙ ap (λ tc. record old { tc = tc; requests = old.requests ++ q ∷ [] }) h.left in
-    let P : Request → Type 0 = IsSent old.tc in (
-      subst IsKept (sym same) (keeps_sent mid q (keeps_redoing old next ending place sent_end k at (subst IsTc h.left after)) (sent_on old.tc (redoing old.tc place sent_end) (stays old place sent_end k) q (subst P (sym h.request_is) redo.sent))),
+    let P : Request → Type 0 = IsSent old.tc old.dc in (
+      subst IsKept (sym same)
+          (keeps_sent mid q (keeps_redoing old next ending place sent_end k at (subst IsTc h.left after) redo.captured)
+          (sent_on old.tc (redoing old.tc place sent_end) old.dc (stays old place sent_end k) (λ some all. all) q (subst P (sym h.request_is) redo.sent))),
       λ m stands. subst (λ x. StandsFor (clients x) m) (sym h.left) stands,
     )
   where
@@ -169,20 +235,37 @@ read_of w o r k at reads = (
     span_same : (x y : Option Read) → x ≡ y → span_in x ≡ span_in y
     span_same x y e = ap span_in e
 
-sent_read : (w : TcView) (n : ℕ) (s : Span) → IsReadTrue w n (λ q. q ≡ s) → IsSent w (read_request w.session n s)
-sent_read w n (Key key) h = h
-sent_read w n (Range low high) h = h
+sent_read : (w : TcView) (dc : DcView) (n : ℕ) (s : Span) → IsReadTrue w n (λ q. q ≡ s) → IsSent w dc (read_request w.session n s)
+sent_read w dc n (Key key) h = h
+sent_read w dc n (Range low high) h = h
 
-sent_of : (old : NodeView) (t : ℕ) (q : Request) → IsKept old → IsRequestOf old.tc t q → IsSent old.tc q
-sent_of old t q k (inl r) = let P : Request → Type 0 = IsSent old.tc in subst P (sym r.is) (r.stable, r.requests)
-sent_of old t q k (inr r) =
-    let P : Request → Type 0 = IsSent old.tc in
-    subst P (sym r.is) (sent_read old.tc r.read.number r.read.span (read_of old.tc r.open_txn r.read k.tc r.at.is r.reading))
+-- what clients wait for is sent while they are served: the earlier requests on its key are answered, so captured
+earlier_captured : (w : NodeView) (n : ℕ) (o : Op) → IsKept w → w.tc.phase ≡ phase.Running → Requests w.tc.log n o → runs w.dc w.tc.session ≡ true
+    → EarlierAreCaptured w.tc.log w.dc n (key_of o)
+earlier_captured w n o k running asks r m p earlier below on =
+    let run = run_is w.dc w.tc.session r in
+    let P : Phase → Type 0 = λ p. IsServed p w.tc.session w.tc.log w.dc in
+    let past = past_is w.dc w.tc.session run.some run.is ((subst P running k.sessions.served).1 run.is) in
+    subst (λ (z : Bytes). captures_at w.dc z m ≡ true) on
+    (k.answered past m p earlier (since (λ x. IsSome (answer_of x m)) (answered_push m) w.tc.log n (one_at_a_time w.tc.log k.tc.legal m n p o earlier below asks (sym on))))
+
+sent_of : (old : NodeView) (t : ℕ) (q : Request) → IsKept old → old.tc.phase ≡ phase.Running → IsRequestOf old.tc t q → IsSent old.tc old.dc q
+sent_of old t q k running (inl r) =
+    let P : Request → Type 0 = IsSent old.tc old.dc in
+    let Q : Phase → Type 0 = λ p. IsServed p old.tc.session old.tc.log old.dc in
+    subst P (sym r.is) (
+      r.stable,
+      r.requests,
+      record { begun = omega (arith, (subst Q running k.sessions.served).0); holds = λ runs. earlier_captured old r.number r.op k running r.requests runs },
+    )
+sent_of old t q k running (inr r) =
+    let P : Request → Type 0 = IsSent old.tc old.dc in
+    subst P (sym r.is) (sent_read old.tc old.dc r.read.number r.read.span (read_of old.tc r.open_txn r.read k.tc r.at.is r.reading))
 
 pub follows_send : (old new : NodeView) (t : ℕ) (output : Out) → IsKept old → SendsTo old t output new → Follows old (event.Send t) output new
 follows_send old new t (out.Sent i) k h =
     at_new old new (with_request old h.0) (event.Send t) (out.Sent i) h.2.left
-    (record { leads = no_line old (with_request old h.0) (event.Send t) (out.Sent i) refl (λ m stands. stands); kept = keeps_sent old h.0 k (sent_of old t h.0 k h.1.1) })
+    (record { leads = no_line old (with_request old h.0) (event.Send t) (out.Sent i) refl (λ m stands. stands); kept = keeps_sent old h.0 k (sent_of old t h.0 k (serves_open old.tc t (both_none (open_refusal old.tc t) _ h.1.0).0) h.1.1) })
 follows_send old new t (out.Refused r) k h = unchanged old new (event.Send t) (out.Refused r) k h.1 refl
 follows_send old new t _ k h = absurd h
 

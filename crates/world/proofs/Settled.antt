@@ -32,7 +32,10 @@ use Rattle.tc_core.specs.OpenTxns.{find}
 use Rattle.tc_core.specs.TcView.{TcView, rolls_back, is_rolling, is_waiting}
 use Rattle.tc_core.proofs.KeepsTc.{open_at, waits_at}
 use Rattle.world.specs.Node.{NodeView}
-use Rattle.world.specs.Kept.{IsKept}
+use Rattle.world.specs.Kept.{IsKept, IsServed}
+use Rattle.world.proofs.Running.{past_is}
+use Rattle.tc_core.specs.Kept.{IsPhase}
+use Rattle.dc_core.specs.Tends.{may_merge}
 use Rattle.world.specs.Simulation.{Stands, IsSettled, AreUnrolled, clients, doing_in}
 use Rattle.world.specs.Rounds.{AreIdle, IsAtRest, IsApart, IsRedoing, IsServing}
 use Rattle.simulation.proofs.RightAnswers.{plain_there}
@@ -93,7 +96,7 @@ answered_all whole (r ∷ log) key = elim (answered_all whole log key) [
     ]
 
 -- an operation that waits unsent: the leaf has what was there before it, and so has the plain map
-module _ (w : NodeView) (k : IsKept w) (x : OpenTxn) (n : ℕ) (o : Op) (at : find x.txn w.tc.open_txns ≡ Some x) (by : IsOpBy w.tc.log n x.txn o) (waiting : x.waiting ≡ Some n)
+module _ (w : NodeView) (k : IsKept w) (past : may_merge w.dc ≡ true) (x : OpenTxn) (n : ℕ) (o : Op) (at : find x.txn w.tc.open_txns ≡ Some x) (by : IsOpBy w.tc.log n x.txn o) (waiting : x.waiting ≡ Some n)
     (unstable : w.tc.stable < n) where
   abbrev log : List Record
   log = w.tc.log
@@ -128,7 +131,7 @@ module _ (w : NodeView) (k : IsKept w) (x : OpenTxn) (n : ℕ) (o : Op) (at : fi
       let number : IsNumber log n = request_number log n o requests in
       let below : m < n = omega (arith, (request_number (before log n) m q asks).bounded, length_before log n number) in
       let there : Requests log m q = subst (λ r. request_in r ≡ Some q) (record_before log m n number below) asks in
-      subst (λ (key : Bytes). captures_at w.dc key m ≡ true) same (k.answered m q there (answered_since m (one_at_a_time log k.tc.legal m n q o there below requests (sym same)))))
+      subst (λ (key : Bytes). captures_at w.dc key m ≡ true) same (k.answered past m q there (answered_since m (one_at_a_time log k.tc.legal m n q o there below requests (sym same)))))
 
   pub waiting_value : value_of cap (done_on (key_of o) log) ≡ get (plain (hist log)) (key_of o)
   waiting_value =
@@ -136,11 +139,20 @@ module _ (w : NodeView) (k : IsKept w) (x : OpenTxn) (n : ℕ) (o : Op) (at : fi
       ∙ value_of-captured (before log n) (key_of o) cap older_captured
       ∙ sym (plain_there log n x.txn o k.tc.legal k.right (open_at w.tc x k.tc at).is by unanswered (unanswered_uncrossed log n k.tc.legal (ap is_some unanswered)))
 
+-- a settled node is past redo
+settled_past : (w : NodeView) → IsKept w → IsSettled w → may_merge w.dc ≡ true
+settled_past w k settled =
+    let P : Phase → Type 0 = λ p. IsServed p w.tc.session w.tc.log w.dc in
+    let Q : Phase → Type 0 = IsPhase w.tc.session in
+    let some : 0 < w.tc.session = subst Q settled.running k.tc.phase in
+    past_is w.dc w.tc.session (λ zero. absurd (omega (arith, some, zero))) settled.session
+    ((subst P settled.running k.sessions.served).1 settled.session)
+
 -- so at each key
 settled_value : (w : NodeView) → IsKept w → IsSettled w → (key : Bytes) → value_of (captures_at w.dc key) (done_on key w.tc.log) ≡ get (plain (hist w.tc.log)) key
 settled_value w k settled key = elim (answered_all w.tc.log w.tc.log key) [
   | inl each ↦ plain_at w.tc.log key (captures_at w.dc key) k.tc.legal k.right each
-      (λ n o asks on. subst (λ (q : Bytes). captures_at w.dc q n ≡ true) on (k.answered n o asks (each n o asks on)))
+      (λ n o asks on. subst (λ (q : Bytes). captures_at w.dc q n ≡ true) on (k.answered (settled_past w k settled) n o asks (each n o asks on)))
   | inr u ↦ elim (answered_or w.tc u.number u.op k.tc u.requests) [
     | inl some ↦ absurd (true≢false (sym some ∙ ap is_some u.unanswered))
     | inr a ↦
@@ -155,7 +167,7 @@ settled_value w k settled key = elim (answered_all w.tc.log w.tc.log key) [
           | inr most ↦ absurd (true≢false (sym (settled.answered u.number u.op most u.requests) ∙ ap is_some u.unanswered))
         ] in
         subst (λ q. value_of (captures_at w.dc q) (done_on q w.tc.log) ≡ get (plain (hist w.tc.log)) q) (ap key_of same ∙ u.on)
-        (waiting_value w k x u.number found.op a.is found.is a.waiting unstable)
+        (waiting_value w k (settled_past w k settled) x u.number found.op a.is found.is a.waiting unstable)
   ]
 ]
 
@@ -181,10 +193,12 @@ nobody_waits : (w : TcView) (n : ℕ) → AreIdle w.open_txns → IsAwaited w n 
 nobody_waits w n idle a =
     true≢false (sym (ap is_waiting a.is ∙ ap (λ (m : Option ℕ). is_some m || is_some a.open_txn.reading) a.waiting) ∙ idle a.open_txn.txn)
 
-pub at_rest : (w : NodeView) → IsKept w → w.tc.phase ≡ phase.Running → w.dc.session ≡ w.tc.session → AreUnrolled w.tc.open_txns → AreIdle w.tc.open_txns → length w.tc.log ≤ w.tc.stable → IsAtRest w
-at_rest w k running session unrolled idle stable = record {
+pub at_rest : (w : NodeView) → IsKept w → w.tc.phase ≡ phase.Running → w.dc_up ≡ true → w.dc.session ≡ w.tc.session → AreUnrolled w.tc.open_txns → AreIdle w.tc.open_txns → length w.tc.log ≤ w.tc.stable
+    → IsAtRest w
+at_rest w k running up session unrolled idle stable = record {
   settled = record {
     running = running;
+    dc_up = up;
     session = session;
     unrolled = unrolled;
     answered = λ n o below asks. elim (answered_or w.tc n o k.tc asks) [ inl some ↦ some | inr a ↦ absurd (nobody_waits w.tc n idle a) ];
@@ -197,8 +211,8 @@ at_rest w k running session unrolled idle stable = record {
 same_session : (w : NodeView) → (IsApart w → ⊥) → w.dc.session ≡ w.tc.session
 same_session w together = elim (cases_eq w.dc.session w.tc.session) [ inl e ↦ e | inr apart ↦ absurd (together (inr (inr apart))) ]
 
-pub redoes : (w : NodeView) → (IsApart w → ⊥) → (w.tc.phase ≡ phase.Running → ⊥) → IsRedoing w.tc.phase × (w.dc.session ≡ w.tc.session)
-redoes w together idle = (by w.tc.phase refl, same_session w together)
+pub redoes : (w : NodeView) → w.dc_up ≡ true → (IsApart w → ⊥) → (w.tc.phase ≡ phase.Running → ⊥) → (w.dc_up ≡ true) × IsRedoing w.tc.phase × (w.dc.session ≡ w.tc.session)
+redoes w up together idle = (up, by w.tc.phase refl, same_session w together)
   where
     by : (p : Phase) → w.tc.phase ≡ p → IsRedoing p
     by phase.Unconnected at = absurd (together (inl at))
@@ -206,5 +220,5 @@ redoes w together idle = (by w.tc.phase refl, same_session w together)
     by (phase.Redoing next ending) at = tt
     by phase.Running at = absurd (idle at)
 
-pub serving : (w : NodeView) → (IsApart w → ⊥) → w.tc.phase ≡ phase.Running → IsServing w
-serving w together running = record { running = running; session = same_session w together }
+pub serving : (w : NodeView) → w.dc_up ≡ true → (IsApart w → ⊥) → w.tc.phase ≡ phase.Running → IsServing w
+serving w up together running = record { running = running; dc_up = up; session = same_session w together }

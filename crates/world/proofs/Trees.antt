@@ -20,7 +20,7 @@ use Rattle.page.proofs.Raising.{honest_raised}
 use Rattle.btree.specs.Leaves.{AreLeaves, leaf_at}
 use Rattle.btree.specs.Parting.{middle, may_split_at, may_merge_at, split_at, merged_at}
 use Rattle.btree.specs.TreeLaw.{AreHonest, AreCaptured}
-use Rattle.btree.proofs.AtKey.{value_split, captured_split, value_merged, captured_merged, value_raised, captured_raised}
+use Rattle.btree.proofs.AtKey.{captured_split, captured_merged, captured_raised}
 use Rattle.btree.proofs.Changing.{all_mapped}
 use Rattle.btree.proofs.Splitting.{all_split}
 use Rattle.btree.proofs.Merging.{AtPair, all_merged, pair_all, pair_with}
@@ -40,15 +40,15 @@ use Rattle.dc_core.specs.DcView.{leaves}
 use Rattle.dc_core.proofs.KeepsDc.{all_both}
 use Rattle.tc_core.specs.TcView.{TcView}
 use Rattle.world.specs.Node.{NodeView}
-use Rattle.world.specs.Kept.{IsKept, IsAnsweredTo, IsTrueTo}
+use Rattle.world.specs.Kept.{IsKept, IsAnsweredTo, IsTrueTo, IsLowAnswered, AnsweredAreCaptured}
 use Rattle.world.proofs.Systems.{LeavesCarry}
 
 -- ---- what is answered up to a number is captured by the leaf of its key
 
-captured_leaf : (w : NodeView) (l : ℕ) (leaf : LeafView) → IsKept w → ((key : Bytes) → is_in_fences leaf key ≡ true → leaf_at (leaves w.dc) key ≡ leaf) → IsAnsweredTo w.tc l
+captured_leaf : (w : NodeView) (l : ℕ) (leaf : LeafView) → AnsweredAreCaptured w.tc.log w.dc → ((key : Bytes) → is_in_fences leaf key ≡ true → leaf_at (leaves w.dc) key ≡ leaf) → IsAnsweredTo w.tc l
     → IsCapturedTo w.tc.log leaf l
-captured_leaf w l leaf k own to = record {
-  all = λ n o asks within below. subst (λ (x : LeafView). captures x.ab n ≡ true) (own (key_of o) within) (k.answered n o asks (to.answered n o below asks));
+captured_leaf w l leaf all own to = record {
+  all = λ n o asks within below. subst (λ (x : LeafView). captures x.ab n ≡ true) (own (key_of o) within) (all n o asks (to.answered n o below asks));
 }
 
 abbrev IsOwn : NodeView → LeafView → Type 0
@@ -57,11 +57,11 @@ IsOwn w leaf = (key : Bytes) → is_in_fences leaf key ≡ true → leaf_at (lea
 all_own : (w : NodeView) → IsKept w → AllByRecursion (IsOwn w) (leaves w.dc)
 all_own w k = own_leaves (leaves w.dc) k.dc.system.leaves
 
-are_captured : (w : NodeView) → IsKept w → AreCaptured w.tc.log (leaves w.dc)
-are_captured w k =
+are_captured : (w : NodeView) → IsKept w → AnsweredAreCaptured w.tc.log w.dc → AreCaptured w.tc.log (leaves w.dc)
+are_captured w k all =
     all_from (IsOwn w) (λ (leaf : LeafView). AllByRecursion (λ (other : LeafView). IsCapturedTo w.tc.log leaf other.ab.low) (leaves w.dc))
     (λ leaf own. all_from (λ (other : LeafView). IsAnsweredTo w.tc other.ab.low) (λ (other : LeafView). IsCapturedTo w.tc.log leaf other.ab.low)
-    (λ other to. captured_leaf w other.ab.low leaf k own to) (leaves w.dc) k.true_to.low)
+    (λ other to. captured_leaf w other.ab.low leaf all own to) (leaves w.dc) k.true_to.low)
     (leaves w.dc) (all_own w k)
 
 -- ---- parts of what is true to a log
@@ -108,20 +108,24 @@ module _ (w : NodeView) (p : ℕ) (k : IsKept w) (may : may_split_at (leaves w.d
       (all_split (HasStable w.tc.stable) (next_id v) (next_number v) (λ leaf is may h. stable_split w.tc.stable leaf (middle leaf) (next_id v) (next_number v) h)
       (leaves w.dc) p k.dc.system.leaves.each may (have_stable w k))
 
+  split_low : AllByRecursion (IsLowAnswered w.tc) split_leaves
+  split_low = lows_split (IsAnsweredTo w.tc) (leaves w.dc) p (next_id v) (next_number v) k.dc.system.leaves may k.true_to.low
+
   pub split_true : IsTrueTo w.tc (split_to v p)
   split_true = record {
     leaves = split_honest_to;
     written = have_logged (IsHonestTo w.tc.log w.tc.stable) (pages_of v.pages) _ v.log k.true_to.written
         (λ leaf is. in_image (IsHonestTo w.tc.log w.tc.stable) _ leaf
         (the_upper (IsHonestTo w.tc.log w.tc.stable) (leaves w.dc) p (next_id v) (next_number v) may split_honest_to) is);
-    low = lows_split (IsAnsweredTo w.tc) (leaves w.dc) p (next_id v) (next_number v) k.dc.system.leaves may k.true_to.low;
+    low = split_low;
+    written_low = have_logged (IsLowAnswered w.tc) (pages_of v.pages) _ v.log k.true_to.written_low
+        (λ leaf is. in_image (IsLowAnswered w.tc) _ leaf (the_upper (IsLowAnswered w.tc) (leaves w.dc) p (next_id v) (next_number v) may split_low) is);
   }
 
   pub split_carries : LeavesCarry w.tc.log (leaves w.dc) split_leaves
   split_carries = record {
     captured = λ n o asks h.
         captured_split (leaves w.dc) k.dc.system.leaves p (next_id v) (next_number v) may (key_of o) w.tc.log (are_honest w k) n o asks refl ∙ h;
-    values = λ key. value_split (leaves w.dc) k.dc.system.leaves p (next_id v) (next_number v) may key;
   }
 
 -- ---- merges
@@ -130,7 +134,7 @@ stable_joined : (stable : ℕ) (left right : LeafView) (d : ℕ) → HasStable s
 stable_joined stable left right d h g n captured =
     elim (or_cases (captures left.ab n) (captures right.ab n) (sym (joined_captures left.ab right.ab n) ∙ captured)) [ inl l ↦ h n l | inr r ↦ g n r ]
 
-module _ (w : NodeView) (p : ℕ) (k : IsKept w) (may : may_merge_at (leaves w.dc) p ≡ true) where
+module _ (w : NodeView) (p : ℕ) (k : IsKept w) (all : AnsweredAreCaptured w.tc.log w.dc) (may : may_merge_at (leaves w.dc) p ≡ true) where
   abbrev u : SystemView
   u = w.dc.system
 
@@ -145,24 +149,28 @@ module _ (w : NodeView) (p : ℕ) (k : IsKept w) (may : may_merge_at (leaves w.d
 
   merged_honest_to : AllByRecursion (IsHonestTo w.tc.log w.tc.stable) merged_leaves
   merged_honest_to =
-      honest_to_all w.tc.log w.tc.stable merged_leaves (merged_honest w.tc.log (leaves w.dc) p (next_number u) k.dc.system.leaves (are_honest w k) (are_captured w k))
+      honest_to_all w.tc.log w.tc.stable merged_leaves (merged_honest w.tc.log (leaves w.dc) p (next_number u) k.dc.system.leaves (are_honest w k) (are_captured w k all))
       (all_merged (HasStable w.tc.stable) (next_number u) (leaves w.dc) p
       (pair_with AreStable AreStable _ (λ left right both again. stable_joined w.tc.stable left right (next_number u) both.0 both.1) (leaves w.dc) p stable_pair stable_pair)
       (have_stable w k))
+
+  merged_low : AllByRecursion (IsLowAnswered w.tc) merged_leaves
+  merged_low = lows_merged (IsAnsweredTo w.tc) (leaves w.dc) p (next_number u) k.true_to.low
 
   pub merged_true : IsTrueTo w.tc (merged_to u p)
   merged_true = record {
     leaves = merged_honest_to;
     written = have_logged (IsHonestTo w.tc.log w.tc.stable) (pages_of u.pages) _ u.log k.true_to.written
         (λ leaf is. in_image (IsHonestTo w.tc.log w.tc.stable) _ leaf (the_merged (IsHonestTo w.tc.log w.tc.stable) (leaves w.dc) p (next_number u) may merged_honest_to) is);
-    low = lows_merged (IsAnsweredTo w.tc) (leaves w.dc) p (next_number u) k.true_to.low;
+    low = merged_low;
+    written_low = have_logged (IsLowAnswered w.tc) (pages_of u.pages) _ u.log k.true_to.written_low
+        (λ leaf is. in_image (IsLowAnswered w.tc) _ leaf (the_merged (IsLowAnswered w.tc) (leaves w.dc) p (next_number u) may merged_low) is);
   }
 
   pub merged_carries : LeavesCarry w.tc.log (leaves w.dc) merged_leaves
   merged_carries = record {
     captured = λ n o asks h.
-        captured_merged w.tc.log (leaves w.dc) k.dc.system.leaves (are_honest w k) (are_captured w k) p (next_number u) (key_of o) n o asks refl ∙ h;
-    values = λ key. value_merged (leaves w.dc) k.dc.system.leaves p (next_number u) key;
+        captured_merged w.tc.log (leaves w.dc) k.dc.system.leaves (are_honest w k) (are_captured w k all) p (next_number u) (key_of o) n o asks refl ∙ h;
   }
 
 -- ---- low water
@@ -170,10 +178,10 @@ module _ (w : NodeView) (p : ℕ) (k : IsKept w) (may : may_merge_at (leaves w.d
 abbrev IsOwnHonest : NodeView → LeafView → Type 0
 IsOwnHonest w leaf = IsOwn w leaf × IsHonestTo w.tc.log w.tc.stable leaf
 
-module _ (w : NodeView) (l : ℕ) (k : IsKept w) (to : IsAnsweredTo w.tc l) where
+module _ (w : NodeView) (l : ℕ) (k : IsKept w) (all : AnsweredAreCaptured w.tc.log w.dc) (to : IsAnsweredTo w.tc l) where
   raised_honest_to : (leaf : LeafView) → IsOwn w leaf → IsHonestTo w.tc.log w.tc.stable leaf → IsHonestTo w.tc.log w.tc.stable (raised_to leaf l)
   raised_honest_to leaf own h = record {
-    honest = honest_raised w.tc.log leaf l h.honest (captured_leaf w l leaf k own to);
+    honest = honest_raised w.tc.log leaf l h.honest (captured_leaf w l leaf all own to);
     within = λ n captured. elim (or_cases (captures leaf.ab n) (nat_le n l) (sym (raised_captures leaf.ab l n) ∙ captured)) [
       | inl before ↦ h.within n before
       | inr below ↦ let less : n ≤ l = grind (arith, nat_tests, below) in omega (arith, less, to.stable)
@@ -186,10 +194,10 @@ module _ (w : NodeView) (l : ℕ) (k : IsKept w) (to : IsAnsweredTo w.tc l) wher
         (all_both (IsOwn w) (IsHonestTo w.tc.log w.tc.stable) (IsOwnHonest w) (λ leaf own h. (own, h)) (leaves w.dc) (all_own w k) k.true_to.leaves);
     written = k.true_to.written;
     low = lows_raised (IsAnsweredTo w.tc) (leaves w.dc) l to k.true_to.low;
+    written_low = k.true_to.written_low;
   }
 
   pub lowered_carries : LeavesCarry w.tc.log (leaves w.dc) (map (λ leaf. raised_to leaf l) (leaves w.dc))
   lowered_carries = record {
     captured = λ n o asks h. captured_raised (leaves w.dc) k.dc.system.leaves l (key_of o) n ∙ ap (λ (b : Bool). b || nat_le n l) h;
-    values = λ key. value_raised (leaves w.dc) k.dc.system.leaves l key;
   }

@@ -46,6 +46,7 @@ use Rattle.world.specs.Kept.{IsKept, IsServed}
 use Rattle.world.specs.Rounds.{IsDone, IsServing, IsDue, IsReader, IsRolling, IsNext, IsWant, StopsAt, events_of}
 use Rattle.world.proofs.Sends.{redoing_phase}
 use Rattle.world.proofs.Exchanges.{HasReply, Stops, stops}
+use Rattle.world.proofs.Running.{stored_begun}
 use Rattle.world.proofs.Replied.{some_reply, sound_reply, read_reply, read_session, connect_replied, redo_replied, request_replied}
 use Rattle.world.proofs.Falls.{redoing_at}
 
@@ -125,7 +126,7 @@ unserved_want (Some cause) dc q r new e h = absurd (cc)
 
 -- after a request was sent
 later_session : (w : NodeView) → IsKept w → w.dc.stored < length w.tc.log + 1
-later_session w k = omega (arith, k.sessions.begun, k.tc.session, k.tc.within)
+later_session w k = omega (arith, stored_begun w k, k.tc.session, k.tc.within)
 
 stops_connect : (w : NodeView) (r : Refusal) → IsKept w → Stops w (reconnected w.tc) (asks.Connect (length w.tc.log + 1)) r → IsWant r
 stops_connect w r k (inl h) = inl h
@@ -171,9 +172,9 @@ serves_read dc s n q same some done = by q
 
 read_allowed : (w : NodeView) (n : ℕ) (q : Span) → IsKept w → IsServing w → 0 < w.tc.session → serve_refusal w.dc (read_request w.tc.session n q) ≡ None
 read_allowed w n q k serving some =
-    let P : Phase → Type 0 = λ p. IsServed p w.tc.session w.dc in
+    let P : Phase → Type 0 = λ p. IsServed p w.tc.session w.tc.log w.dc in
     let served = subst P serving.running k.sessions.served in
-    serves_read w.dc w.tc.session n q serving.session some served.1
+    serves_read w.dc w.tc.session n q serving.session some (served.1 serving.session)
 
 stops_read : (w : NodeView) (n : ℕ) (q : Span) (r : Refusal) → IsKept w → IsServing w → 0 < w.tc.session → Stops w w.tc (read_request w.tc.session n q) r → IsWant r
 stops_read w n q r k serving some (inl h) = inl h
@@ -185,34 +186,34 @@ stops_read w n q r k serving some (inr (inr (inr h))) =
     reply_want w.tc h.1 r h.2 (read_session w.tc.session n q h.1 (read_reply w.tc.session n q w.dc h.0 h.1 h.3)) some h.4
 
 -- each round
-want_connect : (old new mid : NodeView) (o : Out) (os : List Out) (r : Refusal) → IsKept old → ReconnectsTo old o mid → IsDone o
+want_connect : (old new mid : NodeView) (o : Out) (os : List Out) (r : Refusal) → IsKept old → old.dc_up ≡ true → ReconnectsTo old o mid → IsDone o
     → StopsAt mid (event.Request (length old.requests + 1) ∷ event.Reply (length old.replies + 1) ∷ []) os r new → IsWant r
-want_connect old new mid (out.Connects i cs) os r k h d rest =
+want_connect old new mid (out.Connects i cs) os r k up h d rest =
     let s : ℕ = length old.tc.log + 1 in
-    let stop = stops old mid mid.tc (asks.Connect s) i os r new (connect_replied s) h.1 rest in
+    let stop = stops old mid mid.tc (asks.Connect s) i os r new up (connect_replied s) h.1 rest in
     stops_connect old r k (subst (λ tc. Stops old tc (asks.Connect s) r) h.0.3 stop)
-want_connect old new mid (out.Refused q) os r k h d rest = absurd d
-want_connect old new mid _ os r k h d rest = absurd h
+want_connect old new mid (out.Refused q) os r k up h d rest = absurd d
+want_connect old new mid _ os r k up h d rest = absurd h
 
 stops_redo : (w : NodeView) (next : ℕ) (found : Option (ℕ × Op)) (r : Refusal) → IsKept w → w.dc.session ≡ w.tc.session → 0 < w.tc.session
     → FindsRequest w.tc.log next w.tc.session found → Stops w (redoing w.tc (redo_place w.tc.session found) (not (is_some found))) (redo_request w.tc.session found) r → IsWant r
 stops_redo w next None r k same some finds h = stops_redo_end w (redoing w.tc w.tc.session true) r refl same some h
 stops_redo w next (Some x) r k same some finds h = stops_perform w (redoing w.tc x.0 false) x.0 x.1 r k refl same some finds.2 h
 
-want_recover : (old new mid : NodeView) (o : Out) (os : List Out) (r : Refusal) (next : ℕ) (ending : Bool) → IsKept old → old.tc.phase ≡ phase.Redoing next ending → old.dc.session ≡ old.tc.session
+want_recover : (old new mid : NodeView) (o : Out) (os : List Out) (r : Refusal) (next : ℕ) (ending : Bool) → IsKept old → old.dc_up ≡ true → old.tc.phase ≡ phase.Redoing next ending → old.dc.session ≡ old.tc.session
     → RecoversTo old o mid → IsDone o → StopsAt mid (event.Request (length old.requests + 1) ∷ event.Reply (length old.replies + 1) ∷ []) os r new → IsWant r
-want_recover old new mid (out.Sent i) os r next ending k at same h d rest =
+want_recover old new mid (out.Sent i) os r next ending k up at same h d rest =
     let P : Phase → Type 0 = λ p. SendsAt old.tc p h.0 mid.tc in
     let redo = subst P at h.1 in
     let Q : Request → Type 0 = HasReply in
     let bounds = redoing_phase old next ending k at in
-    let stop = stops old mid mid.tc h.0 i os r new (subst Q (sym redo.request_is) (redo_replied old.tc.session redo.found)) h.2 rest in
+    let stop = stops old mid mid.tc h.0 i os r new up (subst Q (sym redo.request_is) (redo_replied old.tc.session redo.found)) h.2 rest in
     let S : TcView → Type 0 = λ tc. Stops old tc h.0 r in
     let R : Request → Type 0 = λ q. Stops old (redoing old.tc (redo_place old.tc.session redo.found) (not (is_some redo.found))) q r in
     stops_redo old next redo.found r k same (omega (arith, bounds.0, bounds.1)) redo.finds (subst R redo.request_is (subst S redo.left stop))
-want_recover old new mid out.Nothing os r next ending k at same h d rest = let no : phase.Redoing next ending ≡ phase.Running = sym at ∙ h.0.0 in absurd (cc)
-want_recover old new mid (out.Refused q) os r next ending k at same h d rest = absurd d
-want_recover old new mid _ os r next ending k at same h d rest = absurd h
+want_recover old new mid out.Nothing os r next ending k up at same h d rest = let no : phase.Redoing next ending ≡ phase.Running = sym at ∙ h.0.0 in absurd (cc)
+want_recover old new mid (out.Refused q) os r next ending k up at same h d rest = absurd d
+want_recover old new mid _ os r next ending k up at same h d rest = absurd h
 
 running_some : (w : NodeView) → IsKept w → w.tc.phase ≡ phase.Running → 0 < w.tc.session
 running_some w k running = let P : Phase → Type 0 = IsPhase w.tc.session in subst P running k.tc.phase
@@ -220,7 +221,7 @@ running_some w k running = let P : Phase → Type 0 = IsPhase w.tc.session in su
 want_exchange : (old new mid : NodeView) (o : Out) (os : List Out) (r : Refusal) (t : ℕ) → IsKept old → IsServing old → SendsTo old t o mid → IsDone o
     → StopsAt mid (event.Request (length old.requests + 1) ∷ event.Reply (length old.replies + 1) ∷ []) os r new → IsWant r
 want_exchange old new mid (out.Sent i) os r t k serving h d rest =
-    let stop = stops old mid old.tc h.0 i os r new (request_replied old.tc t h.0 h.1.1) h.2 rest in
+    let stop = stops old mid old.tc h.0 i os r new serving.dc_up (request_replied old.tc t h.0 h.1.1) h.2 rest in
     let R : Request → Type 0 = λ x. Stops old old.tc x r in
     let some = running_some old k serving.running in
     elim h.1.1 [
@@ -258,13 +259,16 @@ reconnect_want w r new (inl h) = spent_want (log_is_spent w.log) true true w r n
 reconnect_want w r new (inr h) = inr (inr h.1)
 
 pub wants : (old new : NodeView) (round : Round) (outs : List Out) (r : Refusal) → IsKept old → IsNext old round → StopsAt old (events_of old round) outs r new → IsWant r
+wants old new round.Restart [] r k next (inl h) = inl h.0
+wants old new round.Restart [] r k next (inr h) = elim h.0.2.0 [ inl memory ↦ inl memory | inr device ↦ inr (inr device) ]
+wants old new round.Restart (o ∷ os) r k next h = absurd h.3
 wants old new round.Connect [] r k next (inl h) = inl h.0
 wants old new round.Connect [] r k next (inr h) = reconnect_want old.tc r new.tc h.0
-wants old new round.Connect (o ∷ os) r k next h = want_connect old new h.0 o os r k h.1 h.2 h.3
+wants old new round.Connect (o ∷ os) r k next h = want_connect old new h.0 o os r k next.0 h.1 h.2 h.3
 wants old new round.Recover [] r k next (inl h) = inl h.0
 wants old new round.Recover [] r k next (inr h) =
-    let at = redoing_at old old.tc.phase refl next.0 in no_room (recover_refusal old.tc) (is_recovering old.tc.phase) r (rw at.2 refl) h.0
-wants old new round.Recover (o ∷ os) r k next h = let at = redoing_at old old.tc.phase refl next.0 in want_recover old new h.0 o os r at.0 at.1 k at.2 next.1 h.1 h.2 h.3
+    let at = redoing_at old old.tc.phase refl next.1 in no_room (recover_refusal old.tc) (is_recovering old.tc.phase) r (rw at.2 refl) h.0
+wants old new round.Recover (o ∷ os) r k next h = let at = redoing_at old old.tc.phase refl next.1 in want_recover old new h.0 o os r at.0 at.1 k next.0 at.2 next.2 h.1 h.2 h.3
 wants old new (round.Exchange t) [] r k next (inl h) = inl h.0
 wants old new (round.Exchange t) [] r k next (inr h) = no_cause (resend_refusal old.tc t) r (resends_any old.tc t k.tc next.0.running next.1) h.0
 wants old new (round.Exchange t) (o ∷ os) r k next h = want_exchange old new h.0 o os r t k next.0 h.1 h.2 h.3

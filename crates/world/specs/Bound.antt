@@ -1,5 +1,5 @@
 -- How many rounds of settling are left, and a bound on them.
-use Rattle.std.specs.Prelude.{ℕ, ◌+◌, ◌*◌, ◌==◌, ◌&&◌, ◌||◌, Bool, not, List, [], ◌∷◌, Option, Some, None, length, nat_le, nat_lt, if◌then◌else◌}
+use Rattle.std.specs.Prelude.{ℕ, ◌+◌, ◌*◌, ◌==◌, ◌&&◌, ◌||◌, Bool, true, false, not, List, [], ◌∷◌, Option, Some, None, length, nat_le, nat_lt, if◌then◌else◌}
 use Rattle.std.specs.List.{list_any}
 use Rattle.record_key.specs.declared.op.Op.{Op}
 use Rattle.history.specs.declared.record.Record.{Record}
@@ -11,6 +11,7 @@ use Rattle.tc_core.specs.declared.open_txn.Rollback.{Rollback}
 use Rattle.tc_core.specs.declared.phase.Phase.{Phase}
 use Rattle.tc_core.specs.declared.phase.Phase.TheVariants as phase
 use Rattle.tc_core.specs.TcView.{TcView, rolls_back, waits}
+use Rattle.world.specs.Node.{NodeView}
 
 -- how many of these numbers ask for something
 abbrev pub asked : Option Op → ℕ
@@ -68,9 +69,29 @@ is_busy o = rolls_back o || waits o
 abbrev pub force_rounds : TcView → ℕ
 force_rounds w = if list_any is_busy w.open_txns || nat_lt w.stable (length w.log) then 1 else 0
 
+-- where the data component runs the session
+abbrev pub tc_rounds : TcView → ℕ
+tc_rounds w = phase_rounds w.log w.session w.phase + total (txn_rounds w.log w.stable) w.open_txns + force_rounds w
+
+-- where it doesn't, a session has to begin first
+abbrev pub without_session : TcView → TcView
+without_session w = record w { phase = phase.Unconnected }
+
+abbrev pub is_apart : Phase → Bool
+is_apart phase.Unconnected = true
+is_apart phase.Connecting = true
+is_apart _ = false
+
+abbrev pub session_rounds : TcView → ℕ → ℕ
+session_rounds w s = if is_apart w.phase || not (s == w.session) then tc_rounds (without_session w) else tc_rounds w
+
+-- to restart the data component
+abbrev pub down_rounds : Bool → ℕ
+down_rounds up = if up then 0 else 1
+
 -- every round takes one of them at least
-abbrev pub rounds_left : TcView → ℕ
-rounds_left w = phase_rounds w.log w.session w.phase + total (txn_rounds w.log w.stable) w.open_txns + force_rounds w
+abbrev pub rounds_left : NodeView → ℕ
+rounds_left w = down_rounds w.dc_up + session_rounds w.tc w.dc.session
 
 -- records of operations and compensations, and of beginnings
 abbrev pub steps_in : List Record → ℕ

@@ -1,15 +1,17 @@
 -- What holds of a node at every moment. These are the invariants on which the headline rests; docs/PROOF.md
 -- argues why each event keeps them.
-use Rattle.std.specs.Prelude.{◌≡◌, ℕ, ◌≤◌, true, false, List, Option, Some, None, IsSome}
+use Rattle.std.specs.Prelude.{◌≡◌, ℕ, ◌<◌, ◌≤◌, true, false, List, Option, Some, None, IsSome}
 use Rattle.std.specs.List.{AllByRecursion}
+use Rattle.std.specs.FinMap as map
 use Rattle.record_key.specs.declared.op.Op.{Op}
-use Rattle.record_key.specs.Table.{Bytes, key_of}
+use Rattle.record_key.specs.Table.{Table, Bytes, key_of}
 use Rattle.record_key.specs.declared.op.Answer.{Answer}
 use Rattle.history.specs.declared.record.Record.{Record}
 use Rattle.history.specs.Log.{answer_of, Requests}
-use Rattle.history.specs.Values.{IsRight, HasRightAnswers}
+use Rattle.history.specs.Values.{value_on, IsRight, HasRightAnswers}
 use Rattle.log_laws.specs.Reading.{AreAnswered}
-use Rattle.history.specs.Spans.{rows_in}
+use Rattle.history.specs.Spans as spans
+use Rattle.history.specs.Spans.{is_within, rows_in}
 use Rattle.range_locks.specs.declared.span.Span.{Span}
 use Rattle.range_locks.specs.declared.span.Span.TheVariants.{Key, Range}
 use Rattle.codec.specs.declared.request.Request.{Request}
@@ -17,12 +19,15 @@ use Rattle.codec.specs.declared.request.Request.TheVariants as asks
 use Rattle.codec.specs.declared.reply.Reply.{Reply}
 use Rattle.codec.specs.declared.reply.Reply.TheVariants as says
 use Rattle.page.specs.Leaf.{LeafView}
-use Rattle.btree.specs.Leaves.{rows_of}
+use Rattle.recovery_laws.specs.Recovery.{stored_session}
 use Rattle.recovery_laws.specs.Ready.{IsHonestTo, AllHave}
 use Rattle.system_txn.specs.SystemView.{SystemView}
 use Rattle.system_txn.specs.Devices.{pages_of}
+use Rattle.system_txn.specs.Kept.{IsRecoverable}
 use Rattle.dc_core.specs.declared.performance.Performance.{Performance}
-use Rattle.dc_core.specs.DcView.{DcView, leaves, captures_at, value_at}
+use Rattle.dc_core.specs.DcView.{DcView, captures_at}
+use Rattle.dc_core.specs.Serves.{runs}
+use Rattle.dc_core.specs.Tends.{may_merge}
 use Rattle.dc_core.specs.Kept.{IsDc}
 use Rattle.tc_core.specs.declared.open_txn.OpenTxn.{OpenTxn}
 use Rattle.tc_core.specs.declared.phase.Phase.{Phase}
@@ -42,66 +47,99 @@ pub record IsAnsweredTo (w : TcView) (l : ℕ) : Type 0 where
 abbrev pub IsReadTrue : TcView → ℕ → (Span → Type 0) → Type 0
 IsReadTrue w n P = (n ≤ w.reads) × ((t : ℕ) (o : OpenTxn) (q : Span) → find t w.open_txns ≡ Some o → o.reading ≡ Some (record { number = n; span = q }) → P q)
 
--- what was sent stands: an operation is that of its record, which is stable
-abbrev pub IsSent : TcView → Request → Type 0
-IsSent w (asks.Connect s) = s ≤ w.session
-IsSent w (asks.Perform s n o) = (n ≤ w.stable) × Requests w.log n o
-IsSent w (asks.Get s n k) = IsReadTrue w n (λ q. q ≡ Key k)
-IsSent w (asks.Scan s n low high) = IsReadTrue w n (λ q. q ≡ Range low high)
-IsSent w (asks.LowWater s l) = IsAnsweredTo w l
-IsSent w (asks.Checkpoint s l) = IsAnsweredTo w l
-IsSent w (asks.RedoEnd s) = Unit {0}
+-- a request that is answered was performed
+abbrev pub AnsweredAreCaptured : List Record → DcView → Type 0
+AnsweredAreCaptured log dc =
+    (n : ℕ) (o : Op) → Requests log n o → IsSome (answer_of log n) → captures_at dc (key_of o) n ≡ true
 
--- the answer of a captured request, and the right one
-pub record IsAnswerOf (log : List Record) (dc : DcView) (n : ℕ) (a : Answer) : Type 0 where
+-- so was each request before this number, on this key and on any
+abbrev pub EarlierAreCaptured : List Record → DcView → ℕ → Bytes → Type 0
+EarlierAreCaptured log dc n k =
+    (m : ℕ) (o : Op) → Requests log m o → m < n → key_of o ≡ k → captures_at dc k m ≡ true
+
+abbrev pub AllAreCaptured : List Record → DcView → ℕ → Type 0
+AllAreCaptured log dc next = (n : ℕ) (o : Op) → Requests log n o → n < next → captures_at dc (key_of o) n ≡ true
+
+-- the data component has taken the session, and this holds as long as it runs it
+pub record InSession (dc : DcView) (s : ℕ) (Holds : Type 0) : Type 0 where
+  pub begun : s ≤ dc.stored
+  pub holds : runs dc s ≡ true → Holds
+
+-- what was sent stands: an operation is that of its record, which is stable, and where its session still runs each
+-- earlier request on its key was performed; where redo was ended all that is answered was performed
+abbrev pub IsSent : TcView → DcView → Request → Type 0
+IsSent w dc (asks.Connect s) = s ≤ w.session
+IsSent w dc (asks.Perform s n o) =
+    (n ≤ w.stable) × Requests w.log n o × InSession dc s (EarlierAreCaptured w.log dc n (key_of o))
+IsSent w dc (asks.Get s n k) = IsReadTrue w n (λ q. q ≡ Key k)
+IsSent w dc (asks.Scan s n low high) = IsReadTrue w n (λ q. q ≡ Range low high)
+IsSent w dc (asks.LowWater s l) = IsAnsweredTo w l
+IsSent w dc (asks.Checkpoint s l) = IsAnsweredTo w l
+IsSent w dc (asks.RedoEnd s) = InSession dc s (AnsweredAreCaptured w.log dc)
+
+-- the right answer; or none, where all up to the number is answered
+abbrev pub IsRightOrNone : TcView → ℕ → Option Answer → Type 0
+IsRightOrNone w n None = IsAnsweredTo w n
+IsRightOrNone w n (Some a) = IsRight w.log n a
+
+-- the answer of a stable request, which is captured where the reply's session still runs
+pub record IsAnswered (w : TcView) (dc : DcView) (s n : ℕ) (a : Option Answer) : Type 0 where
   pub op : Op
-  pub requests : Requests log n op
-  pub right : IsRight log n a
-  pub captured : captures_at dc (key_of op) n ≡ true
+  pub requests : Requests w.log n op
+  pub stable : n ≤ w.stable
+  pub answer : IsRightOrNone w n a
+  pub captured : InSession dc s (captures_at dc (key_of op) n ≡ true)
 
--- a reply without its answer is of a number up to which all is answered
-abbrev pub IsAnswered : TcView → DcView → ℕ → Option Answer → Type 0
-IsAnswered w dc n None = IsAnsweredTo w n
-IsAnswered w dc n (Some a) = IsAnswerOf w.log dc n a
+-- a row is what the log gives at the key, and rows are those of a table that the log gives in the range
+abbrev pub IsValue : List Record → Option Bytes → Span → Type 0
+IsValue log v (Key k) = v ≡ value_on k log
+IsValue log v _ = Unit {0}
 
-abbrev pub IsValue : DcView → Option Bytes → Span → Type 0
-IsValue dc v (Key k) = v ≡ value_at dc k
-IsValue dc v _ = Unit {0}
+pub record AreRowsOf (log : List Record) (rows : List (Bytes × Bytes)) (s : spans.Span) : Type 0 where
+  pub table : Table
+  pub rows_are : rows ≡ rows_in s table
+  pub values : (k : Bytes) → is_within s k ≡ true → map.get table k ≡ value_on k log
 
-abbrev pub AreRows : DcView → List (Bytes × Bytes) → Span → Type 0
-AreRows dc rows (Range low high) = rows ≡ rows_in (shared (Range low high)) (rows_of (leaves dc))
-AreRows dc rows _ = Unit {0}
+abbrev pub AreRows : List Record → List (Bytes × Bytes) → Span → Type 0
+AreRows log rows (Range low high) = AreRowsOf log rows (shared (Range low high))
+AreRows log rows _ = Unit {0}
 
 -- what was replied stays true: also a row or rows, while they are waited for
 abbrev pub IsGiven : TcView → DcView → Reply → Type 0
 IsGiven w dc (says.Connected s) = s ≤ dc.stored
-IsGiven w dc (says.Answered s n a) = IsAnswered w dc n a
-IsGiven w dc (says.Row s n v) = IsReadTrue w n (IsValue dc v)
-IsGiven w dc (says.Rows s n rows) = IsReadTrue w n (AreRows dc rows)
+IsGiven w dc (says.Answered s n a) = IsAnswered w dc s n a
+IsGiven w dc (says.Row s n v) = IsReadTrue w n (IsValue w.log v)
+IsGiven w dc (says.Rows s n rows) = IsReadTrue w n (AreRows w.log rows)
 IsGiven w dc (says.Checkpointed s l) = Unit {0}
-IsGiven w dc (says.RedoEnded s) = (s ≤ dc.stored) × (s ≡ dc.session → dc.redo ≡ false)
+IsGiven w dc (says.RedoEnded s) = InSession dc s (dc.redo ≡ false)
 
--- from the reply to Connect on, the data component runs the session, and from the reply to RedoEnd on past redo
-abbrev pub IsServed : Phase → ℕ → DcView → Type 0
-IsServed (phase.Redoing next ending) s dc = dc.session ≡ s
-IsServed phase.Running s dc = (dc.session ≡ s) × (dc.redo ≡ false)
-IsServed _ s dc = Unit {0}
+-- until redo ends nothing is requested anew
+abbrev pub AreBefore : List Record → ℕ → Type 0
+AreBefore log s = (n : ℕ) (o : Op) → Requests log n o → n < s
 
-pub record AreSessions (session : ℕ) (at : Phase) (dc : DcView) : Type 0 where
-  pub runs : dc.session ≡ dc.stored
-  pub begun : dc.stored ≤ session
-  pub served : IsServed at session dc
+-- from the reply to Connect on the session is the last that the data component took, and while that runs it all before
+-- redo's place was performed; from the reply to RedoEnd on it is past redo
+abbrev pub IsServed : Phase → ℕ → List Record → DcView → Type 0
+IsServed phase.Unconnected s log dc = Unit {0}
+IsServed phase.Connecting s log dc = AreBefore log s
+IsServed (phase.Redoing next ending) s log dc =
+    AreBefore log s × (dc.stored ≡ s) × (dc.session ≡ s → AllAreCaptured log dc next)
+IsServed phase.Running s log dc = (dc.stored ≡ s) × (dc.session ≡ s → dc.redo ≡ false)
+
+pub record AreSessions (session : ℕ) (at : Phase) (log : List Record) (dc : DcView) : Type 0 where
+  pub begun : stored_session dc.system.log ≤ session
+  pub served : IsServed at session log dc
 
 -- the leaves and what outlives them are true to the transactions' log: each leaf, each page and each leaf in a record
--- is honest for it and has captured stable numbers only, and every request up to a leaf's low number is answered
+-- is honest for it and has captured stable numbers only, and every request up to its low number is answered
+abbrev pub IsLowAnswered : TcView → LeafView → Type 0
+IsLowAnswered w leaf = IsAnsweredTo w leaf.ab.low
+
 pub record IsTrueTo (w : TcView) (v : SystemView) : Type 0 where
   pub leaves : AllByRecursion (IsHonestTo w.log w.stable) v.leaves
   pub written : AllHave (IsHonestTo w.log w.stable) (pages_of v.pages) v.log
-  pub low : AllByRecursion (λ (leaf : LeafView). IsAnsweredTo w leaf.ab.low) v.leaves
-
--- a request that is answered was performed
-abbrev pub AnsweredAreCaptured : List Record → DcView → Type 0
-AnsweredAreCaptured log dc = (n : ℕ) (o : Op) → Requests log n o → IsSome (answer_of log n) → captures_at dc (key_of o) n ≡ true
+  pub low : AllByRecursion (IsLowAnswered w) v.leaves
+  pub written_low : AllHave (IsLowAnswered w) (pages_of v.pages) v.log
 
 -- the node's invariant; docs/PROOF.md goes by these numbers
 pub record IsKept (w : NodeView) : Type 0 where
@@ -109,18 +147,20 @@ pub record IsKept (w : NodeView) : Type 0 where
   pub tc : IsTc w.tc
   -- 2. each answer in the log is the right one
   pub right : HasRightAnswers w.tc.log
-  -- 3. the data component keeps its own: leaves that have all keys among them, their log and pages, performances
+  -- 3. the data component keeps its own: leaves that have all keys among them, their log and pages, performances; and
+  -- after any crash recovery would give leaves that have all keys among them
   pub dc : IsDc w.dc
+  pub recoverable : IsRecoverable w.dc.system
   -- 4. leaves, pages and leaves in the data component's log are honest, and have captured stable numbers only;
   -- every request up to a leaf's low number is answered
   pub true_to : IsTrueTo w.tc w.dc.system
   -- 5. what was performed is the log's
   pub performed : AllByRecursion (λ (p : Performance). Requests w.tc.log p.number p.op) w.dc.performed
-  -- 6. a request that is answered was performed
-  pub answered : AnsweredAreCaptured w.tc.log w.dc
+  -- 6. past the redo of a session a request that is answered was performed
+  pub answered : may_merge w.dc ≡ true → AnsweredAreCaptured w.tc.log w.dc
   -- 7. what was ever sent stands
-  pub sent : AllByRecursion (IsSent w.tc) w.requests
+  pub sent : AllByRecursion (IsSent w.tc w.dc) w.requests
   -- 8. what was ever replied stays true
   pub given : AllByRecursion (IsGiven w.tc w.dc) w.replies
-  -- 9. the data component runs a session that the other has started, and while clients are served the same
-  pub sessions : AreSessions w.tc.session w.tc.phase w.dc
+  -- 9. the data component has taken only sessions that the other has started, and while clients are served the same
+  pub sessions : AreSessions w.tc.session w.tc.phase w.tc.log w.dc

@@ -1,3 +1,4 @@
+pub mod Component
 pub mod Node
 pub mod Messages
 pub mod Kept

@@ -1,10 +1,11 @@
 -- What is seen of a node, and what one event may do to it: the contracts of the components' calls, side by
 -- side, and the messages that they send and take.
 use Rattle.std.specs.Prelude.{◌≡◌, ◌⊎◌, ℕ, ◌+◌, Bool, true, false, List, [], ◌∷◌, ◌++◌, Option, Some, None, Result, Ok, Err, length}
+use Rattle.std.specs.Bool.{MatchBool}
 use Rattle.record_key.specs.declared.op.Op.{Op}
 use Rattle.record_key.specs.Table.{Bytes}
 use Rattle.record_key.specs.declared.refusal.Refusal.{Refusal}
-use Rattle.record_key.specs.declared.refusal.Refusal.TheVariants.{NoMemory, Unsent}
+use Rattle.record_key.specs.declared.refusal.Refusal.TheVariants.{NoMemory, NotConnected, Unsent}
 use Rattle.record_key.specs.FirstCause.{RefusesAs}
 use Rattle.range_locks.specs.declared.span.Span.{Span}
 use Rattle.range_locks.specs.declared.span.Span.TheVariants.{Key, Range}
@@ -30,19 +31,22 @@ use Rattle.world.specs.declared.event.Event.{Event}
 use Rattle.world.specs.declared.event.Event.TheVariants as event
 use Rattle.world.specs.declared.event.Out.{Out}
 use Rattle.world.specs.declared.event.Out.TheVariants as out
+use Rattle.world.specs.Component.{ComponentView, CrashesTo, RestartsTo}
 use Rattle.world.specs.Messages.{message_at}
 use Rattle.world.specs.Sent.{IsUnread}
 
--- every message ever sent stands, the oldest first
+-- whether the data component runs, and what it is, or where it doesn't run will be once it is restarted; every message
+-- ever sent stands, the oldest first
 pub record NodeView : Type 0 where
   pub tc : TcView
+  pub dc_up : Bool
   pub dc : DcView
   pub requests : List Request
   pub replies : List Reply
 
 -- nothing is logged, stored or sent
 abbrev pub fresh_node : NodeView
-fresh_node = record { tc = fresh 0; dc = fresh_dc 0; requests = []; replies = [] }
+fresh_node = record { tc = fresh 0; dc_up = true; dc = fresh_dc 0; requests = []; replies = [] }
 
 abbrev pub out_of : Result Out Refusal → Out
 out_of (Ok o) = o
@@ -172,6 +176,10 @@ ServesTo old i (out.Refused r) new =
     ((IsUnsent old.requests i r ⊎ Unreplied old i r) × (new ≡ old)) ⊎ (Served old i (Err r) new.dc × (new ≡ with_dc old new.dc))
 ServesTo old i _ new = ⊥
 
+-- an event of the data component: refused where that doesn't run
+abbrev pub IfUp : NodeView → Out → NodeView → Type 0 → Type 0
+IfUp old output new Does = MatchBool old.dc_up Does ((output ≡ out.Refused NotConnected) × (new ≡ old))
+
 -- a call of the data component
 abbrev pub CallsDc : (DcView → Type 0) → NodeView → NodeView → Type 0
 CallsDc Gives old new = Gives new.dc × (new ≡ with_dc old new.dc)
@@ -197,6 +205,26 @@ abbrev pub WritesTo : NodeView → Bytes → Out → NodeView → Type 0
 WritesTo old k (out.Flushed id) new = CallsDc (FlushesTo old.dc k (Ok id)) old new
 WritesTo old k (out.Refused r) new = CallsDc (FlushesTo old.dc k (Err r)) old new
 WritesTo old k _ new = ⊥
+
+-- the data component changes so, and nothing else does
+abbrev pub Becomes : NodeView → ComponentView → NodeView → Type 0
+Becomes old component new = new ≡ record old { dc_up = component.up; dc = component.dc }
+
+abbrev pub component : NodeView → ComponentView
+component w = record { up = w.dc_up; dc = w.dc }
+
+abbrev pub CrashesDcTo : NodeView → ℕ → Out → NodeView → Type 0
+CrashesDcTo old more out.Down new = CrashesTo (component old) more true (component new) × Becomes old (component new) new
+CrashesDcTo old more out.Nothing new =
+    CrashesTo (component old) more false (component new) × Becomes old (component new) new
+CrashesDcTo old more _ new = ⊥
+
+abbrev pub RestartsDcTo : NodeView → Out → NodeView → Type 0
+RestartsDcTo old (out.Up count) new =
+    RestartsTo (component old) (Ok (Some count)) (component new) × Becomes old (component new) new
+RestartsDcTo old out.Nothing new = RestartsTo (component old) (Ok None) (component new) × Becomes old (component new) new
+RestartsDcTo old (out.Refused r) new = RestartsTo (component old) (Err r) (component new) × Becomes old (component new) new
+RestartsDcTo old _ new = ⊥
 
 abbrev pub as_out : Told → Out
 as_out told.Nothing = out.Nothing
@@ -243,12 +271,14 @@ StepsTo old (event.Undo t) output new = UndoesTo old t output new
 StepsTo old event.Force output new = ForcesTo old output new
 StepsTo old (event.Send t) output new = SendsTo old t output new
 StepsTo old (event.LowWater l) output new = LowersTo old l output new
-StepsTo old (event.Split k) output new = PartsTo old k output new
-StepsTo old (event.Merge k) output new = JoinsTo old k output new
-StepsTo old event.Tend output new = KeepsUpTo old output new
-StepsTo old (event.Flush k) output new = WritesTo old k output new
-StepsTo old (event.Request i) output new = ServesTo old i output new
+StepsTo old (event.Split k) output new = IfUp old output new (PartsTo old k output new)
+StepsTo old (event.Merge k) output new = IfUp old output new (JoinsTo old k output new)
+StepsTo old event.Tend output new = IfUp old output new (KeepsUpTo old output new)
+StepsTo old (event.Flush k) output new = IfUp old output new (WritesTo old k output new)
+StepsTo old (event.Request i) output new = IfUp old output new (ServesTo old i output new)
 StepsTo old (event.Reply i) output new = TakesTo old i output new
+StepsTo old (event.CrashDc frames bytes) output new = CrashesDcTo old frames output new
+StepsTo old event.RestartDc output new = RestartsDcTo old output new
 
 -- events with their outputs, one after another
 abbrev pub Chain : NodeView → List Event → List Out → NodeView → Type 0

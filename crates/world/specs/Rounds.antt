@@ -38,6 +38,7 @@ IsRedoing _ = ⊥
 
 pub record IsServing (w : NodeView) : Type 0 where
   pub running : w.tc.phase ≡ phase.Running
+  pub dc_up : w.dc_up ≡ true
   pub session : w.dc.session ≡ w.tc.session
 
 -- of those that wait, the transaction with the least number waits for this record's answer
@@ -72,8 +73,9 @@ IsForced w =
 -- the first round that applies: to connect; to recover; for an unanswered request to force the log where its
 -- record isn't stable, else to exchange it, as a read always is; to undo; to force what isn't stable
 abbrev pub IsNext : NodeView → Round → Type 0
-IsNext w round.Connect = IsApart w
-IsNext w round.Recover = IsRedoing w.tc.phase × (w.dc.session ≡ w.tc.session)
+IsNext w round.Restart = w.dc_up ≡ false
+IsNext w round.Connect = (w.dc_up ≡ true) × IsApart w
+IsNext w round.Recover = (w.dc_up ≡ true) × IsRedoing w.tc.phase × (w.dc.session ≡ w.tc.session)
 IsNext w (round.Exchange t) = IsServing w × (((n : ℕ) × IsDue w.tc t n × (n ≤ w.tc.stable)) ⊎ IsReader w.tc t)
 IsNext w (round.Undo t) = IsServing w × IsRolling w.tc t
 IsNext w round.Force = IsServing w × IsForced w.tc
@@ -91,6 +93,7 @@ abbrev pub exchange : NodeView → Event → List Event
 exchange w e = exchange_of e (length w.requests + 1) (length w.replies + 1)
 
 abbrev pub events_of : NodeView → Round → List Event
+events_of w round.Restart = event.RestartDc ∷ []
 events_of w round.Connect = exchange w event.Reconnect
 events_of w round.Recover = exchange w event.Recover
 events_of w (round.Exchange t) = exchange w (event.Send t)

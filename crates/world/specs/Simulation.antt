@@ -1,5 +1,5 @@
 -- The list machines that a node stands for, and runs of events.
-use Rattle.std.specs.Prelude.{◌≡◌, ℕ, ◌≤◌, false, List, [], ◌∷◌, Option, Some, None, IsSome, map}
+use Rattle.std.specs.Prelude.{◌≡◌, ℕ, ◌≤◌, true, false, List, [], ◌∷◌, Option, Some, None, IsSome, map}
 use Rattle.record_key.specs.declared.op.Op.{Op}
 use Rattle.history.specs.ListMachine.{Machine, Line, Query, OfKey, OfRange, Begins, Acts, TellsAnswer, Reads, TellsRow, TellsRows, Saves, GoesBack, TellsBack, RollsBack, TellsRolledBack, Commits, TellsCommitted, IsRefused, ToBegin, ToAct, ToRead, ToSave, ToGoBack, ToRollBack, ToCommit, Steps}
 use Rattle.history.specs.Log.{answer_of, Requests}
@@ -119,6 +119,11 @@ lines_of (event.LowWater l) (out.Refused r) = Some []
 lines_of event.Recover (out.Sent i) = Some []
 lines_of event.Recover out.Nothing = Some []
 lines_of event.Recover (out.Refused r) = Some []
+lines_of (event.CrashDc frames bytes) out.Down = Some []
+lines_of (event.CrashDc frames bytes) out.Nothing = Some []
+lines_of event.RestartDc (out.Up count) = Some []
+lines_of event.RestartDc out.Nothing = Some []
+lines_of event.RestartDc (out.Refused r) = Some []
 lines_of _ _ = None
 
 abbrev pub StepsIf : Machine → Option (List Line) → Machine → Type 0
@@ -150,6 +155,7 @@ AreUnrolled os = (t : ℕ) → is_rolling (find t os) ≡ false
 -- both components run in one session, nobody is being rolled back, and every stable request is answered
 pub record IsSettled (w : NodeView) : Type 0 where
   pub running : w.tc.phase ≡ phase.Running
+  pub dc_up : w.dc_up ≡ true
   pub session : w.dc.session ≡ w.tc.session
   pub unrolled : AreUnrolled w.tc.open_txns
   pub answered : (n : ℕ) (o : Op) → n ≤ w.tc.stable → Requests w.tc.log n o → IsSome (answer_of w.tc.log n)

@@ -78,6 +78,14 @@ pub enum Event {
     Reply {
         number: u64,
     },
+    /// The data component loses what isn't on its devices. Of the records of its log that aren't stable the first
+    /// `frames` stay, and of the next one at most so many bytes.
+    CrashDc {
+        frames: u64,
+        bytes: u64,
+    },
+    /// The data component is opened again on its devices.
+    RestartDc,
 }
 
 /// What an event came to.
@@ -118,5 +126,9 @@ pub enum Out {
     Merged(Neighbours),
     /// The leaf of this number was written.
     Flushed(u64),
+    /// The component doesn't run any more.
+    Down,
+    /// The component runs again, with so many leaves.
+    Up(u64),
     Refused(Refusal),
 }

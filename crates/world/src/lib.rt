@@ -7,14 +7,18 @@
 //! holds what a plain map holds.
 #![tactic(auto)]
 
+mod crashing;
+mod data_component;
 mod driving;
 mod event;
+mod found;
 mod message;
 mod messages;
 mod node;
 mod round;
 mod sent;
 mod settling;
+mod stopped;
 mod world;
 
 pub use dc_core::Neighbours;

@@ -1,25 +1,27 @@
 //! The two components, and the messages between them.
 ghost use Rattle.std.specs.Prelude.{◌≡◌, true, IfOk, IfErr};
-ghost use Rattle.world.specs.Node.{fresh_node, StepsTo, out_of, ReconnectsTo, RecoversTo, BeginsTo, ActsTo, ReadsTo, SavesTo, GoesBackTo, RollsBackTo, CommitsTo, UndoesTo, ForcesTo, SendsTo, LowersTo, ServesTo, TakesTo, PartsTo, JoinsTo, KeepsUpTo, WritesTo, as_out, is_replied_to};
+ghost use Rattle.world.specs.Node.{fresh_node, StepsTo, out_of, ReconnectsTo, RecoversTo, BeginsTo, ActsTo, ReadsTo, SavesTo, GoesBackTo, RollsBackTo, CommitsTo, UndoesTo, ForcesTo, SendsTo, LowersTo, ServesTo, TakesTo, IfUp, PartsTo, JoinsTo, KeepsUpTo, WritesTo, CrashesDcTo, RestartsDcTo, as_out, is_replied_to};
 ghost use Rattle.dc_core.specs.Kept.{IsDc};
 ghost use Rattle.world.specs.Kept.{IsKept};
 ghost use Rattle.world.specs.Seen.{seen};
 
+use crate::data_component::DataComponent;
 use crate::event::{Event, Out};
 use crate::sent::Sent;
 use codec::{Reply, Request};
-use dc_core::{Dc, Tended};
+use dc_core::Tended;
 use range_locks::Span;
 use record_key::{Key, Op, Refusal};
-use stable::{MemLog, MemPages};
+use stable::MemLog;
 use std::alloc::Global;
 use tc_core::{Connecting, Forced, RecoverStep, Tc, Told, UndoStep};
 
 /// A transaction component with its log in memory, a data component with its devices, and every message ever sent.
 #[derive(Drop)]
 pub struct Node {
+    alloc: Global,
     pub tc: Tc<MemLog>,
-    pub dc: Dc,
+    pub dc: DataComponent,
     pub requests: Sent<Request>,
     pub replies: Sent<Reply>,
 }
@@ -30,9 +32,10 @@ impl Node {
         ensures dc { IfOk result (λ node. IsDc (seen node).dc) }
         ensures memory { IfErr result (λ refusal. refusal ≡ Refusal.NoMemory) }
     {
-        let dc = Dc::new(alloc, MemLog::new(alloc), MemPages::new(alloc))?;
+        let dc = DataComponent::new(alloc)?;
         dc.kept();
         Ok(Node {
+            alloc,
             tc: Tc::new(alloc, MemLog::new(alloc)),
             dc,
             requests: Sent::new(alloc),
@@ -79,6 +82,8 @@ impl Node {
             Event::Flush { key } => self.flush(key),
             Event::Request { number } => self.request(*number),
             Event::Reply { number } => self.reply(*number),
+            Event::CrashDc { frames, bytes } => Ok(self.crash_dc(*frames, *bytes)),
+            Event::RestartDc => self.restart_dc(),
         }
     }
 
@@ -198,21 +203,33 @@ impl Node {
     }
 
     fn split(&mut self, key: &Key) -> Result<Out, Refusal>
-        ensures done { PartsTo (seen self.old) key.now (out_of result) (seen self.new) }
+        ensures done { IfUp (seen self.old) (out_of result) (seen self.new)
+            (PartsTo (seen self.old) key.now (out_of result) (seen self.new)) }
     {
-        Ok(Out::Split(self.dc.split(key)?))
+        match &mut self.dc {
+            DataComponent::Up(dc) => Ok(Out::Split(dc.split(key)?)),
+            DataComponent::Down(_) => Err(Refusal::NotConnected),
+        }
     }
 
     fn merge(&mut self, key: &Key) -> Result<Out, Refusal>
-        ensures done { JoinsTo (seen self.old) key.now (out_of result) (seen self.new) }
+        ensures done { IfUp (seen self.old) (out_of result) (seen self.new)
+            (JoinsTo (seen self.old) key.now (out_of result) (seen self.new)) }
     {
-        Ok(Out::Merged(self.dc.merge(key)?))
+        match &mut self.dc {
+            DataComponent::Up(dc) => Ok(Out::Merged(dc.merge(key)?)),
+            DataComponent::Down(_) => Err(Refusal::NotConnected),
+        }
     }
 
     fn tend(&mut self) -> Result<Out, Refusal>
-        ensures done { KeepsUpTo (seen self.old) (out_of result) (seen self.new) }
+        ensures done { IfUp (seen self.old) (out_of result) (seen self.new)
+            (KeepsUpTo (seen self.old) (out_of result) (seen self.new)) }
     {
-        Ok(match self.dc.tend()? {
+        let DataComponent::Up(dc) = &mut self.dc else {
+            return Err(Refusal::NotConnected);
+        };
+        Ok(match dc.tend()? {
             Tended::Split(pair) => Out::Split(pair),
             Tended::Merged(pair) => Out::Merged(pair),
             Tended::Nothing => Out::Nothing,
@@ -220,21 +237,29 @@ impl Node {
     }
 
     fn flush(&mut self, key: &Key) -> Result<Out, Refusal>
-        ensures done { WritesTo (seen self.old) key.now (out_of result) (seen self.new) }
+        ensures done { IfUp (seen self.old) (out_of result) (seen self.new)
+            (WritesTo (seen self.old) key.now (out_of result) (seen self.new)) }
     {
-        Ok(Out::Flushed(self.dc.flush(key)?))
+        match &mut self.dc {
+            DataComponent::Up(dc) => Ok(Out::Flushed(dc.flush(key)?)),
+            DataComponent::Down(_) => Err(Refusal::NotConnected),
+        }
     }
 
     fn request(&mut self, number: u64) -> Result<Out, Refusal>
         requires { IsKept (seen self.old) }
-        ensures done { ServesTo (seen self.old) number (out_of result) (seen self.new) }
+        ensures done { IfUp (seen self.old) (out_of result) (seen self.new)
+            (ServesTo (seen self.old) number (out_of result) (seen self.new)) }
     {
+        let DataComponent::Up(dc) = &mut self.dc else {
+            return Err(Refusal::NotConnected);
+        };
         let request = self.requests.message(number)?;
-        self.dc.allows(&request)?;
+        dc.allows(&request)?;
         if has_reply(&request) {
             self.replies.make_room()?;
         }
-        match self.dc.serve(&request)? {
+        match dc.serve(&request)? {
             None => Ok(Out::Noted),
             Some(reply) => {
                 // Only rows may lack room, and whoever reads them changes nothing.
@@ -249,6 +274,27 @@ impl Node {
     {
         let reply = self.replies.message(number)?;
         Ok(out_of_told(self.tc.on_reply(&reply)?))
+    }
+
+    fn crash_dc(&mut self, frames: u64, bytes: u64) -> Out
+        requires { IsKept (seen self.old) }
+        ensures done { CrashesDcTo (seen self.old) frames result (seen self.new) }
+    {
+        if self.dc.crash(self.alloc, frames, bytes) {
+            Out::Down
+        } else {
+            Out::Nothing
+        }
+    }
+
+    fn restart_dc(&mut self) -> Result<Out, Refusal>
+        requires { IsKept (seen self.old) }
+        ensures done { RestartsDcTo (seen self.old) (out_of result) (seen self.new) }
+    {
+        Ok(match self.dc.restart(self.alloc)? {
+            Some(leaves) => Out::Up(leaves as u64),
+            None => Out::Nothing,
+        })
     }
 }
 

@@ -3,6 +3,8 @@
 /// A round: a few events that belong together. None is a client's call.
 #[derive(Debug, Clone, Copy, PartialEq, Eq)]
 pub enum Round {
+    /// The data component is restarted.
+    Restart,
     /// A session is started, and its Connect is sent, served and answered.
     Connect,
     /// A request of recovery is sent, served and answered.

@@ -1,6 +1,7 @@
 //! The node, event by event and by rounds, with messages repeated and late. Each call of the world stands in a
 //! small function of its own without a contract, so that a test of several calls is cheap to check.
 mod allocating;
+mod crashing;
 mod events;
 mod repeating;
 mod rounds;
@@ -44,6 +45,10 @@ fn replies(world: &World) -> u64 {
     world.replies()
 }
 
+fn leaves(world: &World) -> Result<usize, Refusal> {
+    world.leaves()
+}
+
 fn records(world: &World) -> u64 {
     world.records()
 }
@@ -68,17 +73,20 @@ fn settle_all(world: &mut World, most: Option<u64>, outs: &mut Vec<Out>) -> Resu
     settle(world, most, outs)
 }
 
-/// How many records the leaves have, told without memory.
+/// How many records the leaves have, told without memory; none while the data component is down.
 fn rows_in(world: &World) -> u64 {
+    let Ok(leaves) = world.leaves() else {
+        return 0;
+    };
     let mut count = 0u64;
-    for place in 0..world.leaves() {
+    for place in 0..leaves {
         count = count.saturating_add(world.leaf(place).rows().len() as u64);
     }
     count
 }
 
 fn first_leaf(world: &World) -> Result<&Leaf, Refusal> {
-    if world.leaves() == 0 {
+    if world.leaves()? == 0 {
         return Err(Refusal::NotNow);
     }
     Ok(world.leaf(0))

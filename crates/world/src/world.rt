@@ -1,5 +1,5 @@
 //! The world: a node, one event at a time.
-ghost use Rattle.std.specs.Prelude.{◌≡◌, ◌<◌, ◌↔◌, true, IsTrue, length, get_or, MatchOption, Some, None, OnOk, IfOk, IfErr};
+ghost use Rattle.std.specs.Prelude.{◌≡◌, ◌<◌, ◌↔◌, true, false, IsTrue, length, get_or, MatchOption, Some, None, OnOk, OnErr, IfOk, IfErr, if◌then◌else◌};
 ghost use Rattle.std.specs.FinMap.{entries};
 ghost use Rattle.history.specs.History.{plain};
 ghost use Rattle.history.specs.Log.{record_at};
@@ -13,9 +13,11 @@ ghost use Rattle.world.specs.Simulation.{Stands, Leads, IsSettled};
 ghost use Rattle.world.specs.Kept.{IsKept};
 ghost use Rattle.world.specs.Rounds.{IsNext, IsAtRest, IsApart, round_for};
 
+use crate::data_component::DataComponent;
 use crate::event::{Event, Out};
 use crate::node::Node;
 use crate::round::Round;
+use dc_core::Dc;
 use history::Record;
 use page::Leaf;
 use record_key::{Key, Refusal, Value};
@@ -76,27 +78,50 @@ impl World {
         let _ = &self.node;
     }
 
-    /// Copies of the records of the data component, in key order. Refused NoMemory.
+    /// The data component, where it runs. Refused NotConnected.
+    fn running(&self) -> Result<&Dc, Refusal>
+        ensures up { OnOk result (self.now.dc_up ≡ true) }
+        ensures dc { IfOk result (λ dc. dc.now ≡ self.now.dc) }
+        ensures refused { IfErr result (λ refusal. refusal ≡ Refusal.NotConnected) }
+        ensures down { OnErr result (self.now.dc_up ≡ false) }
+    {
+        match &self.node.dc {
+            DataComponent::Up(dc) => Ok(dc),
+            DataComponent::Down(_) => Err(Refusal::NotConnected),
+        }
+    }
+
+    /// Copies of the records of the data component, in key order. Refused NotConnected where it is down, NoMemory.
     pub fn rows(&self) -> Result<Vec<(Key, Value)>, Refusal>
         ensures rows { IfOk result (λ rows. rows.items ≡ entries (rows_of (leaves self.now.dc))) }
-        ensures memory { IfErr result (λ refusal. refusal ≡ Refusal.NoMemory) }
+        ensures up { OnOk result (self.now.dc_up ≡ true) }
+        ensures refused { IfErr result (λ refusal.
+            refusal ≡ (if self.now.dc_up then Refusal.NoMemory else Refusal.NotConnected)) }
     {
-        Ok(self.node.dc.rows()?)
+        self.kept();
+        Ok(self.running()?.rows()?)
     }
 
-    /// How many leaves the data component has.
-    pub fn leaves(&self) -> usize
-        ensures { result ≡ length (leaves self.now.dc) }
+    /// How many leaves the data component has. Refused NotConnected where it is down.
+    pub fn leaves(&self) -> Result<usize, Refusal>
+        ensures count { IfOk result (λ count. count ≡ length (leaves self.now.dc)) }
+        ensures up { OnOk result (self.now.dc_up ≡ true) }
+        ensures refused { IfErr result (λ refusal. refusal ≡ Refusal.NotConnected) }
+        ensures down { OnErr result (self.now.dc_up ≡ false) }
     {
-        self.node.dc.leaves()
+        Ok(self.running()?.leaves())
     }
 
-    /// The leaf at a place in key order, from 0.
+    /// The leaf at a place in key order, from 0, of a data component that runs.
     pub fn leaf(&self, place: usize) -> &Leaf
-        requires { place < length (leaves self.now.dc) }
+        requires up { self.now.dc_up ≡ true }
+        requires within { place < length (leaves self.now.dc) }
         ensures { result.now ≡ get_or (leaves self.now.dc) place first }
     {
-        self.node.dc.leaf(place)
+        match self.running() {
+            Ok(dc) => dc.leaf(place),
+            Err(_) => unreachable!(),
+        }
     }
 
     /// Whether a transaction may begin, memory and the device aside.
@@ -142,13 +167,16 @@ impl World {
         self.node.tc.stable_end()
     }
 
-    /// The first round of settling that applies, if any is left: connect where the components have no session
+    /// The first round of settling that applies, if any is left: restart the data component; connect where the components have no session
     /// in common; recover until clients are served; for the least transaction with an unanswered request, force
     /// the log where its record isn't stable, else exchange it; undo for the least one that is being rolled
     /// back; force where records aren't stable.
     pub fn next_round(&self) -> Option<Round>
         ensures { MatchOption result (IsAtRest self.now) (IsNext self.now) }
     {
+        let DataComponent::Up(_) = &self.node.dc else {
+            return Some(Round::Restart);
+        };
         if self.is_apart() {
             return Some(Round::Connect);
         }
@@ -172,10 +200,16 @@ impl World {
 
     /// The transaction component has no session that the data component runs.
     fn is_apart(&self) -> bool
+        requires { self.now.dc_up ≡ true }
         ensures { IsTrue result ↔ IsApart self.now }
     {
-        matches!(self.node.tc.phase(), Phase::Unconnected | Phase::Connecting)
-            || self.node.dc.session() != self.node.tc.session()
+        match self.running() {
+            Ok(dc) => {
+                matches!(self.node.tc.phase(), Phase::Unconnected | Phase::Connecting)
+                    || dc.session() != self.node.tc.session()
+            }
+            Err(_) => unreachable!(),
+        }
     }
 }
 

@@ -18,15 +18,23 @@ fn assert_lines<R: Abort + AllocGlobal>(rt: &R, script: &str) {
 #[test]
 fn lines_of_one_word(rt: HostRuntime) {
     let lines = "begin|Begin t|rollback|save|commit|undo|send|back|settled| settle|settle |\tlog|\
-                 log\r| | #|connect|tends";
+                 log\r| | #|connects|crash|restart|tends";
     assert_faults(&rt, lines);
 }
 
 #[test]
 fn lines_of_a_label(rt: HostRuntime) {
-    let lines = "begin |begin  t| begin t|begin t |begin T|begin abcdefghi|begin a-b|settle 1|\
+    let lines = "begin |begin  t| begin t|begin t |begin T|begin abcdefghi|begin a-b|settle t|\
                  table t|log log|leaves t|force 1|send T|save T|commit T|commit a-b|undo T|\
-                 checkpoint t|recover t|split|flush a b";
+                 checkpoint t|recover t|connect 1|settle 01|split|flush a b";
+    assert_faults(&rt, lines);
+}
+
+#[test]
+fn lines_of_a_component(rt: HostRuntime) {
+    let lines = "restart t|restart DC|restart dcs|restart |restart dc 0|crash dc|crash dc 0|\
+                 crash 0 0|crash t 0 0|crash dc 0 t|crash dc t 0|crash dc 00 0|crash dc 0 0 0|\
+                 crash dc 0 |crash dc 281474976710656 0|crash dc 0 281474976710656";
     assert_faults(&rt, lines);
 }
 
@@ -76,6 +84,14 @@ fn numbers_in_the_grammar(rt: HostRuntime) {
 #[test]
 fn calls_in_the_grammar(rt: HostRuntime) {
     assert_lines(&rt, "save t\ncommit t\nundo t\nsave save\ncommit 1");
+}
+
+#[test]
+fn components_in_the_grammar(rt: HostRuntime) {
+    assert_lines(
+        &rt,
+        "restart dc\ncrash dc 0 0\ncrash dc 281474976710655 1\nbegin dc\nsettle 0",
+    );
 }
 
 #[test]

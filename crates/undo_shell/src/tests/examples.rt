@@ -395,3 +395,103 @@ fn savepoints(rt: HostRuntime) {
         records 16 stable 15\n";
     assert_run(&rt, script, text, 0);
 }
+
+#[test]
+fn restart(rt: HostRuntime) {
+    let script = "\
+        # The data component crashes and is restarted. Of what it did it has what it wrote; the rest is done again, from the transactions' log.\n\
+        # Run it with: undo_shell run < examples/restart.script\n\
+        \n\
+        settle\n\
+        begin t\n\
+        insert t apple 1\n\
+        settle\n\
+        insert t pear 2\n\
+        settle\n\
+        \n\
+        # Two leaves, of which one is written to its page.\n\
+        split apple\n\
+        flush pear\n\
+        leaves\n\
+        \n\
+        # crash dc N M: of the records of its log that weren't stable N stay, and M bytes of the next one. All were stable.\n\
+        crash dc 0 0\n\
+        table\n\
+        restart dc\n\
+        leaves\n\
+        \n\
+        # A new session by hand: the log's operations are sent again, one at a time. The second one is on the page already.\n\
+        connect\n\
+        req 5\n\
+        rep 5\n\
+        recover\n\
+        req 6\n\
+        rep 6\n\
+        table\n\
+        \n\
+        # Settling does the rest: one round sends the second operation, the last one ends the redo.\n\
+        settle 1\n\
+        settle\n\
+        table\n\
+        \n\
+        # A rollback goes on where it stood.\n\
+        rollback t\n\
+        undo t\n\
+        crash dc 0 0\n\
+        settle\n\
+        table\n\
+        log\n";
+    let text = "\
+        settled\n\
+        txn 2\n\
+        logged 3\n\
+        answer 2 inserted\n\
+        settled\n\
+        logged 5\n\
+        answer 2 inserted\n\
+        settled\n\
+        split 1 2\n\
+        flushed 2\n\
+        leaf 1 - pear low 0 last 2 n 1 set 3\n\
+        leaf 2 pear - low 0 last 2 n 1 set 5\n\
+        down\n\
+        no 9 NotConnected\n\
+        up 2\n\
+        leaf 1 - pear low 0 last 2 n 0 set -\n\
+        leaf 2 pear - low 0 last 2 n 1 set 5\n\
+        request 5\n\
+        reply 5\n\
+        connected 7\n\
+        request 6\n\
+        reply 6\n\
+        nothing\n\
+        apple=1\n\
+        pear=2\n\
+        rows 2\n\
+        paused\n\
+        settled\n\
+        apple=1\n\
+        pear=2\n\
+        rows 2\n\
+        rolling back\n\
+        comp 8\n\
+        down\n\
+        rolled back 2\n\
+        settled\n\
+        rows 0\n\
+        1 session\n\
+        2 begin\n\
+        3 op 2 prev 0 insert apple 1\n\
+        4 answer 3 inserted\n\
+        5 op 2 prev 3 insert pear 2\n\
+        6 answer 5 inserted\n\
+        7 session\n\
+        8 comp 2 undoes 5 next 3 delete pear\n\
+        9 session\n\
+        10 answer 8 deleted 2\n\
+        11 comp 2 undoes 3 next 0 delete apple\n\
+        12 answer 11 deleted 1\n\
+        13 end 2\n\
+        records 13 stable 13\n";
+    assert_run(&rt, script, text, 0);
+}

@@ -157,6 +157,13 @@ fn outputs_of_messages(rt: HostRuntime) {
 }
 
 #[test]
+fn outputs_of_crashes(rt: HostRuntime) {
+    assert_out(&rt, &Out::Down, "down\n");
+    assert_out(&rt, &Out::Up(12), "up 12\n");
+    assert_told(&rt, &Out::Up(12), "");
+}
+
+#[test]
 fn ended_rollbacks(rt: HostRuntime) {
     let back = Out::Back {
         txn: 2,

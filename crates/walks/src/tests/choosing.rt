@@ -114,8 +114,20 @@ impl Chooser {
         })
     }
 
+    /// The data component crashes. Of the records of its log that aren't stable none stays, one or all.
+    fn crash(&mut self) -> Event {
+        Event::CrashDc {
+            frames: match self.below(3) {
+                0 => 0,
+                1 => 1,
+                _ => u64::MAX,
+            },
+            bytes: self.below(40),
+        }
+    }
+
     /// What would go on from the last event.
-    pub fn useful(&mut self, model: &Model) -> Result<Event, Refusal> {
+    pub fn useful(&mut self, model: &Model, world: &World) -> Result<Event, Refusal> {
         let txn = self.txn;
         Ok(match &self.last {
             Out::Logged(_) | Out::Compensated(_) => Event::Force,
@@ -126,7 +138,8 @@ impl Chooser {
             Out::Refused(Refusal::RollingBack) => Event::Undo { txn },
             Out::Connects { request, .. } => Event::Request { number: *request },
             Out::Connected(_) | Out::Refused(Refusal::Redoing) => Event::Recover,
-            Out::Refused(Refusal::NotConnected) => Event::Reconnect,
+            Out::Refused(Refusal::NotConnected) if is_down(world) => Event::RestartDc,
+            Out::Refused(Refusal::NotConnected) | Out::Up(_) => Event::Reconnect,
             Out::Refused(Refusal::Unanswered) => Event::Force,
             _ => self.call(model)?,
         })
@@ -135,7 +148,7 @@ impl Chooser {
     /// Any event.
     pub fn any(&mut self, model: &Model, world: &World) -> Result<Event, Refusal> {
         let txn = self.txn;
-        Ok(match self.below(220) {
+        Ok(match self.below(224) {
             0..=79 => Event::Request {
                 number: self.earlier(world.requests()),
             },
@@ -153,6 +166,8 @@ impl Chooser {
             186 => Event::Begin,
             187 => Event::Send { txn: txn / 2 },
             188..=207 => self.tree()?,
+            208 | 209 => self.crash(),
+            210 | 211 => Event::RestartDc,
             _ => self.call(model)?,
         })
     }
@@ -161,4 +176,9 @@ impl Chooser {
     pub fn go_on_from(&mut self, out: Out) {
         self.last = out;
     }
+}
+
+/// The data component doesn't run.
+pub fn is_down(world: &World) -> bool {
+    world.leaves().is_err()
 }

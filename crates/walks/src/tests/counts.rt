@@ -22,6 +22,8 @@ pub struct Counts {
     splits: u64,
     merges: u64,
     flushes: u64,
+    crashes: u64,
+    restarts: u64,
 }
 
 impl Counts {
@@ -42,6 +44,8 @@ impl Counts {
             splits: 0,
             merges: 0,
             flushes: 0,
+            crashes: 0,
+            restarts: 0,
         }
     }
 
@@ -61,6 +65,8 @@ impl Counts {
             Out::Split(_) => more(&mut self.splits, 1),
             Out::Merged(_) => more(&mut self.merges, 1),
             Out::Flushed(_) => more(&mut self.flushes, 1),
+            Out::Down => more(&mut self.crashes, 1),
+            Out::Up(_) => more(&mut self.restarts, 1),
             Out::Refused(refusal) => self.count_refusal(*refusal, committing),
             _ => {}
         }
@@ -107,6 +113,8 @@ impl Counts {
         assert!(rt; self.splits > 10, "{self:?}");
         assert!(rt; self.merges > 10, "{self:?}");
         assert!(rt; self.flushes > 10, "{self:?}");
+        assert!(rt; self.crashes > 5, "{self:?}");
+        assert!(rt; self.restarts > 5, "{self:?}");
     }
 
     fn assert_refusals(&self, rt: &impl Abort) {

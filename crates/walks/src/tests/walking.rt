@@ -1,5 +1,5 @@
-//! A random walk, with messages late, repeated and lost, beside the plain slow model.
-use super::choosing::Chooser;
+//! A random walk, with messages late, repeated and lost and crashes of the data component, beside the plain slow model.
+use super::choosing::{Chooser, is_down};
 use super::counts::Counts;
 use super::model::Model;
 use history::Record;
@@ -34,7 +34,11 @@ impl Walk {
         let goes_on = self.chooser.below(3) > 0;
         let event = self.event(goes_on)?;
         let answer = self.model.call(alloc, &event, next_number(&self.world));
+        let refused = is_down(&self.world) && is_of_dc(&event);
         let out = step(&mut self.world, &event);
+        if refused {
+            assert_eq!(rt; out, Out::Refused(Refusal::NotConnected), "{event:?}");
+        }
         if let Some(answer) = answer {
             assert_eq!(rt; out, answer, "{event:?}");
         }
@@ -47,7 +51,7 @@ impl Walk {
 
     fn event(&mut self, goes_on: bool) -> Result<Event, Refusal> {
         if goes_on {
-            self.chooser.useful(&self.model)
+            self.chooser.useful(&self.model, &self.world)
         } else {
             self.chooser.any(&self.model, &self.world)
         }
@@ -106,6 +110,18 @@ fn step(world: &mut World, event: &Event) -> Out {
 
 fn settle_all(world: &mut World, outs: &mut Vec<Out>) -> Result<bool, Refusal> {
     settle(world, None, outs)
+}
+
+/// The event is one of a data component that runs.
+fn is_of_dc(event: &Event) -> bool {
+    matches!(
+        event,
+        Event::Split { .. }
+            | Event::Merge { .. }
+            | Event::Tend
+            | Event::Flush { .. }
+            | Event::Request { .. }
+    )
 }
 
 /// The number of the next record.

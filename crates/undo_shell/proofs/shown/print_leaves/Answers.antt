@@ -1,25 +1,13 @@
-use Rattle.std.proofs.Common.{◌<◌, ◌≤◌, arith, length}
-use Rattle.page.specs.Leaf.{first}
-use Rattle.undo_shell.proofs.Printing.{prints_err, cut_at_item, item_more, items_all}
-use Rattle.undo_shell.specs.Stored.{leaf_line}
-use Rattle.undo_shell.specs.View.{leaves_of}
+use Rattle.std.proofs.Common.{Bool, sym, subst}
+use Rattle.record_key.specs.declared.refusal.Refusal.{Refusal}
+use Rattle.undo_shell.specs.Printed.{Prints, refusal_line}
+use Rattle.undo_shell.specs.View.{leaves_of, leaves_text}
 use Rattle.undo_shell.proofs.shown.print_leaves.Goals as goal
 
-pub returns-in_err-print_leaf : goal.returns-in_err-print_leaf
-returns-in_err-print_leaf g c =
-    let leaves = leaves_of c.args.world.now in
-    let within : c.loop-place.place < length leaves = omega (arith, c.loop-place-test.true, c.leaves-place-end.ensures) in
-    prints_err _ _ _ c.from_residual.result c.from_residual.ensures.0
-    (cut_at_item leaf_line _ _ _ leaves c.loop-place.place c.leaf.result.now first within c.leaf.ensures c.loop-place.invariant c.in_err-print_leaf.ensures)
-
-pub loop-place-preserved : goal.loop-place-preserved
-loop-place-preserved g c =
-    let leaves = leaves_of c.args.world.now in
-    let within : c.loop-place.place < length leaves = omega (arith, c.loop-place-test.true, c.leaves-place-end.ensures) in
-    item_more leaf_line _ _ _ leaves c.loop-place.place c.leaf.result.now first within c.leaf.ensures c.loop-place.invariant c.in_ok-print_leaf.ensures
-
-pub returns : goal.returns
-returns g c =
-    let leaves = leaves_of c.args.world.now in
-    let most : length leaves ≤ c.loop-place.place = omega (arith, c.loop-place-test.false, c.leaves-place-end.ensures) in
-    items_all leaf_line _ _ leaves c.loop-place.place most c.loop-place.invariant
+pub returns-in-Err : goal.returns-in-Err
+returns-in-Err g c =
+    let old = g.W.Write.contents c.args.writer.now in
+    let new = g.W.Write.contents c.print_refusal.new.writer in
+    let P : Bool → Type 0 = λ up. Prints old new c.print_refusal.result (leaves_text up (leaves_of c.args.world.now)) in
+    let Q : Refusal → Type 0 = λ r. Prints old new c.print_refusal.result (refusal_line r) in
+    subst P (sym c.in-Err.ensures.down) (subst Q c.in-Err.ensures.refused c.print_refusal.ensures)

@@ -28,7 +28,7 @@ returns-then-eq c =
     let next : IsNext c.loop-round.world c.in-Some.round = c.in-Some.ensures in (
       far.played,
       all_played c.args.most c.loop-round.left _ far.left_is (spent c.loop-round.left c.if-eq.ensures),
-      omega (arith, far.count, some_left c.loop-round.world c.in-Some.round c.loop-round.invariant.kept next, rounds_bound c.args.world.now.tc c.kept.ensures.kept.tc),
+      omega (arith, far.count, some_left c.loop-round.world c.in-Some.round c.loop-round.invariant.kept next, rounds_bound c.args.world.now c.kept.ensures.kept.tc),
       (c.in-Some.round, next),
     )
 
@@ -43,7 +43,7 @@ returns-in_err-play c =
     refused c.args.world.now c.play.new.world c.args.most c.args.out.now.items c.play.new.out.items c.in_err-play.field-0.0 c.from_residual.result
     (broken c.args.world.now c.loop-round.world c.play.new.world c.args.most c.loop-round.left c.args.out.now.items c.loop-round.out.items c.play.new.out.items c.in-Some.round c.in_err-play.field-0.0
     c.loop-round.invariant.far (unspent c.loop-round.left c.if-eq.ensures) c.loop-round.invariant.kept c.in-Some.ensures c.in_err-play.ensures
-    (rounds_bound c.args.world.now.tc c.kept.ensures.kept.tc))
+    (rounds_bound c.args.world.now c.kept.ensures.kept.tc))
     c.from_residual.ensures.1
 
 pub loop-round-smaller : goal.loop-round-smaller
@@ -65,6 +65,6 @@ returns c =
     let far = c.loop-round.invariant.far in (
       far.played,
       allowed c.args.most c.loop-round.left (length far.played.rounds) far.left_is,
-      omega (arith, far.count, rounds_bound c.args.world.now.tc c.kept.ensures.kept.tc),
+      omega (arith, far.count, rounds_bound c.args.world.now c.kept.ensures.kept.tc),
       c.in_default.ensures,
     )

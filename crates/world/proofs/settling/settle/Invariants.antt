@@ -10,4 +10,4 @@ invariant-loop-round l = record {
 }
 
 abbrev pub decreases-loop-round : goal.decreases-loop-round
-decreases-loop-round l = rounds_left l.world.tc
+decreases-loop-round l = rounds_left l.world

@@ -1,5 +1,25 @@
-use Rattle.dc_core.proofs.KeepsDc.{keeps_fresh}
+use Rattle.std.proofs.Common.{◌∙◌, false, ap, length, sym}
+use Rattle.recovery_laws.specs.Recovery.{stored_session}
+use Rattle.system_txn.specs.SystemView.{SystemView}
+use Rattle.dc_core.proofs.KeepsDc.{keeps_opened, first_rows}
 use Rattle.dc_core.proofs.parts.Parts.new.Goals as goal
 
 pub returns-clause-kept : goal.returns-clause-kept
-returns-clause-kept c = keeps_fresh c.in-Ok.system c.new-2.result _ c.in-Ok.ensures.fresh c.new-2.ensures c.kept.ensures
+returns-clause-kept c =
+    let fresh = c.in-Ok.ensures.fresh in
+    keeps_opened c.in-Ok.system 0 c.of-opened.result.table c.new-2.result c.kept.ensures
+    (ap (λ (v : SystemView). v.stable) fresh ∙ sym (ap (λ (v : SystemView). length v.log) fresh))
+    (sym (ap (λ (v : SystemView). stored_session v.log) fresh)) c.of-opened.ensures c.new-2.ensures
+
+pub returns-clause-fresh : goal.returns-clause-fresh
+returns-clause-fresh c =
+    let fresh = c.in-Ok.ensures.fresh in
+    let rows = first_rows c.in-Ok.system c.of-opened.result.table _ fresh c.of-opened.ensures in
+    λ i. record {
+      stored = 0;
+      session = 0;
+      redo = false;
+      system = fresh i;
+      opened = rows i;
+      performed = c.new-2.ensures i;
+    }

@@ -2,7 +2,7 @@ use Rattle.std.proofs.Common.{take, flat_map}
 use Rattle.std.specs.Io.KnownBytes.{Appends}
 use Rattle.undo_shell.specs.Stored.{leaf_line}
 use Rattle.undo_shell.specs.View.{leaves_of}
-use Rattle.undo_shell.proofs.shown.print_leaves.Given as goal
+use Rattle.undo_shell.proofs.shown.print_each_leaf.Given as goal
 
 -- the leaves so far are written
 abbrev pub invariant-loop-place : goal.invariant-loop-place

@@ -1,0 +1,31 @@
+//! The records of the leaves when they were opened, which contracts alone see.
+ghost use Rattle.std.specs.Prelude.{◌≡◌};
+ghost use Rattle.record_key.specs.Table.{Table, table_code};
+ghost use Rattle.btree.specs.Leaves.{rows_of};
+
+use crate::system::System;
+use std::marker::{Model, PhantomData};
+
+#[derive(Drop)]
+pub struct Base {
+    marker: PhantomData<u8>,
+    pub ghost table: { Table } by { table_code },
+}
+
+impl Model for Base {
+    ghost use Rattle.std.specs.Borrow.{ftrue};
+
+    ghost also_owns = { λ _. ftrue };
+}
+
+impl Base {
+    /// Those of these leaves.
+    pub fn of(system: &System) -> Base
+        ensures { result.table ≡ rows_of system.now.leaves }
+    {
+        let _ = system;
+        Base {
+            marker: PhantomData,
+        }
+    }
+}

@@ -1,0 +1,260 @@
+-- The log stays legal, the leaves stay those that it says, and the pages go on to fit it.
+use Rattle.std.proofs.Common.{◌≡◌, ℕ, ◌≤◌, Bool, List, [], ◌∷◌, Option, Some, None, length, map, refl, sym, ap, ◌∙◌, subst, arith, inl, inr}
+use Rattle.std.specs.Prelude.{nat_le, Result, Ok, Err}
+use Rattle.std.specs.List.{AllByRecursion}
+use Rattle.std.specs.FinMap as table
+use Rattle.std.proofs.lemmas.Bool.{cases_Bool, leb-true, MatchBool-at_true, MatchBool-at_false}
+use Rattle.record_key.specs.declared.op.Op.{Op}
+use Rattle.record_key.specs.declared.refusal.Refusal.{Refusal}
+use Rattle.record_key.specs.Table.{Bytes, key_of}
+use Rattle.ab_lsn.specs.AbLsn.{captures}
+use Rattle.codec.specs.declared.dc_record.DcRecord.TheVariants as is
+use Rattle.codec.specs.Images.{image_bytes, IsImage}
+use Rattle.codec.specs.Reading.{◌>>=◌}
+use Rattle.page.specs.declared.leaf.Done.{Done}
+use Rattle.page.specs.Leaf.{LeafView, is_in_fences, performed, raised_to}
+use Rattle.page.specs.Tiles.{parts_of}
+use Rattle.btree.specs.Leaves.{leaf_at, changed_at}
+use Rattle.btree.specs.Performs.{PerformsAt, performed_at}
+use Rattle.btree.proofs.AtKey.{all_at}
+use Rattle.btree.proofs.Changing.{parts_changed, parts_mapped}
+use Rattle.recovery_laws.specs.Images.{image_of}
+use Rattle.recovery_laws.specs.Laws.{IsCurrent}
+use Rattle.recovery_laws.specs.Leaves.{lasts_of}
+use Rattle.recovery_laws.specs.Recovery.{FitPages}
+use Rattle.recovery_laws.proofs.Fitting.{fit_stays}
+use Rattle.recovery_laws.proofs.Leaves.{leaves_are_the_shapes}
+use Rattle.system_txn.specs.SystemView.{SystemView, fresh, refused_so}
+use Rattle.system_txn.specs.Changes.{accepted, covered, forced, lowered, written_to, written_all}
+use Rattle.system_txn.specs.Devices.{pages_of, page_in}
+use Rattle.system_txn.specs.Gives.{Splits, Merges, SplitGives, MergeGives, Tending, SplitsAt, MergesAt, Rests, tending, TendsTo, TendGives, FlushGives, CheckpointGives, AcceptGives, HaveImages, StopsWriting, StopsAmong}
+use Rattle.system_txn.specs.Kept.{IsSystem, IsRecoverable}
+use Rattle.system_txn.specs.declared.tended.Neighbours.{Neighbours}
+use Rattle.system_txn.specs.declared.tended.Tended.{Tended}
+use Rattle.system_txn.specs.declared.tended.Tended.TheVariants as tended
+use Rattle.system_txn.proofs.Fresh.{no_page}
+use Rattle.system_txn.proofs.Parted.{split_recoverable, merge_recoverable}
+use Rattle.system_txn.proofs.Written.{pages_written}
+
+-- ---- one leaf, and nothing written
+
+pub recoverable_fresh : (failures : ℕ) → IsRecoverable (fresh failures)
+recoverable_fresh failures = record {
+  legal = tt;
+  current = leaves_are_the_shapes.start;
+  fit = record {
+    kept = omega arith;
+    each = λ id page is. absurd
+        (let none : pages_of (fresh failures).pages id ≡ None =
+        ap (λ (o : Option (List ℕ)). o >>= page_in) (no_page id (fresh failures).pages refl) in
+        let wrong : None ≡ Some page = sym none ∙ is in cc);
+  };
+}
+
+-- ---- the log grows, and more of it is stable
+
+pub recoverable_refused : (v : SystemView) (r : Refusal) → IsRecoverable v → IsRecoverable (refused_so v r)
+recoverable_refused v r h = record { legal = h.legal; current = h.current; fit = h.fit }
+
+pub recoverable_forced : (v : SystemView) → IsRecoverable v → IsRecoverable (forced v)
+recoverable_forced v h = record {
+  legal = h.legal;
+  current = h.current;
+  fit = fit_stays.force _ v.log v.stable (length v.log) h.fit h.fit.kept (omega arith);
+}
+
+pub recoverable_covered : (v : SystemView) (leaf : LeafView) → IsRecoverable v → IsRecoverable (covered v leaf)
+recoverable_covered v leaf h =
+    elim (cases_Bool (nat_le leaf.last v.stable)) [
+      | inl stable ↦ rw stable h
+      | inr young ↦ rw young (recoverable_forced v h)
+    ]
+
+pub recoverable_accepted : (v : SystemView) (session : ℕ) → IsRecoverable v → IsRecoverable (accepted v session)
+recoverable_accepted v session h = record {
+  legal = (tt, h.legal);
+  current = leaves_are_the_shapes.accept v.log session v.leaves h.current;
+  fit = fit_stays.grow _ (is.Accept session) v.log v.stable h.fit;
+}
+
+-- ---- leaves change, and keep their numbers, fences and last changes
+
+in_place : (v : SystemView) (leaves : List LeafView) → IsRecoverable v → parts_of leaves ≡ parts_of v.leaves
+    → lasts_of leaves ≡ lasts_of v.leaves → IsRecoverable (record v { leaves = leaves })
+in_place v leaves h parts lasts = record {
+  legal = h.legal;
+  current = leaves_are_the_shapes.change v.log v.leaves leaves h.current parts lasts;
+  fit = h.fit;
+}
+
+lasts_raised : (l : ℕ) (leaves : List LeafView) → lasts_of (map (λ leaf. raised_to leaf l) leaves) ≡ lasts_of leaves
+lasts_raised l [] = refl
+lasts_raised l (leaf ∷ leaves) = ap (λ (ns : List ℕ). leaf.last ∷ ns) (lasts_raised l leaves)
+
+pub recoverable_lowered : (v : SystemView) (l : ℕ) → IsRecoverable v → IsRecoverable (lowered v l)
+recoverable_lowered v l h =
+    in_place v (map (λ leaf. raised_to leaf l) v.leaves) h
+    (parts_mapped (λ leaf. raised_to leaf l) (λ leaf. refl) v.leaves) (lasts_raised l v.leaves)
+
+lasts_changed : (k : Bytes) (change : LeafView → LeafView) → ((leaf : LeafView) → (change leaf).last ≡ leaf.last)
+    → (leaves : List LeafView) → lasts_of (changed_at k change leaves) ≡ lasts_of leaves
+lasts_changed k change same [] = refl
+lasts_changed k change same (leaf ∷ leaves) =
+    elim (cases_Bool (is_in_fences leaf k)) [
+      | inl here ↦ rw here (ap (λ (n : ℕ). n ∷ lasts_of leaves) (same leaf))
+      | inr other ↦ rw other (ap (λ (ns : List ℕ). leaf.last ∷ ns) (lasts_changed k change same leaves))
+    ]
+
+pub recoverable_changed : (v : SystemView) (n : ℕ) (o : Op) → IsRecoverable v
+    → IsRecoverable (record v { leaves = performed_at v.leaves n o })
+recoverable_changed v n o h =
+    let act : LeafView → LeafView = λ leaf. performed leaf n o in
+    in_place v (performed_at v.leaves n o) h
+    (parts_changed act (λ leaf. refl) (key_of o) v.leaves) (lasts_changed (key_of o) act (λ leaf. refl) v.leaves)
+
+-- the same, whatever the request came to
+pub recoverable_performs : (v : SystemView) (n : ℕ) (o : Op) (done : Done) (new : List LeafView) → IsRecoverable v
+    → PerformsAt v.leaves n o done new → IsRecoverable (record v { leaves = new })
+recoverable_performs v n o done new h performs =
+    let Of : List LeafView → Type 0 = λ leaves. IsRecoverable (record v { leaves = leaves }) in
+    elim (cases_Bool (captures (leaf_at v.leaves (key_of o)).ab n)) [
+      | inl again ↦ subst Of (sym (MatchBool-at_true _ _ again performs).1) h
+      | inr out ↦ subst Of (sym (MatchBool-at_false _ _ out performs).1) (recoverable_changed v n o h)
+    ]
+
+-- ---- leaves are split and joined
+
+pub recoverable_splits : (old : SystemView) (p : ℕ) (pair : Neighbours) (new : SystemView) → IsSystem old
+    → IsRecoverable old → Splits old p pair new → IsRecoverable new
+recoverable_splits old p pair new kept h splits =
+    subst IsRecoverable (sym splits.after) (split_recoverable old p kept h splits.may)
+
+pub recoverable_merges : (old : SystemView) (p : ℕ) (pair : Neighbours) (new : SystemView) → IsRecoverable old
+    → Merges old p pair new → IsRecoverable new
+recoverable_merges old p pair new h merges =
+    subst IsRecoverable (sym merges.after) (merge_recoverable old p h merges.may)
+
+-- ---- leaves are written
+
+-- the page of a leaf that is no younger than the stable records
+recoverable_page : (v : SystemView) (leaf : LeafView) → IsRecoverable v → IsImage (image_of leaf)
+    → IsCurrent v.log leaf.id leaf → leaf.last ≤ v.stable
+    → IsRecoverable (record v { pages = table.insert v.pages leaf.id (image_bytes (image_of leaf)) })
+recoverable_page v leaf h fits current stable = record {
+  legal = h.legal;
+  current = h.current;
+  fit = subst (λ (pages : ℕ → Option LeafView). FitPages pages v.log v.stable)
+      (sym (λ i id. pages_written v.pages leaf fits id i))
+      (fit_stays.write (pages_of v.pages) v.log v.stable leaf.id leaf h.fit current stable);
+}
+
+pub recoverable_written : (v : SystemView) (leaf : LeafView) → IsRecoverable v → IsImage (image_of leaf)
+    → IsCurrent v.log leaf.id leaf → IsRecoverable (written_to v leaf)
+recoverable_written v leaf h fits current =
+    elim (cases_Bool (nat_le leaf.last v.stable)) [
+      | inl stable ↦ rw stable (recoverable_page v leaf h fits current (leb-true leaf.last v.stable stable))
+      | inr young ↦ rw young (recoverable_page (forced v) leaf (recoverable_forced v h) fits current current.last)
+    ]
+
+-- leaves as the log has them
+abbrev AreSo : SystemView → List LeafView → Type 0
+AreSo v leaves = AllByRecursion (λ (leaf : LeafView). IsCurrent v.log leaf.id leaf) leaves
+
+-- a write leaves the log
+log_stays : (v : SystemView) (leaf : LeafView) → v.log ≡ (written_to v leaf).log
+log_stays v leaf =
+    elim (cases_Bool (nat_le leaf.last v.stable)) [
+      | inl stable ↦ rw stable refl
+      | inr young ↦ rw young refl
+    ]
+
+still_so : (v : SystemView) (leaf : LeafView) (leaves : List LeafView) → AreSo v leaves
+    → AreSo (written_to v leaf) leaves
+still_so v leaf leaves all =
+    subst (λ log. AllByRecursion (λ (leaf : LeafView). IsCurrent log leaf.id leaf) leaves) (log_stays v leaf) all
+
+pub recoverable_written_all : (v : SystemView) (leaves : List LeafView) → IsRecoverable v → HaveImages leaves
+    → AllByRecursion (λ (leaf : LeafView). IsCurrent v.log leaf.id leaf) leaves → IsRecoverable (written_all v leaves)
+recoverable_written_all v [] h fit all = h
+recoverable_written_all v (leaf ∷ leaves) h fit all =
+    recoverable_written_all (written_to v leaf) leaves (recoverable_written v leaf h fit.0 all.0) fit.1
+    (still_so v leaf leaves all.1)
+
+pub recoverable_stops : (v : SystemView) (leaf : LeafView) (r : Refusal) (new : SystemView) → IsRecoverable v
+    → StopsWriting v leaf r new → IsRecoverable new
+recoverable_stops v leaf r new h stops =
+    elim stops.1 [
+      | inl before ↦ subst IsRecoverable (sym before) (recoverable_refused v r h)
+      | inr after ↦
+          subst IsRecoverable (sym after) (recoverable_refused (covered v leaf) r (recoverable_covered v leaf h))
+    ]
+
+pub recoverable_stops_among : (v : SystemView) (leaves : List LeafView) (r : Refusal) (new : SystemView)
+    → IsRecoverable v → AllByRecursion (λ (leaf : LeafView). IsCurrent v.log leaf.id leaf) leaves
+    → StopsAmong v leaves r new → IsRecoverable new
+recoverable_stops_among v [] r new h all stops = absurd stops
+recoverable_stops_among v (leaf ∷ leaves) r new h all (inl here) = recoverable_stops v leaf r new h here
+recoverable_stops_among v (leaf ∷ leaves) r new h all (inr later) =
+    recoverable_stops_among (written_to v leaf) leaves r new (recoverable_written v leaf h later.0 all.0)
+    (still_so v leaf leaves all.1) later.1
+
+-- ---- whatever a call gives
+
+refused_at : (old : SystemView) (r : Refusal) (new : SystemView) → IsRecoverable old → new ≡ refused_so old r
+    → IsRecoverable new
+refused_at old r new h is = subst IsRecoverable (sym is) (recoverable_refused old r h)
+
+pub recoverable_split : (old : SystemView) (k : Bytes) (given : Result Neighbours Refusal) (new : SystemView)
+    → IsSystem old → IsRecoverable old → SplitGives old k given new → IsRecoverable new
+recoverable_split old k (Ok pair) new kept h gives = recoverable_splits old _ pair new kept h gives
+recoverable_split old k (Err r) new kept h gives = refused_at old r new h gives.1
+
+pub recoverable_merge : (old : SystemView) (k : Bytes) (given : Result Neighbours Refusal) (new : SystemView)
+    → IsRecoverable old → MergeGives old k given new → IsRecoverable new
+recoverable_merge old k (Ok pair) new h gives = recoverable_merges old _ pair new h gives
+recoverable_merge old k (Err r) new h gives = refused_at old r new h gives.1
+
+recoverable_tends : (old : SystemView) (does : Tending) (what : Tended) (new : SystemView) → IsSystem old
+    → IsRecoverable old → TendsTo old does what new → IsRecoverable new
+recoverable_tends old (SplitsAt p) (tended.Split pair) new kept h gives = recoverable_splits old p pair new kept h gives
+recoverable_tends old (SplitsAt p) (tended.Merged pair) new kept h gives = absurd gives
+recoverable_tends old (SplitsAt p) tended.Nothing new kept h gives = absurd gives
+recoverable_tends old (MergesAt p) (tended.Split pair) new kept h gives = absurd gives
+recoverable_tends old (MergesAt p) (tended.Merged pair) new kept h gives = recoverable_merges old p pair new h gives
+recoverable_tends old (MergesAt p) tended.Nothing new kept h gives = absurd gives
+recoverable_tends old Rests (tended.Split pair) new kept h gives = absurd gives
+recoverable_tends old Rests (tended.Merged pair) new kept h gives = absurd gives
+recoverable_tends old Rests tended.Nothing new kept h gives = subst IsRecoverable (sym gives) h
+
+pub recoverable_tend : (old : SystemView) (merges : Bool) (given : Result Tended Refusal) (new : SystemView)
+    → IsSystem old → IsRecoverable old → TendGives old merges given new → IsRecoverable new
+recoverable_tend old merges (Ok what) new kept h gives =
+    recoverable_tends old (tending old merges) what new kept h gives
+recoverable_tend old merges (Err r) new kept h gives = refused_at old r new h gives.1
+
+pub recoverable_flush : (old : SystemView) (k : Bytes) (given : Result ℕ Refusal) (new : SystemView)
+    → IsSystem old → IsRecoverable old → FlushGives old k given new → IsRecoverable new
+recoverable_flush old k (Ok id) new kept h gives =
+    let at : IsCurrent old.log (leaf_at old.leaves k).id (leaf_at old.leaves k) =
+    all_at (λ (leaf : LeafView). IsCurrent old.log leaf.id leaf) old.leaves k kept.leaves h.current.each in
+    subst IsRecoverable (sym gives.2) (recoverable_written old (leaf_at old.leaves k) h gives.1 at)
+recoverable_flush old k (Err r) new kept h gives = recoverable_stops old (leaf_at old.leaves k) r new h gives
+
+pub recoverable_checkpoint : (old : SystemView) (l : ℕ) (given : Result Unit Refusal) (new : SystemView)
+    → IsRecoverable old → CheckpointGives old l given new → IsRecoverable new
+recoverable_checkpoint old l (Ok done) new h gives =
+    let raised : IsRecoverable (lowered old l) = recoverable_lowered old l h in
+    subst IsRecoverable (sym gives.1)
+    (recoverable_written_all (lowered old l) (lowered old l).leaves raised gives.0 raised.current.each)
+recoverable_checkpoint old l (Err r) new h (inl none) = subst IsRecoverable (sym none.1) h
+recoverable_checkpoint old l (Err r) new h (inr stops) =
+    let raised : IsRecoverable (lowered old l) = recoverable_lowered old l h in
+    recoverable_stops_among (lowered old l) (lowered old l).leaves r new raised raised.current.each stops
+
+pub recoverable_accept : (old : SystemView) (s : ℕ) (given : Result Unit Refusal) (new : SystemView)
+    → IsRecoverable old → AcceptGives old s given new → IsRecoverable new
+recoverable_accept old s (Ok done) new h gives =
+    subst IsRecoverable (sym gives.1) (recoverable_forced (accepted old s) (recoverable_accepted old s h))
+recoverable_accept old s (Err r) new h (why, inl refused) = refused_at old r new h refused
+recoverable_accept old s (Err r) new h (why, inr after) =
+    refused_at (accepted old s) r new (recoverable_accepted old s h) after.2

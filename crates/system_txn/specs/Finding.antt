@@ -1,0 +1,62 @@
+-- What is read of a log, and what both devices give.
+use Rattle.std.specs.Prelude.{◌≡◌, ◌⊎◌, ℕ, ◌+◌, ◌<◌, ◌^◌, List, length, reverse}
+use Rattle.std.specs.List.{AllByRecursion}
+use Rattle.record_key.specs.declared.refusal.Refusal.{Refusal}
+use Rattle.record_key.specs.declared.refusal.Refusal.TheVariants.{NoMemory, Device, BadBytes}
+use Rattle.codec.specs.declared.dc_record.DcRecord.{DcRecord}
+use Rattle.stable.specs.PagesState.{Pages}
+use Rattle.btree.specs.Leaves.{AreLeaves}
+use Rattle.btree.specs.Lists.{leaves_in}
+use Rattle.recovery_laws.specs.Images.{HasLeafNumbers}
+use Rattle.recovery_laws.specs.Laws.{IsArranged}
+use Rattle.recovery_laws.specs.Ready.{AreReadable}
+use Rattle.recovery_laws.specs.Recovery.{stored_session}
+use Rattle.recovery_laws.specs.Shape.{named}
+use Rattle.page.specs.Leaf.{LeafView}
+use Rattle.system_txn.specs.Devices.{spelled, places, pages_of}
+use Rattle.system_txn.specs.Recovering.{HoldsFrames, AreOwnPages}
+use Rattle.system_txn.specs.declared.frames.Frames.{Frames}
+use Rattle.system_txn.specs.declared.recovering.Recovered.{Recovered}
+
+-- the log that the frames' records are, the newest first
+abbrev pub log_of : Frames → List DcRecord
+log_of frames = reverse frames.records.items
+
+-- the records of the bytes' whole frames, which fit, and what is kept of them
+pub record AreRead (bytes : List ℕ) (frames : Frames) : Type 0 where
+  pub held : HoldsFrames bytes (log_of frames)
+  pub readable : (pages : Pages) → AreReadable (pages_of pages) (log_of frames)
+  pub numbered : length (log_of frames) < 2 ^ 48
+  pub below : named (log_of frames) < 2 ^ 48
+  pub places_are : frames.places.items ≡ places (log_of frames)
+  pub end_is : frames.end ≡ length (spelled (log_of frames))
+  pub next_is : frames.next_id ≡ named (log_of frames) + 1
+  pub stored_is : frames.stored_session ≡ stored_session (log_of frames)
+
+-- the leaves that the records and the pages give, in a row
+pub record AreRecovered (pages : Pages) (log : List DcRecord) (row : List LeafView) : Type 0 where
+  pub own : AreOwnPages pages (length log)
+  pub arranged : IsArranged (pages_of pages) log row
+  pub leaves : AreLeaves row
+  pub numbers : AllByRecursion HasLeafNumbers row
+
+-- why the records and the pages give none
+abbrev pub RefusesLeaves : Pages → List DcRecord → Refusal → Type 0
+RefusesLeaves pages log r =
+    (r ≡ NoMemory) ⊎ (r ≡ Device)
+    ⊎ ((r ≡ BadBytes 0) × ((AreOwnPages pages (length log) → ⊥)
+    ⊎ ((leaves : List LeafView) → IsArranged (pages_of pages) log leaves → ⊥)))
+
+-- what the bytes of a log and the pages give, when just whole frames are left on the log's device
+pub record IsFound (bytes : List ℕ) (pages : Pages) (left : List ℕ) (found : Recovered) : Type 0 where
+  pub log : List DcRecord
+  pub held : HoldsFrames bytes log
+  pub left_is : left ≡ spelled log
+  pub readable : AreReadable (pages_of pages) log
+  pub numbered : length log < 2 ^ 48
+  pub recovered : AreRecovered pages log (leaves_in found.leaves.items)
+  pub places : found.places.items ≡ places log
+  pub end : found.end ≡ length (spelled log)
+  pub next : found.next_id ≡ named log + 1
+  pub stored : found.stored_session ≡ stored_session log
+  pub named : named log < 2 ^ 48

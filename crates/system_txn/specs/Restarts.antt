@@ -1,0 +1,65 @@
+-- What is true of devices after a crash, and of what is opened from them.
+use Rattle.std.specs.Prelude.{◌≡◌, ◌⊎◌, ℕ, ◌<◌, ◌≤◌, ◌^◌, List, Some, length}
+use Rattle.std.specs.FinMap.{get}
+use Rattle.record_key.specs.declared.refusal.Refusal.{Refusal}
+use Rattle.record_key.specs.declared.refusal.Refusal.TheVariants.{NoMemory, Device}
+use Rattle.codec.specs.declared.dc_record.DcRecord.{DcRecord}
+use Rattle.stable.specs.Crash.{MayLeave}
+use Rattle.stable.specs.PagesState.{Pages}
+use Rattle.page.specs.Leaf.{LeafView}
+use Rattle.recovery_laws.specs.Shape.{beginning, IsLegal}
+use Rattle.recovery_laws.specs.Recovery.{recover, FitPages}
+use Rattle.recovery_laws.specs.Laws.{IsSafeBeginning}
+use Rattle.system_txn.specs.Devices.{spelled, AreRecords, IsPage, pages_of}
+use Rattle.system_txn.specs.LogView.{IsStored}
+use Rattle.system_txn.specs.SystemView.{SystemView}
+use Rattle.system_txn.specs.Kept.{IsRecoverable}
+use Rattle.system_txn.specs.Recovering.{HoldsFrames, LeavesFrames, Recovers, RefusesRecovery}
+
+-- the bytes are the whole frames of a beginning of the log: of all stable records, and of each one more whose frame
+-- there is room for; of the next one's frame a part may stand there
+pub record LeavesBeginning (log : List DcRecord) (stable : ℕ) (left : List ℕ) : Type 0 where
+  pub count : ℕ
+  pub stable_left : stable ≤ count
+  pub within : count ≤ length log
+  pub frames : HoldsFrames left (beginning log count)
+  pub most : (m : ℕ) → m ≤ length log → length (spelled (beginning log m)) ≤ length left → m ≤ count
+
+-- a crash leaves whole frames, and perhaps a cut one
+abbrev pub CrashesLeaveFrames : Type 0
+CrashesLeaveFrames =
+    (log : List DcRecord) (stable : ℕ) (forced pending left : List ℕ) → AreRecords log
+    → IsStored log stable forced pending → MayLeave forced pending left → LeavesBeginning log stable left
+
+-- bytes hold the frames of one log, and hold the same once a refused opening has cut off what isn't whole
+pub record FramesReadOnce : Type 0 where
+  pub once : (bytes : List ℕ) (log other : List DcRecord) → HoldsFrames bytes log → HoldsFrames bytes other
+      → log ≡ other
+  pub cut : (old new : List ℕ) (log : List DcRecord) → HoldsFrames old log → LeavesFrames old new
+      → HoldsFrames new log
+
+-- what was opened has this log and the leaves that it gives with these pages, and is good after any crash from here on
+pub record IsRestartOf (pages : Pages) (log : List DcRecord) (v : SystemView) : Type 0 where
+  pub log_is : v.log ≡ log
+  pub leaves_are : v.leaves ≡ recover (pages_of pages) log
+  pub recoverable : IsRecoverable v
+
+-- where the log is legal and the pages fit it, what is opened is what the log says
+abbrev pub RestartsGiveTheLog : Type 0
+RestartsGiveTheLog =
+    (bytes : List ℕ) (pages : Pages) (log : List DcRecord) (forced : ℕ) (v : SystemView) → IsLegal log
+    → FitPages (pages_of pages) log forced → HoldsFrames bytes log → Recovers bytes pages v → IsRestartOf pages log v
+
+-- and opening isn't refused for what the devices hold
+abbrev pub RestartsAreNeverBad : Type 0
+RestartsAreNeverBad =
+    (bytes : List ℕ) (pages : Pages) (log : List DcRecord) (forced : ℕ) (r : Refusal) → IsLegal log
+    → FitPages (pages_of pages) log forced
+    → ((id : ℕ) (page : List ℕ) → get pages id ≡ Some page → (leaf : LeafView) × IsPage page leaf)
+    → length log < 2 ^ 48 → HoldsFrames bytes log → RefusesRecovery bytes pages r → (r ≡ NoMemory) ⊎ (r ≡ Device)
+
+-- each beginning with all stable records is legal, and the pages fit it
+abbrev pub BeginningsAreRecoverable : Type 0
+BeginningsAreRecoverable =
+    (v : SystemView) (n : ℕ) → IsRecoverable v → v.stable ≤ n
+    → IsSafeBeginning (pages_of v.pages) (beginning v.log n) (length (beginning v.log n))

@@ -1,0 +1,28 @@
+//! What is true of devices after a crash, and of what is opened from them.
+ghost use Rattle.system_txn.specs.Restarts.{CrashesLeaveFrames, FramesReadOnce, RestartsGiveTheLog, RestartsAreNeverBad, BeginningsAreRecoverable};
+
+/// A crash leaves the whole frames of a beginning of the log that has all stable records, and perhaps a part of the
+/// next one's.
+pub fn crash_law()
+    ensures { CrashesLeaveFrames }
+{}
+
+/// Bytes hold the frames of one log only, and a refused opening leaves these.
+pub fn reading_law()
+    ensures { FramesReadOnce }
+{}
+
+/// Where the log on the device is legal and the pages fit it, what is opened is what the log says.
+pub fn restart_law()
+    ensures { RestartsGiveTheLog }
+{}
+
+/// And opening is refused for want of memory or by a failing device, and never for what the devices hold.
+pub fn never_bad_law()
+    ensures { RestartsAreNeverBad }
+{}
+
+/// Each beginning of the log with all stable records is legal, and the pages fit it.
+pub fn beginning_law()
+    ensures { BeginningsAreRecoverable }
+{}

@@ -1,0 +1,33 @@
+//! The records that a log's bytes spell, which contracts alone see.
+ghost use Rattle.std.specs.Prelude.{List};
+ghost use Rattle.std.specs.Coded.{codes};
+ghost use Rattle.codec.specs.declared.dc_record.DcRecord.{DcRecord};
+ghost use Rattle.system_txn.specs.Recovering.{HoldsFrames};
+
+use stable::MemLog;
+use std::marker::{Model, PhantomData};
+
+#[derive(Drop)]
+pub struct Found {
+    marker: PhantomData<u8>,
+    pub ghost log: { List DcRecord } by { Prim.hlevel codes },
+}
+
+impl Model for Found {
+    ghost use Rattle.std.specs.Borrow.{ftrue};
+
+    ghost also_owns = { λ _. ftrue };
+}
+
+impl Found {
+    /// Those of this log.
+    pub fn on(log: &MemLog) -> Found
+        requires { (records : List DcRecord) × HoldsFrames log.now.forced records }
+        ensures { HoldsFrames log.now.forced result.log }
+    {
+        let _ = log;
+        Found {
+            marker: PhantomData,
+        }
+    }
+}

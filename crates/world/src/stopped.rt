@@ -1,0 +1,112 @@
+//! What is left of the data component while it is down: its devices.
+ghost use Rattle.std.specs.Prelude.{◌≡◌, ◌⊎◌, ℕ, ◌≤◌, [], List, length, IfOk, IfErr};
+ghost use Rattle.recovery_laws.specs.Shape.{beginning};
+ghost use Rattle.system_txn.specs.SystemView.{refused_so};
+ghost use Rattle.system_txn.specs.Kept.{IsRecoverable};
+ghost use Rattle.system_txn.specs.Recovering.{HoldsFrames};
+ghost use Rattle.dc_core.specs.Kept.{IsDc};
+ghost use Rattle.dc_core.specs.Restarting.{restarted};
+ghost use Rattle.dc_core.specs.Serves.{with_system};
+ghost use Rattle.system_txn.specs.Crashed.{crashed, MayKeep};
+ghost use Rattle.world.specs.Component.{IsDownWith};
+
+use crate::crashing::kept_of;
+use crate::found::Found;
+use dc_core::{Dc, Devices, Refused};
+use record_key::Refusal;
+use stable::{MemLog, MemPages};
+use std::alloc::Global;
+use std::marker::Model;
+
+/// Devices that a crash left. It is seen as the component that they give once it is restarted.
+#[derive(Drop)]
+pub struct Stopped {
+    devices: Devices<MemLog, MemPages>,
+    found: Found,
+}
+
+impl Model for Stopped {
+    ghost use Rattle.std.specs.Prelude.{◌≡◌, []};
+    ghost use Rattle.std.specs.Coded.{codes};
+    ghost use Rattle.record_key.specs.Table.{table_code};
+    ghost use Rattle.system_txn.specs.SystemView.{pages_code};
+    ghost use Rattle.system_txn.specs.Recovering.{HoldsFrames};
+    ghost use Rattle.dc_core.specs.DcView.{DcView};
+    ghost use Rattle.dc_core.specs.Kept.{IsDc};
+    ghost use Rattle.world.specs.Component.{found_on};
+
+    ghost Value = { DcView };
+
+    ghost coded = { Prim.hlevel (codes, table_code, pages_code) };
+
+    ghost view = { λ s. found_on s.devices.log s.devices.pages s.found.log };
+
+    ghost invariant = { λ s. HoldsFrames s.devices.log.forced s.found.log
+        × ((s.devices.log.pending ≡ []) × IsDc (found_on s.devices.log s.devices.pages s.found.log)) };
+}
+
+/// Devices that weren't opened, and why.
+#[derive(Drop)]
+pub struct Unopened {
+    pub refusal: Refusal,
+    pub stopped: Stopped,
+}
+
+impl Stopped {
+    /// Devices that hold nothing.
+    pub fn empty(alloc: Global) -> Stopped {
+        let log = MemLog::new(alloc);
+        let found = Found::on(&log);
+        let pages = MemPages::new(alloc);
+        Stopped {
+            devices: Devices { log, pages },
+            found,
+        }
+    }
+
+    /// What a crash leaves of the component: of the records that aren't stable the first stay, so many, and of the next
+    /// one at most so many bytes.
+    pub fn crashed(dc: Dc, frames: u64, bytes: u64) -> Stopped
+        requires { IsRecoverable dc.system }
+        ensures { (kept : ℕ) × MayKeep dc.system frames kept × (result ≡ restarted (crashed dc.system kept)) }
+    {
+        dc.kept();
+        let end = dc.end_of(dc.records());
+        let kept = kept_of(&dc, frames, bytes);
+        let Devices { mut log, mut pages } = dc.stop();
+        let forced = end - log.pending().len();
+        log.crash(kept.saturating_sub(forced));
+        pages.crash();
+        let found = Found::on(&log);
+        Stopped {
+            devices: Devices { log, pages },
+            found,
+        }
+    }
+
+    /// The component on its devices. Refused NoMemory, Device.
+    pub fn restart(self, alloc: Global) -> Result<Dc, Unopened>
+        requires { IsRecoverable self.system }
+        ensures restarted { IfOk result (λ dc. dc ≡ self) }
+        ensures refused { IfErr result (λ left. IsDownWith self left.refusal left.stopped) }
+    {
+        self.kept();
+        let Stopped { devices, found: _ } = self;
+        match Dc::restart(alloc, devices) {
+            Ok(dc) => Ok(dc),
+            Err(Refused { refusal, devices }) => {
+                let found = Found::on(&devices.log);
+                Err(Unopened {
+                    refusal,
+                    stopped: Stopped { devices, found },
+                })
+            }
+        }
+    }
+
+    pub fn kept(&self)
+        ensures { IsDc self.now }
+    {
+        let _ = &self.found;
+    }
+}
