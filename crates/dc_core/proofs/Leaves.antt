@@ -1,11 +1,9 @@
 -- The rows of leaves, one after another.
-use Rattle.std.proofs.Common.{◌≡◌, ℕ, ◌+◌, ◌<◌, true, false, suc, List, [], ◌∷◌, ◌++◌, length, get_or, take, refl, sym, ap, ◌∙◌, arith, inl, inr, append_assoc, append-nil, add-one}
-use Rattle.std.proofs.lemmas.Bool.{cases_Bool}
+use Rattle.std.proofs.Common.{◌≡◌, ℕ, ◌+◌, ◌<◌, List, [], ◌∷◌, ◌++◌, length, get_or, take, sym, ap, ◌∙◌, append_assoc, append-nil}
 use Rattle.std.proofs.lemmas.List.{take_more}
 use Rattle.std.specs.FinMap.{entries}
-use Rattle.record_key.specs.Table.{Bytes}
-use Rattle.page.specs.Leaf.{LeafView, first, is_in_fences}
-use Rattle.btree.specs.Leaves.{leaf_at, place_at, all_rows}
+use Rattle.page.specs.Leaf.{LeafView, first}
+use Rattle.btree.specs.Leaves.{all_rows}
 
 rows_after : (xs : List LeafView) (leaf : LeafView) → all_rows (xs ++ leaf ∷ []) ≡ all_rows xs ++ entries leaf.rows
 rows_after [] leaf = append-nil (entries leaf.rows)

@@ -1,3 +1,4 @@
+pub mod Checked
 pub mod KeepsDc
 pub mod KeepsSystems
 pub mod Leaves

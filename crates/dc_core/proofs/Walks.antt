@@ -1,5 +1,5 @@
 -- What a walk over a list has found of each element.
-use Rattle.std.proofs.Common.{◌≡◌, ℕ, ◌+◌, ◌≤◌, Some, zero, suc, List, [], ◌∷◌, ◌++◌, length, get_or, take, reverse, sym, subst}
+use Rattle.std.proofs.Common.{◌≡◌, ℕ, ◌+◌, ◌≤◌, Some, zero, suc, List, [], ◌∷◌, length, get_or, take, reverse, sym, subst}
 use Rattle.std.specs.Prelude.{slice_get}
 use Rattle.std.specs.List.{AllByRecursion}
 use mathlib.Core.List.{reverse_aux}

@@ -1,5 +1,5 @@
 -- What holds of the data component at every moment.
-use Rattle.std.specs.Prelude.{◌≡◌, ◌≢◌, ◌⊎◌, ℕ, ◌≤◌, true, List, [], ◌∷◌}
+use Rattle.std.specs.Prelude.{◌≡◌, ◌≢◌, ◌⊎◌, ◌≤◌, true, List, [], ◌∷◌}
 use Rattle.std.specs.List.{AllByRecursion}
 use Rattle.record_key.specs.Table.{Table, key_of, after}
 use Rattle.record_key.specs.declared.entry.Entry.{Entry}

@@ -12,19 +12,18 @@ use Rattle.codec.specs.Fields.{IsNumber}
 use Rattle.codec.specs.Images.{IsImage}
 use Rattle.stable.specs.PagesState.{Pages}
 use Rattle.record_key.proofs.Lists.{all_from}
-use Rattle.record_key.specs.Table.{Bytes}
 use Rattle.page.specs.Leaf.{LeafView, IsLeaf, first}
-use Rattle.page.specs.Tiles.{Part, parts_of, Tile}
+use Rattle.page.specs.Tiles.{Part, Tile}
 use Rattle.btree.proofs.Kept.{kept_lower}
 use Rattle.codec.specs.Reading.{◌>>=◌}
 use Rattle.recovery_laws.specs.Images.{leaf_of, image_of, HasLeafNumbers}
 use Rattle.recovery_laws.specs.Laws.{leaf_in, IsCurrent, IsKeptByCuts}
 use Rattle.recovery_laws.specs.Leaves.{AreCurrent}
-use Rattle.recovery_laws.specs.Ready.{AllHave}
+use Rattle.recovery_laws.specs.Ready.{IsReady, AllHave}
 use Rattle.recovery_laws.specs.Recovery as recovery
 use Rattle.recovery_laws.specs.Recovery.{recovered, leaves_of, recover, with_leaf, FitPages}
 use Rattle.recovery_laws.specs.Shape.{IsLegal, shape, named, beginning}
-use Rattle.recovery_laws.proofs.Beginnings.{whole, legal_beginning}
+use Rattle.recovery_laws.proofs.Beginnings.{legal_beginning}
 use Rattle.recovery_laws.proofs.Fitting.{fit_stays, fit_beginning}
 use Rattle.recovery_laws.proofs.Images.{leaf_again, images_keep_leaves, numbers_stay}
 use Rattle.recovery_laws.proofs.Leaves.{recovered_current}
@@ -48,12 +47,18 @@ all_of P at each (p ∷ ps) = by (at p.id) refl (all_of P at each ps)
     by None none rest = rest
     by (Some leaf) some rest = (each p.id leaf some, rest)
 
--- each leaf that is recovered from the first records has what pages and logged leaves have, if cuts keep it
+-- each leaf that is recovered from the first records has what they are ready for, if cuts keep it
+pub ready_recovered : (P : LeafView → Type 0) (pages : recovery.Pages) (log : List DcRecord) (forced n : ℕ) → IsKeptByCuts P → IsLegal log → FitPages pages log forced
+    → forced ≤ n → IsReady P pages log forced → AllByRecursion P (recover pages (beginning log n))
+ready_recovered P pages log forced n keeps legal fit le ready =
+    all_of P (recovered pages (beginning log n))
+    (λ id leaf at. recovers P keeps pages log forced n id leaf legal fit ready le at) (shape (beginning log n))
+
+-- so has each where pages and logged leaves all have it
 pub all_recovered : (P : LeafView → Type 0) (pages : recovery.Pages) (log : List DcRecord) (forced n : ℕ) → IsKeptByCuts P → IsLegal log → FitPages pages log forced
     → forced ≤ n → AllHave P pages log → AllByRecursion P (recover pages (beginning log n))
 all_recovered P pages log forced n keeps legal fit le have =
-    all_of P (recovered pages (beginning log n))
-    (λ id leaf at. recovers P keeps pages log forced n id leaf legal fit ((ready_stays P).all pages log forced have) le at) (shape (beginning log n))
+    ready_recovered P pages log forced n keeps legal fit le ((ready_stays P).all pages log forced have)
 
 -- what each record has, those of a beginning have
 pub all_beginning : (P : DcRecord → Type 0) (log : List DcRecord) (n : ℕ) → AllByRecursion P log → AllByRecursion P (beginning log n)

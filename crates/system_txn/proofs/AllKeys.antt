@@ -1,6 +1,5 @@
 -- The test whether leaves in a row have all keys among them, and that leaves in another order are the same leaves.
 use Rattle.std.proofs.Common.{◌≡◌, ℕ, zero, suc, ◌+◌, ◌<◌, ◌≤◌, ◌==◌, Bool, true, false, cond, ◌&&◌, List, [], ◌∷◌, length, get_or, Box, Option, Some, None, is_some, refl, sym, ap, ◌∙◌, subst, inl, inr, true≢false, arith}
-use Rattle.std.specs.Prelude.{map}
 use Rattle.std.specs.declared.alloc.Global.{Global}
 use Rattle.std.specs.declared.cmp.Ordering.{Ordering}
 use Rattle.std.specs.declared.cmp.Ordering.TheVariants.{Less, Equal, Greater}
@@ -16,7 +15,7 @@ use Rattle.record_key.specs.Laws.{key_cmp}
 use Rattle.record_key.specs.Table.{Bytes}
 use Rattle.record_key.proofs.KeyOrder.{is_key_order}
 use Rattle.page.specs.Leaf.{LeafView}
-use Rattle.page.specs.Tiles.{parts_of, starts_below, TileFrom}
+use Rattle.page.specs.Tiles.{parts_of, TileFrom}
 use Rattle.recovery_laws.specs.Laws.{IsIn}
 use Rattle.recovery_laws.proofs.Arranged.{no_parts}
 use Rattle.recovery_laws.proofs.Splitting.{Rest}

@@ -1,12 +1,11 @@
 -- What both devices give, and what is made of it.
-use Rattle.std.proofs.Common.{◌≡◌, ◌⊎◌, ℕ, ◌+◌, List, length, refl, sym, subst, inl, inr}
+use Rattle.std.proofs.Common.{◌≡◌, ◌⊎◌, ℕ, List, length, refl, sym, subst, inl, inr}
 use Rattle.record_key.specs.declared.refusal.Refusal.{Refusal}
 use Rattle.record_key.specs.declared.refusal.Refusal.TheVariants.{Device}
 use Rattle.btree.specs.Lists.{leaves_in}
 use Rattle.codec.specs.declared.dc_record.DcRecord.{DcRecord}
 use Rattle.stable.specs.PagesState.{Pages}
-use Rattle.system_txn.specs.Devices.{spelled}
-use Rattle.system_txn.specs.Finding.{AreRead, log_of, AreRecovered, RefusesLeaves, IsFound}
+use Rattle.system_txn.specs.Finding.{AreRead, log_of, RefusesLeaves, IsFound}
 use Rattle.system_txn.specs.Kept.{IsSystem}
 use Rattle.system_txn.specs.Paging.{RefusesPages}
 use Rattle.system_txn.specs.Recovering.{AreOwnPages, Recovers, RefusesFrames, RefusesRecovery}

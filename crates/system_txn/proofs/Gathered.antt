@@ -1,8 +1,7 @@
 -- The leaves in the places are those that are recovered, each once.
-use Rattle.std.proofs.Common.{◌≡◌, ℕ, zero, suc, ◌+◌, ◌<◌, ◌≤◌, ◌^◌, ◌==◌, Bool, true, false, cond, List, [], ◌∷◌, length, get_or, Box, Option, Some, None, refl, sym, ap, ◌∙◌, subst, inl, inr, arith, eq-eqb, ne_eqb}
+use Rattle.std.proofs.Common.{◌≡◌, ℕ, zero, suc, ◌+◌, ◌<◌, ◌≤◌, ◌^◌, List, [], ◌∷◌, length, Some, None, refl, sym, ap, ◌∙◌, subst, inl, inr, arith, eq-eqb, ne_eqb}
 use Rattle.std.specs.List.{AllByRecursion}
 use Rattle.std.proofs.lemmas.Bool.{cases_eq, le-leb}
-use Rattle.btree.specs.Leaves.{AreLeaves}
 use Rattle.btree.specs.Lists.{leaves_in}
 use Rattle.codec.specs.declared.dc_record.DcRecord.{DcRecord}
 use Rattle.page.specs.Leaf.{LeafView, IsLeaf}
@@ -12,11 +11,11 @@ use Rattle.recovery_laws.specs.Laws.{IsIn, IsArranged}
 use Rattle.recovery_laws.specs.Ready.{AreReadable}
 use Rattle.recovery_laws.specs.Recovery.{recovered}
 use Rattle.recovery_laws.specs.Shape.{named}
-use Rattle.system_txn.specs.Arranging.{count_of, AreApart, AreSame, IsArrangement}
+use Rattle.system_txn.specs.Arranging.{count_of, AreApart, IsArrangement}
 use Rattle.system_txn.specs.Devices.{AreRecords, pages_of}
 use Rattle.system_txn.specs.Finding.{AreRecovered}
 use Rattle.system_txn.specs.Recovering.{AreOwnPages}
-use Rattle.system_txn.specs.Replaying.{HoldsPages, HoldsRecovered, recovered_or}
+use Rattle.system_txn.specs.Replaying.{HoldsPages, HoldsRecovered}
 use Rattle.system_txn.specs.Shelf.{Slot, leaf_on, boxes_on}
 use Rattle.system_txn.proofs.Goodness.{IsGood, recovered_good}
 use Rattle.system_txn.proofs.Knowing.{known}

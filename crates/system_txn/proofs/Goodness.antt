@@ -1,5 +1,5 @@
 -- Each leaf that is recovered has its number, and holds what every leaf does.
-use Rattle.std.proofs.Common.{◌≡◌, ◌≢◌, ℕ, ◌+◌, ◌<◌, ◌≤◌, ◌^◌, Bool, true, false, List, [], ◌∷◌, length, Option, Some, None, refl, sym, ap, ◌∙◌, subst, inl, inr, arith}
+use Rattle.std.proofs.Common.{◌≡◌, ℕ, ◌+◌, ◌<◌, ◌^◌, List, [], ◌∷◌, length, Option, Some, None, refl, sym, ap, ◌∙◌, subst, inl, inr, arith}
 use Rattle.std.specs.Prelude.{nat_lt}
 use Rattle.std.specs.FinMap as table
 use Rattle.std.proofs.lemmas.Bool.{cases_Bool, cases_eq}
@@ -17,7 +17,7 @@ use Rattle.stable.specs.PagesState.{Pages}
 use Rattle.recovery_laws.specs.Images.{leaf_of, image_of, HasLeafNumbers}
 use Rattle.recovery_laws.specs.Recovery.{recovered, cut_again, merged_again}
 use Rattle.recovery_laws.proofs.Images.{images_keep_leaves, numbers_stay}
-use Rattle.recovery_laws.proofs.Recovering.{Source, WasThere, at_first, at_new, at_cut, by_split, at_gone, at_merged, by_merge}
+use Rattle.recovery_laws.proofs.Recovering.{Source, at_first, at_new, at_cut, by_split, at_gone, at_merged, by_merge}
 use Rattle.system_txn.specs.Devices.{AreRecords, pages_of, page_in}
 use Rattle.system_txn.specs.Recovering.{AreOwnPages}
 use Rattle.system_txn.proofs.PageReading.{image_page}

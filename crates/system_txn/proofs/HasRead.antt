@@ -9,7 +9,6 @@ use Rattle.codec.specs.Fields.{number}
 use Rattle.codec.specs.Frames.{frame, IsThere}
 use Rattle.codec.proofs.Fields.{length-number}
 use Rattle.stable.specs.PagesState.{Pages}
-use Rattle.system_txn.specs.declared.known.Known.{Known}
 use Rattle.system_txn.specs.declared.reading.Reading.{Reading}
 use Rattle.system_txn.specs.Devices.{spelled, places, pages_of}
 use Rattle.system_txn.specs.Known.{may_follow, IsKnown}

@@ -2,6 +2,7 @@ pub mod AfterCrash
 pub mod AllKeys
 pub mod AllWritten
 pub mod Amid
+pub mod Checked
 pub mod Crashed
 pub mod Found
 pub mod Fresh

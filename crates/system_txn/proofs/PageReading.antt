@@ -1,15 +1,14 @@
 -- Pages that are the images of their own leaves.
-use Rattle.std.proofs.Common.{◌≡◌, ◌≢◌, ◌⊎◌, ℕ, ◌<◌, ◌≤◌, List, [], ◌++◌, length, Option, Some, None, refl, sym, ap, ◌∙◌, subst, arith, append-nil, inl, inr}
+use Rattle.std.proofs.Common.{◌≡◌, ◌≢◌, ℕ, ◌≤◌, List, [], length, Option, Some, refl, sym, ap, ◌∙◌, subst, append-nil}
 use Rattle.codec.specs.declared.image.LeafImage.{LeafImage}
 use Rattle.codec.specs.declared.taken.Taken.{Taken}
 use Rattle.codec.specs.declared.taken.Taken.TheVariants as took
 use Rattle.codec.specs.Images.{image_bytes, IsImage}
 use Rattle.codec.specs.Reading.{image_at}
 use Rattle.codec.proofs.Images.{image_reads}
-use Rattle.page.specs.Leaf.{LeafView}
 use Rattle.recovery_laws.specs.Images.{leaf_of, image_of}
 use Rattle.recovery_laws.proofs.Images.{images_keep_leaves}
-use Rattle.system_txn.specs.Devices.{IsPage, page_in}
+use Rattle.system_txn.specs.Devices.{page_in}
 use Rattle.system_txn.specs.Paging.{IsOwnPage, IsOwnIfAny}
 
 same_image : (image : LeafImage) → IsImage image → image_of (leaf_of image) ≡ image

@@ -157,7 +157,7 @@ recoverable_written v leaf h fits current =
     ]
 
 -- leaves as the log has them
-abbrev AreSo : SystemView → List LeafView → Type 0
+abbrev pub AreSo : SystemView → List LeafView → Type 0
 AreSo v leaves = AllByRecursion (λ (leaf : LeafView). IsCurrent v.log leaf.id leaf) leaves
 
 -- a write leaves the log
@@ -168,7 +168,7 @@ log_stays v leaf =
       | inr young ↦ rw young refl
     ]
 
-still_so : (v : SystemView) (leaf : LeafView) (leaves : List LeafView) → AreSo v leaves
+pub still_so : (v : SystemView) (leaf : LeafView) (leaves : List LeafView) → AreSo v leaves
     → AreSo (written_to v leaf) leaves
 still_so v leaf leaves all =
     subst (λ log. AllByRecursion (λ (leaf : LeafView). IsCurrent log leaf.id leaf) leaves) (log_stays v leaf) all

@@ -1,23 +1,20 @@
 -- The leaves in their places, one record after another.
-use Rattle.std.proofs.Common.{◌≡◌, ℕ, ◌+◌, ◌<◌, ◌≤◌, Bool, true, false, List, [], ◌∷◌, ◌++◌, length, reverse, Option, Some, None, refl, sym, ap, ◌∙◌, subst, arith, inl, inr, eq-eqb, ne_eqb, append_assoc, append-nil}
-use Rattle.std.specs.Prelude.{nat_le}
+use Rattle.std.proofs.Common.{◌≡◌, ℕ, ◌+◌, ◌<◌, ◌≤◌, List, [], ◌∷◌, ◌++◌, length, reverse, Option, refl, sym, ap, ◌∙◌, subst, arith, inl, inr, eq-eqb, ne_eqb, append_assoc, append-nil}
 use Rattle.std.specs.FinMap as table
-use Rattle.std.specs.List.{AllByRecursion}
 use Rattle.std.proofs.lemmas.Bool.{cases_eq, cases_lt, le-leb, lt-leb}
 use Rattle.std.proofs.lemmas.List.{length-append, length-reverse, reverse-append}
-use Rattle.codec.specs.DcRecords.{FitsFrame}
 use Rattle.codec.specs.declared.dc_record.DcRecord.{DcRecord}
 use Rattle.codec.specs.declared.dc_record.DcRecord.TheVariants.{Accept, Split, Merge}
 use Rattle.page.specs.Leaf.{LeafView}
 use Rattle.stable.specs.PagesState.{Pages}
 use Rattle.recovery_laws.specs.Images.{leaf_of}
 use Rattle.recovery_laws.specs.Ready.{AreReadable}
-use Rattle.recovery_laws.specs.Recovery.{recovered, page_or, at_left, cut_again, merged_again}
+use Rattle.recovery_laws.specs.Recovery.{at_left, cut_again, merged_again}
 use Rattle.recovery_laws.specs.Shape.{named}
 use Rattle.system_txn.specs.Devices.{AreRecords, pages_of}
 use Rattle.system_txn.specs.Replaying.{HoldsPages, HoldsRecovered, recovered_or}
 use Rattle.system_txn.specs.Shelf.{Slot, leaf_on, redone, HasPlaces}
-use Rattle.system_txn.proofs.Knowing.{known_some, older_readable, older_named, first_named}
+use Rattle.system_txn.proofs.Knowing.{known_some, older_readable, older_named}
 
 -- a log that may be done again with so many places
 pub record FitsPlaces (log : List DcRecord) (count : ℕ) : Type 0 where

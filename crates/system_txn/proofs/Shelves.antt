@@ -1,6 +1,6 @@
 -- Leaves by number: empty places, and the leaves that stand in them.
-use Rattle.std.proofs.Common.{◌≡◌, ℕ, zero, suc, List, [], ◌∷◌, ◌++◌, get_or, Some, None, refl, ap, ◌∙◌, append_assoc, append-nil}
-use Rattle.system_txn.specs.Shelf.{Slot, leaf_on, boxes_on}
+use Rattle.std.proofs.Common.{◌≡◌, ℕ, zero, suc, List, [], ◌∷◌, ◌++◌, None, refl}
+use Rattle.system_txn.specs.Shelf.{Slot, leaf_on}
 
 -- one more place that is empty
 pub none_more : (slots : List Slot) → ((id : ℕ) → leaf_on slots id ≡ None) → (id : ℕ)

@@ -15,3 +15,4 @@ pub mod Paging
 pub mod Arranging
 pub mod Restarts
 pub mod Crashed
+pub mod Checked

@@ -1,5 +1,5 @@
 -- What is read of pages, and why it is refused.
-use Rattle.std.specs.Prelude.{◌≡◌, ◌⊎◌, ℕ, ◌≤◌, List, Option, Some, None}
+use Rattle.std.specs.Prelude.{◌≡◌, ◌⊎◌, ℕ, ◌≤◌, List, Option, Some}
 use Rattle.record_key.specs.declared.refusal.Refusal.{Refusal}
 use Rattle.record_key.specs.declared.refusal.Refusal.TheVariants.{NoMemory, Device, BadBytes}
 use Rattle.stable.specs.PagesState.{Pages}

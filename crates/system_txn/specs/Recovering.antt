@@ -1,6 +1,6 @@
 -- What is found on the devices after a crash, and what recovery makes of it. A log is a list with the newest record
 -- first; of its bytes the frames of whole records count, and a last one that is cut doesn't.
-use Rattle.std.specs.Prelude.{◌≡◌, ◌⊎◌, ℕ, ◌+◌, ◌<◌, ◌≤◌, ◌^◌, List, [], ◌++◌, Some, length}
+use Rattle.std.specs.Prelude.{◌≡◌, ◌⊎◌, ℕ, ◌+◌, ◌<◌, ◌≤◌, ◌^◌, List, ◌++◌, Some, length}
 use Rattle.std.specs.FinMap.{get}
 use Rattle.record_key.specs.declared.refusal.Refusal.{Refusal}
 use Rattle.record_key.specs.declared.refusal.Refusal.TheVariants.{NoMemory, Device, BadBytes}

@@ -48,6 +48,8 @@ keeps_ask w o s k at none flat range free unspent =
       few = record { records = k.few.records; reads = omega (arith, unspent) };
       session = k.session;
       phase = k.phase;
+      asking = k.asking;
+      low = k.low;
       open_txns = replaced_open w.log w.log w.open_txns k.open_txns new o at (open_alike w.log o (Some r) (open_at w o k at)) (λ p apart same. same) (λ t same. same);
       committing = k.committing;
       locks = shares w.log w.open_txns w.committing w.locks k.locks new o (shared s) at refl free;
@@ -63,6 +65,8 @@ keeps_told w o k at = record {
   few = record { records = k.few.records; reads = k.few.reads };
   session = k.session;
   phase = k.phase;
+  asking = k.asking;
+  low = k.low;
   open_txns = replaced_open w.log w.log w.open_txns k.open_txns (told_txn o) o at (open_alike w.log o None (open_at w o k at)) (λ p apart same. same) (λ t same. same);
   committing = k.committing;
   locks = replaced w.log w.open_txns w.committing w.locks k.locks (told_txn o) o at;

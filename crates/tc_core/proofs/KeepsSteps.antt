@@ -23,6 +23,9 @@ use Rattle.tc_core.proofs.KeepsIdle.{own_request, leaves_open, idle_now, waits_n
 pub session_leaves : (log : List Record) (o : OpenTxn) → IsOpenTxn log o → IsOpenTxn (is.Session ∷ log) o
 session_leaves log o h = leaves_open is.Session log o (record { no_step = λ s. cc; ends_not = refl }) (λ n e. refl) h
 
+pub checkpoint_leaves : (log : List Record) (l : ℕ) (o : OpenTxn) → IsOpenTxn log o → IsOpenTxn (is.Checkpoint l ∷ log) o
+checkpoint_leaves log l o h = leaves_open (is.Checkpoint l) log o (record { no_step = λ s. cc; ends_not = refl }) (λ n e. refl) h
+
 pub begin_leaves : (log : List Record) (o : OpenTxn) → IsOpenTxn log o → IsOpenTxn (is.Begin ∷ log) o
 begin_leaves log o h = leaves_open is.Begin log o (record { no_step = λ s. cc; ends_not = refl }) (λ n e. refl) h
 

@@ -32,6 +32,7 @@ use Rattle.tc_core.proofs.Committing.{none_committing, open_unlisted}
 use Rattle.tc_core.proofs.LettingGo.{let_go_held, let_go_other}
 use Rattle.logical_log.proofs.Index.{nothing_answered}
 use Rattle.tc_core.proofs.Keeps.{open_had, open_was, unended_next, IsBounded}
+use Rattle.tc_core.proofs.Low.{may_none, low_within, low_longer, low_forced, low_started}
 use Rattle.tc_core.proofs.KeepsIdle.{own_request}
 use Rattle.tc_core.proofs.KeepsOpen.{open_below, same_open, replaced_open, added_open}
 use Rattle.tc_core.proofs.KeepsSteps.{session_leaves, begin_leaves, step_leaves, answer_leaves, opens, acts, answer_comes}
@@ -50,6 +51,13 @@ fresh_tc failures = record {
   few = record { records = omega arith; reads = omega arith };
   session = omega arith;
   phase = refl;
+  asking = λ l is. absurd (cc);
+  low = record {
+    announced = may_none [];
+    asked = λ l is. absurd (cc);
+    checkpointed = inr (refl, λ l named. absurd (let none = named.1 in cc));
+    checked = may_none [];
+  };
   open_txns = record { each = λ t o at. absurd (cc); all = λ t h. absurd (let none = h.begun in cc); order = tt; few = omega arith };
   committing = refl;
   locks = record { table = empty_table; exclusive = λ t. refl; others = λ t none. refl; apart = λ t u differ. tt };
@@ -68,6 +76,8 @@ keeps_failed w k = record {
   few = record { records = k.few.records; reads = k.few.reads };
   session = k.session;
   phase = k.phase;
+  asking = k.asking;
+  low = k.low;
   open_txns = k.open_txns;
   committing = k.committing;
   locks = k.locks;
@@ -82,6 +92,8 @@ keeps_logged w k unspent = record {
   few = record { records = omega (arith, one_more w.log unspent); reads = k.few.reads };
   session = k.session;
   phase = k.phase;
+  asking = k.asking;
+  low = low_longer w k is.Session refl;
   open_txns = same_open w.log (is.Session ∷ w.log) w.open_txns k.open_txns (session_leaves w.log) (open_was is.Session w.log (λ e. cc));
   committing = k.committing;
   locks = longer w.log w.open_txns w.committing w.locks k.locks is.Session refl;
@@ -109,6 +121,8 @@ keeps_force w k = record {
   few = record { records = k.few.records; reads = k.few.reads };
   session = omega (arith, k.session, k.within);
   phase = k.phase;
+  asking = k.asking;
+  low = low_forced w k;
   open_txns = k.open_txns;
   committing = sym (none_committing w.log (length w.log) (omega arith));
   locks = let_go_held w.log w.open_txns w.committing w.locks k.locks (λ t. closed w t k);
@@ -125,7 +139,9 @@ keeps_session w k unspent =
       within = f.within;
       few = record { records = f.few.records; reads = f.few.reads };
       session = omega arith;
-      phase = omega arith;
+      phase = omega (arith, low_within w k);
+      asking = λ l is. absurd (cc);
+      low = low_started (forced (logged_session w)) f;
       open_txns = f.open_txns;
       committing = f.committing;
       locks = f.locks;
@@ -143,6 +159,8 @@ keeps_begin w k less unspent = record {
   few = record { records = omega (arith, one_more w.log unspent); reads = k.few.reads };
   session = k.session;
   phase = k.phase;
+  asking = k.asking;
+  low = low_longer w k is.Begin refl;
   open_txns = added_open w.log (is.Begin ∷ w.log) w.open_txns k.open_txns (begun_txn (length w.log + 1)) refl less (opens w.log k.legal) (begin_leaves w.log)
       (λ t now. elim (open_had is.Begin w.log t now) [ inl new ↦ inl new.0 | inr was ↦ inr was ]);
   committing = k.committing;
@@ -204,6 +222,8 @@ keeps_act w o op k at none still flat free unspent =
       few = record { records = omega (arith, one_more w.log unspent); reads = k.few.reads };
       session = k.session;
       phase = k.phase;
+      asking = k.asking;
+      low = low_longer w k r refl;
       open_txns = replaced_open w.log (r ∷ w.log) w.open_txns k.open_txns (acted_txn o (length w.log + 1)) o at (acts w.log o op (none_next w.log k.legal) h (idle_at w.log o h none) flat)
           (step_leaves r w.log o.txn refl (λ n. refl)) (open_was r w.log (λ e. cc));
       committing = k.committing;
@@ -228,6 +248,8 @@ module _ (w : TcView) (o new : OpenTxn) (k : IsTc w) (at : find o.txn w.open_txn
         few = record { records = k.few.records; reads = k.few.reads };
         session = k.session;
         phase = k.phase;
+        asking = k.asking;
+        low = k.low;
         open_txns = replaced_open w.log w.log w.open_txns k.open_txns new o found
             (record {
               is = let Q : ℕ → Type 0 = IsOpen w.log in subst Q (sym number) h.is;
@@ -304,6 +326,8 @@ keeps_answer w o n a k at some unspent =
       few = record { records = omega (arith, one_more w.log unspent); reads = k.few.reads };
       session = k.session;
       phase = k.phase;
+      asking = k.asking;
+      low = low_longer w k r refl;
       open_txns = replaced_open w.log (r ∷ w.log) w.open_txns k.open_txns (answered_txn o) o at (answer_comes w.log o n a h waits)
           (answer_leaves w.log o n a waits) (open_was r w.log (λ e. cc));
       committing = k.committing;
@@ -352,14 +376,16 @@ keeps_passed w n taken k = record {
   few = record { records = k.few.records; reads = k.few.reads };
   session = k.session;
   phase = by w.phase taken k.phase;
+  asking = λ l is. ap (λ p. next_phase p n) (k.asking l is);
+  low = k.low;
   open_txns = k.open_txns;
   committing = k.committing;
   locks = k.locks;
   reading = k.reading;
 }
   where
-    by : (p : Phase) → takes w.session p n ≡ true → IsPhase w.session p → IsPhase w.session (next_phase p n)
+    by : (p : Phase) → takes w.session p n ≡ true → IsPhase w.checkpointed w.session p → IsPhase w.checkpointed w.session (next_phase p n)
     by phase.Unconnected test h = absurd (cc)
     by phase.Connecting test h = absurd (cc)
-    by (phase.Redoing next ending) test h = (omega arith, grind (arith, nat_tests, test), λ e. absurd (true≢false (sym e)))
+    by (phase.Redoing next ending) test h = (grind (arith, nat_tests, test, h.0), grind (arith, nat_tests, test), λ e. absurd (true≢false (sym e)))
     by phase.Running test h = h

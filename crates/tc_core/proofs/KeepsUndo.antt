@@ -17,6 +17,7 @@ use Rattle.tc_core.specs.TcView.{TcView}
 use Rattle.tc_core.specs.Changes.{compensated_txn, compensated, ended, committed, next_of, inverse_at}
 use Rattle.tc_core.specs.Kept.{IsTc}
 use Rattle.tc_core.proofs.Committing.{holder_committed, commits_more}
+use Rattle.tc_core.proofs.Low.{low_longer}
 use Rattle.tc_core.proofs.Keeps.{open_was}
 use Rattle.tc_core.proofs.KeepsOpen.{replaced_open, without_open}
 use Rattle.tc_core.proofs.KeepsSteps.{step_leaves, end_leaves, commit_leaves, compensates, ends, commits}
@@ -70,6 +71,8 @@ keeps_comp w o b k at none rolling fits unspent =
       few = record { records = omega (arith, one_more w.log unspent); reads = k.few.reads };
       session = k.session;
       phase = k.phase;
+      asking = k.asking;
+      low = low_longer w k r refl;
       open_txns = replaced_open w.log (r ∷ w.log) w.open_txns k.open_txns new o at
           (compensates i w.log o next b (none_next w.log k.legal) h (idle_at w.log o h none) rolling)
           (step_leaves r w.log o.txn refl (λ n. refl)) (open_was r w.log (λ e. cc));
@@ -98,6 +101,8 @@ keeps_end w o k at fits unspent = record {
   few = record { records = omega (arith, one_more w.log unspent); reads = k.few.reads };
   session = k.session;
   phase = k.phase;
+  asking = k.asking;
+  low = low_longer w k (is.End o.txn) refl;
   open_txns = without_open w.log (is.End o.txn ∷ w.log) w.open_txns k.open_txns o.txn (end_leaves w.log o.txn) (ends w.log o.txn);
   committing = k.committing;
   locks = gives_back w.log w.open_txns w.committing w.locks k.locks o.txn (unlisted w o.txn k (open_at w o k at).is);
@@ -117,6 +122,8 @@ keeps_commit w o k at none unspent = record {
   few = record { records = omega (arith, one_more w.log unspent); reads = k.few.reads };
   session = k.session;
   phase = k.phase;
+  asking = k.asking;
+  low = low_longer w k (is.Commit o.txn) refl;
   open_txns = without_open w.log (is.Commit o.txn ∷ w.log) w.open_txns k.open_txns o.txn (commit_leaves w.log o.txn) (commits w.log o.txn);
   committing = ap (λ ts. ts ++ o.txn ∷ []) k.committing ∙ sym (commits_more w.log w.stable o.txn k.within);
   locks = alike w.log w.open_txns w.committing w.locks k.locks (is.Commit o.txn) _ _ refl (holder_committed w.open_txns w.committing o.txn o at);

@@ -1,5 +1,6 @@
 pub mod Finding
 pub mod Numbers
+pub mod Low
 pub mod Slots
 pub mod InSlots
 pub mod Adding
@@ -17,6 +18,7 @@ pub mod KeepsIdle
 pub mod KeepsOpen
 pub mod KeepsSteps
 pub mod KeepsTc
+pub mod KeepsLow
 pub mod KeepsUndo
 pub mod Refused
 pub mod UndoCauses

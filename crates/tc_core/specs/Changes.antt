@@ -1,5 +1,5 @@
 -- What each call makes of what was seen before it.
-use Rattle.std.specs.Prelude.{ℕ, ◌+◌, List, [], ◌∷◌, ◌++◌, Option, Some, None, length, take}
+use Rattle.std.specs.Prelude.{ℕ, ◌+◌, List, [], ◌∷◌, ◌++◌, Option, Some, None, length, nat_lt, take, if◌then◌else◌}
 use Rattle.record_key.specs.declared.op.Op.{Op}
 use Rattle.record_key.specs.declared.op.Answer.{Answer}
 use Rattle.record_key.specs.Table.{key_of}
@@ -31,9 +31,34 @@ forced w = record w { stable = length w.log; committing = []; locks = let_go w.c
 abbrev pub logged_session : TcView → TcView
 logged_session w = record w { log = is.Session ∷ w.log }
 
--- a new session, stable at once
+-- a new session, stable at once: nothing is announced in it, and no checkpoint is asked for
 abbrev pub reconnected : TcView → TcView
-reconnected w = record (forced (logged_session w)) { session = length w.log + 1; phase = phase.Connecting }
+reconnected w = record (forced (logged_session w)) {
+  session = length w.log + 1;
+  phase = phase.Connecting;
+  announced = 0;
+  checkpointing = None;
+}
+
+-- the greater of two numbers
+abbrev pub greater : ℕ → ℕ → ℕ
+greater c l = if nat_lt c l then l else c
+
+-- the number is announced
+abbrev pub announced : TcView → ℕ → TcView
+announced w l = record w { announced = greater w.announced l }
+
+-- a checkpoint is asked for, with the greatest number that was announced
+abbrev pub asked_checkpoint : TcView → TcView
+asked_checkpoint w = record w { checkpointing = Some w.announced }
+
+-- the checkpoint that was asked for is logged
+abbrev pub checkpointed : TcView → ℕ → TcView
+checkpointed w l = record w {
+  log = is.Checkpoint l ∷ w.log;
+  checkpointing = None;
+  checkpointed = greater w.checkpointed l;
+}
 
 -- one that has just begun
 abbrev pub begun_txn : ℕ → OpenTxn

@@ -6,7 +6,7 @@ use Rattle.record_key.specs.declared.op.Op.{Op}
 use Rattle.history.specs.declared.record.Record.{Record}
 use Rattle.history.specs.declared.record.Record.TheVariants as is
 use Rattle.history.specs.Log.{record_at, answer_of, IsOpen, Requests, IsStepOf}
-use Rattle.history.specs.Legal.{IsLatestOrNone, IsIdle, IsLegal}
+use Rattle.history.specs.Legal.{IsLatestOrNone, IsIdle, IsLegal, FitsCheckpoint}
 use Rattle.log_laws.specs.Laws.{undo_from}
 use Rattle.history.specs.Spans.{Span, IsRange}
 use Rattle.range_locks.specs.Locks.{LocksView, spans_of}
@@ -15,6 +15,8 @@ use Rattle.tc_core.specs.declared.open_txn.Read.{Read}
 use Rattle.tc_core.specs.declared.open_txn.Rollback.{Rollback}
 use Rattle.tc_core.specs.declared.phase.Phase.{Phase}
 use Rattle.tc_core.specs.declared.phase.Phase.TheVariants as phase
+use Rattle.logical_log.specs.Low.{stable_part}
+use Rattle.restart.specs.Plan.{IsCheckpointed}
 use Rattle.tc_core.specs.OpenTxns.{find, AreFalling}
 use Rattle.tc_core.specs.Locking.{AreHeld}
 use Rattle.tc_core.specs.Changes.{shared}
@@ -72,12 +74,20 @@ pub record AreReading (reads : ℕ) (os : List OpenTxn) (locks : LocksView) : Ty
   pub apart : (t u : ℕ) (o p : OpenTxn) (r q : Read) → find t os ≡ Some o → find u os ≡ Some p → o.reading ≡ Some r → p.reading ≡ Some q
       → r.number ≡ q.number → t ≡ u
 
--- a session runs from its start on, and redo never passes its record
-abbrev pub IsPhase : ℕ → Phase → Type 0
-IsPhase s phase.Unconnected = s ≡ 0
-IsPhase s phase.Connecting = 0 < s
-IsPhase s (phase.Redoing next ending) = (0 < next) × (next ≤ s) × (ending ≡ true → next ≡ s)
-IsPhase s phase.Running = 0 < s
+-- a session runs from its start on, and redo begins above what was checkpointed and never passes the session's record
+abbrev pub IsPhase : ℕ → ℕ → Phase → Type 0
+IsPhase c s phase.Unconnected = s ≡ 0
+IsPhase c s phase.Connecting = c < s
+IsPhase c s (phase.Redoing next ending) = (c < next) × (next ≤ s) × (ending ≡ true → next ≡ s)
+IsPhase c s phase.Running = 0 < s
+
+-- how far the data component may forget: what was announced, what a checkpoint was asked for, and the greatest that
+-- a Checkpoint record names
+pub record AreLow (log : List Record) (stable a : ℕ) (asks : Option ℕ) (c : ℕ) : Type 0 where
+  pub announced : FitsCheckpoint (stable_part log stable) a
+  pub asked : (l : ℕ) → asks ≡ Some l → FitsCheckpoint (stable_part log stable) l
+  pub checkpointed : IsLatestOrNone (IsCheckpointed log) c
+  pub checked : FitsCheckpoint (stable_part log stable) c
 
 -- whose Commit stands above the stable records, the oldest first
 abbrev pub commits_in : List Record → ℕ → List ℕ
@@ -90,14 +100,16 @@ pub record AreFew (w : TcView) : Type 0 where
   pub records : length w.log ≤ 281474976710655
   pub reads : w.reads ≤ 281474976710655
 
--- the log is legal, a beginning of it with the session's record is stable; the open transactions are its, those
--- committing too, and the lock table is theirs
+-- the log is legal, a beginning of it with the session's record is stable, a checkpoint is asked for only while clients
+-- are served; the open transactions are its, those committing too, and the lock table is theirs
 pub record IsTc (w : TcView) : Type 0 where
   pub legal : IsLegal w.log
   pub within : w.stable ≤ length w.log
   pub few : AreFew w
   pub session : w.session ≤ w.stable
-  pub phase : IsPhase w.session w.phase
+  pub asking : (l : ℕ) → w.checkpointing ≡ Some l → w.phase ≡ phase.Running
+  pub phase : IsPhase w.checkpointed w.session w.phase
+  pub low : AreLow w.log w.stable w.announced w.checkpointing w.checkpointed
   pub open_txns : AreOpen w.log w.open_txns
   pub committing : w.committing ≡ commits_in w.log w.stable
   pub locks : AreHeld w.log w.open_txns w.committing w.locks

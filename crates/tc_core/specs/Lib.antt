@@ -13,6 +13,7 @@ pub mod Answering
 pub mod Recovery
 pub mod Redoing
 pub mod LowWater
+pub mod Checkpoint
 pub mod Kept
 pub mod Undoing
 pub mod Undo

@@ -9,6 +9,7 @@ use Rattle.codec.specs.declared.request.Request.TheVariants as asks
 use Rattle.logical_log.specs.Low.{stable_part, IsGreatestLow}
 use Rattle.tc_core.specs.TcView.{TcView, is_running}
 use Rattle.tc_core.specs.Causes.{running_refusal}
+use Rattle.tc_core.specs.Changes.{announced}
 
 -- every request up to this number has a stable answer, and the number is stable
 abbrev pub MayAnnounce : TcView → ℕ → Type 0
@@ -23,9 +24,9 @@ pub record Announces (w : TcView) (l : ℕ) : Type 0 where
   pub running : running_refusal w ≡ None
   pub allowed : MayAnnounce w l
 
-abbrev pub LowWaterGives : TcView → ℕ → Result Request Refusal → Type 0
-LowWaterGives w l (Ok request) = Announces w l × (request ≡ asks.LowWater w.session l)
-LowWaterGives w l (Err r) = RefusesLow w l r
+abbrev pub LowWaterGives : TcView → ℕ → Result Request Refusal → TcView → Type 0
+LowWaterGives old l (Ok request) new = Announces old l × (request ≡ asks.LowWater old.session l) × (new ≡ announced old l)
+LowWaterGives old l (Err r) new = RefusesLow old l r × (new ≡ old)
 
 -- the greatest number that may be announced now, 0 where clients aren't served
 abbrev pub IsGreatestAnnounced : TcView → ℕ → Type 0

@@ -1,5 +1,5 @@
 -- What the transaction component makes of a reply.
-use Rattle.std.specs.Prelude.{◌≡◌, ℕ, ◌+◌, ◌==◌, ◌&&◌, ◌||◌, Bool, true, false, not, nat_lt, [], ◌∷◌, List, Option, Some, None, Result, Ok, Err, if◌then◌else◌}
+use Rattle.std.specs.Prelude.{◌≡◌, ℕ, ◌+◌, ◌==◌, ◌&&◌, ◌||◌, Bool, true, false, not, nat_lt, [], ◌∷◌, List, Option, Some, None, Result, Ok, Err, length, if◌then◌else◌}
 use Rattle.record_key.specs.declared.op.Answer.{Answer}
 use Rattle.record_key.specs.Table.{Bytes}
 use Rattle.range_locks.specs.declared.span.Span.{Span}
@@ -21,7 +21,7 @@ use Rattle.logical_log.specs.LogView.{is_spent}
 use Rattle.tc_core.specs.OpenTxns.{find, oldest, wants}
 use Rattle.tc_core.specs.TcView.{TcView, rolls_back}
 use Rattle.tc_core.specs.Refusing.{Refuses}
-use Rattle.tc_core.specs.Changes.{answered, was_told}
+use Rattle.tc_core.specs.Changes.{answered, was_told, checkpointed}
 
 abbrev pub session_of : Reply → ℕ
 session_of (says.Connected s) = s
@@ -83,15 +83,20 @@ on_awaited w n (Some a) (Some o) = (told_of o n a, passed (answered w o n a) n)
 abbrev pub on_answered : TcView → ℕ → Option Answer → Outcome
 on_answered w n a = if takes w.session w.phase n then on_awaited w n a (awaiting w n) else (told.Nothing, w)
 
--- the session runs: redo begins at the first number
+-- the session runs: redo begins one past the greatest number that was checkpointed
 abbrev pub on_connected : TcView → Phase → Outcome
-on_connected w phase.Connecting = (told.Connected w.session, record w { phase = phase.Redoing 1 false })
+on_connected w phase.Connecting = (told.Connected w.session, record w { phase = phase.Redoing (w.checkpointed + 1) false })
 on_connected w _ = (told.Nothing, w)
 
 -- the end of redo was sent, and is replied to
 abbrev pub on_redo_ended : TcView → Phase → Outcome
 on_redo_ended w (phase.Redoing next true) = (told.RedoEnded w.session, record w { phase = phase.Running })
 on_redo_ended w _ = (told.Nothing, w)
+
+-- the checkpoint that was asked for is logged; of another number none is
+abbrev pub on_checkpointed : TcView → ℕ → Outcome
+on_checkpointed w l =
+    if is_number w.checkpointing l then (told.CheckpointLogged (length w.log + 1), checkpointed w l) else (told.Nothing, w)
 
 -- who asked the read of this number and waits for it still
 abbrev pub reader : TcView → ℕ → Option OpenTxn
@@ -124,19 +129,21 @@ on_reply w (says.Answered s n a) = on_answered w n a
 on_reply w (says.RedoEnded s) = on_redo_ended w w.phase
 on_reply w (says.Row s r v) = on_row w v (reader w r)
 on_reply w (says.Rows s r rows) = on_rows w rows (reader w r)
-on_reply w (says.Checkpointed s l) = (told.Nothing, w)
+on_reply w (says.Checkpointed s l) = on_checkpointed w l
 
 pub record TakesReply (old : TcView) (reply : Reply) (what : Told) (new : TcView) : Type 0 where
   pub told : what ≡ (on_reply old reply).0
   pub left : new ≡ (on_reply old reply).1
 
--- the reply's answer is logged
+-- an answer is logged
 abbrev pub is_logged : TcView → ℕ → Option Answer → Option OpenTxn → Bool
 is_logged w n (Some a) (Some o) = takes w.session w.phase n
 is_logged w n a o = false
 
+-- something is logged: an answer, or a checkpoint
 abbrev pub logs : TcView → Reply → Bool
 logs w (says.Answered s n a) = is_logged w n a (awaiting w n)
+logs w (says.Checkpointed s l) = is_number w.checkpointing l
 logs w _ = false
 
 abbrev pub reads_range : Option OpenTxn → Bool
@@ -151,6 +158,9 @@ takes_memory w reply = logs w reply
 -- the log has no number left for it
 abbrev pub answered_refusal_of : TcView → ℕ → Option Answer → Option Refusal
 answered_refusal_of w n a = first_of ((is_logged w n a (awaiting w n) && is_spent w.log, NumbersSpent) ∷ [])
+
+abbrev pub checkpointed_refusal_of : TcView → ℕ → Option Refusal
+checkpointed_refusal_of w l = first_of ((is_number w.checkpointing l && is_spent w.log, NumbersSpent) ∷ [])
 
 abbrev pub reply_refusal : TcView → Reply → Option Refusal
 reply_refusal w reply = first_of ((is_stale w (session_of reply), Stale) ∷ (logs w reply && is_spent w.log, NumbersSpent) ∷ [])

@@ -7,8 +7,10 @@ use Rattle.tc_core.specs.declared.phase.Phase.{Phase}
 use Rattle.tc_core.specs.declared.phase.Phase.TheVariants.{Unconnected, Connecting, Redoing, Running}
 
 -- its log, the newest record first, how many are stable, how often the log's device has failed; its session, 0 if
--- none, and how far that has come; how many reads were asked; the open transactions, the newest first; those whose
--- Commit record isn't stable, in the order of these records; and what each transaction holds
+-- none, and how far that has come; how many reads were asked; the greatest number announced in this session, 0 before
+-- any, what its latest unanswered checkpoint asked for, and the greatest number that a Checkpoint record names, 0 if
+-- none; the open transactions, the newest first; those whose Commit record isn't stable, in the order of these records;
+-- and what each transaction holds
 pub record TcView : Type 0 where
   pub log : List Record
   pub stable : ℕ
@@ -16,6 +18,9 @@ pub record TcView : Type 0 where
   pub session : ℕ
   pub phase : Phase
   pub reads : ℕ
+  pub announced : ℕ
+  pub checkpointing : Option ℕ
+  pub checkpointed : ℕ
   pub open_txns : List OpenTxn
   pub committing : List ℕ
   pub locks : LocksView
@@ -62,6 +67,9 @@ fresh failures = record {
   session = 0;
   phase = Unconnected;
   reads = 0;
+  announced = 0;
+  checkpointing = None;
+  checkpointed = 0;
   open_txns = [];
   committing = [];
   locks = [];

@@ -41,6 +41,8 @@ impl<D: LogDevice> Parts<D> {
         let committed = self.force()?.committed;
         self.session = session;
         self.phase = Phase::Connecting;
+        self.announced = 0;
+        self.checkpointing = None;
         Ok(Connecting {
             request: Request::Connect { session },
             committed,

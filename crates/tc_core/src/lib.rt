@@ -10,6 +10,7 @@ mod acting;
 mod change;
 mod forcing;
 mod locking;
+mod low_water;
 mod open_txn;
 mod open_txns;
 mod parts;

@@ -19,7 +19,8 @@ use std::alloc::Global;
 /// The greatest number that a record or a read may have.
 pub const LAST_NUMBER: u64 = 281_474_976_710_655;
 
-/// The log, the session, the open transactions, those that are committing, and the locks of both.
+/// The log, the session, what the data component may forget, the open transactions, those that are committing, and the
+/// locks of both.
 #[derive(Drop)]
 pub struct Parts<D: LogDevice> {
     pub log: Log<D>,
@@ -28,6 +29,12 @@ pub struct Parts<D: LogDevice> {
     pub phase: Phase,
     /// How many reads were asked.
     pub reads: u64,
+    /// The greatest number that was announced in this session, 0 before any.
+    pub announced: u64,
+    /// What the latest checkpoint of this session asked for, until it is logged.
+    pub checkpointing: Option<u64>,
+    /// The greatest number that a Checkpoint record names, 0 if none.
+    pub checkpointed: u64,
     pub open_txns: OpenTxns,
     /// Whose Commit record isn't stable, in the order of these records.
     pub committing: Vec<u64>,
@@ -45,6 +52,9 @@ impl<D: LogDevice> Parts<D> {
             session: 0,
             phase: Phase::Unconnected,
             reads: 0,
+            announced: 0,
+            checkpointing: None,
+            checkpointed: 0,
             open_txns: OpenTxns::new(alloc),
             committing: Vec::new(alloc),
             locks: RangeLocks::new(alloc),

@@ -1,7 +1,6 @@
-//! Sessions: what recovery sends, and what the data component may forget.
+//! What recovery sends in a session.
 ghost use Rattle.tc_core.specs.Recovery.{RecoverGives, Redoes};
 ghost use Rattle.tc_core.specs.Redoing.{IsRedoing};
-ghost use Rattle.tc_core.specs.LowWater.{LowWaterGives, IsGreatestAnnounced};
 ghost use Rattle.tc_core.specs.Kept.{IsTc};
 ghost use Rattle.tc_core.specs.Seen.{seen};
 
@@ -56,30 +55,6 @@ impl<D: LogDevice> Parts<D> {
                 };
                 Request::RedoEnd { session }
             }
-        }
-    }
-
-    pub fn low_water(&self, low: u64) -> Result<Request, Refusal>
-        requires { IsTc (seen self.now) }
-        ensures gives { LowWaterGives (seen self.now) low result }
-    {
-        self.running()?;
-        if low > self.greatest_low() {
-            return Err(Refusal::BeyondStable);
-        }
-        Ok(Request::LowWater {
-            session: self.session,
-            low,
-        })
-    }
-
-    /// The greatest number that may be announced, 0 where clients aren't served.
-    pub fn greatest_low(&self) -> u64
-        ensures { IsGreatestAnnounced (seen self.now) result }
-    {
-        match self.phase {
-            Phase::Running => self.log.answered_end(),
-            _ => 0,
         }
     }
 }

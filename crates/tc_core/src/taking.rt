@@ -34,7 +34,7 @@ impl<D: LogDevice> Parts<D> {
             Reply::RedoEnded { .. } => Ok(self.on_redo_ended()),
             Reply::Row { read, value, .. } => Ok(self.on_row(*read, value)),
             Reply::Rows { read, rows, .. } => self.on_rows(*read, rows),
-            Reply::Checkpointed { .. } => Ok(Told::Nothing),
+            Reply::Checkpointed { low, .. } => self.on_checkpointed(*low),
         }
     }
 
@@ -48,7 +48,7 @@ impl<D: LogDevice> Parts<D> {
             return Told::Nothing;
         }
         self.phase = Phase::Redoing {
-            next: 1,
+            next: self.checkpointed + 1,
             ending: false,
         };
         Told::Connected(self.session)

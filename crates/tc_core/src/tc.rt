@@ -7,8 +7,9 @@ ghost use Rattle.tc_core.specs.OpenTxns.{find, oldest, wants};
 ghost use Rattle.tc_core.specs.Calls.{ReconnectGives, BeginGives, ActGives, ReadGives, SaveGives, BackGives, RollbackGives, CommitGives, UndoGives, ForceGives, ResendGives};
 ghost use Rattle.tc_core.specs.Replies.{ReplyGives};
 ghost use Rattle.tc_core.specs.Recovery.{RecoverGives};
-ghost use Rattle.tc_core.specs.LowWater.{LowWaterGives, IsGreatestAnnounced};
-ghost use Rattle.tc_core.specs.Causes.{begin_refusal};
+ghost use Rattle.tc_core.specs.LowWater.{Announces, RefusesLow, LowWaterGives, IsGreatestAnnounced};
+ghost use Rattle.tc_core.specs.Checkpoint.{CheckpointGives};
+ghost use Rattle.tc_core.specs.Causes.{running_refusal, begin_refusal};
 ghost use Rattle.tc_core.specs.Kept.{IsTc};
 
 use crate::open_txn::OpenTxn;
@@ -169,10 +170,18 @@ impl<D: LogDevice> Tc<D> {
         self.parts.resend(txn)
     }
 
+    /// Whether the number may be announced, memory aside. Refused as `low_water` is.
+    pub fn can_announce(&self, low: u64) -> Result<(), Refusal>
+        ensures allowed { OnOk result (Announces self.now low) }
+        ensures refused { IfErr result (λ refusal. RefusesLow self.now low refusal) }
+    {
+        self.parts.can_announce(low)
+    }
+
     /// Tells the data component that no number up to `low` is sent again. Refused NotConnected, Redoing,
     /// BeyondStable where one of these isn't stable or has no stable answer.
-    pub fn low_water(&self, low: u64) -> Result<Request, Refusal>
-        ensures gives { LowWaterGives self.now low result }
+    pub fn low_water(&mut self, low: u64) -> Result<Request, Refusal>
+        ensures gives { LowWaterGives self.old low result self.new }
     {
         self.parts.low_water(low)
     }
@@ -184,8 +193,24 @@ impl<D: LogDevice> Tc<D> {
         self.parts.greatest_low()
     }
 
-    /// Takes a reply. The answer of an awaited request is logged and told, what was read is told; a reply
-    /// that isn't awaited changes nothing. Refused Stale, NumbersSpent, NoMemory, Device; the reply may be given again
+    /// Whether a checkpoint may be asked for, memory aside. Refused NotConnected, Redoing.
+    pub fn can_checkpoint(&self) -> Result<(), Refusal>
+        ensures allowed { OnOk result (running_refusal self.now ≡ None) }
+        ensures refused { IfErr result (λ refusal. running_refusal self.now ≡ Some refusal) }
+    {
+        self.parts.running()
+    }
+
+    /// Asks the data component to make all up to the greatest number that was announced in this session stable in its
+    /// leaves; the reply is logged, and redo starts above it. Refused NotConnected, Redoing.
+    pub fn checkpoint(&mut self) -> Result<Request, Refusal>
+        ensures gives { CheckpointGives self.old result self.new }
+    {
+        self.parts.checkpoint()
+    }
+
+    /// Takes a reply. The answer of an awaited request is logged and told, what was read is told, the checkpoint that was
+    /// asked for last is logged; a reply that isn't awaited changes nothing. Refused Stale, NumbersSpent, NoMemory, Device; the reply may be given again
     /// then.
     pub fn on_reply(&mut self, reply: &Reply) -> Result<Told, Refusal>
         ensures gives { ReplyGives self.old reply.now result self.new }

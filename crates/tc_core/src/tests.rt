@@ -1,5 +1,6 @@
 //! The transaction component by itself: its calls in their order, and replies that are made by hand. Each call stands in
 //! a small function of its own without a contract, so that a test of several calls is cheap to check.
+mod checkpoints;
 mod committing;
 mod first_path;
 mod refusing;

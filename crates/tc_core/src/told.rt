@@ -20,6 +20,8 @@ pub enum Told {
     Rows { txn: u64, rows: Rows },
     /// The compensation of this number was performed; no client is told.
     Undone(u64),
+    /// The checkpoint that was asked for has the record of this number; no client is told.
+    CheckpointLogged(u64),
 }
 
 /// What one step of a rollback did.

@@ -29,6 +29,7 @@ out_text out.Noted = codes "noted\n"
 out_text (out.Connected session) = numbered (codes "connected ") session
 out_text (out.RedoEnded session) = numbered (codes "redo ended ") session
 out_text (out.Undone lsn) = numbered (codes "undone ") lsn
+out_text (out.CheckpointLogged lsn) = numbered (codes "checkpoint logged ") lsn
 out_text (out.Split pair) = pair_line (codes "split ") pair
 out_text (out.Merged pair) = pair_line (codes "merged ") pair
 out_text (out.Flushed id) = numbered (codes "flushed ") id

@@ -31,6 +31,8 @@ A script is lines; empty lines and lines that begin with # are skipped.
   send T        sends the unanswered request of transaction T, first or again
   undo T        does one step of the rollback of transaction T
   low N         tells the data component that no number up to N is sent again
+  checkpoint    asks the data component to write its leaves, so that redo may begin
+                past the greatest number that was announced by low
   req N         delivers the request numbered N
   rep N         delivers the reply numbered N
   split K       splits the leaf that has the key K

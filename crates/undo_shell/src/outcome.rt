@@ -35,6 +35,7 @@ pub fn print_out<W: io::Write>(writer: &mut W, out: &Out) -> io::Result<()>
         Out::Connected(session) => print_numbered(writer, "connected ", *session),
         Out::RedoEnded(session) => print_numbered(writer, "redo ended ", *session),
         Out::Undone(lsn) => print_numbered(writer, "undone ", *lsn),
+        Out::CheckpointLogged(lsn) => print_numbered(writer, "checkpoint logged ", *lsn),
         Out::Split(pair) => print_pair(writer, "split ", *pair),
         Out::Merged(pair) => print_pair(writer, "merged ", *pair),
         Out::Flushed(id) => print_numbered(writer, "flushed ", *id),

@@ -1,5 +1,5 @@
 -- Each call of the transaction component keeps what holds of it.
-use Rattle.std.proofs.Common.{◌≡◌, ℕ, ◌<◌, ◌≤◌, Bool, true, false, List, [], ◌∷◌, length, Option, Some, None, is_some, refl, sym, ap, ◌∙◌, subst, arith, inl, inr, true≢false}
+use Rattle.std.proofs.Common.{◌≡◌, ℕ, ◌+◌, ◌<◌, ◌≤◌, Bool, true, false, List, [], ◌∷◌, length, Option, Some, None, is_some, refl, sym, ap, ◌∙◌, subst, arith, inl, inr, true≢false, eqb-true}
 use Rattle.std.specs.Prelude.{◌&&◌, ◌||◌, IsSome, Result, Ok, Err, not, nat_le, nat_lt, if◌then◌else◌}
 use Rattle.std.proofs.lemmas.Bool.Decides.{nat_tests}
 use Rattle.record_key.specs.declared.op.Op.{Op}
@@ -31,18 +31,21 @@ use Rattle.tc_core.specs.declared.told.UndoStep.TheVariants as undo
 use Rattle.tc_core.specs.declared.told.RecoverStep.{RecoverStep}
 use Rattle.tc_core.specs.declared.told.RecoverStep.TheVariants as step
 use Rattle.tc_core.specs.OpenTxns.{find}
-use Rattle.tc_core.specs.TcView.{TcView, fresh}
+use Rattle.tc_core.specs.TcView.{TcView, fresh, is_running}
 use Rattle.tc_core.specs.Refusing.{Refuses}
 use Rattle.tc_core.specs.Causes.{begin_refusal, idle_refusal, is_full, answered_refusal, undo_refusal, undo_logs, logs_next, saves_of, has_savepoint, reads_spent, RefusesTaking, commit_refusal, running_refusal}
-use Rattle.tc_core.specs.Changes.{shared, logged_session, committed, answered, was_told, next_of, inverse_at}
+use Rattle.tc_core.specs.Changes.{shared, logged_session, committed, answered, was_told, checkpointed, next_of, inverse_at}
 use Rattle.tc_core.specs.Calls.{ReconnectGives, BeginGives, ActGives, ReadGives, SaveGives, BackGives, RollbackGives, CommitGives, UndoGives, ForceGives, Undoes, IsAt}
-use Rattle.tc_core.specs.Replies.{ReplyGives, Outcome, on_reply, on_answered, on_awaited, on_connected, on_redo_ended, on_row, on_rows, awaiting, reader, takes, is_key, is_range, span_read, is_logged, is_stale, answered_refusal_of, reply_refusal}
+use Rattle.tc_core.specs.Replies.{ReplyGives, Outcome, on_reply, on_answered, on_awaited, on_connected, on_redo_ended, on_row, on_rows, on_checkpointed, is_number, awaiting, reader, takes, is_key, is_range, span_read, is_logged, is_stale, answered_refusal_of, reply_refusal}
 use Rattle.tc_core.specs.Recovery.{RecoverGives, SendsAt, redo_place}
+use Rattle.tc_core.specs.LowWater.{LowWaterGives}
+use Rattle.tc_core.specs.Checkpoint.{CheckpointGives}
 use Rattle.tc_core.specs.Undo.{FindsRequest}
 use Rattle.tc_core.specs.Kept.{IsTc, IsPhase}
 use Rattle.tc_core.proofs.KeepsTc.{keeps_failed, keeps_logged, keeps_force, keeps_session, keeps_begin, keeps_act, keeps_rollback, keeps_save, keeps_back, keeps_is_back, keeps_answer, keeps_passed, awaited_is, open_at, idle_at}
 use Rattle.tc_core.proofs.KeepsUndo.{keeps_comp, fits_end, keeps_end, keeps_commit}
 use Rattle.tc_core.proofs.KeepsReads.{keeps_ask, keeps_told, reader_is}
+use Rattle.tc_core.proofs.KeepsLow.{keeps_announced, keeps_asked, keeps_checkpointed}
 use Rattle.log_laws.proofs.Undo.{earlier_found}
 use Rattle.log_laws.proofs.Records.{op_step, op_request}
 use Rattle.compensation.specs.NextUndo.{IsUndone}
@@ -51,7 +54,7 @@ use Rattle.codec.specs.declared.request.Request.{Request}
 use Rattle.tc_core.proofs.KeepsUndo.{undo_found}
 use Rattle.world.proofs.Undone.{undone_above}
 use Rattle.tc_core.proofs.Refused.{at_number}
-use Rattle.world.proofs.Idle.{IsIdleTxn, both_none, one_false, two_false, idle_found, found_idle, waits_for_none, not_not}
+use Rattle.world.proofs.Idle.{IsIdleTxn, both_none, one_false, two_false, idle_found, found_idle, waits_for_none, not_not, serves_clients}
 
 -- no number is spent
 unspent : (b : Bool) → first_of ((b, NumbersSpent) ∷ []) ≡ None → b ≡ false
@@ -153,6 +156,14 @@ pub force_keeps : (old new : TcView) (x : Result Forced Refusal) → IsTc old �
 force_keeps old new (Ok f) k h = subst IsTc (sym h.2) (keeps_force old k)
 force_keeps old new (Err r) k h = subst IsTc (sym h.1) (keeps_failed old k)
 
+pub low_water_keeps : (old new : TcView) (l : ℕ) (x : Result Request Refusal) → IsTc old → LowWaterGives old l x new → IsTc new
+low_water_keeps old new l (Ok q) k h = subst IsTc (sym h.2) (keeps_announced old k l h.0.allowed)
+low_water_keeps old new l (Err r) k h = subst IsTc (sym h.1) k
+
+pub checkpoint_keeps : (old new : TcView) (x : Result Request Refusal) → IsTc old → CheckpointGives old x new → IsTc new
+checkpoint_keeps old new (Ok q) k h = subst IsTc (sym h.2) (keeps_asked old k (serves_clients old h.0))
+checkpoint_keeps old new (Err r) k h = subst IsTc (sym h.1) k
+
 -- what is left to undo can be compensated
 fits_comp : (w : TcView) (o : OpenTxn) → IsTc w → find o.txn w.open_txns ≡ Some o → o.waiting ≡ None → 0 < o.undo
     → Fits w.log (is.Comp o.txn o.undo (next_of w.log o.undo) (inverse_at w.log o.undo))
@@ -212,19 +223,25 @@ pub undo_keeps : (old new : TcView) (t : ℕ) (x : Result UndoStep Refusal) → 
 undo_keeps old new t (Ok step) k h = undoes_keeps old new t h.open_txn h.open_txn.rolling step k h.at h.allowed refl h.undoes
 undo_keeps old new t (Err r) k h = refused_keeps (undo_refusal old t) (undo_logs (find t old.open_txns)) (undo_logs (find t old.open_txns)) old new r k h
 
--- only the phase is another
-at_phase : (w : TcView) (p : Phase) → IsTc w → IsPhase w.session p → IsTc (record w { phase = p })
-at_phase w p k is = record {
+-- only the phase is another; where clients aren't served no checkpoint is asked for
+at_phase : (w : TcView) (p : Phase) → IsTc w → IsPhase w.checkpointed w.session p → ((l : ℕ) → w.checkpointing ≡ Some l → p ≡ phase.Running)
+    → IsTc (record w { phase = p })
+at_phase w p k is asking = record {
   legal = k.legal;
   within = k.within;
   few = record { records = k.few.records; reads = k.few.reads };
   session = k.session;
   phase = is;
+  asking = asking;
+  low = k.low;
   open_txns = k.open_txns;
   committing = k.committing;
   locks = k.locks;
   reading = k.reading;
 }
+
+unasked : (w : TcView) (p q : Phase) → IsTc w → w.phase ≡ p → is_running p ≡ false → (l : ℕ) → w.checkpointing ≡ Some l → q ≡ phase.Running
+unasked w p q k at isnt l asks = absurd (true≢false (sym (ap is_running (sym at ∙ k.asking l asks)) ∙ isnt))
 
 -- one step of recovery
 sends_keeps : (old new : TcView) (p : Phase) (q : Request) → IsTc old → old.phase ≡ p → SendsAt old p q new → IsTc new
@@ -232,11 +249,11 @@ sends_keeps old new phase.Unconnected q k at h = absurd h
 sends_keeps old new phase.Connecting q k at h = subst IsTc (sym h.1) k
 sends_keeps old new phase.Running q k at h = absurd h
 sends_keeps old new (phase.Redoing next ending) q k at h =
-    let bounds = subst (IsPhase old.session) at k.phase in
-    subst IsTc (sym h.left) (at_phase old _ k (placed h.found bounds.0 bounds.1 h.finds))
+    let bounds = subst (IsPhase old.checkpointed old.session) at k.phase in
+    subst IsTc (sym h.left) (at_phase old _ k (placed h.found bounds.0 bounds.1 h.finds) (unasked old (phase.Redoing next ending) _ k at refl))
   where
-    placed : (found : Option (ℕ × Op)) → 0 < next → next ≤ old.session → FindsRequest old.log next old.session found
-        → IsPhase old.session (phase.Redoing (redo_place old.session found) (not (is_some found)))
+    placed : (found : Option (ℕ × Op)) → old.checkpointed < next → next ≤ old.session → FindsRequest old.log next old.session found
+        → IsPhase old.checkpointed old.session (phase.Redoing (redo_place old.session found) (not (is_some found)))
     placed None some most h = (omega (arith, some, most), omega arith, λ e. refl)
     placed (Some x) some most h = (omega (arith, some, h.0), omega (arith, h.1), λ e. absurd (true≢false (sym e)))
 
@@ -264,7 +281,9 @@ answered_keeps w n a k allowed = pick (takes w.session w.phase n) refl
 connected_keeps : (w : TcView) (p : Phase) → IsTc w → w.phase ≡ p → IsTc (on_connected w p).1
 connected_keeps w phase.Unconnected k at = k
 connected_keeps w phase.Connecting k at =
-    let some : 0 < w.session = subst (IsPhase w.session) at k.phase in at_phase w (phase.Redoing 1 false) k (omega arith, omega (arith, some), λ e. absurd (true≢false (sym e)))
+    let some : w.checkpointed < w.session = subst (IsPhase w.checkpointed w.session) at k.phase in
+    at_phase w (phase.Redoing (w.checkpointed + 1) false) k (omega arith, omega (arith, some), λ e. absurd (true≢false (sym e)))
+    (unasked w phase.Connecting _ k at refl)
 connected_keeps w (phase.Redoing next ending) k at = k
 connected_keeps w phase.Running k at = k
 
@@ -273,8 +292,22 @@ redo_ended_keeps w phase.Unconnected k at = k
 redo_ended_keeps w phase.Connecting k at = k
 redo_ended_keeps w (phase.Redoing next false) k at = k
 redo_ended_keeps w (phase.Redoing next true) k at =
-    let bounds = subst (IsPhase w.session) at k.phase in at_phase w phase.Running k (omega (arith, bounds.0, bounds.1))
+    let bounds = subst (IsPhase w.checkpointed w.session) at k.phase in at_phase w phase.Running k (omega (arith, bounds.0, bounds.1)) (λ l asks. refl)
 redo_ended_keeps w phase.Running k at = k
+
+is_asked : (x : Option ℕ) (l : ℕ) → is_number x l ≡ true → x ≡ Some l
+is_asked None l h = absurd (true≢false (sym h))
+is_asked (Some m) l h = ap Some (eqb-true m l h)
+
+checkpointed_keeps : (w : TcView) (l : ℕ) → IsTc w → first_of ((is_number w.checkpointing l && is_spent w.log, NumbersSpent) ∷ []) ≡ None → IsTc (on_checkpointed w l).1
+checkpointed_keeps w l k free = pick (is_number w.checkpointing l) refl
+  where
+    logged_if : Bool → Outcome
+    logged_if b = if b then (told.CheckpointLogged (length w.log + 1), checkpointed w l) else (told.Nothing, w)
+
+    pick : (b : Bool) → is_number w.checkpointing l ≡ b → IsTc (logged_if b).1
+    pick true asks = keeps_checkpointed w k l (is_asked w.checkpointing l asks) (logged_unspent (is_number w.checkpointing l) (is_spent w.log) asks free)
+    pick false other = k
 
 row_keeps : (w : TcView) (n : ℕ) (v : Option Bytes) (x : Option OpenTxn) → IsTc w → reader w n ≡ x → IsTc (on_row w v x).1
 row_keeps w n v None k at = k
@@ -307,7 +340,7 @@ outcome_keeps w (says.Connected s) k h = connected_keeps w w.phase k refl
 outcome_keeps w (says.Answered s n a) k h = answered_keeps w n a k (not_spent (is_stale w s) (is_logged w n a (awaiting w n) && is_spent w.log) h)
 outcome_keeps w (says.Row s n v) k h = row_keeps w n v (reader w n) k refl
 outcome_keeps w (says.Rows s n rows) k h = rows_keeps w n rows (reader w n) k refl
-outcome_keeps w (says.Checkpointed s l) k h = k
+outcome_keeps w (says.Checkpointed s l) k h = checkpointed_keeps w l k (not_spent (is_stale w s) (is_number w.checkpointing l && is_spent w.log) h)
 outcome_keeps w (says.RedoEnded s) k h = redo_ended_keeps w w.phase k refl
 
 pub reply_keeps : (old new : TcView) (reply : Reply) (x : Result Told Refusal) → IsTc old → ReplyGives old reply x new → IsTc new

@@ -1,5 +1,5 @@
 -- What the data component does by itself keeps what was sent, replied and captured.
-use Rattle.std.proofs.Common.{◌≡◌, ◌≢◌, ℕ, ◌≤◌, true, false, List, Option, sym, ◌∙◌, subst, arith}
+use Rattle.std.proofs.Common.{◌≡◌, ◌≢◌, ℕ, ◌≤◌, true, false, Option, sym, ◌∙◌, subst, arith}
 use Rattle.std.specs.List.{AllByRecursion}
 use Rattle.record_key.specs.declared.op.Op.{Op}
 use Rattle.record_key.specs.declared.op.Answer.{Answer}
@@ -11,6 +11,7 @@ use Rattle.codec.specs.declared.request.Request.TheVariants as asks
 use Rattle.codec.specs.declared.reply.Reply.{Reply}
 use Rattle.codec.specs.declared.reply.Reply.TheVariants as says
 use Rattle.system_txn.specs.Kept.{IsRecoverable}
+use Rattle.system_txn.specs.Checked.{Checks}
 use Rattle.dc_core.specs.declared.performance.Performance.{Performance}
 use Rattle.dc_core.specs.DcView.{DcView, captures_at}
 use Rattle.dc_core.specs.Serves.{runs}
@@ -20,13 +21,15 @@ use Rattle.world.specs.Node.{NodeView, with_dc}
 use Rattle.world.specs.Kept.{IsKept, InSession, IsSent, IsAnswered, IsGiven, IsTrueTo, AreSessions, AnsweredAreCaptured, EarlierAreCaptured}
 use Rattle.world.proofs.Running.{run_is, some_session}
 
--- where a session runs it ran before, as far past its redo at least, and no request's number was lost at its key
+-- where a session runs it ran before, as far past its redo at least, and no request's number was lost at its key; nor is
+-- a leaf less low
 pub record Carries (w : NodeView) (dc : DcView) : Type 0 where
   pub captured : dc.session ≢ 0 → (n : ℕ) (o : Op) → Requests w.tc.log n o → captures_at w.dc (key_of o) n ≡ true
       → captures_at dc (key_of o) n ≡ true
   pub stored : w.dc.stored ≤ dc.stored
   pub ran : (s : ℕ) → s ≤ w.dc.stored → runs dc s ≡ true → runs w.dc s ≡ true
   pub past : (s : ℕ) → s ≤ w.dc.stored → runs dc s ≡ true → w.dc.redo ≡ false → dc.redo ≡ false
+  pub checks : Checks w.dc.system dc.system
 
 module _ (w : NodeView) (dc : DcView) (k : IsKept w) (is : IsDc dc) (c : Carries w dc) where
   -- what holds in a session that still runs
@@ -76,12 +79,12 @@ module _ (w : NodeView) (dc : DcView) (k : IsKept w) (is : IsDc dc) (c : Carries
   given_carried (says.Answered s n a) h = answered_carried s n a h
   given_carried (says.Row s m v) h = h
   given_carried (says.Rows s m rows) h = h
-  given_carried (says.Checkpointed s l) h = h
+  given_carried (says.Checkpointed s l) h = c.checks l h
   given_carried (says.RedoEnded s) h = record { begun = omega (arith, h.begun, c.stored); holds = λ r. c.past s h.begun r (h.holds (c.ran s h.begun r)) }
 
   -- what is past redo now was, or its redo has ended
   pub keeps_dc : IsRecoverable dc.system → IsTrueTo w.tc dc.system → AllByRecursion (λ (p : Performance). Requests w.tc.log p.number p.op) dc.performed
-      → (may_merge dc ≡ true → AnsweredAreCaptured w.tc.log w.dc) → AreSessions w.tc.session w.tc.phase w.tc.log dc → IsKept (with_dc w dc)
+      → (may_merge dc ≡ true → AnsweredAreCaptured w.tc.log w.dc) → AreSessions w.tc.stable w.tc.session w.tc.phase w.tc.log dc → IsKept (with_dc w dc)
   keeps_dc recoverable true_to performed past sessions = record {
     tc = k.tc;
     right = k.right;
@@ -93,4 +96,5 @@ module _ (w : NodeView) (dc : DcView) (k : IsKept w) (is : IsDc dc) (c : Carries
     sent = all_from (IsSent w.tc w.dc) (IsSent w.tc dc) sent_carried w.requests k.sent;
     given = all_from (IsGiven w.tc w.dc) (IsGiven w.tc dc) given_carried w.replies k.given;
     sessions = sessions;
+    checked = c.checks w.tc.checkpointed k.checked;
   }

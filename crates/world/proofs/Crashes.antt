@@ -1,12 +1,11 @@
 -- A crash of the data component, and its restart, keep what holds of a node.
-use Rattle.std.proofs.Common.{◌≡◌, ◌≢◌, ℕ, ◌<◌, ◌≤◌, ◌==◌, Bool, true, false, List, [], ◌∷◌, length, Some, refl, sym, ap, ◌∙◌, subst, arith, inl, inr, true≢false, append-nil}
-use Rattle.std.specs.Prelude.{◌&&◌, not}
+use Rattle.std.proofs.Common.{◌≡◌, ℕ, ◌<◌, ◌≤◌, Bool, true, List, [], ◌∷◌, length, refl, sym, ap, subst, arith, inl}
 use Rattle.std.specs.List.{AllByRecursion}
 use Rattle.record_key.specs.declared.entry.Entry.{Entry}
 use Rattle.record_key.specs.declared.refusal.Refusal.{Refusal}
 use Rattle.page.specs.Leaf.{LeafView}
 use Rattle.recovery_laws.specs.Shape.{beginning}
-use Rattle.recovery_laws.specs.Recovery.{recover, stored_session}
+use Rattle.recovery_laws.specs.Recovery.{stored_session}
 use Rattle.recovery_laws.specs.Laws.{IsKeptByCuts}
 use Rattle.recovery_laws.specs.Ready.{IsHonestTo}
 use Rattle.recovery_laws.proofs.Beginnings.{whole, twice}
@@ -14,23 +13,23 @@ use Rattle.recovery_laws.proofs.Honesty.{captures_fewer, cuts_keep_honest}
 use Rattle.ab_lsn.specs.Parting.{is_under}
 use Rattle.system_txn.specs.SystemView.{SystemView, refused_so}
 use Rattle.system_txn.specs.Devices.{pages_of}
-use Rattle.system_txn.specs.Kept.{IsSystem, IsRecoverable}
-use Rattle.system_txn.specs.Crashed.{crashed, MayKeep}
+use Rattle.system_txn.specs.Kept.{IsSystem}
+use Rattle.system_txn.specs.Crashed.{crashed}
 use Rattle.system_txn.proofs.AfterCrash.{all_recovered, have_beginning, crashed_kept, crashed_recoverable}
+use Rattle.system_txn.proofs.Checked.{crashed_checked, refused_checked}
 use Rattle.dc_core.specs.DcView.{DcView, leaves}
 use Rattle.dc_core.specs.Kept.{IsDc, IsListed, AreListed}
 use Rattle.dc_core.specs.Restarting.{restarted}
 use Rattle.dc_core.specs.Serves.{runs, with_system}
-use Rattle.dc_core.specs.Tends.{may_merge}
 use Rattle.tc_core.specs.declared.phase.Phase.{Phase}
 use Rattle.tc_core.specs.declared.phase.Phase.TheVariants as phase
 use Rattle.tc_core.specs.TcView.{TcView}
 use Rattle.tc_core.specs.Kept.{IsPhase}
 use Rattle.history.specs.declared.record.Record.{Record}
 use Rattle.world.specs.Node.{NodeView, with_dc}
-use Rattle.world.specs.Kept.{IsKept, IsServed, IsTrueTo, IsLowAnswered}
+use Rattle.world.specs.Kept.{IsKept, IsBegun, IsServed, IsTrueTo, IsLowAnswered}
 use Rattle.world.proofs.Carries.{keeps_dc}
-use Rattle.world.proofs.Running.{run_is, some_session, stored_begun, stored_shorter}
+use Rattle.world.proofs.Running.{run_is, some_session, stored_shorter}
 use Rattle.world.proofs.Systems.{same_leaves, keeps_system}
 use Rattle.world.proofs.Written.{refused_true}
 
@@ -65,13 +64,13 @@ stored_longer v n le = subst (λ log. stored_session log ≤ stored_session (beg
 no_run : (v : SystemView) (s : ℕ) → runs (restarted v) s ≡ true → ⊥
 no_run v s r = let run = run_is (restarted v) s r in run.some (sym run.is)
 
-crash_served : (at : Phase) (session : ℕ) (log : List Record) (old : DcView) (v : SystemView) → IsPhase session at → stored_session v.log ≤ session → old.stored ≤ stored_session v.log
-    → IsServed at session log old → IsServed at session log (restarted v)
-crash_served phase.Unconnected session log old v is most least h = tt
-crash_served phase.Connecting session log old v is most least h = h
-crash_served (phase.Redoing next ending) session log old v is most least h =
-    (h.0, omega (arith, h.1, most, least), λ runs. absurd (omega (arith, runs, is.0, is.1)))
-crash_served phase.Running session log old v is most least h = (omega (arith, h.0, most, least), λ runs. absurd (omega (arith, runs, is)))
+crash_served : (at : Phase) (c session : ℕ) (log : List Record) (old : DcView) (v : SystemView) → IsPhase c session at → (0 < session → stored_session v.log ≤ session)
+    → old.stored ≤ stored_session v.log → IsServed at session log old → IsServed at session log (restarted v)
+crash_served phase.Unconnected c session log old v is most least h = tt
+crash_served phase.Connecting c session log old v is most least h = h
+crash_served (phase.Redoing next ending) c session log old v is most least h =
+    (h.0, omega (arith, h.1, most (omega (arith, is.0, is.1)), least), λ runs. absurd (omega (arith, runs, is.0, is.1)))
+crash_served phase.Running c session log old v is most least h = (omega (arith, h.0, most is, least), λ runs. absurd (omega (arith, runs, is)))
 
 -- ---- a crash
 
@@ -100,17 +99,22 @@ pub crash_keeps : (w : NodeView) (n : ℕ) → IsKept w → w.dc.system.stable �
 crash_keeps w n k le =
     let v : SystemView = crashed w.dc.system n in
     let least : w.dc.stored ≤ stored_session v.log = omega (arith, k.dc.stored, stored_longer w.dc.system n le) in
-    let most : stored_session v.log ≤ w.tc.session = omega (arith, stored_shorter w.dc.system.log n, k.sessions.begun) in
+    let begun : IsBegun w.tc.stable w.tc.session (stored_session v.log) =
+    record {
+      recorded = omega (arith, stored_shorter w.dc.system.log n, k.sessions.begun.recorded);
+      most = λ some. omega (arith, stored_shorter w.dc.system.log n, k.sessions.begun.most some);
+    } in
     keeps_dc w (restarted v) k (crash_kept w n k le)
     (record {
       captured = λ some n o asks h. absurd (some refl);
       stored = least;
       ran = λ s before r. absurd (no_run v s r);
       past = λ s before r past. refl;
+      checks = crashed_checked w.dc.system n k.recoverable le;
     })
     (crashed_recoverable w.dc.system n k.recoverable le) (crash_true w n k le) tt
     (λ may. absurd (some_session (restarted v) may refl))
-    (record { begun = most; served = crash_served w.tc.phase w.tc.session w.tc.log w.dc v k.tc.phase most least k.sessions.served })
+    (record { begun = begun; served = crash_served w.tc.phase w.tc.checkpointed w.tc.session w.tc.log w.dc v k.tc.phase begun.most least k.sessions.served })
 
 -- a component that runs or doesn't is kept as one that does or doesn't
 pub keeps_up : (w : NodeView) (up : Bool) → IsKept w → IsKept (record w { dc_up = up })
@@ -125,6 +129,7 @@ keeps_up w up k = record {
   sent = k.sent;
   given = k.given;
   sessions = k.sessions;
+  checked = k.checked;
 }
 
 -- a restart that is refused counts as a failure of a device at most
@@ -132,4 +137,4 @@ pub refused_keeps : (w : NodeView) (r : Refusal) → IsKept w → IsDc (with_sys
 refused_keeps w r k is =
     keeps_system w (refused_so w.dc.system r) k is
     (record { legal = k.recoverable.legal; current = k.recoverable.current; fit = k.recoverable.fit })
-    (same_leaves w.tc.log (leaves w.dc)) (refused_true w.tc w.dc.system r k.true_to) k.sessions.begun
+    (refused_checked w.dc.system r) (same_leaves w.tc.log (leaves w.dc)) (refused_true w.tc w.dc.system r k.true_to) k.sessions.begun

@@ -1,5 +1,5 @@
 -- What a crash leaves of the data component's devices, and what they give again.
-use Rattle.std.proofs.Common.{◌≡◌, ◌⊎◌, ℕ, ◌+◌, ◌-◌, ◌<◌, ◌≤◌, List, [], ◌∷◌, ◌++◌, length, take, Option, Some, None, refl, sym, ap, ◌∙◌, subst, arith, inl, inr}
+use Rattle.std.proofs.Common.{◌≡◌, ℕ, ◌+◌, ◌-◌, ◌≤◌, List, [], ◌∷◌, ◌++◌, length, take, Option, None, refl, sym, ap, ◌∙◌, subst, arith, inl, inr}
 use Rattle.std.proofs.lemmas.Bool.{cases_lt}
 use Rattle.std.proofs.lemmas.List.{length-append, length-take-le, take_all}
 use Rattle.std.specs.FinMap as map
@@ -16,10 +16,8 @@ use Rattle.codec.specs.Reading.{◌>>=◌}
 use Rattle.page.specs.Leaf.{first}
 use Rattle.recovery_laws.specs.Recovery.{page_or}
 use Rattle.system_txn.specs.Devices.{spelled, pages_of, page_in}
-use Rattle.system_txn.specs.LogView.{IsStored}
 use Rattle.system_txn.specs.Kept.{IsSystem, IsRecoverable}
 use Rattle.system_txn.specs.Recovering.{HoldsFrames, Recovers, RefusesRecovery, LeavesFrames}
-use Rattle.system_txn.specs.Restarts.{LeavesBeginning}
 use Rattle.system_txn.specs.Crashed.{found, crashed, MayKeep}
 use Rattle.system_txn.proofs.AfterCrash.{crashed_kept}
 use Rattle.system_txn.proofs.Crashed.{crashes_leave_frames}

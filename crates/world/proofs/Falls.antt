@@ -1,5 +1,5 @@
 -- Each round of settling is one less of those that are left.
-use Rattle.std.proofs.Common.{◌≡◌, ◌⊎◌, ℕ, ◌+◌, ◌<◌, ◌≤◌, Bool, true, false, List, [], ◌∷◌, length, Option, Some, None, MatchBool, refl, sym, ap, ◌∙◌, subst, arith, inl, inr, true≢false, eqb-true, eq-eqb}
+use Rattle.std.proofs.Common.{◌≡◌, ℕ, ◌+◌, ◌<◌, ◌≤◌, Bool, true, false, List, [], ◌∷◌, length, Option, Some, None, MatchBool, refl, sym, ap, ◌∙◌, subst, arith, inl, inr, true≢false, eqb-true, eq-eqb}
 use Rattle.std.specs.Prelude.{◌==◌, ◌||◌, not, is_some, nat_lt, if◌then◌else◌}
 use Rattle.std.specs.List.{list_any}
 use Rattle.record_key.specs.declared.op.Op.{Op}
@@ -43,7 +43,7 @@ use Rattle.world.specs.Kept.{IsKept}
 use Rattle.world.specs.Rounds.{IsDone, IsApart, IsRedoing, IsDue, IsReader, IsServing, IsNext, Plays, events_of}
 use Rattle.world.specs.Bound.{requests_in, txn_rounds, phase_rounds, is_busy, is_apart, force_rounds, tc_rounds, without_session, down_rounds, rounds_left}
 use Rattle.world.proofs.Totals.{total_most, total_share}
-use Rattle.world.proofs.Counting.{none_above}
+use Rattle.world.proofs.Counting.{fewer_later, none_above}
 use Rattle.world.proofs.Exchanges.{HasReply, Exchanged, exchanged}
 use Rattle.world.proofs.TxnRounds.{unstable_now, stable_now, txn_later, txn_waiting, txn_reading, some_rolling, some_round}
 use Rattle.world.proofs.RoundsLeft.{FallsTo, falls_by, falls_force, falls_undo, falls_redone, falls_answered, falls_told}
@@ -84,14 +84,15 @@ less_force true s = omega arith
 less_force false true = omega arith
 less_force false false = omega arith
 
-begins_session : (w : NodeView) → IsKept w → tc_rounds (record (reconnected w.tc) { phase = phase.Redoing 1 false }) < tc_rounds (without_session w.tc)
+begins_session : (w : NodeView) → IsKept w → tc_rounds (record (reconnected w.tc) { phase = phase.Redoing (w.tc.checkpointed + 1) false }) < tc_rounds (without_session w.tc)
 begins_session w k =
     let log : List Record = is.Session ∷ w.tc.log in
     let os : List OpenTxn = w.tc.open_txns in
-    let above = none_above 1 (length w.tc.log + 1) is.Session w.tc.log (omega arith) in
+    let above = none_above (w.tc.checkpointed + 1) (length w.tc.log + 1) is.Session w.tc.log (omega arith) in
+    let later = fewer_later 1 (w.tc.checkpointed + 1) (length w.tc.log + 1) w.tc.log (omega arith) in
     let txns = total_most (txn_rounds log (length log)) (txn_rounds w.tc.log w.tc.stable) os (λ o. txn_later is.Session w.tc.log w.tc.stable (length log) o refl (omega (arith, k.tc.within))) in
     let force = less_force (list_any is_busy os) (nat_lt w.tc.stable (length w.tc.log)) in
-    rw (stable_now (length log) (length log) (omega arith)) (omega (arith, above, txns, force))
+    rw (stable_now (length log) (length log) (omega arith)) (omega (arith, above, later, txns, force))
 
 -- whatever is served to a Connect, its session runs then
 connect_runs : (old : DcView) (s : ℕ) (reply : Option Reply) (new : DcView) → Serves old (asks.Connect s) reply new → new.session ≡ s
@@ -108,7 +109,7 @@ falls_connected old new q k up apart same h =
     let P : Request → Type 0 = λ x. Serves old.dc x (Some h.reply) h.dc in
     let served = subst P same h.served in
     let reply : h.reply ≡ says.Connected s = some_reply h.reply (says.Connected s) served.0 in
-    let tc : TcView = record (reconnected old.tc) { phase = phase.Redoing 1 false } in
+    let tc : TcView = record (reconnected old.tc) { phase = phase.Redoing (old.tc.checkpointed + 1) false } in
     let left : new.tc ≡ tc = h.left ∙ ap (λ x. (on_reply (reconnected old.tc) x).1) reply in
     let session : new.dc.session ≡ new.tc.session =
     ap (λ (x : DcView). x.session) h.dc_is ∙ connect_runs old.dc s (Some h.reply) h.dc served ∙ sym (ap (λ (x : TcView). x.session) left) in

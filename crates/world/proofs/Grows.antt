@@ -1,5 +1,5 @@
 -- A log that grows keeps what was sent, replied and captured.
-use Rattle.std.proofs.Common.{◌≡◌, ◌≢◌, ℕ, ◌+◌, ◌≤◌, ◌⊎◌, true, false, List, ◌∷◌, length, Option, Some, None, refl, sym, ap, ◌∙◌, subst, arith, inl, inr, true≢false}
+use Rattle.std.proofs.Common.{◌≡◌, ◌≢◌, ℕ, ◌+◌, ◌<◌, ◌≤◌, ◌⊎◌, true, false, List, ◌∷◌, length, Option, Some, None, refl, sym, ap, ◌∙◌, subst, arith, inl, inr, true≢false}
 use Rattle.std.specs.List.{AllByRecursion}
 use Rattle.std.proofs.lemmas.Bool.{cases_Bool}
 use Rattle.record_key.specs.declared.op.Op.{Op}
@@ -7,13 +7,13 @@ use Rattle.record_key.specs.declared.op.Answer.{Answer}
 use Rattle.record_key.specs.Table.{Bytes, key_of}
 use Rattle.history.specs.declared.record.Record.{Record}
 use Rattle.history.specs.declared.record.Record.TheVariants as is
-use Rattle.history.specs.Legal.{IsLegal}
+use Rattle.history.specs.Legal.{IsLegal, FitsCheckpoint}
 use Rattle.history.specs.Log.{answer_of, request_of, Requests}
 use Rattle.history.specs.Spans.{is_within}
 use Rattle.history.specs.Values.{is_on, value_with, value_on, IsRight, HasRightAnswers}
-use Rattle.log_laws.specs.Reading.{AreAnswered}
 use Rattle.log_laws.proofs.Records.{ARequest, kept_at, older_at, at_newest}
-use Rattle.log_laws.proofs.LegalLogs.{answered_push, request_number}
+use Rattle.log_laws.proofs.LegalLogs.{request_number}
+use Rattle.logical_log.specs.Low.{stable_part}
 use Rattle.range_locks.specs.declared.span.Span.{Span}
 use Rattle.range_locks.specs.declared.span.Span.TheVariants.{Key, Range}
 use Rattle.codec.specs.declared.request.Request.{Request}
@@ -25,6 +25,7 @@ use Rattle.page.specs.Leaf.{LeafView}
 use Rattle.recovery_laws.specs.Ready.{IsHonestTo}
 use Rattle.system_txn.specs.SystemView.{SystemView}
 use Rattle.system_txn.specs.Devices.{pages_of}
+use Rattle.system_txn.specs.Checked.{IsChecked}
 use Rattle.dc_core.specs.declared.performance.Performance.{Performance}
 use Rattle.page.specs.Honest.{IsHonestLeaf}
 use Rattle.page.proofs.Honest.{right_longer, honest_uncaptured}
@@ -35,12 +36,14 @@ use Rattle.tc_core.specs.Changes.{shared}
 use Rattle.tc_core.proofs.Finding.{found_own}
 use Rattle.tc_core.proofs.HeldSpans.{within_itself}
 use Rattle.tc_core.proofs.KeepsTc.{none_next}
+use Rattle.tc_core.proofs.Low.{may_longer}
 use Rattle.tc_core.specs.TcView.{TcView}
 use Rattle.tc_core.specs.Kept.{IsTc}
 use Rattle.world.specs.Node.{NodeView, with_tc}
-use Rattle.world.specs.Kept.{IsKept, IsAnsweredTo, IsReadTrue, InSession, IsSent, IsRightOrNone, IsAnswered, IsValue, AreRows, IsGiven, AreSessions, IsTrueTo, IsLowAnswered, AnsweredAreCaptured, EarlierAreCaptured}
+use Rattle.world.specs.Kept.{IsKept, IsAnsweredTo, IsBegun, IsReadTrue, InSession, IsSent, IsRightOrNone, IsAnswered, IsValue, AreRows, IsGiven, AreSessions, IsTrueTo, IsLowAnswered, AnsweredAreCaptured, EarlierAreCaptured}
 use Rattle.record_key.proofs.Lists.{all_from}
 use Rattle.page.proofs.OnKey.{key_on}
+use Rattle.world.proofs.Announced.{part_grows}
 use Rattle.world.proofs.Readers.{NoneAnew}
 use Rattle.world.proofs.Running.{run_is, some_session, in_session}
 use Rattle.world.proofs.Unread.{unread}
@@ -58,27 +61,55 @@ extend P old new (inr grown) more h = subst P (sym grown.1) (more grown.0 h)
 request_longer : (r : Record) (log : List Record) (n : ℕ) (o : Op) → Requests log n o → Requests (r ∷ log) n o
 request_longer r log n o h = kept_at (ARequest o) r log n (request_number log n o h) h
 
-answers_longer : (r : Record) (log : List Record) (l : ℕ) → l ≤ length log → AreAnswered log l → AreAnswered (r ∷ log) l
-answers_longer r log l within h n o below asks = answered_push n r log (h n o below (older_at (ARequest o) r log n (λ e. omega (arith, e, within, below)) asks))
+-- the session is the same, or a new one
+abbrev pub IsLater : TcView → TcView → Type 0
+IsLater old new = (new.session ≡ old.session) ⊎ (old.stable < new.session)
 
 -- the transaction component went on
 pub record GoesOn (old new : TcView) : Type 0 where
   pub within : old.stable ≤ length old.log
   pub log : Extends old.log new.log
   pub stable : old.stable ≤ new.stable
-  pub session : old.session ≤ new.session
+  pub now_within : new.stable ≤ length new.log
+  -- it has its session still, or a later one than was ever begun
+  pub session : IsLater old new
   pub reads : old.reads ≤ new.reads
   pub none_anew : NoneAnew old.reads old.open_txns new.open_txns
 
 answered_on : (old new : TcView) (l : ℕ) → GoesOn old new → IsAnsweredTo old l → IsAnsweredTo new l
-answered_on old new l on h = record {
-  stable = omega (arith, h.stable, on.stable);
-  answered = extend (λ log. AreAnswered log l) old.log new.log on.log (λ r. answers_longer r old.log l (omega (arith, h.stable, on.within))) h.answered;
+answered_on old new l on h =
+    part_grows new.log old.stable new.stable l on.stable on.now_within
+    (extend (λ log. FitsCheckpoint (stable_part log old.stable) l) old.log new.log on.log (λ r. may_longer r old.log old.stable l on.within) h)
+
+pub begun_on : (old new : TcView) (s : ℕ) → GoesOn old new → IsBegun old.stable old.session s → IsBegun new.stable new.session s
+begun_on old new s on h = record {
+  recorded = omega (arith, h.recorded, on.stable);
+  most = λ some. elim on.session [
+    | inl same ↦ omega (arith, same, h.most (omega (arith, some, same)))
+    | inr later ↦ omega (arith, h.recorded, later)
+  ];
 }
 
-read_on : (old new : TcView) (n : ℕ) (P : Span → Type 0) → GoesOn old new → IsReadTrue old n P → IsReadTrue new n P
-read_on old new n P on h =
-    (omega (arith, h.0, on.reads), λ t o q found reading. let was = on.none_anew t o n q found reading h.0 in h.1 was.txn was.open_txn q was.is was.reading)
+-- a session that was begun is the component's now only if it was before
+same_session : (old new : TcView) (s : ℕ) → GoesOn old new → s ≤ old.stable → s ≡ new.session → s ≡ old.session
+same_session old new s on begun is = elim on.session [
+  | inl same ↦ is ∙ same
+  | inr later ↦ absurd (omega (arith, begun, is, later))
+]
+
+-- what is said of a reader stays, where it does for each span
+told_on : (old new : TcView) (s n : ℕ) (P Q : Span → Type 0) → GoesOn old new
+    → ((t : ℕ) (x : OpenTxn) (q : Span) → find t new.open_txns ≡ Some x → x.reading ≡ Some (record { number = n; span = q }) → P q → Q q)
+    → IsReadTrue old s n P → IsReadTrue new s n Q
+told_on old new s n P Q on from h = record {
+  some = h.some;
+  begun = omega (arith, h.begun, on.stable);
+  asked = λ is. omega (arith, h.asked (same_session old new s on h.begun is), on.reads);
+  holds = λ is t o q found reading.
+      let here = same_session old new s on h.begun is in
+      let was = on.none_anew t o n q found reading (h.asked here) in
+      from t o q found reading (h.holds here was.txn was.open_txn q was.is was.reading);
+}
 
 -- where a session runs, what is answered now was performed, if what was answered before was
 abbrev pub Captures : TcView → TcView → DcView → Type 0
@@ -90,7 +121,7 @@ earlier_longer : (r : Record) (log : List Record) (dc : DcView) (n : ℕ) (key :
 earlier_longer r log dc n key within h m o asks below = h m o (older_at (ARequest o) r log m (λ e. omega (arith, e, within, below)) asks) below
 
 pub sent_on : (old new : TcView) (dc : DcView) → GoesOn old new → Captures old new dc → (q : Request) → IsSent old dc q → IsSent new dc q
-sent_on old new dc on captured (asks.Connect s) h = omega (arith, h, on.session)
+sent_on old new dc on captured (asks.Connect s) h = begun_on old new s on h
 sent_on old new dc on captured (asks.Perform s n o) h = (
   omega (arith, h.0, on.stable),
   extend (λ log. Requests log n o) old.log new.log on.log (λ r. request_longer r old.log n o) h.1,
@@ -98,8 +129,8 @@ sent_on old new dc on captured (asks.Perform s n o) h = (
       (λ r. in_session dc s (EarlierAreCaptured old.log dc n (key_of o)) (EarlierAreCaptured (r ∷ old.log) dc n (key_of o))
       (λ running. earlier_longer r old.log dc n (key_of o) (omega (arith, h.0, on.within)))) h.2,
 )
-sent_on old new dc on captured (asks.Get s n k) h = read_on old new n (λ q. q ≡ Key k) on h
-sent_on old new dc on captured (asks.Scan s n low high) h = read_on old new n (λ q. q ≡ Range low high) on h
+sent_on old new dc on captured (asks.Get s n k) h = told_on old new s n (λ q. q ≡ Key k) (λ q. q ≡ Key k) on (λ t x q found reading is. is) h
+sent_on old new dc on captured (asks.Scan s n low high) h = told_on old new s n (λ q. q ≡ Range low high) (λ q. q ≡ Range low high) on (λ t x q found reading is. is) h
 sent_on old new dc on captured (asks.LowWater s l) h = answered_on old new l on h
 sent_on old new dc on captured (asks.Checkpoint s l) h = answered_on old new l on h
 sent_on old new dc on captured (asks.RedoEnd s) h =
@@ -173,18 +204,13 @@ rows_on_span old new rows both on t x n (Range low high) found reading h = recor
 }
 
 -- what was replied of a read that is still waited for
-told_on : (old new : TcView) (n : ℕ) (P Q : Span → Type 0) → GoesOn old new
-    → ((t : ℕ) (x : OpenTxn) (q : Span) → find t new.open_txns ≡ Some x → x.reading ≡ Some (record { number = n; span = q }) → P q → Q q)
-    → IsReadTrue old n P → IsReadTrue new n Q
-told_on old new n P Q on from h = let h' = read_on old new n P on h in (h'.0, λ t x q found reading. from t x q found reading (h'.1 t x q found reading))
-
 pub given_on : (old new : TcView) (dc : DcView) → BothKept old new → GoesOn old new → (reply : Reply) → IsGiven old dc reply → IsGiven new dc reply
 given_on old new dc both on (says.Connected s) h = h
 given_on old new dc both on (says.Answered s n a) h = answer_on old new dc s n a on h
 given_on old new dc both on (says.Row s n v) h =
-    told_on old new n (IsValue old.log v) (IsValue new.log v) on (λ t x q found reading. value_on_span old new v both on t x n q found reading) h
+    told_on old new s n (IsValue old.log v) (IsValue new.log v) on (λ t x q found reading. value_on_span old new v both on t x n q found reading) h
 given_on old new dc both on (says.Rows s n rows) h =
-    told_on old new n (AreRows old.log rows) (AreRows new.log rows) on (λ t x q found reading. rows_on_span old new rows both on t x n q found reading) h
+    told_on old new s n (AreRows old.log rows) (AreRows new.log rows) on (λ t x q found reading. rows_on_span old new rows both on t x n q found reading) h
 given_on old new dc both on (says.Checkpointed s l) h = h
 given_on old new dc both on (says.RedoEnded s) h = h
 
@@ -216,8 +242,9 @@ performed_on old new on ps h =
     (λ p. extend (λ log. Requests log p.number p.op) old.log new.log on.log (λ r. request_longer r old.log p.number p.op)) ps h
 
 -- all holds still, where the answers are right and what is answered is captured
-pub keeps_on : (w : NodeView) (tc : TcView) → IsKept w → IsTc tc → GoesOn w.tc tc → AreSessions tc.session tc.phase tc.log w.dc → HasRightAnswers tc.log → Captures w.tc tc w.dc → IsKept (with_tc w tc)
-keeps_on w tc k is on sessions right captured = record {
+pub keeps_on : (w : NodeView) (tc : TcView) → IsKept w → IsTc tc → GoesOn w.tc tc → AreSessions tc.stable tc.session tc.phase tc.log w.dc → HasRightAnswers tc.log → Captures w.tc tc w.dc
+    → IsChecked tc.checkpointed w.dc.system → IsKept (with_tc w tc)
+keeps_on w tc k is on sessions right captured checked = record {
   tc = is;
   right = right;
   dc = k.dc;
@@ -228,4 +255,5 @@ keeps_on w tc k is on sessions right captured = record {
   sent = all_from (IsSent w.tc w.dc) (IsSent tc w.dc) (sent_on w.tc tc w.dc on captured) w.requests k.sent;
   given = all_from (IsGiven w.tc w.dc) (IsGiven tc w.dc) (given_on w.tc tc w.dc (record { was = k.tc; now = is }) on) w.replies k.given;
   sessions = sessions;
+  checked = checked;
 }

@@ -17,7 +17,9 @@ use Rattle.system_txn.proofs.Recoverable.{recoverable_fresh}
 use Rattle.dc_core.specs.Restarting.{restarted}
 use Rattle.dc_core.specs.Serves.{with_system}
 use Rattle.dc_core.proofs.Recoverable.{recoverable_served}
+use Rattle.dc_core.proofs.Checked.{checked_served, fresh_checked}
 use Rattle.tc_core.specs.TcView.{fresh}
+use Rattle.tc_core.proofs.Low.{may_none}
 use Rattle.record_key.specs.declared.refusal.Refusal.TheVariants.{NotConnected}
 use Rattle.world.specs.Component.{ComponentView}
 use Rattle.world.proofs.Crashes.{crash_keeps, keeps_up, refused_keeps}
@@ -43,7 +45,7 @@ use Rattle.world.proofs.Serves.{serves, stops_serving}
 use Rattle.world.proofs.Tends.{splits_keep, merges_keep, tends_keep, flushes_keep}
 use Rattle.world.proofs.Keeps.{with_reply, keeps_given}
 use Rattle.world.proofs.Follows.{Follows, at_new, no_line, unchanged, follows_begin, follows_act, follows_get, follows_scan, follows_save, follows_go_back, follows_rollback, follows_commit, follows_undo, follows_force}
-use Rattle.world.proofs.Sends.{follows_reconnect, follows_recover, follows_send, follows_low_water}
+use Rattle.world.proofs.Sends.{follows_reconnect, follows_recover, follows_send, follows_low_water, follows_checkpoint}
 use Rattle.world.proofs.Replies.{follows_reply}
 
 -- a request reaches the data component
@@ -52,7 +54,8 @@ sent_there old i given dc k h = all_at (IsSent old.tc old.dc) old.requests i h.r
 
 served : (old : NodeView) (i : ℕ) (reply : Option Reply) (dc : DcView) → IsKept old → IsDc dc → Served old i (Ok reply) dc → IsServing old reply dc
 served old i reply dc k is h =
-    serves old h.request reply dc k is (recoverable_served old.dc h.request (Ok reply) dc k.dc k.recoverable h.gives) (sent_there old i (Ok reply) dc k h) h.gives.0 h.gives.1
+    serves old h.request reply dc k is (recoverable_served old.dc h.request (Ok reply) dc k.dc k.recoverable h.gives)
+    (checked_served old.dc h.request (Ok reply) dc k.dc k.recoverable h.gives) (sent_there old i (Ok reply) dc k h) h.gives.0 h.gives.1
 
 -- the data component goes on, and no client is told anything
 follows_dc : (old new : NodeView) (e : Event) (output : Out) → lines_of e output ≡ Some [] → IsKept (with_dc old new.dc) → new ≡ with_dc old new.dc → Follows old e output new
@@ -153,6 +156,7 @@ follows old new (event.Undo t) output k is h = follows_undo old new t output k h
 follows old new event.Force output k is h = follows_force old new output k h
 follows old new (event.Send t) output k is h = follows_send old new t output k h
 follows old new (event.LowWater l) output k is h = follows_low_water old new l output k h
+follows old new event.Checkpoint output k is h = follows_checkpoint old new output k h
 follows old new (event.Split key) output k is h = if_up old new (event.Split key) output _ k refl (follows_split old new key output k is) h
 follows old new (event.Merge key) output k is h = if_up old new (event.Merge key) output _ k refl (follows_merge old new key output k is) h
 follows old new event.Tend output k is h = if_up old new event.Tend output _ k refl (follows_tend old new output k is) h
@@ -170,7 +174,7 @@ first_honest = record {
 }
 
 low_answered : IsAnsweredTo (fresh 0) 0
-low_answered = record { stable = omega arith; answered = λ n o below asks. absurd (cc) }
+low_answered = may_none []
 
 pub kept_fresh : IsDc (fresh_dc 0) → IsKept fresh_node
 kept_fresh is = record {
@@ -188,7 +192,8 @@ kept_fresh is = record {
   answered = λ may. absurd (cc);
   sent = tt;
   given = tt;
-  sessions = record { begun = omega arith; served = tt };
+  sessions = record { begun = record { recorded = omega arith; most = λ some. omega arith }; served = tt };
+  checked = fresh_checked 0;
 }
   where
     no_page : (id : ℕ) (page : LeafView) → pages_of map.empty id ≡ Some page → ⊥

@@ -1,5 +1,5 @@
 -- What the transaction component does by itself keeps what holds of a node.
-use Rattle.std.proofs.Common.{◌≡◌, ◌≢◌, ℕ, ◌+◌, ◌≤◌, Bool, true, cond, List, [], ◌∷◌, ◌++◌, length, Some, None, IsSome, is_some, sym, ap, ◌∙◌, subst, arith, inl, inr, true≢false, ne_eqb}
+use Rattle.std.proofs.Common.{◌≡◌, ◌≢◌, ℕ, ◌+◌, ◌≤◌, Bool, true, cond, List, [], ◌∷◌, ◌++◌, length, Some, None, IsSome, is_some, sym, ap, ◌∙◌, subst, inl, inr, true≢false, ne_eqb}
 use Rattle.std.specs.List.{AllByRecursion}
 use Rattle.std.proofs.lemmas.Bool.{cases_eq}
 use Rattle.record_key.specs.declared.op.Op.{Op}
@@ -14,6 +14,7 @@ use Rattle.log_laws.proofs.LegalLogs.{step_number}
 use Rattle.codec.specs.declared.request.Request.{Request}
 use Rattle.codec.specs.declared.reply.Reply.{Reply}
 use Rattle.page.proofs.Performing.{one_request}
+use Rattle.system_txn.specs.Checked.{IsChecked}
 use Rattle.dc_core.specs.DcView.{DcView, captures_at}
 use Rattle.tc_core.specs.declared.phase.Phase.{Phase}
 use Rattle.tc_core.specs.declared.phase.Phase.TheVariants as phase
@@ -28,7 +29,7 @@ use Rattle.world.specs.Node.{NodeView, with_tc}
 use Rattle.world.specs.Kept.{IsKept, IsSent, IsGiven, IsServed, AreSessions, AnsweredAreCaptured, AreBefore, AllAreCaptured}
 use Rattle.world.proofs.ByNumber.{all_push}
 use Rattle.world.proofs.Readers.{NoneAnew}
-use Rattle.world.proofs.Grows.{keeps_on}
+use Rattle.world.proofs.Grows.{IsLater, keeps_on}
 
 -- a record that neither asks nor answers leaves what is answered captured
 pub still_captured : (w : NodeView) (r : Record) → ((o : Op) → ARequest o (Some r) → ⊥) → ((m : ℕ) → answer_of (r ∷ w.tc.log) m ≡ answer_of w.tc.log m)
@@ -74,28 +75,34 @@ before_on r log s none before n o asks = before n o (older_at (ARequest o) r log
 pub all_on : (r : Record) (log : List Record) (dc : DcView) (next : ℕ) → ((o : Op) → ARequest o (Some r) → ⊥) → AllAreCaptured log dc next → AllAreCaptured (r ∷ log) dc next
 all_on r log dc next none all n o asks = all n o (older_at (ARequest o) r log n (λ e. absurd (none o (newest_at (ARequest o) r log n e asks))) asks)
 
+pub quiet_served : (p : Phase) (s : ℕ) (r : Record) (log : List Record) (dc : DcView) → ((o : Op) → ARequest o (Some r) → ⊥) → IsServed p s log dc → IsServed p s (r ∷ log) dc
+quiet_served phase.Unconnected s r log dc none h = tt
+quiet_served phase.Connecting s r log dc none h = before_on r log s none h
+quiet_served (phase.Redoing next ending) s r log dc none h = (before_on r log s none h.0, h.1, λ runs. all_on r log dc next none (h.2 runs))
+quiet_served phase.Running s r log dc none h = h
+
 -- whatever is waited for is a number of the log
 pub awaited_number : (w : TcView) → IsTc w → (t : ℕ) (o : OpenTxn) (n : ℕ) → find t w.open_txns ≡ Some o → o.waiting ≡ Some n → IsNumber w.log n
 awaited_number w k t o n found some =
     let own = own_request w.log o n (waits_at w.log o n (open_at w o k (found_own t w.open_txns o found)) some).request in step_number w.log n o.txn own.step
 
 -- one record more
-pub keeps_appended : (w : NodeView) (tc : TcView) (r : Record) → IsKept w → IsTc tc → tc.log ≡ r ∷ w.tc.log → w.tc.stable ≤ tc.stable → w.tc.session ≤ tc.session → w.tc.reads ≤ tc.reads
-    → NoneAnew w.tc.reads w.tc.open_txns tc.open_txns → AreSessions tc.session tc.phase tc.log w.dc → HasRightAnswers (r ∷ w.tc.log)
+pub keeps_appended : (w : NodeView) (tc : TcView) (r : Record) → IsKept w → IsTc tc → IsChecked tc.checkpointed w.dc.system → tc.log ≡ r ∷ w.tc.log → w.tc.stable ≤ tc.stable → IsLater w.tc tc → w.tc.reads ≤ tc.reads
+    → NoneAnew w.tc.reads w.tc.open_txns tc.open_txns → AreSessions tc.stable tc.session tc.phase tc.log w.dc → HasRightAnswers (r ∷ w.tc.log)
     → (w.dc.session ≢ 0 → AnsweredAreCaptured w.tc.log w.dc → AnsweredAreCaptured (r ∷ w.tc.log) w.dc) → IsKept (with_tc w tc)
-keeps_appended w tc r k is log stable session reads none_anew sessions right captured =
-    keeps_on w tc k is (record { within = k.tc.within; log = inr (r, log); stable = stable; session = session; reads = reads; none_anew = none_anew }) sessions (subst HasRightAnswers (sym log) right)
-    (λ some h. subst (λ (log : List Record). AnsweredAreCaptured log w.dc) (sym log) (captured some h))
+keeps_appended w tc r k is checked log stable session reads none_anew sessions right captured =
+    keeps_on w tc k is (record { within = k.tc.within; now_within = is.within; log = inr (r, log); stable = stable; session = session; reads = reads; none_anew = none_anew }) sessions (subst HasRightAnswers (sym log) right)
+    (λ some h. subst (λ (log : List Record). AnsweredAreCaptured log w.dc) (sym log) (captured some h)) checked
 
 -- the same log
-pub keeps_same_log : (w : NodeView) (tc : TcView) → IsKept w → IsTc tc → tc.log ≡ w.tc.log → w.tc.stable ≤ tc.stable → w.tc.session ≤ tc.session → w.tc.reads ≤ tc.reads
-    → NoneAnew w.tc.reads w.tc.open_txns tc.open_txns → AreSessions tc.session tc.phase tc.log w.dc → IsKept (with_tc w tc)
-keeps_same_log w tc k is log stable session reads none_anew sessions =
-    keeps_on w tc k is (record { within = k.tc.within; log = inl log; stable = stable; session = session; reads = reads; none_anew = none_anew }) sessions (subst HasRightAnswers (sym log) k.right)
-    (λ some h. subst (λ (log : List Record). AnsweredAreCaptured log w.dc) (sym log) h)
+pub keeps_same_log : (w : NodeView) (tc : TcView) → IsKept w → IsTc tc → IsChecked tc.checkpointed w.dc.system → tc.log ≡ w.tc.log → w.tc.stable ≤ tc.stable → IsLater w.tc tc → w.tc.reads ≤ tc.reads
+    → NoneAnew w.tc.reads w.tc.open_txns tc.open_txns → AreSessions tc.stable tc.session tc.phase tc.log w.dc → IsKept (with_tc w tc)
+keeps_same_log w tc k is checked log stable session reads none_anew sessions =
+    keeps_on w tc k is (record { within = k.tc.within; now_within = is.within; log = inl log; stable = stable; session = session; reads = reads; none_anew = none_anew }) sessions (subst HasRightAnswers (sym log) k.right)
+    (λ some h. subst (λ (log : List Record). AnsweredAreCaptured log w.dc) (sym log) h) checked
 
 -- where clients are served the sessions stand, whatever is logged
-pub logs_on : (w : NodeView) (log : List Record) → IsKept w → w.tc.phase ≡ phase.Running → AreSessions w.tc.session w.tc.phase log w.dc
+pub logs_on : (w : NodeView) (log : List Record) → IsKept w → w.tc.phase ≡ phase.Running → AreSessions w.tc.stable w.tc.session w.tc.phase log w.dc
 logs_on w log k running = record {
   begun = k.sessions.begun;
   served =
@@ -118,6 +125,7 @@ keeps_messages w requests replies k sent given = record {
   sent = sent;
   given = given;
   sessions = k.sessions;
+  checked = k.checked;
 }
 
 -- one request more

@@ -1,3 +1,4 @@
+pub mod Announced
 pub mod AtKeys
 pub mod Awaited
 pub mod ByNumber

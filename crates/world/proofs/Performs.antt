@@ -3,7 +3,6 @@ use Rattle.std.proofs.Common.{◌≡◌, ℕ, true, false, List, Option, Some, I
 use Rattle.std.specs.Prelude.{◌==◌}
 use Rattle.std.proofs.lemmas.Bool.{or_cases, cases_eq}
 use Rattle.record_key.specs.declared.op.Op.{Op}
-use Rattle.record_key.specs.declared.op.Answer.{Answer}
 use Rattle.record_key.specs.Table.{key_of, answer_in}
 use Rattle.history.specs.declared.record.Record.{Record}
 use Rattle.history.specs.Log.{Requests}
@@ -16,11 +15,11 @@ use Rattle.page.specs.Leaf.{LeafView, performed}
 use Rattle.page.specs.Honest.{IsNextOn}
 use Rattle.page.proofs.Performing.{one_request, right_answer, honest_performed}
 use Rattle.btree.specs.Leaves.{leaf_at}
-use Rattle.btree.specs.Performs.{performed_at}
 use Rattle.btree.proofs.AtKey.{within_at, captured_performed, captured_not_performed}
 use Rattle.btree.proofs.Changing.{all_changed}
 use Rattle.recovery_laws.specs.Ready.{IsHonestTo}
 use Rattle.system_txn.specs.Kept.{IsRecoverable}
+use Rattle.system_txn.specs.Checked.{Checks}
 use Rattle.dc_core.specs.DcView.{DcView, leaves, captures_at}
 use Rattle.dc_core.specs.Serves.{performs, runs}
 use Rattle.dc_core.specs.Kept.{IsDc}
@@ -47,7 +46,7 @@ served_alike (phase.Redoing next ending) session log old new stored same past ca
 served_alike phase.Running session log old new stored same past captured h = (stored ∙ h.0, λ runs. past ∙ h.1 (sym same ∙ runs))
 
 -- a new number is the next on its key
-module _ (w : NodeView) (s n : ℕ) (o : Op) (k : IsKept w) (is : IsDc (performs w.dc n o)) (recoverable : IsRecoverable (performs w.dc n o).system) (running : runs w.dc s ≡ true)
+module _ (w : NodeView) (s n : ℕ) (o : Op) (k : IsKept w) (is : IsDc (performs w.dc n o)) (recoverable : IsRecoverable (performs w.dc n o).system) (checks : Checks w.dc.system (performs w.dc n o).system) (running : runs w.dc s ≡ true)
     (sent : IsSent w.tc w.dc (asks.Perform s n o)) (new : captures_at w.dc (key_of o) n ≡ false) where
   abbrev old : LeafView
   old = leaf_at (leaves w.dc) (key_of o)
@@ -75,7 +74,7 @@ module _ (w : NodeView) (s n : ℕ) (o : Op) (k : IsKept w) (is : IsDc (performs
   ]
 
   carries : Carries w (performs w.dc n o)
-  carries = record { captured = λ some. captures_more; stored = omega arith; ran = λ t begun r. r; past = λ t begun r past. past }
+  carries = record { captured = λ some. captures_more; stored = omega arith; ran = λ t begun r. r; past = λ t begun r past. past; checks = checks }
 
   honest_to : IsHonestTo w.tc.log w.tc.stable leaf
   honest_to = record {

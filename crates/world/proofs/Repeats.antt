@@ -1,5 +1,5 @@
 -- A number that is captured is answered as it was.
-use Rattle.std.proofs.Common.{◌≡◌, ℕ, ◌≤◌, Bool, true, false, List, [], ◌∷◌, Option, Some, None, refl, sym, ◌∙◌, subst, arith, true≢false, eqb-true, eq-eqb}
+use Rattle.std.proofs.Common.{◌≡◌, ℕ, ◌≤◌, Bool, true, false, List, [], ◌∷◌, Option, Some, None, refl, sym, ◌∙◌, arith, true≢false, eqb-true, eq-eqb}
 use Rattle.std.specs.Prelude.{◌==◌, ◌||◌, nat_le, if◌then◌else◌}
 use Rattle.std.specs.List.{AllByRecursion, list_any}
 use Rattle.std.proofs.lemmas.Bool.Decides.{nat_tests}
@@ -14,9 +14,9 @@ use Rattle.record_key.specs.Entries.{numbers}
 use Rattle.page.specs.Honest.{IsSavedRight}
 use Rattle.btree.specs.Leaves.{leaf_at}
 use Rattle.dc_core.specs.DcView.{leaves, captures_at}
-use Rattle.tc_core.specs.TcView.{TcView}
 use Rattle.world.specs.Node.{NodeView}
-use Rattle.world.specs.Kept.{IsKept, IsSent, IsAnsweredTo, IsRightOrNone, IsAnswered}
+use Rattle.world.specs.Kept.{IsKept, IsSent, IsRightOrNone, IsAnswered}
+use Rattle.world.proofs.Announced.{answered_less}
 use Rattle.world.proofs.AtKeys.{own_leaf, own_low}
 
 -- the answer that is saved is one of the entries'
@@ -52,10 +52,6 @@ unsaved_low v n captured none = pick (nat_le n v.low) refl captured
     pick : (b : Bool) → nat_le n v.low ≡ b → (b || list_any (λ m. n == m) (numbers v.entries)) ≡ true → n ≤ v.low
     pick true below h = grind (arith, nat_tests, below)
     pick false above h = absurd (not_listed n v.entries none h)
-
--- all is answered up to a number, so up to each that is no greater
-answered_less : (w : TcView) (n l : ℕ) → n ≤ l → IsAnsweredTo w l → IsAnsweredTo w n
-answered_less w n l less h = record { stable = omega (arith, less, h.stable); answered = λ m o below asks. h.answered m o (omega (arith, below, less)) asks }
 
 -- a captured number is answered as it was
 pub repeated : (w : NodeView) (s n : ℕ) (o : Op) → IsKept w → IsSent w.tc w.dc (asks.Perform s n o) → captures_at w.dc (key_of o) n ≡ true

@@ -12,9 +12,7 @@ use Rattle.codec.specs.declared.request.Request.TheVariants as asks
 use Rattle.codec.specs.declared.reply.Reply.{Reply}
 use Rattle.codec.specs.declared.reply.Reply.TheVariants as says
 use Rattle.ab_lsn.specs.AbLsn.{saved_in}
-use Rattle.page.specs.Leaf.{LeafView}
 use Rattle.btree.specs.Leaves.{leaf_at, rows_of}
-use Rattle.btree.proofs.AtKey.{all_at}
 use Rattle.dc_core.specs.DcView.{DcView, leaves, captures_at, value_at}
 use Rattle.dc_core.specs.Serves.{Serves, performs, range}
 use Rattle.tc_core.specs.declared.open_txn.OpenTxn.{OpenTxn}
@@ -27,7 +25,9 @@ use Rattle.tc_core.specs.Recovery.{redo_request}
 use Rattle.tc_core.specs.Kept.{IsTc}
 use Rattle.tc_core.proofs.KeepsReads.{reads}
 use Rattle.world.specs.Node.{NodeView}
-use Rattle.world.specs.Kept.{IsKept, IsAnsweredTo}
+use Rattle.world.specs.Kept.{IsKept}
+use Rattle.world.proofs.AtKeys.{own_low}
+use Rattle.world.proofs.Announced.{all_answered}
 use Rattle.world.proofs.Repeats.{unsaved_low}
 use Rattle.world.proofs.Exchanges.{HasReply}
 use Rattle.world.proofs.RoundsLeft.{IsSound}
@@ -50,7 +50,7 @@ sound_reply w s n o reply dc k requests h = pick (captures_at w.dc (key_of o) n)
     pick true captured h = record {
       answer = saved_in (leaf_at (leaves w.dc) (key_of o)).ab.entries n;
       reply_is = some_reply reply (says.Answered s n (saved_in (leaf_at (leaves w.dc) (key_of o)).ab.entries n)) h.0;
-      sound = λ none. (all_at (λ (l : LeafView). IsAnsweredTo w.tc l.ab.low) (leaves w.dc) (key_of o) k.dc.system.leaves k.true_to.low).answered n o
+      sound = λ none. all_answered w.tc (leaf_at (leaves w.dc) (key_of o)).ab.low (own_low w (key_of o) k) n o
           (unsaved_low (leaf_at (leaves w.dc) (key_of o)).ab n captured none) requests;
     }
     pick false new h = record {

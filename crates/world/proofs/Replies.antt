@@ -1,5 +1,5 @@
 -- A reply is a told line or nothing to the list machine.
-use Rattle.std.proofs.Common.{◌≡◌, ◌≢◌, ◌⊎◌, ℕ, ◌+◌, ◌<◌, ◌≤◌, Bool, true, false, List, [], ◌∷◌, Option, Some, None, is_some, refl, sym, ap, ◌∙◌, subst, arith, inl, inr, true≢false, eqb-true}
+use Rattle.std.proofs.Common.{◌≡◌, ◌≢◌, ◌⊎◌, ℕ, ◌+◌, ◌<◌, ◌≤◌, Bool, true, false, List, [], ◌∷◌, length, Option, Some, None, is_some, refl, sym, ap, ◌∙◌, subst, arith, inl, inr, true≢false, eqb-true}
 use Rattle.std.specs.Prelude.{◌==◌, ◌&&◌, ◌||◌, nat_lt, not, Ok, if◌then◌else◌}
 use Rattle.std.proofs.lemmas.Bool.{cases_eq, and_parts}
 use Rattle.record_key.specs.declared.op.Answer.{Answer}
@@ -18,7 +18,6 @@ use Rattle.range_locks.specs.declared.span.Span.TheVariants.{Key, Range}
 use Rattle.record_key.specs.declared.op.Op.{Op}
 use Rattle.history.specs.declared.record.Record.{Record}
 use Rattle.history.specs.Log.{Requests}
-use Rattle.log_laws.proofs.LegalLogs.{request_number}
 use Rattle.page.proofs.Performing.{one_request}
 use Rattle.dc_core.specs.DcView.{DcView, captures_at}
 use Rattle.tc_core.specs.declared.open_txn.OpenTxn.{OpenTxn}
@@ -29,8 +28,10 @@ use Rattle.tc_core.specs.declared.phase.Phase.TheVariants as phase
 use Rattle.tc_core.specs.declared.told.Told.TheVariants as told
 use Rattle.logical_log.specs.LogView.{is_spent}
 use Rattle.tc_core.specs.OpenTxns.{find}
-use Rattle.tc_core.specs.Changes.{answered, answered_txn, was_told, told_txn}
-use Rattle.tc_core.specs.Replies.{Outcome, takes, awaiting, next_phase, passed, on_awaited, on_answered, on_connected, on_redo_ended, on_reply, on_row, on_rows, is_key, is_range, span_read, reader, logs, takes_memory, reply_refusal}
+use Rattle.tc_core.specs.TcView.{TcView}
+use Rattle.system_txn.specs.Checked.{IsChecked}
+use Rattle.tc_core.specs.Changes.{answered, answered_txn, was_told, told_txn, checkpointed}
+use Rattle.tc_core.specs.Replies.{Outcome, takes, awaiting, next_phase, passed, on_awaited, on_answered, on_connected, on_redo_ended, on_checkpointed, on_reply, on_row, on_rows, is_number, is_key, is_range, span_read, reader, logs, takes_memory, reply_refusal}
 use Rattle.tc_core.specs.Kept.{IsTc, IsPhase}
 use Rattle.tc_core.proofs.KeepsReads.{reader_is}
 use Rattle.tc_core.proofs.KeepsTc.{open_at, waits_at, awaited_is}
@@ -39,15 +40,16 @@ use Rattle.world.specs.declared.event.Out.{Out}
 use Rattle.world.specs.declared.event.Out.TheVariants as out
 use Rattle.world.specs.Node.{NodeView, with_tc, as_out, IsUnsent, Taken, Untaken, TakesTo}
 use Rattle.world.specs.Sent.{IsUnread}
-use Rattle.world.specs.Kept.{IsKept, IsReadTrue, InSession, IsValue, AreRows, IsAnswered, IsGiven, IsServed}
+use Rattle.world.specs.Kept.{IsKept, IsTrueOfReader, InSession, IsValue, AreRows, IsAnswered, IsGiven, IsServed}
 use Rattle.world.specs.Simulation.{Leads, Stands, lines_of, clients}
 use Rattle.world.proofs.ByNumber.{all_at}
 use Rattle.world.proofs.CallsKeep.{reply_keeps}
 use Rattle.world.proofs.Awaited.{comp_waited, reads_nothing}
-use Rattle.world.proofs.Standing.{stands_answered, stands_undone}
+use Rattle.world.proofs.AtKeys.{low_captured}
+use Rattle.world.proofs.Standing.{stands_answered, stands_undone, stands_checkpointed}
 use Rattle.world.proofs.ToldReads.{tells_row, tells_rows}
 use Rattle.world.proofs.Readers.{none_same, none_replaced, reads_same, reads_none}
-use Rattle.world.proofs.Keeps.{answer_captured, before_on, all_on, keeps_appended, keeps_same_log}
+use Rattle.world.proofs.Keeps.{answer_captured, still_captured, quiet_served, keeps_appended, keeps_same_log}
 use Rattle.world.proofs.Running.{is_run, stored_begun, same_runs}
 use Rattle.world.proofs.Sends.{redo_served, redoing_phase}
 use Rattle.world.proofs.Follows.{Follows, at_new, no_line, one_line, unchanged, left_refused, kept_left, stands_left}
@@ -85,11 +87,11 @@ next_served (phase.Redoing next ending) n s log dc taken captured h = (
 next_served phase.Running n s log dc taken captured h = h
 
 -- a session that is taken from has a number
-some_taken : (p : Phase) (n s : ℕ) → takes s p n ≡ true → IsPhase s p → s ≢ 0
-some_taken phase.Unconnected n s taken h = absurd (true≢false (sym taken))
-some_taken phase.Connecting n s taken h = absurd (true≢false (sym taken))
-some_taken (phase.Redoing next ending) n s taken h = λ zero. absurd (omega (arith, h.0, h.1, zero))
-some_taken phase.Running n s taken h = λ zero. absurd (omega (arith, h, zero))
+some_taken : (p : Phase) (c n s : ℕ) → takes s p n ≡ true → IsPhase c s p → 0 < s
+some_taken phase.Unconnected c n s taken h = absurd (true≢false (sym taken))
+some_taken phase.Connecting c n s taken h = absurd (true≢false (sym taken))
+some_taken (phase.Redoing next ending) c n s taken h = omega (arith, h.0, h.1)
+some_taken phase.Running c n s taken h = h
 
 -- an answer of the session that runs
 pub record IsTaken (w : NodeView) (s n : ℕ) (a : Option Answer) : Type 0 where
@@ -99,37 +101,31 @@ pub record IsTaken (w : NodeView) (s n : ℕ) (a : Option Answer) : Type 0 where
 
 -- is of a captured number, while the data component runs some session
 taken_captured : (w : NodeView) (s n : ℕ) (a : Option Answer) (k : IsKept w) (t : IsTaken w s n a) → w.dc.session ≢ 0 → captures_at w.dc (key_of t.given.op) n ≡ true
-taken_captured w s n a k t some = t.given.captured.holds (same_runs w s k t.same t.given.captured.begun some)
+taken_captured w s n a k t some =
+    t.given.captured.holds (same_runs w s k (some_taken w.tc.phase w.tc.checkpointed n w.tc.session t.taken k.tc.phase) t.same t.given.captured.begun some)
 
 taken_there : (w : NodeView) (s n : ℕ) (a : Option Answer) → IsKept w → IsTaken w s n a → w.dc.session ≡ w.tc.session → (o : Op) → Requests w.tc.log n o
     → captures_at w.dc (key_of o) n ≡ true
 taken_there w s n a k t runs o asks =
-    let some : w.dc.session ≢ 0 = λ zero. some_taken w.tc.phase n w.tc.session t.taken k.tc.phase (sym runs ∙ zero) in
+    let begun : 0 < w.tc.session = some_taken w.tc.phase w.tc.checkpointed n w.tc.session t.taken k.tc.phase in
+    let some : w.dc.session ≢ 0 = λ zero. absurd (omega (arith, begun, runs, zero)) in
     let one : t.given.op ≡ o = one_request w.tc.log n o t.given.op asks t.given.requests in
     subst (λ (p : Op). captures_at w.dc (key_of p) n ≡ true) one (taken_captured w s n a k t some)
 
 passes : (w : NodeView) (s n : ℕ) (a : Option Answer) → IsKept w → IsTaken w s n a → IsTc (passed w.tc n) → IsKept (with_tc w (passed w.tc n))
 passes w s n a k t after =
-    keeps_same_log w (passed w.tc n) k after refl (omega arith) (omega arith) (omega arith) (none_same w.tc.reads w.tc.open_txns)
+    keeps_same_log w (passed w.tc n) k after k.checked refl (omega arith) (inl refl) (omega arith) (none_same w.tc.reads w.tc.open_txns)
     (record { begun = k.sessions.begun; served = next_served w.tc.phase n w.tc.session w.tc.log w.dc t.taken (taken_there w s n a k t) k.sessions.served })
-
--- an Answer record asks for nothing
-answer_served : (p : Phase) (s n : ℕ) (a : Answer) (log : List Record) (dc : DcView) → IsServed p s log dc → IsServed p s (is.Answer n a ∷ log) dc
-answer_served phase.Unconnected s n a log dc h = tt
-answer_served phase.Connecting s n a log dc h = before_on (is.Answer n a) log s (λ o h. cc) h
-answer_served (phase.Redoing next ending) s n a log dc h =
-    (before_on (is.Answer n a) log s (λ o h. cc) h.0, h.1, λ runs. all_on (is.Answer n a) log dc next (λ o h. cc) (h.2 runs))
-answer_served phase.Running s n a log dc h = h
 
 -- the answer that is waited for
 answers : (w : NodeView) (o : OpenTxn) (s n : ℕ) (a : Answer) → IsKept w → find o.txn w.tc.open_txns ≡ Some o → IsTc (passed (answered w.tc o n a) n) → IsTaken w s n (Some a)
     → IsKept (with_tc w (passed (answered w.tc o n a) n))
 answers w o s n a k at after t =
-    keeps_appended w (passed (answered w.tc o n a) n) (is.Answer n a) k after refl (omega arith) (omega arith) (omega arith)
+    keeps_appended w (passed (answered w.tc o n a) n) (is.Answer n a) k after k.checked refl (omega arith) (inl refl) (omega arith)
     (none_replaced w.tc.reads w.tc.open_txns o (answered_txn o) at (reads_same w.tc.reads o (answered_txn o) refl))
     (record {
       begun = k.sessions.begun;
-      served = answer_served (next_phase w.tc.phase n) w.tc.session n a w.tc.log w.dc
+      served = quiet_served (next_phase w.tc.phase n) w.tc.session (is.Answer n a) w.tc.log w.dc (λ o h. cc)
           (next_served w.tc.phase n w.tc.session w.tc.log w.dc t.taken (taken_there w s n (Some a) k t) k.sessions.served);
     })
     (t.given.answer, k.right)
@@ -166,14 +162,17 @@ connected_goes : (w : NodeView) (i s : ℕ) (p : Phase) → w.tc.phase ≡ p →
 connected_goes w i s phase.Unconnected at k same given after = nothing w i k after
 connected_goes w i s phase.Connecting at k same given after =
     let P : Phase → Type 0 = λ p. IsServed p w.tc.session w.tc.log w.dc in
-    quietly w i (told.Connected w.tc.session, record w.tc { phase = phase.Redoing 1 false }) refl (λ m stands. stands)
-    (keeps_same_log w (record w.tc { phase = phase.Redoing 1 false }) k after refl (omega arith) (omega arith) (omega arith) (none_same w.tc.reads w.tc.open_txns)
+    let tc : TcView = record w.tc { phase = phase.Redoing (w.tc.checkpointed + 1) false } in
+    let Q : Phase → Type 0 = IsPhase w.tc.checkpointed w.tc.session in
+    let some : 0 < w.tc.session = let least = subst Q at k.tc.phase in omega (arith, least) in
+    quietly w i (told.Connected w.tc.session, tc) refl (λ m stands. stands)
+    (keeps_same_log w tc k after k.checked refl (omega arith) (inl refl) (omega arith) (none_same w.tc.reads w.tc.open_txns)
     (record {
       begun = k.sessions.begun;
       served = (
         subst P at k.sessions.served,
-        omega (arith, same, given, stored_begun w k),
-        λ runs n o asks below. absurd (omega (arith, (request_number w.tc.log n o asks).positive, below)),
+        omega (arith, same, given, stored_begun w k some),
+        λ runs n o asks below. low_captured w w.tc.checkpointed n (key_of o) k k.checked (omega (arith, below)),
       );
     }))
 connected_goes w i s (phase.Redoing next ending) at k same given after = nothing w i k after
@@ -188,12 +187,32 @@ redo_ended_goes w i s (phase.Redoing next true) at k same past after =
     let served = redo_served w next true k at in
     let bounds = redoing_phase w next true k at in
     quietly w i (told.RedoEnded w.tc.session, record w.tc { phase = phase.Running }) refl (λ m stands. stands)
-    (keeps_same_log w (record w.tc { phase = phase.Running }) k after refl (omega arith) (omega arith) (omega arith) (none_same w.tc.reads w.tc.open_txns)
+    (keeps_same_log w (record w.tc { phase = phase.Running }) k after k.checked refl (omega arith) (inl refl) (omega arith) (none_same w.tc.reads w.tc.open_txns)
     (record {
       begun = k.sessions.begun;
       served = (served.1, λ runs. past.holds (is_run w.dc s (λ zero. absurd (omega (arith, zero, same, bounds.0, bounds.1))) (runs ∙ sym same)));
     }))
 redo_ended_goes w i s phase.Running at k same past after = nothing w i k after
+
+-- of a checkpoint that was asked for, the data component is as low
+checkpoint_logged : (w : NodeView) (l : ℕ) → IsKept w → IsChecked l w.dc.system → IsTc (checkpointed w.tc l) → IsKept (with_tc w (checkpointed w.tc l))
+checkpoint_logged w l k given after =
+    let r : Record = is.Checkpoint l in
+    keeps_appended w (checkpointed w.tc l) r k after (pick (nat_lt w.tc.checkpointed l)) refl (omega arith) (inl refl) (omega arith) (none_same w.tc.reads w.tc.open_txns)
+    (record { begun = k.sessions.begun; served = quiet_served w.tc.phase w.tc.session r w.tc.log w.dc (λ o h. cc) k.sessions.served })
+    k.right (λ some. still_captured w r (λ o h. cc) (λ m. refl))
+  where
+    pick : (b : Bool) → IsChecked (if b then l else w.tc.checkpointed) w.dc.system
+    pick true = given
+    pick false = k.checked
+
+checkpointed_goes : (w : NodeView) (i l : ℕ) → IsKept w → IsChecked l w.dc.system → Goes w i (on_checkpointed w.tc l)
+checkpointed_goes w i l k given = pick (is_number w.tc.checkpointing l)
+  where
+    pick : (b : Bool) → Goes w i (if b then (told.CheckpointLogged (length w.tc.log + 1), checkpointed w.tc l) else (told.Nothing, w.tc))
+    pick true after =
+        quietly w i (told.CheckpointLogged (length w.tc.log + 1), checkpointed w.tc l) refl (stands_checkpointed w.tc l) (checkpoint_logged w l k given after)
+    pick false after = nothing w i k after
 
 -- a reply that isn't refused is of the session
 fresh_session : (s session : ℕ) (c : Bool) → first_of (((session == 0) || not (s == session), Stale) ∷ (c, NumbersSpent) ∷ []) ≡ None → s ≡ session
@@ -207,14 +226,14 @@ fresh_session s session c h = pick (session == 0) (s == session) refl h
 -- what was read is told to who waits for it
 kept_told : (w : NodeView) (o : OpenTxn) → IsKept w → find o.txn w.tc.open_txns ≡ Some o → IsTc (was_told w.tc o) → IsKept (with_tc w (was_told w.tc o))
 kept_told w o k at after =
-    keeps_same_log w (was_told w.tc o) k after refl (omega arith) (omega arith) (omega arith)
+    keeps_same_log w (was_told w.tc o) k after k.checked refl (omega arith) (inl refl) (omega arith)
     (none_replaced w.tc.reads w.tc.open_txns o (told_txn o) at (reads_none w.tc.reads o (told_txn o) refl)) k.sessions
 
-row_goes : (w : NodeView) (i n : ℕ) (v : Option Bytes) (x : Option OpenTxn) → IsKept w → reader w.tc n ≡ x → IsReadTrue w.tc n (IsValue w.tc.log v) → Goes w i (on_row w.tc v x)
+row_goes : (w : NodeView) (i n : ℕ) (v : Option Bytes) (x : Option OpenTxn) → IsKept w → reader w.tc n ≡ x → IsTrueOfReader w.tc n (IsValue w.tc.log v) → Goes w i (on_row w.tc v x)
 row_goes w i n v None k is given = nothing w i k
 row_goes w i n v (Some o) k is given =
     let found = reader_is w.tc n o k.tc is in
-    by found.1.0 found.1.1 (given.1 o.txn o found.1.0 found.0 found.1.1)
+    by found.1.0 found.1.1 (given o.txn o found.1.0 found.0 found.1.1)
   where
     told_if : Bool → Outcome
     told_if b = if b then (told.Row o.txn v, was_told w.tc o) else (told.Nothing, w.tc)
@@ -229,11 +248,11 @@ row_goes w i n v (Some o) k is given =
         })
     by (Range low high) reads value = let P : Option Read → Type 0 = λ x. Goes w i (told_if (is_key (span_read x))) in subst P (sym reads) (nothing w i k)
 
-rows_goes : (w : NodeView) (i n : ℕ) (rows : List (Bytes × Bytes)) (x : Option OpenTxn) → IsKept w → reader w.tc n ≡ x → IsReadTrue w.tc n (AreRows w.tc.log rows) → Goes w i (on_rows w.tc rows x)
+rows_goes : (w : NodeView) (i n : ℕ) (rows : List (Bytes × Bytes)) (x : Option OpenTxn) → IsKept w → reader w.tc n ≡ x → IsTrueOfReader w.tc n (AreRows w.tc.log rows) → Goes w i (on_rows w.tc rows x)
 rows_goes w i n rows None k is given = nothing w i k
 rows_goes w i n rows (Some o) k is given =
     let found = reader_is w.tc n o k.tc is in
-    by found.1.0 found.1.1 (given.1 o.txn o found.1.0 found.0 found.1.1)
+    by found.1.0 found.1.1 (given o.txn o found.1.0 found.0 found.1.1)
   where
     told_if : Bool → Outcome
     told_if b = if b then (told.Rows o.txn rows, was_told w.tc o) else (told.Nothing, w.tc)
@@ -253,9 +272,11 @@ replied w i (says.Connected s) k given allowed =
     connected_goes w i s w.tc.phase refl k (fresh_session s w.tc.session (logs w.tc (says.Connected s) && is_spent w.tc.log) allowed) given
 replied w i (says.Answered s n a) k given allowed =
     answered_goes w i s n a k (fresh_session s w.tc.session (logs w.tc (says.Answered s n a) && is_spent w.tc.log) allowed) given
-replied w i (says.Row s n v) k given allowed = row_goes w i n v (reader w.tc n) k refl given
-replied w i (says.Rows s n rows) k given allowed = rows_goes w i n rows (reader w.tc n) k refl given
-replied w i (says.Checkpointed s l) k given allowed = nothing w i k
+replied w i (says.Row s n v) k given allowed =
+    row_goes w i n v (reader w.tc n) k refl (given.holds (fresh_session s w.tc.session (logs w.tc (says.Row s n v) && is_spent w.tc.log) allowed))
+replied w i (says.Rows s n rows) k given allowed =
+    rows_goes w i n rows (reader w.tc n) k refl (given.holds (fresh_session s w.tc.session (logs w.tc (says.Rows s n rows) && is_spent w.tc.log) allowed))
+replied w i (says.Checkpointed s l) k given allowed = checkpointed_goes w i l k given
 replied w i (says.RedoEnded s) k given allowed =
     redo_ended_goes w i s w.tc.phase refl k (fresh_session s w.tc.session (logs w.tc (says.RedoEnded s) && is_spent w.tc.log) allowed) given
 
@@ -303,6 +324,7 @@ follows_reply old new i (out.Split pair) k h = taken old new i (out.Split pair) 
 follows_reply old new i (out.Merged pair) k h = taken old new i (out.Merged pair) k h
 follows_reply old new i (out.Flushed id) k h = taken old new i (out.Flushed id) k h
 follows_reply old new i (out.Undone n) k h = taken old new i (out.Undone n) k h
+follows_reply old new i (out.CheckpointLogged n) k h = taken old new i (out.CheckpointLogged n) k h
 follows_reply old new i out.RollingBack k h = taken old new i out.RollingBack k h
 follows_reply old new i out.Nothing k h = taken old new i out.Nothing k h
 follows_reply old new i out.Noted k h = taken old new i out.Noted k h

@@ -1,6 +1,6 @@
 -- The session that the data component runs.
-use Rattle.std.proofs.Common.{◌≡◌, ◌≢◌, ℕ, ◌≤◌, ◌==◌, Bool, true, false, List, [], ◌∷◌, length, Option, Some, None, refl, sym, ap, ◌∙◌, arith, inl, inr, true≢false, eqb-true, eq-eqb}
-use Rattle.std.specs.Prelude.{◌&&◌, max, not, nat_lt, if◌then◌else◌}
+use Rattle.std.proofs.Common.{◌≡◌, ◌≢◌, ℕ, ◌<◌, ◌≤◌, ◌==◌, Bool, true, false, List, [], ◌∷◌, length, Option, Some, None, refl, sym, ◌∙◌, arith, inl, inr, true≢false, eqb-true, eq-eqb}
+use Rattle.std.specs.Prelude.{◌&&◌, not, nat_lt, if◌then◌else◌}
 use Rattle.std.proofs.lemmas.Bool.{cases_Bool}
 use Rattle.record_key.specs.declared.refusal.Refusal.{Refusal}
 use Rattle.record_key.specs.declared.refusal.Refusal.TheVariants.{NotConnected, Stale, Redoing}
@@ -115,16 +115,20 @@ stored_shorter (r ∷ log) n = by (nat_lt (length log) n) (stored_shorter log n)
     by true less = omega arith
     by false less = omega (arith, less, stored_older r log)
 
--- none is later than the transaction component's
-pub stored_begun : (w : NodeView) → IsKept w → w.dc.stored ≤ w.tc.session
-stored_begun w k = omega (arith, k.dc.stored, stored_shorter w.dc.system.log w.dc.system.stable, k.sessions.begun)
+-- none is later than the transaction component's, if that has one
+pub stored_begun : (w : NodeView) → IsKept w → 0 < w.tc.session → w.dc.stored ≤ w.tc.session
+stored_begun w k some = omega (arith, k.dc.stored, stored_shorter w.dc.system.log w.dc.system.stable, k.sessions.begun.most some)
+
+-- nor than its stable records
+pub stored_recorded : (w : NodeView) → IsKept w → w.dc.stored ≤ w.tc.stable
+stored_recorded w k = omega (arith, k.dc.stored, stored_shorter w.dc.system.log w.dc.system.stable, k.sessions.begun.recorded)
 
 -- where that was taken and some session runs, it is this one
-pub same_runs : (w : NodeView) (s : ℕ) → IsKept w → s ≡ w.tc.session → s ≤ w.dc.stored → w.dc.session ≢ 0 → runs w.dc s ≡ true
-same_runs w s k same taken some =
+pub same_runs : (w : NodeView) (s : ℕ) → IsKept w → 0 < w.tc.session → s ≡ w.tc.session → s ≤ w.dc.stored → w.dc.session ≢ 0 → runs w.dc s ≡ true
+same_runs w s k begun same taken some =
     elim k.dc.session [
       | inl none ↦ absurd (some none)
       | inr last ↦
-          let is : w.dc.session ≡ s = omega (arith, last, same, taken, stored_begun w k) in
+          let is : w.dc.session ≡ s = omega (arith, last, same, taken, stored_begun w k begun) in
           is_run w.dc s (λ zero. some (is ∙ zero)) is
     ]

@@ -1,11 +1,10 @@
 -- What is sent stands, and sending changes nothing for clients.
-use Rattle.std.proofs.Common.{◌≡◌, ◌⊎◌, ℕ, ◌+◌, ◌-◌, ◌<◌, ◌≤◌, Bool, true, List, [], ◌∷◌, ◌++◌, length, Option, Some, None, is_some, refl, sym, ap, ◌∙◌, subst, arith, inl, inr}
+use Rattle.std.proofs.Common.{◌≡◌, ◌⊎◌, ℕ, ◌+◌, ◌<◌, ◌≤◌, Bool, true, List, [], ◌∷◌, ◌++◌, length, Option, Some, None, is_some, refl, sym, ap, ◌∙◌, subst, arith, inl, inr}
 use Rattle.std.specs.Prelude.{Ok, not}
 use Rattle.record_key.specs.declared.refusal.Refusal.{Refusal}
 use Rattle.record_key.specs.declared.refusal.Refusal.TheVariants.{Device}
 use Rattle.history.specs.ListMachine.{Machine, Steps}
 use Rattle.simulation.specs.View.{StandsFor}
-use Rattle.std.proofs.lemmas.List.{length-drop}
 use Rattle.std.proofs.lemmas.Bool.{cases_lt}
 use Rattle.std.specs.Prelude.{IsSome}
 use Rattle.record_key.specs.Table.{Bytes, key_of}
@@ -31,28 +30,25 @@ use Rattle.tc_core.specs.declared.open_txn.Read.{Read}
 use Rattle.tc_core.specs.OpenTxns.{find}
 use Rattle.logical_log.specs.LogView.{spent_refusal}
 use Rattle.tc_core.specs.Refusing.{Refuses}
-use Rattle.tc_core.specs.Changes.{logged_session, reconnected}
+use Rattle.tc_core.specs.Changes.{logged_session, reconnected, announced, asked_checkpoint}
 use Rattle.tc_core.specs.Calls.{read_request, IsRequestOf}
 use Rattle.tc_core.specs.declared.told.RecoverStep.TheVariants as recovery
 use Rattle.tc_core.specs.Recovery.{SendsAt, redo_request, redo_place, redoing}
 use Rattle.tc_core.specs.Undo.{AsksNothing, FindsRequest}
-use Rattle.tc_core.specs.LowWater.{MayAnnounce}
-use Rattle.logical_log.specs.Low.{stable_part}
 use Rattle.tc_core.specs.Kept.{IsPhase, IsTc}
-use Rattle.logical_log.proofs.Answered.{answered_whole}
 use Rattle.world.specs.declared.event.Event.TheVariants as event
 use Rattle.world.specs.declared.event.Out.{Out}
 use Rattle.world.specs.declared.event.Out.TheVariants as out
-use Rattle.world.specs.Node.{NodeView, with_tc, ReconnectsTo, RecoversTo, SendsTo, LowersTo}
-use Rattle.world.specs.Kept.{IsKept, IsReadTrue, IsSent, IsAnsweredTo, IsServed, AreBefore, AllAreCaptured, EarlierAreCaptured}
+use Rattle.world.specs.Node.{NodeView, with_tc, ReconnectsTo, RecoversTo, SendsTo, LowersTo, AsksCheckpoint}
+use Rattle.world.specs.Kept.{IsKept, IsReadTrue, IsSent, IsServed, AreBefore, AllAreCaptured, EarlierAreCaptured}
 use Rattle.world.specs.Simulation.{Stands, clients, told_committed}
-use Rattle.world.proofs.CallsKeep.{reconnect_keeps, session_keeps, recover_keeps}
+use Rattle.world.proofs.CallsKeep.{reconnect_keeps, session_keeps, recover_keeps, low_water_keeps, checkpoint_keeps}
 use Rattle.world.proofs.Standing.{stands_logged, stands_reconnected}
 use Rattle.world.proofs.Grows.{GoesOn, sent_on}
 use Rattle.tc_core.proofs.KeepsTc.{reading_at}
 use Rattle.world.proofs.Readers.{none_same}
 use Rattle.world.proofs.Idle.{both_none, serves_open}
-use Rattle.world.proofs.Keeps.{still_captured, before_on, all_on, keeps_appended, keeps_same_log, with_request, keeps_sent}
+use Rattle.world.proofs.Keeps.{still_captured, quiet_served, keeps_appended, keeps_same_log, with_request, keeps_sent}
 use Rattle.world.proofs.Running.{run_is, past_is}
 use Rattle.world.proofs.Follows.{Follows, at_new, no_line, unchanged, left_refused, kept_left, keeps_failed, stands_left}
 
@@ -66,23 +62,18 @@ begins w k after =
     let before : AreBefore (is.Session ∷ w.tc.log) (length w.tc.log + 1) =
     λ n o asks. all_before w.tc.log n o (older_at (ARequest o) is.Session w.tc.log n
     (λ e. let none : ARequest o (Some is.Session) = newest_at (ARequest o) is.Session w.tc.log n e asks in cc) asks) in
-    keeps_appended w (reconnected w.tc) is.Session k after refl (omega (arith, k.tc.within)) (omega (arith, k.tc.session, k.tc.within)) (omega arith) (none_same w.tc.reads w.tc.open_txns)
-    (record { begun = omega (arith, k.sessions.begun, k.tc.session, k.tc.within); served = before })
+    keeps_appended w (reconnected w.tc) is.Session k after k.checked refl (omega (arith, k.tc.within)) (inr (omega (arith, k.tc.within))) (omega arith) (none_same w.tc.reads w.tc.open_txns)
+    (record {
+      begun = record { recorded = omega (arith, k.sessions.begun.recorded, k.tc.within); most = λ some. omega (arith, k.sessions.begun.recorded, k.tc.within) };
+      served = before;
+    })
     k.right (λ some. still_captured w is.Session (λ o h. cc) (λ m. refl))
-
--- a session's record asks for nothing
-session_served : (p : Phase) (s : ℕ) (log : List Record) (dc : DcView) → IsServed p s log dc → IsServed p s (is.Session ∷ log) dc
-session_served phase.Unconnected s log dc h = tt
-session_served phase.Connecting s log dc h = before_on is.Session log s (λ o h. cc) h
-session_served (phase.Redoing next ending) s log dc h =
-    (before_on is.Session log s (λ o h. cc) h.0, h.1, λ runs. all_on is.Session log dc next (λ o h. cc) (h.2 runs))
-session_served phase.Running s log dc h = h
 
 -- or only its record is logged, since the force failed
 logs_session : (w : NodeView) → IsKept w → IsTc (logged_session w.tc) → IsKept (with_tc w (logged_session w.tc))
 logs_session w k after =
-    keeps_appended w (logged_session w.tc) is.Session k after refl (omega arith) (omega arith) (omega arith) (none_same w.tc.reads w.tc.open_txns)
-    (record { begun = k.sessions.begun; served = session_served w.tc.phase w.tc.session w.tc.log w.dc k.sessions.served })
+    keeps_appended w (logged_session w.tc) is.Session k after k.checked refl (omega arith) (inl refl) (omega arith) (none_same w.tc.reads w.tc.open_txns)
+    (record { begun = k.sessions.begun; served = quiet_served w.tc.phase w.tc.session is.Session w.tc.log w.dc (λ o h. cc) k.sessions.served })
     k.right (λ some. still_captured w is.Session (λ o h. cc) (λ m. refl))
 
 -- why no session was started
@@ -111,7 +102,7 @@ follows_reconnect old new (out.Connects i cs) k h =
       leads = λ m stands.
           let l = stands_reconnected old.tc m (session_keeps old.tc k.tc h.0.0) stands in
           (l.0, subst (λ (ts : List ℕ). Steps m (told_committed ts) l.0) (sym h.0.2) l.1, l.2);
-      kept = keeps_sent (with_tc old tc) q (begins old k after) (omega arith);
+      kept = keeps_sent (with_tc old tc) q (begins old k after) (record { recorded = omega arith; most = λ some. omega arith });
     })
 follows_reconnect old new (out.Refused r) k h = by h.0
   where
@@ -130,7 +121,7 @@ pub keeps_redoing : (w : NodeView) (next : ℕ) (was : Bool) (n : ℕ) (ending :
     → (w.dc.session ≡ w.tc.session → AllAreCaptured w.tc.log w.dc n) → IsKept (with_tc w (redoing w.tc n ending))
 keeps_redoing w next was n ending k at tc captured =
     let was_served = redo_served w next was k at in
-    keeps_same_log w (redoing w.tc n ending) k tc refl (omega arith) (omega arith) (omega arith) (none_same w.tc.reads w.tc.open_txns)
+    keeps_same_log w (redoing w.tc n ending) k tc k.checked refl (omega arith) (inl refl) (omega arith) (none_same w.tc.reads w.tc.open_txns)
     (record { begun = k.sessions.begun; served = (was_served.0, was_served.1, captured) })
 
 -- the place of redo, and what it sends
@@ -178,9 +169,9 @@ redo_found w next ending (Some x) k at some most h =
       );
     }
 
-pub redoing_phase : (w : NodeView) (next : ℕ) (ending : Bool) → IsKept w → w.tc.phase ≡ phase.Redoing next ending → (0 < next) × (next ≤ w.tc.session)
+pub redoing_phase : (w : NodeView) (next : ℕ) (ending : Bool) → IsKept w → w.tc.phase ≡ phase.Redoing next ending → (w.tc.checkpointed < next) × (next ≤ w.tc.session)
 redoing_phase w next ending k at =
-    let P : Phase → Type 0 = IsPhase w.tc.session in let h = subst P at k.tc.phase in (h.0, h.1)
+    let P : Phase → Type 0 = IsPhase w.tc.checkpointed w.tc.session in let h = subst P at k.tc.phase in (h.0, h.1)
 
 -- what recovery sends, by its phase
 pub recovers : (old new : NodeView) (q : Request) (p : Phase) → old.tc.phase ≡ p → IsKept old → SendsAt old.tc p q new.tc
@@ -189,12 +180,12 @@ recovers old new q phase.Unconnected at k h after left = absurd h
 recovers old new q phase.Connecting at k h after left =
     let same : new ≡ with_request old q = left ∙ ap (λ tc. record old { tc = tc; requests = old.requests ++ q ∷ [] }) h.1 in
     let P : Request → Type 0 = IsSent old.tc old.dc in
-    (subst IsKept (sym same) (keeps_sent old q k (subst P (sym h.0) (omega arith))), λ m stands. subst (λ x. StandsFor (clients x) m) (sym h.1) stands)
+    (subst IsKept (sym same) (keeps_sent old q k (subst P (sym h.0) (record { recorded = k.tc.session; most = λ some. omega arith }))), λ m stands. subst (λ x. StandsFor (clients x) m) (sym h.1) stands)
 recovers old new q (phase.Redoing next ending) at k h after left =
     let place : ℕ = redo_place old.tc.session h.found in
     let sent_end : Bool = not (is_some h.found) in
     let bounds = redoing_phase old next ending k at in
-    let redo = redo_found old next ending h.found k at bounds.0 bounds.1 h.finds in
+    let redo = redo_found old next ending h.found k at (omega (arith, bounds.0)) bounds.1 h.finds in
     let mid : NodeView = with_tc old (redoing old.tc place sent_end) in
     let same : new ≡ with_request mid q = left ∙ ap (λ tc. record old { tc = tc; requests = old.requests ++ q ∷ [] }) h.left in
     let P : Request → Type 0 = IsSent old.tc old.dc in (
@@ -205,7 +196,7 @@ recovers old new q (phase.Redoing next ending) at k h after left =
     )
   where
     stays : (w : NodeView) (n : ℕ) (e : Bool) → IsKept w → GoesOn w.tc (redoing w.tc n e)
-    stays w n e k = record { within = k.tc.within; log = inl refl; stable = omega arith; session = omega arith; reads = omega arith; none_anew = none_same w.tc.reads w.tc.open_txns }
+    stays w n e k = record { within = k.tc.within; now_within = k.tc.within; log = inl refl; stable = omega arith; session = inl refl; reads = omega arith; none_anew = none_same w.tc.reads w.tc.open_txns }
 recovers old new q phase.Running at k h after left = absurd h
 
 pub follows_recover : (old new : NodeView) (output : Out) → IsKept old → RecoversTo old output new → Follows old event.Recover output new
@@ -217,16 +208,19 @@ follows_recover old new (out.Refused r) k h = unchanged old new event.Recover (o
 follows_recover old new _ k h = absurd h
 
 -- a read is of who waits for it: nobody else waits for its number
-read_of : (w : TcView) (o : OpenTxn) (r : Read) → IsTc w → find o.txn w.open_txns ≡ Some o → o.reading ≡ Some r → IsReadTrue w r.number (λ q. q ≡ r.span)
-read_of w o r k at reads = (
-  (reading_at w o r k at reads).asked,
-  λ t p q found reading.
+read_of : (w : TcView) (o : OpenTxn) (r : Read) → IsTc w → w.phase ≡ phase.Running → find o.txn w.open_txns ≡ Some o → o.reading ≡ Some r
+    → IsReadTrue w w.session r.number (λ q. q ≡ r.span)
+read_of w o r k running at reads = record {
+  some = let P : Phase → Type 0 = IsPhase w.checkpointed w.session in subst P running k.phase;
+  begun = k.session;
+  asked = λ is. (reading_at w o r k at reads).asked;
+  holds = λ is t p q found reading.
       let same : o.txn ≡ t = k.reading.apart o.txn t o p r (record { number = r.number; span = q }) at found reads reading refl in
       let F : ℕ → Type 0 = λ u. find u w.open_txns ≡ Some o in
       let one : Some o ≡ Some p = sym (subst F same at) ∙ found in
       let both : Some r ≡ Some (record { number = r.number; span = q }) = sym reads ∙ ap (λ (x : OpenTxn). x.reading) (let e : o ≡ p = cc in e) ∙ reading in
-      sym (span_same (Some r) (Some (record { number = r.number; span = q })) both),
-)
+      sym (span_same (Some r) (Some (record { number = r.number; span = q })) both);
+}
   where
     span_in : Option Read → Span
     span_in None = r.span
@@ -235,7 +229,7 @@ read_of w o r k at reads = (
     span_same : (x y : Option Read) → x ≡ y → span_in x ≡ span_in y
     span_same x y e = ap span_in e
 
-sent_read : (w : TcView) (dc : DcView) (n : ℕ) (s : Span) → IsReadTrue w n (λ q. q ≡ s) → IsSent w dc (read_request w.session n s)
+sent_read : (w : TcView) (dc : DcView) (n : ℕ) (s : Span) → IsReadTrue w w.session n (λ q. q ≡ s) → IsSent w dc (read_request w.session n s)
 sent_read w dc n (Key key) h = h
 sent_read w dc n (Range low high) h = h
 
@@ -260,7 +254,7 @@ sent_of old t q k running (inl r) =
     )
 sent_of old t q k running (inr r) =
     let P : Request → Type 0 = IsSent old.tc old.dc in
-    subst P (sym r.is) (sent_read old.tc old.dc r.read.number r.read.span (read_of old.tc r.open_txn r.read k.tc r.at.is r.reading))
+    subst P (sym r.is) (sent_read old.tc old.dc r.read.number r.read.span (read_of old.tc r.open_txn r.read k.tc running r.at.is r.reading))
 
 pub follows_send : (old new : NodeView) (t : ℕ) (output : Out) → IsKept old → SendsTo old t output new → Follows old (event.Send t) output new
 follows_send old new t (out.Sent i) k h =
@@ -269,18 +263,35 @@ follows_send old new t (out.Sent i) k h =
 follows_send old new t (out.Refused r) k h = unchanged old new (event.Send t) (out.Refused r) k h.1 refl
 follows_send old new t _ k h = absurd h
 
--- what is announced is answered
-pub announced : (w : TcView) (l : ℕ) → w.stable ≤ length w.log → MayAnnounce w l → IsAnsweredTo w l
-announced w l within may =
-    let short : length (stable_part w.log w.stable) ≡ length w.log - (length w.log - w.stable) = length-drop (length w.log - w.stable) w.log in
-    record { stable = omega (arith, may.within, short, within); answered = (answered_whole (length w.log - w.stable) w.log l may).answered }
+-- what was announced and asked for is nobody's but the transaction component's
+announces : (w : NodeView) (announced : ℕ) (asked : Option ℕ) → IsKept w → IsTc (record w.tc { announced = announced; checkpointing = asked })
+    → IsKept (with_tc w (record w.tc { announced = announced; checkpointing = asked }))
+announces w announced asked k after =
+    keeps_same_log w (record w.tc { announced = announced; checkpointing = asked }) k after k.checked refl (omega arith) (inl refl) (omega arith)
+    (none_same w.tc.reads w.tc.open_txns) k.sessions
 
 pub follows_low_water : (old new : NodeView) (l : ℕ) (output : Out) → IsKept old → LowersTo old l output new → Follows old (event.LowWater l) output new
 follows_low_water old new l (out.Sent i) k h =
     let q : Request = asks.LowWater old.tc.session l in
-    at_new old new (with_request old q) (event.LowWater l) (out.Sent i) h.1.left (record {
-      leads = no_line old (with_request old q) (event.LowWater l) (out.Sent i) refl (λ m stands. stands);
-      kept = keeps_sent old q k (announced old.tc l k.tc.within h.0.0.allowed);
+    let tc : TcView = announced old.tc l in
+    let same : new ≡ with_request (with_tc old tc) q = h.1.left ∙ ap (λ x. record old { tc = x; requests = old.requests ++ q ∷ [] }) h.0.2 in
+    let after : IsTc tc = subst IsTc h.0.2 (low_water_keeps old.tc new.tc l (Ok q) k.tc h.0) in
+    at_new old new (with_request (with_tc old tc) q) (event.LowWater l) (out.Sent i) same (record {
+      leads = no_line old (with_request (with_tc old tc) q) (event.LowWater l) (out.Sent i) refl (λ m stands. stands);
+      kept = keeps_sent (with_tc old tc) q (announces old (announced old.tc l).announced old.tc.checkpointing k after) h.0.0.allowed;
     })
 follows_low_water old new l (out.Refused r) k h = unchanged old new (event.LowWater l) (out.Refused r) k h.1 refl
 follows_low_water old new l _ k h = absurd h
+
+pub follows_checkpoint : (old new : NodeView) (output : Out) → IsKept old → AsksCheckpoint old output new → Follows old event.Checkpoint output new
+follows_checkpoint old new (out.Sent i) k h =
+    let q : Request = asks.Checkpoint old.tc.session old.tc.announced in
+    let tc : TcView = asked_checkpoint old.tc in
+    let same : new ≡ with_request (with_tc old tc) q = h.1.left ∙ ap (λ x. record old { tc = x; requests = old.requests ++ q ∷ [] }) h.0.2 in
+    let after : IsTc tc = subst IsTc h.0.2 (checkpoint_keeps old.tc new.tc (Ok q) k.tc h.0) in
+    at_new old new (with_request (with_tc old tc) q) event.Checkpoint (out.Sent i) same (record {
+      leads = no_line old (with_request (with_tc old tc) q) event.Checkpoint (out.Sent i) refl (λ m stands. stands);
+      kept = keeps_sent (with_tc old tc) q (announces old old.tc.announced (Some old.tc.announced) k after) k.tc.low.announced;
+    })
+follows_checkpoint old new (out.Refused r) k h = unchanged old new event.Checkpoint (out.Refused r) k h.1 refl
+follows_checkpoint old new _ k h = absurd h

@@ -143,7 +143,7 @@ module _ (w : NodeView) (k : IsKept w) (past : may_merge w.dc ≡ true) (x : Ope
 settled_past : (w : NodeView) → IsKept w → IsSettled w → may_merge w.dc ≡ true
 settled_past w k settled =
     let P : Phase → Type 0 = λ p. IsServed p w.tc.session w.tc.log w.dc in
-    let Q : Phase → Type 0 = IsPhase w.tc.session in
+    let Q : Phase → Type 0 = IsPhase w.tc.checkpointed w.tc.session in
     let some : 0 < w.tc.session = subst Q settled.running k.tc.phase in
     past_is w.dc w.tc.session (λ zero. absurd (omega (arith, some, zero))) settled.session
     ((subst P settled.running k.sessions.served).1 settled.session)

@@ -41,7 +41,7 @@ use Rattle.tc_core.specs.declared.open_txn.Rollback.{Rollback}
 use Rattle.tc_core.specs.OpenTxns.{find, without}
 use Rattle.tc_core.specs.TcView.{TcView}
 use Rattle.tc_core.specs.Causes.{saves_of}
-use Rattle.tc_core.specs.Changes.{let_go, forced, logged_session, reconnected, begun_txn, begun, acted_txn, acted, reading_txn, shared, asked_read, told_txn, was_told, saved_txn, saved, rolling_txn, rolled, going_back_txn, going_back, committed, next_of, inverse_at, compensated_txn, compensated, ended, back_txn, is_back, answered_txn, answered}
+use Rattle.tc_core.specs.Changes.{let_go, forced, logged_session, reconnected, begun_txn, begun, acted_txn, acted, reading_txn, shared, asked_read, told_txn, was_told, saved_txn, saved, rolling_txn, rolled, going_back_txn, going_back, committed, next_of, inverse_at, compensated_txn, compensated, ended, back_txn, is_back, answered_txn, answered, checkpointed}
 use Rattle.tc_core.specs.Locking.{is_listed, is_holder}
 use Rattle.tc_core.specs.Kept.{IsTc, commits_in}
 use Rattle.tc_core.proofs.Finding.{find_here, find_there, found_number, without_same}
@@ -299,6 +299,10 @@ stands_forced w m k stands =
 -- a session is logged, and is stable at once
 pub stands_logged : (w : TcView) (m : Machine) → StandsFor (clients w) m → StandsFor (clients (logged_session w)) m
 stands_logged w m stands = neutral_is_no_step (clients w) m is.Session 0 stands (inl refl)
+
+-- a checkpoint is logged
+pub stands_checkpointed : (w : TcView) (l : ℕ) (m : Machine) → StandsFor (clients w) m → StandsFor (clients (checkpointed w l)) m
+stands_checkpointed w l m stands = neutral_is_no_step (clients w) m (is.Checkpoint l) l stands (inr refl)
 
 pub stands_reconnected : (w : TcView) (m : Machine) → IsTc (logged_session w) → StandsFor (clients w) m
     → (n : Machine) × Steps m (told_committed w.committing) n × StandsFor (clients (reconnected w)) n

@@ -1,23 +1,21 @@
 -- Leaves that are raised, split or merged stay true to the log, and carry on what stands at each key.
-use Rattle.std.proofs.Common.{◌≡◌, ℕ, ◌+◌, ◌≤◌, Bool, true, false, List, [], ◌∷◌, Some, refl, sym, ap, ◌∙◌, subst, arith, get_or, length, inl, inr}
+use Rattle.std.proofs.Common.{◌≡◌, ℕ, ◌≤◌, Bool, true, List, ◌∷◌, Some, refl, sym, ap, ◌∙◌, subst, arith, inl, inr}
 use Rattle.std.specs.Prelude.{map, nat_le, ◌||◌}
 use Rattle.std.specs.List.{AllByRecursion}
 use Rattle.std.proofs.lemmas.Bool.{or_cases}
 use Rattle.std.proofs.lemmas.Bool.Decides.{nat_tests}
-use Rattle.record_key.specs.declared.op.Op.{Op}
 use Rattle.record_key.specs.Table.{Bytes, key_of}
 use Rattle.record_key.proofs.Lists.{all_from}
 use Rattle.history.specs.declared.record.Record.{Record}
-use Rattle.history.specs.Log.{Requests}
 use Rattle.codec.specs.declared.dc_record.DcRecord.{DcRecord}
 use Rattle.ab_lsn.specs.AbLsn.{captures}
 use Rattle.ab_lsn.specs.Parting.{is_under, is_from}
 use Rattle.ab_lsn.proofs.Capturing.{raised_captures, joined_captures}
-use Rattle.page.specs.Leaf.{LeafView, first, is_in_fences, raised_to}
+use Rattle.page.specs.Leaf.{LeafView, is_in_fences, raised_to}
 use Rattle.page.specs.Parting.{lower_of, upper_of, joined_of}
 use Rattle.page.specs.Honest.{IsHonestLeaf, IsCapturedTo}
 use Rattle.page.proofs.Raising.{honest_raised}
-use Rattle.btree.specs.Leaves.{AreLeaves, leaf_at}
+use Rattle.btree.specs.Leaves.{leaf_at}
 use Rattle.btree.specs.Parting.{middle, may_split_at, may_merge_at, split_at, merged_at}
 use Rattle.btree.specs.TreeLaw.{AreHonest, AreCaptured}
 use Rattle.btree.proofs.AtKey.{captured_split, captured_merged, captured_raised}
@@ -35,12 +33,12 @@ use Rattle.recovery_laws.proofs.Images.{leaf_again}
 use Rattle.recovery_laws.proofs.Honesty.{captures_fewer}
 use Rattle.system_txn.specs.SystemView.{SystemView}
 use Rattle.system_txn.specs.Devices.{pages_of}
-use Rattle.system_txn.specs.Changes.{next_id, next_number, leaf_in as leaf_of_place, split_to, merged_to, lowered, accepted, forced}
+use Rattle.system_txn.specs.Changes.{next_id, next_number, split_to, merged_to, lowered}
 use Rattle.dc_core.specs.DcView.{leaves}
 use Rattle.dc_core.proofs.KeepsDc.{all_both}
-use Rattle.tc_core.specs.TcView.{TcView}
 use Rattle.world.specs.Node.{NodeView}
 use Rattle.world.specs.Kept.{IsKept, IsAnsweredTo, IsTrueTo, IsLowAnswered, AnsweredAreCaptured}
+use Rattle.world.proofs.Announced.{all_answered, most_stable}
 use Rattle.world.proofs.Systems.{LeavesCarry}
 
 -- ---- what is answered up to a number is captured by the leaf of its key
@@ -48,7 +46,7 @@ use Rattle.world.proofs.Systems.{LeavesCarry}
 captured_leaf : (w : NodeView) (l : ℕ) (leaf : LeafView) → AnsweredAreCaptured w.tc.log w.dc → ((key : Bytes) → is_in_fences leaf key ≡ true → leaf_at (leaves w.dc) key ≡ leaf) → IsAnsweredTo w.tc l
     → IsCapturedTo w.tc.log leaf l
 captured_leaf w l leaf all own to = record {
-  all = λ n o asks within below. subst (λ (x : LeafView). captures x.ab n ≡ true) (own (key_of o) within) (all n o asks (to.answered n o below asks));
+  all = λ n o asks within below. subst (λ (x : LeafView). captures x.ab n ≡ true) (own (key_of o) within) (all n o asks (all_answered w.tc l to n o below asks));
 }
 
 abbrev IsOwn : NodeView → LeafView → Type 0
@@ -184,7 +182,7 @@ module _ (w : NodeView) (l : ℕ) (k : IsKept w) (all : AnsweredAreCaptured w.tc
     honest = honest_raised w.tc.log leaf l h.honest (captured_leaf w l leaf all own to);
     within = λ n captured. elim (or_cases (captures leaf.ab n) (nat_le n l) (sym (raised_captures leaf.ab l n) ∙ captured)) [
       | inl before ↦ h.within n before
-      | inr below ↦ let less : n ≤ l = grind (arith, nat_tests, below) in omega (arith, less, to.stable)
+      | inr below ↦ let less : n ≤ l = grind (arith, nat_tests, below) in omega (arith, less, most_stable w.tc l k.tc.within to)
     ];
   }
 

@@ -46,7 +46,7 @@ use Rattle.world.specs.Kept.{IsKept, IsServed}
 use Rattle.world.specs.Rounds.{IsDone, IsServing, IsDue, IsReader, IsRolling, IsNext, IsWant, StopsAt, events_of}
 use Rattle.world.proofs.Sends.{redoing_phase}
 use Rattle.world.proofs.Exchanges.{HasReply, Stops, stops}
-use Rattle.world.proofs.Running.{stored_begun}
+use Rattle.world.proofs.Running.{stored_recorded}
 use Rattle.world.proofs.Replied.{some_reply, sound_reply, read_reply, read_session, connect_replied, redo_replied, request_replied}
 use Rattle.world.proofs.Falls.{redoing_at}
 
@@ -126,7 +126,7 @@ unserved_want (Some cause) dc q r new e h = absurd (cc)
 
 -- after a request was sent
 later_session : (w : NodeView) → IsKept w → w.dc.stored < length w.tc.log + 1
-later_session w k = omega (arith, stored_begun w k, k.tc.session, k.tc.within)
+later_session w k = omega (arith, stored_recorded w k, k.tc.within)
 
 stops_connect : (w : NodeView) (r : Refusal) → IsKept w → Stops w (reconnected w.tc) (asks.Connect (length w.tc.log + 1)) r → IsWant r
 stops_connect w r k (inl h) = inl h
@@ -216,7 +216,7 @@ want_recover old new mid (out.Refused q) os r next ending k up at same h d rest 
 want_recover old new mid _ os r next ending k up at same h d rest = absurd h
 
 running_some : (w : NodeView) → IsKept w → w.tc.phase ≡ phase.Running → 0 < w.tc.session
-running_some w k running = let P : Phase → Type 0 = IsPhase w.tc.session in subst P running k.tc.phase
+running_some w k running = let P : Phase → Type 0 = IsPhase w.tc.checkpointed w.tc.session in subst P running k.tc.phase
 
 want_exchange : (old new mid : NodeView) (o : Out) (os : List Out) (r : Refusal) (t : ℕ) → IsKept old → IsServing old → SendsTo old t o mid → IsDone o
     → StopsAt mid (event.Request (length old.requests + 1) ∷ event.Reply (length old.replies + 1) ∷ []) os r new → IsWant r

@@ -17,7 +17,7 @@ use Rattle.system_txn.specs.Changes.{covered, forced, written_to, written_all}
 use Rattle.system_txn.specs.Gives.{HaveImages, StopsWriting, StopsAmong}
 use Rattle.system_txn.proofs.Written.{pages_written}
 use Rattle.tc_core.specs.TcView.{TcView}
-use Rattle.world.specs.Kept.{IsAnsweredTo, IsTrueTo, IsLowAnswered}
+use Rattle.world.specs.Kept.{IsTrueTo, IsLowAnswered}
 
 -- what follows for each leaf follows for all that are written
 pub have_all : (P Q : LeafView → Type 0) → ((leaf : LeafView) → P leaf → Q leaf) → (pages : Pages) (log : List DcRecord) → AllHave P pages log → AllHave Q pages log

@@ -9,7 +9,6 @@ use Rattle.record_key.specs.declared.op.Answer.{Answer}
 use Rattle.history.specs.declared.record.Record.{Record}
 use Rattle.history.specs.Log.{answer_of, Requests}
 use Rattle.history.specs.Values.{value_on, IsRight, HasRightAnswers}
-use Rattle.log_laws.specs.Reading.{AreAnswered}
 use Rattle.history.specs.Spans as spans
 use Rattle.history.specs.Spans.{is_within, rows_in}
 use Rattle.range_locks.specs.declared.span.Span.{Span}
@@ -24,6 +23,7 @@ use Rattle.recovery_laws.specs.Ready.{IsHonestTo, AllHave}
 use Rattle.system_txn.specs.SystemView.{SystemView}
 use Rattle.system_txn.specs.Devices.{pages_of}
 use Rattle.system_txn.specs.Kept.{IsRecoverable}
+use Rattle.system_txn.specs.Checked.{IsChecked}
 use Rattle.dc_core.specs.declared.performance.Performance.{Performance}
 use Rattle.dc_core.specs.DcView.{DcView, captures_at}
 use Rattle.dc_core.specs.Serves.{runs}
@@ -35,17 +35,29 @@ use Rattle.tc_core.specs.declared.phase.Phase.TheVariants as phase
 use Rattle.tc_core.specs.OpenTxns.{find}
 use Rattle.tc_core.specs.Changes.{shared}
 use Rattle.tc_core.specs.TcView.{TcView}
+use Rattle.tc_core.specs.LowWater.{MayAnnounce}
 use Rattle.tc_core.specs.Kept.{IsTc}
 use Rattle.world.specs.Node.{NodeView}
 
--- every request up to a stable number has its answer
-pub record IsAnsweredTo (w : TcView) (l : ℕ) : Type 0 where
-  pub stable : l ≤ w.stable
-  pub answered : AreAnswered w.log l
+-- every request up to a stable number has a stable answer
+abbrev pub IsAnsweredTo : TcView → ℕ → Type 0
+IsAnsweredTo w l = MayAnnounce w l
 
--- the read of this number was asked, and the fact holds of what whoever waits for it reads
-abbrev pub IsReadTrue : TcView → ℕ → (Span → Type 0) → Type 0
-IsReadTrue w n P = (n ≤ w.reads) × ((t : ℕ) (o : OpenTxn) (q : Span) → find t w.open_txns ≡ Some o → o.reading ≡ Some (record { number = n; span = q }) → P q)
+-- a session of this number or a later one was begun: its record is stable, and the one that runs is no earlier
+pub record IsBegun (stable session s : ℕ) : Type 0 where
+  pub recorded : s ≤ stable
+  pub most : 0 < session → s ≤ session
+
+-- the fact holds of what whoever waits for the read of this number reads
+abbrev pub IsTrueOfReader : TcView → ℕ → (Span → Type 0) → Type 0
+IsTrueOfReader w n P = (t : ℕ) (o : OpenTxn) (q : Span) → find t w.open_txns ≡ Some o → o.reading ≡ Some (record { number = n; span = q }) → P q
+
+-- the read was asked in a session that was begun; as long as that is the component's, the fact is true of its reader
+pub record IsReadTrue (w : TcView) (s n : ℕ) (P : Span → Type 0) : Type 0 where
+  pub some : 0 < s
+  pub begun : s ≤ w.stable
+  pub asked : s ≡ w.session → n ≤ w.reads
+  pub holds : s ≡ w.session → IsTrueOfReader w n P
 
 -- a request that is answered was performed
 abbrev pub AnsweredAreCaptured : List Record → DcView → Type 0
@@ -68,11 +80,11 @@ pub record InSession (dc : DcView) (s : ℕ) (Holds : Type 0) : Type 0 where
 -- what was sent stands: an operation is that of its record, which is stable, and where its session still runs each
 -- earlier request on its key was performed; where redo was ended all that is answered was performed
 abbrev pub IsSent : TcView → DcView → Request → Type 0
-IsSent w dc (asks.Connect s) = s ≤ w.session
+IsSent w dc (asks.Connect s) = IsBegun w.stable w.session s
 IsSent w dc (asks.Perform s n o) =
     (n ≤ w.stable) × Requests w.log n o × InSession dc s (EarlierAreCaptured w.log dc n (key_of o))
-IsSent w dc (asks.Get s n k) = IsReadTrue w n (λ q. q ≡ Key k)
-IsSent w dc (asks.Scan s n low high) = IsReadTrue w n (λ q. q ≡ Range low high)
+IsSent w dc (asks.Get s n k) = IsReadTrue w s n (λ q. q ≡ Key k)
+IsSent w dc (asks.Scan s n low high) = IsReadTrue w s n (λ q. q ≡ Range low high)
 IsSent w dc (asks.LowWater s l) = IsAnsweredTo w l
 IsSent w dc (asks.Checkpoint s l) = IsAnsweredTo w l
 IsSent w dc (asks.RedoEnd s) = InSession dc s (AnsweredAreCaptured w.log dc)
@@ -104,13 +116,13 @@ abbrev pub AreRows : List Record → List (Bytes × Bytes) → Span → Type 0
 AreRows log rows (Range low high) = AreRowsOf log rows (shared (Range low high))
 AreRows log rows _ = Unit {0}
 
--- what was replied stays true: also a row or rows, while they are waited for
+-- what was replied stays true: also a row or rows, while they are waited for; and that all leaves are low
 abbrev pub IsGiven : TcView → DcView → Reply → Type 0
 IsGiven w dc (says.Connected s) = s ≤ dc.stored
 IsGiven w dc (says.Answered s n a) = IsAnswered w dc s n a
-IsGiven w dc (says.Row s n v) = IsReadTrue w n (IsValue w.log v)
-IsGiven w dc (says.Rows s n rows) = IsReadTrue w n (AreRows w.log rows)
-IsGiven w dc (says.Checkpointed s l) = Unit {0}
+IsGiven w dc (says.Row s n v) = IsReadTrue w s n (IsValue w.log v)
+IsGiven w dc (says.Rows s n rows) = IsReadTrue w s n (AreRows w.log rows)
+IsGiven w dc (says.Checkpointed s l) = IsChecked l dc.system
 IsGiven w dc (says.RedoEnded s) = InSession dc s (dc.redo ≡ false)
 
 -- until redo ends nothing is requested anew
@@ -126,8 +138,8 @@ IsServed (phase.Redoing next ending) s log dc =
     AreBefore log s × (dc.stored ≡ s) × (dc.session ≡ s → AllAreCaptured log dc next)
 IsServed phase.Running s log dc = (dc.stored ≡ s) × (dc.session ≡ s → dc.redo ≡ false)
 
-pub record AreSessions (session : ℕ) (at : Phase) (log : List Record) (dc : DcView) : Type 0 where
-  pub begun : stored_session dc.system.log ≤ session
+pub record AreSessions (stable session : ℕ) (at : Phase) (log : List Record) (dc : DcView) : Type 0 where
+  pub begun : IsBegun stable session (stored_session dc.system.log)
   pub served : IsServed at session log dc
 
 -- the leaves and what outlives them are true to the transactions' log: each leaf, each page and each leaf in a record
@@ -163,4 +175,6 @@ pub record IsKept (w : NodeView) : Type 0 where
   -- 8. what was ever replied stays true
   pub given : AllByRecursion (IsGiven w.tc w.dc) w.replies
   -- 9. the data component has taken only sessions that the other has started, and while clients are served the same
-  pub sessions : AreSessions w.tc.session w.tc.phase w.tc.log w.dc
+  pub sessions : AreSessions w.tc.stable w.tc.session w.tc.phase w.tc.log w.dc
+  -- 10. every leaf, also after any crash, has captured what redo doesn't send again
+  pub checked : IsChecked w.tc.checkpointed w.dc.system

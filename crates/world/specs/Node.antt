@@ -22,11 +22,12 @@ use Rattle.tc_core.specs.declared.told.Told.TheVariants as told
 use Rattle.tc_core.specs.declared.told.UndoStep.TheVariants as undo
 use Rattle.tc_core.specs.declared.told.RecoverStep.TheVariants as recovery
 use Rattle.tc_core.specs.TcView.{TcView, fresh, is_recovering}
-use Rattle.tc_core.specs.Causes.{resend_refusal}
+use Rattle.tc_core.specs.Causes.{resend_refusal, running_refusal}
 use Rattle.tc_core.specs.Calls.{ReconnectGives, BeginGives, ActGives, ReadGives, SaveGives, BackGives, RollbackGives, CommitGives, UndoGives, ForceGives, ResendGives}
 use Rattle.tc_core.specs.Replies.{ReplyGives}
 use Rattle.tc_core.specs.Recovery.{RecoverGives, recover_refusal}
-use Rattle.tc_core.specs.LowWater.{LowWaterGives}
+use Rattle.tc_core.specs.LowWater.{LowWaterGives, RefusesLow, Announces}
+use Rattle.tc_core.specs.Checkpoint.{CheckpointGives}
 use Rattle.world.specs.declared.event.Event.{Event}
 use Rattle.world.specs.declared.event.Event.TheVariants as event
 use Rattle.world.specs.declared.event.Out.{Out}
@@ -142,10 +143,16 @@ SendsTo old t _ new = ⊥
 
 abbrev pub LowersTo : NodeView → ℕ → Out → NodeView → Type 0
 LowersTo old l (out.Sent i) new =
-    LowWaterGives old.tc l (Ok (asks.LowWater old.tc.session l)) × Sends old old.tc (asks.LowWater old.tc.session l) i new
-LowersTo old l (out.Refused r) new =
-    (LowWaterGives old.tc l (Err r) ⊎ (LowWaterGives old.tc l (Ok (asks.LowWater old.tc.session l)) × (r ≡ NoMemory))) × (new ≡ old)
+    LowWaterGives old.tc l (Ok (asks.LowWater old.tc.session l)) new.tc × Sends old new.tc (asks.LowWater old.tc.session l) i new
+LowersTo old l (out.Refused r) new = (RefusesLow old.tc l r ⊎ (Announces old.tc l × (r ≡ NoMemory))) × (new ≡ old)
 LowersTo old l _ new = ⊥
+
+abbrev pub AsksCheckpoint : NodeView → Out → NodeView → Type 0
+AsksCheckpoint old (out.Sent i) new =
+    CheckpointGives old.tc (Ok (asks.Checkpoint old.tc.session old.tc.announced)) new.tc
+    × Sends old new.tc (asks.Checkpoint old.tc.session old.tc.announced) i new
+AsksCheckpoint old (out.Refused r) new = LacksRoom (running_refusal old.tc) true r × (new ≡ old)
+AsksCheckpoint old _ new = ⊥
 
 -- there is no message of this number
 abbrev pub IsUnsent : {A : Type 0} → List A → ℕ → Refusal → Type 0
@@ -234,6 +241,7 @@ as_out (told.Answered t a) = out.Answered t a
 as_out (told.Row t v) = out.Row t v
 as_out (told.Rows t rows) = out.Rows t rows
 as_out (told.Undone n) = out.Undone n
+as_out (told.CheckpointLogged n) = out.CheckpointLogged n
 
 -- the reply of this number reaches the transaction component
 pub record Taken (old : NodeView) (i : ℕ) (output : Out) (new : NodeView) : Type 0 where
@@ -271,6 +279,7 @@ StepsTo old (event.Undo t) output new = UndoesTo old t output new
 StepsTo old event.Force output new = ForcesTo old output new
 StepsTo old (event.Send t) output new = SendsTo old t output new
 StepsTo old (event.LowWater l) output new = LowersTo old l output new
+StepsTo old event.Checkpoint output new = AsksCheckpoint old output new
 StepsTo old (event.Split k) output new = IfUp old output new (PartsTo old k output new)
 StepsTo old (event.Merge k) output new = IfUp old output new (JoinsTo old k output new)
 StepsTo old event.Tend output new = IfUp old output new (KeepsUpTo old output new)

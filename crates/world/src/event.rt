@@ -56,6 +56,8 @@ pub enum Event {
     LowWater {
         low: u64,
     },
+    /// The data component is asked to write all that is answered up to the greatest announced number.
+    Checkpoint,
     /// The leaf that has the key is split.
     Split {
         key: Key,
@@ -120,6 +122,8 @@ pub enum Out {
     Row { txn: u64, value: Option<Value> },
     Rows { txn: u64, rows: Rows },
     Undone(u64),
+    /// A Checkpoint record was logged under this number.
+    CheckpointLogged(u64),
     /// A leaf was split: its number, and that of the new one.
     Split(Neighbours),
     /// A leaf took in the one after it, which is gone.

@@ -1,6 +1,6 @@
 //! The two components, and the messages between them.
 ghost use Rattle.std.specs.Prelude.{◌≡◌, true, IfOk, IfErr};
-ghost use Rattle.world.specs.Node.{fresh_node, StepsTo, out_of, ReconnectsTo, RecoversTo, BeginsTo, ActsTo, ReadsTo, SavesTo, GoesBackTo, RollsBackTo, CommitsTo, UndoesTo, ForcesTo, SendsTo, LowersTo, ServesTo, TakesTo, IfUp, PartsTo, JoinsTo, KeepsUpTo, WritesTo, CrashesDcTo, RestartsDcTo, as_out, is_replied_to};
+ghost use Rattle.world.specs.Node.{fresh_node, StepsTo, out_of, ReconnectsTo, RecoversTo, BeginsTo, ActsTo, ReadsTo, SavesTo, GoesBackTo, RollsBackTo, CommitsTo, UndoesTo, ForcesTo, SendsTo, LowersTo, AsksCheckpoint, ServesTo, TakesTo, IfUp, PartsTo, JoinsTo, KeepsUpTo, WritesTo, CrashesDcTo, RestartsDcTo, as_out, is_replied_to};
 ghost use Rattle.dc_core.specs.Kept.{IsDc};
 ghost use Rattle.world.specs.Kept.{IsKept};
 ghost use Rattle.world.specs.Seen.{seen};
@@ -76,6 +76,7 @@ impl Node {
             Event::Force => self.force(),
             Event::Send { txn } => self.send(*txn),
             Event::LowWater { low } => self.low_water(*low),
+            Event::Checkpoint => self.checkpoint(),
             Event::Split { key } => self.split(key),
             Event::Merge { key } => self.merge(key),
             Event::Tend => self.tend(),
@@ -197,8 +198,21 @@ impl Node {
         ensures done { LowersTo (seen self.old) low (out_of result) (seen self.new) }
     {
         self.tc.kept();
+        self.tc.can_announce(low)?;
+        self.requests.make_room()?;
         let request = self.tc.low_water(low)?;
-        self.requests.push(&request)?;
+        self.requests.push_reserved(&request);
+        Ok(Out::Sent(self.requests.len()))
+    }
+
+    fn checkpoint(&mut self) -> Result<Out, Refusal>
+        ensures done { AsksCheckpoint (seen self.old) (out_of result) (seen self.new) }
+    {
+        self.tc.kept();
+        self.tc.can_checkpoint()?;
+        self.requests.make_room()?;
+        let request = self.tc.checkpoint()?;
+        self.requests.push_reserved(&request);
         Ok(Out::Sent(self.requests.len()))
     }
 
@@ -316,5 +330,6 @@ fn out_of_told(told: Told) -> Out
         Told::Row { txn, value } => Out::Row { txn, value },
         Told::Rows { txn, rows } => Out::Rows { txn, rows },
         Told::Undone(number) => Out::Undone(number),
+        Told::CheckpointLogged(number) => Out::CheckpointLogged(number),
     }
 }

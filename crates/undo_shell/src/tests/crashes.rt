@@ -427,3 +427,48 @@ fn all_bytes_of_a_split_are_kept(rt: HostRuntime) {
         rows 2\n";
     assert_run(&rt, script, text, 0);
 }
+
+#[test]
+fn checkpoint_and_redo(rt: HostRuntime) {
+    let script = "\
+        settle\n\
+        begin t\n\
+        insert t k v\n\
+        force\n\
+        low 3\n\
+        settle\n\
+        low 4\n\
+        req 4\n\
+        checkpoint\n\
+        req 5\n\
+        rep 4\n\
+        crash dc 0 0\n\
+        settle\n\
+        table\n\
+        log\n";
+    let text = "\
+        settled\n\
+        txn 2\n\
+        logged 3\n\
+        stable 3\n\
+        no 15 BeyondStable\n\
+        answer 2 inserted\n\
+        settled\n\
+        request 4\n\
+        noted\n\
+        request 5\n\
+        reply 4\n\
+        checkpoint logged 5\n\
+        down\n\
+        settled\n\
+        k=v\n\
+        rows 1\n\
+        1 session\n\
+        2 begin\n\
+        3 op 2 prev 0 insert k v\n\
+        4 answer 3 inserted\n\
+        5 checkpoint 4\n\
+        6 session\n\
+        records 6 stable 6\n";
+    assert_run(&rt, script, text, 0);
+}

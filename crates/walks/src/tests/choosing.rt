@@ -148,7 +148,7 @@ impl Chooser {
     /// Any event.
     pub fn any(&mut self, model: &Model, world: &World) -> Result<Event, Refusal> {
         let txn = self.txn;
-        Ok(match self.below(224) {
+        Ok(match self.below(226) {
             0..=79 => Event::Request {
                 number: self.earlier(world.requests()),
             },
@@ -168,6 +168,7 @@ impl Chooser {
             188..=207 => self.tree()?,
             208 | 209 => self.crash(),
             210 | 211 => Event::RestartDc,
+            212 | 213 => Event::Checkpoint,
             _ => self.call(model)?,
         })
     }

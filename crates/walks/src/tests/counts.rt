@@ -22,6 +22,7 @@ pub struct Counts {
     splits: u64,
     merges: u64,
     flushes: u64,
+    checkpoints: u64,
     crashes: u64,
     restarts: u64,
 }
@@ -44,6 +45,7 @@ impl Counts {
             splits: 0,
             merges: 0,
             flushes: 0,
+            checkpoints: 0,
             crashes: 0,
             restarts: 0,
         }
@@ -65,6 +67,7 @@ impl Counts {
             Out::Split(_) => more(&mut self.splits, 1),
             Out::Merged(_) => more(&mut self.merges, 1),
             Out::Flushed(_) => more(&mut self.flushes, 1),
+            Out::CheckpointLogged(_) => more(&mut self.checkpoints, 1),
             Out::Down => more(&mut self.crashes, 1),
             Out::Up(_) => more(&mut self.restarts, 1),
             Out::Refused(refusal) => self.count_refusal(*refusal, committing),
@@ -113,6 +116,7 @@ impl Counts {
         assert!(rt; self.splits > 10, "{self:?}");
         assert!(rt; self.merges > 10, "{self:?}");
         assert!(rt; self.flushes > 10, "{self:?}");
+        assert!(rt; self.checkpoints > 0, "{self:?}");
         assert!(rt; self.crashes > 5, "{self:?}");
         assert!(rt; self.restarts > 5, "{self:?}");
     }

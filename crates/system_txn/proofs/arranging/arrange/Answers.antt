@@ -1,4 +1,4 @@
-use Rattle.std.proofs.Common.{◌≡◌, ◌∙◌, ℕ, suc, ◌+◌, true, None, false, List, Box, Option, length, sym, ap, subst, get_or, arith, rules}
+use Rattle.std.proofs.Common.{◌≡◌, ◌∙◌, ℕ, suc, ◌+◌, true, None, false, List, Box, sym, ap, subst, get_or, arith, rules}
 use Rattle.std.specs.declared.alloc.Global.{Global}
 use Rattle.std.proofs.lemmas.Fn.{always_returns_same}
 use Rattle.btree.specs.Lists.{leaves_in}

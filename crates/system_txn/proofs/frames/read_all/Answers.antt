@@ -1,4 +1,4 @@
-use Rattle.std.proofs.Common.{◌≡◌, ◌∙◌, ℕ, ◌+◌, List, ◌++◌, Err, ap, inl, inr, append-nil}
+use Rattle.std.proofs.Common.{◌≡◌, ◌∙◌, ℕ, List, ◌++◌, Err, ap, inl, inr, append-nil}
 use Rattle.std.specs.FinMap as table
 use Rattle.std.proofs.lemmas.Result.{err_from_is_err_and}
 use Rattle.record_key.specs.declared.refusal.Refusal.{Refusal}

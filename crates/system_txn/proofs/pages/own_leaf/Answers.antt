@@ -1,4 +1,4 @@
-use Rattle.std.proofs.Common.{◌∙◌, Some, ap, sym, inl, inr, arith, refl}
+use Rattle.std.proofs.Common.{◌∙◌, Some, ap, sym, inr, arith, refl}
 use Rattle.page.specs.Leaf.{LeafView}
 use Rattle.system_txn.proofs.PageReading.{image_page, own_page, no_image, other_image}
 use Rattle.system_txn.proofs.pages.own_leaf.Goals as goal

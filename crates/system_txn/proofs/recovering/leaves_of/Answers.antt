@@ -1,14 +1,11 @@
-use Rattle.std.proofs.Common.{◌≡◌, ℕ, List, Box, length, reverse, sym, subst, inl, inr, arith}
+use Rattle.std.proofs.Common.{◌≡◌, List, Box, length, reverse, sym, subst, inr, arith}
 use Rattle.std.specs.declared.alloc.Global.{Global}
 use Rattle.std.proofs.lemmas.List.{length-reverse}
 use Rattle.btree.specs.Lists.{leaves_in}
 use Rattle.codec.specs.declared.dc_record.DcRecord.{DcRecord}
 use Rattle.page.specs.Leaf.{LeafView}
 use Rattle.stable.specs.PagesState.{Pages}
-use Rattle.recovery_laws.specs.Laws.{IsArranged}
 use Rattle.system_txn.specs.Arranging.{AreApart, IsArrangement}
-use Rattle.system_txn.specs.Devices.{pages_of}
-use Rattle.system_txn.specs.Recovering.{AreOwnPages}
 use Rattle.system_txn.proofs.Gathered.{IsGathered, gathers, gathered_apart, gathered_row, gathered_none}
 use Rattle.system_txn.proofs.Found.{pages_refused}
 use Rattle.system_txn.proofs.recovering.leaves_of.Goals as goal

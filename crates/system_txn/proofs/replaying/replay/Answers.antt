@@ -1,9 +1,8 @@
-use Rattle.std.proofs.Common.{◌≡◌, ◌∙◌, ℕ, ◌+◌, ◌<◌, ◌≤◌, List, [], ◌∷◌, length, reverse, vec_len, ap, sym, subst, arith}
+use Rattle.std.proofs.Common.{◌≡◌, ◌+◌, ◌≤◌, List, [], length, reverse, vec_len, sym, subst, arith}
 use Rattle.std.specs.FinMap as table
 use Rattle.std.proofs.lemmas.List.{nil_from_length}
 use Rattle.std.specs.Vec.Iter.{into_iter_items}
 use Rattle.codec.specs.declared.dc_record.DcRecord.{DcRecord}
-use Rattle.recovery_laws.specs.Shape.{named}
 use Rattle.system_txn.specs.Devices.{pages_of}
 use Rattle.system_txn.proofs.Knowing.{first_named}
 use Rattle.system_txn.proofs.Replayed.{FitsPlaces, IsReplayed, first_replayed, with_next, next_number, next_replayed, next_has_places, all_replayed}

@@ -1,6 +1,4 @@
-use Rattle.std.proofs.Common.{◌≡◌, ℕ, ◌+◌, ◌-◌, ◌≤◌, length, min, ap, ◌∙◌, arith}
-use Rattle.recovery_laws.specs.Shape.{beginning}
-use Rattle.system_txn.specs.Devices.{spelled}
+use Rattle.std.proofs.Common.{arith}
 use Rattle.world.proofs.Ends.{spelled_longer}
 use Rattle.world.proofs.crashing.kept_of.Goals as goal
 

@@ -4,7 +4,7 @@ use Rattle.world.specs.declared.event.Event.TheVariants as event
 use Rattle.world.specs.declared.event.Out.{Out}
 use Rattle.world.specs.declared.event.Out.TheVariants as out
 use Rattle.world.specs.Node.{NodeView, StepsTo}
-use Rattle.world.specs.Rounds.{IsDone, IsExchange}
+use Rattle.world.specs.Rounds.{IsDone}
 use Rattle.world.proofs.Exchanges.{replied_once}
 use Rattle.world.proofs.Replied.{request_replied}
 use Rattle.world.proofs.settling.play.Goals as goal

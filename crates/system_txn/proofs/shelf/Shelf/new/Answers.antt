@@ -1,4 +1,4 @@
-use Rattle.std.proofs.Common.{◌≡◌, ℕ, ◌∙◌, ap, subst, List, None, arith}
+use Rattle.std.proofs.Common.{◌∙◌, ap, List, arith}
 use Rattle.system_txn.specs.Shelf.{Slot, leaf_on}
 use Rattle.system_txn.proofs.Shelves.{none_more}
 use Rattle.system_txn.proofs.shelf.Shelf.new.Goals as goal

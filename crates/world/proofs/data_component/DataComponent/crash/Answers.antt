@@ -1,4 +1,4 @@
-use Rattle.std.proofs.Common.{◌≡◌, refl, ap, subst}
+use Rattle.std.proofs.Common.{refl, ap, subst}
 use Rattle.std.specs.Prelude.{false, true}
 use Rattle.dc_core.specs.DcView.{DcView}
 use Rattle.world.specs.Component.{ComponentView, CrashesTo}

@@ -1,4 +1,4 @@
-use Rattle.std.proofs.Common.{◌≡◌, ◌∙◌, ◌+◌, length, sym, ap, arith}
+use Rattle.std.proofs.Common.{length, ap, arith}
 use Rattle.recovery_laws.specs.Shape.{beginning}
 use Rattle.stable.specs.LogState.{LogState}
 use Rattle.world.proofs.Downs.{IsStopped, IsCrash, log_length, crash_of, same_pages, crash_leaves, crash_is, crash_found}

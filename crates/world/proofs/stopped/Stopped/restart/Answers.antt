@@ -1,7 +1,6 @@
 use Rattle.std.proofs.Common.{◌∙◌, sym, subst}
 use Rattle.system_txn.specs.Kept.{IsRecoverable}
 use Rattle.dc_core.specs.DcView.{DcView}
-use Rattle.record_key.specs.declared.refusal.Refusal.{Refusal}
 use Rattle.world.specs.Component.{found_on, IsDownWith}
 use Rattle.world.proofs.Downs.{opened_is, down_with, down_kept}
 use Rattle.world.proofs.stopped.Stopped.restart.Goals as goal

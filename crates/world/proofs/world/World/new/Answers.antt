@@ -1,10 +1,8 @@
 use Rattle.std.proofs.Common.{sym, subst}
 use Rattle.history.specs.ListMachine.{fresh}
-use Rattle.dc_core.specs.DcView.{DcView}
 use Rattle.dc_core.specs.Kept.{IsDc}
 use Rattle.world.specs.Kept.{IsKept}
-use Rattle.world.specs.Node.{NodeView, fresh_node}
-use Rattle.world.specs.Seen.{seen}
+use Rattle.world.specs.Node.{NodeView}
 use Rattle.world.specs.Simulation.{Stands}
 use Rattle.world.proofs.Headline.{kept_fresh, fresh_stands_for}
 use Rattle.world.proofs.world.World.new.Goals as goal

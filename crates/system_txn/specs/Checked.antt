@@ -1,0 +1,15 @@
+-- What a checkpoint has done for good: no leaf, now or recovered after a crash, has a low number below it.
+use Rattle.std.specs.Prelude.{ℕ}
+use Rattle.std.specs.List.{AllByRecursion}
+use Rattle.recovery_laws.specs.Ready.{IsLow, IsReady}
+use Rattle.system_txn.specs.Devices.{pages_of}
+use Rattle.system_txn.specs.SystemView.{SystemView}
+
+-- each leaf has a low number of at least this, and so has what recovery takes leaves from, wherever a crash ends the log
+pub record IsChecked (l : ℕ) (v : SystemView) : Type 0 where
+  pub leaves : AllByRecursion (IsLow l) v.leaves
+  pub ready : IsReady (IsLow l) (pages_of v.pages) v.log v.stable
+
+-- whatever was checked stays so
+abbrev pub Checks : SystemView → SystemView → Type 0
+Checks old new = (l : ℕ) → IsChecked l old → IsChecked l new
