@@ -69,13 +69,11 @@ impl Client {
     }
 
     pub fn roll_back(&mut self) -> Result<(), Refusal> {
-        self.call(&Event::Rollback { txn: self.txn })?;
-        self.lower()
+        self.call(&Event::Rollback { txn: self.txn })
     }
 
     pub fn commit(&mut self) -> Result<(), Refusal> {
-        self.call(&Event::Commit { txn: self.txn })?;
-        self.lower()
+        self.call(&Event::Commit { txn: self.txn })
     }
 
     /// The rows, in key order.
@@ -99,7 +97,7 @@ impl Client {
     }
 
     /// The data component may forget the answers up to the stable end: nothing is sent again.
-    fn lower(&mut self) -> Result<(), Refusal> {
+    pub fn lower(&mut self) -> Result<(), Refusal> {
         let low = self.world.stable_end();
         self.step(&Event::LowWater { low })?;
         let number = self.world.requests();

@@ -93,6 +93,7 @@ impl Work {
                 self.upsert(number, mix(number))?;
             }
             self.client.commit()?;
+            self.client.lower()?;
         }
         Ok(())
     }
@@ -114,7 +115,7 @@ impl Work {
             }
             self.one(place, at)?;
             if self.place_in_transaction(place + 1) == 0 {
-                self.end()?;
+                self.end(place + 1)?;
             }
         }
         Ok(())
@@ -127,10 +128,23 @@ impl Work {
         }
     }
 
-    fn end(&mut self) -> Result<(), Refusal> {
+    /// Ends the transaction; so many operations are done.
+    fn end(&mut self, count: u64) -> Result<(), Refusal> {
         match self.workload {
-            Workload::Rollbacks => self.client.roll_back(),
-            _ => self.client.commit(),
+            Workload::Rollbacks => self.client.roll_back()?,
+            _ => self.client.commit()?,
+        }
+        if self.announces(count) {
+            self.client.lower()?;
+        }
+        Ok(())
+    }
+
+    /// A low number raises every leaf, so where there are many it is announced at each thousandth operation only.
+    fn announces(&self, count: u64) -> bool {
+        match self.workload {
+            Workload::Rising | Workload::Scattered => count % 1_000 == 0,
+            _ => true,
         }
     }
 

@@ -12,6 +12,7 @@ use Rattle.system_txn.specs.Kept.{IsRecoverable}
 use Rattle.system_txn.specs.declared.tended.Neighbours.{Neighbours}
 use Rattle.system_txn.specs.declared.tended.Tended.{Tended}
 use Rattle.system_txn.proofs.Checked as systems
+use Rattle.system_txn.proofs.Checkpointed.{checkpoint_reaches}
 use Rattle.dc_core.specs.DcView.{DcView, fresh, captures_at}
 use Rattle.dc_core.specs.Kept.{IsDc}
 use Rattle.dc_core.specs.Serves.{runs, serve_refusal, Serves, Stops, StopsUnless, ServeGives}
@@ -33,18 +34,18 @@ served old (asks.Connect s) reply new h gives =
       | inl again ↦ same old new (MatchBool-at_true _ _ again gives.1)
       | inr begun ↦
           subst (StaysChecked old) (sym (MatchBool-at_false _ _ begun gives.1))
-          (systems.accepted_checked old.system s h)
+          (systems.session_checked old.system s h)
     ]
 served old (asks.Perform s n o) reply new h gives =
     elim (cases_Bool (captures_at old (key_of o) n)) [
       | inl again ↦ same old new (MatchBool-at_true _ _ again gives).1
       | inr out ↦
-          subst (StaysChecked old) (sym (MatchBool-at_false _ _ out gives).1) (systems.checked_performed old.system n o)
+          subst (StaysChecked old) (sym (MatchBool-at_false _ _ out gives).1) (systems.performed_checked old.system n o)
     ]
 served old (asks.Get s r k) reply new h gives = same old new gives.1
 served old (asks.Scan s r lo hi) reply new h gives = same old new gives.1
 served old (asks.LowWater s l) reply new h gives =
-    subst (StaysChecked old) (sym gives.1) (systems.checked_lowered old.system l)
+    subst (StaysChecked old) (sym gives.1) (systems.lowered_checked old.system l)
 served old (asks.Checkpoint s l) reply new h gives =
     systems.checked_checkpoint old.system l (Ok tt) new.system h gives.1
 served old (asks.RedoEnd s) reply new h gives = subst (StaysChecked old) (sym gives.1) (λ l c. c)
@@ -98,9 +99,9 @@ checked_flush old k given new kept h gives =
 -- ---- where a number is checked first
 
 pub fresh_checked : (failures : ℕ) → IsChecked 0 (fresh failures).system
-fresh_checked failures = systems.checked_fresh failures
+fresh_checked failures = systems.fresh_checked failures
 
 -- from the reply on
 pub checkpoint_checked : (old : DcView) (s l : ℕ) (reply : Option Reply) (new : DcView) → IsDc old
     → IsRecoverable old.system → Serves old (asks.Checkpoint s l) reply new → IsChecked l new.system
-checkpoint_checked old s l reply new kept h gives = systems.checkpoint_reaches old.system l new.system h gives.1
+checkpoint_checked old s l reply new kept h gives = checkpoint_reaches old.system l new.system h gives.1

@@ -30,37 +30,46 @@ use Rattle.dc_core.specs.Kept.{IsDc, Saves, IsListed, AreListed}
 use Rattle.dc_core.proofs.Stored.{stored_all}
 
 -- what two facts give at each element
-pub all_both : {X : Type 0} (P Q R : X → Type 0) → ((x : X) → P x → Q x → R x) → (xs : List X) → AllByRecursion P xs → AllByRecursion Q xs → AllByRecursion R xs
+pub all_both : {X : Type 0} (P Q R : X → Type 0) → ((x : X) → P x → Q x → R x) → (xs : List X) → AllByRecursion P xs
+    → AllByRecursion Q xs → AllByRecursion R xs
 all_both P Q R from [] all also = tt
 all_both P Q R from (x ∷ xs) all also = (from x all.0 also.0, all_both P Q R from xs all.1 also.1)
 
 -- ---- the leaves and their devices change, and the records stay
 
+-- the leaf of the performance's key has captured its number
+abbrev pub IsCaptured : List LeafView → Performance → Type 0
+IsCaptured ls p = captures (leaf_at ls (key_of p.op)).ab p.number ≡ true
+
+-- an entry of the performance's number has its key and its answer, in whichever leaf
+abbrev pub AllSave : List LeafView → Performance → Type 0
+AllSave ls p = AllByRecursion (λ (leaf : LeafView). AllByRecursion (Saves p) leaf.ab.entries) ls
+
 -- no performance is lost at its key, and what is saved is still listed
 pub record Carries (w : DcView) (v : SystemView) : Type 0 where
   pub rows : rows_of v.leaves ≡ rows_of (leaves w)
-  pub captured : (p : Performance) → captures_at w (key_of p.op) p.number ≡ true
-      → AllByRecursion (λ (leaf : LeafView). AllByRecursion (Saves p) leaf.ab.entries) (leaves w)
-      → captures (leaf_at v.leaves (key_of p.op)).ab p.number ≡ true
+  pub captured : (p : Performance) → IsCaptured (leaves w) p → AllSave (leaves w) p → IsCaptured v.leaves p
   pub saved : AllByRecursion (AreListed w.performed) v.leaves
   pub stored : stored_session (beginning w.system.log w.system.stable) ≤ stored_session (beginning v.log v.stable)
 
 -- what each entry says of all performances, each performance says of all entries
-saves_of : (ps : List Performance) (es : List Entry) → AllByRecursion (IsListed ps) es → AllByRecursion (λ (p : Performance). AllByRecursion (Saves p) es) ps
+saves_of : (ps : List Performance) (es : List Entry) → AllByRecursion (IsListed ps) es
+    → AllByRecursion (λ (p : Performance). AllByRecursion (Saves p) es) ps
 saves_of [] es all = tt
-saves_of (p ∷ ps) es all =
-    (all_from (IsListed (p ∷ ps)) (Saves p) (λ e listed. listed.0) es all, saves_of ps es (all_from (IsListed (p ∷ ps)) (IsListed ps) (λ e listed. listed.1) es all))
+saves_of (p ∷ ps) es all = (
+  all_from (IsListed (p ∷ ps)) (Saves p) (λ e listed. listed.0) es all,
+  saves_of ps es (all_from (IsListed (p ∷ ps)) (IsListed ps) (λ e listed. listed.1) es all),
+)
 
 all_save : (ps : List Performance) (ls : List LeafView) → AllByRecursion (AreListed ps) ls
-    → AllByRecursion (λ (p : Performance). AllByRecursion (λ (leaf : LeafView). AllByRecursion (Saves p) leaf.ab.entries) ls) ps
+    → AllByRecursion (AllSave ls) ps
 all_save ps [] all = each ps
   where
-    each : (ps : List Performance) → AllByRecursion (λ (p : Performance). AllByRecursion (λ (leaf : LeafView). AllByRecursion (Saves p) leaf.ab.entries) []) ps
+    each : (ps : List Performance) → AllByRecursion (AllSave []) ps
     each [] = tt
     each (p ∷ ps) = (tt, each ps)
 all_save ps (leaf ∷ ls) all =
-    all_both (λ (p : Performance). AllByRecursion (Saves p) leaf.ab.entries) (λ (p : Performance). AllByRecursion (λ (leaf : LeafView). AllByRecursion (Saves p) leaf.ab.entries) ls)
-    (λ (p : Performance). AllByRecursion (λ (leaf : LeafView). AllByRecursion (Saves p) leaf.ab.entries) (leaf ∷ ls))
+    all_both (λ (p : Performance). AllByRecursion (Saves p) leaf.ab.entries) (AllSave ls) (AllSave (leaf ∷ ls))
     (λ p here later. (here, later)) ps (saves_of ps leaf.ab.entries all.0) (all_save ps ls all.1)
 
 pub keeps_carried : (w : DcView) (v : SystemView) → IsDc w → IsSystem v → Carries w v → IsDc (with_system w v)
@@ -68,9 +77,9 @@ keeps_carried w v k is c = record {
   system = is;
   rows = c.rows ∙ k.rows;
   once = k.once;
-  captured = all_both (λ (p : Performance). captures_at w (key_of p.op) p.number ≡ true)
-      (λ (p : Performance). AllByRecursion (λ (leaf : LeafView). AllByRecursion (Saves p) leaf.ab.entries) (leaves w))
-      (λ (p : Performance). captures (leaf_at v.leaves (key_of p.op)).ab p.number ≡ true) c.captured w.performed k.captured (all_save w.performed (leaves w) k.saved);
+  captured =
+      all_both (IsCaptured (leaves w)) (AllSave (leaves w)) (IsCaptured v.leaves) c.captured w.performed k.captured
+      (all_save w.performed (leaves w) k.saved);
   saved = c.saved;
   session = k.session;
   stored = omega (arith, k.stored, c.stored);
@@ -88,10 +97,16 @@ same_leaves w v k same stored = record {
 
 -- ---- a new number
 
-module _ (w : DcView) (n : ℕ) (o : Op) (k : IsDc w) (key : KeepsKey w n (key_of o)) (out : captures_at w (key_of o) n ≡ false) where
-  apart : AllByRecursion (λ (q : Performance). q.number ≢ n) w.performed
-  apart = all_both (λ (q : Performance). captures_at w (key_of q.op) q.number ≡ true) (λ (q : Performance). q.number ≡ n → key_of q.op ≡ key_of o) (λ (q : Performance). q.number ≢ n)
-      (λ q was on same. true≢false (sym was ∙ ap (λ (z : Bytes). captures_at w z q.number) (on same) ∙ ap (captures_at w (key_of o)) same ∙ out)) w.performed k.captured key.listed
+module _ (w : DcView) (n : ℕ) (o : Op) (k : IsDc w) (key : KeepsKey w n (key_of o))
+    (out : captures_at w (key_of o) n ≡ false) where
+  abbrev IsOther : Performance → Type 0
+  IsOther q = q.number ≢ n
+
+  apart : AllByRecursion IsOther w.performed
+  apart =
+      all_both (IsCaptured (leaves w)) (λ (q : Performance). q.number ≡ n → key_of q.op ≡ key_of o) IsOther
+      (λ q was on same. true≢false (sym was ∙ ap (λ (z : Bytes). captures_at w z q.number) (on same)
+      ∙ ap (captures_at w (key_of o)) same ∙ out)) w.performed k.captured key.listed
 
   abbrev now : Performance
   now = record { number = n; op = o; answer = answer_in (leaf_at (leaves w) (key_of o)).rows o }
@@ -103,36 +118,51 @@ module _ (w : DcView) (n : ℕ) (o : Op) (k : IsDc w) (key : KeepsKey w n (key_o
   abbrev IsOwn : LeafView → Type 0
   IsOwn leaf = (q : Bytes) → is_in_fences leaf q ≡ true → leaf_at (leaves w) q ≡ leaf
 
-  entry_apart : (leaf : LeafView) → IsOwn leaf → IsLeaf leaf → AllByRecursion (λ (e : Entry). e.number ≡ n → e.key ≡ key_of o) leaf.ab.entries → IsApart leaf
-  entry_apart leaf own kept keys = by leaf.ab.entries (λ there. or_right (nat_le n leaf.ab.low) (stands_in leaf.ab.entries n) there) kept.entries keys
+  abbrev IsOwnLeaf : LeafView → Type 0
+  IsOwnLeaf leaf = IsOwn leaf × IsLeaf leaf
+
+  -- where it stood, it would be on the key
+  abbrev IsOn : Entry → Type 0
+  IsOn e = e.number ≡ n → e.key ≡ key_of o
+
+  entry_apart : (leaf : LeafView) → IsOwn leaf → IsLeaf leaf → AllByRecursion IsOn leaf.ab.entries → IsApart leaf
+  entry_apart leaf own kept keys =
+      by leaf.ab.entries (λ there. or_right (nat_le n leaf.ab.low) (stands_in leaf.ab.entries n) there) kept.entries
+      keys
     where
-      by : (es : List Entry) → (stands_in es n ≡ true → captures leaf.ab n ≡ true) → AllByRecursion (λ (e : Entry). is_in_fences leaf e.key ≡ true) es
-          → AllByRecursion (λ (e : Entry). e.number ≡ n → e.key ≡ key_of o) es → AllByRecursion (λ (e : Entry). n ≢ e.number) es
+      by : (es : List Entry) → (stands_in es n ≡ true → captures leaf.ab n ≡ true)
+          → AllByRecursion (λ (e : Entry). is_in_fences leaf e.key ≡ true) es → AllByRecursion IsOn es
+          → AllByRecursion (λ (e : Entry). n ≢ e.number) es
       by [] there inside on = tt
       by (e ∷ es) there inside on = (
         λ same.
             true≢false (sym (there (or_left (n == e.number) (stands_in es n) (eq-eqb n e.number same)))
-            ∙ ap (λ (l : LeafView). captures l.ab n) (sym (own e.key inside.0)) ∙ ap (λ (z : Bytes). captures_at w z n) (on.0 (sym same)) ∙ out),
+            ∙ ap (λ (l : LeafView). captures l.ab n) (sym (own e.key inside.0))
+            ∙ ap (λ (z : Bytes). captures_at w z n) (on.0 (sym same)) ∙ out),
         by es (λ later. there (or_right (n == e.number) (stands_in es n) later)) inside.1 on.1,
       )
 
   all_apart : AllByRecursion IsApart (leaves w)
   all_apart =
-      all_both (λ (leaf : LeafView). IsOwn leaf × IsLeaf leaf) (λ (leaf : LeafView). AllByRecursion (λ (e : Entry). e.number ≡ n → e.key ≡ key_of o) leaf.ab.entries) IsApart
+      all_both IsOwnLeaf (λ (leaf : LeafView). AllByRecursion IsOn leaf.ab.entries) IsApart
       (λ leaf is keys. entry_apart leaf is.0 is.1 keys) (leaves w)
-      (all_both IsOwn IsLeaf (λ (leaf : LeafView). IsOwn leaf × IsLeaf leaf) (λ leaf own kept. (own, kept)) (leaves w) (own_leaves (leaves w) k.system.leaves) k.system.leaves.each)
+      (all_both IsOwn IsLeaf IsOwnLeaf (λ leaf own kept. (own, kept)) (leaves w)
+      (own_leaves (leaves w) k.system.leaves) k.system.leaves.each)
       key.saved
 
   saved_old : AllByRecursion (AreListed (now ∷ w.performed)) (leaves w)
   saved_old =
       all_both IsApart (AreListed w.performed) (AreListed (now ∷ w.performed))
-      (λ leaf other listed. all_both (λ (e : Entry). n ≢ e.number) (IsListed w.performed) (IsListed (now ∷ w.performed)) (λ e no was. (λ same. absurd (no same), was)) leaf.ab.entries other listed)
+      (λ leaf other listed.
+      all_both (λ (e : Entry). n ≢ e.number) (IsListed w.performed) (IsListed (now ∷ w.performed))
+      (λ e no was. (λ same. absurd (no same), was)) leaf.ab.entries other listed)
       (leaves w) all_apart k.saved
 
   saved_new : IsListed (now ∷ w.performed) (record { number = n; key = key_of o; answer = now.answer })
   saved_new = (
     λ same. (refl, refl),
-    all_from (λ (q : Performance). q.number ≢ n) (λ (q : Performance). q.number ≡ n → (key_of q.op ≡ key_of o) × (q.answer ≡ now.answer)) (λ q other same. absurd (other same)) w.performed apart,
+    all_from IsOther (λ (q : Performance). q.number ≡ n → (key_of q.op ≡ key_of o) × (q.answer ≡ now.answer))
+        (λ q other same. absurd (other same)) w.performed apart,
   )
 
   pub keeps_performed : IsSystem (performs w n o).system → IsDc (performs w n o)
@@ -144,7 +174,8 @@ module _ (w : DcView) (n : ℕ) (o : Op) (k : IsDc w) (key : KeepsKey w n (key_o
       captured_performed (leaves w) k.system.leaves n o,
       all_both (λ (q : Performance). q.number ≢ n) (λ (q : Performance). captures_at w (key_of q.op) q.number ≡ true)
           (λ (q : Performance). captures_at (performs w n o) (key_of q.op) q.number ≡ true)
-          (λ q other was. captured_not_performed (leaves w) k.system.leaves n o (key_of q.op) q.number other ∙ was) w.performed apart k.captured,
+          (λ q other was. captured_not_performed (leaves w) k.system.leaves n o (key_of q.op) q.number other ∙ was)
+          w.performed apart k.captured,
     );
     saved = entries_performed (IsListed (now ∷ w.performed)) (leaves w) n o saved_new saved_old;
     session = k.session;
@@ -153,10 +184,14 @@ module _ (w : DcView) (n : ℕ) (o : Op) (k : IsDc w) (key : KeepsKey w n (key_o
 
 -- ---- what performing leaves is that
 
-pub is_performed : (w : DcView) (n : ℕ) (o : Op) (a : Answer) (v : SystemView) (ps : List Performance) → ps ≡ record { number = n; op = o; answer = a } ∷ w.performed
-    → a ≡ answer_in (leaf_at (leaves w) (key_of o)).rows o → v ≡ record w.system { leaves = performed_at (leaves w) n o } → record w { system = v; performed = ps } ≡ performs w n o
+pub is_performed : (w : DcView) (n : ℕ) (o : Op) (a : Answer) (v : SystemView) (ps : List Performance)
+    → ps ≡ record { number = n; op = o; answer = a } ∷ w.performed
+    → a ≡ answer_in (leaf_at (leaves w) (key_of o)).rows o
+    → v ≡ record w.system { leaves = performed_at (leaves w) n o }
+    → record w { system = v; performed = ps } ≡ performs w n o
 is_performed w n o a v ps noted answer left =
-    let listed : ps ≡ (performs w n o).performed = noted ∙ ap (λ (b : Answer). record { number = n; op = o; answer = b } ∷ w.performed) answer in
+    let listed : ps ≡ (performs w n o).performed =
+    noted ∙ ap (λ (b : Answer). record { number = n; op = o; answer = b } ∷ w.performed) answer in
     λ i. record w { system = left i; performed = listed i }
 
 -- ---- a component in which nothing was performed yet

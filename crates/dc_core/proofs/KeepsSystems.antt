@@ -37,59 +37,80 @@ use Rattle.dc_core.proofs.Stored.{stored_grown, stored_forced}
 -- ---- a leaf parted
 
 -- a number whose entry lies on this side is still captured
-stands_on : (p : Performance) (test : Bytes → Bool) (es : List Entry) → test (key_of p.op) ≡ true → AllByRecursion (Saves p) es → stands_in es p.number ≡ true
+stands_on : (p : Performance) (test : Bytes → Bool) (es : List Entry) → test (key_of p.op) ≡ true
+    → AllByRecursion (Saves p) es → stands_in es p.number ≡ true
     → stands_with test es p.number ≡ true
 stands_on p test [] passes saves there = there
 stands_on p test (e ∷ es) passes saves there =
     elim (or_cases (p.number == e.number) (stands_in es p.number) there) [
       | inl here ↦
           let on : key_of p.op ≡ e.key = (saves.0 (eqb-true p.number e.number here)).0 in
-          or_left ((p.number == e.number) && test e.key) (stands_with test es p.number) (and_from (p.number == e.number) (test e.key) here (ap test (sym on) ∙ passes))
-      | inr later ↦ or_right ((p.number == e.number) && test e.key) (stands_with test es p.number) (stands_on p test es passes saves.1 later)
+          or_left ((p.number == e.number) && test e.key) (stands_with test es p.number)
+          (and_from (p.number == e.number) (test e.key) here (ap test (sym on) ∙ passes))
+      | inr later ↦
+          or_right ((p.number == e.number) && test e.key) (stands_with test es p.number)
+          (stands_on p test es passes saves.1 later)
     ]
 
-captured_on : (p : Performance) (test : Bytes → Bool) (v : AbLsnView) → test (key_of p.op) ≡ true → AllByRecursion (Saves p) v.entries → captures v p.number ≡ true
+captured_on : (p : Performance) (test : Bytes → Bool) (v : AbLsnView) → test (key_of p.op) ≡ true
+    → AllByRecursion (Saves p) v.entries → captures v p.number ≡ true
     → captures (record v { entries = entries_with test v.entries }) p.number ≡ true
 captured_on p test v passes saves was =
     parted_captures v.low v.entries test p.number
     ∙ elim (or_cases (nat_le p.number v.low) (stands_in v.entries p.number) was) [
       | inl low ↦ or_left (nat_le p.number v.low) (stands_with test v.entries p.number) low
-      | inr there ↦ or_right (nat_le p.number v.low) (stands_with test v.entries p.number) (stands_on p test v.entries passes saves there)
+      | inr there ↦
+          or_right (nat_le p.number v.low) (stands_with test v.entries p.number)
+          (stands_on p test v.entries passes saves there)
     ]
 
-carries_split : (w : DcView) (p : ℕ) (pair : Neighbours) (v : SystemView) → IsDc w → Splits w.system p pair v → Carries w v
+carries_split : (w : DcView) (p : ℕ) (pair : Neighbours) (v : SystemView) → IsDc w → Splits w.system p pair v
+    → Carries w v
 carries_split w p pair v k h = subst (Carries w) (sym h.after) (record {
   rows = (split_stays (leaves w) p (next_id w.system) (next_number w.system) k.system.leaves h.may).rows;
   captured = λ q was saves.
       let old : LeafView = leaf_at (leaves w) (key_of q.op) in
       let mine : AllByRecursion (Saves q) old.ab.entries =
-      all_at (λ (leaf : LeafView). AllByRecursion (Saves q) leaf.ab.entries) (leaves w) (key_of q.op) k.system.leaves saves in
-      elim (leaf_split (leaves w) p (next_id w.system) (next_number w.system) (key_of q.op) k.system.leaves.each h.may) [
+      all_at (λ (leaf : LeafView). AllByRecursion (Saves q) leaf.ab.entries) (leaves w)
+      (key_of q.op) k.system.leaves saves in
+      let id : ℕ = next_id w.system in
+      let d : ℕ = next_number w.system in
+      elim (leaf_split (leaves w) p id d (key_of q.op) k.system.leaves.each h.may) [
         | inl same ↦ ap (λ (leaf : LeafView). captures leaf.ab q.number) same ∙ was
         | inr half ↦ elim half [
-          | inl lower ↦ ap (λ (leaf : LeafView). captures leaf.ab q.number) lower.is ∙ captured_on q (is_under (middle old)) old.ab lower.under mine was
-          | inr upper ↦ ap (λ (leaf : LeafView). captures leaf.ab q.number) upper.is ∙ captured_on q (is_from (middle old)) old.ab upper.from mine was
+          | inl lower ↦
+              ap (λ (leaf : LeafView). captures leaf.ab q.number) lower.is
+              ∙ captured_on q (is_under (middle old)) old.ab lower.under mine was
+          | inr upper ↦
+              ap (λ (leaf : LeafView). captures leaf.ab q.number) upper.is
+              ∙ captured_on q (is_from (middle old)) old.ab upper.from mine was
         ]
       ];
-  saved = entries_split (IsListed w.performed) (leaves w) p (next_id w.system) (next_number w.system) k.system.leaves h.may k.saved;
+  saved =
+      entries_split (IsListed w.performed) (leaves w) p (next_id w.system) (next_number w.system) k.system.leaves h.may
+      k.saved;
   stored = stored_grown _ w.system.log w.system.stable;
 })
 
 -- ---- two neighbours joined
 
-carries_merge : (w : DcView) (p : ℕ) (pair : Neighbours) (v : SystemView) → IsDc w → Merges w.system p pair v → Carries w v
+carries_merge : (w : DcView) (p : ℕ) (pair : Neighbours) (v : SystemView) → IsDc w → Merges w.system p pair v
+    → Carries w v
 carries_merge w p pair v k h = subst (Carries w) (sym h.after) (record {
   rows = (merged_stays (leaves w) p (next_number w.system) k.system.leaves h.may).rows;
   captured = λ q was saves.
       let old : LeafView = leaf_at (leaves w) (key_of q.op) in
-      elim (leaf_merged AreJoinable (λ left right both. both.next) (next_number w.system) (key_of q.op) (leaves w) p (joinable (leaves w) p k.system.leaves)) [
+      elim (leaf_merged AreJoinable (λ left right both. both.next) (next_number w.system) (key_of q.op) (leaves w) p
+      (joinable (leaves w) p k.system.leaves)) [
         | inl same ↦ ap (λ (leaf : LeafView). captures leaf.ab q.number) same ∙ was
         | inr both ↦ elim both [
           | inl left ↦
-              ap (λ (leaf : LeafView). captures leaf.ab q.number) left.is ∙ joined_captures old.ab left.right.ab q.number
+              ap (λ (leaf : LeafView). captures leaf.ab q.number) left.is
+              ∙ joined_captures old.ab left.right.ab q.number
               ∙ or_left (captures old.ab q.number) (captures left.right.ab q.number) was
           | inr right ↦
-              ap (λ (leaf : LeafView). captures leaf.ab q.number) right.is ∙ joined_captures right.left.ab old.ab q.number
+              ap (λ (leaf : LeafView). captures leaf.ab q.number) right.is
+              ∙ joined_captures right.left.ab old.ab q.number
               ∙ or_right (captures right.left.ab q.number) (captures old.ab q.number) was
         ]
       ];
@@ -102,7 +123,9 @@ carries_merge w p pair v k h = subst (Carries w) (sym h.after) (record {
 pub carries_lowered : (w : DcView) (l : ℕ) → IsDc w → Carries w (lowered w.system l)
 carries_lowered w l k = record {
   rows = (raised_stays (leaves w) l k.system.leaves).rows;
-  captured = λ q was saves. captured_raised (leaves w) k.system.leaves l (key_of q.op) q.number ∙ or_left (captures_at w (key_of q.op) q.number) (nat_le q.number l) was;
+  captured = λ q was saves.
+      captured_raised (leaves w) k.system.leaves l (key_of q.op) q.number
+      ∙ or_left (captures_at w (key_of q.op) q.number) (nat_le q.number l) was;
   saved = entries_raised (IsListed w.performed) (leaves w) l k.saved;
   stored = omega arith;
 }
@@ -132,26 +155,33 @@ written_alike v leaf = let h = covered_alike v leaf in record { leaves = h.leave
 
 all_alike : (v : SystemView) (ls : List LeafView) → IsAlike v (written_all v ls)
 all_alike v [] = alike_itself v
-all_alike v (leaf ∷ ls) = alike_then v (written_to v leaf) (written_all (written_to v leaf) ls) (written_alike v leaf) (all_alike (written_to v leaf) ls)
+all_alike v (leaf ∷ ls) =
+    alike_then v (written_to v leaf) (written_all (written_to v leaf) ls) (written_alike v leaf)
+    (all_alike (written_to v leaf) ls)
 
 refused_alike : (old v : SystemView) (r : Refusal) → IsAlike old v → IsAlike old (refused_so v r)
 refused_alike old v r h = record { leaves = h.leaves; stored = h.stored }
 
-stops_alike : (v : SystemView) (leaf : LeafView) (r : Refusal) (new : SystemView) → StopsWriting v leaf r new → IsAlike v new
+stops_alike : (v : SystemView) (leaf : LeafView) (r : Refusal) (new : SystemView) → StopsWriting v leaf r new
+    → IsAlike v new
 stops_alike v leaf r new h = elim h.1 [
   | inl same ↦ subst (IsAlike v) (sym same) (refused_alike v v r (alike_itself v))
   | inr more ↦ subst (IsAlike v) (sym more) (refused_alike v (covered v leaf) r (covered_alike v leaf))
 ]
 
-among_alike : (v : SystemView) (ls : List LeafView) (r : Refusal) (new : SystemView) → StopsAmong v ls r new → IsAlike v new
+among_alike : (v : SystemView) (ls : List LeafView) (r : Refusal) (new : SystemView) → StopsAmong v ls r new
+    → IsAlike v new
 among_alike v [] r new h = absurd h
 among_alike v (leaf ∷ ls) r new (inl h) = stops_alike v leaf r new h
-among_alike v (leaf ∷ ls) r new (inr h) = alike_then v (written_to v leaf) new (written_alike v leaf) (among_alike (written_to v leaf) ls r new h.1)
+among_alike v (leaf ∷ ls) r new (inr h) =
+    alike_then v (written_to v leaf) new (written_alike v leaf) (among_alike (written_to v leaf) ls r new h.1)
 
 carries_alike : (w : DcView) (u v : SystemView) → Carries w u → IsAlike u v → Carries w v
 carries_alike w u v c h = record {
   rows = ap rows_of h.leaves ∙ c.rows;
-  captured = λ q was saves. ap (λ (ls : List LeafView). captures (leaf_at ls (key_of q.op)).ab q.number) h.leaves ∙ c.captured q was saves;
+  captured = λ q was saves.
+      ap (λ (ls : List LeafView). captures (leaf_at ls (key_of q.op)).ab q.number) h.leaves
+      ∙ c.captured q was saves;
   saved = subst (AllByRecursion (AreListed w.performed)) (sym h.leaves) c.saved;
   stored = omega (arith, c.stored, h.stored);
 }
@@ -164,17 +194,21 @@ carries_same w k = same_leaves w w.system k refl (omega arith)
 
 carries_refused : (w : DcView) (r : Refusal) (v : SystemView) → IsDc w → v ≡ refused_so w.system r → Carries w v
 carries_refused w r v k same =
-    subst (Carries w) (sym same) (carries_alike w w.system (refused_so w.system r) (carries_same w k) (refused_alike w.system w.system r (alike_itself w.system)))
+    subst (Carries w) (sym same) (carries_alike w w.system (refused_so w.system r) (carries_same w k)
+    (refused_alike w.system w.system r (alike_itself w.system)))
 
-pub split_keeps : (w : DcView) (key : Bytes) (given : Result Neighbours Refusal) (v : SystemView) → IsDc w → IsSystem v → SplitGives w.system key given v → IsDc (with_system w v)
+pub split_keeps : (w : DcView) (key : Bytes) (given : Result Neighbours Refusal) (v : SystemView) → IsDc w → IsSystem v
+    → SplitGives w.system key given v → IsDc (with_system w v)
 split_keeps w key (Ok pair) v k is h = keeps_carried w v k is (carries_split w _ pair v k h)
 split_keeps w key (Err r) v k is h = keeps_carried w v k is (carries_refused w r v k h.1)
 
-pub merge_keeps : (w : DcView) (key : Bytes) (given : Result Neighbours Refusal) (v : SystemView) → IsDc w → IsSystem v → MergeGives w.system key given v → IsDc (with_system w v)
+pub merge_keeps : (w : DcView) (key : Bytes) (given : Result Neighbours Refusal) (v : SystemView) → IsDc w → IsSystem v
+    → MergeGives w.system key given v → IsDc (with_system w v)
 merge_keeps w key (Ok pair) v k is h = keeps_carried w v k is (carries_merge w _ pair v k h)
 merge_keeps w key (Err r) v k is h = keeps_carried w v k is (carries_refused w r v k h.1)
 
-carries_tended : (w : DcView) (what : gives.Tending) (done : Tended) (v : SystemView) → IsDc w → gives.TendsTo w.system what done v → Carries w v
+carries_tended : (w : DcView) (what : gives.Tending) (done : Tended) (v : SystemView) → IsDc w
+    → gives.TendsTo w.system what done v → Carries w v
 carries_tended w (gives.SplitsAt p) (tended.Split pair) v k h = carries_split w p pair v k h
 carries_tended w (gives.MergesAt p) (tended.Merged pair) v k h = carries_merge w p pair v k h
 carries_tended w gives.Rests tended.Nothing v k h = subst (Carries w) (sym h) (carries_same w k)
@@ -185,23 +219,30 @@ carries_tended w (gives.MergesAt p) tended.Nothing v k h = absurd h
 carries_tended w gives.Rests (tended.Split pair) v k h = absurd h
 carries_tended w gives.Rests (tended.Merged pair) v k h = absurd h
 
-pub tend_keeps : (w : DcView) (merges : Bool) (given : Result Tended Refusal) (v : SystemView) → IsDc w → IsSystem v → TendGives w.system merges given v → IsDc (with_system w v)
+pub tend_keeps : (w : DcView) (merges : Bool) (given : Result Tended Refusal) (v : SystemView) → IsDc w → IsSystem v
+    → TendGives w.system merges given v → IsDc (with_system w v)
 tend_keeps w merges (Ok done) v k is h = keeps_carried w v k is (carries_tended w (tending w.system merges) done v k h)
 tend_keeps w merges (Err r) v k is h = keeps_carried w v k is (carries_refused w r v k h.1)
 
-pub flush_keeps : (w : DcView) (key : Bytes) (given : Result ℕ Refusal) (v : SystemView) → IsDc w → IsSystem v → FlushGives w.system key given v → IsDc (with_system w v)
+pub flush_keeps : (w : DcView) (key : Bytes) (given : Result ℕ Refusal) (v : SystemView) → IsDc w → IsSystem v
+    → FlushGives w.system key given v → IsDc (with_system w v)
 flush_keeps w key (Ok id) v k is h =
-    keeps_carried w v k is (subst (Carries w) (sym h.2) (carries_alike w w.system _ (carries_same w k) (written_alike w.system (leaf_at (leaves w) key))))
+    keeps_carried w v k is (subst (Carries w) (sym h.2)
+    (carries_alike w w.system _ (carries_same w k) (written_alike w.system (leaf_at (leaves w) key))))
 flush_keeps w key (Err r) v k is h =
-    keeps_carried w v k is (carries_alike w w.system v (carries_same w k) (stops_alike w.system (leaf_at (leaves w) key) r v h))
+    keeps_carried w v k is (carries_alike w w.system v (carries_same w k)
+    (stops_alike w.system (leaf_at (leaves w) key) r v h))
 
-pub lower_keeps : (w : DcView) (l : ℕ) → IsDc w → IsSystem (lowered w.system l) → IsDc (with_system w (lowered w.system l))
+pub lower_keeps : (w : DcView) (l : ℕ) → IsDc w → IsSystem (lowered w.system l)
+    → IsDc (with_system w (lowered w.system l))
 lower_keeps w l k is = keeps_carried w (lowered w.system l) k is (carries_lowered w l k)
 
-pub checkpoint_keeps : (w : DcView) (l : ℕ) (given : Result Unit Refusal) (v : SystemView) → IsDc w → IsSystem v → CheckpointGives w.system l given v → IsDc (with_system w v)
+pub checkpoint_keeps : (w : DcView) (l : ℕ) (given : Result Unit Refusal) (v : SystemView) → IsDc w → IsSystem v
+    → CheckpointGives w.system l given v → IsDc (with_system w v)
 checkpoint_keeps w l (Ok done) v k is h =
     let u : SystemView = lowered w.system l in
-    keeps_carried w v k is (subst (Carries w) (sym h.1) (carries_alike w u (written_all u u.leaves) (carries_lowered w l k) (all_alike u u.leaves)))
+    keeps_carried w v k is (subst (Carries w) (sym h.1)
+    (carries_alike w u (written_all u u.leaves) (carries_lowered w l k) (all_alike u u.leaves)))
 checkpoint_keeps w l (Err r) v k is (inl h) = keeps_carried w v k is (subst (Carries w) (sym h.1) (carries_same w k))
 checkpoint_keeps w l (Err r) v k is (inr h) =
     let u : SystemView = lowered w.system l in

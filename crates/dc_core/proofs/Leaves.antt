@@ -7,8 +7,12 @@ use Rattle.btree.specs.Leaves.{all_rows}
 
 rows_after : (xs : List LeafView) (leaf : LeafView) → all_rows (xs ++ leaf ∷ []) ≡ all_rows xs ++ entries leaf.rows
 rows_after [] leaf = append-nil (entries leaf.rows)
-rows_after (x ∷ xs) leaf = ap (λ rows. entries x.rows ++ rows) (rows_after xs leaf) ∙ sym (append_assoc (entries x.rows) (all_rows xs) (entries leaf.rows))
+rows_after (x ∷ xs) leaf =
+    ap (λ rows. entries x.rows ++ rows) (rows_after xs leaf)
+    ∙ sym (append_assoc (entries x.rows) (all_rows xs) (entries leaf.rows))
 
 -- the rows of one leaf more
-pub rows_more : (leaves : List LeafView) (p : ℕ) → p < length leaves → all_rows (take (p + 1) leaves) ≡ all_rows (take p leaves) ++ entries (get_or leaves p first).rows
-rows_more leaves p within = ap all_rows (take_more leaves p first within) ∙ rows_after (take p leaves) (get_or leaves p first)
+pub rows_more : (leaves : List LeafView) (p : ℕ) → p < length leaves
+    → all_rows (take (p + 1) leaves) ≡ all_rows (take p leaves) ++ entries (get_or leaves p first).rows
+rows_more leaves p within =
+    ap all_rows (take_more leaves p first within) ∙ rows_after (take p leaves) (get_or leaves p first)

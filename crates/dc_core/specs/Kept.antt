@@ -33,9 +33,12 @@ AreListed performed leaf = AllByRecursion (IsListed performed) leaf.ab.entries
 
 pub record IsDc (w : DcView) : Type 0 where
   pub system : IsSystem w.system
+  -- the records are those at the last opening with what was performed since
   pub rows : rows_of (leaves w) ≡ replayed w.opened w.performed
+  -- each number was performed once, on the key whose leaf has captured it, and is saved with its answer or not at all
   pub once : IsOnce w.performed
   pub captured : AllByRecursion (λ (p : Performance). captures_at w (key_of p.op) p.number ≡ true) w.performed
   pub saved : AllByRecursion (AreListed w.performed) (leaves w)
+  -- the session that runs, if any, is the greatest one taken, and the stable log has one at least as great
   pub session : (w.session ≡ 0) ⊎ (w.session ≡ w.stored)
   pub stored : w.stored ≤ stored_session (beginning w.system.log w.system.stable)

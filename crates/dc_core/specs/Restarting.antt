@@ -7,5 +7,11 @@ use Rattle.dc_core.specs.DcView.{DcView}
 
 -- no session runs, the greatest one that the log accepted is stored, and nothing was performed yet
 abbrev pub restarted : SystemView → DcView
-restarted v =
-    record { stored = stored_session v.log; session = 0; redo = false; system = v; opened = rows_of v.leaves; performed = [] }
+restarted v = record {
+  stored = stored_session v.log;
+  session = 0;
+  redo = false;
+  system = v;
+  opened = rows_of v.leaves;
+  performed = [];
+}

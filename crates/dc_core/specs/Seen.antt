@@ -11,7 +11,14 @@ use Rattle.dc_core.specs.DcView.{DcView, leaves, captures_at}
 use Rattle.dc_core.specs.Serves.{performs}
 
 abbrev pub seen : Parts → DcView
-seen p = record { stored = p.stored; session = p.session; redo = p.redo; system = p.system; opened = p.opened.table; performed = p.performed }
+seen p = record {
+  stored = p.stored;
+  session = p.session;
+  redo = p.redo;
+  system = p.system;
+  opened = p.opened.table;
+  performed = p.performed;
+}
 
 -- the answer that a number is given, and what is left
 abbrev pub Answers : DcView → ℕ → Op → Option Answer → DcView → Type 0

@@ -38,7 +38,8 @@ after_redo_refusal w s = or_else (session_refusal w s) (first_of ((w.redo, Redoi
 -- a session begins once, with a greater number than any before, and its record needs a number
 abbrev pub connect_refusal : DcView → ℕ → Option Refusal
 connect_refusal w s =
-    first_of ((not (runs w s) && not (nat_lt w.stored s), Stale) ∷ (not (runs w s) && is_spent (length w.system.log), NumbersSpent) ∷ [])
+    first_of ((not (runs w s) && not (nat_lt w.stored s), Stale)
+    ∷ (not (runs w s) && is_spent (length w.system.log), NumbersSpent) ∷ [])
 
 abbrev pub serve_refusal : DcView → Request → Option Refusal
 serve_refusal w (asks.Connect s) = connect_refusal w s
@@ -52,7 +53,8 @@ serve_refusal w (asks.RedoEnd s) = session_refusal w s
 -- a request's number is on the key that it has where it is known: among the performances, and in each leaf's entries
 pub record KeepsKey (w : DcView) (n : ℕ) (k : Bytes) : Type 0 where
   pub listed : AllByRecursion (λ (p : Performance). p.number ≡ n → key_of p.op ≡ k) w.performed
-  pub saved : AllByRecursion (λ (leaf : LeafView). AllByRecursion (λ (e : Entry). e.number ≡ n → e.key ≡ k) leaf.ab.entries) (leaves w)
+  pub saved : AllByRecursion
+      (λ (leaf : LeafView). AllByRecursion (λ (e : Entry). e.number ≡ n → e.key ≡ k) leaf.ab.entries) (leaves w)
 
 -- what the caller owes: an operation of the running session keeps to its number's key
 abbrev pub MayAsk : DcView → Request → Type 0
@@ -86,11 +88,15 @@ Serves old (asks.Connect s) reply new =
 Serves old (asks.Perform s n o) reply new =
     MatchBool (captures_at old (key_of o) n)
     ((reply ≡ Some (says.Answered s n (saved_in (leaf_at (leaves old) (key_of o)).ab.entries n))) × (new ≡ old))
-    ((reply ≡ Some (says.Answered s n (Some (answer_in (leaf_at (leaves old) (key_of o)).rows o)))) × (new ≡ performs old n o))
+    ((reply ≡ Some (says.Answered s n (Some (answer_in (leaf_at (leaves old) (key_of o)).rows o))))
+    × (new ≡ performs old n o))
 Serves old (asks.Get s r k) reply new = (reply ≡ Some (says.Row s r (value_at old k))) × (new ≡ old)
-Serves old (asks.Scan s r lo hi) reply new = (reply ≡ Some (says.Rows s r (rows_in (range lo hi) (rows_of (leaves old))))) × (new ≡ old)
+Serves old (asks.Scan s r lo hi) reply new =
+    (reply ≡ Some (says.Rows s r (rows_in (range lo hi) (rows_of (leaves old))))) × (new ≡ old)
 Serves old (asks.LowWater s l) reply new = (reply ≡ None) × (new ≡ lowers old l)
-Serves old (asks.Checkpoint s l) reply new = (reply ≡ Some (says.Checkpointed s l)) × CheckpointGives old.system l (Ok tt) new.system × (new ≡ with_system old new.system)
+Serves old (asks.Checkpoint s l) reply new =
+    (reply ≡ Some (says.Checkpointed s l)) × CheckpointGives old.system l (Ok tt) new.system
+    × (new ≡ with_system old new.system)
 Serves old (asks.RedoEnd s) reply new = (reply ≡ Some (says.RedoEnded s)) × (new ≡ record old { redo = false })
 
 -- memory was refused, and nothing has changed
@@ -100,10 +106,12 @@ LacksMemory old r new = (r ≡ NoMemory) × (new ≡ old)
 -- an allowed request that is refused: for want of memory, where it makes something new; where a device fails, as the
 -- system transaction says. All others are served
 abbrev pub Stops : DcView → Request → Refusal → DcView → Type 0
-Stops old (asks.Connect s) r new = (runs old s ≡ false) × AcceptGives old.system s (Err r) new.system × (new ≡ with_system old new.system)
+Stops old (asks.Connect s) r new =
+    (runs old s ≡ false) × AcceptGives old.system s (Err r) new.system × (new ≡ with_system old new.system)
 Stops old (asks.Perform s n o) r new = (captures_at old (key_of o) n ≡ false) × LacksMemory old r new
 Stops old (asks.Scan s n lo hi) r new = LacksMemory old r new
-Stops old (asks.Checkpoint s l) r new = CheckpointGives old.system l (Err r) new.system × (new ≡ with_system old new.system)
+Stops old (asks.Checkpoint s l) r new =
+    CheckpointGives old.system l (Err r) new.system × (new ≡ with_system old new.system)
 Stops old _ r new = ⊥
 
 abbrev pub StopsUnless : Option Refusal → DcView → Request → Refusal → DcView → Type 0

@@ -26,7 +26,8 @@ abbrev pub SplitsTo : DcView → Bytes → Result Neighbours Refusal → DcView 
 SplitsTo old k result new = Changes (SplitGives old.system k result) old new
 
 abbrev pub MergesTo : DcView → Bytes → Result Neighbours Refusal → DcView → Type 0
-MergesTo old k result new = MatchBool (may_merge old) (Changes (MergeGives old.system k result) old new) (IsNotNow old result new)
+MergesTo old k result new =
+    MatchBool (may_merge old) (Changes (MergeGives old.system k result) old new) (IsNotNow old result new)
 
 abbrev pub TendsTo : DcView → Result Tended Refusal → DcView → Type 0
 TendsTo old result new = Changes (TendGives old.system (may_merge old) result) old new

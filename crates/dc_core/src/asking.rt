@@ -65,7 +65,8 @@ impl Parts {
     fn is_saved_on(&self, number: u64, key: &Key) -> bool
         ensures { IsTrue result
             ↔ AllByRecursion (λ (leaf : LeafView).
-            AllByRecursion (λ (e : EntryValue). e.number ≡ number → e.key ≡ key.now) leaf.ab.entries) self.now.system.leaves }
+            AllByRecursion (λ (e : EntryValue). e.number ≡ number → e.key ≡ key.now) leaf.ab.entries)
+            self.now.system.leaves }
     {
         for place in 0..self.system.len() {
             if !are_on(self.system.leaf(place).entries(), number, key) {

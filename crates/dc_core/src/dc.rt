@@ -62,8 +62,8 @@ impl Dc {
     }
 
     /// Opens what a crash left on the devices. No session runs until a Connect above the stored one. A cut last record
-    /// is cut off the log. Refused NoMemory, Device; BadBytes where the bytes are no log of leaves and their images. The
-    /// devices are handed back.
+    /// is cut off the log. Refused NoMemory, Device; BadBytes where the bytes are no log of leaves and their images.
+    /// The devices are handed back.
     pub fn restart(
         alloc: Global,
         devices: Devices<MemLog, MemPages>,
@@ -106,9 +106,9 @@ impl Dc {
         self.parts.allows(request)
     }
 
-    /// What a caller asks who doesn't know a request's numbers: whether each is below 2^48, and an operation's number is
-    /// on the key that it has among the performances and in each leaf's entries. It costs as much as the history is long,
-    /// so a caller that knows its numbers doesn't ask.
+    /// What a caller asks who doesn't know a request's numbers: whether each is below 2^48, and an operation's number
+    /// is on the key that it has among the performances and in each leaf's entries. It costs as much as the history is
+    /// long, so a caller that knows its numbers doesn't ask.
     pub fn may_ask(&self, request: &Request) -> bool
         ensures { IsTrue result ↔ (HasRequestNumbers request.now × MayAsk self.now request.now) }
     {
@@ -135,16 +135,16 @@ impl Dc {
         self.parts.split(key)
     }
 
-    /// Joins the leaf of the key and the one after it, in a session past redo, where they have few records; else refused
-    /// as `split` is.
+    /// Joins the leaf of the key and the one after it, in a session past redo, where they have few records; else
+    /// refused as `split` is.
     pub fn merge(&mut self, key: &Key) -> Result<Neighbours, Refusal>
         ensures gives { MergesTo self.old key.now result self.new }
     {
         self.parts.merge(key)
     }
 
-    /// Splits the first leaf of more than eight records, else joins the first two that may be joined, else does nothing.
-    /// Refused NumbersSpent, NoMemory or Device, and unchanged.
+    /// Splits the first leaf of more than eight records, else joins the first two that may be joined, else does
+    /// nothing. Refused NumbersSpent, NoMemory or Device, and unchanged.
     pub fn tend(&mut self) -> Result<Tended, Refusal>
         ensures gives { TendsTo self.old result self.new }
     {

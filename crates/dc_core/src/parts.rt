@@ -69,7 +69,8 @@ impl Parts {
         ensures kept { IfOk result (λ parts. IsDc (seen parts)) }
         ensures recovers { IfOk result (λ parts. Recovers devices.log.forced devices.pages.pages parts.system) }
         ensures restarted { IfOk result (λ parts. seen parts ≡ restarted parts.system) }
-        ensures failures { IfOk result (λ parts. parts.system.failures ≡ devices.log.failures + devices.pages.failures) }
+        ensures failures { IfOk result (λ parts.
+            parts.system.failures ≡ devices.log.failures + devices.pages.failures) }
         ensures refused { IfErr result (λ left.
             RefusesRecovery devices.log.forced devices.pages.pages left.refusal) }
         ensures log_left { IfErr result (λ left. LeavesFrames devices.log.forced left.devices.log.forced) }

@@ -82,7 +82,8 @@ impl Performances {
         requires uncaptured { captures (leaf_at system.old.leaves (key_of op.now)).ab number ≡ false }
         ensures noted { IfOk result (λ answer. self.new
             ≡ record { number = number; op = op.now; answer = answer } ∷ self.old) }
-        ensures answer { IfOk result (λ answer. answer ≡ answer_in (leaf_at system.old.leaves (key_of op.now)).rows op.now) }
+        ensures answer { IfOk result (λ answer.
+            answer ≡ answer_in (leaf_at system.old.leaves (key_of op.now)).rows op.now) }
         ensures performed { OnOk result (system.new
             ≡ record system.old { leaves = performed_at system.old.leaves number op.now }) }
         ensures refused { IfErr result (λ refusal. refusal ≡ Refusal.NoMemory) }

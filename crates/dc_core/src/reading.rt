@@ -34,7 +34,8 @@ impl Parts {
         high: Option<&Key>,
     ) -> Result<Reply, Refusal>
         ensures found { IfOk result (λ reply. reply
-            ≡ Reply.Rows session read (rows_in (range low.now (option_copied high.entry)) (rows_of self.now.system.leaves))) }
+            ≡ Reply.Rows session read
+            (rows_in (range low.now (option_copied high.entry)) (rows_of self.now.system.leaves))) }
         ensures refused { IfErr result (λ refusal. refusal ≡ Refusal.NoMemory) }
     {
         let rows = Rows::new(self.system.scan(low, high)?);

@@ -5,6 +5,7 @@ mod performing;
 mod reading;
 mod restarting;
 mod sessions;
+mod steps;
 mod tending;
 
 use super::*;

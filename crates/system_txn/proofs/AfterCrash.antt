@@ -17,14 +17,14 @@ use Rattle.page.specs.Tiles.{Part, Tile}
 use Rattle.btree.proofs.Kept.{kept_lower}
 use Rattle.codec.specs.Reading.{◌>>=◌}
 use Rattle.recovery_laws.specs.Images.{leaf_of, image_of, HasLeafNumbers}
-use Rattle.recovery_laws.specs.Laws.{leaf_in, IsCurrent, IsKeptByCuts}
+use Rattle.recovery_laws.specs.Laws.{leaf_in, IsCurrent, IsKeptByCuts, IsSafeBeginning}
 use Rattle.recovery_laws.specs.Leaves.{AreCurrent}
 use Rattle.recovery_laws.specs.Ready.{IsReady, AllHave}
 use Rattle.recovery_laws.specs.Recovery as recovery
 use Rattle.recovery_laws.specs.Recovery.{recovered, leaves_of, recover, with_leaf, FitPages}
 use Rattle.recovery_laws.specs.Shape.{IsLegal, shape, named, beginning}
 use Rattle.recovery_laws.proofs.Beginnings.{legal_beginning}
-use Rattle.recovery_laws.proofs.Fitting.{fit_stays, fit_beginning}
+use Rattle.recovery_laws.proofs.Fitting.{fit_beginning}
 use Rattle.recovery_laws.proofs.Images.{leaf_again, images_keep_leaves, numbers_stay}
 use Rattle.recovery_laws.proofs.Leaves.{recovered_current}
 use Rattle.recovery_laws.proofs.Ready.{ready_stays, recovers}
@@ -33,35 +33,41 @@ use Rattle.system_txn.specs.Devices.{IsPage, page_in, pages_of}
 use Rattle.system_txn.specs.Kept.{IsSystem, IsRecoverable}
 use Rattle.system_txn.specs.Crashed.{crashed}
 use Rattle.system_txn.specs.SystemView.{SystemView}
-use Rattle.system_txn.proofs.Fresh.{first_alone}
-use Rattle.system_txn.proofs.Restarting.{image_found}
+use Rattle.system_txn.proofs.Fresh.{first_kept}
+use Rattle.system_txn.proofs.PageReading.{image_found}
+use Rattle.system_txn.proofs.Restarting.{beginnings}
 
 -- ---- what all sources have
 
-all_of : (P : LeafView → Type 0) (at : ℕ → Option LeafView) → ((id : ℕ) (leaf : LeafView) → at id ≡ Some leaf → P leaf) → (ps : List Part)
+all_of : (P : LeafView → Type 0) (at : ℕ → Option LeafView) → ((id : ℕ) (leaf : LeafView) → at id ≡ Some leaf → P leaf)
+    → (ps : List Part)
     → AllByRecursion P (leaves_of at ps)
 all_of P at each [] = tt
 all_of P at each (p ∷ ps) = by (at p.id) refl (all_of P at each ps)
   where
-    by : (x : Option LeafView) → at p.id ≡ x → AllByRecursion P (leaves_of at ps) → AllByRecursion P (with_leaf x (leaves_of at ps))
+    by : (x : Option LeafView) → at p.id ≡ x → AllByRecursion P (leaves_of at ps)
+        → AllByRecursion P (with_leaf x (leaves_of at ps))
     by None none rest = rest
     by (Some leaf) some rest = (each p.id leaf some, rest)
 
 -- each leaf that is recovered from the first records has what they are ready for, if cuts keep it
-pub ready_recovered : (P : LeafView → Type 0) (pages : recovery.Pages) (log : List DcRecord) (forced n : ℕ) → IsKeptByCuts P → IsLegal log → FitPages pages log forced
+pub ready_recovered : (P : LeafView → Type 0) (pages : recovery.Pages) (log : List DcRecord) (forced n : ℕ)
+    → IsKeptByCuts P → IsLegal log → FitPages pages log forced
     → forced ≤ n → IsReady P pages log forced → AllByRecursion P (recover pages (beginning log n))
 ready_recovered P pages log forced n keeps legal fit le ready =
     all_of P (recovered pages (beginning log n))
     (λ id leaf at. recovers P keeps pages log forced n id leaf legal fit ready le at) (shape (beginning log n))
 
 -- so has each where pages and logged leaves all have it
-pub all_recovered : (P : LeafView → Type 0) (pages : recovery.Pages) (log : List DcRecord) (forced n : ℕ) → IsKeptByCuts P → IsLegal log → FitPages pages log forced
+pub all_recovered : (P : LeafView → Type 0) (pages : recovery.Pages) (log : List DcRecord) (forced n : ℕ)
+    → IsKeptByCuts P → IsLegal log → FitPages pages log forced
     → forced ≤ n → AllHave P pages log → AllByRecursion P (recover pages (beginning log n))
 all_recovered P pages log forced n keeps legal fit le have =
     ready_recovered P pages log forced n keeps legal fit le ((ready_stays P).all pages log forced have)
 
 -- what each record has, those of a beginning have
-pub all_beginning : (P : DcRecord → Type 0) (log : List DcRecord) (n : ℕ) → AllByRecursion P log → AllByRecursion P (beginning log n)
+pub all_beginning : (P : DcRecord → Type 0) (log : List DcRecord) (n : ℕ) → AllByRecursion P log
+    → AllByRecursion P (beginning log n)
 all_beginning P [] n all = tt
 all_beginning P (r ∷ log) n all = by (nat_lt (length log) n) (all_beginning P log n all.1)
   where
@@ -69,7 +75,8 @@ all_beginning P (r ∷ log) n all = by (nat_lt (length log) n) (all_beginning P 
     by true rest = all
     by false rest = rest
 
-pub have_beginning : (P : LeafView → Type 0) (pages : recovery.Pages) (log : List DcRecord) (n : ℕ) → AllHave P pages log → AllHave P pages (beginning log n)
+pub have_beginning : (P : LeafView → Type 0) (pages : recovery.Pages) (log : List DcRecord) (n : ℕ)
+    → AllHave P pages log → AllHave P pages (beginning log n)
 have_beginning P pages log n h = record {
   first_leaf = h.first_leaf;
   page = h.page;
@@ -93,20 +100,26 @@ sound_image image fits = let both = images_keep_leaves.spelled image fits in sou
 
 sound_in : (r : DcRecord) → FitsFrame r → (leaf : LeafView) → leaf_in r ≡ Some leaf → IsSound leaf
 sound_in (is.Accept session) fits leaf at = absurd (cc)
-sound_in (is.Split left cut right) fits leaf at = subst IsSound (let same : leaf_of right ≡ leaf = cc in same) (sound_image right fits.0.1.1)
-sound_in (is.Merge left right merged) fits leaf at = subst IsSound (let same : leaf_of merged ≡ leaf = cc in same) (sound_image merged fits.0.0.1.1)
+sound_in (is.Split left cut right) fits leaf at =
+    subst IsSound (let same : leaf_of right ≡ leaf = cc in same) (sound_image right fits.0.1.1)
+sound_in (is.Merge left right merged) fits leaf at =
+    subst IsSound (let same : leaf_of merged ≡ leaf = cc in same) (sound_image merged fits.0.0.1.1)
 
 cuts_keep : IsKeptByCuts IsSound
 cuts_keep leaf d cut less inside h =
-    let lower = numbers_stay.lower (record leaf { last = 0 }) cut 0 (record { id = h.id; last = omega arith; low = h.low; entries = h.entries }) (omega arith) in
+    let lower =
+    numbers_stay.lower (record leaf { last = 0 }) cut 0
+    (record { id = h.id; last = omega arith; low = h.low; entries = h.entries }) (omega arith) in
     record { kept = kept_lower leaf cut d h.kept; id = h.id; low = h.low; entries = lower.entries }
 
-sound_page : (pages : Pages) → ((id : ℕ) (bytes : List ℕ) → table.get pages id ≡ Some bytes → (leaf : LeafView) × IsPage bytes leaf)
+sound_page : (pages : Pages)
+    → ((id : ℕ) (bytes : List ℕ) → table.get pages id ≡ Some bytes → (leaf : LeafView) × IsPage bytes leaf)
     → (id : ℕ) (page : LeafView) → pages_of pages id ≡ Some page → IsSound page
 sound_page pages images id page at = by (table.get pages id) refl
   where
     by : (x : Option (List ℕ)) → table.get pages id ≡ x → IsSound page
-    by None none = absurd (let no : None ≡ Some page = sym (ap (λ (o : Option (List ℕ)). o >>= page_in) none) ∙ at in cc)
+    by None none =
+        absurd (let no : None ≡ Some page = sym (ap (λ (o : Option (List ℕ)). o >>= page_in) none) ∙ at in cc)
     by (Some bytes) some =
         let leaf = images id bytes some in
         let same : Some leaf.0 ≡ Some page = sym (image_found pages id bytes leaf.0 some leaf.1) ∙ at in
@@ -115,9 +128,11 @@ sound_page pages images id page at = by (table.get pages id) refl
 
 sources_sound : (v : SystemView) → IsSystem v → AllHave IsSound (pages_of v.pages) v.log
 sources_sound v h = record {
-  first_leaf = sound_of first first_alone.each.0 numbers_stay.first;
+  first_leaf = sound_of first first_kept numbers_stay.first;
   page = sound_page v.pages h.pages;
-  logged = all_from FitsFrame (λ (r : DcRecord). (leaf : LeafView) → leaf_in r ≡ Some leaf → IsSound leaf) sound_in v.log h.records;
+  logged =
+      all_from FitsFrame (λ (r : DcRecord). (leaf : LeafView) → leaf_in r ≡ Some leaf → IsSound leaf) sound_in v.log
+      h.records;
 }
 
 -- ---- after a crash
@@ -131,7 +146,8 @@ pub named_shorter : (log : List DcRecord) (n : ℕ) → IsLegal log → named (b
 named_shorter [] n legal = omega arith
 named_shorter (r ∷ log) n legal = by (nat_lt (length log) n) (named_shorter log n legal.1)
   where
-    by : (b : Bool) → named (beginning log n) ≤ named log → named (if b then r ∷ log else beginning log n) ≤ named (r ∷ log)
+    by : (b : Bool) → named (beginning log n) ≤ named log
+        → named (if b then r ∷ log else beginning log n) ≤ named (r ∷ log)
     by true less = omega arith
     by false less = omega (arith, less, named_older r log legal)
 
@@ -139,18 +155,23 @@ length_shorter : (log : List DcRecord) (n : ℕ) → length (beginning log n) �
 length_shorter [] n = omega arith
 length_shorter (r ∷ log) n = by (nat_lt (length log) n) (length_shorter log n)
   where
-    by : (b : Bool) → length (beginning log n) ≤ length log → length (if b then r ∷ log else beginning log n) ≤ length (r ∷ log)
+    by : (b : Bool) → length (beginning log n) ≤ length log
+        → length (if b then r ∷ log else beginning log n) ≤ length (r ∷ log)
     by true less = omega arith
     by false less = omega (arith, less)
 
 -- numbers of a leaf whose last change is among so many records
-numbered : (log : List DcRecord) (leaf : LeafView) → length log < 2 ^ 48 → IsCurrent log leaf.id leaf → IsSound leaf → HasLeafNumbers leaf
-numbered log leaf few current sound = record { id = sound.id; last = omega (arith, few, current.last); low = sound.low; entries = sound.entries }
+numbered : (log : List DcRecord) (leaf : LeafView) → length log < 2 ^ 48 → IsCurrent log leaf.id leaf → IsSound leaf
+    → HasLeafNumbers leaf
+numbered log leaf few current sound =
+    record { id = sound.id; last = omega (arith, few, current.last); low = sound.low; entries = sound.entries }
 
-all_numbered : (log : List DcRecord) (leaves : List LeafView) → length log < 2 ^ 48 → AllByRecursion (λ (leaf : LeafView). IsCurrent log leaf.id leaf) leaves
+all_numbered : (log : List DcRecord) (leaves : List LeafView) → length log < 2 ^ 48
+    → AllByRecursion (λ (leaf : LeafView). IsCurrent log leaf.id leaf) leaves
     → AllByRecursion IsSound leaves → AllByRecursion HasLeafNumbers leaves
 all_numbered log [] few current sound = tt
-all_numbered log (leaf ∷ leaves) few current sound = (numbered log leaf few current.0 sound.0, all_numbered log leaves few current.1 sound.1)
+all_numbered log (leaf ∷ leaves) few current sound =
+    (numbered log leaf few current.0 sound.0, all_numbered log leaves few current.1 sound.1)
 
 pub crashed_kept : (v : SystemView) (n : ℕ) → IsSystem v → IsRecoverable v → v.stable ≤ n → IsSystem (crashed v n)
 crashed_kept v n h r le =
@@ -159,7 +180,8 @@ crashed_kept v n h r le =
     all_recovered IsSound (pages_of v.pages) v.log v.stable n cuts_keep r.legal r.fit le (sources_sound v h) in
     let legal : IsLegal log = legal_beginning v.log n r.legal in
     let current : AreCurrent log (recover (pages_of v.pages) log) =
-    recovered_current (pages_of v.pages) log v.stable legal (fit_beginning (pages_of v.pages) v.log v.stable n r.fit le) in
+    recovered_current (pages_of v.pages) log v.stable legal
+    (fit_beginning (pages_of v.pages) v.log v.stable n r.fit le) in
     let few : length log < 2 ^ 48 = omega (arith, length_shorter v.log n, h.numbered) in
     record {
       leaves = record {
@@ -176,9 +198,9 @@ crashed_kept v n h r le =
 pub crashed_recoverable : (v : SystemView) (n : ℕ) → IsRecoverable v → v.stable ≤ n → IsRecoverable (crashed v n)
 crashed_recoverable v n r le =
     let log : List DcRecord = beginning v.log n in
-    let legal : IsLegal log = legal_beginning v.log n r.legal in
+    let safe : IsSafeBeginning (pages_of v.pages) log (length log) = beginnings v n r le in
     record {
-      legal = legal;
-      current = recovered_current (pages_of v.pages) log v.stable legal (fit_beginning (pages_of v.pages) v.log v.stable n r.fit le);
-      fit = fit_stays.crash (pages_of v.pages) v.log v.stable n r.fit le;
+      legal = safe.legal;
+      current = recovered_current (pages_of v.pages) log (length log) safe.legal safe.fit;
+      fit = safe.fit;
     }

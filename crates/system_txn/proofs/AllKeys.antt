@@ -1,10 +1,9 @@
 -- The test whether leaves in a row have all keys among them, and that leaves in another order are the same leaves.
 use Rattle.std.proofs.Common.{◌≡◌, ℕ, zero, suc, ◌+◌, ◌<◌, ◌≤◌, ◌==◌, Bool, true, false, cond, ◌&&◌, List, [], ◌∷◌, length, get_or, Box, Option, Some, None, is_some, refl, sym, ap, ◌∙◌, subst, inl, inr, true≢false, arith}
 use Rattle.std.specs.declared.alloc.Global.{Global}
-use Rattle.std.specs.declared.cmp.Ordering.{Ordering}
-use Rattle.std.specs.declared.cmp.Ordering.TheVariants.{Less, Equal, Greater}
 use Rattle.std.specs.List.{Contains, sum_by}
 use Rattle.std.specs.List.Sorted.{IsPermutation}
+use Rattle.std.specs.Cmp.{Equal-is}
 use Rattle.std.specs.Ordering.{is_eq}
 use Rattle.std.proofs.lemmas.Bool.{cases_Bool, and_parts, false≢true}
 use Rattle.std.proofs.lemmas.Cmp.{nat_list_cmp_total, tied_itself}
@@ -22,16 +21,12 @@ use Rattle.recovery_laws.proofs.Splitting.{Rest}
 use Rattle.system_txn.specs.Arranging.{is_same_fence, ends_after, tiles_on, count_of, AreApart, AreSame, IsArrangement}
 use Rattle.system_txn.proofs.InOrder.{Rise, sorted_same}
 
-tied : (r : Ordering) → is_eq r ≡ true → r ≡ Equal
-tied Less e = absurd (false≢true e)
-tied Equal e = refl
-tied Greater e = absurd (false≢true e)
-
 same_fence : (a b : Option Bytes) → is_same_fence a b ≡ true → b ≡ a
 same_fence None None e = refl
 same_fence None (Some b) e = absurd (false≢true e)
 same_fence (Some a) None e = absurd (false≢true e)
-same_fence (Some a) (Some b) e = ap (λ (k : Bytes). Some k) (sym (is_key_order.tied a b (tied (key_cmp a b) e)))
+same_fence (Some a) (Some b) e =
+    ap (λ (k : Bytes). Some k) (sym (is_key_order.tied a b ((Equal-is (key_cmp a b)).0 e)))
 
 fence_itself : (a : Option Bytes) → is_same_fence a a ≡ true
 fence_itself None = refl
@@ -55,7 +50,8 @@ tiles_true (leaf ∷ leaves) from h =
     let test : Bool = is_same_fence from leaf.low_fence && ends_after leaf.low_fence leaf.high_fence in
     elim (cases_Bool test) [
       | inl passes ↦
-          let parts = and_parts (is_same_fence from leaf.low_fence) (ends_after leaf.low_fence leaf.high_fence) passes in (
+          let parts =
+          and_parts (is_same_fence from leaf.low_fence) (ends_after leaf.low_fence leaf.high_fence) passes in (
             same_fence from leaf.low_fence parts.0,
             rest_from leaf.low_fence leaf.high_fence leaves (λ high. tiles_true leaves (Some high)) parts.1
                 (rw passes at h),

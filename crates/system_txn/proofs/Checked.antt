@@ -1,9 +1,9 @@
 -- Whatever a checkpoint reached, no call and no crash takes away.
-use Rattle.std.proofs.Common.{◌≡◌, ◌≢◌, ◌⊎◌, ℕ, ◌+◌, ◌≤◌, Bool, true, List, [], ◌∷◌, Option, Some, None, length, map, refl, sym, ap, ◌∙◌, subst, arith, inl, inr, eq-eqb, ne_eqb, le-ltb, lt-ltb}
+use Rattle.std.proofs.Common.{◌≡◌, ℕ, ◌+◌, ◌≤◌, Bool, true, List, [], ◌∷◌, Option, length, sym, subst, arith, inl, inr, le-ltb, lt-ltb}
 use Rattle.std.specs.Prelude.{nat_le, Result, Ok, Err}
 use Rattle.std.specs.List.{AllByRecursion}
 use Rattle.std.specs.FinMap as table
-use Rattle.std.proofs.lemmas.Bool.{cases_Bool, cases_eq, cases_lt}
+use Rattle.std.proofs.lemmas.Bool.{cases_Bool, cases_lt}
 use Rattle.record_key.specs.declared.op.Op.{Op}
 use Rattle.record_key.specs.declared.refusal.Refusal.{Refusal}
 use Rattle.record_key.specs.Table.{Bytes}
@@ -12,7 +12,6 @@ use Rattle.codec.specs.declared.dc_record.DcRecord.TheVariants as is
 use Rattle.codec.specs.Images.{image_bytes, IsImage}
 use Rattle.page.specs.Leaf.{LeafView, raised_to}
 use Rattle.page.specs.Parting.{upper_of, joined_of}
-use Rattle.page.specs.Tiles.{parts_of}
 use Rattle.btree.specs.Leaves.{leaf_at}
 use Rattle.btree.specs.Parting.{middle, may_split_at, may_merge_at}
 use Rattle.btree.specs.Performs.{performed_at}
@@ -24,7 +23,6 @@ use Rattle.recovery_laws.specs.Images.{leaf_of, image_of}
 use Rattle.recovery_laws.specs.Laws.{IsCurrent}
 use Rattle.recovery_laws.specs.Leaves.{split_of, merge_of}
 use Rattle.recovery_laws.specs.Ready.{IsLow, IsReady}
-use Rattle.recovery_laws.specs.Shape.{part_in, shape}
 use Rattle.recovery_laws.proofs.Ready.{ready_stays}
 use Rattle.system_txn.specs.SystemView.{SystemView, fresh, refused_so}
 use Rattle.system_txn.specs.Changes.{next_id, next_number, leaf_in, split_to, merged_to, accepted, covered, forced, lowered, written_to, written_all}
@@ -38,7 +36,7 @@ use Rattle.system_txn.specs.declared.tended.Tended.{Tended}
 use Rattle.system_txn.specs.declared.tended.Tended.TheVariants as tended
 use Rattle.system_txn.proofs.AfterCrash.{ready_recovered}
 use Rattle.system_txn.proofs.Parted.{split_recoverable, merge_recoverable}
-use Rattle.system_txn.proofs.Recoverable.{recoverable_accepted, recoverable_lowered, recoverable_written, recoverable_written_all, AreSo, still_so}
+use Rattle.system_txn.proofs.Recoverable.{recoverable_accepted, recoverable_lowered, recoverable_written, AreSo, still_so}
 use Rattle.system_txn.proofs.Written.{at_place, pages_written}
 
 -- ---- low numbers rise
@@ -50,22 +48,10 @@ low_grows v l =
       | inr past ↦ rw (le-ltb v.low l past) (omega arith)
     ]
 
--- at least to where they are raised
-low_reaches : (v : AbLsnView) (l : ℕ) → l ≤ (raised v l).low
-low_reaches v l =
-    elim (cases_lt v.low l) [
-      | inl less ↦ rw (lt-ltb v.low l less) (omega arith)
-      | inr past ↦ rw (le-ltb v.low l past) past
-    ]
-
-lows_reach : (leaves : List LeafView) (l : ℕ) → AllByRecursion (IsLow l) (map (λ leaf. raised_to leaf l) leaves)
-lows_reach [] l = tt
-lows_reach (leaf ∷ leaves) l = (low_reaches leaf.ab l, lows_reach leaves l)
-
 -- ---- nothing is asked of low numbers at the start
 
-pub checked_fresh : (failures : ℕ) → IsChecked 0 (fresh failures)
-checked_fresh failures = record {
+pub fresh_checked : (failures : ℕ) → IsChecked 0 (fresh failures)
+fresh_checked failures = record {
   leaves = (omega arith, tt);
   ready = (ready_stays (IsLow 0)).all _ [] 0 (record {
     first_leaf = omega arith;
@@ -79,21 +65,21 @@ checked_fresh failures = record {
 pub refused_checked : (v : SystemView) (r : Refusal) → Checks v (refused_so v r)
 refused_checked v r l c = record { leaves = c.leaves; ready = c.ready }
 
-checked_forced : (v : SystemView) → IsRecoverable v → Checks v (forced v)
-checked_forced v h l c = record {
+forced_checked : (v : SystemView) → IsRecoverable v → Checks v (forced v)
+forced_checked v h l c = record {
   leaves = c.leaves;
   ready = (ready_stays (IsLow l)).force _ v.log v.stable (length v.log) h.fit.kept c.ready;
 }
 
-checked_covered : (v : SystemView) (leaf : LeafView) → IsRecoverable v → Checks v (covered v leaf)
-checked_covered v leaf h l c =
+covered_checked : (v : SystemView) (leaf : LeafView) → IsRecoverable v → Checks v (covered v leaf)
+covered_checked v leaf h l c =
     elim (cases_Bool (nat_le leaf.last v.stable)) [
       | inl stable ↦ rw stable c
-      | inr young ↦ rw young (checked_forced v h l c)
+      | inr young ↦ rw young (forced_checked v h l c)
     ]
 
-checked_accepted : (v : SystemView) (session : ℕ) → IsRecoverable v → Checks v (accepted v session)
-checked_accepted v session h l c = record {
+accepted_checked : (v : SystemView) (session : ℕ) → IsRecoverable v → Checks v (accepted v session)
+accepted_checked v session h l c = record {
   leaves = c.leaves;
   ready =
       (ready_stays (IsLow l)).grow _ (is.Accept session) v.log v.stable (tt, h.legal) h.fit (λ leaf made. absurd (cc))
@@ -101,19 +87,19 @@ checked_accepted v session h l c = record {
 }
 
 -- a session's record is stable
-pub accepted_checked : (v : SystemView) (session : ℕ) → IsRecoverable v → Checks v (forced (accepted v session))
-accepted_checked v session h l c =
-    checked_forced (accepted v session) (recoverable_accepted v session h) l (checked_accepted v session h l c)
+pub session_checked : (v : SystemView) (session : ℕ) → IsRecoverable v → Checks v (forced (accepted v session))
+session_checked v session h l c =
+    forced_checked (accepted v session) (recoverable_accepted v session h) l (accepted_checked v session h l c)
 
 -- ---- leaves change
 
-pub checked_performed : (v : SystemView) (n : ℕ) (o : Op)
+pub performed_checked : (v : SystemView) (n : ℕ) (o : Op)
     → Checks v (record v { leaves = performed_at v.leaves n o })
-checked_performed v n o l c =
+performed_checked v n o l c =
     record { leaves = lows_performed (λ low. l ≤ low) v.leaves n o c.leaves; ready = c.ready }
 
-pub checked_lowered : (v : SystemView) (to : ℕ) → Checks v (lowered v to)
-checked_lowered v to l c = record {
+pub lowered_checked : (v : SystemView) (to : ℕ) → Checks v (lowered v to)
+lowered_checked v to l c = record {
   leaves =
       all_mapped (IsLow l) (IsLow l) (λ leaf. raised_to leaf to)
       (λ leaf low. omega (arith, low, low_grows leaf.ab to)) v.leaves c.leaves;
@@ -122,9 +108,9 @@ checked_lowered v to l c = record {
 
 -- ---- leaves are split and joined
 
-split_checked : (v : SystemView) (p : ℕ) → IsSystem v → IsRecoverable v → may_split_at v.leaves p ≡ true
+split_to_checked : (v : SystemView) (p : ℕ) → IsSystem v → IsRecoverable v → may_split_at v.leaves p ≡ true
     → Checks v (split_to v p)
-split_checked v p kept h may l c =
+split_to_checked v p kept h may l c =
     let upper : LeafView = upper_of (leaf_in v p) (middle (leaf_in v p)) (next_id v) (next_number v) in
     let low : IsLow l (leaf_of (image_of upper)) =
     at_place (IsLow l) v.leaves p (split_within v.leaves p may) c.leaves in
@@ -136,8 +122,9 @@ split_checked v p kept h may l c =
           (λ leaf made. subst (IsLow l) (let same : leaf_of (image_of upper) ≡ leaf = cc in same) low) c.ready;
     }
 
-merge_checked : (v : SystemView) (p : ℕ) → IsRecoverable v → may_merge_at v.leaves p ≡ true → Checks v (merged_to v p)
-merge_checked v p h may l c =
+merged_to_checked : (v : SystemView) (p : ℕ) → IsRecoverable v → may_merge_at v.leaves p ≡ true
+    → Checks v (merged_to v p)
+merged_to_checked v p h may l c =
     let left : LeafView = leaf_in v p in
     let right : LeafView = leaf_in v (p + 1) in
     let both : LeafView = joined_of left right (next_number v) in
@@ -154,40 +141,40 @@ merge_checked v p h may l c =
 checked_splits : (old : SystemView) (p : ℕ) (pair : Neighbours) (new : SystemView) → IsSystem old
     → IsRecoverable old → Splits old p pair new → Checks old new
 checked_splits old p pair new kept h splits =
-    subst (Checks old) (sym splits.after) (split_checked old p kept h splits.may)
+    subst (Checks old) (sym splits.after) (split_to_checked old p kept h splits.may)
 
 checked_merges : (old : SystemView) (p : ℕ) (pair : Neighbours) (new : SystemView) → IsRecoverable old
     → Merges old p pair new → Checks old new
 checked_merges old p pair new h merges =
-    subst (Checks old) (sym merges.after) (merge_checked old p h merges.may)
+    subst (Checks old) (sym merges.after) (merged_to_checked old p h merges.may)
 
 -- ---- leaves are written
 
 -- the page of a leaf that the log has so
-checked_page : (v : SystemView) (leaf : LeafView) (l : ℕ) → IsImage (image_of leaf) → IsCurrent v.log leaf.id leaf
+page_checked : (v : SystemView) (leaf : LeafView) (l : ℕ) → IsImage (image_of leaf) → IsCurrent v.log leaf.id leaf
     → IsLow l leaf → IsChecked l v
     → IsChecked l (record v { pages = table.insert v.pages leaf.id (image_bytes (image_of leaf)) })
-checked_page v leaf l fits current low c = record {
+page_checked v leaf l fits current low c = record {
   leaves = c.leaves;
   ready = subst (λ (pages : ℕ → Option LeafView). IsReady (IsLow l) pages v.log v.stable)
       (sym (λ i id. pages_written v.pages leaf fits id i))
       ((ready_stays (IsLow l)).write (pages_of v.pages) v.log v.stable leaf.id leaf current low c.ready);
 }
 
-checked_written : (v : SystemView) (leaf : LeafView) (l : ℕ) → IsRecoverable v → IsImage (image_of leaf)
+written_checked : (v : SystemView) (leaf : LeafView) (l : ℕ) → IsRecoverable v → IsImage (image_of leaf)
     → IsCurrent v.log leaf.id leaf → IsLow l leaf → IsChecked l v → IsChecked l (written_to v leaf)
-checked_written v leaf l h fits current low c =
+written_checked v leaf l h fits current low c =
     elim (cases_Bool (nat_le leaf.last v.stable)) [
-      | inl stable ↦ rw stable (checked_page v leaf l fits current low c)
-      | inr young ↦ rw young (checked_page (forced v) leaf l fits current low (checked_forced v h l c))
+      | inl stable ↦ rw stable (page_checked v leaf l fits current low c)
+      | inr young ↦ rw young (page_checked (forced v) leaf l fits current low (forced_checked v h l c))
     ]
 
-checked_written_all : (v : SystemView) (leaves : List LeafView) (l : ℕ) → IsRecoverable v → HaveImages leaves
+written_all_checked : (v : SystemView) (leaves : List LeafView) (l : ℕ) → IsRecoverable v → HaveImages leaves
     → AreSo v leaves → AllByRecursion (IsLow l) leaves → IsChecked l v → IsChecked l (written_all v leaves)
-checked_written_all v [] l h fit all lows c = c
-checked_written_all v (leaf ∷ leaves) l h fit all lows c =
-    checked_written_all (written_to v leaf) leaves l (recoverable_written v leaf h fit.0 all.0) fit.1
-    (still_so v leaf leaves all.1) lows.1 (checked_written v leaf l h fit.0 all.0 lows.0 c)
+written_all_checked v [] l h fit all lows c = c
+written_all_checked v (leaf ∷ leaves) l h fit all lows c =
+    written_all_checked (written_to v leaf) leaves l (recoverable_written v leaf h fit.0 all.0) fit.1
+    (still_so v leaf leaves all.1) lows.1 (written_checked v leaf l h fit.0 all.0 lows.0 c)
 
 checked_stops : (v : SystemView) (leaf : LeafView) (r : Refusal) (new : SystemView) → IsRecoverable v
     → StopsWriting v leaf r new → Checks v new
@@ -195,7 +182,7 @@ checked_stops v leaf r new h stops l c =
     elim stops.1 [
       | inl before ↦ subst (IsChecked l) (sym before) (refused_checked v r l c)
       | inr after ↦
-          subst (IsChecked l) (sym after) (refused_checked (covered v leaf) r l (checked_covered v leaf h l c))
+          subst (IsChecked l) (sym after) (refused_checked (covered v leaf) r l (covered_checked v leaf h l c))
     ]
 
 checked_stops_among : (v : SystemView) (leaves : List LeafView) (r : Refusal) (new : SystemView) (l : ℕ)
@@ -205,7 +192,7 @@ checked_stops_among v [] r new l h all lows stops c = absurd stops
 checked_stops_among v (leaf ∷ leaves) r new l h all lows (inl here) c = checked_stops v leaf r new h here l c
 checked_stops_among v (leaf ∷ leaves) r new l h all lows (inr later) c =
     checked_stops_among (written_to v leaf) leaves r new l (recoverable_written v leaf h later.0 all.0)
-    (still_so v leaf leaves all.1) lows.1 later.1 (checked_written v leaf l h later.0 all.0 lows.0 c)
+    (still_so v leaf leaves all.1) lows.1 later.1 (written_checked v leaf l h later.0 all.0 lows.0 c)
 
 -- ---- whatever a call gives
 
@@ -245,28 +232,28 @@ checked_flush old k (Ok id) new kept h gives l c =
     let at : IsCurrent old.log (leaf_at old.leaves k).id (leaf_at old.leaves k) =
     all_at (λ (leaf : LeafView). IsCurrent old.log leaf.id leaf) old.leaves k kept.leaves h.current.each in
     let low : IsLow l (leaf_at old.leaves k) = all_at (IsLow l) old.leaves k kept.leaves c.leaves in
-    subst (IsChecked l) (sym gives.2) (checked_written old (leaf_at old.leaves k) l h gives.1 at low c)
+    subst (IsChecked l) (sym gives.2) (written_checked old (leaf_at old.leaves k) l h gives.1 at low c)
 checked_flush old k (Err r) new kept h gives l c = checked_stops old (leaf_at old.leaves k) r new h gives l c
 
 pub checked_accept : (old : SystemView) (s : ℕ) (given : Result Unit Refusal) (new : SystemView)
     → IsRecoverable old → AcceptGives old s given new → Checks old new
 checked_accept old s (Ok done) new h gives l c =
-    subst (IsChecked l) (sym gives.1) (accepted_checked old s h l c)
+    subst (IsChecked l) (sym gives.1) (session_checked old s h l c)
 checked_accept old s (Err r) new h (why, inl refused) l c = refused_at old r new refused l c
 checked_accept old s (Err r) new h (why, inr after) l c =
-    refused_at (accepted old s) r new after.2 l (checked_accepted old s h l c)
+    refused_at (accepted old s) r new after.2 l (accepted_checked old s h l c)
 
 pub checked_checkpoint : (old : SystemView) (to : ℕ) (given : Result Unit Refusal) (new : SystemView)
     → IsRecoverable old → CheckpointGives old to given new → Checks old new
 checked_checkpoint old to (Ok done) new h gives l c =
     let raised : IsRecoverable (lowered old to) = recoverable_lowered old to h in
-    let low : IsChecked l (lowered old to) = checked_lowered old to l c in
+    let low : IsChecked l (lowered old to) = lowered_checked old to l c in
     subst (IsChecked l) (sym gives.1)
-    (checked_written_all (lowered old to) (lowered old to).leaves l raised gives.0 raised.current.each low.leaves low)
+    (written_all_checked (lowered old to) (lowered old to).leaves l raised gives.0 raised.current.each low.leaves low)
 checked_checkpoint old to (Err r) new h (inl none) l c = subst (IsChecked l) (sym none.1) c
 checked_checkpoint old to (Err r) new h (inr stops) l c =
     let raised : IsRecoverable (lowered old to) = recoverable_lowered old to h in
-    let low : IsChecked l (lowered old to) = checked_lowered old to l c in
+    let low : IsChecked l (lowered old to) = lowered_checked old to l c in
     checked_stops_among (lowered old to) (lowered old to).leaves r new l raised raised.current.each low.leaves stops low
 
 -- ---- a crash
@@ -278,84 +265,3 @@ crashed_checked v n h le l c = record {
       c.ready;
   ready = (ready_stays (IsLow l)).crash (pages_of v.pages) v.log v.stable n le c.ready;
 }
-
--- ---- a checkpoint
-
--- the number's page is as the log has it, with a low number this high
-abbrev HasPage : ℕ → SystemView → ℕ → Type 0
-HasPage l v id =
-    (page : LeafView) × (pages_of v.pages id ≡ Some page) × IsCurrent v.log id page × IsLow l page
-
--- the leaves have the number, and so have the log and the pages, but for those that are still to be written
-record Writes (l : ℕ) (v : SystemView) (left : List LeafView) : Type 0 where
-  leaves : AllByRecursion (IsLow l) v.leaves
-  current : AreSo v left
-  lows : AllByRecursion (IsLow l) left
-  pages : (id : ℕ) → part_in id (shape v.log) ≢ None → HasPage l v id ⊎ (part_in id (parts_of left) ≢ None)
-
-page_written : (v : SystemView) (leaf : LeafView) (left : List LeafView) (l : ℕ) → IsImage (image_of leaf)
-    → Writes l v (leaf ∷ left)
-    → Writes l (record v { pages = table.insert v.pages leaf.id (image_bytes (image_of leaf)) }) left
-page_written v leaf left l fits w = record {
-  leaves = w.leaves;
-  current = w.current.1;
-  lows = w.lows.1;
-  pages = λ id there.
-      let new = pages_written v.pages leaf fits id in
-      elim (cases_eq id leaf.id) [
-        | inl e ↦
-            inl (
-              leaf,
-              new ∙ rw (eq-eqb id leaf.id e) refl,
-              subst (λ (n : ℕ). IsCurrent v.log n leaf) (sym e) w.current.0,
-              w.lows.0,
-            )
-        | inr apart ↦
-            elim (w.pages id there) [
-              | inl has ↦ inl (has.0, new ∙ rw (ne_eqb id leaf.id apart) has.1, has.2, has.3)
-              | inr later ↦ inr (rw (ne_eqb leaf.id id (λ e. apart (sym e))) at later)
-            ]
-      ];
-}
-
-leaf_written : (v : SystemView) (leaf : LeafView) (left : List LeafView) (l : ℕ) → IsImage (image_of leaf)
-    → Writes l v (leaf ∷ left) → Writes l (written_to v leaf) left
-leaf_written v leaf left l fits w =
-    elim (cases_Bool (nat_le leaf.last v.stable)) [
-      | inl stable ↦ rw stable (page_written v leaf left l fits w)
-      | inr young ↦
-          rw young (page_written (forced v) leaf left l fits
-          (record { leaves = w.leaves; current = w.current; lows = w.lows; pages = w.pages }))
-    ]
-
-all_written : (v : SystemView) (left : List LeafView) (l : ℕ) → HaveImages left → Writes l v left
-    → Writes l (written_all v left) []
-all_written v [] l fit w = w
-all_written v (leaf ∷ left) l fit w =
-    all_written (written_to v leaf) left l fit.1 (leaf_written v leaf left l fit.0 w)
-
--- once all leaves are raised and written the number is checked
-pub checkpoint_reaches : (old : SystemView) (l : ℕ) (new : SystemView) → IsRecoverable old
-    → CheckpointGives old l (Ok tt) new → IsChecked l new
-checkpoint_reaches old l new h gives =
-    let start : SystemView = lowered old l in
-    let raised : IsRecoverable start = recoverable_lowered old l h in
-    let end : SystemView = written_all start start.leaves in
-    let low : AllByRecursion (IsLow l) start.leaves = lows_reach old.leaves l in
-    let good : IsRecoverable end = recoverable_written_all start start.leaves raised gives.0 raised.current.each in
-    let all : Writes l end [] =
-    all_written start start.leaves l gives.0 (record {
-      leaves = low;
-      current = raised.current.each;
-      lows = low;
-      pages = λ id there. inr (λ none. there (ap (part_in id) (sym raised.current.parts) ∙ none));
-    }) in
-    subst (IsChecked l) (sym gives.1) (record {
-      leaves = all.leaves;
-      ready =
-          (ready_stays (IsLow l)).written_all (pages_of end.pages) end.log end.stable good.legal good.fit
-          (λ id there. elim (all.pages id there) [
-            | inl has ↦ has
-            | inr none ↦ absurd (none refl)
-          ]);
-    })

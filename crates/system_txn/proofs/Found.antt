@@ -94,8 +94,8 @@ seen_so pages found log v is i = record {
   failures = v.failures;
 }
 
-pub open_kept : (bytes : List ℕ) (pages : Pages) (left : List ℕ) (found : Recovered) (is : IsFound bytes pages left found)
-    (v : SystemView) → IsOpened pages found is.log v → IsSystem v
+pub open_kept : (bytes : List ℕ) (pages : Pages) (left : List ℕ) (found : Recovered)
+    (is : IsFound bytes pages left found) (v : SystemView) → IsOpened pages found is.log v → IsSystem v
 open_kept bytes pages left found is v so =
     subst IsSystem (sym (seen_so pages found is.log v so)) (opened_kept bytes pages left found is v.failures)
 

@@ -16,7 +16,7 @@ no_rows : table.entries first.rows ≡ []
 no_rows =
     nil_from_length (table.entries first.rows) (sym (table.len-entries first.rows) ∙ table.len-empty key_cmp Bytes)
 
-first_kept : IsLeaf first
+pub first_kept : IsLeaf first
 first_kept = record { rows = rw no_rows tt; entries = tt; rising = tt }
 
 pub first_alone : AreLeaves (first ∷ [])

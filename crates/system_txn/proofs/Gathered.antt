@@ -97,7 +97,8 @@ module _ (pages : Pages) (log : List DcRecord) (slots : List Slot) (g : IsGather
       → recovered (pages_of pages) log id ≡ Some leaf
   here id leaf within is =
       let low : id ≤ named log = omega (arith, within, g.count) in
-      let held : leaf_on slots id ≡ recovered (pages_of pages) log id = rw (le-leb id (named log) low) at (g.held id within) in
+      let held : leaf_on slots id ≡ recovered (pages_of pages) log id =
+      rw (le-leb id (named log) low) at (g.held id within) in
       sym held ∙ is
 
   there : (id : ℕ) (leaf : LeafView) → recovered (pages_of pages) log id ≡ Some leaf

@@ -3,7 +3,6 @@ use Rattle.std.proofs.Common.{◌≡◌, ℕ, ◌+◌, ◌<◌, ◌^◌, List, [
 use Rattle.std.specs.Prelude.{nat_lt}
 use Rattle.std.specs.FinMap as table
 use Rattle.std.proofs.lemmas.Bool.{cases_Bool, cases_eq}
-use Rattle.std.proofs.lemmas.List.{nil_from_length}
 use Rattle.codec.specs.declared.image.LeafImage.{LeafImage}
 use Rattle.codec.specs.Images.{IsImage}
 use Rattle.codec.specs.Reading.{◌>>=◌}
@@ -11,7 +10,6 @@ use Rattle.codec.specs.declared.dc_record.DcRecord.{DcRecord}
 use Rattle.codec.specs.declared.dc_record.DcRecord.TheVariants.{Accept, Split, Merge}
 use Rattle.btree.proofs.Kept.{kept_lower}
 use Rattle.page.specs.Leaf.{LeafView, IsLeaf, first}
-use Rattle.record_key.specs.Laws.{key_cmp}
 use Rattle.record_key.specs.Table.{Bytes}
 use Rattle.stable.specs.PagesState.{Pages}
 use Rattle.recovery_laws.specs.Images.{leaf_of, image_of, HasLeafNumbers}
@@ -20,7 +18,8 @@ use Rattle.recovery_laws.proofs.Images.{images_keep_leaves, numbers_stay}
 use Rattle.recovery_laws.proofs.Recovering.{Source, at_first, at_new, at_cut, by_split, at_gone, at_merged, by_merge}
 use Rattle.system_txn.specs.Devices.{AreRecords, pages_of, page_in}
 use Rattle.system_txn.specs.Recovering.{AreOwnPages}
-use Rattle.system_txn.proofs.PageReading.{image_page}
+use Rattle.system_txn.proofs.Fresh.{first_kept}
+use Rattle.system_txn.proofs.PageReading.{image_found}
 
 -- a leaf of this number
 pub record IsGood (id : ℕ) (leaf : LeafView) : Type 0 where
@@ -28,14 +27,10 @@ pub record IsGood (id : ℕ) (leaf : LeafView) : Type 0 where
   pub kept : IsLeaf leaf
   pub numbers : HasLeafNumbers leaf
 
-no_rows : table.entries first.rows ≡ []
-no_rows =
-    nil_from_length (table.entries first.rows) (sym (table.len-entries first.rows) ∙ table.len-empty key_cmp Bytes)
-
 first_good : IsGood 1 first
 first_good = record {
   own = refl;
-  kept = record { rows = rw no_rows tt; entries = tt; rising = tt };
+  kept = first_kept;
   numbers = numbers_stay.first;
 }
 
@@ -51,14 +46,11 @@ page_good pages count id leaf None own is h =
     absurd (cc)
 page_good pages count id leaf (Some bytes) own is h =
     let page = own id bytes is in
-    let at : pages_of pages id ≡ page_in bytes = ap (λ (o : Option (List ℕ)). o >>= page_in) is in
-    let there : page_in bytes ≡ Some page.0 =
-    image_page (image_of page.0) bytes page.1.image page.1.spelled
-    ∙ ap (λ (l : LeafView). Some l) (images_keep_leaves.leaf page.0) in
-    let both : Some page.0 ≡ Some leaf = sym there ∙ sym at ∙ h in
+    let both : Some page.0 ≡ Some leaf = sym (image_found pages id bytes page.0 is page.1) ∙ h in
     let same : page.0 ≡ leaf = cc in
     let numbers : HasLeafNumbers page.0 =
-    subst HasLeafNumbers (images_keep_leaves.leaf page.0) (images_keep_leaves.spelled (image_of page.0) page.1.image).1 in
+    subst HasLeafNumbers (images_keep_leaves.leaf page.0)
+    (images_keep_leaves.spelled (image_of page.0) page.1.image).1 in
     subst (IsGood id) same (record { own = page.2; kept = page.1.kept; numbers = numbers })
 
 source_good : (pages : Pages) (count id : ℕ) (other leaf : LeafView) → AreOwnPages pages count
@@ -81,7 +73,8 @@ cut_good id d cut leaf number good =
       | inr younger ↦ rw younger good
     ]
 
-merge_good : (id d : ℕ) (merged leaf : LeafView) → IsGood id merged → IsGood id leaf → IsGood id (merged_again d merged leaf)
+merge_good : (id d : ℕ) (merged leaf : LeafView) → IsGood id merged → IsGood id leaf
+    → IsGood id (merged_again d merged leaf)
 merge_good id d merged leaf new good =
     elim (cases_Bool (nat_lt leaf.last d)) [
       | inl older ↦ rw older new

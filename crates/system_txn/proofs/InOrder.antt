@@ -98,7 +98,8 @@ no_leaves : (ys : List LeafView) → ((z : LeafView) → IsIn z ys → ⊥) → 
 no_leaves [] none = refl
 no_leaves (y ∷ ys) none = absurd (none y (inl refl))
 
-same_after : (low high : Option Bytes) (xs ys : List LeafView) → ((h : Bytes) → TileFrom (Some h) (parts_of xs) → xs ≡ ys)
+same_after : (low high : Option Bytes) (xs ys : List LeafView)
+    → ((h : Bytes) → TileFrom (Some h) (parts_of xs) → xs ≡ ys)
     → ((z : LeafView) → IsIn z ys → IsIn z xs) → Rest low high (parts_of xs) → xs ≡ ys
 same_after low None xs ys same back r =
     let none : xs ≡ [] = no_parts xs r in

@@ -3,6 +3,7 @@ pub mod AllKeys
 pub mod AllWritten
 pub mod Amid
 pub mod Checked
+pub mod Checkpointed
 pub mod Crashed
 pub mod Found
 pub mod Fresh

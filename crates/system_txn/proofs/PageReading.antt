@@ -1,14 +1,17 @@
 -- Pages that are the images of their own leaves.
 use Rattle.std.proofs.Common.{◌≡◌, ◌≢◌, ℕ, ◌≤◌, List, [], length, Option, Some, refl, sym, ap, ◌∙◌, subst, append-nil}
+use Rattle.std.specs.FinMap as table
 use Rattle.codec.specs.declared.image.LeafImage.{LeafImage}
 use Rattle.codec.specs.declared.taken.Taken.{Taken}
 use Rattle.codec.specs.declared.taken.Taken.TheVariants as took
 use Rattle.codec.specs.Images.{image_bytes, IsImage}
-use Rattle.codec.specs.Reading.{image_at}
+use Rattle.codec.specs.Reading.{◌>>=◌, image_at}
 use Rattle.codec.proofs.Images.{image_reads}
+use Rattle.stable.specs.PagesState.{Pages}
+use Rattle.page.specs.Leaf.{LeafView}
 use Rattle.recovery_laws.specs.Images.{leaf_of, image_of}
 use Rattle.recovery_laws.proofs.Images.{images_keep_leaves}
-use Rattle.system_txn.specs.Devices.{page_in}
+use Rattle.system_txn.specs.Devices.{IsPage, page_in, pages_of}
 use Rattle.system_txn.specs.Paging.{IsOwnPage, IsOwnIfAny}
 
 same_image : (image : LeafImage) → IsImage image → image_of (leaf_of image) ≡ image
@@ -22,6 +25,17 @@ image_page image bytes fits is =
     let all : image_at bytes ≡ Some (image, []) =
     ap image_at (is ∙ sym (append-nil (image_bytes image))) ∙ image_reads.again image [] fits in
     rw all refl
+
+-- so of a page that a leaf was written to that leaf is read
+pub page_again : (leaf : LeafView) → IsImage (image_of leaf) → page_in (image_bytes (image_of leaf)) ≡ Some leaf
+page_again leaf fits =
+    image_page (image_of leaf) (image_bytes (image_of leaf)) fits refl
+    ∙ ap (λ (l : LeafView). Some l) (images_keep_leaves.leaf leaf)
+
+pub image_found : (pages : Pages) (id : ℕ) (bytes : List ℕ) (leaf : LeafView) → table.get pages id ≡ Some bytes
+    → IsPage bytes leaf → pages_of pages id ≡ Some leaf
+image_found pages id bytes leaf is page =
+    ap (λ (o : Option (List ℕ)). o >>= page_in) is ∙ ap page_in page.spelled ∙ page_again leaf page.image
 
 -- it is that leaf's own page
 pub own_page : (image : LeafImage) (bytes : List ℕ) (id count : ℕ) → IsImage image → bytes ≡ image_bytes image

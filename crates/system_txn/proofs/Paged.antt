@@ -26,10 +26,6 @@ pub record ArePaged (pages : Pages) (count n : ℕ) (slots : List Slot) (ids : L
   pub each : AllByRecursion (IsPaged pages count n slots) ids
   pub rest : (id : ℕ) → (leaf_on slots id ≡ None) ⊎ (leaf_on slots id ≡ pages_of pages id)
 
-pub none_paged : (pages : Pages) (count n : ℕ) (slots : List Slot) → ((id : ℕ) → leaf_on slots id ≡ None)
-    → ArePaged pages count n slots []
-none_paged pages count n slots none = record { each = tt; rest = λ id. inl (none id) }
-
 -- a page that is read takes its place
 put_there : (pages : Pages) (old new : List Slot) (leaf : Option LeafView) (id other : ℕ) → leaf ≡ pages_of pages id
     → leaf_on new other ≡ cond (other == id) leaf (leaf_on old other) → leaf_on old other ≡ pages_of pages other
@@ -58,7 +54,8 @@ one_placed : (pages : Pages) (count n : ℕ) (old new : List Slot) (ids : List �
 one_placed pages count n old new ids id leaf so_far own is now = record {
   each = all_appended (IsPaged pages count n new) ids (id ∷ [])
       (all_from (IsPaged pages count n old) (IsPaged pages count n new)
-      (λ x p. record { own = p.own; placed = λ lt. put_there pages old new leaf id x is (now x) (p.placed lt) }) ids so_far.each)
+      (λ x p. record { own = p.own; placed = λ lt. put_there pages old new leaf id x is (now x) (p.placed lt) }) ids
+      so_far.each)
       (record { own = own; placed = λ lt. (rw (eq-eqb id id refl) at (now id)) ∙ is }, tt);
   rest = λ other. put_or_none pages old new leaf id other is (now other) (so_far.rest other);
 }

@@ -55,7 +55,7 @@ oldest_first (q ∷ newer) r =
     ap (λ (b : List ℕ). b ++ frame (dc_record_bytes q)) (oldest_first newer r)
     ∙ append_assoc (frame (dc_record_bytes r)) (spelled newer) (frame (dc_record_bytes q))
 
-older_records : (newer older : List DcRecord) → AreRecords (newer ++ older) → AreRecords older
+pub older_records : (newer older : List DcRecord) → AreRecords (newer ++ older) → AreRecords older
 older_records [] older all = all
 older_records (r ∷ newer) older all = older_records newer older all.1
 

@@ -3,19 +3,17 @@ use Rattle.std.proofs.Common.{◌≡◌, ℕ, ◌≤◌, Bool, List, [], ◌∷�
 use Rattle.std.specs.Prelude.{nat_le, Result, Ok, Err}
 use Rattle.std.specs.List.{AllByRecursion}
 use Rattle.std.specs.FinMap as table
-use Rattle.std.proofs.lemmas.Bool.{cases_Bool, leb-true, MatchBool-at_true, MatchBool-at_false}
+use Rattle.std.proofs.lemmas.Bool.{cases_Bool, leb-true}
 use Rattle.record_key.specs.declared.op.Op.{Op}
 use Rattle.record_key.specs.declared.refusal.Refusal.{Refusal}
 use Rattle.record_key.specs.Table.{Bytes, key_of}
-use Rattle.ab_lsn.specs.AbLsn.{captures}
 use Rattle.codec.specs.declared.dc_record.DcRecord.TheVariants as is
 use Rattle.codec.specs.Images.{image_bytes, IsImage}
 use Rattle.codec.specs.Reading.{◌>>=◌}
-use Rattle.page.specs.declared.leaf.Done.{Done}
 use Rattle.page.specs.Leaf.{LeafView, is_in_fences, performed, raised_to}
 use Rattle.page.specs.Tiles.{parts_of}
 use Rattle.btree.specs.Leaves.{leaf_at, changed_at}
-use Rattle.btree.specs.Performs.{PerformsAt, performed_at}
+use Rattle.btree.specs.Performs.{performed_at}
 use Rattle.btree.proofs.AtKey.{all_at}
 use Rattle.btree.proofs.Changing.{parts_changed, parts_mapped}
 use Rattle.recovery_laws.specs.Images.{image_of}
@@ -111,16 +109,6 @@ recoverable_changed v n o h =
     let act : LeafView → LeafView = λ leaf. performed leaf n o in
     in_place v (performed_at v.leaves n o) h
     (parts_changed act (λ leaf. refl) (key_of o) v.leaves) (lasts_changed (key_of o) act (λ leaf. refl) v.leaves)
-
--- the same, whatever the request came to
-pub recoverable_performs : (v : SystemView) (n : ℕ) (o : Op) (done : Done) (new : List LeafView) → IsRecoverable v
-    → PerformsAt v.leaves n o done new → IsRecoverable (record v { leaves = new })
-recoverable_performs v n o done new h performs =
-    let Of : List LeafView → Type 0 = λ leaves. IsRecoverable (record v { leaves = leaves }) in
-    elim (cases_Bool (captures (leaf_at v.leaves (key_of o)).ab n)) [
-      | inl again ↦ subst Of (sym (MatchBool-at_true _ _ again performs).1) h
-      | inr out ↦ subst Of (sym (MatchBool-at_false _ _ out performs).1) (recoverable_changed v n o h)
-    ]
 
 -- ---- leaves are split and joined
 

@@ -14,6 +14,7 @@ use Rattle.recovery_laws.specs.Shape.{named}
 use Rattle.system_txn.specs.Devices.{AreRecords, pages_of}
 use Rattle.system_txn.specs.Replaying.{HoldsPages, HoldsRecovered, recovered_or}
 use Rattle.system_txn.specs.Shelf.{Slot, leaf_on, redone, HasPlaces}
+use Rattle.system_txn.proofs.ReadOnce.{older_records}
 use Rattle.system_txn.proofs.Knowing.{known_some, older_readable, older_named}
 
 -- a log that may be done again with so many places
@@ -21,10 +22,6 @@ pub record FitsPlaces (log : List DcRecord) (count : ℕ) : Type 0 where
   pub records : AreRecords log
   pub readable : (pages : Pages) → AreReadable (pages_of pages) log
   pub places : named log < count
-
-older_records : (newer older : List DcRecord) → AreRecords (newer ++ older) → AreRecords older
-older_records [] older each = each
-older_records (r ∷ newer) older each = older_records newer older each.1
 
 older_fits : (newer older : List DcRecord) (count : ℕ) → FitsPlaces (newer ++ older) count → FitsPlaces older count
 older_fits newer older count fits = record {
@@ -97,20 +94,22 @@ next_leaf pages (Merge left right merged) log id readable =
     ]
 
 -- what the places hold once the first of the records are done again
-pub record IsReplayed (records : List DcRecord) (old : List Slot) (done rest : List DcRecord) (new : List Slot) (n : ℕ) : Type 0 where
+pub record IsReplayed (records : List DcRecord) (old : List Slot) (done rest : List DcRecord) (new : List Slot)
+    (n : ℕ) : Type 0 where
   pub parts : records ≡ done ++ rest
   pub number : n ≡ length done
   pub count : length new ≡ length old
   pub held : (pages : Pages) → HoldsPages pages old → HoldsRecovered pages (reverse done) new
 
 -- of what is left one is the next
-pub with_next : (records : List DcRecord) (old : List Slot) (done left rest : List DcRecord) (r : DcRecord) (mid : List Slot)
-    (number : ℕ) → left ≡ r ∷ rest → IsReplayed records old done left mid number
+pub with_next : (records : List DcRecord) (old : List Slot) (done left rest : List DcRecord) (r : DcRecord)
+    (mid : List Slot) (number : ℕ) → left ≡ r ∷ rest → IsReplayed records old done left mid number
     → IsReplayed records old done (r ∷ rest) mid number
 with_next records old done left rest r mid number is far =
     subst (λ (rs : List DcRecord). IsReplayed records old done rs mid number) is far
 
-split_reverse : (done rest : List DcRecord) (r : DcRecord) → reverse (done ++ r ∷ rest) ≡ reverse rest ++ r ∷ reverse done
+split_reverse : (done rest : List DcRecord) (r : DcRecord)
+    → reverse (done ++ r ∷ rest) ≡ reverse rest ++ r ∷ reverse done
 split_reverse done rest r =
     reverse-append done (r ∷ rest)
     ∙ ap (λ (newer : List DcRecord). newer ++ reverse done) (reverse-append (r ∷ []) rest)
@@ -130,7 +129,8 @@ next_has_places records done rest r count parts fits =
     next_places r (reverse done) count (next_fits records done rest r count parts fits)
 
 -- and is done again
-pub next_replayed : (records : List DcRecord) (old : List Slot) (done rest : List DcRecord) (r : DcRecord) (mid new : List Slot)
+pub next_replayed : (records : List DcRecord) (old : List Slot) (done rest : List DcRecord) (r : DcRecord)
+    (mid new : List Slot)
     (number count : ℕ) → IsReplayed records old done (r ∷ rest) mid number → FitsPlaces (reverse records) count
     → length new ≡ length mid → ((id : ℕ) → leaf_on new id ≡ redone (number + 1) r id (leaf_on mid id))
     → IsReplayed records old (done ++ r ∷ []) rest new (number + 1)
@@ -154,8 +154,8 @@ next_replayed records old done rest r mid new number count far fits same step =
     }
 
 -- its number is one of the records'
-pub next_number : (records : List DcRecord) (old : List Slot) (done rest : List DcRecord) (r : DcRecord) (mid : List Slot)
-    (number : ℕ) → IsReplayed records old done (r ∷ rest) mid number → number + 1 ≤ length records
+pub next_number : (records : List DcRecord) (old : List Slot) (done rest : List DcRecord) (r : DcRecord)
+    (mid : List Slot) (number : ℕ) → IsReplayed records old done (r ∷ rest) mid number → number + 1 ≤ length records
 next_number records old done rest r mid number far =
     omega (arith, far.number, ap length far.parts, length-append done (r ∷ rest))
 

@@ -4,7 +4,6 @@ use Rattle.std.specs.FinMap as table
 use Rattle.std.proofs.lemmas.List.{length-append}
 use Rattle.codec.specs.declared.dc_record.DcRecord.{DcRecord}
 use Rattle.codec.specs.Frames.{any_length, IsCut}
-use Rattle.codec.specs.Reading.{◌>>=◌}
 use Rattle.stable.specs.PagesState.{Pages}
 use Rattle.page.specs.Leaf.{LeafView}
 use Rattle.recovery_laws.specs.Shape.{IsLegal}
@@ -17,11 +16,11 @@ use Rattle.recovery_laws.proofs.Beginnings.{legal_beginning}
 use Rattle.recovery_laws.proofs.Fitting.{fit_stays}
 use Rattle.recovery_laws.proofs.Leaves.{leaves_are_the_shapes}
 use Rattle.recovery_laws.proofs.Readable.{readable}
-use Rattle.system_txn.specs.Devices.{spelled, IsPage, page_in, pages_of}
+use Rattle.system_txn.specs.Devices.{spelled, IsPage, pages_of}
 use Rattle.system_txn.specs.Recovering.{HoldsFrames, AreOwnPages, IsBadFrame, AreBadPages, IsUnfit}
 use Rattle.system_txn.specs.Restarts.{RestartsGiveTheLog, RestartsAreNeverBad, BeginningsAreRecoverable}
 use Rattle.system_txn.proofs.ReadOnce.{IsOlder, GoesOn, none, one, oldest, older, goes_on, one_frame, uncut, frames_read_once}
-use Rattle.system_txn.proofs.Written.{page_again}
+use Rattle.system_txn.proofs.PageReading.{image_found}
 
 -- ---- what is opened
 
@@ -97,12 +96,6 @@ frames_good bytes pages log place legal room h b =
             | inr unfit ↦ next_fits bytes pages log b.log newer q h.left b.left legal room on unfit
           ]
     ]
-
--- the leaf of a page's image is what is read of the page
-pub image_found : (pages : Pages) (id : ℕ) (bytes : List ℕ) (leaf : LeafView) → table.get pages id ≡ Some bytes
-    → IsPage bytes leaf → pages_of pages id ≡ Some leaf
-image_found pages id bytes leaf is page =
-    ap (λ (o : Option (List ℕ)). o >>= page_in) is ∙ ap page_in page.spelled ∙ page_again leaf page.image
 
 -- images of leaves that fit the log are images of their own leaves
 own_pages : (pages : Pages) (log : List DcRecord) (forced : ℕ) → FitPages (pages_of pages) log forced

@@ -22,13 +22,15 @@ length-places [] = refl
 length-places (r ∷ log) = length-append (places log) (length (spelled log) ∷ []) ∙ omega (arith, length-places log)
 
 -- where a record's frame begins, the frames of those before it end
-pub place_at : (log : List DcRecord) (n x : ℕ) → n < length log → get_or (places log) n x ≡ length (spelled (beginning log n))
+pub place_at : (log : List DcRecord) (n x : ℕ) → n < length log
+    → get_or (places log) n x ≡ length (spelled (beginning log n))
 unfolding places
 place_at [] n x less = absurd (omega (arith, less))
 place_at (r ∷ log) n x less =
     elim (cases_lt n (length log)) [
       | inl older ↦
-          get_or_append_left (places log) (length (spelled log) ∷ []) x n (omega (arith, older, length-places log)) ∙ place_at log n x older
+          get_or_append_left (places log) (length (spelled log) ∷ []) x n (omega (arith, older, length-places log))
+          ∙ place_at log n x older
           ∙ ap (λ l. length (spelled l)) (sym (shorter r log n (omega (arith, older))))
       | inr last ↦
           let is : n ≡ length log = omega (arith, last, less) in

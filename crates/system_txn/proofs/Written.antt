@@ -1,35 +1,24 @@
 -- Leaves that are written to their pages.
-use Rattle.std.proofs.Common.{◌≡◌, ℕ, zero, suc, ◌<◌, ◌==◌, Bool, cond, List, [], ◌∷◌, length, get_or, Some, refl, sym, ap, ◌∙◌, subst, arith, append-nil, inl, inr}
+use Rattle.std.proofs.Common.{◌≡◌, ℕ, zero, suc, ◌<◌, ◌==◌, Bool, cond, List, [], ◌∷◌, length, get_or, Some, refl, sym, ap, ◌∙◌, subst, arith, inl, inr}
 use Rattle.std.specs.Prelude.{nat_le}
 use Rattle.std.specs.List.{AllByRecursion}
 use Rattle.std.specs.FinMap as table
 use Rattle.std.specs.Cmp.{nat_cmp_total, unsigned_tied}
 use Rattle.std.proofs.lemmas.Bool.{cases_Bool}
-use Rattle.codec.specs.declared.image.LeafImage.{LeafImage}
 use Rattle.codec.specs.Images.{image_bytes, IsOrderedImage, IsImage}
-use Rattle.codec.specs.Reading.{image_at}
-use Rattle.codec.proofs.Images.{image_reads}
 use Rattle.stable.specs.PagesState.{Pages}
 use Rattle.page.specs.Leaf.{LeafView, IsLeaf, first}
 use Rattle.recovery_laws.specs.Images.{image_of, HasLeafNumbers}
 use Rattle.recovery_laws.specs.Recovery.{written}
 use Rattle.recovery_laws.proofs.Images.{images_keep_leaves}
 use Rattle.system_txn.specs.Changes.{covered, forced, written_to}
-use Rattle.system_txn.specs.Devices.{page_in, pages_of}
+use Rattle.system_txn.specs.Devices.{pages_of}
 use Rattle.record_key.specs.declared.refusal.Refusal.{Refusal}
 use Rattle.system_txn.specs.Gives.{StopsWriting}
 use Rattle.system_txn.specs.Kept.{IsSystem}
 use Rattle.system_txn.specs.SystemView.{SystemView}
 use Rattle.system_txn.proofs.Keeps.{keeps_forced, keeps_failures}
-
--- the leaf of a page is read from its image
-pub page_again : (leaf : LeafView) → IsImage (image_of leaf) → page_in (image_bytes (image_of leaf)) ≡ Some leaf
-unfolding page_in
-page_again leaf fits =
-    let image : LeafImage = image_of leaf in
-    let all : image_at (image_bytes image) ≡ Some (image, []) =
-    ap image_at (sym (append-nil (image_bytes image))) ∙ image_reads.again image [] fits in
-    rw all (ap (λ (l : LeafView). Some l) (images_keep_leaves.leaf leaf))
+use Rattle.system_txn.proofs.PageReading.{page_again}
 
 -- what is read of a page where one was written
 get_written : (pages : Pages) (id : ℕ) (bytes : List ℕ) (q : ℕ)

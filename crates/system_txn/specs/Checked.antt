@@ -5,7 +5,8 @@ use Rattle.recovery_laws.specs.Ready.{IsLow, IsReady}
 use Rattle.system_txn.specs.Devices.{pages_of}
 use Rattle.system_txn.specs.SystemView.{SystemView}
 
--- each leaf has a low number of at least this, and so has what recovery takes leaves from, wherever a crash ends the log
+-- each leaf has a low number of at least this, and so have the pages and records that recovery takes leaves from,
+-- wherever a crash ends the log
 pub record IsChecked (l : ℕ) (v : SystemView) : Type 0 where
   pub leaves : AllByRecursion (IsLow l) v.leaves
   pub ready : IsReady (IsLow l) (pages_of v.pages) v.log v.stable

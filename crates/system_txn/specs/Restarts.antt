@@ -1,5 +1,5 @@
 -- What is true of devices after a crash, and of what is opened from them.
-use Rattle.std.specs.Prelude.{◌≡◌, ◌⊎◌, ℕ, ◌<◌, ◌≤◌, ◌^◌, List, Some, length}
+use Rattle.std.specs.Prelude.{◌≡◌, ◌⊎◌, ℕ, ◌<◌, ◌≤◌, ◌^◌, List, Some, Ok, length}
 use Rattle.std.specs.FinMap.{get}
 use Rattle.record_key.specs.declared.refusal.Refusal.{Refusal}
 use Rattle.record_key.specs.declared.refusal.Refusal.TheVariants.{NoMemory, Device}
@@ -14,6 +14,9 @@ use Rattle.system_txn.specs.Devices.{spelled, AreRecords, IsPage, pages_of}
 use Rattle.system_txn.specs.LogView.{IsStored}
 use Rattle.system_txn.specs.SystemView.{SystemView}
 use Rattle.system_txn.specs.Kept.{IsRecoverable}
+use Rattle.system_txn.specs.Checked.{IsChecked, Checks}
+use Rattle.system_txn.specs.Crashed.{crashed}
+use Rattle.system_txn.specs.Gives.{CheckpointGives}
 use Rattle.system_txn.specs.Recovering.{HoldsFrames, LeavesFrames, Recovers, RefusesRecovery}
 
 -- the bytes are the whole frames of a beginning of the log: of all stable records, and of each one more whose frame
@@ -63,3 +66,9 @@ abbrev pub BeginningsAreRecoverable : Type 0
 BeginningsAreRecoverable =
     (v : SystemView) (n : ℕ) → IsRecoverable v → v.stable ≤ n
     → IsSafeBeginning (pages_of v.pages) (beginning v.log n) (length (beginning v.log n))
+
+-- what a checkpoint was done to is as low, and stays so over a crash, whichever records stay
+pub record CheckpointsLast : Type 0 where
+  pub reaches : (old : SystemView) (l : ℕ) (new : SystemView) → IsRecoverable old → CheckpointGives old l (Ok tt) new
+      → IsChecked l new
+  pub lasts : (v : SystemView) (n : ℕ) → IsRecoverable v → v.stable ≤ n → Checks v (crashed v n)

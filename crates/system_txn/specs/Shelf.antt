@@ -28,8 +28,8 @@ boxes_on [] = []
 boxes_on (None ∷ slots) = boxes_on slots
 boxes_on (Some b ∷ slots) = b ∷ boxes_on slots
 
--- the leaf of this number once a record is done again, the record of number `d`, if that is what stood there before: the
--- leaf's page, where it has no leaf yet
+-- the leaf of this number once a record is done again, the record of number `d`, if that is what stood there before:
+-- the leaf's page, where it has no leaf yet
 abbrev pub redone : ℕ → DcRecord → ℕ → Option LeafView → Option LeafView
 redone d (is.Accept session) id old = old
 redone d (is.Split left cut right) id old =

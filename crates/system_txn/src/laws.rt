@@ -1,5 +1,5 @@
 //! What is true of devices after a crash, and of what is opened from them.
-ghost use Rattle.system_txn.specs.Restarts.{CrashesLeaveFrames, FramesReadOnce, RestartsGiveTheLog, RestartsAreNeverBad, BeginningsAreRecoverable};
+ghost use Rattle.system_txn.specs.Restarts.{CrashesLeaveFrames, FramesReadOnce, RestartsGiveTheLog, RestartsAreNeverBad, BeginningsAreRecoverable, CheckpointsLast};
 
 /// A crash leaves the whole frames of a beginning of the log that has all stable records, and perhaps a part of the
 /// next one's.
@@ -25,4 +25,10 @@ pub fn never_bad_law()
 /// Each beginning of the log with all stable records is legal, and the pages fit it.
 pub fn beginning_law()
     ensures { BeginningsAreRecoverable }
+{}
+
+/// From a checkpoint on, each leaf has a low number of at least the checkpoint's, and so has each that recovery gives
+/// after any crash.
+pub fn checkpoint_law()
+    ensures { CheckpointsLast }
 {}

@@ -29,7 +29,7 @@ mod writing;
 pub use change_log::ChangeLog;
 pub use devices::{Devices, Refused};
 pub use image::{image_of, leaf_of};
-pub use laws::{beginning_law, crash_law, never_bad_law, reading_law, restart_law};
+pub use laws::{beginning_law, checkpoint_law, crash_law, never_bad_law, reading_law, restart_law};
 pub use opening::Opened;
 pub use recovering::{Recovered, recover};
 pub use system::SystemTxns;

@@ -22,10 +22,10 @@ pub struct Opened<L: LeafSet, D: LogDevice, P: PageDevice> {
 }
 
 impl<L: LeafSet, D: LogDevice, P: PageDevice> SystemTxns<L, D, P> {
-    /// Opens what a crash left: the leaves that the pages and the log's whole records give, whatever the pages' ages. A
-    /// last frame that is cut is cut off the device. Refused NoMemory, Device; BadBytes at the first frame that is bad or
-    /// doesn't fit, or at 0 where a page is no image of its leaf or the leaves don't have all keys just once; the devices
-    /// are handed back.
+    /// Opens what a crash left: the leaves that the pages and the log's whole records give, whatever the pages' ages.
+    /// A last frame that is cut is cut off the device. Refused NoMemory, Device; BadBytes at the first frame that is
+    /// bad or doesn't fit, or at 0 where a page is no image of its leaf or the leaves don't have all keys just once;
+    /// the devices are handed back.
     pub fn open(alloc: Global, log: D, pages: P) -> Result<Opened<L, D, P>, Refused<D, P>>
         requires none_pending { D.pending log ≡ [] }
         ensures recovers { IfOk result (λ opened. Recovers (D.forced log) (P.pages pages) opened.system) }

@@ -10,10 +10,12 @@ returns-then-not-is_on c =
     let entries = c.args.entries.now in
     let entry = c.index-entries-place.result in
     let there : slice_get entries c.loop-place.place ≡ Some entry =
-    slice_get_read entries (length entries) c.loop-place.place entry refl c.loop-place-test.true c.index-entries-place.is in (
+    slice_get_read entries (length entries) c.loop-place.place entry refl c.loop-place-test.true
+    c.index-entries-place.is in (
       λ wrong. absurd (cc),
       λ all.
-          let on = c.is_on.ensures.1 (all_get (λ (e : Entry). e.number ≡ c.args.number → e.key ≡ c.args.key.now) entries c.loop-place.place entry all there) in
+          let IsOn : Entry → Type 0 = λ e. e.number ≡ c.args.number → e.key ≡ c.args.key.now in
+          let on = c.is_on.ensures.1 (all_get IsOn entries c.loop-place.place entry all there) in
           absurd (cc),
     )
 
@@ -22,8 +24,12 @@ loop-place-preserved c =
     let entries = c.args.entries.now in
     let entry = c.index-entries-place.result in
     all_more (λ (e : Entry). e.number ≡ c.args.number → e.key ≡ c.args.key.now) entries c.loop-place.place entry
-    (slice_get_read entries (length entries) c.loop-place.place entry refl c.loop-place-test.true c.index-entries-place.is) c.loop-place.invariant (c.is_on.ensures.0 c.if-not-is_on.false)
+    (slice_get_read entries (length entries) c.loop-place.place entry refl c.loop-place-test.true
+    c.index-entries-place.is) c.loop-place.invariant (c.is_on.ensures.0 c.if-not-is_on.false)
 
 pub returns : goal.returns
 returns c =
-    (λ _. all_through (λ (e : Entry). e.number ≡ c.args.number → e.key ≡ c.args.key.now) c.args.entries.now c.loop-place.place c.loop-place-test.false c.loop-place.invariant, λ all. refl)
+    let IsOn : Entry → Type 0 = λ e. e.number ≡ c.args.number → e.key ≡ c.args.key.now in (
+      λ _. all_through IsOn c.args.entries.now c.loop-place.place c.loop-place-test.false c.loop-place.invariant,
+      λ all. refl,
+    )

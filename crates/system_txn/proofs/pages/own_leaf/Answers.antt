@@ -25,7 +25,8 @@ returns-then-image-id-clause-refused c =
           (λ same within.
           elim c.then-image-id.branch [
             | then-image-id-via-then-image-id w ↦ absurd (omega (arith, same, w.if-image-id.true))
-            | then-image-id-via-else-image-id+then-image-records w ↦ absurd (omega (arith, within, w.if-image-records.true))
+            | then-image-id-via-else-image-id+then-image-records w ↦
+                absurd (omega (arith, within, w.if-image-records.true))
           ]),
     ))
 

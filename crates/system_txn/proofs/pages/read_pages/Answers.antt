@@ -10,7 +10,8 @@ use Rattle.system_txn.proofs.pages.read_pages.Goals as goal
 
 pub returns-in-Err-read_page-clause-refused : goal.returns-in-Err-read_page-clause-refused
 returns-in-Err-read_page-clause-refused g c =
-    one_refused _ _ _ c.args.records c.in-Err-read_page.refusal c.loop-id.invariant.same c.in-Err-read_page.ensures.refused
+    one_refused _ _ _ c.args.records c.in-Err-read_page.refusal c.loop-id.invariant.same
+    c.in-Err-read_page.ensures.refused
 
 pub loop-id-preserved : goal.loop-id-preserved
 loop-id-preserved g c =
@@ -34,7 +35,8 @@ loop-id-preserved g c =
 
 pub returns-clause-held : goal.returns-clause-held
 returns-clause-held g c =
-    let ids : take c.loop-id.id-index c.as_slice-id-items.result.now ≡ table.keys (g.P.PageDevice.pages c.args.pages.now) =
+    let ids : take c.loop-id.id-index c.as_slice-id-items.result.now
+    ≡ table.keys (g.P.PageDevice.pages c.args.pages.now) =
     take_all c.loop-id.id-index c.as_slice-id-items.result.now (omega (arith, c.loop-id-test.false))
     ∙ c.as_slice-id-items.ensures.value ∙ c.in-Ok.ensures.written in
     let paged = subst (ArePaged (g.P.PageDevice.pages c.args.pages.now) c.args.records c.args.numbers
@@ -44,7 +46,8 @@ returns-clause-held g c =
 
 pub returns-clause-own : goal.returns-clause-own
 returns-clause-own g c =
-    let ids : take c.loop-id.id-index c.as_slice-id-items.result.now ≡ table.keys (g.P.PageDevice.pages c.args.pages.now) =
+    let ids : take c.loop-id.id-index c.as_slice-id-items.result.now
+    ≡ table.keys (g.P.PageDevice.pages c.args.pages.now) =
     take_all c.loop-id.id-index c.as_slice-id-items.result.now (omega (arith, c.loop-id-test.false))
     ∙ c.as_slice-id-items.ensures.value ∙ c.in-Ok.ensures.written in
     let paged = subst (ArePaged (g.P.PageDevice.pages c.args.pages.now) c.args.records c.args.numbers

@@ -5,7 +5,8 @@ use Rattle.system_txn.proofs.pages.read_pages.Given as goal
 -- the pages so far are read
 abbrev pub invariant-loop-id : goal.invariant-loop-id
 invariant-loop-id g l = record {
-  paged : ArePaged (g.P.PageDevice.pages l.fn.pages) l.records l.numbers l.shelf.slots.items (take l.id-index l.id-items);
+  paged : ArePaged (g.P.PageDevice.pages l.fn.pages) l.records l.numbers l.shelf.slots.items
+      (take l.id-index l.id-items);
   count : vec_len l.shelf.slots ≡ l.numbers;
   same : g.P.PageDevice.pages l.pages ≡ g.P.PageDevice.pages l.fn.pages;
   failures : g.P.PageDevice.failures l.pages ≡ g.P.PageDevice.failures l.fn.pages;

@@ -7,7 +7,8 @@ returns-in-Err-clause-refused g c = log_refused _ _ _ c.in-Err.ensures.refused
 
 pub returns-in-Err-leaves_of-clause-refused : goal.returns-in-Err-leaves_of-clause-refused
 returns-in-Err-leaves_of-clause-refused g c =
-    leaves_refused (g.D.LogDevice.forced c.args.log.now) (g.P.PageDevice.pages c.args.pages.now) c.in-Ok.frames c.in-Err-leaves_of.refusal
+    leaves_refused (g.D.LogDevice.forced c.args.log.now)
+    (g.P.PageDevice.pages c.args.pages.now) c.in-Ok.frames c.in-Err-leaves_of.refusal
     c.in-Ok.ensures.read c.in-Err-leaves_of.ensures.refused
 
 pub returns-clause-found : goal.returns-clause-found

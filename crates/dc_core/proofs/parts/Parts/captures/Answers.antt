@@ -9,4 +9,5 @@ returns c =
     let at = c.place_of-place.ensures in
     c.captures-2.ensures
     ∙ ap (λ (leaf : LeafView). captures leaf.ab c.args.number)
-    (c.leaf.ensures ∙ leaf_there c.args.self.now.system.leaves c.args.key.now c.place_of-place.result at.place at.within)
+    (c.leaf.ensures
+    ∙ leaf_there c.args.self.now.system.leaves c.args.key.now c.place_of-place.result at.place at.within)

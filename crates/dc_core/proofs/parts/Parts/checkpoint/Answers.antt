@@ -4,8 +4,10 @@ use Rattle.dc_core.proofs.parts.Parts.checkpoint.Goals as goal
 
 pub returns-in_err-written-clause-kept : goal.returns-in_err-written-clause-kept
 returns-in_err-written-clause-kept c =
-    checkpoint_keeps (seen c.args.self.now) c.args.low c.checkpoint-written.result c.checkpoint-written.new.self c.requires.kept c.kept.ensures c.checkpoint-written.ensures.gives
+    checkpoint_keeps (seen c.args.self.now) c.args.low c.checkpoint-written.result c.checkpoint-written.new.self
+    c.requires.kept c.kept.ensures c.checkpoint-written.ensures.gives
 
 pub returns-clause-kept : goal.returns-clause-kept
 returns-clause-kept c =
-    checkpoint_keeps (seen c.args.self.now) c.args.low c.checkpoint-written.result c.checkpoint-written.new.self c.requires.kept c.kept.ensures c.checkpoint-written.ensures.gives
+    checkpoint_keeps (seen c.args.self.now) c.args.low c.checkpoint-written.result c.checkpoint-written.new.self
+    c.requires.kept c.kept.ensures c.checkpoint-written.ensures.gives

@@ -9,12 +9,17 @@ use Rattle.dc_core.proofs.parts.Parts.is_saved_on.Goals as goal
 pub returns-then-not-are_on : goal.returns-then-not-are_on
 returns-then-not-are_on c =
     let leaves = c.args.self.now.system.leaves in
-    let IsOn : List Entry → Type 0 = AllByRecursion (λ (e : Entry). e.number ≡ c.args.number → e.key ≡ c.args.key.now) in
-    let within : c.loop-place.place < length leaves = omega (arith, c.loop-place-test.true, c.len-place-end.ensures.count) in
-    let read : c.entries.result.now ≡ (get_or leaves c.loop-place.place first).ab.entries = c.entries.ensures ∙ ap (λ (leaf : LeafView). leaf.ab.entries) c.leaf.ensures in (
+    let IsOn : List Entry → Type 0 =
+    AllByRecursion (λ (e : Entry). e.number ≡ c.args.number → e.key ≡ c.args.key.now) in
+    let within : c.loop-place.place < length leaves =
+    omega (arith, c.loop-place-test.true, c.len-place-end.ensures.count) in
+    let read : c.entries.result.now ≡ (get_or leaves c.loop-place.place first).ab.entries =
+    c.entries.ensures ∙ ap (λ (leaf : LeafView). leaf.ab.entries) c.leaf.ensures in (
       λ wrong. absurd (cc),
       λ all.
-          let own = all_get (λ (leaf : LeafView). IsOn leaf.ab.entries) leaves c.loop-place.place (get_or leaves c.loop-place.place first) all (slice_get-get_or leaves c.loop-place.place first within) in
+          let own =
+          all_get (λ (leaf : LeafView). IsOn leaf.ab.entries) leaves c.loop-place.place
+          (get_or leaves c.loop-place.place first) all (slice_get-get_or leaves c.loop-place.place first within) in
           let on = c.are_on.ensures.1 (subst IsOn (sym read) own) in
           absurd (cc),
     )
@@ -22,14 +27,23 @@ returns-then-not-are_on c =
 pub loop-place-preserved : goal.loop-place-preserved
 loop-place-preserved c =
     let leaves = c.args.self.now.system.leaves in
-    let IsOn : List Entry → Type 0 = AllByRecursion (λ (e : Entry). e.number ≡ c.args.number → e.key ≡ c.args.key.now) in
-    let within : c.loop-place.place < length leaves = omega (arith, c.loop-place-test.true, c.len-place-end.ensures.count) in
-    let read : c.entries.result.now ≡ (get_or leaves c.loop-place.place first).ab.entries = c.entries.ensures ∙ ap (λ (leaf : LeafView). leaf.ab.entries) c.leaf.ensures in
-    all_more (λ (leaf : LeafView). IsOn leaf.ab.entries) leaves c.loop-place.place (get_or leaves c.loop-place.place first) (slice_get-get_or leaves c.loop-place.place first within)
+    let IsOn : List Entry → Type 0 =
+    AllByRecursion (λ (e : Entry). e.number ≡ c.args.number → e.key ≡ c.args.key.now) in
+    let within : c.loop-place.place < length leaves =
+    omega (arith, c.loop-place-test.true, c.len-place-end.ensures.count) in
+    let read : c.entries.result.now ≡ (get_or leaves c.loop-place.place first).ab.entries =
+    c.entries.ensures ∙ ap (λ (leaf : LeafView). leaf.ab.entries) c.leaf.ensures in
+    all_more (λ (leaf : LeafView). IsOn leaf.ab.entries) leaves c.loop-place.place
+    (get_or leaves c.loop-place.place first) (slice_get-get_or leaves c.loop-place.place first within)
     c.loop-place.invariant (subst IsOn read (c.are_on.ensures.0 c.if-not-are_on.false))
 
 pub returns : goal.returns
 returns c =
     let leaves = c.args.self.now.system.leaves in
-    let most : length leaves ≤ c.loop-place.place = omega (arith, c.loop-place-test.false, c.len-place-end.ensures.count) in
-    (λ _. all_through (λ (leaf : LeafView). AllByRecursion (λ (e : Entry). e.number ≡ c.args.number → e.key ≡ c.args.key.now) leaf.ab.entries) leaves c.loop-place.place most c.loop-place.invariant, λ all. refl)
+    let most : length leaves ≤ c.loop-place.place =
+    omega (arith, c.loop-place-test.false, c.len-place-end.ensures.count) in
+    let IsOn : LeafView → Type 0 =
+    λ leaf. AllByRecursion (λ (e : Entry). e.number ≡ c.args.number → e.key ≡ c.args.key.now) leaf.ab.entries in (
+      λ _. all_through IsOn leaves c.loop-place.place most c.loop-place.invariant,
+      λ all. refl,
+    )

@@ -9,13 +9,16 @@ use Rattle.dc_core.proofs.parts.Parts.rows.Goals as goal
 pub loop-place-preserved : goal.loop-place-preserved
 loop-place-preserved c =
     let leaves = c.args.self.now.system.leaves in
-    let within : c.loop-place.place < length leaves = omega (arith, c.loop-place-test.true, c.len-place-end.ensures.count) in
+    let within : c.loop-place.place < length leaves =
+    omega (arith, c.loop-place-test.true, c.len-place-end.ensures.count) in
     c.in_ok-add_rows.ensures.added ∙ ap (λ rows. rows ++ c.rows.result.now) c.loop-place.invariant
-    ∙ ap (λ rows. all_rows (take c.loop-place.place leaves) ++ rows) (c.rows.ensures ∙ ap (λ (leaf : LeafView). entries leaf.rows) c.leaf.ensures)
+    ∙ ap (λ rows. all_rows (take c.loop-place.place leaves) ++ rows)
+    (c.rows.ensures ∙ ap (λ (leaf : LeafView). entries leaf.rows) c.leaf.ensures)
     ∙ sym (rows_more leaves c.loop-place.place within)
 
 pub returns-clause-rows : goal.returns-clause-rows
 returns-clause-rows c =
     let leaves = c.args.self.now.system.leaves in
-    let most : length leaves ≤ c.loop-place.place = omega (arith, c.loop-place-test.false, c.len-place-end.ensures.count) in
+    let most : length leaves ≤ c.loop-place.place =
+    omega (arith, c.loop-place-test.false, c.len-place-end.ensures.count) in
     c.loop-place.invariant ∙ ap all_rows (take_all c.loop-place.place leaves most)

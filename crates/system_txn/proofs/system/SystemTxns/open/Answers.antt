@@ -8,7 +8,8 @@ use Rattle.system_txn.proofs.system.SystemTxns.open.Goals as goal
 pub invariant_of-result : goal.invariant_of-result
 invariant_of-result g c =
     let found = c.in-Ok.ensures.found in
-    let v : SystemView = seen {D = g.row.D.Denot} g.L.LeafSet.leaves g.P.PageDevice.pages g.P.PageDevice.failures (record {
+    let v : SystemView =
+    seen {D = g.row.D.Denot} g.L.LeafSet.leaves g.P.PageDevice.pages g.P.PageDevice.failures (record {
       leaves = c.in-Ok-from_leaves.leaves;
       log = c.reopened-log.result;
       pages = c.recover.new.pages;
@@ -26,7 +27,8 @@ invariant_of-result g c =
 pub returns-clause-recovers : goal.returns-clause-recovers
 returns-clause-recovers g c =
     let found = c.in-Ok.ensures.found in
-    let v : SystemView = seen {D = g.row.D.Denot} g.L.LeafSet.leaves g.P.PageDevice.pages g.P.PageDevice.failures (record {
+    let v : SystemView =
+    seen {D = g.row.D.Denot} g.L.LeafSet.leaves g.P.PageDevice.pages g.P.PageDevice.failures (record {
       leaves = c.in-Ok-from_leaves.leaves;
       log = c.reopened-log.result;
       pages = c.recover.new.pages;
