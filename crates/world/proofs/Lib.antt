@@ -1,6 +1,7 @@
 pub mod Announced
 pub mod AtKeys
 pub mod Awaited
+pub mod Beginnings
 pub mod ByNumber
 pub mod CallsKeep
 pub mod Carries
@@ -11,11 +12,13 @@ pub mod Crashes
 pub mod Downs
 pub mod Ends
 pub mod Exchanges
+pub mod Fallen
 pub mod Falls
 pub mod Follows
 pub mod Framed
 pub mod Grows
 pub mod Headline
+pub mod HonestShorter
 pub mod Idle
 pub mod Keeps
 pub mod MayAsk

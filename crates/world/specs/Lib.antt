@@ -8,3 +8,4 @@ pub mod Sent
 pub mod SentReads
 pub mod Bound
 pub mod Rounds
+pub mod Fallen

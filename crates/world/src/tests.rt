@@ -155,3 +155,8 @@ fn rolling(alloc: Global) -> Result<World, Fail> {
     step(&mut world, &ROLLBACK);
     Ok(world)
 }
+
+#[test]
+fn the_laws_take_nothing() {
+    fallen_law();
+}

@@ -1,0 +1,5 @@
+use Rattle.world.proofs.Fallen.{fallen_is_kept}
+use Rattle.world.proofs.laws.fallen_law.Goals as goal
+
+pub returns : goal.returns
+returns c = fallen_is_kept
