@@ -1,5 +1,5 @@
 -- The transactions whose Commit isn't stable.
-use Rattle.std.proofs.Common.{◌≡◌, ℕ, ◌+◌, ◌≤◌, Bool, true, false, List, [], ◌∷◌, ◌++◌, length, Some, refl, sym, ap, ◌∙◌, subst, arith, inl, inr, true≢false, eq-eqb, ne_eqb, eqb-true}
+use Rattle.std.proofs.Common.{◌≡◌, ℕ, ◌+◌, ◌≤◌, Bool, true, false, List, [], ◌∷◌, ◌++◌, length, Some, is_some, refl, sym, ap, ◌∙◌, subst, arith, inl, inr, true≢false, eq-eqb, ne_eqb, eqb-true}
 use Rattle.std.specs.Prelude.{◌||◌, ◌==◌, nat_lt, if◌then◌else◌}
 use Rattle.std.proofs.lemmas.Bool.{cases_eq, cases_Bool, or_cases}
 use Rattle.std.proofs.lemmas.Bool.Decides.{nat_tests}
@@ -61,7 +61,7 @@ commits_more log stable t within =
     ap (λ b. if b then commits_in log stable ++ t ∷ [] else []) above
 
 -- one that commits holds what it held, and so does each other
-pub holder_committed : (os : List OpenTxn) (cs : List ℕ) (t : ℕ) (o : OpenTxn) → find t os ≡ Some o → (u : ℕ)
+holder_committed : (os : List OpenTxn) (cs : List ℕ) (t : ℕ) (o : OpenTxn) → find t os ≡ Some o → (u : ℕ)
     → is_holder (without t os) (cs ++ t ∷ []) u ≡ is_holder os cs u
 holder_committed os cs t o at u =
     elim (cases_eq u t) [
@@ -73,3 +73,23 @@ holder_committed os cs t o at u =
           let listed : is_listed (cs ++ t ∷ []) u ≡ is_listed cs u = listed_last cs t u ∙ ap (λ b. is_listed cs u || b) (ne_eqb t u (λ e. other (sym e))) ∙ or-false (is_listed cs u) in
           rw (without_other t os u other, listed) refl
     ]
+
+-- the same with more who hold
+pub holder_more : (os : List OpenTxn) (cs ls : List ℕ) (u : ℕ) → is_holder os (cs ++ ls) u ≡ (is_holder os cs u || is_listed ls u)
+holder_more os cs ls u = pick (is_some (find u os)) (is_listed cs u) (is_listed (cs ++ ls) u) (list_any-append (λ v. v == u) cs ls)
+  where
+    pick : (a b c : Bool) → c ≡ (b || is_listed ls u) → (a || c) ≡ ((a || b) || is_listed ls u)
+    pick true b c e = refl
+    pick false b c e = e
+
+pub holder_closing : (os : List OpenTxn) (cs ls : List ℕ) (t : ℕ) (o : OpenTxn) → find t os ≡ Some o → (u : ℕ)
+    → is_holder (without t os) ((cs ++ t ∷ []) ++ ls) u ≡ is_holder os (cs ++ ls) u
+holder_closing os cs ls t o at u =
+    holder_more (without t os) (cs ++ t ∷ []) ls u ∙ ap (λ b. b || is_listed ls u) (holder_committed os cs t o at u)
+    ∙ sym (holder_more os cs ls u)
+
+-- and where the same are losers
+pub holder_alike : (os : List OpenTxn) (cs ls ls2 : List ℕ) (u : ℕ) → is_listed ls2 u ≡ is_listed ls u
+    → is_holder os (cs ++ ls2) u ≡ is_holder os (cs ++ ls) u
+holder_alike os cs ls ls2 u same =
+    holder_more os cs ls2 u ∙ ap (λ b. is_holder os cs u || b) same ∙ sym (holder_more os cs ls u)

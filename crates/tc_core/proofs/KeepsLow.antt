@@ -8,13 +8,14 @@ use Rattle.tc_core.specs.declared.phase.Phase.TheVariants as phase
 use Rattle.tc_core.specs.TcView.{TcView}
 use Rattle.tc_core.specs.LowWater.{MayAnnounce}
 use Rattle.tc_core.specs.Changes.{greater, announced, asked_checkpoint, checkpointed}
-use Rattle.tc_core.specs.Kept.{IsTc, IsPhase}
+use Rattle.tc_core.specs.Kept.{IsTc, closing, IsPhase}
 use Rattle.history.specs.Legal.{Fits}
 use Rattle.tc_core.proofs.Keeps.{open_was}
 use Rattle.tc_core.proofs.KeepsOpen.{same_open}
 use Rattle.tc_core.proofs.KeepsSteps.{checkpoint_leaves}
 use Rattle.tc_core.proofs.KeepsTc.{one_more}
 use Rattle.tc_core.proofs.LocksHeld.{longer}
+use Rattle.tc_core.proofs.Losers.{lost_more}
 use Rattle.tc_core.proofs.Low.{may_all, low_announced, low_asked, low_checkpointed}
 
 module _ (w : TcView) (k : IsTc w) where
@@ -29,6 +30,7 @@ module _ (w : TcView) (k : IsTc w) where
     low = low_announced w k l may;
     open_txns = k.open_txns;
     committing = k.committing;
+    lost = k.lost;
     locks = k.locks;
     reading = k.reading;
   }
@@ -44,6 +46,7 @@ module _ (w : TcView) (k : IsTc w) where
     low = low_asked w k;
     open_txns = k.open_txns;
     committing = k.committing;
+    lost = k.lost;
     locks = k.locks;
     reading = k.reading;
   }
@@ -65,8 +68,9 @@ module _ (w : TcView) (k : IsTc w) where
         phase = let P : Phase → Type 0 = IsPhase (greater w.checkpointed l) w.session in subst P (sym running) positive;
         asking = λ m none. absurd (cc);
         low = low_checkpointed w k l (k.low.asked l asked);
-        open_txns = same_open w.log (r ∷ w.log) w.open_txns k.open_txns (checkpoint_leaves w.log l) (open_was r w.log (λ e. cc));
+        open_txns = same_open w.log (r ∷ w.log) w.losers.below w.open_txns k.open_txns (λ o at h. checkpoint_leaves w.log l o h) (open_was r w.log (λ e. cc));
         committing = k.committing;
-        locks = longer w.log w.open_txns w.committing w.locks k.locks r refl;
+        lost = lost_more w k r (fits_checkpoint l asked) tt (λ n. refl);
+        locks = longer w.log w.open_txns (closing w) w.locks k.locks r refl;
         reading = k.reading;
       }

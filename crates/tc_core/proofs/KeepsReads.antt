@@ -18,7 +18,7 @@ use Rattle.tc_core.specs.Locking.{AreApart}
 use Rattle.tc_core.specs.TcView.{TcView}
 use Rattle.tc_core.specs.Changes.{shared, reading_txn, asked_read, told_txn, was_told}
 use Rattle.tc_core.specs.Replies.{reader}
-use Rattle.tc_core.specs.Kept.{IsTc, IsOpenTxn, Waits, IsReading}
+use Rattle.tc_core.specs.Kept.{IsTc, closing, IsOpenTxn, Waits, IsReading}
 use Rattle.tc_core.proofs.Finding.{IsOldest, oldest_none, oldest_found}
 use Rattle.tc_core.proofs.HeldSpans.{within_itself}
 use Rattle.tc_core.proofs.LocksHeld.{replaced, shares}
@@ -50,9 +50,10 @@ keeps_ask w o s k at none flat range free unspent =
       phase = k.phase;
       asking = k.asking;
       low = k.low;
-      open_txns = replaced_open w.log w.log w.open_txns k.open_txns new o at (open_alike w.log o (Some r) (open_at w o k at)) (λ p apart same. same) (λ t same. same);
+      open_txns = replaced_open w.log w.log w.losers.below w.open_txns k.open_txns new o at (open_alike w.log o (Some r) (open_at w o k at)) (λ p apart same. same) (λ t same. same);
       committing = k.committing;
-      locks = shares w.log w.open_txns w.committing w.locks k.locks new o (shared s) at refl free;
+      lost = k.lost;
+      locks = shares w.log w.open_txns (closing w) w.locks k.locks new o (shared s) at refl free;
       reading = reads_asked w.reads w.open_txns w.locks k.reading new o r (w.reads + 1) _ at refl (omega arith) (omega arith)
           (λ u apart. set_other o.txn (shared s ∷ spans_of w.locks o.txn) w.locks u k.locks.table apart)
           (record { idle = none; flat = flat; asked = omega arith; range = range; before = spans_of w.locks o.txn; held = set_own o.txn (shared s ∷ spans_of w.locks o.txn) w.locks k.locks.table });
@@ -67,9 +68,10 @@ keeps_told w o k at = record {
   phase = k.phase;
   asking = k.asking;
   low = k.low;
-  open_txns = replaced_open w.log w.log w.open_txns k.open_txns (told_txn o) o at (open_alike w.log o None (open_at w o k at)) (λ p apart same. same) (λ t same. same);
+  open_txns = replaced_open w.log w.log w.losers.below w.open_txns k.open_txns (told_txn o) o at (open_alike w.log o None (open_at w o k at)) (λ p apart same. same) (λ t same. same);
   committing = k.committing;
-  locks = replaced w.log w.open_txns w.committing w.locks k.locks (told_txn o) o at;
+  lost = k.lost;
+  locks = replaced w.log w.open_txns (closing w) w.locks k.locks (told_txn o) o at;
   reading = reads_replaced w.reads w.open_txns w.locks k.reading (told_txn o) o w.locks at refl (λ u apart. refl);
 }
 

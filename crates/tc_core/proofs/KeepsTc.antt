@@ -1,15 +1,18 @@
 -- Each call keeps what holds of the transaction component.
-use Rattle.std.proofs.Common.{◌≡◌, ℕ, ◌+◌, ◌-◌, ◌<◌, ◌≤◌, ◌++◌, zero, suc, Bool, true, false, List, [], ◌∷◌, length, Option, Some, None, refl, sym, ap, ◌∙◌, subst, arith, inl, inr, eq-eqb, eqb-true, true≢false}
-use Rattle.std.specs.Prelude.{take, slice_get, if◌then◌else◌}
+use Rattle.std.proofs.Common.{◌≡◌, ℕ, ◌+◌, ◌-◌, ◌<◌, ◌≤◌, ◌++◌, zero, suc, Bool, true, false, List, [], ◌∷◌, length, Option, Some, None, IsSome, is_some, cond, ◌≢◌, refl, sym, ap, ◌∙◌, subst, arith, inl, inr, eq-eqb, ne_eqb, eqb-true, true≢false}
+use Rattle.std.specs.Prelude.{take, slice_get, ◌==◌, ◌||◌, if◌then◌else◌}
+use Rattle.std.proofs.Math.Bool.{or-true}
+use Rattle.std.proofs.lemmas.List.Folds.{list_any-append}
+use Rattle.std.proofs.lemmas.List.Elements.{All-nil}
 use Rattle.std.specs.List.{AllByRecursion}
 use Rattle.std.proofs.lemmas.Bool.Decides.{nat_tests}
-use Rattle.std.proofs.lemmas.Bool.{cases_eq}
+use Rattle.std.proofs.lemmas.Bool.{cases_eq, cases_Bool, cases_lt}
 use Rattle.record_key.specs.declared.op.Op.{Op}
 use Rattle.record_key.specs.declared.op.Answer.{Answer}
 use Rattle.record_key.specs.Table.{Bytes, key_of}
 use Rattle.history.specs.declared.record.Record.{Record}
 use Rattle.history.specs.declared.record.Record.TheVariants as is
-use Rattle.history.specs.Log.{record_at, answer_of, step_in, IsOpen, IsOpBy}
+use Rattle.history.specs.Log.{record_at, answer_of, step_in, has_ended, IsOpen, IsOpBy, IsStepOf, Requests}
 use Rattle.history.specs.Legal.{Fits, IsLegal, IsIdle, IsKeyFree}
 use Rattle.history.specs.Spans.{Exclusive, Span, at_key, Conflict, AnyConflict}
 use Rattle.log_laws.proofs.LegalLogs.{unanswered_next}
@@ -21,17 +24,19 @@ use Rattle.range_locks.specs.Locks.{spans_of, IsFree}
 use Rattle.range_locks.proofs.Tables.{empty_table, set_other}
 use Rattle.tc_core.specs.TcView.{TcView, fresh, failed}
 use Rattle.logical_log.specs.LogView.{is_spent}
-use Rattle.tc_core.specs.Locking.{is_listed}
+use Rattle.restart.specs.Losers.{IsLoser, IsAt, IsUndone, txns}
+use Rattle.tc_core.specs.Locking.{is_listed, is_holder}
 use Rattle.tc_core.specs.Changes.{let_go, logged_session, reconnected, begun_txn, begun, acted_txn, acted, forced, answered_txn, answered, rolling_txn, rolled, saved_txn, saved, going_back_txn, going_back, back_txn, is_back}
 use Rattle.tc_core.specs.Replies.{takes, is_number, if_awaits, asker, awaiting, next_phase, passed}
 use Rattle.tc_core.specs.declared.phase.Phase.{Phase}
 use Rattle.tc_core.specs.declared.phase.Phase.TheVariants as phase
-use Rattle.tc_core.specs.Kept.{IsTc, IsRollback, IsOpenTxn, IsWaiting, Waits, IsReading, IsPhase}
+use Rattle.tc_core.specs.Kept.{IsTc, IsDue, closing, IsRollback, IsOpenTxn, IsWaiting, Waits, IsReading, IsPhase}
 use Rattle.tc_core.proofs.Finding.{found_number, found_own}
 use Rattle.tc_core.proofs.Committing.{none_committing, open_unlisted}
 use Rattle.tc_core.proofs.LettingGo.{let_go_held, let_go_other}
 use Rattle.logical_log.proofs.Index.{nothing_answered}
 use Rattle.tc_core.proofs.Keeps.{open_had, open_was, unended_next, IsBounded}
+use Rattle.tc_core.proofs.Losers.{listed_loser, loser_listed, unlisted_late, lost_spared, lost_started, lost_passed, lost_more, late_at}
 use Rattle.tc_core.proofs.Low.{may_none, low_within, low_longer, low_forced, low_started}
 use Rattle.tc_core.proofs.KeepsIdle.{own_request}
 use Rattle.tc_core.proofs.KeepsOpen.{open_below, same_open, replaced_open, added_open}
@@ -58,8 +63,19 @@ fresh_tc failures = record {
     checkpointed = inr (refl, λ l named. absurd (let none = named.1 in cc));
     checked = may_none [];
   };
-  open_txns = record { each = λ t o at. absurd (cc); all = λ t h. absurd (let none = h.begun in cc); order = tt; few = omega arith };
+  open_txns = record { each = λ t o at. absurd (cc); late = λ t o at. absurd (cc); all = λ t h late. absurd (let none = h.begun in cc); order = tt; few = omega arith };
   committing = refl;
+  lost = record {
+    losers = record {
+      bound = omega arith;
+      listed = record { right = All-nil (IsLoser [] 0); once = λ t is. absurd (omega (arith, is.early)) };
+      undoing = All-nil (IsAt []);
+      done = All-nil (IsUndone []);
+    };
+    phase_of = tt;
+    lacking = λ n due. tt;
+    due = λ n e. absurd (cc);
+  };
   locks = record { table = empty_table; exclusive = λ t. refl; others = λ t none. refl; apart = λ t u differ. tt };
   reading = record { each = λ t o r at. absurd (cc); apart = λ t u o p r q at. absurd (cc) };
 }
@@ -80,6 +96,7 @@ keeps_failed w k = record {
   low = k.low;
   open_txns = k.open_txns;
   committing = k.committing;
+  lost = k.lost;
   locks = k.locks;
   reading = k.reading;
 }
@@ -94,24 +111,56 @@ keeps_logged w k unspent = record {
   phase = k.phase;
   asking = k.asking;
   low = low_longer w k is.Session refl;
-  open_txns = same_open w.log (is.Session ∷ w.log) w.open_txns k.open_txns (session_leaves w.log) (open_was is.Session w.log (λ e. cc));
+  open_txns = same_open w.log (is.Session ∷ w.log) w.losers.below w.open_txns k.open_txns (λ o at h. session_leaves w.log o h) (open_was is.Session w.log (λ e. cc));
   committing = k.committing;
-  locks = longer w.log w.open_txns w.committing w.locks k.locks is.Session refl;
+  lost = lost_more w k is.Session tt tt (λ n. refl);
+  locks = longer w.log w.open_txns (closing w) w.locks k.locks is.Session refl;
   reading = k.reading;
 }
 
--- nobody is open and committing
-pub unlisted : (w : TcView) (t : ℕ) → IsTc w → IsOpen w.log t → is_listed w.committing t ≡ false
-unlisted w t k open_t = ap (λ ts. is_listed ts t) k.committing ∙ open_unlisted w.log w.stable t open_t.goes_on
+-- nobody is open and closing
+pub not_committing : (w : TcView) (t : ℕ) → IsTc w → has_ended w.log t ≡ false → is_listed w.committing t ≡ false
+not_committing w t k goes_on = ap (λ ts. is_listed ts t) k.committing ∙ open_unlisted w.log w.stable t goes_on
 
-closed : (w : TcView) (t : ℕ) → IsTc w → is_listed w.committing t ≡ true → find t w.open_txns ≡ None
-closed w t k listed = pick (find t w.open_txns) refl
+not_closing : (w : TcView) (t : ℕ) → IsTc w → has_ended w.log t ≡ false → w.losers.below ≤ t → is_listed (closing w) t ≡ false
+not_closing w t k goes_on late =
+    list_any-append (λ u. u == t) w.committing (txns w.losers)
+    ∙ rw (not_committing w t k goes_on, unlisted_late w.log w.losers k.lost.losers t late) refl
+
+pub unlisted : (w : TcView) (o : OpenTxn) → IsTc w → find o.txn w.open_txns ≡ Some o → is_listed (closing w) o.txn ≡ false
+unlisted w o k at = not_closing w o.txn k (k.open_txns.each o.txn o at).is.goes_on (late_at w o k at)
+
+-- who is committing is neither open nor a loser
+closed : (w : TcView) (t : ℕ) → IsTc w → is_listed w.committing t ≡ true → is_holder w.open_txns (txns w.losers) t ≡ false
+closed w t k listed = rw (not_open, not_lost) refl
   where
-    pick : (x : Option OpenTxn) → find t w.open_txns ≡ x → find t w.open_txns ≡ None
-    pick None is = is
-    pick (Some o) is =
-        let open_t : IsOpen w.log t = let P : ℕ → Type 0 = IsOpen w.log in subst P (found_number t w.open_txns o is) (k.open_txns.each t o is).is in
-        absurd (true≢false (sym listed ∙ unlisted w t k open_t))
+    clash : IsOpen w.log t → ⊥
+    clash open_t = true≢false (sym listed ∙ not_committing w t k open_t.goes_on)
+
+    not_open : is_some (find t w.open_txns) ≡ false
+    not_open = pick (find t w.open_txns) refl
+      where
+        pick : (x : Option OpenTxn) → find t w.open_txns ≡ x → is_some (find t w.open_txns) ≡ false
+        pick None is = ap is_some is
+        pick (Some o) is =
+            absurd (clash (let P : ℕ → Type 0 = IsOpen w.log in subst P (found_number t w.open_txns o is) (k.open_txns.each t o is).is))
+
+    not_lost : is_listed (txns w.losers) t ≡ false
+    not_lost = elim (cases_Bool (is_listed (txns w.losers) t)) [
+      | inl lost ↦ absurd (clash (listed_loser w.log w.losers k.lost.losers t lost).open_txn)
+      | inr none ↦ none
+    ]
+
+-- whoever is open in the log holds, a loser too
+open_holder : (w : TcView) (u : ℕ) → IsTc w → IsOpen w.log u → is_holder w.open_txns (closing w) u ≡ true
+open_holder w u k open_u =
+    elim (cases_lt u w.losers.below) [
+      | inl early ↦
+          let listed : is_listed (closing w) u ≡ true = list_any-append (λ v. v == u) w.committing (txns w.losers)
+          ∙ ap (λ b. is_listed w.committing u || b) (loser_listed w.log w.losers k.lost.losers u (record { open_txn = open_u; early = early })) ∙ or-true (is_listed w.committing u) in
+          ap (λ b. is_some (find u w.open_txns) || b) listed ∙ or-true (is_some (find u w.open_txns))
+      | inr late ↦ open_holds w.open_txns (closing w) u (k.open_txns.all u open_u late)
+    ]
 
 -- all is stable: reads of open transactions stay
 pub keeps_force : (w : TcView) → IsTc w → IsTc (forced w)
@@ -125,9 +174,10 @@ keeps_force w k = record {
   low = low_forced w k;
   open_txns = k.open_txns;
   committing = sym (none_committing w.log (length w.log) (omega arith));
-  locks = let_go_held w.log w.open_txns w.committing w.locks k.locks (λ t. closed w t k);
+  lost = k.lost;
+  locks = let_go_held w.log w.open_txns w.committing (txns w.losers) w.locks k.locks (λ t. closed w t k);
   reading = reads_kept w.reads w.open_txns w.locks k.reading (let_go w.committing w.locks)
-      (λ t o at. let_go_other w.committing w.locks o.txn k.locks.table (unlisted w o.txn k (k.open_txns.each t o at).is));
+      (λ t o at. let_go_other w.committing w.locks o.txn k.locks.table (not_committing w o.txn k (k.open_txns.each t o at).is.goes_on));
 }
 
 -- and a session begins
@@ -144,13 +194,14 @@ keeps_session w k unspent =
       low = low_started (forced (logged_session w)) f;
       open_txns = f.open_txns;
       committing = f.committing;
+      lost = lost_started w.log w.session w.phase w.losers k.legal k.lost;
       locks = f.locks;
       reading = f.reading;
     }
 
 -- a transaction begins, above all that are open
 pub all_below : (w : TcView) → IsTc w → AreBelow (length w.log + 1) w.open_txns
-all_below w k = open_below w.log w.open_txns k.open_txns
+all_below w k = open_below w.log w.losers.below w.open_txns k.open_txns
 
 pub keeps_begin : (w : TcView) → IsTc w → length w.open_txns < 64 → is_spent w.log ≡ false → IsTc (begun w)
 keeps_begin w k less unspent = record {
@@ -161,11 +212,12 @@ keeps_begin w k less unspent = record {
   phase = k.phase;
   asking = k.asking;
   low = low_longer w k is.Begin refl;
-  open_txns = added_open w.log (is.Begin ∷ w.log) w.open_txns k.open_txns (begun_txn (length w.log + 1)) refl less (opens w.log k.legal) (begin_leaves w.log)
+  open_txns = added_open w.log (is.Begin ∷ w.log) w.losers.below w.open_txns k.open_txns (begun_txn (length w.log + 1)) refl k.lost.losers.bound less (opens w.log k.legal) (begin_leaves w.log)
       (λ t now. elim (open_had is.Begin w.log t now) [ inl new ↦ inl new.0 | inr was ↦ inr was ]);
   committing = k.committing;
-  locks = begins w.log w.open_txns w.committing w.locks k.locks (begun_txn (length w.log + 1)) k.legal refl (all_below w k)
-      (ap (λ ts. is_listed ts (length w.log + 1)) k.committing ∙ open_unlisted w.log w.stable (length w.log + 1) (unended_next w.log k.legal));
+  lost = lost_more w k is.Begin tt tt (λ n. refl);
+  locks = begins w.log w.open_txns (closing w) w.locks k.locks (begun_txn (length w.log + 1)) k.legal refl (all_below w k)
+      (not_closing w (length w.log + 1) k (unended_next w.log k.legal) k.lost.losers.bound);
   reading = reads_begun w.reads w.open_txns w.locks k.reading (begun_txn (length w.log + 1)) refl;
 }
 
@@ -188,8 +240,8 @@ pub held_by : (w : TcView) (n u : ℕ) (q : Op) (s : Span) → IsTc w → IsOpBy
     → Conflict s (at_key Exclusive (key_of q)) → AnyConflict s (spans_of w.locks u)
 held_by w n u q s k by open_u clash =
     let P : List Span → Type 0 = AnyConflict s in
-    any_held w.log w.open_txns w.committing w.locks k.locks u s
-    (subst P (sym (held_is w.log w.open_txns w.committing u (open_holds w.open_txns w.committing u (k.open_txns.all u open_u)))) (op_spans_has s w.log n u q by clash))
+    any_held w.log w.open_txns (closing w) w.locks k.locks u s
+    (subst P (sym (held_is w.log w.open_txns (closing w) u (open_holder w u k open_u))) (op_spans_has s w.log n u q by clash))
 
 -- so a key that nobody else holds has no operation of another open transaction
 pub key_free : (w : TcView) (t : ℕ) (op : Op) → IsTc w → IsFree w.locks t (at_key Exclusive (key_of op))
@@ -224,10 +276,11 @@ keeps_act w o op k at none still flat free unspent =
       phase = k.phase;
       asking = k.asking;
       low = low_longer w k r refl;
-      open_txns = replaced_open w.log (r ∷ w.log) w.open_txns k.open_txns (acted_txn o (length w.log + 1)) o at (acts w.log o op (none_next w.log k.legal) h (idle_at w.log o h none) flat)
+      open_txns = replaced_open w.log (r ∷ w.log) w.losers.below w.open_txns k.open_txns (acted_txn o (length w.log + 1)) o at (acts w.log o op (none_next w.log k.legal) h (idle_at w.log o h none) flat)
           (step_leaves r w.log o.txn refl (λ n. refl)) (open_was r w.log (λ e. cc));
       committing = k.committing;
-      locks = takes_key w.log w.open_txns w.committing w.locks k.locks (acted_txn o (length w.log + 1)) o o.last op at free;
+      lost = lost_more w k r (fits_op w o op k at none free) (late_at w o k at) (λ n. refl);
+      locks = takes_key w.log w.open_txns (closing w) w.locks k.locks (acted_txn o (length w.log + 1)) o o.last op at free;
       reading = reads_replaced w.reads w.open_txns w.locks k.reading (acted_txn o (length w.log + 1)) o _ at still (λ u apart. set_other o.txn (at_key Exclusive (key_of op) ∷ spans_of w.locks o.txn) w.locks u k.locks.table apart);
     }
 
@@ -250,7 +303,7 @@ module _ (w : TcView) (o new : OpenTxn) (k : IsTc w) (at : find o.txn w.open_txn
         phase = k.phase;
         asking = k.asking;
         low = k.low;
-        open_txns = replaced_open w.log w.log w.open_txns k.open_txns new o found
+        open_txns = replaced_open w.log w.log w.losers.below w.open_txns k.open_txns new o found
             (record {
               is = let Q : ℕ → Type 0 = IsOpen w.log in subst Q (sym number) h.is;
               last = rw same h.last;
@@ -261,7 +314,8 @@ module _ (w : TcView) (o new : OpenTxn) (k : IsTc w) (at : find o.txn w.open_txn
             })
             (λ p apart h. h) (λ t h. h);
         committing = k.committing;
-        locks = replaced w.log w.open_txns w.committing w.locks k.locks new o found;
+        lost = k.lost;
+        locks = replaced w.log w.open_txns (closing w) w.locks k.locks new o found;
         reading = reads_replaced w.reads w.open_txns w.locks k.reading new o w.locks found (ap (λ (x : OpenTxn). x.reading) same ∙ still) (λ u apart. refl);
       }
 
@@ -313,6 +367,17 @@ fits_answer w o n a k at some =
     let own = own_request w.log o n waits.request in
     record { op = own.op; requested = own.requests; unanswered = waits.unanswered }
 
+-- what a loser awaits is another's
+other_due : (w : TcView) (o : OpenTxn) (n : ℕ) → IsTc w → find o.txn w.open_txns ≡ Some o → IsWaiting w.log o n
+    → (m : ℕ) → IsDue w.log w.losers.below m → m ≢ n
+other_due w o n k at waits m due same =
+    let P : ℕ → Type 0 = λ x. IsStepOf w.log due.txn x in
+    let its : IsStepOf w.log due.txn n = subst P same due.step in
+    let mine : IsStepOf w.log o.txn n = (own_request w.log o n waits.request).step in
+    let e : Some due.txn ≡ Some o.txn = sym its ∙ mine in
+    let equal : due.txn ≡ o.txn = cc in
+    omega (arith, equal, due.loser.early, late_at w o k at)
+
 pub keeps_answer : (w : TcView) (o : OpenTxn) (n : ℕ) (a : Answer) → IsTc w → find o.txn w.open_txns ≡ Some o
     → o.waiting ≡ Some n → is_spent w.log ≡ false
     → IsTc (answered w o n a)
@@ -328,10 +393,12 @@ keeps_answer w o n a k at some unspent =
       phase = k.phase;
       asking = k.asking;
       low = low_longer w k r refl;
-      open_txns = replaced_open w.log (r ∷ w.log) w.open_txns k.open_txns (answered_txn o) o at (answer_comes w.log o n a h waits)
+      open_txns = replaced_open w.log (r ∷ w.log) w.losers.below w.open_txns k.open_txns (answered_txn o) o at (answer_comes w.log o n a h waits)
           (answer_leaves w.log o n a waits) (open_was r w.log (λ e. cc));
       committing = k.committing;
-      locks = replaced (r ∷ w.log) w.open_txns w.committing w.locks (longer w.log w.open_txns w.committing w.locks k.locks r refl) (answered_txn o) o at;
+      lost = lost_spared w.log w.session w.phase w.losers r k.lost (fits_answer w o n a k at some, k.legal) tt
+          (λ m e. ap (λ b. cond b (Some a) (answer_of w.log m)) (ne_eqb m n (other_due w o n k at waits m (k.lost.due m e))));
+      locks = replaced (r ∷ w.log) w.open_txns (closing w) w.locks (longer w.log w.open_txns (closing w) w.locks k.locks r refl) (answered_txn o) o at;
       reading = reads_replaced w.reads w.open_txns w.locks k.reading (answered_txn o) o w.locks at
           (no_reading o.reading (λ q reads. let idle : o.waiting ≡ None = (reading_at w o q k at reads).idle in absurd (cc))) (λ u apart. refl);
     }
@@ -368,24 +435,31 @@ awaits w o n k at some =
     ap (λ (x : Option ℕ). if_awaits n (asker x w.open_txns)) own.step ∙ ap (if_awaits n) at
     ∙ ap (λ (x : Option ℕ). if is_number x n then Some o else None) some ∙ ap (λ b. if b then Some o else None) (eq-eqb n n refl)
 
+-- what was just answered is
+pub newly_answered : (log : List Record) (n : ℕ) (a : Answer) → IsSome (answer_of (is.Answer n a ∷ log) n)
+newly_answered log n a = ap (λ b. is_some (cond b (Some a) (answer_of log n))) (eq-eqb n n refl)
+
 -- redo goes on
-pub keeps_passed : (w : TcView) (n : ℕ) → takes w.session w.phase n ≡ true → IsTc w → IsTc (passed w n)
-keeps_passed w n taken k = record {
+pub phase_passed : (c s n : ℕ) (p : Phase) → takes s p n ≡ true → IsPhase c s p → IsPhase c s (next_phase p n)
+phase_passed c s n phase.Unconnected test h = absurd (cc)
+phase_passed c s n phase.Connecting test h = absurd (cc)
+phase_passed c s n (phase.Redoing next ending) test h = (grind (arith, nat_tests, test, h.0), grind (arith, nat_tests, test), λ e. absurd (true≢false (sym e)))
+phase_passed c s n (phase.Undoing waiting) test h = h
+phase_passed c s n phase.Running test h = h
+
+pub keeps_passed : (w : TcView) (n : ℕ) → takes w.session w.phase n ≡ true
+    → ((o : Op) → Requests w.log n o → IsSome (answer_of w.log n)) → IsTc w → IsTc (passed w n)
+keeps_passed w n taken answered k = record {
   legal = k.legal;
   within = k.within;
   few = record { records = k.few.records; reads = k.few.reads };
   session = k.session;
-  phase = by w.phase taken k.phase;
+  phase = phase_passed w.checkpointed w.session n w.phase taken k.phase;
   asking = λ l is. ap (λ p. next_phase p n) (k.asking l is);
   low = k.low;
   open_txns = k.open_txns;
   committing = k.committing;
+  lost = lost_passed w.log w.session w.phase w.losers n k.lost taken answered;
   locks = k.locks;
   reading = k.reading;
 }
-  where
-    by : (p : Phase) → takes w.session p n ≡ true → IsPhase w.checkpointed w.session p → IsPhase w.checkpointed w.session (next_phase p n)
-    by phase.Unconnected test h = absurd (cc)
-    by phase.Connecting test h = absurd (cc)
-    by (phase.Redoing next ending) test h = (grind (arith, nat_tests, test, h.0), grind (arith, nat_tests, test), λ e. absurd (true≢false (sym e)))
-    by phase.Running test h = h

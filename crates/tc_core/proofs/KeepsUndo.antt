@@ -1,9 +1,9 @@
 -- A compensation, and the end of a rollback, keep what holds of the transaction component.
-use Rattle.std.proofs.Common.{◌≡◌, ℕ, ◌+◌, ◌<◌, ◌≤◌, false, [], ◌∷◌, ◌++◌, List, length, Option, Some, None, refl, sym, ap, ◌∙◌, subst, arith, inl, inr}
+use Rattle.std.proofs.Common.{◌≡◌, ℕ, ◌+◌, ◌<◌, ◌≤◌, true, false, is_some, [], ◌∷◌, ◌++◌, List, length, Option, Some, None, refl, sym, ap, ◌∙◌, subst, arith, inl, inr}
 use Rattle.record_key.specs.declared.op.Op.{Op}
 use Rattle.history.specs.declared.record.Record.{Record}
 use Rattle.history.specs.declared.record.Record.TheVariants as is
-use Rattle.history.specs.Legal.{Fits, Inverts, IsLatestOrNone, Stands}
+use Rattle.history.specs.Legal.{Fits, Inverts, IsLatestOrNone, IsLegal, Stands}
 use Rattle.log_laws.proofs.LegalLogs.{stands_number}
 use Rattle.log_laws.proofs.Checking.{latest_unique}
 use Rattle.log_laws.proofs.Undo.{latest_found, earlier_found}
@@ -14,10 +14,12 @@ use Rattle.tc_core.specs.declared.open_txn.Rollback.{Rollback}
 use Rattle.tc_core.specs.OpenTxns.{find}
 use Rattle.logical_log.specs.LogView.{is_spent}
 use Rattle.tc_core.specs.TcView.{TcView}
-use Rattle.tc_core.specs.Changes.{compensated_txn, compensated, ended, committed, next_of, inverse_at}
-use Rattle.tc_core.specs.Kept.{IsTc}
-use Rattle.tc_core.proofs.Committing.{holder_committed, commits_more}
+use Rattle.tc_core.specs.Changes.{waits_for, compensated_txn, compensated, ended, committed, next_of, inverse_at}
+use Rattle.tc_core.specs.Kept.{IsTc, closing}
+use Rattle.tc_core.proofs.Committing.{holder_closing, commits_more}
+use Rattle.restart.specs.Losers.{txns}
 use Rattle.tc_core.proofs.Low.{low_longer}
+use Rattle.tc_core.proofs.Losers.{lost_more, late_at}
 use Rattle.tc_core.proofs.Keeps.{open_was}
 use Rattle.tc_core.proofs.KeepsOpen.{replaced_open, without_open}
 use Rattle.tc_core.proofs.KeepsSteps.{step_leaves, end_leaves, commit_leaves, compensates, ends, commits}
@@ -33,19 +35,23 @@ undo_found w o k at =
     let P : ℕ → Type 0 = IsLatestOrNone (Stands w.log o.txn) in subst P (sym h.undo) (latest_found w.log o.txn k.legal o.last h.last)
 
 -- the inverse is that by the operation and its answer
-inverse_is : (w : TcView) (u : ℕ) (i : Option Op) → Inverts w.log u i → i ≡ inverse_at w.log u
-inverse_is w u i h = rw (h.is, h.answered) h.inverse
+inverse_is : (log : List Record) (u : ℕ) (i : Option Op) → Inverts log u i → i ≡ inverse_at log u
+inverse_is log u i h = rw (h.is, h.answered) h.inverse
 
 -- so the compensation that fits is that of what is left to undo
+pub comp_is : (log : List Record) (t u above : ℕ) (r : Record) → IsLegal log → IsLatestOrNone (Stands log t) u
+    → Compensates log t above r → (r ≡ is.Comp t u (next_of log u) (inverse_at log u)) × (above < u)
+comp_is log t u above r legal left h =
+    let same : h.undoes ≡ u = latest_unique (Stands log t) h.undoes u (inl h.fits.latest) left in
+    let next : h.next ≡ next_of log h.undoes =
+    latest_unique (λ n. Stands log t n × (n < h.undoes)) h.next (next_of log h.undoes) h.fits.next (earlier_found log t h.undoes legal h.fits.latest.is) in
+    let inverse : h.inverse ≡ inverse_at log h.undoes = inverse_is log h.undoes h.inverse h.fits.inverse in
+    (h.is ∙ rw (next, inverse, same) refl, omega (arith, h.above_bound, same))
+
 pub is_comp : (w : TcView) (o : OpenTxn) (above : ℕ) (r : Record) → IsTc w → find o.txn w.open_txns ≡ Some o
     → Compensates w.log o.txn above r
     → (r ≡ is.Comp o.txn o.undo (next_of w.log o.undo) (inverse_at w.log o.undo)) × (above < o.undo)
-is_comp w o above r k at h =
-    let same : h.undoes ≡ o.undo = latest_unique (Stands w.log o.txn) h.undoes o.undo (inl h.fits.latest) (undo_found w o k at) in
-    let next : h.next ≡ next_of w.log h.undoes =
-    latest_unique (λ n. Stands w.log o.txn n × (n < h.undoes)) h.next (next_of w.log h.undoes) h.fits.next (earlier_found w.log o.txn h.undoes k.legal h.fits.latest.is) in
-    let inverse : h.inverse ≡ inverse_at w.log h.undoes = inverse_is w h.undoes h.inverse h.fits.inverse in
-    (h.is ∙ rw (next, inverse, same) refl, omega (arith, h.above_bound, same))
+is_comp w o above r k at h = comp_is w.log o.txn o.undo above r k.legal (undo_found w o k at) h
 
 pub fits_comp : (log : List Record) (t above : ℕ) (r : Record) → Compensates log t above r → Fits log r
 fits_comp log t above r h = rw h.is h.fits
@@ -73,11 +79,12 @@ keeps_comp w o b k at none rolling fits unspent =
       phase = k.phase;
       asking = k.asking;
       low = low_longer w k r refl;
-      open_txns = replaced_open w.log (r ∷ w.log) w.open_txns k.open_txns new o at
+      open_txns = replaced_open w.log (r ∷ w.log) w.losers.below w.open_txns k.open_txns new o at
           (compensates i w.log o next b (none_next w.log k.legal) h (idle_at w.log o h none) rolling)
           (step_leaves r w.log o.txn refl (λ n. refl)) (open_was r w.log (λ e. cc));
       committing = k.committing;
-      locks = replaced (r ∷ w.log) w.open_txns w.committing w.locks (longer w.log w.open_txns w.committing w.locks k.locks r refl) new o at;
+      lost = lost_more w k r fits (late_at w o k at) (λ n. refl);
+      locks = replaced (r ∷ w.log) w.open_txns (closing w) w.locks (longer w.log w.open_txns (closing w) w.locks k.locks r refl) new o at;
       reading = reads_replaced w.reads w.open_txns w.locks k.reading new o w.locks at
           (no_reading o.reading (λ q reads. let flat : Some b ≡ None = sym rolling ∙ (reading_at w o q k at reads).flat in absurd (cc))) (λ u apart. refl);
     }
@@ -103,9 +110,10 @@ keeps_end w o k at fits unspent = record {
   phase = k.phase;
   asking = k.asking;
   low = low_longer w k (is.End o.txn) refl;
-  open_txns = without_open w.log (is.End o.txn ∷ w.log) w.open_txns k.open_txns o.txn (end_leaves w.log o.txn) (ends w.log o.txn);
+  open_txns = without_open w.log (is.End o.txn ∷ w.log) w.losers.below w.open_txns k.open_txns o.txn (end_leaves w.log o.txn) (ends w.log o.txn);
   committing = k.committing;
-  locks = gives_back w.log w.open_txns w.committing w.locks k.locks o.txn (unlisted w o.txn k (open_at w o k at).is);
+  lost = lost_more w k (is.End o.txn) fits (late_at w o k at) (λ n. refl);
+  locks = gives_back w.log w.open_txns (closing w) w.locks k.locks o.txn (unlisted w o k at);
   reading = reads_ended w.reads w.open_txns w.locks k.reading o.txn _ (λ u apart. set_other o.txn [] w.locks u k.locks.table apart);
 }
 
@@ -124,8 +132,18 @@ keeps_commit w o k at none unspent = record {
   phase = k.phase;
   asking = k.asking;
   low = low_longer w k (is.Commit o.txn) refl;
-  open_txns = without_open w.log (is.Commit o.txn ∷ w.log) w.open_txns k.open_txns o.txn (commit_leaves w.log o.txn) (commits w.log o.txn);
+  open_txns = without_open w.log (is.Commit o.txn ∷ w.log) w.losers.below w.open_txns k.open_txns o.txn (commit_leaves w.log o.txn) (commits w.log o.txn);
   committing = ap (λ ts. ts ++ o.txn ∷ []) k.committing ∙ sym (commits_more w.log w.stable o.txn k.within);
-  locks = alike w.log w.open_txns w.committing w.locks k.locks (is.Commit o.txn) _ _ refl (holder_committed w.open_txns w.committing o.txn o at);
+  lost = lost_more w k (is.Commit o.txn) (fits_commit w o k at none) (late_at w o k at) (λ n. refl);
+  locks = alike w.log w.open_txns (closing w) w.locks k.locks (is.Commit o.txn) _ _ refl (holder_closing w.open_txns w.committing (txns w.losers) o.txn o at);
   reading = reads_ended w.reads w.open_txns w.locks k.reading o.txn w.locks (λ u apart. refl);
 }
+
+-- a compensation waits for its answer just where it asks for something
+pub waits_if : (i : Option Op) (x : Option ℕ) (n : ℕ) → is_some i ≡ true → x ≡ Some n → x ≡ waits_for n i
+waits_if None x n h e = absurd (cc)
+waits_if (Some i) x n h e = e
+
+pub waits_not : (i : Option Op) (x : Option ℕ) (n : ℕ) → is_some i ≡ false → x ≡ None → x ≡ waits_for n i
+waits_not None x n h e = e
+waits_not (Some i) x n h e = absurd (cc)

@@ -1,7 +1,8 @@
 -- Transactions whose Commit is stable let go of what they hold.
-use Rattle.std.proofs.Common.{◌≡◌, ℕ, true, false, List, [], ◌∷◌, None, is_some, refl, sym, ap, ◌∙◌, inl, inr, true≢false, eq-eqb, ne_eqb}
-use Rattle.std.specs.Prelude.{◌||◌, filter, if◌then◌else◌}
+use Rattle.std.proofs.Common.{◌≡◌, ℕ, true, false, List, [], ◌∷◌, ◌++◌, is_some, refl, sym, ap, ◌∙◌, inl, inr, true≢false, eq-eqb, ne_eqb}
+use Rattle.std.specs.Prelude.{◌==◌, ◌||◌, filter, if◌then◌else◌}
 use Rattle.std.proofs.lemmas.Bool.{cases_eq, cases_Bool}
+use Rattle.std.proofs.lemmas.List.Folds.{list_any-append}
 use Rattle.history.specs.declared.record.Record.{Record}
 use Rattle.history.specs.Spans.{Span}
 use Rattle.range_locks.specs.Locks.{LocksView, spans_of, set_spans, IsTable}
@@ -52,11 +53,11 @@ gone_own (t ∷ ts) locks u table listed =
     ]
 
 -- so each holds nothing or what it held
-apart_none : (xs : List Span) → AreApart xs []
+pub apart_none : (xs : List Span) → AreApart xs []
 apart_none [] = tt
 apart_none (x ∷ xs) = (λ any. any, apart_none xs)
 
-module _ (log : List Record) (os : List OpenTxn) (cs : List ℕ) (locks : LocksView) (held : AreHeld log os cs locks) (closed : (t : ℕ) → is_listed cs t ≡ true → find t os ≡ None) where
+module _ (log : List Record) (os : List OpenTxn) (cs ls : List ℕ) (locks : LocksView) (held : AreHeld log os (cs ++ ls) locks) (closed : (t : ℕ) → is_listed cs t ≡ true → is_holder os ls t ≡ false) where
   own : (t : ℕ) → is_listed cs t ≡ true → spans_of (let_go cs locks) t ≡ []
   own t = gone_own cs locks t held.table
 
@@ -64,17 +65,15 @@ module _ (log : List Record) (os : List OpenTxn) (cs : List ℕ) (locks : LocksV
   other t = let_go_other cs locks t held.table
 
   -- who isn't committing is a holder where it was
-  same_if : (t : ℕ) → is_listed cs t ≡ false → is_holder os [] t ≡ is_holder os cs t
-  same_if t unlisted = ap (λ b. is_some (find t os) || b) (sym unlisted)
+  same_if : (t : ℕ) → is_listed cs t ≡ false → is_holder os ls t ≡ is_holder os (cs ++ ls) t
+  same_if t unlisted =
+      ap (λ b. is_some (find t os) || b) (sym (list_any-append (λ u. u == t) cs ls ∙ ap (λ b. b || is_listed ls t) unlisted))
 
-  nobody : (t : ℕ) → is_listed cs t ≡ true → is_holder os [] t ≡ false
-  nobody t listed = rw (closed t listed) refl
-
-  pub let_go_held : AreHeld log os [] (let_go cs locks)
+  pub let_go_held : AreHeld log os ls (let_go cs locks)
   let_go_held = record {
     table = gone_table cs locks held.table;
     exclusive = λ t. elim (cases_Bool (is_listed cs t)) [
-      | inl listed ↦ ap (filter is_exclusive) (own t listed) ∙ sym (held_none log os [] t (nobody t listed))
+      | inl listed ↦ ap (filter is_exclusive) (own t listed) ∙ sym (held_none log os ls t (closed t listed))
       | inr unlisted ↦ ap (filter is_exclusive) (other t unlisted) ∙ held.exclusive t ∙ ap (λ b. if b then op_spans log t else []) (sym (same_if t unlisted))
     ];
     others = λ t none. elim (cases_Bool (is_listed cs t)) [

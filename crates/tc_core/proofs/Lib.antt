@@ -1,6 +1,7 @@
 pub mod Finding
 pub mod Numbers
 pub mod Low
+pub mod Losers
 pub mod Slots
 pub mod InSlots
 pub mod Adding
@@ -19,7 +20,14 @@ pub mod KeepsOpen
 pub mod KeepsSteps
 pub mod KeepsTc
 pub mod KeepsLow
+pub mod KeepsLost
 pub mod KeepsUndo
+pub mod KeepsLosing
+pub mod Opened
+pub mod Rebuilt
 pub mod Refused
 pub mod UndoCauses
 pub mod KeepsReads
+pub mod OpenedLosers
+pub mod OpenedLocks
+pub mod OpenedLog

@@ -13,7 +13,7 @@ use Rattle.range_locks.specs.Locks.{LocksView, spans_of, set_spans, IsFree}
 use Rattle.range_locks.proofs.Tables.{set_table, set_own, set_other}
 use Rattle.tc_core.specs.declared.open_txn.OpenTxn.{OpenTxn}
 use Rattle.tc_core.specs.OpenTxns.{find, replace, without, AreBelow}
-use Rattle.tc_core.specs.Locking.{held_spans, is_holder, is_listed, is_exclusive, AreApart, AreHeld}
+use Rattle.tc_core.specs.Locking.{op_spans, held_spans, is_holder, is_listed, is_exclusive, AreApart, AreHeld}
 use Rattle.tc_core.proofs.Finding.{find_above, find_there, without_other}
 use Rattle.tc_core.proofs.HeldSpans.{Holds, open_holds, same_holder, holder_replaced, held_none, held_same, held_acted, held_begun, held_ended, op_spans_longer}
 
@@ -67,24 +67,24 @@ module _ (log : List Record) (os : List OpenTxn) (cs : List ℕ) (locks : LocksV
   }
 
   -- one transaction's spans change, in the table as by the log
-  change : (t : ℕ) (spans : List Span) (log2 : List Record) (os2 : List OpenTxn)
-      → Holds log os cs t (filter is_exclusive spans) log2 os2
-      → (is_holder os2 cs t ≡ false → spans ≡ []) → ((u : ℕ) → u ≢ t → is_holder os2 cs u ≡ is_holder os cs u)
+  change : (t : ℕ) (spans : List Span) (log2 : List Record) (os2 : List OpenTxn) (cs2 : List ℕ)
+      → (held_spans log2 os2 cs2 t ≡ filter is_exclusive spans) × ((u : ℕ) → u ≢ t → held_spans log2 os2 cs2 u ≡ held_spans log os cs u)
+      → (is_holder os2 cs2 t ≡ false → spans ≡ []) → ((u : ℕ) → u ≢ t → is_holder os2 cs2 u ≡ is_holder os cs u)
       → ((u : ℕ) → u ≢ t → AreApart spans (spans_of locks u))
-      → AreHeld log2 os2 cs (set_spans t spans locks)
-  change t spans log2 os2 holds own others apart =
+      → AreHeld log2 os2 cs2 (set_spans t spans locks)
+  change t spans log2 os2 cs2 holds own others apart =
       let new : LocksView = set_spans t spans locks in
       let mine : spans_of new t ≡ spans = set_own t spans locks held.table in
       let its : (u : ℕ) → u ≢ t → spans_of new u ≡ spans_of locks u = λ u other. set_other t spans locks u held.table other in
       record {
         table = set_table t spans locks held.table;
         exclusive = λ u. elim (cases_eq u t) [
-          | inl same ↦ let P : ℕ → Type 0 = λ n. filter is_exclusive (spans_of new n) ≡ held_spans log2 os2 cs n in
+          | inl same ↦ let P : ℕ → Type 0 = λ n. filter is_exclusive (spans_of new n) ≡ held_spans log2 os2 cs2 n in
               subst P (sym same) (ap (filter is_exclusive) mine ∙ sym holds.0)
           | inr other ↦ ap (filter is_exclusive) (its u other) ∙ held.exclusive u ∙ sym (holds.1 u other)
         ];
         others = λ u none. elim (cases_eq u t) [
-          | inl same ↦ let P : ℕ → Type 0 = λ n. is_holder os2 cs n ≡ false → spans_of new n ≡ [] in subst P (sym same) (λ h. mine ∙ own h) none
+          | inl same ↦ let P : ℕ → Type 0 = λ n. is_holder os2 cs2 n ≡ false → spans_of new n ≡ [] in subst P (sym same) (λ h. mine ∙ own h) none
           | inr other ↦ its u other ∙ held.others u (sym (others u other) ∙ none)
         ];
         apart = λ u v differ. elim (cases_eq u t) [
@@ -121,7 +121,7 @@ module _ (log : List Record) (os : List OpenTxn) (cs : List ℕ) (locks : LocksV
       → AreHeld log2 (replace new os) cs (set_spans new.txn (s ∷ spans_of locks new.txn) locks)
   taken new o s log2 at free holds =
       let same = holder_replaced new o os cs at in
-      change new.txn (s ∷ spans_of locks new.txn) log2 (replace new os) holds
+      change new.txn (s ∷ spans_of locks new.txn) log2 (replace new os) cs holds
       (λ none. absurd (true≢false (sym (same new.txn ∙ open_holds os cs new.txn (ap is_some at)) ∙ none)))
       (λ u other. same u)
       (λ u other. (free u other, held.apart new.txn u (λ e. other (sym e))))
@@ -163,5 +163,13 @@ module _ (log : List Record) (os : List OpenTxn) (cs : List ℕ) (locks : LocksV
   -- an end gives back
   pub gives_back : (t : ℕ) → is_listed cs t ≡ false → AreHeld (is.End t ∷ log) (without t os) cs (set_spans t [] locks)
   gives_back t unlisted =
-      change t [] (is.End t ∷ log) (without t os) (held_ended log os cs t unlisted) (λ none. refl)
+      change t [] (is.End t ∷ log) (without t os) cs (held_ended log os cs t unlisted) (λ none. refl)
       (λ u other. same_holder os (without t os) cs u (without_other t os u other)) (λ u other. tt)
+
+  -- so does that of one that isn't open
+  pub loses : (t : ℕ) (cs2 : List ℕ) → is_holder os cs2 t ≡ false → ((u : ℕ) → u ≢ t → is_holder os cs2 u ≡ is_holder os cs u)
+      → AreHeld (is.End t ∷ log) os cs2 (set_spans t [] locks)
+  loses t cs2 none same =
+      change t [] (is.End t ∷ log) os cs2
+      (held_none (is.End t ∷ log) os cs2 t none, λ u other. ap (λ b. if b then op_spans log u else []) (same u other))
+      (λ h. refl) same (λ u other. tt)

@@ -20,7 +20,7 @@ use Rattle.tc_core.specs.declared.told.UndoStep.{UndoStep}
 use Rattle.tc_core.specs.declared.told.UndoStep.TheVariants as step
 use Rattle.logical_log.specs.LogView.{spent_refusal}
 use Rattle.tc_core.specs.OpenTxns.{find}
-use Rattle.tc_core.specs.TcView.{TcView, is_running, failed}
+use Rattle.tc_core.specs.TcView.{TcView, is_serving, failed}
 use Rattle.tc_core.specs.Refusing.{Refuses}
 use Rattle.tc_core.specs.Causes.{idle_refusal, begin_refusal, commit_refusal, save_refusal, back_refusal, read_refusal, reads_spent, undo_refusal, undo_logs, resend_refusal, RefusesTaking}
 use Rattle.tc_core.specs.Changes.{forced, logged_session, reconnected, begun, acted, asked_read, shared, saved, rolled, going_back, committed, compensated, ended, is_back}
@@ -140,7 +140,7 @@ pub record IsOpRequest (w : TcView) (t : ℕ) (request : Request) : Type 0 where
   pub number : ℕ
   pub op : Op
   pub at : IsAt w t open_txn
-  pub running : is_running w.phase ≡ true
+  pub serving : is_serving w.phase ≡ true
   pub waiting : open_txn.waiting ≡ Some number
   pub stable : number ≤ w.stable
   pub requests : Requests w.log number op
@@ -155,7 +155,7 @@ pub record IsReadRequest (w : TcView) (t : ℕ) (request : Request) : Type 0 whe
   pub open_txn : OpenTxn
   pub read : Read
   pub at : IsAt w t open_txn
-  pub running : is_running w.phase ≡ true
+  pub serving : is_serving w.phase ≡ true
   pub reading : open_txn.reading ≡ Some read
   pub is : request ≡ read_request w.session read.number read.span
 

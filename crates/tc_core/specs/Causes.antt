@@ -10,16 +10,20 @@ use Rattle.tc_core.specs.declared.open_txn.OpenTxn.{OpenTxn}
 use Rattle.tc_core.specs.declared.open_txn.Rollback.{Rollback}
 use Rattle.logical_log.specs.LogView.{is_spent, spent_refusal}
 use Rattle.tc_core.specs.OpenTxns.{find}
-use Rattle.tc_core.specs.TcView.{TcView, is_unconnected, is_running, is_rolling, is_waiting}
+use Rattle.tc_core.specs.TcView.{TcView, is_unconnected, is_running, is_serving, is_rolling, is_waiting}
 use Rattle.tc_core.specs.Refusing.{Refuses}
 
--- clients are served only while the component runs
+-- what is told to the data component waits until no loser is left
 abbrev pub running_refusal : TcView → Option Refusal
 running_refusal w = first_of ((is_unconnected w.phase, NotConnected) ∷ (not (is_running w.phase), Redoing) ∷ [])
 
+-- clients are served once redo has ended
+abbrev pub serving_refusal : TcView → Option Refusal
+serving_refusal w = first_of ((is_unconnected w.phase, NotConnected) ∷ (not (is_serving w.phase), Redoing) ∷ [])
+
 -- the causes that stand before all others where a transaction is named
 abbrev pub open_refusal : TcView → ℕ → Option Refusal
-open_refusal w t = or_else (running_refusal w) (first_of ((not (is_some (find t w.open_txns)), NotOpen) ∷ []))
+open_refusal w t = or_else (serving_refusal w) (first_of ((not (is_some (find t w.open_txns)), NotOpen) ∷ []))
 
 -- where it must be idle besides
 abbrev pub idle_refusal : TcView → ℕ → Option Refusal
@@ -32,7 +36,7 @@ abbrev pub is_full : List OpenTxn → Bool
 is_full os = nat_le 64 (length os)
 
 abbrev pub begin_refusal : TcView → Option Refusal
-begin_refusal w = or_else (running_refusal w) (first_of ((is_full w.open_txns, Full) ∷ (is_spent w.log, NumbersSpent) ∷ []))
+begin_refusal w = or_else (serving_refusal w) (first_of ((is_full w.open_txns, Full) ∷ (is_spent w.log, NumbersSpent) ∷ []))
 
 abbrev pub commit_refusal : TcView → ℕ → Option Refusal
 commit_refusal w t = or_else (idle_refusal w t) (spent_refusal w.log)

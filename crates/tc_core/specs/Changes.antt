@@ -15,9 +15,12 @@ use Rattle.range_locks.specs.declared.span.Span.{Span}
 use Rattle.range_locks.specs.Locks.{LocksView, spans_of, set_spans}
 use Rattle.range_locks.specs.Meant.{meant}
 use Rattle.tc_core.specs.declared.open_txn.OpenTxn.{OpenTxn}
+use Rattle.restart.specs.declared.loser.Loser.{Loser}
+use Rattle.restart.specs.Losers.{LosersView}
+use Rattle.tc_core.specs.declared.phase.Phase.{Phase}
 use Rattle.tc_core.specs.declared.phase.Phase.TheVariants as phase
 use Rattle.tc_core.specs.OpenTxns.{replace, without}
-use Rattle.tc_core.specs.TcView.{TcView}
+use Rattle.tc_core.specs.TcView.{TcView, is_none_lost}
 
 -- these transactions let go of what they hold
 abbrev pub let_go : List ℕ → LocksView → LocksView
@@ -170,3 +173,31 @@ answered_txn o = record o { waiting = None }
 
 abbrev pub answered : TcView → OpenTxn → ℕ → Answer → TcView
 answered w o n a = record w { log = is.Answer n a ∷ w.log; open_txns = replace (answered_txn o) w.open_txns }
+
+-- an answer that no client waits for
+abbrev pub answered_lost : TcView → ℕ → Answer → TcView
+answered_lost w n a = record w { log = is.Answer n a ∷ w.log }
+
+-- the compensation of a loser's latest operation that none names
+abbrev pub lost_comp : List Record → Loser → Record
+lost_comp log x = is.Comp x.txn x.left (next_of log x.left) (inverse_at log x.left)
+
+-- it is logged, and awaits its answer where it has an inverse
+abbrev pub lost_compensated : TcView → Loser → LosersView → TcView
+lost_compensated w x losers = record w {
+  log = lost_comp w.log x ∷ w.log;
+  phase = phase.Undoing (waits_for (length w.log + 1) (inverse_at w.log x.left));
+  losers = losers;
+}
+
+-- a loser's End is logged, and it lets go of what it held; after the last one the component runs
+abbrev pub undoing_or_running : LosersView → Phase
+undoing_or_running losers = if is_none_lost losers then phase.Running else phase.Undoing None
+
+abbrev pub lost_ended : TcView → ℕ → LosersView → TcView
+lost_ended w t losers = record w {
+  log = is.End t ∷ w.log;
+  phase = undoing_or_running losers;
+  losers = losers;
+  locks = set_spans t [] w.locks;
+}

@@ -1,14 +1,14 @@
 -- The open transaction that a call names, where it may make the call.
 use Rattle.std.specs.Prelude.{◌≡◌, ℕ, true, None}
 use Rattle.tc_core.specs.declared.open_txn.OpenTxn.{OpenTxn}
-use Rattle.tc_core.specs.TcView.{TcView, is_running}
+use Rattle.tc_core.specs.TcView.{TcView, is_serving}
 use Rattle.tc_core.specs.Causes.{open_refusal, answered_refusal, idle_refusal}
 use Rattle.tc_core.specs.Calls.{IsAt}
 
 -- clients are served
 pub record FindsOpen (w : TcView) (t : ℕ) (o : OpenTxn) : Type 0 where
   pub at : IsAt w t o
-  pub running : is_running w.phase ≡ true
+  pub serving : is_serving w.phase ≡ true
   pub allowed : open_refusal w t ≡ None
 
 -- and it waits for nothing

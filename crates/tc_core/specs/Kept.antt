@@ -1,5 +1,5 @@
 -- What holds of the transaction component at every moment.
-use Rattle.std.specs.Prelude.{◌≡◌, ◌≢◌, ℕ, ◌+◌, ◌<◌, ◌≤◌, true, List, [], ◌∷◌, ◌++◌, Option, Some, None, IsSome, length, nat_lt, if◌then◌else◌}
+use Rattle.std.specs.Prelude.{◌≡◌, ◌≢◌, ℕ, ◌+◌, ◌<◌, ◌≤◌, true, false, List, [], ◌∷◌, ◌++◌, Option, Some, None, IsSome, length, nat_lt, if◌then◌else◌}
 use Rattle.std.specs.List.{AllByRecursion}
 use Rattle.std.specs.Bool.{MatchBool}
 use Rattle.record_key.specs.declared.op.Op.{Op}
@@ -17,10 +17,11 @@ use Rattle.tc_core.specs.declared.phase.Phase.{Phase}
 use Rattle.tc_core.specs.declared.phase.Phase.TheVariants as phase
 use Rattle.logical_log.specs.Low.{stable_part}
 use Rattle.restart.specs.Plan.{IsCheckpointed}
+use Rattle.restart.specs.Losers.{LosersView, txns, IsLoser, AreLosers}
 use Rattle.tc_core.specs.OpenTxns.{find, AreFalling}
 use Rattle.tc_core.specs.Locking.{AreHeld}
 use Rattle.tc_core.specs.Changes.{shared}
-use Rattle.tc_core.specs.TcView.{TcView, rolls_back}
+use Rattle.tc_core.specs.TcView.{TcView, is_none_lost, rolls_back}
 
 -- the record that is waited for: an operation, or in a rollback a compensation with an inverse
 abbrev pub IsRequest : List Record → OpenTxn → ℕ → Type 0
@@ -53,10 +54,12 @@ pub record IsOpenTxn (log : List Record) (o : OpenTxn) : Type 0 where
   pub saves : AllByRecursion (λ end. end ≤ length log) o.saves
   pub rolling : (r : Rollback) → o.rolling ≡ Some r → IsRollback log r
 
--- just the open transactions of the log are kept, the newest first, and no more than 64
-pub record AreOpen (log : List Record) (os : List OpenTxn) : Type 0 where
+-- just the open transactions of the log are kept that began at this number or later, the newest first, and no more
+-- than 64
+pub record AreOpen (log : List Record) (below : ℕ) (os : List OpenTxn) : Type 0 where
   pub each : (t : ℕ) (o : OpenTxn) → find t os ≡ Some o → IsOpenTxn log o
-  pub all : (t : ℕ) → IsOpen log t → IsSome (find t os)
+  pub late : (t : ℕ) (o : OpenTxn) → find t os ≡ Some o → below ≤ t
+  pub all : (t : ℕ) → IsOpen log t → below ≤ t → IsSome (find t os)
   pub order : AreFalling os
   pub few : length os ≤ 64
 
@@ -79,7 +82,37 @@ abbrev pub IsPhase : ℕ → ℕ → Phase → Type 0
 IsPhase c s phase.Unconnected = s ≡ 0
 IsPhase c s phase.Connecting = c < s
 IsPhase c s (phase.Redoing next ending) = (c < next) × (next ≤ s) × (ending ≡ true → next ≡ s)
-IsPhase c s phase.Running = 0 < s
+IsPhase c s _ = 0 < s
+
+-- losers are left while they are undone, and none once the component runs
+abbrev pub IsPhaseOf : LosersView → Phase → Type 0
+IsPhaseOf l (phase.Undoing waiting) = is_none_lost l ≡ false
+IsPhaseOf l phase.Running = is_none_lost l ≡ true
+IsPhaseOf l _ = Unit {0}
+
+-- a loser's request of this number may lack its answer: redo has still to send it, or undo awaits it
+abbrev pub MayLack : ℕ → Phase → ℕ → Type 0
+MayLack s phase.Unconnected n = Unit {0}
+MayLack s phase.Connecting n = n < s
+MayLack s (phase.Redoing next ending) n = (next ≤ n) × (n < s)
+MayLack s (phase.Undoing waiting) n = waiting ≡ Some n
+MayLack s phase.Running n = ⊥
+
+-- a loser's request that has no answer
+pub record IsDue (log : List Record) (below n : ℕ) : Type 0 where
+  pub txn : ℕ
+  pub loser : IsLoser log below txn
+  pub op : Op
+  pub step : IsStepOf log txn n
+  pub requests : Requests log n op
+  pub unanswered : answer_of log n ≡ None
+
+-- losers are the log's, each but those that have ended, and each request of theirs that has no answer is awaited
+pub record AreLost (log : List Record) (s : ℕ) (p : Phase) (l : LosersView) : Type 0 where
+  pub losers : AreLosers log l
+  pub phase_of : IsPhaseOf l p
+  pub lacking : (n : ℕ) → IsDue log l.below n → MayLack s p n
+  pub due : (n : ℕ) → p ≡ phase.Undoing (Some n) → IsDue log l.below n
 
 -- how far the data component may forget: what was announced, what a checkpoint was asked for, and the greatest that
 -- a Checkpoint record names
@@ -100,8 +133,12 @@ pub record AreFew (w : TcView) : Type 0 where
   pub records : length w.log ≤ 281474976710655
   pub reads : w.reads ≤ 281474976710655
 
+-- besides open transactions those that are committing and the losers hold their keys
+abbrev pub closing : TcView → List ℕ
+closing w = w.committing ++ txns w.losers
+
 -- the log is legal, a beginning of it with the session's record is stable, a checkpoint is asked for only while clients
--- are served; the open transactions are its, those committing too, and the lock table is theirs
+-- are served; the open transactions are its, those committing and the losers too, and the lock table is theirs
 pub record IsTc (w : TcView) : Type 0 where
   pub legal : IsLegal w.log
   pub within : w.stable ≤ length w.log
@@ -110,7 +147,8 @@ pub record IsTc (w : TcView) : Type 0 where
   pub asking : (l : ℕ) → w.checkpointing ≡ Some l → w.phase ≡ phase.Running
   pub phase : IsPhase w.checkpointed w.session w.phase
   pub low : AreLow w.log w.stable w.announced w.checkpointing w.checkpointed
-  pub open_txns : AreOpen w.log w.open_txns
+  pub open_txns : AreOpen w.log w.losers.below w.open_txns
   pub committing : w.committing ≡ commits_in w.log w.stable
-  pub locks : AreHeld w.log w.open_txns w.committing w.locks
+  pub lost : AreLost w.log w.session w.phase w.losers
+  pub locks : AreHeld w.log w.open_txns (closing w) w.locks
   pub reading : AreReading w.reads w.open_txns w.locks

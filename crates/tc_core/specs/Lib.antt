@@ -10,7 +10,10 @@ pub mod Calls
 pub mod Finds
 pub mod Replies
 pub mod Answering
+pub mod Lost
 pub mod Recovery
+pub mod Opening
+pub mod Opened
 pub mod Redoing
 pub mod LowWater
 pub mod Checkpoint

@@ -40,8 +40,8 @@ is_exclusive s = excludes s.mode
 abbrev pub AreApart : List Span → List Span → Type 0
 AreApart xs ys = AllByRecursion (λ x. AnyConflict x ys → ⊥) xs
 
--- the lock table: exclusive just the keys of the operations of open and committing transactions; nobody else holds
--- anything, and no two of them hold what conflicts
+-- the lock table: exclusive just the keys of the operations of open transactions and of those that are closing; nobody
+-- else holds anything, and no two of them hold what conflicts
 pub record AreHeld (log : List Record) (os : List OpenTxn) (committing : List ℕ) (locks : LocksView) : Type 0 where
   pub table : IsTable locks
   pub exclusive : (t : ℕ) → filter is_exclusive (spans_of locks t) ≡ held_spans log os committing t

@@ -1,5 +1,5 @@
 -- What the transaction component makes of a reply.
-use Rattle.std.specs.Prelude.{◌≡◌, ℕ, ◌+◌, ◌==◌, ◌&&◌, ◌||◌, Bool, true, false, not, nat_lt, [], ◌∷◌, List, Option, Some, None, Result, Ok, Err, length, if◌then◌else◌}
+use Rattle.std.specs.Prelude.{◌≡◌, ℕ, ◌+◌, ◌==◌, ◌&&◌, ◌||◌, Bool, true, false, not, nat_lt, [], ◌∷◌, List, Option, Some, None, is_some, Result, Ok, Err, length, if◌then◌else◌}
 use Rattle.record_key.specs.declared.op.Answer.{Answer}
 use Rattle.record_key.specs.Table.{Bytes}
 use Rattle.range_locks.specs.declared.span.Span.{Span}
@@ -16,12 +16,14 @@ use Rattle.tc_core.specs.declared.phase.Phase.{Phase}
 use Rattle.tc_core.specs.declared.phase.Phase.TheVariants as phase
 use Rattle.tc_core.specs.declared.told.Told.{Told}
 use Rattle.tc_core.specs.declared.told.Told.TheVariants as told
-use Rattle.history.specs.Log.{record_at, step_in}
+use Rattle.history.specs.declared.record.Record.{Record}
+use Rattle.history.specs.declared.record.Record.TheVariants as is
+use Rattle.history.specs.Log.{record_at, answer_of, request_in, step_in}
 use Rattle.logical_log.specs.LogView.{is_spent}
 use Rattle.tc_core.specs.OpenTxns.{find, oldest, wants}
 use Rattle.tc_core.specs.TcView.{TcView, rolls_back}
 use Rattle.tc_core.specs.Refusing.{Refuses}
-use Rattle.tc_core.specs.Changes.{answered, was_told, checkpointed}
+use Rattle.tc_core.specs.Changes.{answered, answered_lost, was_told, checkpointed, undoing_or_running}
 
 abbrev pub session_of : Reply → ℕ
 session_of (says.Connected s) = s
@@ -40,7 +42,7 @@ abbrev pub takes : ℕ → Phase → ℕ → Bool
 takes s phase.Unconnected n = false
 takes s phase.Connecting n = false
 takes s (phase.Redoing next ending) n = (next == n) && nat_lt n s
-takes s phase.Running n = true
+takes s _ n = true
 
 abbrev pub is_number : Option ℕ → ℕ → Bool
 is_number None n = false
@@ -58,9 +60,15 @@ asker (Some t) os = find t os
 abbrev pub awaiting : TcView → ℕ → Option OpenTxn
 awaiting w n = if_awaits n (asker (step_in (record_at w.log n)) w.open_txns)
 
--- redo goes on after this number
+-- what is awaited still once this number was answered
+abbrev pub left_awaited : Option ℕ → ℕ → Option ℕ
+left_awaited None n = None
+left_awaited (Some m) n = if m == n then None else Some m
+
+-- redo goes on after this number, and undo where it awaited this answer
 abbrev pub next_phase : Phase → ℕ → Phase
 next_phase (phase.Redoing next ending) n = phase.Redoing (n + 1) false
+next_phase (phase.Undoing waiting) n = phase.Undoing (left_awaited waiting n)
 next_phase p n = p
 
 abbrev pub passed : TcView → ℕ → TcView
@@ -74,9 +82,23 @@ told_of o n a = if rolls_back o then told.Undone n else told.Answered o.txn a
 abbrev pub Outcome : Type 0
 Outcome = Told × TcView
 
--- a transaction that waits for the answer has it logged; without one nothing changes
+-- the record of this number asks for something and has no answer
+abbrev pub lacks : TcView → ℕ → Bool
+lacks w n = is_some (request_in (record_at w.log n)) && not (is_some (answer_of w.log n))
+
+-- of a loser's request that was answered nobody is told, but that a compensation was performed
+abbrev pub told_lost : Option Record → ℕ → Told
+told_lost (Some (is.Comp txn undoes next inverse)) n = told.Undone n
+told_lost _ n = told.Nothing
+
+-- a loser's answer is logged where there was none; without one nothing changes
+abbrev pub on_lost : TcView → ℕ → Option Answer → Outcome
+on_lost w n None = (told.Nothing, w)
+on_lost w n (Some a) = (told_lost (record_at w.log n) n, passed (answered_lost w n a) n)
+
+-- a transaction that waits for the answer has it logged
 abbrev pub on_awaited : TcView → ℕ → Option Answer → Option OpenTxn → Outcome
-on_awaited w n a None = (told.Nothing, passed w n)
+on_awaited w n a None = if lacks w n then on_lost w n a else (told.Nothing, passed w n)
 on_awaited w n None (Some o) = (told.Nothing, w)
 on_awaited w n (Some a) (Some o) = (told_of o n a, passed (answered w o n a) n)
 
@@ -88,9 +110,9 @@ abbrev pub on_connected : TcView → Phase → Outcome
 on_connected w phase.Connecting = (told.Connected w.session, record w { phase = phase.Redoing (w.checkpointed + 1) false })
 on_connected w _ = (told.Nothing, w)
 
--- the end of redo was sent, and is replied to
+-- the end of redo was sent, and is replied to: losers are undone, where there are any
 abbrev pub on_redo_ended : TcView → Phase → Outcome
-on_redo_ended w (phase.Redoing next true) = (told.RedoEnded w.session, record w { phase = phase.Running })
+on_redo_ended w (phase.Redoing next true) = (told.RedoEnded w.session, record w { phase = undoing_or_running w.losers })
 on_redo_ended w _ = (told.Nothing, w)
 
 -- the checkpoint that was asked for is logged; of another number none is
@@ -138,7 +160,8 @@ pub record TakesReply (old : TcView) (reply : Reply) (what : Told) (new : TcView
 -- an answer is logged
 abbrev pub is_logged : TcView → ℕ → Option Answer → Option OpenTxn → Bool
 is_logged w n (Some a) (Some o) = takes w.session w.phase n
-is_logged w n a o = false
+is_logged w n (Some a) None = takes w.session w.phase n && lacks w n
+is_logged w n None o = false
 
 -- something is logged: an answer, or a checkpoint
 abbrev pub logs : TcView → Reply → Bool

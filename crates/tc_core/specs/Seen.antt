@@ -15,5 +15,6 @@ seen p = record {
   checkpointed = p.checkpointed;
   open_txns = p.open_txns;
   committing = p.committing.items;
+  losers = p.losers;
   locks = p.locks;
 }

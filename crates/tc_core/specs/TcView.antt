@@ -1,16 +1,17 @@
 -- What is seen of the transaction component.
-use Rattle.std.specs.Prelude.{ℕ, ◌+◌, ◌||◌, Bool, true, false, List, [], Option, Some, None, is_some}
+use Rattle.std.specs.Prelude.{ℕ, ◌+◌, ◌||◌, Bool, true, false, List, [], ◌∷◌, Option, Some, None, is_some}
 use Rattle.history.specs.declared.record.Record.{Record}
 use Rattle.range_locks.specs.Locks.{LocksView}
+use Rattle.restart.specs.Losers.{LosersView, txns}
 use Rattle.tc_core.specs.declared.open_txn.OpenTxn.{OpenTxn}
 use Rattle.tc_core.specs.declared.phase.Phase.{Phase}
-use Rattle.tc_core.specs.declared.phase.Phase.TheVariants.{Unconnected, Connecting, Redoing, Running}
+use Rattle.tc_core.specs.declared.phase.Phase.TheVariants.{Unconnected, Connecting, Redoing, Undoing, Running}
 
 -- its log, the newest record first, how many are stable, how often the log's device has failed; its session, 0 if
 -- none, and how far that has come; how many reads were asked; the greatest number announced in this session, 0 before
 -- any, what its latest unanswered checkpoint asked for, and the greatest number that a Checkpoint record names, 0 if
 -- none; the open transactions, the newest first; those whose Commit record isn't stable, in the order of these records;
--- and what each transaction holds
+-- the losers that were found when the log was opened, but for those that have ended; and what each transaction holds
 pub record TcView : Type 0 where
   pub log : List Record
   pub stable : ℕ
@@ -23,6 +24,7 @@ pub record TcView : Type 0 where
   pub checkpointed : ℕ
   pub open_txns : List OpenTxn
   pub committing : List ℕ
+  pub losers : LosersView
   pub locks : LocksView
 
 abbrev pub is_unconnected : Phase → Bool
@@ -33,11 +35,30 @@ abbrev pub is_running : Phase → Bool
 is_running Running = true
 is_running _ = false
 
--- a request of recovery is due or awaits its reply
+-- clients are served
+abbrev pub is_serving : Phase → Bool
+is_serving (Undoing waiting) = true
+is_serving Running = true
+is_serving _ = false
+
+-- a step of recovery is due, or its request awaits the reply
 abbrev pub is_recovering : Phase → Bool
 is_recovering Connecting = true
 is_recovering (Redoing next ending) = true
+is_recovering (Undoing waiting) = true
 is_recovering _ = false
+
+-- no transaction was lost
+abbrev pub nobody_lost : LosersView
+nobody_lost = record { below = 0; undoing = []; done = [] }
+
+abbrev pub is_nil : List ℕ → Bool
+is_nil [] = true
+is_nil (t ∷ ts) = false
+
+-- each loser has ended
+abbrev pub is_none_lost : LosersView → Bool
+is_none_lost l = is_nil (txns l)
 
 abbrev pub rolls_back : OpenTxn → Bool
 rolls_back o = is_some o.rolling
@@ -72,5 +93,6 @@ fresh failures = record {
   checkpointed = 0;
   open_txns = [];
   committing = [];
+  losers = nobody_lost;
   locks = [];
 }

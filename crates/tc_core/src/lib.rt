@@ -9,10 +9,14 @@
 mod acting;
 mod change;
 mod forcing;
+mod laws;
 mod locking;
+mod losing;
+mod lost;
 mod low_water;
 mod open_txn;
 mod open_txns;
+mod opening;
 mod parts;
 mod phase;
 mod replies;
@@ -25,6 +29,7 @@ mod told;
 mod transactions;
 mod undoing;
 
+pub use laws::opened_law;
 pub use open_txn::{OpenTxn, Read, Rollback};
 pub use phase::Phase;
 pub use tc::Tc;

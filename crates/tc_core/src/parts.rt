@@ -1,12 +1,13 @@
 //! The parts of the transaction component.
 ghost use Rattle.std.specs.Prelude.{◌≡◌, [], true, Some, None, IfOk, IfErr, OnOk};
 ghost use Rattle.logical_log.specs.LogView.{spent_refusal};
-ghost use Rattle.tc_core.specs.TcView.{fresh, is_running};
-ghost use Rattle.tc_core.specs.Causes.{running_refusal, open_refusal, answered_refusal, idle_refusal};
+ghost use Rattle.tc_core.specs.TcView.{fresh, is_running, is_serving};
+ghost use Rattle.tc_core.specs.Causes.{running_refusal, serving_refusal, open_refusal, answered_refusal, idle_refusal};
 ghost use Rattle.tc_core.specs.Finds.{FindsOpen, FindsAnswered, FindsIdle};
 ghost use Rattle.tc_core.specs.Kept.{IsTc};
 ghost use Rattle.tc_core.specs.Seen.{seen};
 
+use crate::lost::Lost;
 use crate::open_txn::OpenTxn;
 use crate::open_txns::OpenTxns;
 use crate::phase::Phase;
@@ -19,8 +20,8 @@ use std::alloc::Global;
 /// The greatest number that a record or a read may have.
 pub const LAST_NUMBER: u64 = 281_474_976_710_655;
 
-/// The log, the session, what the data component may forget, the open transactions, those that are committing, and the
-/// locks of both.
+/// The log, the session, what the data component may forget, the open transactions, those that are committing, the losers,
+/// and the locks of all these.
 #[derive(Drop)]
 pub struct Parts<D: LogDevice> {
     pub log: Log<D>,
@@ -38,6 +39,7 @@ pub struct Parts<D: LogDevice> {
     pub open_txns: OpenTxns,
     /// Whose Commit record isn't stable, in the order of these records.
     pub committing: Vec<u64>,
+    pub losers: Lost,
     pub locks: RangeLocks,
 }
 
@@ -57,6 +59,7 @@ impl<D: LogDevice> Parts<D> {
             checkpointed: 0,
             open_txns: OpenTxns::new(alloc),
             committing: Vec::new(alloc),
+            losers: Lost::nobody(),
             locks: RangeLocks::new(alloc),
         }
     }
@@ -72,6 +75,7 @@ impl<D: LogDevice> Parts<D> {
         Ok(())
     }
 
+    /// Whether the data component may be told what it may forget.
     pub fn running(&self) -> Result<(), Refusal>
         ensures ok { OnOk result (is_running self.now.phase ≡ true) }
         ensures allowed { OnOk result (running_refusal (seen self.now) ≡ None) }
@@ -79,8 +83,23 @@ impl<D: LogDevice> Parts<D> {
     {
         match self.phase {
             Phase::Unconnected => Err(Refusal::NotConnected),
-            Phase::Connecting | Phase::Redoing { .. } => Err(Refusal::Redoing),
+            Phase::Connecting | Phase::Redoing { .. } | Phase::Undoing { .. } => {
+                Err(Refusal::Redoing)
+            }
             Phase::Running => Ok(()),
+        }
+    }
+
+    /// Whether clients are served.
+    pub fn serving(&self) -> Result<(), Refusal>
+        ensures ok { OnOk result (is_serving self.now.phase ≡ true) }
+        ensures allowed { OnOk result (serving_refusal (seen self.now) ≡ None) }
+        ensures refused { IfErr result (λ refusal. serving_refusal (seen self.now) ≡ Some refusal) }
+    {
+        match self.phase {
+            Phase::Unconnected => Err(Refusal::NotConnected),
+            Phase::Connecting | Phase::Redoing { .. } => Err(Refusal::Redoing),
+            Phase::Undoing { .. } | Phase::Running => Ok(()),
         }
     }
 
@@ -89,7 +108,7 @@ impl<D: LogDevice> Parts<D> {
         ensures found { IfOk result (λ opened. FindsOpen (seen self.now) txn opened.now) }
         ensures refused { IfErr result (λ refusal. open_refusal (seen self.now) txn ≡ Some refusal) }
     {
-        self.running()?;
+        self.serving()?;
         match self.open_txns.find(txn) {
             Some(opened) => Ok(opened),
             None => Err(Refusal::NotOpen),

@@ -10,7 +10,9 @@ pub enum Phase {
     /// What earlier sessions logged is sent again, one request at a time, from this number on; `ending` once the
     /// end of redo was sent.
     Redoing { next: u64, ending: bool },
-    /// Clients are served.
+    /// Clients are served while losers are undone; the loser's compensation that awaits its answer.
+    Undoing { waiting: Option<u64> },
+    /// Clients are served, and no loser is left.
     Running,
 }
 
@@ -18,10 +20,13 @@ impl Phase {
     ghost use Rattle.std.specs.Prelude.{◌≡◌};
     ghost use Rattle.tc_core.specs.TcView.{is_recovering};
 
-    /// A request of recovery is due or awaits its reply.
+    /// A step of recovery is due, or its request awaits the reply.
     pub fn is_recovering(self) -> bool
         ensures { result ≡ is_recovering self }
     {
-        matches!(self, Phase::Connecting | Phase::Redoing { .. })
+        matches!(
+            self,
+            Phase::Connecting | Phase::Redoing { .. } | Phase::Undoing { .. }
+        )
     }
 }

@@ -1,7 +1,7 @@
 //! What a reply is to a session and to a transaction.
 ghost use Rattle.std.specs.Prelude.{◌≡◌};
 ghost use Rattle.history.specs.Log.{step_of};
-ghost use Rattle.tc_core.specs.Replies.{session_of as session_named, takes as is_taken, told_of as tells, span_read, is_key, is_range};
+ghost use Rattle.tc_core.specs.Replies.{session_of as session_named, takes as is_taken, told_of as tells, told_lost as tells_lost, left_awaited, span_read, is_key, is_range};
 
 use crate::open_txn::OpenTxn;
 use crate::phase::Phase;
@@ -32,7 +32,7 @@ pub fn takes(session: u64, phase: Phase, number: u64) -> bool
     match phase {
         Phase::Unconnected | Phase::Connecting => false,
         Phase::Redoing { next, .. } => next == number && number < session,
-        Phase::Running => true,
+        Phase::Undoing { .. } | Phase::Running => true,
     }
 }
 
@@ -81,5 +81,25 @@ pub fn told_of(asker: &OpenTxn, number: u64, answer: &Answer) -> Told
             txn: asker.txn,
             answer: answer.copied(),
         }
+    }
+}
+
+/// What is told of a loser's answer: that its compensation was performed.
+pub fn told_lost(item: Option<Record>, number: u64) -> Told
+    ensures { result ≡ tells_lost item number }
+{
+    match item {
+        Some(Record::Comp { .. }) => Told::Undone(number),
+        _ => Told::Nothing,
+    }
+}
+
+/// What is awaited still once this number was answered.
+pub fn left_waiting(waiting: Option<u64>, number: u64) -> Option<u64>
+    ensures { result ≡ left_awaited waiting number }
+{
+    match waiting {
+        Some(awaited) if awaited != number => waiting,
+        _ => None,
     }
 }

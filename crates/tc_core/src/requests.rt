@@ -13,7 +13,7 @@ use record_key::{Key, Op};
 use stable::LogDevice;
 
 /// What the record of this number asks for, if anything.
-fn request_at<D: LogDevice>(log: &Log<D>, number: u64) -> Option<Op>
+pub fn request_at<D: LogDevice>(log: &Log<D>, number: u64) -> Option<Op>
     ensures { result ≡ request_in (record_at log.now.records number) }
 {
     match log.record(number) {

@@ -24,6 +24,10 @@ impl<D: LogDevice> Parts<D> {
                 session: self.session,
             })),
             Phase::Redoing { next, .. } => Ok(RecoverStep::Sends(self.redo(next))),
+            Phase::Undoing {
+                waiting: Some(number),
+            } => self.resend_undo(number),
+            Phase::Undoing { waiting: None } => self.undo_next(),
             Phase::Running => Ok(RecoverStep::Nothing),
         }
     }

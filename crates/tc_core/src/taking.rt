@@ -1,7 +1,7 @@
 //! What becomes of a reply.
-ghost use Rattle.std.specs.Prelude.{◌≡◌, true};
+ghost use Rattle.std.specs.Prelude.{◌≡◌, true, None};
 ghost use Rattle.std.specs.Option.{option_copied};
-ghost use Rattle.tc_core.specs.Replies.{ReplyGives, awaiting, reader, passed, on_row as reads_row, takes as takes_number, on_connected as connects, on_redo_ended as ends_redo};
+ghost use Rattle.tc_core.specs.Replies.{ReplyGives, awaiting, lacks, reader, passed, on_row as reads_row, takes as takes_number, on_connected as connects, on_redo_ended as ends_redo};
 ghost use Rattle.tc_core.specs.Answering.{AnsweredGives, RowsGives};
 ghost use Rattle.tc_core.specs.Kept.{IsTc};
 ghost use Rattle.tc_core.specs.Seen.{seen};
@@ -11,7 +11,10 @@ use crate::open_txn::OpenTxn;
 use crate::open_txns::Wanted;
 use crate::parts::Parts;
 use crate::phase::Phase;
-use crate::replies::{copied, reads_key, reads_range, session_of, step_txn, takes, told_of};
+use crate::replies::{
+    copied, left_waiting, reads_key, reads_range, session_of, step_txn, takes, told_lost, told_of,
+};
+use crate::requests::request_at;
 use crate::told::Told;
 use codec::{Reply, Rows};
 use history::Record;
@@ -44,9 +47,9 @@ impl<D: LogDevice> Parts<D> {
         ensures told { result ≡ (connects (seen self.old) self.old.phase).0 }
         ensures left { seen self.new ≡ (connects (seen self.old) self.old.phase).1 }
     {
-        if self.phase != Phase::Connecting {
+        let Phase::Connecting = self.phase else {
             return Told::Nothing;
-        }
+        };
         self.phase = Phase::Redoing {
             next: self.checkpointed + 1,
             ending: false,
@@ -60,13 +63,14 @@ impl<D: LogDevice> Parts<D> {
         ensures told { result ≡ (ends_redo (seen self.old) self.old.phase).0 }
         ensures left { seen self.new ≡ (ends_redo (seen self.old) self.old.phase).1 }
     {
-        match self.phase {
-            Phase::Redoing { ending: true, .. } => {
-                self.phase = Phase::Running;
-                Told::RedoEnded(self.session)
-            }
-            _ => Told::Nothing,
+        let Phase::Redoing { ending, .. } = self.phase else {
+            return Told::Nothing;
+        };
+        if !ending {
+            return Told::Nothing;
         }
+        self.phase = self.after_redo();
+        Told::RedoEnded(self.session)
     }
 
     fn on_answered(&mut self, number: u64, answer: &Option<Answer>) -> Result<Told, Refusal>
@@ -78,8 +82,7 @@ impl<D: LogDevice> Parts<D> {
             return Ok(Told::Nothing);
         }
         let Some(opened) = self.awaiting(number) else {
-            self.pass(number);
-            return Ok(Told::Nothing);
+            return self.on_unawaited(number, answer);
         };
         let Some(answer) = answer else {
             return Ok(Told::Nothing);
@@ -93,6 +96,37 @@ impl<D: LogDevice> Parts<D> {
         self.open_txns.change(txn, Change::Answered);
         self.pass(number);
         Ok(told)
+    }
+
+    /// No client waits for it: a loser's answer is logged where there was none.
+    fn on_unawaited(&mut self, number: u64, answer: &Option<Answer>) -> Result<Told, Refusal>
+        requires kept { IsTc (seen self.old) }
+        requires taken { takes_number self.old.session self.old.phase number ≡ true }
+        requires unawaited { awaiting (seen self.old) number ≡ None }
+        ensures kept { IsTc (seen self.new) }
+        ensures gives { AnsweredGives (seen self.old) number answer.now result (seen self.new) }
+    {
+        if !self.lacks(number) {
+            self.pass(number);
+            return Ok(Told::Nothing);
+        }
+        let Some(answer) = answer else {
+            return Ok(Told::Nothing);
+        };
+        let told = told_lost(self.log.record(number), number);
+        self.log.append(&Record::Answer {
+            of: number,
+            answer: answer.copied(),
+        })?;
+        self.pass(number);
+        Ok(told)
+    }
+
+    /// Whether the record of this number asks for something and has no answer.
+    fn lacks(&self, number: u64) -> bool
+        ensures { result ≡ lacks (seen self.now) number }
+    {
+        request_at(&self.log, number).is_some() && self.log.answer_of(number).is_none()
     }
 
     /// Who waits for the row is told; a reply of another kind than was asked for is none.
@@ -147,19 +181,26 @@ impl<D: LogDevice> Parts<D> {
         }
     }
 
-    /// Redo goes on after this number.
+    /// Redo goes on after this number, and undo where it awaited this answer.
     fn pass(&mut self, number: u64)
-        requires kept { IsTc (seen self.old) }
+        requires kept { IsTc (passed (seen self.old) number) }
         requires taken { takes_number self.old.session self.old.phase number ≡ true }
         ensures kept { IsTc (seen self.new) }
         ensures passed { seen self.new ≡ passed (seen self.old) number }
     {
-        if let Phase::Redoing { .. } = self.phase {
-            let next = number + 1;
-            self.phase = Phase::Redoing {
-                next,
-                ending: false,
-            };
+        match self.phase {
+            Phase::Redoing { .. } => {
+                let next = number + 1;
+                self.phase = Phase::Redoing {
+                    next,
+                    ending: false,
+                };
+            }
+            Phase::Undoing { waiting } => {
+                let waiting = left_waiting(waiting, number);
+                self.phase = Phase::Undoing { waiting };
+            }
+            _ => {}
         }
     }
 }

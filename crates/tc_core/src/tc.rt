@@ -1,6 +1,11 @@
 //! The transaction component.
-ghost use Rattle.std.specs.Prelude.{◌≡◌, [], length, Some, None, IfErr, OnOk};
+ghost use Rattle.std.specs.Prelude.{◌≡◌, ◌++◌, ◌+◌, [], length, Some, None, IfOk, IfErr, OnOk};
+ghost use Rattle.record_key.specs.FirstCause.{failures_of};
+ghost use Rattle.stable.specs.Crash.{BeginsWith};
 ghost use Rattle.history.specs.Log.{record_at};
+ghost use Rattle.logical_log.specs.Low.{stable_part};
+ghost use Rattle.logical_log.specs.Opening.{RefusesOpen};
+ghost use Rattle.logical_log.specs.Spelled.{spelled};
 ghost use Rattle.logical_log.specs.LogView.{spent_refusal};
 ghost use Rattle.tc_core.specs.TcView.{TcView, fresh};
 ghost use Rattle.tc_core.specs.OpenTxns.{find, oldest, wants};
@@ -10,6 +15,7 @@ ghost use Rattle.tc_core.specs.Recovery.{RecoverGives};
 ghost use Rattle.tc_core.specs.LowWater.{Announces, RefusesLow, LowWaterGives, IsGreatestAnnounced};
 ghost use Rattle.tc_core.specs.Checkpoint.{CheckpointGives};
 ghost use Rattle.tc_core.specs.Causes.{running_refusal, begin_refusal};
+ghost use Rattle.tc_core.specs.Opening.{IsOpened, AreLeft};
 ghost use Rattle.tc_core.specs.Kept.{IsTc};
 
 use crate::open_txn::OpenTxn;
@@ -20,6 +26,7 @@ use crate::requests::copied;
 use crate::told::{Connecting, Forced, RecoverStep, Told, UndoStep};
 use codec::{Reply, Request};
 use history::Record;
+use logical_log::Refused;
 use range_locks::Span;
 use record_key::{Key, Op, Refusal};
 use stable::LogDevice;
@@ -53,6 +60,31 @@ impl<D: LogDevice> Tc<D> {
         Tc {
             parts: Parts::new(alloc, device),
         }
+    }
+
+    /// The component of what a crash left on the log's device: whoever was open is a loser, and holds the keys of its
+    /// operations. Refused NoMemory, Device, BadBytes; the device is handed back, but for a cut last frame as it was.
+    pub fn open(alloc: Global, device: D) -> Result<Tc<D>, Refused<D>>
+        requires all_forced { D.pending device ≡ [] }
+        ensures opened { IfOk result (IsOpened (D.forced device) (D.failures device)) }
+        ensures refused { IfErr result (λ left. RefusesOpen (D.forced device) left.refusal) }
+        ensures left { IfErr result (λ left. AreLeft (D.forced device) (D.forced left.device)) }
+        ensures none_pending { IfErr result (λ left. D.pending left.device ≡ []) }
+        ensures told { IfErr result (λ left. D.failures left.device ≡ D.failures device + failures_of left.refusal) }
+    {
+        match Parts::open(alloc, device) {
+            Ok(parts) => Ok(Tc { parts }),
+            Err(refused) => Err(refused),
+        }
+    }
+
+    /// The log's device, as a crash finds it: all records stand on it, and the stable ones are forced.
+    pub fn stop(self) -> D
+        ensures holds { D.forced result ++ D.pending result ≡ spelled self.log }
+        ensures forced { BeginsWith (D.forced result) (spelled (stable_part self.log self.stable)) }
+        ensures failures { D.failures result ≡ self.failures }
+    {
+        self.parts.stop()
     }
 
     /// Whether one more record may be logged. Refused NumbersSpent.
@@ -218,8 +250,10 @@ impl<D: LogDevice> Tc<D> {
         self.parts.on_reply(reply)
     }
 
-    /// The request that recovery sends next, or again while its reply is awaited; nothing where the component
-    /// runs. Refused NotConnected.
+    /// The request that recovery sends next, or again while its reply is awaited; then one record of the losers' undo
+    /// after another: the End of the least loser that has nothing left to undo, else the compensation of the latest
+    /// operation of all of them; nothing where the component runs. Refused NotConnected, BeyondStable where the
+    /// compensation that is awaited isn't stable; where a record is logged NumbersSpent, NoMemory, Device.
     pub fn recover_step(&mut self) -> Result<RecoverStep, Refusal>
         ensures gives { RecoverGives self.old result self.new }
     {
@@ -289,8 +323,8 @@ impl<D: LogDevice> Tc<D> {
         self.parts.log.stable_end()
     }
 
-    /// What holds at every moment: the log is legal, a beginning of it is stable, just its open transactions and those
-    /// that are committing are kept, and the lock table is theirs.
+    /// What holds at every moment: the log is legal, a beginning of it is stable, just its open transactions, those that
+    /// are committing and the losers are kept, and the lock table is theirs.
     pub fn kept(&self)
         ensures { IsTc self.now }
     {

@@ -3,7 +3,9 @@
 mod checkpoints;
 mod committing;
 mod first_path;
+mod opening;
 mod refusing;
+mod restarting;
 mod saving;
 
 use super::*;

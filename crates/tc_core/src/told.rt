@@ -112,4 +112,8 @@ pub enum RecoverStep {
     Nothing,
     /// This is to be sent, first or again.
     Sends(Request),
+    /// A loser's compensation of this number was appended.
+    Compensated(u64),
+    /// This loser has ended.
+    Lost(u64),
 }

@@ -24,7 +24,7 @@ impl<D: LogDevice> Parts<D> {
         ensures unspent { OnOk result (spent_refusal self.now.log.records ≡ None) }
         ensures refused { IfErr result (λ refusal. begin_refusal (seen self.now) ≡ Some refusal) }
     {
-        self.running()?;
+        self.serving()?;
         if self.open_txns.len() >= MOST_OPEN {
             return Err(Refusal::Full);
         }

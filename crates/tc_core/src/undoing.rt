@@ -83,7 +83,7 @@ impl<D: LogDevice> Parts<D> {
 }
 
 /// What a compensation leaves to undo, by its undo-next, and whether it asks for anything.
-fn left_by(compensation: &Record) -> (u64, bool)
+pub fn left_by(compensation: &Record) -> (u64, bool)
     ensures next { result.0 ≡ undo_next_in compensation.now }
     ensures asks { result.1 ≡ has_inverse compensation.now }
 {

@@ -25,6 +25,7 @@ told_text (out.Row txn value) = value_line txn value
 told_text (out.Rows txn rows) = found_text txn rows
 told_text (out.Back txn savepoint) = back_line txn savepoint
 told_text (out.RolledBack txn) = numbered (codes "rolled back ") txn
+told_text (out.Lost txn) = numbered (codes "lost ") txn
 told_text (out.Stable end committed) = committed_text committed
 told_text (out.Connects request committed) = committed_text committed
 told_text _ = []

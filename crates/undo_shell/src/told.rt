@@ -19,6 +19,7 @@ pub fn print_told<W: io::Write>(writer: &mut W, out: &Out) -> io::Result<()>
         Out::Rows { txn, rows } => print_found(writer, *txn, rows.as_slice()),
         Out::Back { txn, savepoint } => print_back(writer, *txn, *savepoint),
         Out::RolledBack(txn) => print_numbered(writer, "rolled back ", *txn),
+        Out::Lost(txn) => print_numbered(writer, "lost ", *txn),
         Out::Stable { committed, .. } => print_committed(writer, committed.as_slice()),
         Out::Connects { committed, .. } => print_committed(writer, committed.as_slice()),
         _ => Ok(()),

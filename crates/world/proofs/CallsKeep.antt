@@ -31,20 +31,21 @@ use Rattle.tc_core.specs.declared.told.UndoStep.TheVariants as undo
 use Rattle.tc_core.specs.declared.told.RecoverStep.{RecoverStep}
 use Rattle.tc_core.specs.declared.told.RecoverStep.TheVariants as step
 use Rattle.tc_core.specs.OpenTxns.{find}
-use Rattle.tc_core.specs.TcView.{TcView, fresh, is_running}
+use Rattle.tc_core.specs.TcView.{TcView, fresh}
 use Rattle.tc_core.specs.Refusing.{Refuses}
-use Rattle.tc_core.specs.Causes.{begin_refusal, idle_refusal, is_full, answered_refusal, undo_refusal, undo_logs, logs_next, saves_of, has_savepoint, reads_spent, RefusesTaking, commit_refusal, running_refusal}
+use Rattle.tc_core.specs.Causes.{begin_refusal, idle_refusal, is_full, answered_refusal, undo_refusal, undo_logs, logs_next, saves_of, has_savepoint, reads_spent, RefusesTaking, commit_refusal, serving_refusal}
 use Rattle.tc_core.specs.Changes.{shared, logged_session, committed, answered, was_told, checkpointed, next_of, inverse_at}
 use Rattle.tc_core.specs.Calls.{ReconnectGives, BeginGives, ActGives, ReadGives, SaveGives, BackGives, RollbackGives, CommitGives, UndoGives, ForceGives, Undoes, IsAt}
-use Rattle.tc_core.specs.Replies.{ReplyGives, Outcome, on_reply, on_answered, on_awaited, on_connected, on_redo_ended, on_row, on_rows, on_checkpointed, is_number, awaiting, reader, takes, is_key, is_range, span_read, is_logged, is_stale, answered_refusal_of, reply_refusal}
-use Rattle.tc_core.specs.Recovery.{RecoverGives, SendsAt, redo_place}
+use Rattle.tc_core.specs.Replies.{ReplyGives, Outcome, on_reply, on_answered, on_awaited, on_lost, lacks, passed, on_connected, on_redo_ended, on_row, on_rows, on_checkpointed, is_number, awaiting, reader, takes, is_key, is_range, span_read, is_logged, is_stale, answered_refusal_of, reply_refusal}
+use Rattle.tc_core.specs.Recovery.{RecoverGives, SendsAt, redoing, redo_place}
 use Rattle.tc_core.specs.LowWater.{LowWaterGives}
 use Rattle.tc_core.specs.Checkpoint.{CheckpointGives}
 use Rattle.tc_core.specs.Undo.{FindsRequest}
 use Rattle.tc_core.specs.Kept.{IsTc, IsPhase}
-use Rattle.tc_core.proofs.KeepsTc.{keeps_failed, keeps_logged, keeps_force, keeps_session, keeps_begin, keeps_act, keeps_rollback, keeps_save, keeps_back, keeps_is_back, keeps_answer, keeps_passed, awaited_is, open_at, idle_at}
+use Rattle.tc_core.proofs.KeepsTc.{keeps_failed, keeps_logged, keeps_force, keeps_session, keeps_begin, keeps_act, keeps_rollback, keeps_save, keeps_back, keeps_is_back, keeps_answer, keeps_passed, newly_answered, awaited_is, open_at, idle_at}
 use Rattle.tc_core.proofs.KeepsUndo.{keeps_comp, fits_end, keeps_end, keeps_commit}
 use Rattle.tc_core.proofs.KeepsReads.{keeps_ask, keeps_told, reader_is}
+use Rattle.tc_core.proofs.KeepsLost.{not_lacking, keeps_lost_answer, keeps_connected, keeps_redoing, keeps_redo_ended}
 use Rattle.tc_core.proofs.KeepsLow.{keeps_announced, keeps_asked, keeps_checkpointed}
 use Rattle.log_laws.proofs.Undo.{earlier_found}
 use Rattle.log_laws.proofs.Records.{op_step, op_request}
@@ -80,7 +81,7 @@ reconnect_keeps old new (Err r) k (inr h) = subst IsTc (sym h.2) (keeps_failed (
 pub begin_keeps : (old new : TcView) (x : Result ℕ Refusal) → IsTc old → BeginGives old x new → IsTc new
 begin_keeps old new (Ok t) k h =
     let two = two_false (is_full old.open_txns) (is_spent old.log) Full NumbersSpent
-    (both_none (running_refusal old) (first_of ((is_full old.open_txns, Full) ∷ (is_spent old.log, NumbersSpent) ∷ [])) h.0).1 in
+    (both_none (serving_refusal old) (first_of ((is_full old.open_txns, Full) ∷ (is_spent old.log, NumbersSpent) ∷ [])) h.0).1 in
     subst IsTc (sym h.2) (keeps_begin old k (grind (arith, nat_tests, two.0)) two.1)
 begin_keeps old new (Err r) k h = refused_keeps (begin_refusal old) true true old new r k h
 
@@ -223,76 +224,64 @@ pub undo_keeps : (old new : TcView) (t : ℕ) (x : Result UndoStep Refusal) → 
 undo_keeps old new t (Ok step) k h = undoes_keeps old new t h.open_txn h.open_txn.rolling step k h.at h.allowed refl h.undoes
 undo_keeps old new t (Err r) k h = refused_keeps (undo_refusal old t) (undo_logs (find t old.open_txns)) (undo_logs (find t old.open_txns)) old new r k h
 
--- only the phase is another; where clients aren't served no checkpoint is asked for
-at_phase : (w : TcView) (p : Phase) → IsTc w → IsPhase w.checkpointed w.session p → ((l : ℕ) → w.checkpointing ≡ Some l → p ≡ phase.Running)
-    → IsTc (record w { phase = p })
-at_phase w p k is asking = record {
-  legal = k.legal;
-  within = k.within;
-  few = record { records = k.few.records; reads = k.few.reads };
-  session = k.session;
-  phase = is;
-  asking = asking;
-  low = k.low;
-  open_txns = k.open_txns;
-  committing = k.committing;
-  locks = k.locks;
-  reading = k.reading;
-}
+-- a request of recovery
+redoing_keeps : (w : TcView) (next : ℕ) (ending : Bool) (found : Option (ℕ × Op)) → IsTc w → w.phase ≡ phase.Redoing next ending → next ≤ w.session
+    → FindsRequest w.log next w.session found → IsTc (redoing w (redo_place w.session found) (not (is_some found)))
+redoing_keeps w next ending None k at most h = keeps_redoing w k next ending w.session true at most (omega arith) (λ e. refl) h
+redoing_keeps w next ending (Some x) k at most h = keeps_redoing w k next ending x.0 false at h.0 (omega (arith, h.1)) (λ e. absurd (true≢false (sym e))) h.3
 
-unasked : (w : TcView) (p q : Phase) → IsTc w → w.phase ≡ p → is_running p ≡ false → (l : ℕ) → w.checkpointing ≡ Some l → q ≡ phase.Running
-unasked w p q k at isnt l asks = absurd (true≢false (sym (ap is_running (sym at ∙ k.asking l asks)) ∙ isnt))
-
--- one step of recovery
 sends_keeps : (old new : TcView) (p : Phase) (q : Request) → IsTc old → old.phase ≡ p → SendsAt old p q new → IsTc new
 sends_keeps old new phase.Unconnected q k at h = absurd h
 sends_keeps old new phase.Connecting q k at h = subst IsTc (sym h.1) k
 sends_keeps old new phase.Running q k at h = absurd h
+sends_keeps old new (phase.Undoing None) q k at h = absurd h
+sends_keeps old new (phase.Undoing (Some n)) q k at h = subst IsTc (sym h.unchanged) k
 sends_keeps old new (phase.Redoing next ending) q k at h =
     let bounds = subst (IsPhase old.checkpointed old.session) at k.phase in
-    subst IsTc (sym h.left) (at_phase old _ k (placed h.found bounds.0 bounds.1 h.finds) (unasked old (phase.Redoing next ending) _ k at refl))
-  where
-    placed : (found : Option (ℕ × Op)) → old.checkpointed < next → next ≤ old.session → FindsRequest old.log next old.session found
-        → IsPhase old.checkpointed old.session (phase.Redoing (redo_place old.session found) (not (is_some found)))
-    placed None some most h = (omega (arith, some, most), omega arith, λ e. refl)
-    placed (Some x) some most h = (omega (arith, some, h.0), omega (arith, h.1), λ e. absurd (true≢false (sym e)))
+    subst IsTc (sym h.left) (redoing_keeps old next ending h.found k at bounds.1 h.finds)
 
-pub recover_keeps : (old new : TcView) (x : Result RecoverStep Refusal) → IsTc old → RecoverGives old x new → IsTc new
-recover_keeps old new (Ok step.Nothing) k h = subst IsTc (sym h.1) k
-recover_keeps old new (Ok (step.Sends q)) k h = sends_keeps old new old.phase q k refl h
-recover_keeps old new (Err r) k h = subst IsTc (sym h.1) k
+pub recover_keeps : (old new : TcView) (q : Request) → IsTc old → RecoverGives old (Ok (step.Sends q)) new → IsTc new
+recover_keeps old new q k h = sends_keeps old new old.phase q k refl h.1
 
 -- a reply
 answered_keeps : (w : TcView) (n : ℕ) (a : Option Answer) → IsTc w → answered_refusal_of w n a ≡ None → IsTc (on_answered w n a).1
 answered_keeps w n a k allowed = pick (takes w.session w.phase n) refl
   where
+    lost_if : Option Answer → Bool → Outcome
+    lost_if a b = if b then on_lost w n a else (told.Nothing, passed w n)
+
+    unawaited : takes w.session w.phase n ≡ true → (a : Option Answer) → awaiting w n ≡ None → first_of ((is_logged w n a None && is_spent w.log, NumbersSpent) ∷ []) ≡ None
+        → (b : Bool) → lacks w n ≡ b → IsTc (lost_if a b).1
+    unawaited takes a none free false lacks_none = keeps_passed w n takes (not_lacking w n lacks_none) k
+    unawaited takes None none free true lacking = k
+    unawaited takes (Some a) none free true lacking =
+        keeps_lost_answer w k n a lacking none takes (logged_unspent (is_logged w n (Some a) None) (is_spent w.log) (rw (takes, lacking) refl) free)
+
     taken : takes w.session w.phase n ≡ true → (a : Option Answer) (x : Option OpenTxn) → awaiting w n ≡ x → first_of ((is_logged w n a x && is_spent w.log, NumbersSpent) ∷ []) ≡ None
         → IsTc (on_awaited w n a x).1
-    taken takes a None none free = keeps_passed w n takes k
+    taken takes a None none free = unawaited takes a none free (lacks w n) refl
     taken takes None (Some o) some free = k
     taken takes (Some a) (Some o) some free =
         let at = awaited_is w n o some in
-        keeps_passed (answered w o n a) n takes (keeps_answer w o n a k at.0 at.1 (logged_unspent (is_logged w n (Some a) (Some o)) (is_spent w.log) takes free))
+        keeps_passed (answered w o n a) n takes (λ q asks. newly_answered w.log n a) (keeps_answer w o n a k at.0 at.1 (logged_unspent (is_logged w n (Some a) (Some o)) (is_spent w.log) takes free))
 
     pick : (b : Bool) → takes w.session w.phase n ≡ b → IsTc (if b then on_awaited w n a (awaiting w n) else (told.Nothing, w)).1
     pick true takes = taken takes a (awaiting w n) refl allowed
     pick false none = k
 
 connected_keeps : (w : TcView) (p : Phase) → IsTc w → w.phase ≡ p → IsTc (on_connected w p).1
+connected_keeps w phase.Connecting k at = keeps_connected w k at
 connected_keeps w phase.Unconnected k at = k
-connected_keeps w phase.Connecting k at =
-    let some : w.checkpointed < w.session = subst (IsPhase w.checkpointed w.session) at k.phase in
-    at_phase w (phase.Redoing (w.checkpointed + 1) false) k (omega arith, omega (arith, some), λ e. absurd (true≢false (sym e)))
-    (unasked w phase.Connecting _ k at refl)
 connected_keeps w (phase.Redoing next ending) k at = k
+connected_keeps w (phase.Undoing waiting) k at = k
 connected_keeps w phase.Running k at = k
 
 redo_ended_keeps : (w : TcView) (p : Phase) → IsTc w → w.phase ≡ p → IsTc (on_redo_ended w p).1
 redo_ended_keeps w phase.Unconnected k at = k
 redo_ended_keeps w phase.Connecting k at = k
 redo_ended_keeps w (phase.Redoing next false) k at = k
-redo_ended_keeps w (phase.Redoing next true) k at =
-    let bounds = subst (IsPhase w.checkpointed w.session) at k.phase in at_phase w phase.Running k (omega (arith, bounds.0, bounds.1)) (λ l asks. refl)
+redo_ended_keeps w (phase.Redoing next true) k at = keeps_redo_ended w k next at
+redo_ended_keeps w (phase.Undoing waiting) k at = k
 redo_ended_keeps w phase.Running k at = k
 
 is_asked : (x : Option ℕ) (l : ℕ) → is_number x l ≡ true → x ≡ Some l

@@ -70,6 +70,7 @@ crash_served phase.Unconnected c session log old v is most least h = tt
 crash_served phase.Connecting c session log old v is most least h = h
 crash_served (phase.Redoing next ending) c session log old v is most least h =
     (h.0, omega (arith, h.1, most (omega (arith, is.0, is.1)), least), λ runs. absurd (omega (arith, runs, is.0, is.1)))
+crash_served (phase.Undoing waiting) c session log old v is most least h = (omega (arith, h.0, most is, least), λ runs. absurd (omega (arith, runs, is)))
 crash_served phase.Running c session log old v is most least h = (omega (arith, h.0, most is, least), λ runs. absurd (omega (arith, runs, is)))
 
 -- ---- a crash
@@ -120,6 +121,7 @@ crash_keeps w n k le =
 pub keeps_up : (w : NodeView) (up : Bool) → IsKept w → IsKept (record w { dc_up = up })
 keeps_up w up k = record {
   tc = k.tc;
+  unlost = k.unlost;
   right = k.right;
   dc = k.dc;
   recoverable = k.recoverable;

@@ -96,6 +96,7 @@ took w tc q dc reply (out.Merged pair) new h d = taken_last w tc q dc reply (out
 took w tc q dc reply (out.Flushed id) new h d = taken_last w tc q dc reply (out.Flushed id) new h
 took w tc q dc reply (out.Undone n) new h d = taken_last w tc q dc reply (out.Undone n) new h
 took w tc q dc reply (out.CheckpointLogged n) new h d = taken_last w tc q dc reply (out.CheckpointLogged n) new h
+took w tc q dc reply (out.Lost n) new h d = taken_last w tc q dc reply (out.Lost n) new h
 took w tc q dc reply out.Down new h d = taken_last w tc q dc reply out.Down new h
 took w tc q dc reply (out.Up count) new h d = taken_last w tc q dc reply (out.Up count) new h
 

@@ -27,7 +27,9 @@ use Rattle.tc_core.specs.OpenTxns.{find}
 use Rattle.tc_core.specs.TcView.{TcView}
 use Rattle.tc_core.specs.Changes.{reconnected}
 use Rattle.tc_core.specs.Calls.{read_request}
-use Rattle.tc_core.specs.Replies.{takes, awaiting, next_phase, on_awaited, on_reply}
+use Rattle.tc_core.specs.Replies.{takes, awaiting, next_phase, on_awaited, on_reply, lacks}
+use Rattle.world.proofs.Sends.{no_undoing}
+use Rattle.world.proofs.Waited.{lost_if}
 use Rattle.tc_core.specs.Recovery.{SendsAt, redo_request, redo_place, redoing}
 use Rattle.tc_core.specs.Undo.{FindsRequest}
 use Rattle.tc_core.proofs.Finding.{found_own}
@@ -138,7 +140,12 @@ served_session old (asks.RedoEnd s) reply new other h = ap (λ (x : DcView). x.s
 
 -- whatever the answer that was awaited, the session goes on
 awaited_session : (w : TcView) (n : ℕ) (a : Option Answer) (x : Option OpenTxn) → (on_awaited w n a x).1.session ≡ w.session
-awaited_session w n a None = refl
+awaited_session w n a None = by a (lacks w n)
+  where
+    by : (a : Option Answer) (b : Bool) → (lost_if w n a b).1.session ≡ w.session
+    by None true = refl
+    by (Some a) true = refl
+    by a false = refl
 awaited_session w n None (Some o) = refl
 awaited_session w n (Some a) (Some o) = refl
 
@@ -146,10 +153,16 @@ next_on : (p : Phase) (n : ℕ) → is_apart p ≡ false → is_apart (next_phas
 next_on phase.Unconnected n on = on
 next_on phase.Connecting n on = on
 next_on (phase.Redoing next ending) n on = refl
+next_on (phase.Undoing waiting) n on = refl
 next_on phase.Running n on = refl
 
 awaited_on : (w : TcView) (n : ℕ) (a : Option Answer) (x : Option OpenTxn) → is_apart w.phase ≡ false → is_apart (on_awaited w n a x).1.phase ≡ false
-awaited_on w n a None on = next_on w.phase n on
+awaited_on w n a None on = by a (lacks w n)
+  where
+    by : (a : Option Answer) (b : Bool) → is_apart (lost_if w n a b).1.phase ≡ false
+    by None true = on
+    by (Some a) true = next_on w.phase n on
+    by a false = next_on w.phase n on
 awaited_on w n None (Some o) on = on
 awaited_on w n (Some a) (Some o) on = next_on w.phase n on
 
@@ -183,7 +196,7 @@ falls_redo old new next ending None q k at finds is h =
     let s : ℕ = old.tc.session in
     let P : Request → Type 0 = λ x. Serves old.dc x (Some h.reply) h.dc in
     let reply : h.reply ≡ says.RedoEnded s = some_reply h.reply (says.RedoEnded s) (subst P is h.served).0 in
-    falls_by old.tc new.tc _ (h.left ∙ ap (λ x. (on_reply (redoing old.tc s true) x).1) reply) (rw (at) (omega arith)) refl refl
+    falls_by old.tc new.tc _ (h.left ∙ ap (λ x. (on_reply (redoing old.tc s true) x).1) reply) (rw (at, k.unlost) (omega arith)) refl (rw k.unlost refl)
 falls_redo old new next ending (Some x) q k at finds is h =
     let s : ℕ = old.tc.session in
     let n : ℕ = x.0 in
@@ -193,7 +206,7 @@ falls_redo old new next ending (Some x) q k at finds is h =
     let taken : takes s (phase.Redoing n false) n ≡ true = rw (eq-eqb n n refl) (unstable_now n s finds.1) in
     let left : new.tc ≡ (on_awaited w n sound.answer (awaiting old.tc n)).1 =
     h.left ∙ ap (λ y. (on_reply w y).1) sound.reply_is ∙ ap (λ (b : Bool). (if b then on_awaited w n sound.answer (awaiting old.tc n) else (told.Nothing, w)).1) taken in
-    falls_by old.tc new.tc _ left (falls_redone old.tc next ending n x.1 sound.answer (awaiting old.tc n) k.tc at finds.0 finds.1 finds.2 refl sound.sound)
+    falls_by old.tc new.tc _ left (falls_redone old.tc next ending n x.1 sound.answer (awaiting old.tc n) k.tc k.unlost at finds.0 finds.1 finds.2 refl sound.sound)
     (awaited_session w n sound.answer (awaiting old.tc n)) (awaited_on w n sound.answer (awaiting old.tc n) refl)
 
 -- an unanswered request is served and answered
@@ -236,14 +249,16 @@ falls_recover_round : (old new mid : NodeView) (o : Out) (os : List Out) (next :
     → Plays mid (event.Request (length old.requests + 1) ∷ event.Reply (length old.replies + 1) ∷ []) os new → rounds_left new < rounds_left old
 falls_recover_round old new mid (out.Sent i) os next ending k t at h d rest =
     let P : Phase → Type 0 = λ p. SendsAt old.tc p h.0 mid.tc in
-    let redo = subst P at h.1 in
+    let redo = subst P at h.1.1 in
     let Q : Request → Type 0 = HasReply in
     let exchange = exchanged old mid mid.tc h.0 i os new t.up (subst Q (sym redo.request_is) (redo_replied old.tc.session redo.found)) h.2 rest in
     let E : TcView → Type 0 = λ tc. Exchanged old tc h.0 new in
     let there = subst E redo.left exchange in
     falls_within old new _ h.0 t (λ s e. redo_other old.tc.session redo.found s (sym redo.request_is ∙ e)) there
     (falls_redo old new next ending redo.found h.0 k at redo.finds redo.request_is there)
-falls_recover_round old new mid out.Nothing os next ending k t at h d rest = let no : phase.Redoing next ending ≡ phase.Running = sym at ∙ h.0.0 in absurd (cc)
+falls_recover_round old new mid out.Nothing os next ending k t at h d rest = let no : phase.Redoing next ending ≡ phase.Running = sym at ∙ h.0.1.0 in absurd (cc)
+falls_recover_round old new mid (out.Compensated n) os next ending k t at h d rest = absurd (no_undoing old None k h.0.1.undoing)
+falls_recover_round old new mid (out.Lost u) os next ending k t at h d rest = absurd (no_undoing old None k h.0.1.undoing)
 falls_recover_round old new mid (out.Refused r) os next ending k t at h d rest = absurd d
 falls_recover_round old new mid _ os next ending k t at h d rest = absurd h
 
@@ -285,6 +300,7 @@ pub redoing_at : (w : NodeView) (p : Phase) → w.tc.phase ≡ p → IsRedoing p
 redoing_at w phase.Unconnected at h = absurd h
 redoing_at w phase.Connecting at h = absurd h
 redoing_at w (phase.Redoing next ending) at h = (next, ending, at)
+redoing_at w (phase.Undoing waiting) at h = absurd h
 redoing_at w phase.Running at h = absurd h
 
 -- a step of the transaction component leaves the rest

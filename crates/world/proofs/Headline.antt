@@ -179,6 +179,7 @@ low_answered = may_none []
 pub kept_fresh : IsDc (fresh_dc 0) → IsKept fresh_node
 kept_fresh is = record {
   tc = fresh_tc;
+  unlost = refl;
   right = tt;
   dc = is;
   recoverable = recoverable_fresh 0;

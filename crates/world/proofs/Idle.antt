@@ -8,10 +8,10 @@ use Rattle.tc_core.specs.declared.open_txn.OpenTxn.{OpenTxn}
 use Rattle.tc_core.specs.declared.open_txn.Read.{Read}
 use Rattle.tc_core.specs.declared.open_txn.Rollback.{Rollback}
 use Rattle.tc_core.specs.OpenTxns.{find}
-use Rattle.tc_core.specs.TcView.{TcView, is_unconnected, is_running, is_rolling, is_waiting}
+use Rattle.tc_core.specs.TcView.{TcView, is_unconnected, is_running, is_serving, is_rolling, is_waiting}
 use Rattle.tc_core.specs.declared.phase.Phase.{Phase}
 use Rattle.tc_core.specs.declared.phase.Phase.TheVariants as phase
-use Rattle.tc_core.specs.Causes.{running_refusal, idle_refusal, open_refusal, answered_refusal}
+use Rattle.tc_core.specs.Causes.{running_refusal, serving_refusal, idle_refusal, open_refusal, answered_refusal}
 use Rattle.tc_core.specs.Calls.{IsAt}
 use Rattle.tc_core.proofs.Refused.{at_number}
 
@@ -61,7 +61,7 @@ pub found_idle : (w : TcView) (t : ℕ) → idle_refusal w t ≡ None → is_som
 found_idle w t h =
     let opened = (both_none (open_refusal w t) (first_of ((is_rolling (find t w.open_txns), RollingBack) ∷ (is_waiting (find t w.open_txns), Unanswered) ∷ [])) h).0 in
     not_not (is_some (find t w.open_txns))
-    (one_false (not (is_some (find t w.open_txns))) NotOpen (both_none (running_refusal w) (first_of ((not (is_some (find t w.open_txns)), NotOpen) ∷ [])) opened).1)
+    (one_false (not (is_some (find t w.open_txns))) NotOpen (both_none (serving_refusal w) (first_of ((not (is_some (find t w.open_txns)), NotOpen) ∷ [])) opened).1)
 
 pub waits_for_none : (w : TcView) (t : ℕ) (o : OpenTxn) → IsAt w t o → answered_refusal w t ≡ None → (o.waiting ≡ None) × (o.reading ≡ None)
 waits_for_none w t o at allowed =
@@ -69,7 +69,7 @@ waits_for_none w t o at allowed =
     (sym (ap is_waiting (at_number w t o at))
     ∙ one_false (is_waiting (find t w.open_txns)) Unanswered (both_none (open_refusal w t) (first_of ((is_waiting (find t w.open_txns), Unanswered) ∷ [])) allowed).1)
 
--- clients are served where a call of one is let
+-- the component runs where it tells the other what to forget
 pub serves_clients : (w : TcView) → running_refusal w ≡ None → w.phase ≡ phase.Running
 serves_clients w h = by w.phase h
   where
@@ -77,15 +77,20 @@ serves_clients w h = by w.phase h
     by phase.Unconnected h = absurd (cc)
     by phase.Connecting h = absurd (cc)
     by (phase.Redoing next ending) h = absurd (cc)
+    by (phase.Undoing waiting) h = absurd (cc)
     by phase.Running h = refl
 
-pub serves_open : (w : TcView) (t : ℕ) → open_refusal w t ≡ None → w.phase ≡ phase.Running
-serves_open w t h = serves_clients w (both_none (running_refusal w) (first_of ((not (is_some (find t w.open_txns)), NotOpen) ∷ [])) h).0
+-- clients are served where a call of one is let
+pub serves_serving : (w : TcView) → serving_refusal w ≡ None → is_serving w.phase ≡ true
+serves_serving w h = not_not (is_serving w.phase) (two_false (is_unconnected w.phase) (not (is_serving w.phase)) NotConnected Redoing h).1
 
-pub serves_idle : (w : TcView) (t : ℕ) → idle_refusal w t ≡ None → w.phase ≡ phase.Running
+pub serves_open : (w : TcView) (t : ℕ) → open_refusal w t ≡ None → is_serving w.phase ≡ true
+serves_open w t h = serves_serving w (both_none (serving_refusal w) (first_of ((not (is_some (find t w.open_txns)), NotOpen) ∷ [])) h).0
+
+pub serves_idle : (w : TcView) (t : ℕ) → idle_refusal w t ≡ None → is_serving w.phase ≡ true
 serves_idle w t h =
     serves_open w t
     (both_none (open_refusal w t) (first_of ((is_rolling (find t w.open_txns), RollingBack) ∷ (is_waiting (find t w.open_txns), Unanswered) ∷ [])) h).0
 
-pub serves_undo : (w : TcView) (t : ℕ) → answered_refusal w t ≡ None → w.phase ≡ phase.Running
+pub serves_undo : (w : TcView) (t : ℕ) → answered_refusal w t ≡ None → is_serving w.phase ≡ true
 serves_undo w t h = serves_open w t (both_none (open_refusal w t) (first_of ((is_waiting (find t w.open_txns), Unanswered) ∷ [])) h).0

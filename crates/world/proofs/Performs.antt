@@ -43,6 +43,7 @@ served_alike phase.Unconnected session log old new stored same past captured h =
 served_alike phase.Connecting session log old new stored same past captured h = h
 served_alike (phase.Redoing next ending) session log old new stored same past captured h =
     (h.0, stored ∙ h.1, λ runs n o asks below. captured n o asks (h.2 (sym same ∙ runs) n o asks below))
+served_alike (phase.Undoing waiting) session log old new stored same past captured h = (stored ∙ h.0, λ runs. past ∙ h.1 (sym same ∙ runs))
 served_alike phase.Running session log old new stored same past captured h = (stored ∙ h.0, λ runs. past ∙ h.1 (sym same ∙ runs))
 
 -- a new number is the next on its key

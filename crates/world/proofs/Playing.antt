@@ -44,6 +44,7 @@ done_if (out.Merged pair) h = tt
 done_if (out.Split pair) h = tt
 done_if (out.Undone n) h = tt
 done_if (out.CheckpointLogged n) h = tt
+done_if (out.Lost n) h = tt
 
 -- one event
 pub one_done : (old new : NodeView) (e : Event) (o : Out) (before after : List Out) → StepsTo old e o new → IsDone o → after ≡ before ++ o ∷ [] → Performed old (e ∷ []) before after new

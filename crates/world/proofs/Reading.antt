@@ -61,7 +61,7 @@ module _ (w : NodeView) (o : OpenTxn) (r : Read) (k : IsKept w) (at : find o.txn
     where
       by : (a : Option Answer) → answer_of log n ≡ a → IsSome a
       by (Some a) is = refl
-      by None is = absurd (true≢false (sym within ∙ ap (is_within (shared r.span)) (sym on) ∙ unread w.tc o r n q k.tc at reads asks is))
+      by None is = absurd (true≢false (sym within ∙ ap (is_within (shared r.span)) (sym on) ∙ unread w.tc o r n q k.tc k.unlost at reads asks is))
 
   -- and nobody has to undo an operation there
   not_undone : (key : Bytes) (n t : ℕ) (q : Op) → is_within (shared r.span) key ≡ true → IsOpBy log n t q → key_of q ≡ key → is_to_undo ((clients w.tc).doing t) n ≡ false

@@ -23,9 +23,9 @@ use Rattle.tc_core.specs.declared.open_txn.Read.{Read}
 use Rattle.tc_core.specs.declared.open_txn.Rollback.{Rollback}
 use Rattle.logical_log.specs.LogView.{is_spent, spent_refusal}
 use Rattle.tc_core.specs.OpenTxns.{find, AreBelow, AreFalling}
-use Rattle.tc_core.specs.TcView.{TcView, is_unconnected, is_running, is_rolling, is_waiting}
+use Rattle.tc_core.specs.TcView.{TcView, is_unconnected, is_serving, is_rolling, is_waiting, is_none_lost}
 use Rattle.tc_core.specs.Refusing.{Refuses}
-use Rattle.tc_core.specs.Causes.{running_refusal, open_refusal, idle_refusal, is_full, begin_refusal, commit_refusal, saves_of, save_refusal, has_savepoint, back_refusal, reads_spent, RefusesTaking}
+use Rattle.tc_core.specs.Causes.{serving_refusal, open_refusal, idle_refusal, is_full, begin_refusal, commit_refusal, saves_of, save_refusal, has_savepoint, back_refusal, reads_spent, RefusesTaking}
 use Rattle.tc_core.specs.Calls.{BeginGives, ActGives, ReadGives, SaveGives, BackGives, RollbackGives, CommitGives}
 use Rattle.tc_core.specs.Changes.{shared}
 use Rattle.tc_core.specs.Kept.{IsTc}
@@ -60,8 +60,8 @@ as_that : (m : Machine) (call : Call) (c r : Refusal) → c ≡ r → IsRefusal 
 as_that m call c r same h = subst (λ x. IsRefusal m call x) same h
 
 -- the component doesn't serve: nothing of transactions is seen in that
-not_serving : (w : TcView) (m : Machine) (call : Call) (r : Refusal) → running_refusal w ≡ Some r → IsRefusal m call r
-not_serving w m call r h = elim (two_causes (is_unconnected w.phase) (not (is_running w.phase)) no.NotConnected no.Redoing r h) [
+not_serving : (w : TcView) (m : Machine) (call : Call) (r : Refusal) → serving_refusal w ≡ Some r → IsRefusal m call r
+not_serving w m call r h = elim (two_causes (is_unconnected w.phase) (not (is_serving w.phase)) no.NotConnected no.Redoing r h) [
   | inl first ↦ as_that m call no.NotConnected r first.1 (node_refusal_is_a_line m call no.NotConnected tt)
   | inr second ↦ as_that m call no.Redoing r second.2 (node_refusal_is_a_line m call no.Redoing tt)
 ]
@@ -100,7 +100,7 @@ module _ (w : TcView) (m : Machine) (call : Call) (t : ℕ) (k : IsTc w) (stands
   -- any of the causes of a call that wants its transaction idle
   pub not_idle : (r : Refusal) → idle_refusal w t ≡ Some r → IsRefusal m call r
   not_idle r h = elim (either (open_refusal w t) (first_of ((is_rolling (find t w.open_txns), no.RollingBack) ∷ (is_waiting (find t w.open_txns), no.Unanswered) ∷ [])) r h) [
-    | inl first ↦ elim (either (running_refusal w) (first_of ((not (is_some (find t w.open_txns)), no.NotOpen) ∷ [])) r first) [
+    | inl first ↦ elim (either (serving_refusal w) (first_of ((not (is_some (find t w.open_txns)), no.NotOpen) ∷ [])) r first) [
       | inl serving ↦ not_serving w m call r serving
       | inr found ↦
           let c = one_cause (not (is_some (find t w.open_txns))) no.NotOpen r found.1 in
@@ -123,7 +123,7 @@ rests_found w t (Some o) at h =
 pub rests_there : (w : TcView) (t : ℕ) → idle_refusal w t ≡ None → (clients w).doing t ≡ Some Ready
 rests_there w t h =
     let both = both_none (open_refusal w t) (first_of ((is_rolling (find t w.open_txns), no.RollingBack) ∷ (is_waiting (find t w.open_txns), no.Unanswered) ∷ [])) h in
-    let found = one_false (not (is_some (find t w.open_txns))) no.NotOpen (both_none (running_refusal w) (first_of ((not (is_some (find t w.open_txns)), no.NotOpen) ∷ [])) both.0).1 in
+    let found = one_false (not (is_some (find t w.open_txns))) no.NotOpen (both_none (serving_refusal w) (first_of ((not (is_some (find t w.open_txns)), no.NotOpen) ∷ [])) both.0).1 in
     let two = two_false (is_rolling (find t w.open_txns)) (is_waiting (find t w.open_txns)) no.RollingBack no.Unanswered both.1 in
     rests_found w t (find t w.open_txns) refl (not_not (is_some (find t w.open_txns)) found, two.0, two.1)
   where
@@ -164,7 +164,7 @@ numbers_found (o ∷ os) = (ap (λ (x : Option OpenTxn). is_some (doing_in x)) (
 
 -- begin
 begin_cause : (w : TcView) (m : Machine) (r : Refusal) → IsTc w → StandsFor (clients w) m → begin_refusal w ≡ Some r → IsRefusal m ToBegin r
-begin_cause w m r k stands h = elim (either (running_refusal w) (first_of ((is_full w.open_txns, no.Full) ∷ (is_spent w.log, no.NumbersSpent) ∷ [])) r h) [
+begin_cause w m r k stands h = elim (either (serving_refusal w) (first_of ((is_full w.open_txns, no.Full) ∷ (is_spent w.log, no.NumbersSpent) ∷ [])) r h) [
   | inl serving ↦ not_serving w m ToBegin r serving
   | inr rest ↦ elim (two_causes (is_full w.open_txns) (is_spent w.log) no.Full no.NumbersSpent r rest.1) [
     | inl full ↦
@@ -180,9 +180,9 @@ pub begin_refused : (w new : TcView) (m : Machine) (r : Refusal) → IsTc w → 
 begin_refused w new m r k stands h = refused_as w new m ToBegin (begin_refusal w) true true r stands (λ c. begin_cause w m c k stands) h
 
 -- a call that takes a span
-taking_refused : (w new : TcView) (m : Machine) (call : Call) (t : ℕ) (s : Span) (spent : Bool) (device : Bool) (r : Refusal) → IsTc w → StandsFor (clients w) m
+taking_refused : (w new : TcView) (m : Machine) (call : Call) (t : ℕ) (s : Span) (spent : Bool) (device : Bool) (r : Refusal) → IsTc w → is_none_lost w.losers ≡ true → StandsFor (clients w) m
     → caller call ≡ Some t → wanted call ≡ Some (t, s) → RefusesTaking (idle_refusal w t) (first_of ((spent, no.NumbersSpent) ∷ [])) device w t s r new → RefusesSo m call r new
-taking_refused w new m call t s spent device r k stands names wants h = by (idle_refusal w t) refl h
+taking_refused w new m call t s spent device r k unlost stands names wants h = by (idle_refusal w t) refl h
   where
     by : (x : Option Refusal) → idle_refusal w t ≡ x → RefusesTaking x (first_of ((spent, no.NumbersSpent) ∷ [])) device w t s r new → RefusesSo m call r new
     by (Some c) is g =
@@ -191,28 +191,28 @@ taking_refused w new m call t s spent device r k stands names wants h = by (idle
         let b : IsLeastHolder w.locks t s busy.0 = busy.2 in
         record {
           line = as_that m call (no.Busy busy.0) r (sym busy.1)
-              (busy_is_a_line (clients w) m call t busy.0 s k.legal stands (true_spans w k) (rests_there w t is) wants (record { other = b.other; conflicts = b.conflict; least = b.least }));
+              (busy_is_a_line (clients w) m call t busy.0 s k.legal stands (true_spans w k unlost) (rests_there w t is) wants (record { other = b.other; conflicts = b.conflict; least = b.least }));
           stands = subst (λ x. StandsFor (clients x) m) (sym busy.3) stands;
         }
     by None is (inr free) =
         refused_as w new m call (first_of ((spent, no.NumbersSpent) ∷ [])) true device r stands (λ c. spent_there spent m call c) free.1
 
-pub act_refused : (w new : TcView) (m : Machine) (t : ℕ) (op : Op) (r : Refusal) → IsTc w → StandsFor (clients w) m → ActGives w t op (Err r) new → RefusesSo m (ToAct t op) r new
-act_refused w new m t op r k stands h = taking_refused w new m (ToAct t op) t (at_key Exclusive (key_of op)) (is_spent w.log) true r k stands refl refl h
+pub act_refused : (w new : TcView) (m : Machine) (t : ℕ) (op : Op) (r : Refusal) → IsTc w → is_none_lost w.losers ≡ true → StandsFor (clients w) m → ActGives w t op (Err r) new → RefusesSo m (ToAct t op) r new
+act_refused w new m t op r k unlost stands h = taking_refused w new m (ToAct t op) t (at_key Exclusive (key_of op)) (is_spent w.log) true r k unlost stands refl refl h
 
 -- a read looks at the keys of its query
 pub same_span : (s : Keys) → asked_span (query_of s) ≡ shared s
 same_span (Key k) = refl
 same_span (Range low high) = refl
 
-pub read_refused : (w new : TcView) (m : Machine) (t : ℕ) (s : Keys) (r : Refusal) → IsTc w → StandsFor (clients w) m → ReadGives w t s (Err r) new
+pub read_refused : (w new : TcView) (m : Machine) (t : ℕ) (s : Keys) (r : Refusal) → IsTc w → is_none_lost w.losers ≡ true → StandsFor (clients w) m → ReadGives w t s (Err r) new
     → RefusesSo m (ToRead t (query_of s)) r new
-read_refused w new m t s r k stands h = by (ends_above (shared s).hi (shared s).lo) refl h
+read_refused w new m t s r k unlost stands h = by (ends_above (shared s).hi (shared s).lo) refl h
   where
     by : (b : Bool) → ends_above (shared s).hi (shared s).lo ≡ b
         → RefusesTaking (or_else (first_of ((not b, no.BadRange) ∷ [])) (idle_refusal w t)) (reads_spent w.reads) false w t (shared s) r new → RefusesSo m (ToRead t (query_of s)) r new
     by true range g =
-        taking_refused w new m (ToRead t (query_of s)) t (shared s) (nat_le 281474976710655 w.reads) false r k stands refl (ap (λ x. Some (t, x)) (same_span s)) g
+        taking_refused w new m (ToRead t (query_of s)) t (shared s) (nat_le 281474976710655 w.reads) false r k unlost stands refl (ap (λ x. Some (t, x)) (same_span s)) g
     by false none g =
         let empty : IsRange (asked_span (query_of s)) → ⊥ =
         λ range. true≢false (sym range ∙ ap (λ (x : Span). ends_above x.hi x.lo) (same_span s) ∙ none) in

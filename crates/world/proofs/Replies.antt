@@ -30,11 +30,12 @@ use Rattle.logical_log.specs.LogView.{is_spent}
 use Rattle.tc_core.specs.OpenTxns.{find}
 use Rattle.tc_core.specs.TcView.{TcView}
 use Rattle.system_txn.specs.Checked.{IsChecked}
-use Rattle.tc_core.specs.Changes.{answered, answered_txn, was_told, told_txn, checkpointed}
+use Rattle.tc_core.specs.Changes.{answered, answered_txn, was_told, told_txn, checkpointed, undoing_or_running}
 use Rattle.tc_core.specs.Replies.{Outcome, takes, awaiting, next_phase, passed, on_awaited, on_answered, on_connected, on_redo_ended, on_checkpointed, on_reply, on_row, on_rows, is_number, is_key, is_range, span_read, reader, logs, takes_memory, reply_refusal}
 use Rattle.tc_core.specs.Kept.{IsTc, IsPhase}
 use Rattle.tc_core.proofs.KeepsReads.{reader_is}
 use Rattle.tc_core.proofs.KeepsTc.{open_at, waits_at, awaited_is}
+use Rattle.world.proofs.Waited.{nothing_lacks, lost_if}
 use Rattle.world.specs.declared.event.Event.TheVariants as event
 use Rattle.world.specs.declared.event.Out.{Out}
 use Rattle.world.specs.declared.event.Out.TheVariants as out
@@ -84,6 +85,7 @@ next_served (phase.Redoing next ending) n s log dc taken captured h = (
   where
     here : next ≡ n
     here = eqb-true next n (and_parts (next == n) (nat_lt n s) taken).0
+next_served (phase.Undoing waiting) n s log dc taken captured h = h
 next_served phase.Running n s log dc taken captured h = h
 
 -- a session that is taken from has a number
@@ -91,6 +93,7 @@ some_taken : (p : Phase) (c n s : ℕ) → takes s p n ≡ true → IsPhase c s 
 some_taken phase.Unconnected c n s taken h = absurd (true≢false (sym taken))
 some_taken phase.Connecting c n s taken h = absurd (true≢false (sym taken))
 some_taken (phase.Redoing next ending) c n s taken h = omega (arith, h.0, h.1)
+some_taken (phase.Undoing waiting) c n s taken h = h
 some_taken phase.Running c n s taken h = h
 
 -- an answer of the session that runs
@@ -114,14 +117,14 @@ taken_there w s n a k t runs o asks =
 
 passes : (w : NodeView) (s n : ℕ) (a : Option Answer) → IsKept w → IsTaken w s n a → IsTc (passed w.tc n) → IsKept (with_tc w (passed w.tc n))
 passes w s n a k t after =
-    keeps_same_log w (passed w.tc n) k after k.checked refl (omega arith) (inl refl) (omega arith) (none_same w.tc.reads w.tc.open_txns)
+    keeps_same_log w (passed w.tc n) k after k.checked k.unlost refl (omega arith) (inl refl) (omega arith) (none_same w.tc.reads w.tc.open_txns)
     (record { begun = k.sessions.begun; served = next_served w.tc.phase n w.tc.session w.tc.log w.dc t.taken (taken_there w s n a k t) k.sessions.served })
 
 -- the answer that is waited for
 answers : (w : NodeView) (o : OpenTxn) (s n : ℕ) (a : Answer) → IsKept w → find o.txn w.tc.open_txns ≡ Some o → IsTc (passed (answered w.tc o n a) n) → IsTaken w s n (Some a)
     → IsKept (with_tc w (passed (answered w.tc o n a) n))
 answers w o s n a k at after t =
-    keeps_appended w (passed (answered w.tc o n a) n) (is.Answer n a) k after k.checked refl (omega arith) (inl refl) (omega arith)
+    keeps_appended w (passed (answered w.tc o n a) n) (is.Answer n a) k after k.checked k.unlost refl (omega arith) (inl refl) (omega arith)
     (none_replaced w.tc.reads w.tc.open_txns o (answered_txn o) at (reads_same w.tc.reads o (answered_txn o) refl))
     (record {
       begun = k.sessions.begun;
@@ -137,14 +140,16 @@ tells : (w : NodeView) (i : ℕ) (o : OpenTxn) (s n : ℕ) (a : Answer) → IsKe
     → Leads w (event.Reply i) (as_out (if is_some x then told.Undone n else told.Answered o.txn a)) (with_tc w (passed (answered w.tc o n a) n))
 tells w i o s n a k at waiting given after (Some r) rolling =
     no_line w (with_tc w (passed (answered w.tc o n a) n)) (event.Reply i) (out.Undone n) refl (λ m stands.
-    stands_undone w.tc m o k.tc at stands r n a rolling after.legal
+    stands_undone w.tc m o k.tc k.unlost at stands r n a rolling after.legal
     (comp_waited w.tc.log o n (ap is_some rolling) (waits_at w.tc.log o n (open_at w.tc o k.tc at) waiting).request))
 tells w i o s n a k at waiting given after None flat =
     one_line w (with_tc w (passed (answered w.tc o n a) n)) (event.Reply i) (out.Answered o.txn a) (TellsAnswer o.txn a) refl (λ m stands.
-    stands_answered w.tc m o k.tc at stands n a flat (reads_nothing w.tc o n k.tc at waiting) waiting after.legal (given.answer, k.right) given.stable)
+    stands_answered w.tc m o k.tc k.unlost at stands n a flat (reads_nothing w.tc o n k.tc at waiting) waiting after.legal (given.answer, k.right) given.stable)
 
 awaited_goes : (w : NodeView) (i s n : ℕ) (a : Option Answer) (x : Option OpenTxn) → IsKept w → awaiting w.tc n ≡ x → IsTaken w s n a → Goes w i (on_awaited w.tc n a x)
-awaited_goes w i s n a None k none t after = quietly w i (told.Nothing, passed w.tc n) refl (λ m stands. stands) (passes w s n a k t after)
+awaited_goes w i s n a None k none t after =
+    let passing : Goes w i (told.Nothing, passed w.tc n) = λ there. quietly w i (told.Nothing, passed w.tc n) refl (λ m stands. stands) (passes w s n a k t there) in
+    subst (λ b. Goes w i (lost_if w.tc n a b)) (sym (nothing_lacks w.tc n k.tc k.unlost none)) passing after
 awaited_goes w i s n None (Some o) k some t after = nothing w i k after
 awaited_goes w i s n (Some a) (Some o) k some t after =
     let at = awaited_is w.tc n o some in
@@ -166,7 +171,7 @@ connected_goes w i s phase.Connecting at k same given after =
     let Q : Phase → Type 0 = IsPhase w.tc.checkpointed w.tc.session in
     let some : 0 < w.tc.session = let least = subst Q at k.tc.phase in omega (arith, least) in
     quietly w i (told.Connected w.tc.session, tc) refl (λ m stands. stands)
-    (keeps_same_log w tc k after k.checked refl (omega arith) (inl refl) (omega arith) (none_same w.tc.reads w.tc.open_txns)
+    (keeps_same_log w tc k after k.checked k.unlost refl (omega arith) (inl refl) (omega arith) (none_same w.tc.reads w.tc.open_txns)
     (record {
       begun = k.sessions.begun;
       served = (
@@ -176,6 +181,7 @@ connected_goes w i s phase.Connecting at k same given after =
       );
     }))
 connected_goes w i s (phase.Redoing next ending) at k same given after = nothing w i k after
+connected_goes w i s (phase.Undoing waiting) at k same given after = nothing w i k after
 connected_goes w i s phase.Running at k same given after = nothing w i k after
 
 -- redo ends
@@ -186,19 +192,23 @@ redo_ended_goes w i s (phase.Redoing next false) at k same past after = nothing 
 redo_ended_goes w i s (phase.Redoing next true) at k same past after =
     let served = redo_served w next true k at in
     let bounds = redoing_phase w next true k at in
-    quietly w i (told.RedoEnded w.tc.session, record w.tc { phase = phase.Running }) refl (λ m stands. stands)
-    (keeps_same_log w (record w.tc { phase = phase.Running }) k after k.checked refl (omega arith) (inl refl) (omega arith) (none_same w.tc.reads w.tc.open_txns)
+    quietly w i (told.RedoEnded w.tc.session, record w.tc { phase = undoing_or_running w.tc.losers }) refl (λ m stands. stands)
+    (keeps_same_log w (record w.tc { phase = undoing_or_running w.tc.losers }) k after k.checked k.unlost refl (omega arith) (inl refl) (omega arith) (none_same w.tc.reads w.tc.open_txns)
     (record {
       begun = k.sessions.begun;
-      served = (served.1, λ runs. past.holds (is_run w.dc s (λ zero. absurd (omega (arith, zero, same, bounds.0, bounds.1))) (runs ∙ sym same)));
+      served =
+          let P : Phase → Type 0 = λ p. IsServed p w.tc.session w.tc.log w.dc in
+          subst P (sym (ap (λ b. if b then phase.Running else phase.Undoing None) k.unlost))
+          (served.1, λ runs. past.holds (is_run w.dc s (λ zero. absurd (omega (arith, zero, same, bounds.0, bounds.1))) (runs ∙ sym same)));
     }))
+redo_ended_goes w i s (phase.Undoing waiting) at k same past after = nothing w i k after
 redo_ended_goes w i s phase.Running at k same past after = nothing w i k after
 
 -- of a checkpoint that was asked for, the data component is as low
 checkpoint_logged : (w : NodeView) (l : ℕ) → IsKept w → IsChecked l w.dc.system → IsTc (checkpointed w.tc l) → IsKept (with_tc w (checkpointed w.tc l))
 checkpoint_logged w l k given after =
     let r : Record = is.Checkpoint l in
-    keeps_appended w (checkpointed w.tc l) r k after (pick (nat_lt w.tc.checkpointed l)) refl (omega arith) (inl refl) (omega arith) (none_same w.tc.reads w.tc.open_txns)
+    keeps_appended w (checkpointed w.tc l) r k after (pick (nat_lt w.tc.checkpointed l)) k.unlost refl (omega arith) (inl refl) (omega arith) (none_same w.tc.reads w.tc.open_txns)
     (record { begun = k.sessions.begun; served = quiet_served w.tc.phase w.tc.session r w.tc.log w.dc (λ o h. cc) k.sessions.served })
     k.right (λ some. still_captured w r (λ o h. cc) (λ m. refl))
   where
@@ -226,7 +236,7 @@ fresh_session s session c h = pick (session == 0) (s == session) refl h
 -- what was read is told to who waits for it
 kept_told : (w : NodeView) (o : OpenTxn) → IsKept w → find o.txn w.tc.open_txns ≡ Some o → IsTc (was_told w.tc o) → IsKept (with_tc w (was_told w.tc o))
 kept_told w o k at after =
-    keeps_same_log w (was_told w.tc o) k after k.checked refl (omega arith) (inl refl) (omega arith)
+    keeps_same_log w (was_told w.tc o) k after k.checked k.unlost refl (omega arith) (inl refl) (omega arith)
     (none_replaced w.tc.reads w.tc.open_txns o (told_txn o) at (reads_none w.tc.reads o (told_txn o) refl)) k.sessions
 
 row_goes : (w : NodeView) (i n : ℕ) (v : Option Bytes) (x : Option OpenTxn) → IsKept w → reader w.tc n ≡ x → IsTrueOfReader w.tc n (IsValue w.tc.log v) → Goes w i (on_row w.tc v x)
@@ -325,6 +335,7 @@ follows_reply old new i (out.Merged pair) k h = taken old new i (out.Merged pair
 follows_reply old new i (out.Flushed id) k h = taken old new i (out.Flushed id) k h
 follows_reply old new i (out.Undone n) k h = taken old new i (out.Undone n) k h
 follows_reply old new i (out.CheckpointLogged n) k h = taken old new i (out.CheckpointLogged n) k h
+follows_reply old new i (out.Lost n) k h = taken old new i (out.Lost n) k h
 follows_reply old new i out.RollingBack k h = taken old new i out.RollingBack k h
 follows_reply old new i out.Nothing k h = taken old new i out.Nothing k h
 follows_reply old new i out.Noted k h = taken old new i out.Noted k h

@@ -13,7 +13,8 @@ use Rattle.tc_core.specs.declared.open_txn.Rollback.{Rollback}
 use Rattle.tc_core.specs.declared.phase.Phase.{Phase}
 use Rattle.tc_core.specs.declared.phase.Phase.TheVariants as phase
 use Rattle.tc_core.specs.OpenTxns.{find}
-use Rattle.tc_core.specs.TcView.{TcView, rolls_back}
+use Rattle.tc_core.specs.TcView.{TcView, rolls_back, is_none_lost}
+use Rattle.world.proofs.Waited.{nothing_lacks, lost_if}
 use Rattle.tc_core.specs.Changes.{next_of, inverse_at, compensated_txn, compensated, ended, is_back, back_txn, answered_txn, answered, forced, told_txn, was_told}
 use Rattle.tc_core.specs.Replies.{awaiting, next_phase, on_awaited}
 use Rattle.tc_core.specs.Recovery.{redoing}
@@ -158,13 +159,15 @@ falls_answer w o p n a k at some most =
     rw (busy_waiting w.open_txns o.txn n o at some) (omega (arith, most, was, step, rolling_later r w.log o refl, some_round w.stable n, flag))
 
 -- redo goes past a number
-pub falls_redone : (w : TcView) (next : ℕ) (ending : Bool) (n : ℕ) (op : Op) (a : Option Answer) (x : Option OpenTxn) → IsTc w → w.phase ≡ phase.Redoing next ending → next ≤ n → n < w.session
+pub falls_redone : (w : TcView) (next : ℕ) (ending : Bool) (n : ℕ) (op : Op) (a : Option Answer) (x : Option OpenTxn) → IsTc w → is_none_lost w.losers ≡ true → w.phase ≡ phase.Redoing next ending → next ≤ n → n < w.session
     → Requests w.log n op → awaiting w n ≡ x → IsSound w n a → tc_rounds (on_awaited (redoing w n false) n a x).1 < tc_rounds w
-falls_redone w next ending n op a None k at most less asks none sound =
-    let fewer = one_fewer next n w.session op w.log most less asks in rw at (omega (arith, fewer))
-falls_redone w next ending n op None (Some o) k at most less asks some sound =
+falls_redone w next ending n op a None k unlost at most less asks none sound =
+    let fewer = one_fewer next n w.session op w.log most less asks in
+    let P : Bool → Type 0 = λ b. tc_rounds (lost_if (redoing w n false) n a b).1 < tc_rounds w in
+    subst P (sym (nothing_lacks w n k unlost none)) (rw at (omega (arith, fewer)))
+falls_redone w next ending n op None (Some o) k unlost at most less asks some sound =
     let waits = awaited_is w n o some in absurd (not_unanswered w o n k waits.0 waits.1 (sound refl))
-falls_redone w next ending n op (Some a) (Some o) k at most less asks some sound =
+falls_redone w next ending n op (Some a) (Some o) k unlost at most less asks some sound =
     let waits = awaited_is w n o some in
     let fewer = one_fewer next n w.session op w.log most less asks in
     let above = none_above (n + 1) w.session (is.Answer n a) w.log (omega (arith, k.session, k.within)) in
@@ -191,16 +194,17 @@ phase_bound : (log : List Record) (s : ℕ) (p : Phase) → phase_rounds log s p
 phase_bound log s phase.Unconnected = omega (arith, requests_are_steps 1 (length log + 1) log)
 phase_bound log s phase.Connecting = omega (arith, requests_are_steps 1 (length log + 1) log)
 phase_bound log s (phase.Redoing next ending) = omega (arith, requests_are_steps next s log)
+phase_bound log s (phase.Undoing waiting) = omega arith
 phase_bound log s phase.Running = omega arith
 
 total_bound : (log : List Record) (stable : ℕ) (os : List OpenTxn) → total (txn_rounds log stable) os ≤ 3 * total (λ (o : OpenTxn). left_in log o.txn (bound_of o.rolling) log) os + 4 * length os
 total_bound log stable [] = omega arith
 total_bound log stable (o ∷ os) = let here = txn_bound log stable o in omega (arith, here, total_bound log stable os)
 
-have_begun : (w : TcView) → AreOpen w.log w.open_txns → HaveBegun w.log w.open_txns
+have_begun : (w : TcView) → AreOpen w.log w.losers.below w.open_txns → HaveBegun w.log w.open_txns
 have_begun w k t o h = let P : ℕ → Type 0 = λ u. record_at w.log u ≡ Some is.Begin in subst P (found_number t w.open_txns o h) (k.each t o h).is.begun
 
-tc_bound : (w : TcView) → AreOpen w.log w.open_txns → tc_rounds w + 1 < most_rounds w.log
+tc_bound : (w : TcView) → AreOpen w.log w.losers.below w.open_txns → tc_rounds w + 1 < most_rounds w.log
 tc_bound w k =
     omega (
       arith,

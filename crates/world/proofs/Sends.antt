@@ -33,9 +33,9 @@ use Rattle.tc_core.specs.Refusing.{Refuses}
 use Rattle.tc_core.specs.Changes.{logged_session, reconnected, announced, asked_checkpoint}
 use Rattle.tc_core.specs.Calls.{read_request, IsRequestOf}
 use Rattle.tc_core.specs.declared.told.RecoverStep.TheVariants as recovery
-use Rattle.tc_core.specs.Recovery.{SendsAt, redo_request, redo_place, redoing}
+use Rattle.tc_core.specs.Recovery.{SendsAt, redo_request, redo_place, redoing, recover_refusal, undo_logs_at}
 use Rattle.tc_core.specs.Undo.{AsksNothing, FindsRequest}
-use Rattle.tc_core.specs.Kept.{IsPhase, IsTc}
+use Rattle.tc_core.specs.Kept.{IsPhase, IsTc, IsPhaseOf}
 use Rattle.world.specs.declared.event.Event.TheVariants as event
 use Rattle.world.specs.declared.event.Out.{Out}
 use Rattle.world.specs.declared.event.Out.TheVariants as out
@@ -48,7 +48,7 @@ use Rattle.world.proofs.Grows.{GoesOn, sent_on}
 use Rattle.tc_core.proofs.KeepsTc.{reading_at}
 use Rattle.world.proofs.Readers.{none_same}
 use Rattle.world.proofs.Idle.{both_none, serves_open}
-use Rattle.world.proofs.Keeps.{still_captured, quiet_served, keeps_appended, keeps_same_log, with_request, keeps_sent}
+use Rattle.world.proofs.Keeps.{still_captured, quiet_served, keeps_appended, keeps_same_log, with_request, keeps_sent, none_undone, serving_runs}
 use Rattle.world.proofs.Running.{run_is, past_is}
 use Rattle.world.proofs.Follows.{Follows, at_new, no_line, unchanged, left_refused, kept_left, keeps_failed, stands_left}
 
@@ -62,7 +62,7 @@ begins w k after =
     let before : AreBefore (is.Session ∷ w.tc.log) (length w.tc.log + 1) =
     λ n o asks. all_before w.tc.log n o (older_at (ARequest o) is.Session w.tc.log n
     (λ e. let none : ARequest o (Some is.Session) = newest_at (ARequest o) is.Session w.tc.log n e asks in cc) asks) in
-    keeps_appended w (reconnected w.tc) is.Session k after k.checked refl (omega (arith, k.tc.within)) (inr (omega (arith, k.tc.within))) (omega arith) (none_same w.tc.reads w.tc.open_txns)
+    keeps_appended w (reconnected w.tc) is.Session k after k.checked k.unlost refl (omega (arith, k.tc.within)) (inr (omega (arith, k.tc.within))) (omega arith) (none_same w.tc.reads w.tc.open_txns)
     (record {
       begun = record { recorded = omega (arith, k.sessions.begun.recorded, k.tc.within); most = λ some. omega (arith, k.sessions.begun.recorded, k.tc.within) };
       served = before;
@@ -72,7 +72,7 @@ begins w k after =
 -- or only its record is logged, since the force failed
 logs_session : (w : NodeView) → IsKept w → IsTc (logged_session w.tc) → IsKept (with_tc w (logged_session w.tc))
 logs_session w k after =
-    keeps_appended w (logged_session w.tc) is.Session k after k.checked refl (omega arith) (inl refl) (omega arith) (none_same w.tc.reads w.tc.open_txns)
+    keeps_appended w (logged_session w.tc) is.Session k after k.checked k.unlost refl (omega arith) (inl refl) (omega arith) (none_same w.tc.reads w.tc.open_txns)
     (record { begun = k.sessions.begun; served = quiet_served w.tc.phase w.tc.session is.Session w.tc.log w.dc (λ o h. cc) k.sessions.served })
     k.right (λ some. still_captured w is.Session (λ o h. cc) (λ m. refl))
 
@@ -121,7 +121,7 @@ pub keeps_redoing : (w : NodeView) (next : ℕ) (was : Bool) (n : ℕ) (ending :
     → (w.dc.session ≡ w.tc.session → AllAreCaptured w.tc.log w.dc n) → IsKept (with_tc w (redoing w.tc n ending))
 keeps_redoing w next was n ending k at tc captured =
     let was_served = redo_served w next was k at in
-    keeps_same_log w (redoing w.tc n ending) k tc k.checked refl (omega arith) (inl refl) (omega arith) (none_same w.tc.reads w.tc.open_txns)
+    keeps_same_log w (redoing w.tc n ending) k tc k.checked k.unlost refl (omega arith) (inl refl) (omega arith) (none_same w.tc.reads w.tc.open_txns)
     (record { begun = k.sessions.begun; served = (was_served.0, was_served.1, captured) })
 
 -- the place of redo, and what it sends
@@ -173,6 +173,10 @@ pub redoing_phase : (w : NodeView) (next : ℕ) (ending : Bool) → IsKept w →
 redoing_phase w next ending k at =
     let P : Phase → Type 0 = IsPhase w.tc.checkpointed w.tc.session in let h = subst P at k.tc.phase in (h.0, h.1)
 
+-- no loser is undone
+pub no_undoing : (w : NodeView) (waiting : Option ℕ) → IsKept w → w.tc.phase ≡ phase.Undoing waiting → ⊥
+no_undoing w waiting k at = let P : Phase → Type 0 = IsPhaseOf w.tc.losers in none_undone w waiting k (subst P at k.tc.lost.phase_of)
+
 -- what recovery sends, by its phase
 pub recovers : (old new : NodeView) (q : Request) (p : Phase) → old.tc.phase ≡ p → IsKept old → SendsAt old.tc p q new.tc
     → IsTc new.tc → new ≡ record old { tc = new.tc; requests = old.requests ++ q ∷ [] } → IsKept new × ((m : Machine) → Stands old m → Stands new m)
@@ -197,14 +201,25 @@ recovers old new q (phase.Redoing next ending) at k h after left =
   where
     stays : (w : NodeView) (n : ℕ) (e : Bool) → IsKept w → GoesOn w.tc (redoing w.tc n e)
     stays w n e k = record { within = k.tc.within; now_within = k.tc.within; log = inl refl; stable = omega arith; session = inl refl; reads = omega arith; none_anew = none_same w.tc.reads w.tc.open_txns }
+recovers old new q (phase.Undoing None) at k h after left = absurd h
+recovers old new q (phase.Undoing (Some n)) at k h after left = absurd (no_undoing old (Some n) k at)
 recovers old new q phase.Running at k h after left = absurd h
 
 pub follows_recover : (old new : NodeView) (output : Out) → IsKept old → RecoversTo old output new → Follows old event.Recover output new
-follows_recover old new out.Nothing k h = unchanged old new event.Recover out.Nothing k (h.1 ∙ ap (with_tc old) h.0.1) refl
+follows_recover old new out.Nothing k h = unchanged old new event.Recover out.Nothing k (h.1 ∙ ap (with_tc old) h.0.1.1) refl
 follows_recover old new (out.Sent i) k h =
-    let both = recovers old new h.0 old.tc.phase refl k h.1 (recover_keeps old.tc new.tc (Ok (recovery.Sends h.0)) k.tc h.1) h.2.left in
+    let both = recovers old new h.0 old.tc.phase refl k h.1.1 (recover_keeps old.tc new.tc h.0 k.tc h.1) h.2.left in
     record { leads = no_line old new event.Recover (out.Sent i) refl both.1; kept = both.0 }
-follows_recover old new (out.Refused r) k h = unchanged old new event.Recover (out.Refused r) k h.1 refl
+follows_recover old new (out.Compensated n) k h = absurd (no_undoing old None k h.0.1.undoing)
+follows_recover old new (out.Lost t) k h = absurd (no_undoing old None k h.0.1.undoing)
+follows_recover old new (out.Refused r) k (inl h) = unchanged old new event.Recover (out.Refused r) k h.1 refl
+follows_recover old new (out.Refused r) k (inr h) =
+    let logs : Bool = undo_logs_at old.tc.phase in
+    let which = left_refused (recover_refusal old.tc) logs logs old.tc r new.tc h.0 in
+    record {
+      leads = no_line old new event.Recover (out.Refused r) refl (λ m stands. stands_left old.tc new.tc m which stands);
+      kept = kept_left old new k h.1 which;
+    }
 follows_recover old new _ k h = absurd h
 
 -- a read is of who waits for it: nobody else waits for its number
@@ -259,7 +274,7 @@ sent_of old t q k running (inr r) =
 pub follows_send : (old new : NodeView) (t : ℕ) (output : Out) → IsKept old → SendsTo old t output new → Follows old (event.Send t) output new
 follows_send old new t (out.Sent i) k h =
     at_new old new (with_request old h.0) (event.Send t) (out.Sent i) h.2.left
-    (record { leads = no_line old (with_request old h.0) (event.Send t) (out.Sent i) refl (λ m stands. stands); kept = keeps_sent old h.0 k (sent_of old t h.0 k (serves_open old.tc t (both_none (open_refusal old.tc t) _ h.1.0).0) h.1.1) })
+    (record { leads = no_line old (with_request old h.0) (event.Send t) (out.Sent i) refl (λ m stands. stands); kept = keeps_sent old h.0 k (sent_of old t h.0 k (serving_runs old k (serves_open old.tc t (both_none (open_refusal old.tc t) _ h.1.0).0)) h.1.1) })
 follows_send old new t (out.Refused r) k h = unchanged old new (event.Send t) (out.Refused r) k h.1 refl
 follows_send old new t _ k h = absurd h
 
@@ -267,7 +282,7 @@ follows_send old new t _ k h = absurd h
 announces : (w : NodeView) (announced : ℕ) (asked : Option ℕ) → IsKept w → IsTc (record w.tc { announced = announced; checkpointing = asked })
     → IsKept (with_tc w (record w.tc { announced = announced; checkpointing = asked }))
 announces w announced asked k after =
-    keeps_same_log w (record w.tc { announced = announced; checkpointing = asked }) k after k.checked refl (omega arith) (inl refl) (omega arith)
+    keeps_same_log w (record w.tc { announced = announced; checkpointing = asked }) k after k.checked k.unlost refl (omega arith) (inl refl) (omega arith)
     (none_same w.tc.reads w.tc.open_txns) k.sessions
 
 pub follows_low_water : (old new : NodeView) (l : ℕ) (output : Out) → IsKept old → LowersTo old l output new → Follows old (event.LowWater l) output new

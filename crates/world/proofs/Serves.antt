@@ -66,6 +66,7 @@ begins_over : (at : Phase) (c session : ℕ) (log : List Record) (dc : DcView) (
 begins_over phase.Unconnected c session log dc s is h less most = tt
 begins_over phase.Connecting c session log dc s is h less most = h
 begins_over (phase.Redoing next ending) c session log dc s is h less most = absurd (omega (arith, h.1, less, most (omega (arith, is.0, is.1))))
+begins_over (phase.Undoing waiting) c session log dc s is h less most = absurd (omega (arith, h.0, less, most is))
 begins_over phase.Running c session log dc s is h less most = absurd (omega (arith, h.0, less, most is))
 
 -- the end of redo is one in every phase
@@ -73,6 +74,7 @@ past_redo : (at : Phase) (session : ℕ) (log : List Record) (dc : DcView) → I
 past_redo phase.Unconnected session log dc h = tt
 past_redo phase.Connecting session log dc h = h
 past_redo (phase.Redoing next ending) session log dc h = h
+past_redo (phase.Undoing waiting) session log dc h = (h.0, λ runs. refl)
 past_redo phase.Running session log dc h = (h.0, λ runs. refl)
 
 accepted_true : (w : TcView) (v : SystemView) (s stable failures : ℕ) → IsTrueTo w v → IsTrueTo w (record v { log = dc_record.Accept s ∷ v.log; stable = stable; failures = failures })

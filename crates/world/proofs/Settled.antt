@@ -45,6 +45,7 @@ use Rattle.world.proofs.Idle.{none_rolls}
 use Rattle.world.proofs.Reading.{flat_undoes_none}
 use Rattle.world.proofs.AtKeys.{honest_at, captured_stable}
 use Rattle.world.proofs.PlainAt.{plain_at}
+use Rattle.world.proofs.Sends.{no_undoing}
 use Rattle.world.proofs.Waited.{IsAwaited, answered_or}
 
 -- a request on the key is without an answer
@@ -153,7 +154,7 @@ settled_value : (w : NodeView) → IsKept w → IsSettled w → (key : Bytes) �
 settled_value w k settled key = elim (answered_all w.tc.log w.tc.log key) [
   | inl each ↦ plain_at w.tc.log key (captures_at w.dc key) k.tc.legal k.right each
       (λ n o asks on. subst (λ (q : Bytes). captures_at w.dc q n ≡ true) on (k.answered (settled_past w k settled) n o asks (each n o asks on)))
-  | inr u ↦ elim (answered_or w.tc u.number u.op k.tc u.requests) [
+  | inr u ↦ elim (answered_or w.tc u.number u.op k.tc k.unlost u.requests) [
     | inl some ↦ absurd (true≢false (sym some ∙ ap is_some u.unanswered))
     | inr a ↦
         let x : OpenTxn = a.open_txn in
@@ -201,7 +202,7 @@ at_rest w k running up session unrolled idle stable = record {
     dc_up = up;
     session = session;
     unrolled = unrolled;
-    answered = λ n o below asks. elim (answered_or w.tc n o k.tc asks) [ inl some ↦ some | inr a ↦ absurd (nobody_waits w.tc n idle a) ];
+    answered = λ n o below asks. elim (answered_or w.tc n o k.tc k.unlost asks) [ inl some ↦ some | inr a ↦ absurd (nobody_waits w.tc n idle a) ];
   };
   idle = idle;
   stable = omega (arith, stable, k.tc.within);
@@ -211,13 +212,14 @@ at_rest w k running up session unrolled idle stable = record {
 same_session : (w : NodeView) → (IsApart w → ⊥) → w.dc.session ≡ w.tc.session
 same_session w together = elim (cases_eq w.dc.session w.tc.session) [ inl e ↦ e | inr apart ↦ absurd (together (inr (inr apart))) ]
 
-pub redoes : (w : NodeView) → w.dc_up ≡ true → (IsApart w → ⊥) → (w.tc.phase ≡ phase.Running → ⊥) → (w.dc_up ≡ true) × IsRedoing w.tc.phase × (w.dc.session ≡ w.tc.session)
-redoes w up together idle = (up, by w.tc.phase refl, same_session w together)
+pub redoes : (w : NodeView) → IsKept w → w.dc_up ≡ true → (IsApart w → ⊥) → (w.tc.phase ≡ phase.Running → ⊥) → (w.dc_up ≡ true) × IsRedoing w.tc.phase × (w.dc.session ≡ w.tc.session)
+redoes w k up together idle = (up, by w.tc.phase refl, same_session w together)
   where
     by : (p : Phase) → w.tc.phase ≡ p → IsRedoing p
     by phase.Unconnected at = absurd (together (inl at))
     by phase.Connecting at = absurd (together (inr (inl at)))
     by (phase.Redoing next ending) at = tt
+    by (phase.Undoing waiting) at = absurd (no_undoing w waiting k at)
     by phase.Running at = absurd (idle at)
 
 pub serving : (w : NodeView) → w.dc_up ≡ true → (IsApart w → ⊥) → w.tc.phase ≡ phase.Running → IsServing w

@@ -1,5 +1,5 @@
 -- Each change of the transaction component is a step of the list machine, or none.
-use Rattle.std.proofs.Common.{◌≡◌, ◌≢◌, ℕ, ◌+◌, ◌-◌, ◌<◌, ◌≤◌, true, false, List, [], ◌∷◌, ◌++◌, length, Option, Some, None, refl, sym, ap, ◌∙◌, subst, arith, inl, inr, ◌⊎◌, take, true≢false}
+use Rattle.std.proofs.Common.{◌≡◌, ◌≢◌, ℕ, ◌+◌, ◌-◌, ◌<◌, ◌≤◌, true, false, List, [], ◌∷◌, ◌++◌, length, Option, Some, None, refl, sym, ap, ◌∙◌, subst, arith, inl, inr, ◌⊎◌, take, true≢false, append-nil}
 use Rattle.std.specs.Prelude.{◌||◌, is_some, slice_get}
 use Rattle.std.specs.FinMap.{get}
 use Rattle.std.proofs.lemmas.Bool.{cases_Bool, cases_eq}
@@ -39,11 +39,12 @@ use Rattle.tc_core.specs.declared.open_txn.OpenTxn.{OpenTxn}
 use Rattle.tc_core.specs.declared.open_txn.Read.{Read}
 use Rattle.tc_core.specs.declared.open_txn.Rollback.{Rollback}
 use Rattle.tc_core.specs.OpenTxns.{find, without}
-use Rattle.tc_core.specs.TcView.{TcView}
+use Rattle.tc_core.specs.TcView.{TcView, is_nil, is_none_lost}
+use Rattle.restart.specs.Losers.{txns}
 use Rattle.tc_core.specs.Causes.{saves_of}
 use Rattle.tc_core.specs.Changes.{let_go, forced, logged_session, reconnected, begun_txn, begun, acted_txn, acted, reading_txn, shared, asked_read, told_txn, was_told, saved_txn, saved, rolling_txn, rolled, going_back_txn, going_back, committed, next_of, inverse_at, compensated_txn, compensated, ended, back_txn, is_back, answered_txn, answered, checkpointed}
 use Rattle.tc_core.specs.Locking.{is_listed, is_holder}
-use Rattle.tc_core.specs.Kept.{IsTc, commits_in}
+use Rattle.tc_core.specs.Kept.{IsTc, commits_in, closing}
 use Rattle.tc_core.proofs.Finding.{find_here, find_there, found_number, without_same}
 use Rattle.world.specs.Simulation.{query_of, doing_of, doing_in, clients, told_committed}
 use Rattle.world.proofs.Clients.{put_is, doing_now, doing_kept, saves_replaced, saves_kept, doing_without, saves_without, spans_put, rests, awaits, looks, rolls}
@@ -57,10 +58,19 @@ does_nothing : (x : Option OpenTxn) → doing_in x ≡ None → x ≡ None
 does_nothing None h = refl
 does_nothing (Some o) h = absurd (cc)
 
+-- besides open transactions only those that are committing hold keys
+only_committing : (w : TcView) → is_none_lost w.losers ≡ true → closing w ≡ w.committing
+only_committing w unlost = ap (λ ts. w.committing ++ ts) (none_there (txns w.losers) unlost) ∙ append-nil w.committing
+  where
+    none_there : (ts : List ℕ) → is_nil ts ≡ true → ts ≡ []
+    none_there [] h = refl
+    none_there (t ∷ ts) h = absurd (true≢false (sym h))
+
 -- the lock table says what each transaction holds, and of whoever is over that it holds nothing
-pub true_spans : (w : TcView) → IsTc w → HasTrueSpans (clients w)
-true_spans w k = record {
-  let_go = λ t none stays told. k.locks.others t (unheld t (does_nothing (find t w.open_txns) none) told);
+pub true_spans : (w : TcView) → IsTc w → is_none_lost w.losers ≡ true → HasTrueSpans (clients w)
+true_spans w k unlost = record {
+  let_go = λ t none stays told. k.locks.others t
+      (ap (λ ts. is_holder w.open_txns ts t) (only_committing w unlost) ∙ unheld t (does_nothing (find t w.open_txns) none) told);
   losers = λ t loses. absurd (true≢false (sym loses));
 }
   where
@@ -76,8 +86,8 @@ true_spans w k = record {
     unheld t none told = ap (λ (x : Option OpenTxn). is_some x || is_listed w.committing t) none ∙ unlisted t told
 
 -- what is free by the locks is free for the machine
-pub free_there : (w : TcView) (m : Machine) (t : ℕ) (s : Span) → IsTc w → StandsFor (clients w) m → locks.IsFree w.locks t s → IsFree m t s
-free_there w m t s k stands free = free_by_true_spans (clients w) m t s stands (true_spans w k) free
+pub free_there : (w : TcView) (m : Machine) (t : ℕ) (s : Span) → IsTc w → is_none_lost w.losers ≡ true → StandsFor (clients w) m → locks.IsFree w.locks t s → IsFree m t s
+free_there w m t s k unlost stands free = free_by_true_spans (clients w) m t s stands (true_spans w k unlost) free
 
 -- a transaction that does this
 does_this : (w : TcView) (o : OpenTxn) (d : Doing) → find o.txn w.open_txns ≡ Some o → doing_of o ≡ d → (clients w).doing o.txn ≡ Some d
@@ -87,9 +97,9 @@ pub idle_rests : (o : OpenTxn) → IsIdleTxn o → doing_of o ≡ Ready
 idle_rests o i = rests o i.rolling i.reading i.waiting
 
 -- a transaction begins
-pub stands_begun : (w : TcView) (m : Machine) → IsTc w → find (length w.log + 1) w.open_txns ≡ None → is_listed w.committing (length w.log + 1) ≡ false
+pub stands_begun : (w : TcView) (m : Machine) → IsTc w → is_none_lost w.losers ≡ true → find (length w.log + 1) w.open_txns ≡ None → is_listed w.committing (length w.log + 1) ≡ false
     → StandsFor (clients w) m → Leads (clients w) m (Begins (length w.log + 1)) (clients (begun w))
-stands_begun w m k unfound unlisted stands =
+stands_begun w m k unlost unfound unlisted stands =
     let t : ℕ = length w.log + 1 in
     let new : OpenTxn = begun_txn t in
     let l = begin_is_a_step (clients w) m k.legal stands in
@@ -101,7 +111,7 @@ stands_begun w m k unfound unlisted stands =
           (put_is (clients w).doing (clients (begun w)).doing t (Some Ready) (ap doing_in here) (λ u apart. ap doing_in (there u apart)))
           (put_is (clients w).saves (clients (begun w)).saves t [] (ap saves_of here) (λ u apart. ap saves_of (there u apart)))
           (put_is (clients w).spans (clients (begun w)).spans t []
-          (k.locks.others t (ap (λ (x : Option OpenTxn). is_some x || is_listed w.committing t) unfound ∙ unlisted)) (λ u apart. refl)) l.2,
+          (k.locks.others t (ap (λ ts. is_holder w.open_txns ts t) (only_committing w unlost) ∙ ap (λ (x : Option OpenTxn). is_some x || is_listed w.committing t) unfound ∙ unlisted)) (λ u apart. refl)) l.2,
     )
 
 -- no Commit of an open transaction stands, nor does its End make one
@@ -114,7 +124,7 @@ no_commit log t n is_open is_commit = elim (cases_eq n (length log + 1)) [
 ]
 
 -- a transaction that was found
-module _ (w : TcView) (m : Machine) (o : OpenTxn) (k : IsTc w) (at : find o.txn w.open_txns ≡ Some o) (stands : StandsFor (clients w) m) where
+module _ (w : TcView) (m : Machine) (o : OpenTxn) (k : IsTc w) (unlost : is_none_lost w.losers ≡ true) (at : find o.txn w.open_txns ≡ Some o) (stands : StandsFor (clients w) m) where
   -- acts
   pub stands_acted : (op : Op) → IsIdleTxn o → IsTc (acted w o op) → locks.IsFree w.locks o.txn (at_key Exclusive (key_of op))
       → Leads (clients w) m (Acts o.txn op (length w.log + 1)) (clients (acted w o op))
@@ -122,7 +132,7 @@ module _ (w : TcView) (m : Machine) (o : OpenTxn) (k : IsTc w) (at : find o.txn 
       let s : Span = at_key Exclusive (key_of op) in
       let n : ℕ = length w.log + 1 in
       let new : OpenTxn = acted_txn o n in
-      let l = act_is_a_step (clients w) m o.txn o.last op after.legal stands (does_this w o Ready at (idle_rests o idle)) (free_there w m o.txn s k stands free) in (
+      let l = act_is_a_step (clients w) m o.txn o.last op after.legal stands (does_this w o Ready at (idle_rests o idle)) (free_there w m o.txn s k unlost stands free) in (
         l.0,
         l.1,
         stands_along (after_act (clients w) o.txn o.last op) (clients (acted w o op)) l.0 refl refl (λ u. refl)
@@ -136,7 +146,7 @@ module _ (w : TcView) (m : Machine) (o : OpenTxn) (k : IsTc w) (at : find o.txn 
   stands_asked s idle range free same =
       let n : ℕ = w.reads + 1 in
       let new : OpenTxn = reading_txn o n s in
-      let l = read_is_a_step (clients w) m o.txn (query_of s) stands (does_this w o Ready at (idle_rests o idle)) range (free_there w m o.txn (asked_span (query_of s)) k stands free) in (
+      let l = read_is_a_step (clients w) m o.txn (query_of s) stands (does_this w o Ready at (idle_rests o idle)) range (free_there w m o.txn (asked_span (query_of s)) k unlost stands free) in (
         l.0,
         l.1,
         stands_along (after_read (clients w) o.txn (query_of s)) (clients (asked_read w o s)) l.0 refl refl (λ u. refl)

@@ -1,5 +1,5 @@
 -- Nothing that waits for its answer is done to the keys that a transaction reads.
-use Rattle.std.proofs.Common.{◌≡◌, ◌≢◌, ℕ, false, Some, None, is_some, sym, ap, ◌∙◌, subst, inl, inr, true≢false}
+use Rattle.std.proofs.Common.{◌≡◌, ◌≢◌, ℕ, false, Some, None, is_some, sym, ap, ◌∙◌, subst, inl, inr, true≢false, true}
 use Rattle.record_key.specs.declared.op.Op.{Op}
 use Rattle.record_key.specs.Table.{key_of}
 use Rattle.history.specs.Spans.{is_within}
@@ -7,7 +7,7 @@ use Rattle.history.specs.Log.{answer_of, Requests}
 use Rattle.tc_core.specs.declared.open_txn.OpenTxn.{OpenTxn}
 use Rattle.tc_core.specs.declared.open_txn.Read.{Read}
 use Rattle.tc_core.specs.OpenTxns.{find}
-use Rattle.tc_core.specs.TcView.{TcView}
+use Rattle.tc_core.specs.TcView.{TcView, is_none_lost}
 use Rattle.tc_core.specs.Changes.{shared}
 use Rattle.tc_core.specs.Kept.{IsTc}
 use Rattle.tc_core.proofs.KeepsReads.{held_apart}
@@ -15,10 +15,10 @@ use Rattle.tc_core.proofs.KeepsTc.{open_at, reading_at}
 use Rattle.world.proofs.Waited.{answered_or, own_key}
 
 -- a request without an answer is of another transaction, which holds its key
-pub unread : (w : TcView) (o : OpenTxn) (r : Read) (n : ℕ) (q : Op) → IsTc w → find o.txn w.open_txns ≡ Some o → o.reading ≡ Some r → Requests w.log n q → answer_of w.log n ≡ None
+pub unread : (w : TcView) (o : OpenTxn) (r : Read) (n : ℕ) (q : Op) → IsTc w → is_none_lost w.losers ≡ true → find o.txn w.open_txns ≡ Some o → o.reading ≡ Some r → Requests w.log n q → answer_of w.log n ≡ None
     → is_within (shared r.span) (key_of q) ≡ false
-unread w o r n q k at reads requests unanswered =
-    elim (answered_or w n q k requests) [
+unread w o r n q k unlost at reads requests unanswered =
+    elim (answered_or w n q k unlost requests) [
       | inl some ↦ absurd (true≢false (sym some ∙ ap is_some unanswered))
       | inr a ↦
           let own = own_key w.log n a.open_txn.txn q k.legal a.step requests in

@@ -24,12 +24,12 @@ use Rattle.tc_core.specs.declared.phase.Phase.{Phase}
 use Rattle.tc_core.specs.declared.phase.Phase.TheVariants as phase
 use Rattle.logical_log.specs.LogView.{is_spent as log_is_spent}
 use Rattle.system_txn.specs.Gives.{is_spent}
-use Rattle.tc_core.specs.TcView.{TcView, is_recovering, is_waiting, waits}
+use Rattle.tc_core.specs.TcView.{TcView, is_waiting, waits}
 use Rattle.tc_core.specs.Causes.{resend_refusal, undo_refusal, undo_logs}
 use Rattle.tc_core.specs.OpenTxns.{find}
 use Rattle.tc_core.specs.Changes.{reconnected}
 use Rattle.tc_core.specs.Calls.{read_request, ReconnectGives, UndoGives}
-use Rattle.tc_core.specs.Recovery.{SendsAt, recover_refusal, redo_request, redo_place, redoing}
+use Rattle.tc_core.specs.Recovery.{SendsAt, recover_refusal, redo_request, redo_place, redoing, undo_logs_at}
 use Rattle.tc_core.specs.Replies.{session_of, logs, takes_memory, ReplyGives}
 use Rattle.tc_core.specs.Kept.{IsPhase, IsTc}
 use Rattle.tc_core.proofs.Finding.{found_own}
@@ -41,10 +41,10 @@ use Rattle.world.specs.declared.event.Out.{Out}
 use Rattle.world.specs.declared.event.Out.TheVariants as out
 use Rattle.world.specs.declared.round.Round.{Round}
 use Rattle.world.specs.declared.round.Round.TheVariants as round
-use Rattle.world.specs.Node.{NodeView, LacksRoom, is_replied_to, ReconnectsTo, RecoversTo, SendsTo}
+use Rattle.world.specs.Node.{NodeView, LacksRoom, is_replied_to, ReconnectsTo, RecoversTo, SendsTo, sends_at}
 use Rattle.world.specs.Kept.{IsKept, IsServed}
 use Rattle.world.specs.Rounds.{IsDone, IsServing, IsDue, IsReader, IsRolling, IsNext, IsWant, StopsAt, events_of}
-use Rattle.world.proofs.Sends.{redoing_phase}
+use Rattle.world.proofs.Sends.{redoing_phase, no_undoing}
 use Rattle.world.proofs.Exchanges.{HasReply, Stops, stops}
 use Rattle.world.proofs.Running.{stored_recorded}
 use Rattle.world.proofs.Replied.{some_reply, sound_reply, read_reply, read_session, connect_replied, redo_replied, request_replied}
@@ -204,14 +204,16 @@ want_recover : (old new mid : NodeView) (o : Out) (os : List Out) (r : Refusal) 
     → RecoversTo old o mid → IsDone o → StopsAt mid (event.Request (length old.requests + 1) ∷ event.Reply (length old.replies + 1) ∷ []) os r new → IsWant r
 want_recover old new mid (out.Sent i) os r next ending k up at same h d rest =
     let P : Phase → Type 0 = λ p. SendsAt old.tc p h.0 mid.tc in
-    let redo = subst P at h.1 in
+    let redo = subst P at h.1.1 in
     let Q : Request → Type 0 = HasReply in
     let bounds = redoing_phase old next ending k at in
     let stop = stops old mid mid.tc h.0 i os r new up (subst Q (sym redo.request_is) (redo_replied old.tc.session redo.found)) h.2 rest in
     let S : TcView → Type 0 = λ tc. Stops old tc h.0 r in
     let R : Request → Type 0 = λ q. Stops old (redoing old.tc (redo_place old.tc.session redo.found) (not (is_some redo.found))) q r in
     stops_redo old next redo.found r k same (omega (arith, bounds.0, bounds.1)) redo.finds (subst R redo.request_is (subst S redo.left stop))
-want_recover old new mid out.Nothing os r next ending k up at same h d rest = let no : phase.Redoing next ending ≡ phase.Running = sym at ∙ h.0.0 in absurd (cc)
+want_recover old new mid out.Nothing os r next ending k up at same h d rest = let no : phase.Redoing next ending ≡ phase.Running = sym at ∙ h.0.1.0 in absurd (cc)
+want_recover old new mid (out.Compensated n) os r next ending k up at same h d rest = absurd (no_undoing old None k h.0.1.undoing)
+want_recover old new mid (out.Lost t) os r next ending k up at same h d rest = absurd (no_undoing old None k h.0.1.undoing)
 want_recover old new mid (out.Refused q) os r next ending k up at same h d rest = absurd d
 want_recover old new mid _ os r next ending k up at same h d rest = absurd h
 
@@ -267,7 +269,13 @@ wants old new round.Connect [] r k next (inr h) = reconnect_want old.tc r new.tc
 wants old new round.Connect (o ∷ os) r k next h = want_connect old new h.0 o os r k next.0 h.1 h.2 h.3
 wants old new round.Recover [] r k next (inl h) = inl h.0
 wants old new round.Recover [] r k next (inr h) =
-    let at = redoing_at old old.tc.phase refl next.1 in no_room (recover_refusal old.tc) (is_recovering old.tc.phase) r (rw at.2 refl) h.0
+    let at = redoing_at old old.tc.phase refl next.1 in
+    let none : recover_refusal old.tc ≡ None = rw at.2 refl in
+    let logs : Bool = undo_logs_at old.tc.phase in
+    elim h [
+      | inl room ↦ no_room (recover_refusal old.tc) (sends_at old.tc.phase) r none room.0
+      | inr refused ↦ want_refused logs logs old.tc r new.tc (subst (λ x. Refuses x logs logs old.tc r new.tc) none refused.0)
+    ]
 wants old new round.Recover (o ∷ os) r k next h = let at = redoing_at old old.tc.phase refl next.1 in want_recover old new h.0 o os r at.0 at.1 k next.0 at.2 next.2 h.1 h.2 h.3
 wants old new (round.Exchange t) [] r k next (inl h) = inl h.0
 wants old new (round.Exchange t) [] r k next (inr h) = no_cause (resend_refusal old.tc t) r (resends_any old.tc t k.tc next.0.running next.1) h.0

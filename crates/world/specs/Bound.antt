@@ -60,7 +60,7 @@ abbrev pub phase_rounds : List Record → ℕ → Phase → ℕ
 phase_rounds log s phase.Unconnected = requests_in 1 (length log + 1) log + 2
 phase_rounds log s phase.Connecting = requests_in 1 (length log + 1) log + 2
 phase_rounds log s (phase.Redoing next ending) = requests_in next s log + 1
-phase_rounds log s phase.Running = 0
+phase_rounds log s _ = 0
 
 -- a last force, where something isn't stable or will be logged
 abbrev pub is_busy : OpenTxn → Bool

@@ -21,7 +21,9 @@ use Rattle.tc_core.specs.declared.told.Told.{Told}
 use Rattle.tc_core.specs.declared.told.Told.TheVariants as told
 use Rattle.tc_core.specs.declared.told.UndoStep.TheVariants as undo
 use Rattle.tc_core.specs.declared.told.RecoverStep.TheVariants as recovery
-use Rattle.tc_core.specs.TcView.{TcView, fresh, is_recovering}
+use Rattle.tc_core.specs.declared.phase.Phase.{Phase}
+use Rattle.tc_core.specs.declared.phase.Phase.TheVariants as phase
+use Rattle.tc_core.specs.TcView.{TcView, fresh}
 use Rattle.tc_core.specs.Causes.{resend_refusal, running_refusal}
 use Rattle.tc_core.specs.Calls.{ReconnectGives, BeginGives, ActGives, ReadGives, SaveGives, BackGives, RollbackGives, CommitGives, UndoGives, ForceGives, ResendGives}
 use Rattle.tc_core.specs.Replies.{ReplyGives}
@@ -82,10 +84,20 @@ ReconnectsTo old (out.Connects i committed) new =
 ReconnectsTo old (out.Refused r) new = Calls (ReconnectGives old.tc (Err r)) old new
 ReconnectsTo old _ new = ⊥
 
+-- a step of recovery sends a request; where it undoes losers, the one that is awaited
+abbrev pub sends_at : Phase → Bool
+sends_at phase.Connecting = true
+sends_at (phase.Redoing next ending) = true
+sends_at (phase.Undoing (Some n)) = true
+sends_at _ = false
+
 abbrev pub RecoversTo : NodeView → Out → NodeView → Type 0
 RecoversTo old out.Nothing new = Calls (RecoverGives old.tc (Ok recovery.Nothing)) old new
 RecoversTo old (out.Sent i) new = (request : Request) × RecoverGives old.tc (Ok (recovery.Sends request)) new.tc × Sends old new.tc request i new
-RecoversTo old (out.Refused r) new = LacksRoom (recover_refusal old.tc) (is_recovering old.tc.phase) r × (new ≡ old)
+RecoversTo old (out.Compensated n) new = Calls (RecoverGives old.tc (Ok (recovery.Compensated n))) old new
+RecoversTo old (out.Lost t) new = Calls (RecoverGives old.tc (Ok (recovery.Lost t))) old new
+RecoversTo old (out.Refused r) new =
+    (LacksRoom (recover_refusal old.tc) (sends_at old.tc.phase) r × (new ≡ old)) ⊎ Calls (RecoverGives old.tc (Err r)) old new
 RecoversTo old _ new = ⊥
 
 abbrev pub BeginsTo : NodeView → Out → NodeView → Type 0

@@ -1,7 +1,7 @@
 -- The list machines that a node stands for, and runs of events.
 use Rattle.std.specs.Prelude.{◌≡◌, ℕ, ◌≤◌, true, false, List, [], ◌∷◌, Option, Some, None, IsSome, map}
 use Rattle.record_key.specs.declared.op.Op.{Op}
-use Rattle.history.specs.ListMachine.{Machine, Line, Query, OfKey, OfRange, Begins, Acts, TellsAnswer, Reads, TellsRow, TellsRows, Saves, GoesBack, TellsBack, RollsBack, TellsRolledBack, Commits, TellsCommitted, IsRefused, ToBegin, ToAct, ToRead, ToSave, ToGoBack, ToRollBack, ToCommit, Steps}
+use Rattle.history.specs.ListMachine.{Machine, Line, Query, OfKey, OfRange, Begins, Acts, TellsAnswer, Reads, TellsRow, TellsRows, Saves, GoesBack, TellsBack, RollsBack, TellsRolledBack, Commits, TellsCommitted, TellsLost, IsRefused, ToBegin, ToAct, ToRead, ToSave, ToGoBack, ToRollBack, ToCommit, Steps}
 use Rattle.history.specs.Log.{answer_of, Requests}
 use Rattle.simulation.specs.View.{View, Doing, Ready, Awaits, Looks, Rolls, StandsFor}
 use Rattle.range_locks.specs.declared.span.Span.{Span}
@@ -121,6 +121,8 @@ lines_of event.Checkpoint (out.Sent i) = Some []
 lines_of event.Checkpoint (out.Refused r) = Some []
 lines_of event.Recover (out.Sent i) = Some []
 lines_of event.Recover out.Nothing = Some []
+lines_of event.Recover (out.Compensated n) = Some []
+lines_of event.Recover (out.Lost t) = Some (TellsLost t ∷ [])
 lines_of event.Recover (out.Refused r) = Some []
 lines_of (event.CrashDc frames bytes) out.Down = Some []
 lines_of (event.CrashDc frames bytes) out.Nothing = Some []

@@ -130,6 +130,8 @@ pub enum Out {
     Merged(Neighbours),
     /// The leaf of this number was written.
     Flushed(u64),
+    /// A transaction that a crash found open is undone: its client is told that it is lost.
+    Lost(u64),
     /// The component doesn't run any more.
     Down,
     /// The component runs again, with so many leaves.

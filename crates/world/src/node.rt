@@ -1,7 +1,8 @@
 //! The two components, and the messages between them.
-ghost use Rattle.std.specs.Prelude.{◌≡◌, true, IfOk, IfErr};
-ghost use Rattle.world.specs.Node.{fresh_node, StepsTo, out_of, ReconnectsTo, RecoversTo, BeginsTo, ActsTo, ReadsTo, SavesTo, GoesBackTo, RollsBackTo, CommitsTo, UndoesTo, ForcesTo, SendsTo, LowersTo, AsksCheckpoint, ServesTo, TakesTo, IfUp, PartsTo, JoinsTo, KeepsUpTo, WritesTo, CrashesDcTo, RestartsDcTo, as_out, is_replied_to};
+ghost use Rattle.std.specs.Prelude.{◌≡◌, ◌&&◌, not, true, IfOk, IfErr};
+ghost use Rattle.world.specs.Node.{fresh_node, StepsTo, out_of, ReconnectsTo, RecoversTo, BeginsTo, ActsTo, ReadsTo, SavesTo, GoesBackTo, RollsBackTo, CommitsTo, UndoesTo, ForcesTo, SendsTo, LowersTo, AsksCheckpoint, ServesTo, TakesTo, IfUp, PartsTo, JoinsTo, KeepsUpTo, WritesTo, CrashesDcTo, RestartsDcTo, as_out, is_replied_to, sends_at};
 ghost use Rattle.dc_core.specs.Kept.{IsDc};
+ghost use Rattle.tc_core.specs.Recovery.{undo_unstable};
 ghost use Rattle.world.specs.Kept.{IsKept};
 ghost use Rattle.world.specs.Seen.{seen};
 
@@ -14,7 +15,7 @@ use range_locks::Span;
 use record_key::{Key, Op, Refusal};
 use stable::MemLog;
 use std::alloc::Global;
-use tc_core::{Connecting, Forced, RecoverStep, Tc, Told, UndoStep};
+use tc_core::{Connecting, Forced, Phase, RecoverStep, Tc, Told, UndoStep};
 
 /// A transaction component with its log in memory, a data component with its devices, and every message ever sent.
 #[derive(Drop)]
@@ -105,7 +106,7 @@ impl Node {
         ensures done { RecoversTo (seen self.old) (out_of result) (seen self.new) }
     {
         self.tc.kept();
-        if self.tc.phase().is_recovering() {
+        if sends(self.tc.phase(), self.tc.stable_end()) {
             self.requests.make_room()?;
         }
         match self.tc.recover_step()? {
@@ -114,6 +115,8 @@ impl Node {
                 self.requests.push_reserved(&request);
                 Ok(Out::Sent(self.requests.len()))
             }
+            RecoverStep::Compensated(number) => Ok(Out::Compensated(number)),
+            RecoverStep::Lost(txn) => Ok(Out::Lost(txn)),
         }
     }
 
@@ -309,6 +312,19 @@ impl Node {
             Some(leaves) => Out::Up(leaves as u64),
             None => Out::Nothing,
         })
+    }
+}
+
+/// Whether a step of recovery sends a request.
+fn sends(phase: Phase, stable_end: u64) -> bool
+    ensures { result ≡ (sends_at phase && not (undo_unstable phase stable_end)) }
+{
+    match phase {
+        Phase::Connecting | Phase::Redoing { .. } => true,
+        Phase::Undoing {
+            waiting: Some(number),
+        } => number <= stable_end,
+        Phase::Undoing { waiting: None } | Phase::Unconnected | Phase::Running => false,
     }
 }
 

@@ -155,6 +155,7 @@ fn outputs_of_messages(rt: HostRuntime) {
     assert_out(&rt, &Out::RedoEnded(4), "redo ended 4\n");
     assert_out(&rt, &Out::Undone(5), "undone 5\n");
     assert_out(&rt, &Out::CheckpointLogged(6), "checkpoint logged 6\n");
+    assert_out(&rt, &Out::Lost(2), "lost 2\n");
 }
 
 #[test]

@@ -1,5 +1,4 @@
-use Rattle.std.proofs.Common.{◌≡◌, ℕ, ◌<◌, true, false, is_some, Option, Some, None, refl, sym, ap, subst, ◌∙◌}
-use Rattle.record_key.specs.declared.op.Op.{Op}
+use Rattle.std.proofs.Common.{◌≡◌, ℕ, ◌<◌, is_some, refl, sym, ap, subst, ◌∙◌}
 use Rattle.history.specs.declared.record.Record.TheVariants.{Comp}
 use Rattle.history.specs.declared.record.Record.{Record}
 use Rattle.history.specs.Legal.{Fits}
@@ -13,7 +12,7 @@ use Rattle.tc_core.specs.TcView.{TcView}
 use Rattle.tc_core.specs.declared.open_txn.Rollback.{Rollback}
 use Rattle.tc_core.specs.Undoing.{MayStep, undo_next_in, has_inverse}
 use Rattle.tc_core.specs.Seen.{seen}
-use Rattle.tc_core.proofs.KeepsUndo.{fits_comp, is_comp, keeps_comp}
+use Rattle.tc_core.proofs.KeepsUndo.{fits_comp, is_comp, keeps_comp, waits_if, waits_not}
 use Rattle.tc_core.proofs.Numbers.{fits_numbers}
 use Rattle.tc_core.proofs.Refused.{happened}
 use Rattle.tc_core.proofs.UndoCauses.{refuses_step, makes, logs_comp, unspent_and}
@@ -32,14 +31,6 @@ it_is : (w : TcView) (t : ℕ) (b : Rollback) (may : MayStep w t b) (r : Record)
 it_is w t b may r k next =
     let at = may.found.at in
     let P : ℕ → Type 0 = λ n. Compensates w.log n b.above r in is_comp w may.open_txn b.above r k at.is (subst P (sym at.number) next)
-
-waits_if : (i : Option Op) (x : Option ℕ) (n : ℕ) → is_some i ≡ true → x ≡ Some n → x ≡ waits_for n i
-waits_if None x n h e = absurd (cc)
-waits_if (Some i) x n h e = e
-
-waits_not : (i : Option Op) (x : Option ℕ) (n : ℕ) → is_some i ≡ false → x ≡ None → x ≡ waits_for n i
-waits_not None x n h e = e
-waits_not (Some i) x n h e = absurd (cc)
 
 now : (g : _) (c : goal.After-change g)
     → seen (record c.args.self.now { log = c.append.new.self; open_txns = c.change.new.self }) ≡ compensated (seen c.args.self.now) c.requires.may_step.open_txn

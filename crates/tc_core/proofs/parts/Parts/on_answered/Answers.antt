@@ -1,9 +1,10 @@
 use Rattle.std.proofs.Common.{◌≡◌, ap, refl, sym, true, Some, ◌∙◌}
 use Rattle.std.specs.Option.{option_copied}
 use Rattle.tc_core.specs.declared.change.Change.TheVariants.{Answered}
+use Rattle.tc_core.specs.Changes.{answered}
 use Rattle.tc_core.specs.Replies.{awaiting, takes}
 use Rattle.tc_core.specs.Seen.{seen}
-use Rattle.tc_core.proofs.KeepsTc.{fits_answer, keeps_answer, awaited_is}
+use Rattle.tc_core.proofs.KeepsTc.{fits_answer, keeps_answer, keeps_passed, newly_answered, awaited_is}
 use Rattle.history.specs.declared.record.Record.TheVariants.{Answer}
 use Rattle.tc_core.proofs.Numbers.{fits_numbers}
 use Rattle.tc_core.proofs.Refused.{happened}
@@ -17,14 +18,16 @@ append-requires g c =
     let fits = fits_answer w o c.args.number c.copied.result c.requires at.0 at.1 in
     record { fits = fits; numbers = fits_numbers w.log (Answer c.args.number c.copied.result) c.requires.few.records fits }
 
-pub pass-requires-2-clause-kept : goal.pass-requires-2-clause-kept
-pass-requires-2-clause-kept g c =
+pub pass-requires-clause-kept : goal.pass-requires-clause-kept
+pass-requires-clause-kept g c =
     let w = seen c.args.self.now in
     let o = c.in-Some.opened.now in
     let at = awaited_is w c.args.number o (sym c.awaiting.ensures ∙ ap option_copied c.in-Some.is) in
     let appended = c.in_ok-append.ensures.appended in
     rw (happened w o.txn o Answered c.change.new.self (record { is = at.0; number = refl }) c.change.ensures, appended.log)
-    (keeps_answer w o c.args.number c.copied.result c.requires at.0 at.1 appended.unspent)
+    (keeps_passed (answered w o c.args.number c.copied.result) c.args.number (sym c.takes.ensures ∙ c.if-not-takes.false)
+    (λ q asks. newly_answered w.log c.args.number c.copied.result)
+    (keeps_answer w o c.args.number c.copied.result c.requires at.0 at.1 appended.unspent))
 
 pub returns-clause-gives : goal.returns-clause-gives
 returns-clause-gives g c =
@@ -39,7 +42,7 @@ returns-clause-gives g c =
       c.in-Some-answer.is,
       takes,
       appended.unspent,
-      c.pass-2.ensures.passed,
+      c.pass.ensures.passed,
       appended.log,
       c.copied.ensures,
       happened w o.txn o Answered c.change.new.self (record { is = at.0; number = refl }) c.change.ensures,

@@ -1,0 +1,27 @@
+-- What a log opens as is a transaction component, and one that may be opened on the log's bytes.
+use Rattle.std.proofs.Common.{◌≡◌, ℕ, ◌+◌, ◌-◌, List, [], ◌∷◌, refl, subst, arith, inr}
+use Rattle.history.specs.declared.record.Record.{Record}
+use Rattle.history.specs.Legal.{IsLatestOrNone}
+use Rattle.restart.specs.Plan.{IsCheckpointed}
+use Rattle.restart.proofs.Passing.{raised_more}
+use Rattle.tc_core.specs.Kept.{IsTc}
+use Rattle.tc_core.specs.Opening.{opened}
+use Rattle.tc_core.specs.Opened.{checkpointed_in, losers_of, locks_of, OpenedIsKept, OpenedIsOpened}
+use Rattle.tc_core.proofs.Opened.{opened_tc}
+use Rattle.tc_core.proofs.OpenedLosers.{are_losers}
+use Rattle.tc_core.proofs.OpenedLocks.{locks_open}
+
+checkpoints_found : (log : List Record) → IsLatestOrNone (IsCheckpointed log) (checkpointed_in log)
+checkpoints_found [] = inr (refl, λ l h. let e = h.1 in cc)
+checkpoints_found (r ∷ log) = raised_more r log (checkpointed_in log) (checkpoints_found log)
+
+pub opened_kept : OpenedIsKept
+opened_kept log failures legal few =
+    let P : ℕ → Type 0 = λ c. IsTc (opened log failures c (losers_of log) (locks_of log)) in
+    let same : (checkpointed_in log + 1) - 1 ≡ checkpointed_in log = omega arith in
+    subst P same
+    (opened_tc log failures (checkpointed_in log + 1) (losers_of log) (locks_of log) legal few (are_losers log legal) refl
+    (record { low = checkpointed_in log; greatest = checkpoints_found log; start_is = refl }) (locks_open log))
+
+pub opened_opened : OpenedIsOpened
+opened_opened bytes log failures is = record { log = is; losers = refl; is = refl }

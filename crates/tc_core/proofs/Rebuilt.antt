@@ -1,0 +1,109 @@
+-- The keys that are noted of open transactions, with one record more.
+use Rattle.std.proofs.Common.{◌≡◌, ℕ, ◌+◌, ◌<◌, length, arith, ◌==◌, Bool, true, false, List, [], ◌∷◌, ◌++◌, map, reverse, Option, Some, None, is_some, refl, sym, ap, ◌∙◌, subst, inl, inr, eq-eqb, eqb-true, ne_eqb}
+use Rattle.std.specs.Prelude.{filter, if◌then◌else◌}
+use Rattle.std.proofs.lemmas.Bool.{cases_eq}
+use Rattle.std.proofs.lemmas.List.{nil_from_length, reverse-append, map-append, append-nil}
+use Rattle.std.proofs.lemmas.List.Elements.{filter-append}
+use Rattle.record_key.specs.Table.{Bytes, key_of}
+use Rattle.history.specs.declared.record.Record.{Record}
+use Rattle.history.specs.declared.record.Record.TheVariants as is
+use Rattle.history.specs.Log.{record_at}
+use Rattle.history.specs.Legal.{IsLegal}
+use Rattle.history.specs.Spans.{Span, Exclusive, at_key}
+use Rattle.logical_log.specs.Low.{stable_part as first_part}
+use Rattle.logical_log.specs.Replay.{KeptOf, Follows}
+use Rattle.logical_log.proofs.Following.{follows}
+use Rattle.logical_log.proofs.Spelled.{has_record}
+use Rattle.log_laws.proofs.Records.{within}
+use Rattle.range_locks.specs.Rebuilt.{listed_spans}
+use Rattle.restart.proofs.Passing.{part_more, legal_part, length_part}
+use Rattle.tc_core.specs.Locking.{op_spans}
+use Rattle.tc_core.specs.Opening.{key_noted, spans_if}
+
+abbrev span_at : ℕ × Bytes → Span
+span_at e = at_key Exclusive e.1
+
+-- one that is listed last is the newest of its transaction
+listed_more : (keys : List (ℕ × Bytes)) (e : ℕ × Bytes) (t : ℕ)
+    → listed_spans (keys ++ e ∷ []) t ≡ (if t == e.0 then span_at e ∷ listed_spans keys t else listed_spans keys t)
+listed_more keys e t =
+    ap (λ es. reverse (map span_at es)) (filter-append (λ (x : ℕ × Bytes). t == x.0) keys (e ∷ []))
+    ∙ last (t == e.0)
+  where
+    so_far : List (ℕ × Bytes)
+    so_far = filter (λ (x : ℕ × Bytes). t == x.0) keys
+
+    last : (b : Bool) → reverse (map span_at (so_far ++ (if b then e ∷ [] else [])))
+        ≡ (if b then span_at e ∷ reverse (map span_at so_far) else reverse (map span_at so_far))
+    last true = ap reverse (map-append span_at so_far (e ∷ [])) ∙ reverse-append (map span_at so_far) (span_at e ∷ [])
+    last false = ap (λ es. reverse (map span_at es)) (append-nil so_far)
+
+-- the keys that are noted of the first records
+abbrev pub AreNoted : List Record → ℕ → List (ℕ × Bytes) → (ℕ → Option ℕ) → Type 0
+AreNoted log end keys noted = (t : ℕ) → listed_spans keys t ≡ spans_if (noted t) (op_spans (first_part log end) t)
+
+noted_next : (r : Record) (part : List Record) (keys : List (ℕ × Bytes)) (noted : ℕ → Option ℕ)
+    → ((t : ℕ) → listed_spans keys t ≡ spans_if (noted t) (op_spans part t))
+    → (t : ℕ) → listed_spans (keys ++ key_noted r noted) t ≡ spans_if (noted t) (op_spans (r ∷ part) t)
+noted_next (is.Op u p o) part keys noted h t = pick (noted u) refl
+  where
+    same_if : (b : Bool) → (u ≡ t → ⊥) → (t == u) ≡ b → spans_if (noted t) (if b then at_key Exclusive (key_of o) ∷ op_spans part t else op_spans part t)
+        ≡ spans_if (noted t) (op_spans part t)
+    same_if true apart test = absurd (apart (sym (eqb-true t u test)))
+    same_if false apart test = refl
+
+    pick : (x : Option ℕ) → noted u ≡ x
+        → listed_spans (keys ++ (if is_some (noted u) then (u, key_of o) ∷ [] else [])) t ≡ spans_if (noted t) (op_spans (is.Op u p o ∷ part) t)
+    pick (Some n) at =
+        rw at (listed_more keys (u, key_of o) t ∙ elim (cases_eq t u) [
+          | inl same ↦
+              let there : noted t ≡ Some n = ap noted same ∙ at in
+              rw (eq-eqb t u same, there) (ap (λ spans. at_key Exclusive (key_of o) ∷ spans) (h t ∙ ap (λ x. spans_if x (op_spans part t)) there))
+          | inr apart ↦ rw (ne_eqb t u apart) (h t)
+        ])
+    pick None at =
+        rw at (ap (λ ks. listed_spans ks t) (append-nil keys) ∙ h t ∙ elim (cases_eq t u) [
+          | inl same ↦ let none : noted t ≡ None = ap noted same ∙ at in rw none refl
+          | inr apart ↦ rw (ne_eqb t u apart) refl
+        ])
+noted_next r part keys noted h t = ap (λ ks. listed_spans ks t) (append-nil keys) ∙ h t
+
+pub noted_more : (log : List Record) (end : ℕ) (r : Record) (keys new : List (ℕ × Bytes)) (noted : ℕ → Option ℕ)
+    → record_at log (end + 1) ≡ Some r → new ≡ keys ++ key_noted r noted → AreNoted log end keys noted → AreNoted log (end + 1) new noted
+noted_more log end r keys new noted stands is h t =
+    ap (λ ks. listed_spans ks t) is ∙ noted_next r (first_part log end) keys noted h t
+    ∙ ap (λ p. spans_if (noted t) (op_spans p t)) (sym (part_more log end r stands))
+
+pub noted_none : (log : List Record) (noted : ℕ → Option ℕ) → AreNoted log 0 [] noted
+noted_none log noted t =
+    let none : first_part log 0 ≡ [] = nil_from_length (first_part log 0) (length_part log 0 (omega arith)) in
+    rw none (nothing (noted t))
+  where
+    nothing : (x : Option ℕ) → [] ≡ spans_if x []
+    nothing None = refl
+    nothing (Some n) = refl
+
+-- the transactions that are noted as open in the first records
+abbrev pub AreKept : List Record → ℕ → (ℕ → Option ℕ) → Type 0
+AreKept log end noted = (t : ℕ) → KeptOf (first_part log end) t (noted t)
+
+pub kept_none : (log : List Record) (noted : ℕ → Option ℕ) → ((t : ℕ) → noted t ≡ None) → AreKept log 0 noted
+kept_none log noted nobody t =
+    let none : first_part log 0 ≡ [] = nil_from_length (first_part log 0) (length_part log 0 (omega arith)) in
+    let P : List Record → Type 0 = λ p. KeptOf p t (noted t) in
+    subst P (sym none) (subst (KeptOf [] t) (sym (nobody t)) (λ opened. let begun = opened.begun in cc))
+
+pub kept_more : (log : List Record) (end : ℕ) (r : Record) (old new : ℕ → Option ℕ) → IsLegal log → record_at log (end + 1) ≡ Some r
+    → Follows r (end + 1) old new → AreKept log end old → AreKept log (end + 1) new
+kept_more log end r old new legal stands follow h t =
+    let number = within (λ x. x ≡ Some r) (λ f. cc) log (end + 1) stands in
+    let part : first_part log (end + 1) ≡ r ∷ first_part log end = part_more log end r stands in
+    let legal_now : IsLegal (r ∷ first_part log end) = subst IsLegal part (legal_part log (end + 1) legal) in
+    let P : ℕ → Type 0 = λ n. Follows r (n + 1) old new in
+    let Q : List Record → Type 0 = λ p. KeptOf p t (new t) in
+    subst Q (sym part) (follows r (first_part log end) old new legal_now.1 legal_now.0
+    (subst P (sym (length_part log end (omega (arith, number.bounded)))) follow) h t)
+
+-- all records were read
+pub none_past : (log : List Record) (end : ℕ) → end < length log → record_at log (end + 1) ≡ None → ⊥
+none_past log end there none = let has = has_record log (end + 1) (omega arith) (omega (arith, there)) in let some = has.1 in cc

@@ -1,0 +1,20 @@
+use Rattle.std.proofs.Common.{true, false, subst, arith, sym, true≢false, refl}
+use Rattle.tc_core.specs.declared.phase.Phase.{Phase}
+use Rattle.tc_core.specs.Kept.{IsPhase}
+use Rattle.tc_core.specs.Seen.{seen}
+use Rattle.tc_core.proofs.KeepsLost.{keeps_redoing}
+use Rattle.tc_core.proofs.parts.Parts.redo.Goals as goal
+
+pub returns-in-Some-clause-kept : goal.returns-in-Some-clause-kept
+returns-in-Some-clause-kept g c =
+    let w = seen c.args.self.now in
+    let found = c.in-Some.ensures in
+    let at = c.requires.redoing in
+    keeps_redoing w c.requires.kept c.args.next at.0 c.in-Some.number false at.1 found.0 (omega (arith, found.1)) (λ e. absurd (true≢false (sym e))) found.3
+
+pub returns-in-None-clause-kept : goal.returns-in-None-clause-kept
+returns-in-None-clause-kept g c =
+    let w = seen c.args.self.now in
+    let at = c.requires.redoing in
+    let P : Phase → Type 0 = IsPhase w.checkpointed w.session in
+    keeps_redoing w c.requires.kept c.args.next at.0 w.session true at.1 (subst P at.1 c.requires.kept.phase).1 (omega arith) (λ e. refl) c.in-None.ensures

@@ -1,0 +1,71 @@
+-- What a log opens as, with its losers in one order.
+use Rattle.std.specs.Prelude.{ℕ, ◌+◌, ◌≤◌, ◌==◌, Bool, not, List, [], ◌∷◌, length, map, filter, if◌then◌else◌}
+use Rattle.history.specs.declared.record.Record.{Record}
+use Rattle.history.specs.declared.record.Record.TheVariants as is
+use Rattle.history.specs.Log.{record_at, has_ended, step_of}
+use Rattle.history.specs.Legal.{IsLegal}
+use Rattle.log_laws.specs.Laws.{undo_from}
+use Rattle.logical_log.specs.Opening.{IsLogOf}
+use Rattle.range_locks.specs.Locks.{LocksView, set_spans}
+use Rattle.restart.specs.declared.loser.Loser.{Loser}
+use Rattle.restart.specs.Losers.{LosersView}
+use Rattle.restart.specs.Plan.{raised_by}
+use Rattle.tc_core.specs.Locking.{op_spans}
+use Rattle.tc_core.specs.Opening.{opened, IsOpened}
+use Rattle.tc_core.specs.Replies.{is_number}
+use Rattle.tc_core.specs.TcView.{TcView}
+use Rattle.tc_core.specs.Kept.{IsTc}
+
+-- the greatest number that a Checkpoint record names, 0 if none
+abbrev pub checkpointed_in : List Record → ℕ
+checkpointed_in [] = 0
+checkpointed_in (r ∷ log) = raised_by r (checkpointed_in log)
+
+-- the transactions that began, and those of them that are open, the newest first
+abbrev pub begun_in : List Record → List ℕ
+begun_in [] = []
+begun_in (is.Begin ∷ log) = (length log + 1) ∷ begun_in log
+begun_in (r ∷ log) = begun_in log
+
+abbrev pub open_in : List Record → List ℕ
+open_in log = filter (λ t. not (has_ended log t)) (begun_in log)
+
+-- a transaction's latest Op or Comp record, 0 if it has none
+abbrev pub last_in : List Record → ℕ → ℕ
+last_in [] t = 0
+last_in (r ∷ log) t = if is_number (step_of r) t then length log + 1 else last_in log t
+
+-- what it has left to undo
+abbrev pub loser_in : List Record → ℕ → Loser
+loser_in log t = record { left = undo_from (record_at log (last_in log t)) (last_in log t); txn = t; last = last_in log t }
+
+abbrev pub is_undone : List Record → ℕ → Bool
+is_undone log t = (loser_in log t).left == 0
+
+-- each open transaction is a loser, and holds the keys of its operations
+abbrev pub losers_of : List Record → LosersView
+losers_of log = record {
+  below = length log + 1;
+  undoing = map (loser_in log) (filter (λ t. not (is_undone log t)) (open_in log));
+  done = filter (is_undone log) (open_in log);
+}
+
+abbrev pub locks_in : List Record → List ℕ → LocksView
+locks_in log [] = []
+locks_in log (t ∷ ts) = set_spans t (op_spans log t) (locks_in log ts)
+
+abbrev pub locks_of : List Record → LocksView
+locks_of log = locks_in log (open_in log)
+
+-- the log's device has failed so often
+abbrev pub opens_as : List Record → ℕ → TcView
+opens_as log failures = opened log failures (checkpointed_in log) (losers_of log) (locks_of log)
+
+-- it is a transaction component, and one that may be opened on the log's bytes
+abbrev pub OpenedIsKept : Type 0
+OpenedIsKept =
+    (log : List Record) (failures : ℕ) → IsLegal log → length log ≤ 281474976710655 → IsTc (opens_as log failures)
+
+abbrev pub OpenedIsOpened : Type 0
+OpenedIsOpened =
+    (bytes : List ℕ) (log : List Record) (failures : ℕ) → IsLogOf bytes log → IsOpened bytes failures (opens_as log failures)

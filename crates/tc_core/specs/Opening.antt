@@ -1,0 +1,58 @@
+-- What a component is that was opened on what a crash left.
+use Rattle.std.specs.Prelude.{◌≡◌, ◌⊎◌, ℕ, ◌+◌, List, [], ◌∷◌, Option, Some, None, is_some, length, if◌then◌else◌}
+use Rattle.record_key.specs.Table.{Bytes, key_of}
+use Rattle.history.specs.declared.record.Record.{Record}
+use Rattle.history.specs.declared.record.Record.TheVariants as is
+use Rattle.history.specs.Log.{IsOpen}
+use Rattle.history.specs.Spans.{Span}
+use Rattle.range_locks.specs.Locks.{LocksView, spans_of, IsTable}
+use Rattle.logical_log.specs.Opening.{IsLogOf}
+use Rattle.logical_log.specs.Spelled.{spelled}
+use Rattle.restart.specs.Losers.{LosersView}
+use Rattle.tc_core.specs.declared.phase.Phase.TheVariants.{Unconnected}
+use Rattle.tc_core.specs.Locking.{op_spans}
+use Rattle.tc_core.specs.TcView.{TcView}
+
+-- the key of an operation of a transaction that is noted as open, with that transaction
+abbrev pub key_noted : Record → (ℕ → Option ℕ) → List (ℕ × Bytes)
+key_noted (is.Op t p o) noted = if is_some (noted t) then (t, key_of o) ∷ [] else []
+key_noted _ noted = []
+
+-- who isn't noted holds nothing
+abbrev pub spans_if : Option ℕ → List Span → List Span
+spans_if None spans = []
+spans_if (Some n) spans = spans
+
+-- each open transaction of the log holds the keys of its operations, and nobody else anything
+pub record HoldsOpen (log : List Record) (locks : LocksView) : Type 0 where
+  pub table : IsTable locks
+  pub own : (t : ℕ) → IsOpen log t → spans_of locks t ≡ op_spans log t
+  pub none : (t : ℕ) → (IsOpen log t → ⊥) → spans_of locks t ≡ []
+
+-- all of the log is stable; nobody is connected, and no transaction is open
+abbrev pub opened : List Record → ℕ → ℕ → LosersView → LocksView → TcView
+opened log failures checkpointed losers locks = record {
+  log = log;
+  stable = length log;
+  failures = failures;
+  session = 0;
+  phase = Unconnected;
+  reads = 0;
+  announced = 0;
+  checkpointing = None;
+  checkpointed = checkpointed;
+  open_txns = [];
+  committing = [];
+  losers = losers;
+  locks = locks;
+}
+
+-- its log is that of the whole frames, and whoever is open in the log is a loser
+pub record IsOpened (bytes : List ℕ) (failures : ℕ) (w : TcView) : Type 0 where
+  pub log : IsLogOf bytes w.log
+  pub losers : w.losers.below ≡ length w.log + 1
+  pub is : w ≡ opened w.log failures w.checkpointed w.losers w.locks
+
+-- the bytes are as they were, or a cut last frame is cut off
+abbrev pub AreLeft : List ℕ → List ℕ → Type 0
+AreLeft bytes left = (left ≡ bytes) ⊎ ((log : List Record) × IsLogOf bytes log × (left ≡ spelled log))

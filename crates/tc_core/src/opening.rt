@@ -1,0 +1,173 @@
+//! Opening what a crash left.
+ghost use Rattle.std.specs.Prelude.{◌≡◌, ◌++◌, ◌+◌, ℕ, Some, [], length, IfOk, IfErr, OnOk};
+ghost use Rattle.std.specs.BTreeMap.{get};
+ghost use Rattle.std.specs.Ordering.{nat_cmp};
+ghost use Rattle.record_key.specs.FirstCause.{failures_of};
+ghost use Rattle.stable.specs.Crash.{BeginsWith};
+ghost use Rattle.history.specs.Log.{record_at};
+ghost use Rattle.logical_log.specs.Low.{stable_part};
+ghost use Rattle.logical_log.specs.Opening.{RefusesOpen};
+ghost use Rattle.logical_log.specs.Replay.{KeptOf, Follows};
+ghost use Rattle.logical_log.specs.Spelled.{spelled};
+ghost use Rattle.range_locks.specs.Rebuilt.{listed_spans};
+ghost use Rattle.restart.specs.Losers.{AreLosers};
+ghost use Rattle.restart.specs.Plan.{IsRedoStart};
+ghost use Rattle.tc_core.specs.Locking.{op_spans};
+ghost use Rattle.tc_core.specs.Opening.{key_noted, spans_if, HoldsOpen, IsOpened, AreLeft};
+ghost use Rattle.tc_core.specs.Kept.{IsTc};
+ghost use Rattle.tc_core.specs.Seen.{seen};
+
+use crate::lost::Lost;
+use crate::open_txns::OpenTxns;
+use crate::parts::Parts;
+use crate::phase::Phase;
+use history::Record;
+use logical_log::{Log, Refused};
+use range_locks::RangeLocks;
+use record_key::{Key, Refusal};
+use restart::{Plan, analyse};
+use stable::LogDevice;
+use std::alloc::{AllocError, Global};
+use std::collections::BTreeMap;
+
+impl<D: LogDevice> Parts<D> {
+    pub fn open(alloc: Global, device: D) -> Result<Parts<D>, Refused<D>>
+        requires all_forced { D.pending device ≡ [] }
+        ensures kept { IfOk result (λ parts. IsTc (seen parts)) }
+        ensures opened { IfOk result (λ parts. IsOpened (D.forced device) (D.failures device) (seen parts)) }
+        ensures refused { IfErr result (λ left. RefusesOpen (D.forced device) left.refusal) }
+        ensures left { IfErr result (λ left. AreLeft (D.forced device) (D.forced left.device)) }
+        ensures none_pending { IfErr result (λ left. D.pending left.device ≡ []) }
+        ensures told { IfErr result (λ left. D.failures left.device ≡ D.failures device + failures_of left.refusal) }
+    {
+        let log = match Log::open(alloc, device) {
+            Ok(log) => log,
+            Err(refused) => return Err(refused),
+        };
+        match found(alloc, &log) {
+            Ok((plan, locks)) => Ok(Parts {
+                log,
+                session: 0,
+                phase: Phase::Unconnected,
+                reads: 0,
+                announced: 0,
+                checkpointing: None,
+                checkpointed: plan.redo_start - 1,
+                open_txns: OpenTxns::new(alloc),
+                committing: Vec::new(alloc),
+                losers: Lost::found(plan.losers),
+                locks,
+            }),
+            Err(refusal) => Err(Refused {
+                refusal,
+                device: log.stop(),
+            }),
+        }
+    }
+
+    pub fn stop(self) -> D
+        ensures holds { D.forced result ++ D.pending result ≡ spelled self.log.records }
+        ensures forced { BeginsWith (D.forced result) (spelled (stable_part self.log.records self.log.stable)) }
+        ensures failures { D.failures result ≡ self.log.failures }
+    {
+        self.log.stop()
+    }
+}
+
+/// What the log says, and the locks of its losers. Refused NoMemory alone.
+fn found<D: LogDevice>(alloc: Global, log: &Log<D>) -> Result<(Plan, RangeLocks), Refusal>
+    ensures losers { IfOk result (λ found. AreLosers log.now.records found.0.losers) }
+    ensures all { IfOk result (λ found. found.0.losers.below ≡ length log.now.records + 1) }
+    ensures redo { IfOk result (λ found. IsRedoStart log.now.records found.0.redo_start) }
+    ensures held { IfOk result (λ found. HoldsOpen log.now.records found.1) }
+    ensures refused { IfErr result (λ refusal. refusal ≡ Refusal.NoMemory) }
+{
+    let plan = analyse(alloc, log)?;
+    let open_txns = read_open(alloc, log)?;
+    let locks = held(alloc, log, &open_txns)?;
+    Ok((plan, locks))
+}
+
+/// The open transactions of the log, each with its latest step.
+fn read_open<D: LogDevice>(alloc: Global, log: &Log<D>) -> Result<BTreeMap<u64, u64>, AllocError>
+    ensures { IfOk result (λ open_txns. (t : ℕ) → KeptOf log.now.records t (get nat_cmp open_txns t)) }
+{
+    let mut open_txns = BTreeMap::new(alloc);
+    for end in 0..log.len() {
+        match log.record(end + 1) {
+            Some(found) => follow(&mut open_txns, &found, end + 1)?,
+            None => unreachable!(),
+        }
+    }
+    Ok(open_txns)
+}
+
+/// Notes what the record of this number changes of the open transactions.
+fn follow(open_txns: &mut BTreeMap<u64, u64>, found: &Record, number: u64) -> Result<(), AllocError>
+    ensures { OnOk result (Follows found.now number (get nat_cmp open_txns.old) (get nat_cmp open_txns.new)) }
+{
+    match found {
+        Record::Begin => {
+            open_txns.insert(number, 0)?;
+        }
+        Record::Op { txn, .. } | Record::Comp { txn, .. } => {
+            open_txns.insert(*txn, number)?;
+        }
+        Record::Commit { txn } | Record::End { txn } => {
+            open_txns.remove(txn);
+        }
+        _ => {}
+    }
+    Ok(())
+}
+
+/// The keys of these transactions' operations, compensated or not, each with its transaction.
+fn keys_of<D: LogDevice>(
+    alloc: Global,
+    log: &Log<D>,
+    open_txns: &BTreeMap<u64, u64>,
+) -> Result<Vec<(u64, Key)>, AllocError>
+    ensures { IfOk result (λ keys. (t : ℕ) → listed_spans keys.items t ≡ spans_if (get nat_cmp open_txns.now t) (op_spans log.now.records t)) }
+{
+    let mut keys = Vec::new(alloc);
+    for end in 0..log.len() {
+        match log.record(end + 1) {
+            Some(found) => note_key(&mut keys, open_txns, &found)?,
+            None => unreachable!(),
+        }
+    }
+    Ok(keys)
+}
+
+/// Notes the key that the record's operation is on, where its transaction is open.
+fn note_key(
+    keys: &mut Vec<(u64, Key)>,
+    open_txns: &BTreeMap<u64, u64>,
+    found: &Record,
+) -> Result<(), AllocError>
+    ensures { OnOk result (keys.new.items ≡ keys.old.items ++ key_noted found.now (get nat_cmp open_txns.now)) }
+{
+    let Record::Op { txn, op, .. } = found else {
+        return Ok(());
+    };
+    if open_txns.contains_key(txn) {
+        keys.push((*txn, op.key().copied()))?;
+    }
+    Ok(())
+}
+
+/// The locks of these transactions. Refused NoMemory alone.
+fn held<D: LogDevice>(
+    alloc: Global,
+    log: &Log<D>,
+    open_txns: &BTreeMap<u64, u64>,
+) -> Result<RangeLocks, Refusal>
+    requires { (t : ℕ) → KeptOf log.now.records t (get nat_cmp open_txns.now t) }
+    ensures held { IfOk result (HoldsOpen log.now.records) }
+    ensures refused { IfErr result (λ refusal. refusal ≡ Refusal.NoMemory) }
+{
+    let keys = keys_of(alloc, log, open_txns)?;
+    let mut locks = RangeLocks::new(alloc);
+    locks.rebuild(keys.as_slice())?;
+    Ok(locks)
+}
