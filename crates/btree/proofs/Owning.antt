@@ -1,5 +1,5 @@
 -- Each leaf is that of the keys in its fences; and the leaf that a split or a merge puts in place is among the leaves.
-use Rattle.std.proofs.Common.{◌≡◌, ℕ, ◌+◌, true, false, zero, suc, List, [], ◌∷◌, Option, Some, None, refl, sym, ◌∙◌, subst, arith, inl, inr, true≢false, get_or}
+use Rattle.std.proofs.Common.{◌≡◌, ℕ, ◌+◌, true, false, zero, suc, List, [], ◌∷◌, Option, Some, None, refl, sym, subst, arith, inl, inr, true≢false, get_or}
 use Rattle.std.specs.List.{AllByRecursion}
 use Rattle.std.proofs.lemmas.Bool.{not-true, and_parts, and_right}
 use Rattle.record_key.specs.Table.{Bytes}

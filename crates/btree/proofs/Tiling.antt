@@ -1,6 +1,5 @@
 -- Leaves that divide all keys among them, from the first of them on.
-use Rattle.std.proofs.Common.{◌≡◌, ◌⊎◌, ◌<◌, true, false, List, [], ◌∷◌, length, Option, Some, None, MatchOption, refl, ap, ◌∙◌, subst, arith, inl, inr}
-use Rattle.std.specs.Prelude.{not}
+use Rattle.std.proofs.Common.{◌≡◌, ◌⊎◌, ◌<◌, true, false, List, [], ◌∷◌, length, Option, Some, None, MatchOption, refl, ◌∙◌, subst, arith, inl, inr}
 use Rattle.std.proofs.lemmas.Bool.{cases_Bool, and_parts, not_from_false, not-true, and_right}
 use Rattle.record_key.specs.Table.{Bytes}
 use Rattle.record_key.specs.Order.{is_below, starts_at_most, ends_above}

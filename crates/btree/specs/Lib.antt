@@ -4,3 +4,7 @@ pub mod Performs
 pub mod TreeLaw
 pub mod Lists
 pub mod Steps
+pub mod Nodes
+pub mod Below
+pub mod Falls
+pub mod Finding

@@ -38,7 +38,7 @@ fn ends_at_most(leaf: &Leaf, key: &Key) -> bool
 }
 
 /// Whether no key of the leaf is below the end of a range, where it has one.
-fn begins_past(leaf: &Leaf, high: Option<&Key>) -> bool
+pub fn begins_past(leaf: &Leaf, high: Option<&Key>) -> bool
     ensures { result ≡ is_past leaf.now.low_fence (option_copied high.entry) }
 {
     match (leaf.low_fence(), high) {

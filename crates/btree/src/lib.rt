@@ -12,12 +12,14 @@ mod leaf_set;
 mod list;
 mod parting;
 mod planning;
+mod tree;
 
 pub use laws::{tree_law, tree_undo_law};
 pub use leaf_set::{LeafSet, one_leaf};
 pub use list::LeafList;
 pub use parting::{Merge, Split};
 pub use planning::{may_merge, may_split, merge_at, plan_merge, plan_split, split_at};
+pub use tree::Tree;
 
 #[cfg(test)]
 mod tests;

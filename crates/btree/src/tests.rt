@@ -1,4 +1,5 @@
 //! Leaves in a list beside a plain slow program, over calls in a fixed mixed order.
+mod both;
 mod plain_leaves;
 
 use super::*;
@@ -184,20 +185,49 @@ fn new_leaves<L: LeafSet, R: Abort>(rt: &R, alloc: Global) -> Result<L, Fail> {
     }
 }
 
-#[test]
-fn as_the_plain_program(rt: HostRuntime) -> Result<(), Fail> {
-    let mut leaves: LeafList = new_leaves(&rt, rt.alloc())?;
-    let mut plain = PlainLeaves::new(rt.alloc());
+/// So many calls on leaves and in the plain program; gives how many leaves there were at most.
+fn plain_calls<L: LeafSet, R: Abort>(
+    rt: &R,
+    leaves: &mut L,
+    plain: &mut PlainLeaves,
+    calls: u64,
+) -> Result<usize, Fail> {
     let mut seed = 5u64;
     let mut last = 0u64;
     let mut most = 0usize;
-    for _ in 0..300 {
+    for _ in 0..calls {
         seed = next(seed);
-        last = step(&rt, &mut leaves, &mut plain, last, seed / 65536)?;
-        expect_leaves(&rt, &leaves, &plain);
+        last = step(rt, leaves, plain, last, seed / 65536)?;
+        expect_leaves(rt, leaves, plain);
         most = most.max(leaves.len());
     }
+    Ok(most)
+}
+
+#[test]
+fn list_as_the_plain_program(rt: HostRuntime) -> Result<(), Fail> {
+    let mut leaves: LeafList = new_leaves(&rt, rt.alloc())?;
+    let mut plain = PlainLeaves::new(rt.alloc());
+    let most = plain_calls(&rt, &mut leaves, &mut plain, 300)?;
     assert!(rt; most > 4);
+    Ok(())
+}
+
+#[test]
+fn tree_as_the_plain_program(rt: HostRuntime) -> Result<(), Fail> {
+    let mut leaves: Tree = new_leaves(&rt, rt.alloc())?;
+    let mut plain = PlainLeaves::new(rt.alloc());
+    let most = plain_calls(&rt, &mut leaves, &mut plain, 300)?;
+    assert!(rt; most > 4);
+    Ok(())
+}
+
+#[test]
+fn tree_as_the_list(rt: HostRuntime) -> Result<(), Fail> {
+    let mut list: LeafList = new_leaves(&rt, rt.alloc())?;
+    let mut tree: Tree = new_leaves(&rt, rt.alloc())?;
+    let most = both::same_calls(&rt, &mut list, &mut tree, 4000, 9)?;
+    assert!(rt; most > 64);
     Ok(())
 }
 

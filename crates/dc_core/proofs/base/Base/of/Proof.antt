@@ -28,8 +28,8 @@ use denote.Triple.Spec.{Meets, triple_of}
 use denote.Triple.Table.{entered}
 use denote.Triple.Walked.{says, Stays, stay_dropped, Goes-dropped, ends_at, walked, walk_Meets}
 use Rattle.btree.specs.Leaves.{rows_of}
-use Rattle.btree.specs.contracts.list.LeafList as L
-use Rattle.btree.specs.contracts.list.LeafListLeafSet.TheImpl as leaf_set
+use Rattle.btree.specs.contracts.tree.Tree as L
+use Rattle.btree.specs.contracts.tree.TreeLeafSet.TheImpl as leaf_set
 use Rattle.stable.specs.contracts.mem_log.MemLog as D
 use Rattle.stable.specs.contracts.mem_log.MemLogLogDevice.TheImpl as log_device
 use Rattle.stable.specs.contracts.mem_pages.MemPages as P

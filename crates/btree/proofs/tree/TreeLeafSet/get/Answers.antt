@@ -1,0 +1,15 @@
+use Rattle.std.proofs.Common.{ap, ◌∙◌}
+use Rattle.std.specs.FinMap as map
+use Rattle.page.specs.Leaf.{LeafView}
+use Rattle.btree.specs.Leaves.{leaf_at}
+use Rattle.btree.specs.Lists.{ListView}
+use Rattle.btree.proofs.Among.{leaf_found}
+use Rattle.btree.proofs.tree.TreeLeafSet.get.Goals as goal
+
+pub returns : goal.returns
+returns c =
+    let k = c.args.key.now in
+    let leaf = c.leaf_of.ensures in
+    c.get.ensures
+    ∙ ap (λ (l : LeafView). map.get l.rows k) (leaf.is ∙ leaf_found c.self.inside.root.leaves k leaf.place c.self.invariant.0 leaf.at)
+    ∙ ap (λ (t : ListView). map.get (leaf_at t.leaves k).rows k) c.self.view_is

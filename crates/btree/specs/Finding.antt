@@ -1,0 +1,30 @@
+-- Where a place or a key is found, among leaves and among nodes.
+use Rattle.std.specs.Prelude.{◌≡◌, ℕ, suc, ◌+◌, ◌<◌, true, false, List, length, get_or, take}
+use Rattle.record_key.specs.Table.{Bytes}
+use Rattle.record_key.specs.Order.{starts_at_most}
+use Rattle.page.specs.Leaf.{LeafView, first}
+use Rattle.btree.specs.Nodes.{NodeView, nothing, under, low_of}
+
+-- a place among leaves is this one in the i-th of the nodes that hold them
+pub record IsIn (nodes : List NodeView) (place i rest : ℕ) : Type 0 where
+  pub there : i < length nodes
+  pub within : rest < length (get_or nodes i nothing).leaves
+  pub is : place ≡ length (under (take i nodes)) + rest
+
+-- the i-th of some nodes begins at the key or below, and the next one above it
+pub record IsNodeOf (nodes : List NodeView) (k : Bytes) (i : ℕ) : Type 0 where
+  pub there : i < length nodes
+  pub starts : 0 < i → starts_at_most (low_of (get_or nodes i nothing).leaves) k ≡ true
+  pub ends : suc i < length nodes → starts_at_most (low_of (get_or nodes (suc i) nothing).leaves) k ≡ false
+
+-- the leaf at a place begins at the key or below, and the next one above it
+pub record IsPlaceOf (leaves : List LeafView) (k : Bytes) (p : ℕ) : Type 0 where
+  pub there : p < length leaves
+  pub starts : 0 < p → starts_at_most (get_or leaves p first).low_fence k ≡ true
+  pub ends : suc p < length leaves → starts_at_most (get_or leaves (suc p) first).low_fence k ≡ false
+
+-- the leaf that stands at such a place
+pub record IsLeafOf (leaves : List LeafView) (k : Bytes) (leaf : LeafView) : Type 0 where
+  pub place : ℕ
+  pub at : IsPlaceOf leaves k place
+  pub is : leaf ≡ get_or leaves place first

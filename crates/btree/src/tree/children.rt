@@ -1,0 +1,61 @@
+//! Nodes beside one another, at one depth.
+ghost use Rattle.std.specs.Prelude.{◌≡◌, ◌+◌, ◌<◌, ◌^◌, length, take};
+ghost use Rattle.btree.specs.Nodes.{AreChildren, height_in, low_of, under};
+ghost use Rattle.btree.specs.Finding.{IsIn, IsNodeOf};
+
+use super::node::Node;
+use record_key::Key;
+
+/// How many leaves are below them.
+pub fn count_in(nodes: &[Node]) -> usize
+    requires { length (under nodes.now) < 2 ^ 64 }
+    ensures { result ≡ length (under nodes.now) }
+{
+    let mut count = 0;
+    for node in nodes {
+        count += node.count();
+    }
+    count
+}
+
+/// Where the first leaf below them begins.
+pub fn low_in(nodes: &[Node]) -> Option<Key>
+    requires { AreChildren (height_in nodes.now) nodes.now }
+    ensures { result ≡ low_of (under nodes.now) }
+{
+    if nodes.is_empty() {
+        None
+    } else {
+        nodes[0].low().map(|fence| fence.copied())
+    }
+}
+
+/// The node in which a place among the leaves lies, and the place there.
+pub fn node_at(nodes: &[Node], place: usize) -> (usize, usize)
+    requires { place < length (under nodes.now) }
+    ensures { IsIn nodes.now place result.0 result.1 }
+{
+    let mut i = 0;
+    let mut rest = place;
+    while rest >= nodes[i].count() {
+        rest -= nodes[i].count();
+        i += 1;
+    }
+    (i, rest)
+}
+
+/// The node below which the key's leaf lies, and how many leaves lie before it.
+pub fn node_of(nodes: &[Node], key: &Key) -> (usize, usize)
+    requires some { 0 < length nodes.now }
+    requires counted { length (under nodes.now) < 2 ^ 64 }
+    ensures node { IsNodeOf nodes.now key.now result.0 }
+    ensures before { result.1 ≡ length (under (take result.0 nodes.now)) }
+{
+    let mut i = 0;
+    let mut before = 0;
+    while i + 1 < nodes.len() && nodes[i + 1].begins_at_most(key) {
+        before += nodes[i].count();
+        i += 1;
+    }
+    (i, before)
+}
