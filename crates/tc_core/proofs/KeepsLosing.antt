@@ -23,12 +23,13 @@ use Rattle.tc_core.specs.declared.phase.Phase.{Phase}
 use Rattle.tc_core.specs.declared.phase.Phase.TheVariants as phase
 use Rattle.tc_core.specs.OpenTxns.{find}
 use Rattle.tc_core.specs.TcView.{TcView, is_none_lost}
-use Rattle.tc_core.specs.Locking.{is_listed, is_holder}
+use Rattle.tc_core.specs.Locking.{is_listed, is_holder, HoldOperations}
 use Rattle.tc_core.specs.Changes.{next_of, inverse_at, waits_for, lost_comp, lost_compensated, lost_ended}
 use Rattle.tc_core.specs.Kept.{AreOpen, IsPhase, IsPhaseOf, MayLack, IsDue, closing, IsTc}
 use Rattle.tc_core.proofs.Committing.{holder_more, holder_alike}
 use Rattle.tc_core.proofs.Finding.{found_number}
 use Rattle.tc_core.proofs.Low.{low_longer}
+use Rattle.tc_core.proofs.LettingGo.{early_freed}
 use Rattle.tc_core.proofs.Losers.{listed_loser, same_listed, some_lost, due_was}
 use Rattle.tc_core.proofs.Keeps.{open_was}
 use Rattle.tc_core.proofs.KeepsOpen.{same_open}
@@ -154,6 +155,7 @@ module _ (w : TcView) (k : IsTc w) (undoing : w.phase ≡ phase.Undoing None) wh
       };
       locks = loses w.log w.open_txns (closing w) w.locks k.locks t (w.committing ++ txns l) nobody
           (λ u apart. holder_alike w.open_txns w.committing (txns w.losers) (txns l) u (others u apart));
+      early = (let P : ℕ → Type 0 = λ b. HoldOperations b (set_spans t [] w.locks) in subst P (sym same) (early_freed w.losers.below t w.locks k.locks.table k.early));
       reading = reads_kept w.reads w.open_txns w.locks k.reading (set_spans t [] w.locks)
           (λ u o at. set_other t [] w.locks o.txn k.locks.table (λ e. omega (arith, e, found_number u w.open_txns o at, k.open_txns.late u o at, least.is.loser.early)));
     }
@@ -239,5 +241,6 @@ module _ (w : TcView) (k : IsTc w) (undoing : w.phase ≡ phase.Undoing None) wh
       };
       locks = alike w.log w.open_txns (closing w) w.locks k.locks comp w.open_txns (w.committing ++ txns l) refl
           (λ u. holder_alike w.open_txns w.committing (txns w.losers) (txns l) u (same_losers u));
+      early = (let P : ℕ → Type 0 = λ b. HoldOperations b w.locks in subst P (sym same) k.early);
       reading = k.reading;
     }

@@ -67,6 +67,7 @@ module _ (w : TcView) (k : IsTc w) where
         committing = k.committing;
         lost = lost_answered w.log w.session w.phase w.losers n a k.lost taken (fits, k.legal);
         locks = longer w.log w.open_txns (closing w) w.locks k.locks r refl;
+        early = k.early;
         reading = k.reading;
       }
     where
@@ -101,6 +102,7 @@ module _ (w : TcView) (k : IsTc w) where
       due = λ n e. absurd (cc);
     };
     locks = k.locks;
+    early = k.early;
     reading = k.reading;
   }
     where
@@ -140,6 +142,7 @@ module _ (w : TcView) (k : IsTc w) where
       due = λ m e. absurd (cc);
     };
     locks = k.locks;
+    early = k.early;
     reading = k.reading;
   }
 
@@ -191,5 +194,6 @@ keeps_redo_ended w k next at =
         due = λ n e. absurd (none_awaited w.losers n e);
       };
       locks = k.locks;
+      early = k.early;
       reading = k.reading;
     }

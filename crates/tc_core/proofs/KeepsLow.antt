@@ -32,6 +32,7 @@ module _ (w : TcView) (k : IsTc w) where
     committing = k.committing;
     lost = k.lost;
     locks = k.locks;
+    early = k.early;
     reading = k.reading;
   }
 
@@ -48,6 +49,7 @@ module _ (w : TcView) (k : IsTc w) where
     committing = k.committing;
     lost = k.lost;
     locks = k.locks;
+    early = k.early;
     reading = k.reading;
   }
 
@@ -72,5 +74,6 @@ module _ (w : TcView) (k : IsTc w) where
         committing = k.committing;
         lost = lost_more w k r (fits_checkpoint l asked) tt (λ n. refl);
         locks = longer w.log w.open_txns (closing w) w.locks k.locks r refl;
+        early = k.early;
         reading = k.reading;
       }

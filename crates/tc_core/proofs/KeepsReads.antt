@@ -15,6 +15,8 @@ use Rattle.tc_core.specs.declared.open_txn.Read.{Read}
 use Rattle.tc_core.specs.declared.open_txns.Wanted.TheVariants.{Reader}
 use Rattle.tc_core.specs.OpenTxns.{find, is_read, wants}
 use Rattle.tc_core.specs.Locking.{AreApart}
+use Rattle.tc_core.proofs.LettingGo.{early_taken}
+use Rattle.tc_core.proofs.Losers.{late_at}
 use Rattle.tc_core.specs.TcView.{TcView}
 use Rattle.tc_core.specs.Changes.{shared, reading_txn, asked_read, told_txn, was_told}
 use Rattle.tc_core.specs.Replies.{reader}
@@ -54,6 +56,7 @@ keeps_ask w o s k at none flat range free unspent =
       committing = k.committing;
       lost = k.lost;
       locks = shares w.log w.open_txns (closing w) w.locks k.locks new o (shared s) at refl free;
+      early = early_taken w.losers.below o.txn (shared s ∷ spans_of w.locks o.txn) w.locks k.locks.table (late_at w o k at) k.early;
       reading = reads_asked w.reads w.open_txns w.locks k.reading new o r (w.reads + 1) _ at refl (omega arith) (omega arith)
           (λ u apart. set_other o.txn (shared s ∷ spans_of w.locks o.txn) w.locks u k.locks.table apart)
           (record { idle = none; flat = flat; asked = omega arith; range = range; before = spans_of w.locks o.txn; held = set_own o.txn (shared s ∷ spans_of w.locks o.txn) w.locks k.locks.table });
@@ -72,6 +75,7 @@ keeps_told w o k at = record {
   committing = k.committing;
   lost = k.lost;
   locks = replaced w.log w.open_txns (closing w) w.locks k.locks (told_txn o) o at;
+  early = k.early;
   reading = reads_replaced w.reads w.open_txns w.locks k.reading (told_txn o) o w.locks at refl (λ u apart. refl);
 }
 

@@ -33,7 +33,7 @@ use Rattle.tc_core.specs.declared.phase.Phase.TheVariants as phase
 use Rattle.tc_core.specs.Kept.{IsTc, IsDue, closing, IsRollback, IsOpenTxn, IsWaiting, Waits, IsReading, IsPhase}
 use Rattle.tc_core.proofs.Finding.{found_number, found_own}
 use Rattle.tc_core.proofs.Committing.{none_committing, open_unlisted}
-use Rattle.tc_core.proofs.LettingGo.{let_go_held, let_go_other}
+use Rattle.tc_core.proofs.LettingGo.{let_go_held, let_go_other, early_taken, early_let_go}
 use Rattle.logical_log.proofs.Index.{nothing_answered}
 use Rattle.tc_core.proofs.Keeps.{open_had, open_was, unended_next, IsBounded}
 use Rattle.tc_core.proofs.Losers.{listed_loser, loser_listed, unlisted_late, lost_spared, lost_started, lost_passed, lost_more, late_at}
@@ -77,6 +77,7 @@ fresh_tc failures = record {
     due = λ n e. absurd (cc);
   };
   locks = record { table = empty_table; exclusive = λ t. refl; others = λ t none. refl; apart = λ t u differ. tt };
+  early = λ t below. refl;
   reading = record { each = λ t o r at. absurd (cc); apart = λ t u o p r q at. absurd (cc) };
 }
 
@@ -98,6 +99,7 @@ keeps_failed w k = record {
   committing = k.committing;
   lost = k.lost;
   locks = k.locks;
+  early = k.early;
   reading = k.reading;
 }
 
@@ -115,6 +117,7 @@ keeps_logged w k unspent = record {
   committing = k.committing;
   lost = lost_more w k is.Session tt tt (λ n. refl);
   locks = longer w.log w.open_txns (closing w) w.locks k.locks is.Session refl;
+  early = k.early;
   reading = k.reading;
 }
 
@@ -176,6 +179,7 @@ keeps_force w k = record {
   committing = sym (none_committing w.log (length w.log) (omega arith));
   lost = k.lost;
   locks = let_go_held w.log w.open_txns w.committing (txns w.losers) w.locks k.locks (λ t. closed w t k);
+  early = early_let_go w.losers.below w.committing w.locks k.locks.table k.early;
   reading = reads_kept w.reads w.open_txns w.locks k.reading (let_go w.committing w.locks)
       (λ t o at. let_go_other w.committing w.locks o.txn k.locks.table (not_committing w o.txn k (k.open_txns.each t o at).is.goes_on));
 }
@@ -196,6 +200,7 @@ keeps_session w k unspent =
       committing = f.committing;
       lost = lost_started w.log w.session w.phase w.losers k.legal k.lost;
       locks = f.locks;
+      early = f.early;
       reading = f.reading;
     }
 
@@ -218,6 +223,7 @@ keeps_begin w k less unspent = record {
   lost = lost_more w k is.Begin tt tt (λ n. refl);
   locks = begins w.log w.open_txns (closing w) w.locks k.locks (begun_txn (length w.log + 1)) k.legal refl (all_below w k)
       (not_closing w (length w.log + 1) k (unended_next w.log k.legal) k.lost.losers.bound);
+  early = k.early;
   reading = reads_begun w.reads w.open_txns w.locks k.reading (begun_txn (length w.log + 1)) refl;
 }
 
@@ -281,6 +287,7 @@ keeps_act w o op k at none still flat free unspent =
       committing = k.committing;
       lost = lost_more w k r (fits_op w o op k at none free) (late_at w o k at) (λ n. refl);
       locks = takes_key w.log w.open_txns (closing w) w.locks k.locks (acted_txn o (length w.log + 1)) o o.last op at free;
+      early = early_taken w.losers.below o.txn (at_key Exclusive (key_of op) ∷ spans_of w.locks o.txn) w.locks k.locks.table (late_at w o k at) k.early;
       reading = reads_replaced w.reads w.open_txns w.locks k.reading (acted_txn o (length w.log + 1)) o _ at still (λ u apart. set_other o.txn (at_key Exclusive (key_of op) ∷ spans_of w.locks o.txn) w.locks u k.locks.table apart);
     }
 
@@ -316,6 +323,7 @@ module _ (w : TcView) (o new : OpenTxn) (k : IsTc w) (at : find o.txn w.open_txn
         committing = k.committing;
         lost = k.lost;
         locks = replaced w.log w.open_txns (closing w) w.locks k.locks new o found;
+        early = k.early;
         reading = reads_replaced w.reads w.open_txns w.locks k.reading new o w.locks found (ap (λ (x : OpenTxn). x.reading) same ∙ still) (λ u apart. refl);
       }
 
@@ -399,6 +407,7 @@ keeps_answer w o n a k at some unspent =
       lost = lost_spared w.log w.session w.phase w.losers r k.lost (fits_answer w o n a k at some, k.legal) tt
           (λ m e. ap (λ b. cond b (Some a) (answer_of w.log m)) (ne_eqb m n (other_due w o n k at waits m (k.lost.due m e))));
       locks = replaced (r ∷ w.log) w.open_txns (closing w) w.locks (longer w.log w.open_txns (closing w) w.locks k.locks r refl) (answered_txn o) o at;
+      early = k.early;
       reading = reads_replaced w.reads w.open_txns w.locks k.reading (answered_txn o) o w.locks at
           (no_reading o.reading (λ q reads. let idle : o.waiting ≡ None = (reading_at w o q k at reads).idle in absurd (cc))) (λ u apart. refl);
     }
@@ -461,5 +470,6 @@ keeps_passed w n taken answered k = record {
   committing = k.committing;
   lost = lost_passed w.log w.session w.phase w.losers n k.lost taken answered;
   locks = k.locks;
+  early = k.early;
   reading = k.reading;
 }

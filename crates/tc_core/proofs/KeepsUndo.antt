@@ -19,6 +19,7 @@ use Rattle.tc_core.specs.Kept.{IsTc, closing}
 use Rattle.tc_core.proofs.Committing.{holder_closing, commits_more}
 use Rattle.restart.specs.Losers.{txns}
 use Rattle.tc_core.proofs.Low.{low_longer}
+use Rattle.tc_core.proofs.LettingGo.{early_freed}
 use Rattle.tc_core.proofs.Losers.{lost_more, late_at}
 use Rattle.tc_core.proofs.Keeps.{open_was}
 use Rattle.tc_core.proofs.KeepsOpen.{replaced_open, without_open}
@@ -85,6 +86,7 @@ keeps_comp w o b k at none rolling fits unspent =
       committing = k.committing;
       lost = lost_more w k r fits (late_at w o k at) (λ n. refl);
       locks = replaced (r ∷ w.log) w.open_txns (closing w) w.locks (longer w.log w.open_txns (closing w) w.locks k.locks r refl) new o at;
+      early = k.early;
       reading = reads_replaced w.reads w.open_txns w.locks k.reading new o w.locks at
           (no_reading o.reading (λ q reads. let flat : Some b ≡ None = sym rolling ∙ (reading_at w o q k at reads).flat in absurd (cc))) (λ u apart. refl);
     }
@@ -114,6 +116,7 @@ keeps_end w o k at fits unspent = record {
   committing = k.committing;
   lost = lost_more w k (is.End o.txn) fits (late_at w o k at) (λ n. refl);
   locks = gives_back w.log w.open_txns (closing w) w.locks k.locks o.txn (unlisted w o k at);
+  early = early_freed w.losers.below o.txn w.locks k.locks.table k.early;
   reading = reads_ended w.reads w.open_txns w.locks k.reading o.txn _ (λ u apart. set_other o.txn [] w.locks u k.locks.table apart);
 }
 
@@ -136,6 +139,7 @@ keeps_commit w o k at none unspent = record {
   committing = ap (λ ts. ts ++ o.txn ∷ []) k.committing ∙ sym (commits_more w.log w.stable o.txn k.within);
   lost = lost_more w k (is.Commit o.txn) (fits_commit w o k at none) (late_at w o k at) (λ n. refl);
   locks = alike w.log w.open_txns (closing w) w.locks k.locks (is.Commit o.txn) _ _ refl (holder_closing w.open_txns w.committing (txns w.losers) o.txn o at);
+  early = k.early;
   reading = reads_ended w.reads w.open_txns w.locks k.reading o.txn w.locks (λ u apart. refl);
 }
 

@@ -1,5 +1,5 @@
 -- Transactions whose Commit is stable let go of what they hold.
-use Rattle.std.proofs.Common.{◌≡◌, ℕ, true, false, List, [], ◌∷◌, ◌++◌, is_some, refl, sym, ap, ◌∙◌, inl, inr, true≢false, eq-eqb, ne_eqb}
+use Rattle.std.proofs.Common.{◌≡◌, ℕ, ◌≤◌, true, false, List, [], ◌∷◌, ◌++◌, is_some, refl, sym, ap, ◌∙◌, arith, inl, inr, true≢false, eq-eqb, ne_eqb}
 use Rattle.std.specs.Prelude.{◌==◌, ◌||◌, filter, if◌then◌else◌}
 use Rattle.std.proofs.lemmas.Bool.{cases_eq, cases_Bool}
 use Rattle.std.proofs.lemmas.List.Folds.{list_any-append}
@@ -10,7 +10,7 @@ use Rattle.range_locks.proofs.Tables.{set_table, set_own, set_other}
 use Rattle.tc_core.specs.declared.open_txn.OpenTxn.{OpenTxn}
 use Rattle.tc_core.specs.OpenTxns.{find}
 use Rattle.tc_core.specs.Changes.{let_go}
-use Rattle.tc_core.specs.Locking.{is_listed, is_holder, op_spans, is_exclusive, AreApart, AreHeld}
+use Rattle.tc_core.specs.Locking.{is_listed, is_holder, op_spans, is_exclusive, AreApart, AreHeld, HoldOperations}
 use Rattle.tc_core.proofs.HeldSpans.{held_none}
 
 -- the table stays one
@@ -29,6 +29,24 @@ let_go_other (t ∷ ts) locks u table unlisted =
           let later : is_listed ts u ≡ false = sym (ap (λ b. b || is_listed ts u) (ne_eqb t u (λ e. other (sym e)))) ∙ unlisted in
           let_go_other ts (set_spans t [] locks) u (set_table t [] locks table) later ∙ set_other t [] locks u table other
     ]
+
+-- nor more than the keys of operations
+pub early_taken : (below t : ℕ) (spans : List Span) (locks : LocksView) → IsTable locks → below ≤ t → HoldOperations below locks
+    → HoldOperations below (set_spans t spans locks)
+early_taken below t spans locks table late h u early =
+    let same : spans_of (set_spans t spans locks) u ≡ spans_of locks u = set_other t spans locks u table (λ e. omega (arith, e, late, early)) in
+    rw same (h u early)
+
+pub early_freed : (below t : ℕ) (locks : LocksView) → IsTable locks → HoldOperations below locks → HoldOperations below (set_spans t [] locks)
+early_freed below t locks table h u early = elim (cases_eq u t) [
+  | inl e ↦ let none : spans_of (set_spans t [] locks) u ≡ [] = ap (spans_of (set_spans t [] locks)) e ∙ set_own t [] locks table in rw none refl
+  | inr apart ↦ let same : spans_of (set_spans t [] locks) u ≡ spans_of locks u = set_other t [] locks u table apart in rw same (h u early)
+]
+
+pub early_let_go : (below : ℕ) (ts : List ℕ) (locks : LocksView) → IsTable locks → HoldOperations below locks → HoldOperations below (let_go ts locks)
+early_let_go below [] locks table h = h
+early_let_go below (t ∷ ts) locks table h =
+    early_let_go below ts (set_spans t [] locks) (set_table t [] locks table) (early_freed below t locks table h)
 
 -- who holds nothing holds nothing
 still_nothing : (ts : List ℕ) (locks : LocksView) (u : ℕ) → IsTable locks → spans_of locks u ≡ []

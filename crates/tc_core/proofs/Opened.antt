@@ -23,7 +23,7 @@ use Rattle.logical_log.specs.Low.{stable_part}
 use Rattle.range_locks.specs.Locks.{LocksView, spans_of}
 use Rattle.restart.specs.Losers.{LosersView, txns, AreLosers}
 use Rattle.restart.specs.Plan.{IsCheckpointed, IsRedoStart}
-use Rattle.tc_core.specs.Locking.{op_spans, is_listed, is_exclusive, AreApart, AreHeld}
+use Rattle.tc_core.specs.Locking.{op_spans, is_listed, is_exclusive, AreApart, AreHeld, HoldOperations}
 use Rattle.tc_core.specs.Opening.{HoldsOpen, opened}
 use Rattle.tc_core.specs.Kept.{IsTc}
 use Rattle.tc_core.proofs.Committing.{none_committing}
@@ -162,6 +162,12 @@ module _ (log : List Record) (l : LosersView) (locks : LocksView) (legal : IsLeg
     ];
   }
 
+  holds_operations : HoldOperations l.below locks
+  holds_operations t below = elim (cases_Bool (is_listed (txns l) t)) [
+    | inl listed ↦ ap (filter is_exclusive) (its t listed) ∙ all_exclusive log t ∙ sym (its t listed)
+    | inr unlisted ↦ ap (filter is_exclusive) (nothing t unlisted) ∙ sym (nothing t unlisted)
+  ]
+
 -- what was checkpointed is answered
 checked_in : (log : List Record) (c : ℕ) → IsLegal log → IsLatestOrNone (IsCheckpointed log) c → FitsCheckpoint log c
 checked_in log c legal (inl h) =
@@ -199,5 +205,6 @@ opened_tc log failures start l locks legal few losers all redo holds =
       committing = sym (none_committing log (length log) (omega arith));
       lost = record { losers = losers; phase_of = tt; lacking = λ n due. tt; due = λ n e. absurd (cc) };
       locks = held_opened log l locks legal losers all holds;
+      early = holds_operations log l locks legal losers all holds;
       reading = record { each = λ t o r at. absurd (cc); apart = λ t u o p r q at. absurd (cc) };
     }

@@ -19,7 +19,7 @@ use Rattle.logical_log.specs.Low.{stable_part}
 use Rattle.restart.specs.Plan.{IsCheckpointed}
 use Rattle.restart.specs.Losers.{LosersView, txns, IsLoser, AreLosers}
 use Rattle.tc_core.specs.OpenTxns.{find, AreFalling}
-use Rattle.tc_core.specs.Locking.{AreHeld}
+use Rattle.tc_core.specs.Locking.{AreHeld, HoldOperations}
 use Rattle.tc_core.specs.Changes.{shared}
 use Rattle.tc_core.specs.TcView.{TcView, is_none_lost, rolls_back}
 
@@ -151,4 +151,5 @@ pub record IsTc (w : TcView) : Type 0 where
   pub committing : w.committing ≡ commits_in w.log w.stable
   pub lost : AreLost w.log w.session w.phase w.losers
   pub locks : AreHeld w.log w.open_txns (closing w) w.locks
+  pub early : HoldOperations w.losers.below w.locks
   pub reading : AreReading w.reads w.open_txns w.locks

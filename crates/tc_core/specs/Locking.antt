@@ -1,5 +1,5 @@
 -- What transactions hold, and when another may take a span.
-use Rattle.std.specs.Prelude.{◌≡◌, ◌≢◌, ◌⊎◌, ℕ, ◌==◌, ◌||◌, Bool, true, false, List, [], ◌∷◌, Option, is_some, filter, if◌then◌else◌}
+use Rattle.std.specs.Prelude.{◌≡◌, ◌≢◌, ◌⊎◌, ℕ, ◌<◌, ◌==◌, ◌||◌, Bool, true, false, List, [], ◌∷◌, Option, is_some, filter, if◌then◌else◌}
 use Rattle.std.specs.List.{AllByRecursion, list_any}
 use Rattle.record_key.specs.declared.refusal.Refusal.{Refusal}
 use Rattle.record_key.specs.declared.refusal.Refusal.TheVariants.{Busy, NumbersSpent}
@@ -47,6 +47,10 @@ pub record AreHeld (log : List Record) (os : List OpenTxn) (committing : List �
   pub exclusive : (t : ℕ) → filter is_exclusive (spans_of locks t) ≡ held_spans log os committing t
   pub others : (t : ℕ) → is_holder os committing t ≡ false → spans_of locks t ≡ []
   pub apart : (t u : ℕ) → t ≢ u → AreApart (spans_of locks t) (spans_of locks u)
+
+-- who began below this number, as losers did, holds the keys of its operations only
+abbrev pub HoldOperations : ℕ → LocksView → Type 0
+HoldOperations below locks = (t : ℕ) → t < below → filter is_exclusive (spans_of locks t) ≡ spans_of locks t
 
 -- why a span isn't taken: it is busy; else no number is left for the call, or no memory
 abbrev pub RefusesLock : LocksView → ℕ → Span → Option Refusal → Refusal → Type 0

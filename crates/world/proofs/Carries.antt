@@ -87,7 +87,6 @@ module _ (w : NodeView) (dc : DcView) (k : IsKept w) (is : IsDc dc) (c : Carries
       → (may_merge dc ≡ true → AnsweredAreCaptured w.tc.log w.dc) → AreSessions w.tc.stable w.tc.session w.tc.phase w.tc.log dc → IsKept (with_dc w dc)
   keeps_dc recoverable true_to performed past sessions = record {
     tc = k.tc;
-    unlost = k.unlost;
     right = k.right;
     dc = is;
     recoverable = recoverable;

@@ -121,7 +121,6 @@ crash_keeps w n k le =
 pub keeps_up : (w : NodeView) (up : Bool) → IsKept w → IsKept (record w { dc_up = up })
 keeps_up w up k = record {
   tc = k.tc;
-  unlost = k.unlost;
   right = k.right;
   dc = k.dc;
   recoverable = k.recoverable;

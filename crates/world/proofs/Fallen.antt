@@ -174,7 +174,6 @@ performed_left w tc k f (p ∷ ps) captured all = (
 pub fallen_is_kept : FallenIsKept
 fallen_is_kept w tc k f is = record {
   tc = is;
-  unlost = f.unlost;
   right = left w.tc tc f HasRightAnswers (λ r log within. right_rest r log) k.right;
   dc = k.dc;
   recoverable = k.recoverable;

@@ -27,7 +27,7 @@ use Rattle.tc_core.specs.declared.told.UndoStep.TheVariants as undo
 use Rattle.logical_log.specs.LogView.{is_spent, spent_refusal}
 use Rattle.system_txn.specs.Checked.{IsChecked}
 use Rattle.tc_core.specs.OpenTxns.{find, replace}
-use Rattle.tc_core.specs.TcView.{TcView, failed, is_none_lost}
+use Rattle.tc_core.specs.TcView.{TcView, failed}
 use Rattle.tc_core.specs.Refusing.{Refuses}
 use Rattle.tc_core.specs.Causes.{serving_refusal, begin_refusal, commit_refusal, idle_refusal, read_refusal, save_refusal, saves_of, back_refusal, has_savepoint, undo_refusal, answered_refusal, undo_logs, RefusesTaking}
 use Rattle.tc_core.specs.Changes.{begun, acted, acted_txn, asked_read, reading_txn, shared, saved, saved_txn, going_back, going_back_txn, rolled, rolling_txn, committed, compensated, compensated_txn, ended, is_back, back_txn, next_of, inverse_at, forced}
@@ -82,7 +82,7 @@ unchanged old new e output k same none = at_new old new old e output same (recor
 
 -- a device that failed is counted, and that is all
 pub keeps_failed : (w : NodeView) → IsKept w → IsKept (with_tc w (failed w.tc))
-keeps_failed w k = keeps_same_log w (failed w.tc) k (tc_failed w.tc k.tc) k.checked k.unlost refl (omega arith) (inl refl) (omega arith) (none_same w.tc.reads w.tc.open_txns) k.sessions
+keeps_failed w k = keeps_same_log w (failed w.tc) k (tc_failed w.tc k.tc) k.checked refl (omega arith) (inl refl) (omega arith) (none_same w.tc.reads w.tc.open_txns) k.sessions
 
 -- what a refused call leaves: all as it was, but for the count of failures
 abbrev pub IsLeft : TcView → TcView → Type 0
@@ -137,8 +137,8 @@ follows_begin old new (out.Begun t) k h =
     at_tc old new (begun old.tc) event.Begin (out.Begun t) h.1 h.0.2 (record {
       leads = one_line old (with_tc old (begun old.tc)) event.Begin (out.Begun t) (Begins t) refl
           (λ m stands. subst (λ (x : ℕ). LeadsTo (clients old.tc) m (Begins x) (clients (begun old.tc))) (sym h.0.1)
-          (stands_begun old.tc m k.tc k.unlost (next_unfound old.tc k.tc) (next_unlisted old.tc k.tc) stands));
-      kept = keeps_appended old (begun old.tc) is.Begin k after k.checked k.unlost refl (omega arith) (inl refl) (omega arith) (none_begun old.tc.reads old.tc.open_txns number)
+          (stands_begun old.tc m k.tc (next_unfound old.tc k.tc) (next_unlisted old.tc k.tc) stands));
+      kept = keeps_appended old (begun old.tc) is.Begin k after k.checked refl (omega arith) (inl refl) (omega arith) (none_begun old.tc.reads old.tc.open_txns number)
           (logs_on old (begun old.tc).log k (serves_serving old.tc (both_none (serving_refusal old.tc) _ h.0.0).0)) k.right (λ some. still_captured old is.Begin (λ o h. cc) (λ m. refl));
     })
 follows_begin old new (out.Refused r) k h =
@@ -158,23 +158,23 @@ follows_act old new t op (out.Logged n) k h =
       leads = one_line old (with_tc old tc) (event.Act t op) (out.Logged n) (acts t op n) refl
           (λ m stands. subst (λ (x : ℕ). LeadsTo (clients old.tc) m (acts t op x) (clients tc)) (sym a.number_is)
           (subst (λ (x : ℕ). LeadsTo (clients old.tc) m (acts x op (length old.tc.log + 1)) (clients tc)) a.at.number
-          (stands_acted old.tc m o k.tc k.unlost a.at.is stands op idle after free)));
-      kept = keeps_appended old tc (is.Op o.txn o.last op) k after k.checked k.unlost refl (omega arith) (inl refl) (omega arith)
+          (stands_acted old.tc m o k.tc a.at.is stands op idle after free)));
+      kept = keeps_appended old tc (is.Op o.txn o.last op) k after k.checked refl (omega arith) (inl refl) (omega arith)
           (none_replaced old.tc.reads old.tc.open_txns o (acted_txn o (length old.tc.log + 1)) a.at.is (reads_same old.tc.reads o (acted_txn o (length old.tc.log + 1)) refl))
           (logs_on old tc.log k (serves_idle old.tc t a.allowed)) k.right (λ some. asked_captured old (is.Op o.txn o.last op) k (λ m. refl));
     })
 follows_act old new t op (out.Refused r) k h =
     refused old new (event.Act t op) (ToAct t op) r k refl h.1 (left_taking (idle_refusal old.tc t) _ true old.tc t (at_key Exclusive (key_of op)) r new.tc h.0)
-    (λ m stands. act_refused old.tc new.tc m t op r k.tc k.unlost stands h.0)
+    (λ m stands. act_refused old.tc new.tc m t op r k.tc stands h.0)
 follows_act old new t op _ k h = absurd h
 
 -- a call of a transaction that logs nothing: one line, and the same log
 module _ (old : NodeView) (k : IsKept old) (o : OpenTxn) (new : OpenTxn) (tc : TcView) (at : find new.txn old.tc.open_txns ≡ Some o) (after : IsTc tc)
     (only : ReadsOnly old.tc.reads o new) where
-  kept_same : tc.log ≡ old.tc.log → tc.stable ≡ old.tc.stable → tc.session ≡ old.tc.session → tc.phase ≡ old.tc.phase → tc.checkpointed ≡ old.tc.checkpointed → tc.losers ≡ old.tc.losers → old.tc.reads ≤ tc.reads
+  kept_same : tc.log ≡ old.tc.log → tc.stable ≡ old.tc.stable → tc.session ≡ old.tc.session → tc.phase ≡ old.tc.phase → tc.checkpointed ≡ old.tc.checkpointed → old.tc.reads ≤ tc.reads
       → tc.open_txns ≡ replace new old.tc.open_txns → IsKept (with_tc old tc)
-  kept_same log stable session phases checkpointed losers reads opens =
-      keeps_same_log old tc k after (subst (λ (l : ℕ). IsChecked l old.dc.system) (sym checkpointed) k.checked) (ap is_none_lost losers ∙ k.unlost) log (omega (arith, stable)) (inl session) reads
+  kept_same log stable session phases checkpointed reads opens =
+      keeps_same_log old tc k after (subst (λ (l : ℕ). IsChecked l old.dc.system) (sym checkpointed) k.checked) log (omega (arith, stable)) (inl session) reads
       (subst (NoneAnew old.tc.reads old.tc.open_txns) (sym opens) (none_replaced old.tc.reads old.tc.open_txns o new at only))
       (rw (log, stable, session, phases) k.sessions)
 
@@ -196,8 +196,8 @@ follows_read old new t s n e k line h =
     at_tc old new tc e (out.Asked n) h.1 a.asked (record {
       leads = one_line old (with_tc old tc) e (out.Asked n) (Reads t (query_of s)) line
           (λ m stands. subst (λ (x : ℕ). LeadsTo (clients old.tc) m (Reads x (query_of s)) (clients tc)) a.at.number
-          (stands_asked old.tc m o k.tc k.unlost a.at.is stands s idle is_range free (same_span s)));
-      kept = kept_same old k o mine tc a.at.is after (reads_later o) refl refl refl refl refl refl (omega arith) refl;
+          (stands_asked old.tc m o k.tc a.at.is stands s idle is_range free (same_span s)));
+      kept = kept_same old k o mine tc a.at.is after (reads_later o) refl refl refl refl refl (omega arith) refl;
     })
   where
     not_not : (b : Bool) → not b ≡ false → b ≡ true
@@ -218,7 +218,7 @@ refused_read : (old new : NodeView) (t : ℕ) (s : Keys) (r : Refusal) (e : Even
     → Calls (ReadGives old.tc t s (Err r)) old new → Follows old e (out.Refused r) new
 refused_read old new t s r e k line h =
     refused old new e (ToRead t (query_of s)) r k line h.1 (left_taking (read_refusal old.tc t (shared s)) _ false old.tc t (shared s) r new.tc h.0)
-    (λ m stands. read_refused old.tc new.tc m t s r k.tc k.unlost stands h.0)
+    (λ m stands. read_refused old.tc new.tc m t s r k.tc stands h.0)
 
 pub follows_get : (old new : NodeView) (t : ℕ) (key : Bytes) (output : Out) → IsKept old → ReadsTo old t (Key key) output new → Follows old (event.Get t key) output new
 follows_get old new t key (out.Asked n) k h = follows_read old new t (Key key) n (event.Get t key) k refl h
@@ -249,8 +249,8 @@ follows_save old new t (out.Saved s) k h =
     at_tc old new tc (event.Save t) (out.Saved s) h.1 a.saved (record {
       leads = one_line old (with_tc old tc) (event.Save t) (out.Saved s) (saves_line t s) refl
           (λ m stands. subst (λ (x : ℕ). LeadsTo (clients old.tc) m (saves_line x s) (clients tc)) a.at.number
-          (stands_saved old.tc m o k.tc k.unlost a.at.is stands s idle (sym a.number_is) (omega (arith, few_saves (length o.saves) few, a.number_is))));
-      kept = kept_same old k o mine tc a.at.is after (reads_same old.tc.reads o mine refl) refl refl refl refl refl refl (omega arith) refl;
+          (stands_saved old.tc m o k.tc a.at.is stands s idle (sym a.number_is) (omega (arith, few_saves (length o.saves) few, a.number_is))));
+      kept = kept_same old k o mine tc a.at.is after (reads_same old.tc.reads o mine refl) refl refl refl refl refl (omega arith) refl;
     })
 follows_save old new t (out.Refused r) k h =
     refused old new (event.Save t) (ToSave t) r k refl h.1 (left_refused (save_refusal old.tc t) true false old.tc r new.tc h.0) (λ m stands. save_refused old.tc new.tc m t r k.tc stands h.0)
@@ -277,8 +277,8 @@ follows_go_back old new t s out.RollingBack k h =
     at_tc old new tc (event.GoBack t s) out.RollingBack h.1 a.going (record {
       leads = one_line old (with_tc old tc) (event.GoBack t s) out.RollingBack (goes_back t s) refl
           (λ m stands. subst (λ (x : ℕ). LeadsTo (clients old.tc) m (goes_back x s) (clients tc)) a.at.number
-          (stands_going_back old.tc m o k.tc k.unlost a.at.is stands s a.end idle some a.savepoint));
-      kept = kept_same old k o mine tc a.at.is after (reads_same old.tc.reads o mine refl) refl refl refl refl refl refl (omega arith) refl;
+          (stands_going_back old.tc m o k.tc a.at.is stands s a.end idle some a.savepoint));
+      kept = kept_same old k o mine tc a.at.is after (reads_same old.tc.reads o mine refl) refl refl refl refl refl (omega arith) refl;
     })
 follows_go_back old new t s (out.Refused r) k h =
     refused old new (event.GoBack t s) (ToGoBack t s) r k refl h.1 (left_refused (back_refusal old.tc t s) false false old.tc r new.tc h.0) (λ m stands. back_refused old.tc new.tc m t s r k.tc stands h.0)
@@ -295,8 +295,8 @@ follows_rollback old new t out.RollingBack k h =
     let after : IsTc tc = subst IsTc a.rolled (rollback_keeps old.tc new.tc t (Ok tt) k.tc a) in
     at_tc old new tc (event.Rollback t) out.RollingBack h.1 a.rolled (record {
       leads = one_line old (with_tc old tc) (event.Rollback t) out.RollingBack (rolls_back_line t) refl
-          (λ m stands. subst (λ (x : ℕ). LeadsTo (clients old.tc) m (rolls_back_line x) (clients tc)) a.at.number (stands_rolled old.tc m o k.tc k.unlost a.at.is stands idle));
-      kept = kept_same old k o mine tc a.at.is after (reads_same old.tc.reads o mine refl) refl refl refl refl refl refl (omega arith) refl;
+          (λ m stands. subst (λ (x : ℕ). LeadsTo (clients old.tc) m (rolls_back_line x) (clients tc)) a.at.number (stands_rolled old.tc m o k.tc a.at.is stands idle));
+      kept = kept_same old k o mine tc a.at.is after (reads_same old.tc.reads o mine refl) refl refl refl refl refl (omega arith) refl;
     })
 follows_rollback old new t (out.Refused r) k h =
     refused old new (event.Rollback t) (ToRollBack t) r k refl h.1 (left_refused (idle_refusal old.tc t) false false old.tc r new.tc h.0) (λ m stands. rollback_refused old.tc new.tc m t r k.tc stands h.0)
@@ -313,8 +313,8 @@ follows_commit old new t (out.CommitLogged n) k h =
     at_tc old new tc (event.Commit t) (out.CommitLogged n) h.1 h.0.2 (record {
       leads = one_line old (with_tc old tc) (event.Commit t) (out.CommitLogged n) (Commits t) refl
           (λ m stands. subst (λ (x : ℕ). LeadsTo (clients old.tc) m (Commits x) (clients (committed old.tc x))) found.at.number
-          (stands_committed old.tc m o k.tc k.unlost found.at.is stands found.idle (subst (λ (x : ℕ). IsTc (committed old.tc x)) (sym found.at.number) after)));
-      kept = keeps_appended old tc r k after k.checked k.unlost refl (omega arith) (inl refl) (omega arith) (none_without old.tc.reads old.tc.open_txns t)
+          (stands_committed old.tc m o k.tc found.at.is stands found.idle (subst (λ (x : ℕ). IsTc (committed old.tc x)) (sym found.at.number) after)));
+      kept = keeps_appended old tc r k after k.checked refl (omega arith) (inl refl) (omega arith) (none_without old.tc.reads old.tc.open_txns t)
           (logs_on old tc.log k (serves_idle old.tc t (both_none (idle_refusal old.tc t) (spent_refusal old.tc.log) h.0.0).0)) k.right
           (λ some. still_captured old r (λ q asks. cc) (λ m. refl));
     })
@@ -329,7 +329,7 @@ follows_force old new (out.Stable end cs) k h =
     let after : IsTc tc = subst IsTc h.0.2 (force_keeps old.tc new.tc (Ok (record { end = end; committed = cs })) k.tc h.0) in
     at_tc old new tc event.Force (out.Stable end cs) h.1 h.0.2 (record {
       leads = λ m stands. let l = stands_forced old.tc m k.tc stands in (l.0, subst (λ (ts : List ℕ). Steps m (told_committed ts) l.0) (sym h.0.1) l.1, l.2);
-      kept = keeps_same_log old tc k after k.checked k.unlost refl k.tc.within (inl refl) (omega arith) (none_same old.tc.reads old.tc.open_txns)
+      kept = keeps_same_log old tc k after k.checked refl k.tc.within (inl refl) (omega arith) (none_same old.tc.reads old.tc.open_txns)
           (record { begun = record { recorded = omega (arith, k.sessions.begun.recorded, k.tc.within); most = k.sessions.begun.most }; served = k.sessions.served });
     })
 follows_force old new (out.Refused r) k h = record {
@@ -361,8 +361,8 @@ module _ (old : NodeView) (t : ℕ) (k : IsKept old) where
       let after : IsTc tc = subst IsTc h.2 is_tc in
       let c : Record = is.Comp o.txn o.undo (next_of old.tc.log o.undo) (inverse_at old.tc.log o.undo) in
       at_tc old new tc (event.Undo t) (out.Compensated n) left h.2 (record {
-        leads = no_line old (with_tc old tc) (event.Undo t) (out.Compensated n) refl (λ m stands. stands_compensated old.tc m o k.tc k.unlost at.is stands r rolling h.0 after);
-        kept = keeps_appended old tc c k after k.checked k.unlost refl (omega arith) (inl refl) (omega arith)
+        leads = no_line old (with_tc old tc) (event.Undo t) (out.Compensated n) refl (λ m stands. stands_compensated old.tc m o k.tc at.is stands r rolling h.0 after);
+        kept = keeps_appended old tc c k after k.checked refl (omega arith) (inl refl) (omega arith)
             (none_replaced old.tc.reads old.tc.open_txns o mine at.is (reads_same old.tc.reads o mine refl))
             (logs_on old tc.log k (serves_undo old.tc t allowed)) k.right (λ some. asked_captured old c k (λ m. refl));
       })
@@ -376,8 +376,8 @@ module _ (old : NodeView) (t : ℕ) (k : IsKept old) where
       let e : Record = is.End o.txn in
       at_tc old new tc (event.Undo t) (out.RolledBack u) left h.3 (record {
         leads = one_line old (with_tc old tc) (event.Undo t) (out.RolledBack u) (TellsRolledBack u) refl
-            (λ m stands. subst (λ (x : ℕ). LeadsTo (clients old.tc) m (TellsRolledBack x) (clients tc)) (sym h.2) (stands_ended old.tc m o k.tc k.unlost at.is stands r rolling h.1 after));
-        kept = keeps_appended old tc e k after k.checked k.unlost refl (omega arith) (inl refl) (omega arith) (none_without old.tc.reads old.tc.open_txns o.txn)
+            (λ m stands. subst (λ (x : ℕ). LeadsTo (clients old.tc) m (TellsRolledBack x) (clients tc)) (sym h.2) (stands_ended old.tc m o k.tc at.is stands r rolling h.1 after));
+        kept = keeps_appended old tc e k after k.checked refl (omega arith) (inl refl) (omega arith) (none_without old.tc.reads old.tc.open_txns o.txn)
             (logs_on old tc.log k (serves_undo old.tc t allowed)) k.right (λ some. still_captured old e (λ q asks. cc) (λ m. refl));
       })
 
@@ -392,8 +392,8 @@ module _ (old : NodeView) (t : ℕ) (k : IsKept old) where
       at_tc old new tc (event.Undo t) (out.Back u s) left h.3 (record {
         leads = one_line old (with_tc old tc) (event.Undo t) (out.Back u s) (TellsBack u s) refl
             (λ m stands. subst (λ (x : ℕ). LeadsTo (clients old.tc) m (TellsBack x s) (clients tc)) (sym h.2)
-            (stands_back old.tc m o k.tc k.unlost at.is stands r s rolling h.1 none.0 none.1 (undone_above old.tc o r k.tc at.is h.0)));
-        kept = kept_same old k o mine tc at.is after (reads_same old.tc.reads o mine refl) refl refl refl refl refl refl (omega arith) refl;
+            (stands_back old.tc m o k.tc at.is stands r s rolling h.1 none.0 none.1 (undone_above old.tc o r k.tc at.is h.0)));
+        kept = kept_same old k o mine tc at.is after (reads_same old.tc.reads o mine refl) refl refl refl refl refl (omega arith) refl;
       })
 
 answered_first : (w : TcView) (t : ℕ) → undo_refusal w t ≡ None → answered_refusal w t ≡ None

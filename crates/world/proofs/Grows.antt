@@ -37,7 +37,7 @@ use Rattle.tc_core.proofs.Finding.{found_own}
 use Rattle.tc_core.proofs.HeldSpans.{within_itself}
 use Rattle.tc_core.proofs.KeepsTc.{none_next}
 use Rattle.tc_core.proofs.Low.{may_longer}
-use Rattle.tc_core.specs.TcView.{TcView, is_none_lost}
+use Rattle.tc_core.specs.TcView.{TcView}
 use Rattle.tc_core.specs.Kept.{IsTc}
 use Rattle.world.specs.Node.{NodeView, with_tc}
 use Rattle.world.specs.Kept.{IsKept, IsAnsweredTo, IsBegun, IsReadTrue, InSession, IsSent, IsRightOrNone, IsAnswered, IsValue, AreRows, IsGiven, AreSessions, IsTrueTo, IsLowAnswered, AnsweredAreCaptured, EarlierAreCaptured}
@@ -167,7 +167,6 @@ unanswered_new (is.Checkpoint l) log o legal h = absurd (cc)
 pub record BothKept (old new : TcView) : Type 0 where
   pub was : IsTc old
   pub now : IsTc new
-  pub unlost : is_none_lost new.losers ≡ true
 
 -- the value at a key that is being read stays
 value_stays : (old new : TcView) → BothKept old new → Extends old.log new.log → (t : ℕ) (x : OpenTxn) (n : ℕ) (q : Span) → find t new.open_txns ≡ Some x
@@ -183,7 +182,7 @@ value_stays old new both (inr grown) t x n q found reading key within = ap (valu
         subst (λ (log : List Record). Requests log next o) (sym grown.1) (at_newest (ARequest o) grown.0 old.log next refl some) in
         let none : answer_of new.log next ≡ None =
         subst (λ (log : List Record). answer_of log next ≡ None) (sym grown.1) (unanswered_new grown.0 old.log o both.was.legal some) in
-        let other = unread new x (record { number = n; span = q }) next o both.now both.unlost (found_own t new.open_txns x found) reading asks none in
+        let other = unread new x (record { number = n; span = q }) next o both.now (found_own t new.open_txns x found) reading asks none in
         elim (cases_Bool (is_on key o)) [
           | inl on ↦ absurd (true≢false (sym within ∙ ap (is_within (shared q)) (sym (key_on key o on)) ∙ other))
           | inr off ↦ rw off refl
@@ -244,10 +243,9 @@ performed_on old new on ps h =
 
 -- all holds still, where the answers are right and what is answered is captured
 pub keeps_on : (w : NodeView) (tc : TcView) → IsKept w → IsTc tc → GoesOn w.tc tc → AreSessions tc.stable tc.session tc.phase tc.log w.dc → HasRightAnswers tc.log → Captures w.tc tc w.dc
-    → IsChecked tc.checkpointed w.dc.system → is_none_lost tc.losers ≡ true → IsKept (with_tc w tc)
-keeps_on w tc k is on sessions right captured checked unlost = record {
+    → IsChecked tc.checkpointed w.dc.system → IsKept (with_tc w tc)
+keeps_on w tc k is on sessions right captured checked = record {
   tc = is;
-  unlost = unlost;
   right = right;
   dc = k.dc;
   recoverable = k.recoverable;
@@ -255,7 +253,7 @@ keeps_on w tc k is on sessions right captured checked unlost = record {
   performed = performed_on w.tc tc on w.dc.performed k.performed;
   answered = λ may. captured (some_session w.dc may) (k.answered may);
   sent = all_from (IsSent w.tc w.dc) (IsSent tc w.dc) (sent_on w.tc tc w.dc on captured) w.requests k.sent;
-  given = all_from (IsGiven w.tc w.dc) (IsGiven tc w.dc) (given_on w.tc tc w.dc (record { was = k.tc; now = is; unlost = unlost }) on) w.replies k.given;
+  given = all_from (IsGiven w.tc w.dc) (IsGiven tc w.dc) (given_on w.tc tc w.dc (record { was = k.tc; now = is }) on) w.replies k.given;
   sessions = sessions;
   checked = checked;
 }

@@ -18,6 +18,7 @@ use Rattle.dc_core.specs.Restarting.{restarted}
 use Rattle.dc_core.specs.Serves.{with_system}
 use Rattle.dc_core.proofs.Recoverable.{recoverable_served}
 use Rattle.dc_core.proofs.Checked.{checked_served, fresh_checked}
+use Rattle.tc_core.specs.Kept.{IsTc}
 use Rattle.tc_core.specs.TcView.{fresh}
 use Rattle.tc_core.proofs.Low.{may_none}
 use Rattle.record_key.specs.declared.refusal.Refusal.TheVariants.{NotConnected}
@@ -141,30 +142,30 @@ follows_restart old new (out.Refused r) k is h =
     })
 follows_restart old new _ k is h = absurd h
 
-pub follows : (old new : NodeView) (e : Event) (output : Out) → IsKept old → IsDc new.dc → StepsTo old e output new → Follows old e output new
-follows old new event.Reconnect output k is h = follows_reconnect old new output k h
-follows old new event.Recover output k is h = follows_recover old new output k h
-follows old new event.Begin output k is h = follows_begin old new output k h
-follows old new (event.Act t op) output k is h = follows_act old new t op output k h
-follows old new (event.Get t key) output k is h = follows_get old new t key output k h
-follows old new (event.Scan t low high) output k is h = follows_scan old new t low high output k h
-follows old new (event.Save t) output k is h = follows_save old new t output k h
-follows old new (event.GoBack t s) output k is h = follows_go_back old new t s output k h
-follows old new (event.Rollback t) output k is h = follows_rollback old new t output k h
-follows old new (event.Commit t) output k is h = follows_commit old new t output k h
-follows old new (event.Undo t) output k is h = follows_undo old new t output k h
-follows old new event.Force output k is h = follows_force old new output k h
-follows old new (event.Send t) output k is h = follows_send old new t output k h
-follows old new (event.LowWater l) output k is h = follows_low_water old new l output k h
-follows old new event.Checkpoint output k is h = follows_checkpoint old new output k h
-follows old new (event.Split key) output k is h = if_up old new (event.Split key) output _ k refl (follows_split old new key output k is) h
-follows old new (event.Merge key) output k is h = if_up old new (event.Merge key) output _ k refl (follows_merge old new key output k is) h
-follows old new event.Tend output k is h = if_up old new event.Tend output _ k refl (follows_tend old new output k is) h
-follows old new (event.Flush key) output k is h = if_up old new (event.Flush key) output _ k refl (follows_flush old new key output k is) h
-follows old new (event.Request i) output k is h = if_up old new (event.Request i) output _ k refl (follows_request old new i output k is) h
-follows old new (event.Reply i) output k is h = follows_reply old new i output k h
-follows old new (event.CrashDc frames bytes) output k is h = follows_crash old new frames bytes output k h
-follows old new event.RestartDc output k is h = follows_restart old new output k is h
+pub follows : (old new : NodeView) (e : Event) (output : Out) → IsKept old → IsTc new.tc → IsDc new.dc → StepsTo old e output new → Follows old e output new
+follows old new event.Reconnect output k tc is h = follows_reconnect old new output k h
+follows old new event.Recover output k tc is h = follows_recover old new output k tc h
+follows old new event.Begin output k tc is h = follows_begin old new output k h
+follows old new (event.Act t op) output k tc is h = follows_act old new t op output k h
+follows old new (event.Get t key) output k tc is h = follows_get old new t key output k h
+follows old new (event.Scan t low high) output k tc is h = follows_scan old new t low high output k h
+follows old new (event.Save t) output k tc is h = follows_save old new t output k h
+follows old new (event.GoBack t s) output k tc is h = follows_go_back old new t s output k h
+follows old new (event.Rollback t) output k tc is h = follows_rollback old new t output k h
+follows old new (event.Commit t) output k tc is h = follows_commit old new t output k h
+follows old new (event.Undo t) output k tc is h = follows_undo old new t output k h
+follows old new event.Force output k tc is h = follows_force old new output k h
+follows old new (event.Send t) output k tc is h = follows_send old new t output k h
+follows old new (event.LowWater l) output k tc is h = follows_low_water old new l output k h
+follows old new event.Checkpoint output k tc is h = follows_checkpoint old new output k h
+follows old new (event.Split key) output k tc is h = if_up old new (event.Split key) output _ k refl (follows_split old new key output k is) h
+follows old new (event.Merge key) output k tc is h = if_up old new (event.Merge key) output _ k refl (follows_merge old new key output k is) h
+follows old new event.Tend output k tc is h = if_up old new event.Tend output _ k refl (follows_tend old new output k is) h
+follows old new (event.Flush key) output k tc is h = if_up old new (event.Flush key) output _ k refl (follows_flush old new key output k is) h
+follows old new (event.Request i) output k tc is h = if_up old new (event.Request i) output _ k refl (follows_request old new i output k is) h
+follows old new (event.Reply i) output k tc is h = follows_reply old new i output k h
+follows old new (event.CrashDc frames bytes) output k tc is h = follows_crash old new frames bytes output k h
+follows old new event.RestartDc output k tc is h = follows_restart old new output k is h
 
 -- a new node
 first_honest : IsHonestTo [] 0 first
@@ -179,7 +180,6 @@ low_answered = may_none []
 pub kept_fresh : IsDc (fresh_dc 0) → IsKept fresh_node
 kept_fresh is = record {
   tc = fresh_tc;
-  unlost = refl;
   right = tt;
   dc = is;
   recoverable = recoverable_fresh 0;

@@ -1,5 +1,5 @@
 -- What the transaction component does by itself keeps what holds of a node.
-use Rattle.std.proofs.Common.{◌≡◌, ◌≢◌, ℕ, ◌+◌, ◌≤◌, Bool, true, false, cond, List, [], ◌∷◌, ◌++◌, length, Option, Some, None, IsSome, is_some, refl, sym, ap, ◌∙◌, subst, inl, inr, true≢false, ne_eqb}
+use Rattle.std.proofs.Common.{◌≡◌, ◌≢◌, ℕ, ◌+◌, ◌<◌, ◌≤◌, Bool, true, false, cond, List, [], ◌∷◌, ◌++◌, length, Some, None, IsSome, is_some, sym, ap, ◌∙◌, subst, inl, inr, true≢false, ne_eqb}
 use Rattle.std.specs.List.{AllByRecursion}
 use Rattle.std.proofs.lemmas.Bool.{cases_eq}
 use Rattle.record_key.specs.declared.op.Op.{Op}
@@ -20,8 +20,8 @@ use Rattle.tc_core.specs.declared.phase.Phase.{Phase}
 use Rattle.tc_core.specs.declared.phase.Phase.TheVariants as phase
 use Rattle.tc_core.specs.declared.open_txn.OpenTxn.{OpenTxn}
 use Rattle.tc_core.specs.OpenTxns.{find}
-use Rattle.tc_core.specs.TcView.{TcView, is_serving, is_none_lost}
-use Rattle.tc_core.specs.Kept.{IsTc, IsPhaseOf}
+use Rattle.tc_core.specs.TcView.{TcView, is_serving}
+use Rattle.tc_core.specs.Kept.{IsTc, IsPhase}
 use Rattle.tc_core.proofs.KeepsTc.{open_at, waits_at, none_next}
 use Rattle.tc_core.proofs.KeepsIdle.{own_request}
 use Rattle.tc_core.proofs.Finding.{found_own}
@@ -88,44 +88,49 @@ awaited_number w k t o n found some =
     let own = own_request w.log o n (waits_at w.log o n (open_at w o k (found_own t w.open_txns o found)) some).request in step_number w.log n o.txn own.step
 
 -- one record more
-pub keeps_appended : (w : NodeView) (tc : TcView) (r : Record) → IsKept w → IsTc tc → IsChecked tc.checkpointed w.dc.system → is_none_lost tc.losers ≡ true → tc.log ≡ r ∷ w.tc.log → w.tc.stable ≤ tc.stable → IsLater w.tc tc → w.tc.reads ≤ tc.reads
+pub keeps_appended : (w : NodeView) (tc : TcView) (r : Record) → IsKept w → IsTc tc → IsChecked tc.checkpointed w.dc.system → tc.log ≡ r ∷ w.tc.log → w.tc.stable ≤ tc.stable → IsLater w.tc tc → w.tc.reads ≤ tc.reads
     → NoneAnew w.tc.reads w.tc.open_txns tc.open_txns → AreSessions tc.stable tc.session tc.phase tc.log w.dc → HasRightAnswers (r ∷ w.tc.log)
     → (w.dc.session ≢ 0 → AnsweredAreCaptured w.tc.log w.dc → AnsweredAreCaptured (r ∷ w.tc.log) w.dc) → IsKept (with_tc w tc)
-keeps_appended w tc r k is checked unlost log stable session reads none_anew sessions right captured =
+keeps_appended w tc r k is checked log stable session reads none_anew sessions right captured =
     keeps_on w tc k is (record { within = k.tc.within; now_within = is.within; log = inr (r, log); stable = stable; session = session; reads = reads; none_anew = none_anew }) sessions (subst HasRightAnswers (sym log) right)
-    (λ some h. subst (λ (log : List Record). AnsweredAreCaptured log w.dc) (sym log) (captured some h)) checked unlost
+    (λ some h. subst (λ (log : List Record). AnsweredAreCaptured log w.dc) (sym log) (captured some h)) checked
 
 -- the same log
-pub keeps_same_log : (w : NodeView) (tc : TcView) → IsKept w → IsTc tc → IsChecked tc.checkpointed w.dc.system → is_none_lost tc.losers ≡ true → tc.log ≡ w.tc.log → w.tc.stable ≤ tc.stable → IsLater w.tc tc → w.tc.reads ≤ tc.reads
+pub keeps_same_log : (w : NodeView) (tc : TcView) → IsKept w → IsTc tc → IsChecked tc.checkpointed w.dc.system → tc.log ≡ w.tc.log → w.tc.stable ≤ tc.stable → IsLater w.tc tc → w.tc.reads ≤ tc.reads
     → NoneAnew w.tc.reads w.tc.open_txns tc.open_txns → AreSessions tc.stable tc.session tc.phase tc.log w.dc → IsKept (with_tc w tc)
-keeps_same_log w tc k is checked unlost log stable session reads none_anew sessions =
+keeps_same_log w tc k is checked log stable session reads none_anew sessions =
     keeps_on w tc k is (record { within = k.tc.within; now_within = is.within; log = inl log; stable = stable; session = session; reads = reads; none_anew = none_anew }) sessions (subst HasRightAnswers (sym log) k.right)
-    (λ some h. subst (λ (log : List Record). AnsweredAreCaptured log w.dc) (sym log) h) checked unlost
+    (λ some h. subst (λ (log : List Record). AnsweredAreCaptured log w.dc) (sym log) h) checked
 
--- no loser is undone
-pub none_undone : (w : NodeView) (waiting : Option ℕ) → IsKept w → IsPhaseOf w.tc.losers (phase.Undoing waiting) → ⊥
-none_undone w waiting k of = true≢false (sym k.unlost ∙ of)
+-- where clients are served both components run in one session, past redo
+pub record IsPastRedo (w : NodeView) : Type 0 where
+  pub stored : w.dc.stored ≡ w.tc.session
+  pub past : w.dc.session ≡ w.tc.session → w.dc.redo ≡ false
+  pub some : 0 < w.tc.session
 
--- clients are served only by one that runs, since nobody has lost
-pub serving_runs : (w : NodeView) → IsKept w → is_serving w.tc.phase ≡ true → w.tc.phase ≡ phase.Running
-serving_runs w k serves = by w.tc.phase serves k.tc.lost.phase_of
+pub past_redo : (w : NodeView) → IsKept w → is_serving w.tc.phase ≡ true → IsPastRedo w
+past_redo w k serves = by w.tc.phase serves k.tc.phase k.sessions.served
   where
-    by : (p : Phase) → is_serving p ≡ true → IsPhaseOf w.tc.losers p → p ≡ phase.Running
-    by phase.Unconnected serves of = absurd (true≢false (sym serves))
-    by phase.Connecting serves of = absurd (true≢false (sym serves))
-    by (phase.Redoing next ending) serves of = absurd (true≢false (sym serves))
-    by (phase.Undoing waiting) serves of = absurd (none_undone w waiting k of)
-    by phase.Running serves of = refl
+    by : (p : Phase) → is_serving p ≡ true → IsPhase w.tc.checkpointed w.tc.session p → IsServed p w.tc.session w.tc.log w.dc → IsPastRedo w
+    by phase.Unconnected serves some h = absurd (true≢false (sym serves))
+    by phase.Connecting serves some h = absurd (true≢false (sym serves))
+    by (phase.Redoing next ending) serves some h = absurd (true≢false (sym serves))
+    by (phase.Undoing waiting) serves some h = record { stored = h.0; past = h.1; some = some }
+    by phase.Running serves some h = record { stored = h.0; past = h.1; some = some }
+
+-- that is all that is said of them then
+pub served_so : (w : NodeView) (log : List Record) (p : Phase) → IsPastRedo w → is_serving p ≡ true → IsServed p w.tc.session log w.dc
+served_so w log phase.Unconnected h serves = absurd (true≢false (sym serves))
+served_so w log phase.Connecting h serves = absurd (true≢false (sym serves))
+served_so w log (phase.Redoing next ending) h serves = absurd (true≢false (sym serves))
+served_so w log (phase.Undoing waiting) h serves = (h.stored, h.past)
+served_so w log phase.Running h serves = (h.stored, h.past)
 
 -- where clients are served the sessions stand, whatever is logged
 pub logs_on : (w : NodeView) (log : List Record) → IsKept w → is_serving w.tc.phase ≡ true → AreSessions w.tc.stable w.tc.session w.tc.phase log w.dc
 logs_on w log k serves = record {
   begun = k.sessions.begun;
-  served =
-      let running = serving_runs w k serves in
-      let P : Phase → Type 0 = λ p. IsServed p w.tc.session w.tc.log w.dc in
-      let Q : Phase → Type 0 = λ p. IsServed p w.tc.session log w.dc in
-      subst Q (sym running) (subst P running k.sessions.served);
+  served = served_so w log w.tc.phase (past_redo w k serves) serves;
 }
 
 -- messages that were sent and given stand beside it
@@ -133,7 +138,6 @@ keeps_messages : (w : NodeView) (requests : List Request) (replies : List Reply)
     → IsKept (record w { requests = requests; replies = replies })
 keeps_messages w requests replies k sent given = record {
   tc = k.tc;
-  unlost = k.unlost;
   right = k.right;
   dc = k.dc;
   recoverable = k.recoverable;

@@ -21,6 +21,8 @@ pub mod Headline
 pub mod HonestShorter
 pub mod Idle
 pub mod Keeps
+pub mod LosersHold
+pub mod LostRounds
 pub mod MayAsk
 pub mod Performs
 pub mod PlainAt

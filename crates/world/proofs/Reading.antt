@@ -1,5 +1,6 @@
 -- Whoever reads holds its span, so at each key there the leaf has what the machine's plain map has.
-use Rattle.std.proofs.Common.{◌≡◌, ◌≢◌, ℕ, true, false, List, Option, Some, None, IsSome, refl, sym, ap, ◌∙◌, subst, true≢false}
+use Rattle.std.proofs.Common.{◌≡◌, ◌≢◌, ℕ, true, false, List, Option, Some, None, IsSome, refl, sym, ap, ◌∙◌, subst, arith, inl, inr, true≢false}
+use Rattle.std.proofs.lemmas.Bool.{cases_Bool}
 use Rattle.std.specs.FinMap.{get}
 use Rattle.record_key.specs.declared.op.Op.{Op}
 use Rattle.record_key.specs.declared.op.Answer.{Answer}
@@ -25,6 +26,7 @@ use Rattle.tc_core.specs.Changes.{shared}
 use Rattle.tc_core.specs.Kept.{IsReading}
 use Rattle.tc_core.proofs.Finding.{found_number}
 use Rattle.tc_core.proofs.KeepsReads.{held_apart}
+use Rattle.tc_core.proofs.Losers.{listed_loser, late_at}
 use Rattle.tc_core.proofs.KeepsTc.{reading_at}
 use Rattle.world.specs.Node.{NodeView}
 use Rattle.world.specs.Kept.{IsKept}
@@ -61,7 +63,16 @@ module _ (w : NodeView) (o : OpenTxn) (r : Read) (k : IsKept w) (at : find o.txn
     where
       by : (a : Option Answer) → answer_of log n ≡ a → IsSome a
       by (Some a) is = refl
-      by None is = absurd (true≢false (sym within ∙ ap (is_within (shared r.span)) (sym on) ∙ unread w.tc o r n q k.tc k.unlost at reads asks is))
+      by None is = absurd (true≢false (sym within ∙ ap (is_within (shared r.span)) (sym on) ∙ unread w.tc o r n q k.tc at reads asks is))
+
+  -- of no loser is an operation there
+  not_lost : (key : Bytes) (n t : ℕ) (q : Op) → is_within (shared r.span) key ≡ true → IsOpBy log n t q → key_of q ≡ key → (clients w.tc).loses t ≡ false
+  not_lost key n t q within by on = elim (cases_Bool ((clients w.tc).loses t)) [
+    | inl listed ↦
+        let loser = listed_loser log w.tc.losers k.tc.lost.losers t listed in
+        absurd (unshared key n t q within by loser.open_txn (λ e. omega (arith, e, loser.early, late_at w.tc o k.tc at)) on)
+    | inr stays ↦ stays
+  ]
 
   -- and nobody has to undo an operation there
   not_undone : (key : Bytes) (n t : ℕ) (q : Op) → is_within (shared r.span) key ≡ true → IsOpBy log n t q → key_of q ≡ key → is_to_undo ((clients w.tc).doing t) n ≡ false
@@ -95,4 +106,4 @@ module _ (w : NodeView) (o : OpenTxn) (r : Read) (k : IsKept w) (at : find o.txn
   pub logged_plain : (m : Machine) → Stands w m → (key : Bytes) → is_within (shared r.span) key ≡ true → value_on key log ≡ get (plain m.h) key
   logged_plain m stands key within =
       sym (plain_is_the_logs (clients w.tc) m key k.tc.legal k.right stands (λ n t q by on uncrossed.
-      (answered_there key within n q (op_request t q (record_at log n) by) (sym on), refl, not_undone key n t q within by (sym on))))
+      (answered_there key within n q (op_request t q (record_at log n) by) (sym on), not_lost key n t q within by (sym on), not_undone key n t q within by (sym on))))

@@ -23,7 +23,7 @@ use Rattle.tc_core.specs.declared.open_txn.Read.{Read}
 use Rattle.tc_core.specs.declared.open_txn.Rollback.{Rollback}
 use Rattle.logical_log.specs.LogView.{is_spent, spent_refusal}
 use Rattle.tc_core.specs.OpenTxns.{find, AreBelow, AreFalling}
-use Rattle.tc_core.specs.TcView.{TcView, is_unconnected, is_serving, is_rolling, is_waiting, is_none_lost}
+use Rattle.tc_core.specs.TcView.{TcView, is_unconnected, is_serving, is_rolling, is_waiting}
 use Rattle.tc_core.specs.Refusing.{Refuses}
 use Rattle.tc_core.specs.Causes.{serving_refusal, open_refusal, idle_refusal, is_full, begin_refusal, commit_refusal, saves_of, save_refusal, has_savepoint, back_refusal, reads_spent, RefusesTaking}
 use Rattle.tc_core.specs.Calls.{BeginGives, ActGives, ReadGives, SaveGives, BackGives, RollbackGives, CommitGives}
@@ -180,9 +180,9 @@ pub begin_refused : (w new : TcView) (m : Machine) (r : Refusal) → IsTc w → 
 begin_refused w new m r k stands h = refused_as w new m ToBegin (begin_refusal w) true true r stands (λ c. begin_cause w m c k stands) h
 
 -- a call that takes a span
-taking_refused : (w new : TcView) (m : Machine) (call : Call) (t : ℕ) (s : Span) (spent : Bool) (device : Bool) (r : Refusal) → IsTc w → is_none_lost w.losers ≡ true → StandsFor (clients w) m
+taking_refused : (w new : TcView) (m : Machine) (call : Call) (t : ℕ) (s : Span) (spent : Bool) (device : Bool) (r : Refusal) → IsTc w → StandsFor (clients w) m
     → caller call ≡ Some t → wanted call ≡ Some (t, s) → RefusesTaking (idle_refusal w t) (first_of ((spent, no.NumbersSpent) ∷ [])) device w t s r new → RefusesSo m call r new
-taking_refused w new m call t s spent device r k unlost stands names wants h = by (idle_refusal w t) refl h
+taking_refused w new m call t s spent device r k stands names wants h = by (idle_refusal w t) refl h
   where
     by : (x : Option Refusal) → idle_refusal w t ≡ x → RefusesTaking x (first_of ((spent, no.NumbersSpent) ∷ [])) device w t s r new → RefusesSo m call r new
     by (Some c) is g =
@@ -191,28 +191,28 @@ taking_refused w new m call t s spent device r k unlost stands names wants h = b
         let b : IsLeastHolder w.locks t s busy.0 = busy.2 in
         record {
           line = as_that m call (no.Busy busy.0) r (sym busy.1)
-              (busy_is_a_line (clients w) m call t busy.0 s k.legal stands (true_spans w k unlost) (rests_there w t is) wants (record { other = b.other; conflicts = b.conflict; least = b.least }));
+              (busy_is_a_line (clients w) m call t busy.0 s k.legal stands (true_spans w k) (rests_there w t is) wants (record { other = b.other; conflicts = b.conflict; least = b.least }));
           stands = subst (λ x. StandsFor (clients x) m) (sym busy.3) stands;
         }
     by None is (inr free) =
         refused_as w new m call (first_of ((spent, no.NumbersSpent) ∷ [])) true device r stands (λ c. spent_there spent m call c) free.1
 
-pub act_refused : (w new : TcView) (m : Machine) (t : ℕ) (op : Op) (r : Refusal) → IsTc w → is_none_lost w.losers ≡ true → StandsFor (clients w) m → ActGives w t op (Err r) new → RefusesSo m (ToAct t op) r new
-act_refused w new m t op r k unlost stands h = taking_refused w new m (ToAct t op) t (at_key Exclusive (key_of op)) (is_spent w.log) true r k unlost stands refl refl h
+pub act_refused : (w new : TcView) (m : Machine) (t : ℕ) (op : Op) (r : Refusal) → IsTc w → StandsFor (clients w) m → ActGives w t op (Err r) new → RefusesSo m (ToAct t op) r new
+act_refused w new m t op r k stands h = taking_refused w new m (ToAct t op) t (at_key Exclusive (key_of op)) (is_spent w.log) true r k stands refl refl h
 
 -- a read looks at the keys of its query
 pub same_span : (s : Keys) → asked_span (query_of s) ≡ shared s
 same_span (Key k) = refl
 same_span (Range low high) = refl
 
-pub read_refused : (w new : TcView) (m : Machine) (t : ℕ) (s : Keys) (r : Refusal) → IsTc w → is_none_lost w.losers ≡ true → StandsFor (clients w) m → ReadGives w t s (Err r) new
+pub read_refused : (w new : TcView) (m : Machine) (t : ℕ) (s : Keys) (r : Refusal) → IsTc w → StandsFor (clients w) m → ReadGives w t s (Err r) new
     → RefusesSo m (ToRead t (query_of s)) r new
-read_refused w new m t s r k unlost stands h = by (ends_above (shared s).hi (shared s).lo) refl h
+read_refused w new m t s r k stands h = by (ends_above (shared s).hi (shared s).lo) refl h
   where
     by : (b : Bool) → ends_above (shared s).hi (shared s).lo ≡ b
         → RefusesTaking (or_else (first_of ((not b, no.BadRange) ∷ [])) (idle_refusal w t)) (reads_spent w.reads) false w t (shared s) r new → RefusesSo m (ToRead t (query_of s)) r new
     by true range g =
-        taking_refused w new m (ToRead t (query_of s)) t (shared s) (nat_le 281474976710655 w.reads) false r k unlost stands refl (ap (λ x. Some (t, x)) (same_span s)) g
+        taking_refused w new m (ToRead t (query_of s)) t (shared s) (nat_le 281474976710655 w.reads) false r k stands refl (ap (λ x. Some (t, x)) (same_span s)) g
     by false none g =
         let empty : IsRange (asked_span (query_of s)) → ⊥ =
         λ range. true≢false (sym range ∙ ap (λ (x : Span). ends_above x.hi x.lo) (same_span s) ∙ none) in

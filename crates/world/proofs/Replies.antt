@@ -17,7 +17,7 @@ use Rattle.range_locks.specs.declared.span.Span.{Span}
 use Rattle.range_locks.specs.declared.span.Span.TheVariants.{Key, Range}
 use Rattle.record_key.specs.declared.op.Op.{Op}
 use Rattle.history.specs.declared.record.Record.{Record}
-use Rattle.history.specs.Log.{Requests}
+use Rattle.history.specs.Log.{record_at, Requests}
 use Rattle.page.proofs.Performing.{one_request}
 use Rattle.dc_core.specs.DcView.{DcView, captures_at}
 use Rattle.tc_core.specs.declared.open_txn.OpenTxn.{OpenTxn}
@@ -28,26 +28,26 @@ use Rattle.tc_core.specs.declared.phase.Phase.TheVariants as phase
 use Rattle.tc_core.specs.declared.told.Told.TheVariants as told
 use Rattle.logical_log.specs.LogView.{is_spent}
 use Rattle.tc_core.specs.OpenTxns.{find}
-use Rattle.tc_core.specs.TcView.{TcView}
+use Rattle.tc_core.specs.TcView.{TcView, is_none_lost}
 use Rattle.system_txn.specs.Checked.{IsChecked}
-use Rattle.tc_core.specs.Changes.{answered, answered_txn, was_told, told_txn, checkpointed, undoing_or_running}
-use Rattle.tc_core.specs.Replies.{Outcome, takes, awaiting, next_phase, passed, on_awaited, on_answered, on_connected, on_redo_ended, on_checkpointed, on_reply, on_row, on_rows, is_number, is_key, is_range, span_read, reader, logs, takes_memory, reply_refusal}
-use Rattle.tc_core.specs.Kept.{IsTc, IsPhase}
+use Rattle.tc_core.specs.Changes.{answered, answered_txn, answered_lost, was_told, told_txn, checkpointed, undoing_or_running}
+use Rattle.tc_core.specs.Replies.{Outcome, takes, awaiting, lacks, told_lost, next_phase, passed, on_awaited, on_answered, on_connected, on_redo_ended, on_checkpointed, on_reply, on_row, on_rows, is_number, is_key, is_range, span_read, reader, logs, takes_memory, reply_refusal}
+use Rattle.tc_core.specs.Kept.{IsTc, IsPhase, IsDue}
 use Rattle.tc_core.proofs.KeepsReads.{reader_is}
 use Rattle.tc_core.proofs.KeepsTc.{open_at, waits_at, awaited_is}
-use Rattle.world.proofs.Waited.{nothing_lacks, lost_if}
+use Rattle.world.proofs.Waited.{lacking_due, lost_if}
 use Rattle.world.specs.declared.event.Event.TheVariants as event
 use Rattle.world.specs.declared.event.Out.{Out}
 use Rattle.world.specs.declared.event.Out.TheVariants as out
 use Rattle.world.specs.Node.{NodeView, with_tc, as_out, IsUnsent, Taken, Untaken, TakesTo}
 use Rattle.world.specs.Sent.{IsUnread}
-use Rattle.world.specs.Kept.{IsKept, IsTrueOfReader, InSession, IsValue, AreRows, IsAnswered, IsGiven, IsServed}
+use Rattle.world.specs.Kept.{IsKept, IsTrueOfReader, InSession, IsValue, AreRows, IsAnswered, IsGiven, IsServed, AreSessions}
 use Rattle.world.specs.Simulation.{Leads, Stands, lines_of, clients}
 use Rattle.world.proofs.ByNumber.{all_at}
 use Rattle.world.proofs.CallsKeep.{reply_keeps}
 use Rattle.world.proofs.Awaited.{comp_waited, reads_nothing}
 use Rattle.world.proofs.AtKeys.{low_captured}
-use Rattle.world.proofs.Standing.{stands_answered, stands_undone, stands_checkpointed}
+use Rattle.world.proofs.Standing.{stands_answered, stands_undone, stands_lost_answered, stands_checkpointed}
 use Rattle.world.proofs.ToldReads.{tells_row, tells_rows}
 use Rattle.world.proofs.Readers.{none_same, none_replaced, reads_same, reads_none}
 use Rattle.world.proofs.Keeps.{answer_captured, still_captured, quiet_served, keeps_appended, keeps_same_log}
@@ -117,20 +117,24 @@ taken_there w s n a k t runs o asks =
 
 passes : (w : NodeView) (s n : ℕ) (a : Option Answer) → IsKept w → IsTaken w s n a → IsTc (passed w.tc n) → IsKept (with_tc w (passed w.tc n))
 passes w s n a k t after =
-    keeps_same_log w (passed w.tc n) k after k.checked k.unlost refl (omega arith) (inl refl) (omega arith) (none_same w.tc.reads w.tc.open_txns)
+    keeps_same_log w (passed w.tc n) k after k.checked refl (omega arith) (inl refl) (omega arith) (none_same w.tc.reads w.tc.open_txns)
     (record { begun = k.sessions.begun; served = next_served w.tc.phase n w.tc.session w.tc.log w.dc t.taken (taken_there w s n a k t) k.sessions.served })
+
+answer_sessions : (w : NodeView) (s n : ℕ) (a : Answer) → IsKept w → IsTaken w s n (Some a)
+    → AreSessions w.tc.stable w.tc.session (next_phase w.tc.phase n) (is.Answer n a ∷ w.tc.log) w.dc
+answer_sessions w s n a k t = record {
+  begun = k.sessions.begun;
+  served = quiet_served (next_phase w.tc.phase n) w.tc.session (is.Answer n a) w.tc.log w.dc (λ o h. cc)
+      (next_served w.tc.phase n w.tc.session w.tc.log w.dc t.taken (taken_there w s n (Some a) k t) k.sessions.served);
+}
 
 -- the answer that is waited for
 answers : (w : NodeView) (o : OpenTxn) (s n : ℕ) (a : Answer) → IsKept w → find o.txn w.tc.open_txns ≡ Some o → IsTc (passed (answered w.tc o n a) n) → IsTaken w s n (Some a)
     → IsKept (with_tc w (passed (answered w.tc o n a) n))
 answers w o s n a k at after t =
-    keeps_appended w (passed (answered w.tc o n a) n) (is.Answer n a) k after k.checked k.unlost refl (omega arith) (inl refl) (omega arith)
+    keeps_appended w (passed (answered w.tc o n a) n) (is.Answer n a) k after k.checked refl (omega arith) (inl refl) (omega arith)
     (none_replaced w.tc.reads w.tc.open_txns o (answered_txn o) at (reads_same w.tc.reads o (answered_txn o) refl))
-    (record {
-      begun = k.sessions.begun;
-      served = quiet_served (next_phase w.tc.phase n) w.tc.session (is.Answer n a) w.tc.log w.dc (λ o h. cc)
-          (next_served w.tc.phase n w.tc.session w.tc.log w.dc t.taken (taken_there w s n (Some a) k t) k.sessions.served);
-    })
+    (answer_sessions w s n a k t)
     (t.given.answer, k.right)
     (λ some. answer_captured w n a t.given.op t.given.requests (taken_captured w s n (Some a) k t some))
 
@@ -140,16 +144,39 @@ tells : (w : NodeView) (i : ℕ) (o : OpenTxn) (s n : ℕ) (a : Answer) → IsKe
     → Leads w (event.Reply i) (as_out (if is_some x then told.Undone n else told.Answered o.txn a)) (with_tc w (passed (answered w.tc o n a) n))
 tells w i o s n a k at waiting given after (Some r) rolling =
     no_line w (with_tc w (passed (answered w.tc o n a) n)) (event.Reply i) (out.Undone n) refl (λ m stands.
-    stands_undone w.tc m o k.tc k.unlost at stands r n a rolling after.legal
+    stands_undone w.tc m o k.tc at stands r n a rolling after.legal
     (comp_waited w.tc.log o n (ap is_some rolling) (waits_at w.tc.log o n (open_at w.tc o k.tc at) waiting).request))
 tells w i o s n a k at waiting given after None flat =
     one_line w (with_tc w (passed (answered w.tc o n a) n)) (event.Reply i) (out.Answered o.txn a) (TellsAnswer o.txn a) refl (λ m stands.
-    stands_answered w.tc m o k.tc k.unlost at stands n a flat (reads_nothing w.tc o n k.tc at waiting) waiting after.legal (given.answer, k.right) given.stable)
+    stands_answered w.tc m o k.tc at stands n a flat (reads_nothing w.tc o n k.tc at waiting) waiting after.legal (given.answer, k.right) given.stable)
+
+-- the answer of a loser's request
+lost_answers : (w : NodeView) (s n : ℕ) (a : Answer) → IsKept w → IsTc (passed (answered_lost w.tc n a) n) → IsTaken w s n (Some a)
+    → IsKept (with_tc w (passed (answered_lost w.tc n a) n))
+lost_answers w s n a k after t =
+    keeps_appended w (passed (answered_lost w.tc n a) n) (is.Answer n a) k after k.checked refl (omega arith) (inl refl) (omega arith)
+    (none_same w.tc.reads w.tc.open_txns) (answer_sessions w s n a k t)
+    (t.given.answer, k.right)
+    (λ some. answer_captured w n a t.given.op t.given.requests (taken_captured w s n (Some a) k t some))
+
+-- is told to nobody
+lost_answered : (w : NodeView) (i s n : ℕ) (a : Answer) → IsKept w → IsDue w.tc.log w.tc.losers.below n → IsTaken w s n (Some a) → Goes w i (told_lost (record_at w.tc.log n) n, passed (answered_lost w.tc n a) n)
+lost_answered w i s n a k due t after = quietly w i (told_lost (record_at w.tc.log n) n, passed (answered_lost w.tc n a) n) (by (record_at w.tc.log n))
+    (λ m stands. stands_lost_answered w.tc m n a k.tc after.legal due stands) (lost_answers w s n a k after t)
+  where
+    by : (r : Option Record) → lines_of (event.Reply i) (as_out (told_lost r n)) ≡ Some []
+    by (Some (is.Comp u x y z)) = refl
+    by (Some r) = refl
+    by None = refl
 
 awaited_goes : (w : NodeView) (i s n : ℕ) (a : Option Answer) (x : Option OpenTxn) → IsKept w → awaiting w.tc n ≡ x → IsTaken w s n a → Goes w i (on_awaited w.tc n a x)
 awaited_goes w i s n a None k none t after =
-    let passing : Goes w i (told.Nothing, passed w.tc n) = λ there. quietly w i (told.Nothing, passed w.tc n) refl (λ m stands. stands) (passes w s n a k t there) in
-    subst (λ b. Goes w i (lost_if w.tc n a b)) (sym (nothing_lacks w.tc n k.tc k.unlost none)) passing after
+    by (lacks w.tc n) refl a t after
+  where
+    by : (b : Bool) → lacks w.tc n ≡ b → (a : Option Answer) → IsTaken w s n a → Goes w i (lost_if w.tc n a b)
+    by false lacks_none a t after = quietly w i (told.Nothing, passed w.tc n) refl (λ m stands. stands) (passes w s n a k t after)
+    by true lacking None t after = nothing w i k after
+    by true lacking (Some a) t after = lost_answered w i s n a k (lacking_due w.tc n k.tc lacking none) t after
 awaited_goes w i s n None (Some o) k some t after = nothing w i k after
 awaited_goes w i s n (Some a) (Some o) k some t after =
     let at = awaited_is w.tc n o some in
@@ -171,7 +198,7 @@ connected_goes w i s phase.Connecting at k same given after =
     let Q : Phase → Type 0 = IsPhase w.tc.checkpointed w.tc.session in
     let some : 0 < w.tc.session = let least = subst Q at k.tc.phase in omega (arith, least) in
     quietly w i (told.Connected w.tc.session, tc) refl (λ m stands. stands)
-    (keeps_same_log w tc k after k.checked k.unlost refl (omega arith) (inl refl) (omega arith) (none_same w.tc.reads w.tc.open_txns)
+    (keeps_same_log w tc k after k.checked refl (omega arith) (inl refl) (omega arith) (none_same w.tc.reads w.tc.open_txns)
     (record {
       begun = k.sessions.begun;
       served = (
@@ -193,14 +220,18 @@ redo_ended_goes w i s (phase.Redoing next true) at k same past after =
     let served = redo_served w next true k at in
     let bounds = redoing_phase w next true k at in
     quietly w i (told.RedoEnded w.tc.session, record w.tc { phase = undoing_or_running w.tc.losers }) refl (λ m stands. stands)
-    (keeps_same_log w (record w.tc { phase = undoing_or_running w.tc.losers }) k after k.checked k.unlost refl (omega arith) (inl refl) (omega arith) (none_same w.tc.reads w.tc.open_txns)
+    (keeps_same_log w (record w.tc { phase = undoing_or_running w.tc.losers }) k after k.checked refl (omega arith) (inl refl) (omega arith) (none_same w.tc.reads w.tc.open_txns)
     (record {
       begun = k.sessions.begun;
       served =
-          let P : Phase → Type 0 = λ p. IsServed p w.tc.session w.tc.log w.dc in
-          subst P (sym (ap (λ b. if b then phase.Running else phase.Undoing None) k.unlost))
+          ended_served (is_none_lost w.tc.losers)
           (served.1, λ runs. past.holds (is_run w.dc s (λ zero. absurd (omega (arith, zero, same, bounds.0, bounds.1))) (runs ∙ sym same)));
     }))
+  where
+    ended_served : (b : Bool) → (w.dc.stored ≡ w.tc.session) × (w.dc.session ≡ w.tc.session → w.dc.redo ≡ false)
+        → IsServed (if b then phase.Running else phase.Undoing None) w.tc.session w.tc.log w.dc
+    ended_served true h = h
+    ended_served false h = h
 redo_ended_goes w i s (phase.Undoing waiting) at k same past after = nothing w i k after
 redo_ended_goes w i s phase.Running at k same past after = nothing w i k after
 
@@ -208,7 +239,7 @@ redo_ended_goes w i s phase.Running at k same past after = nothing w i k after
 checkpoint_logged : (w : NodeView) (l : ℕ) → IsKept w → IsChecked l w.dc.system → IsTc (checkpointed w.tc l) → IsKept (with_tc w (checkpointed w.tc l))
 checkpoint_logged w l k given after =
     let r : Record = is.Checkpoint l in
-    keeps_appended w (checkpointed w.tc l) r k after (pick (nat_lt w.tc.checkpointed l)) k.unlost refl (omega arith) (inl refl) (omega arith) (none_same w.tc.reads w.tc.open_txns)
+    keeps_appended w (checkpointed w.tc l) r k after (pick (nat_lt w.tc.checkpointed l)) refl (omega arith) (inl refl) (omega arith) (none_same w.tc.reads w.tc.open_txns)
     (record { begun = k.sessions.begun; served = quiet_served w.tc.phase w.tc.session r w.tc.log w.dc (λ o h. cc) k.sessions.served })
     k.right (λ some. still_captured w r (λ o h. cc) (λ m. refl))
   where
@@ -236,7 +267,7 @@ fresh_session s session c h = pick (session == 0) (s == session) refl h
 -- what was read is told to who waits for it
 kept_told : (w : NodeView) (o : OpenTxn) → IsKept w → find o.txn w.tc.open_txns ≡ Some o → IsTc (was_told w.tc o) → IsKept (with_tc w (was_told w.tc o))
 kept_told w o k at after =
-    keeps_same_log w (was_told w.tc o) k after k.checked k.unlost refl (omega arith) (inl refl) (omega arith)
+    keeps_same_log w (was_told w.tc o) k after k.checked refl (omega arith) (inl refl) (omega arith)
     (none_replaced w.tc.reads w.tc.open_txns o (told_txn o) at (reads_none w.tc.reads o (told_txn o) refl)) k.sessions
 
 row_goes : (w : NodeView) (i n : ℕ) (v : Option Bytes) (x : Option OpenTxn) → IsKept w → reader w.tc n ≡ x → IsTrueOfReader w.tc n (IsValue w.tc.log v) → Goes w i (on_row w.tc v x)

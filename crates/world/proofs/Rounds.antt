@@ -80,7 +80,7 @@ pub next_for : (w : NodeView) (o : OpenTxn) → IsServing w → IsTc w.tc → ol
 next_for w o serves k at = by o.waiting refl
   where
     forced : (n : ℕ) → o.waiting ≡ Some n → (b : Bool) → nat_lt w.tc.stable n ≡ b → IsNext w (if b then round.Force else round.Exchange o.txn)
-    forced n waiting true e = (serves, inl (o.txn, n, due w.tc o n k at waiting, grind (arith, nat_tests, e)))
+    forced n waiting true e = inl (serves, inl (o.txn, n, due w.tc o n k at waiting, grind (arith, nat_tests, e)))
     forced n waiting false e = (serves, inl (n, due w.tc o n k at waiting, grind (arith, nat_tests, e)))
 
     by : (m : Option ℕ) → o.waiting ≡ m → IsNext w (round_for o.txn w.tc.stable m)

@@ -1,9 +1,9 @@
 -- What is sent stands, and sending changes nothing for clients.
-use Rattle.std.proofs.Common.{◌≡◌, ◌⊎◌, ℕ, ◌+◌, ◌<◌, ◌≤◌, Bool, true, List, [], ◌∷◌, ◌++◌, length, Option, Some, None, is_some, refl, sym, ap, ◌∙◌, subst, arith, inl, inr}
-use Rattle.std.specs.Prelude.{Ok, not}
+use Rattle.std.proofs.Common.{◌≡◌, ◌⊎◌, ℕ, ◌+◌, ◌<◌, ◌≤◌, Bool, true, false, List, [], ◌∷◌, ◌++◌, length, Option, Some, None, is_some, refl, sym, ap, ◌∙◌, subst, arith, inl, inr}
+use Rattle.std.specs.Prelude.{Ok, not, if◌then◌else◌}
 use Rattle.record_key.specs.declared.refusal.Refusal.{Refusal}
 use Rattle.record_key.specs.declared.refusal.Refusal.TheVariants.{Device}
-use Rattle.history.specs.ListMachine.{Machine, Steps}
+use Rattle.history.specs.ListMachine.{Machine, TellsLost, Steps}
 use Rattle.simulation.specs.View.{StandsFor}
 use Rattle.std.proofs.lemmas.Bool.{cases_lt}
 use Rattle.std.specs.Prelude.{IsSome}
@@ -22,7 +22,7 @@ use Rattle.codec.specs.declared.request.Request.{Request}
 use Rattle.codec.specs.declared.request.Request.TheVariants as asks
 use Rattle.tc_core.specs.declared.phase.Phase.{Phase}
 use Rattle.tc_core.specs.declared.phase.Phase.TheVariants as phase
-use Rattle.tc_core.specs.TcView.{TcView, failed}
+use Rattle.tc_core.specs.TcView.{TcView, failed, is_serving, is_none_lost}
 use Rattle.range_locks.specs.declared.span.Span.{Span}
 use Rattle.range_locks.specs.declared.span.Span.TheVariants.{Key, Range}
 use Rattle.tc_core.specs.declared.open_txn.OpenTxn.{OpenTxn}
@@ -30,27 +30,26 @@ use Rattle.tc_core.specs.declared.open_txn.Read.{Read}
 use Rattle.tc_core.specs.OpenTxns.{find}
 use Rattle.logical_log.specs.LogView.{spent_refusal}
 use Rattle.tc_core.specs.Refusing.{Refuses}
-use Rattle.tc_core.specs.Changes.{logged_session, reconnected, announced, asked_checkpoint}
+use Rattle.tc_core.specs.Changes.{logged_session, reconnected, announced, asked_checkpoint, lost_comp, lost_compensated, lost_ended}
 use Rattle.tc_core.specs.Calls.{read_request, IsRequestOf}
-use Rattle.tc_core.specs.declared.told.RecoverStep.TheVariants as recovery
-use Rattle.tc_core.specs.Recovery.{SendsAt, redo_request, redo_place, redoing, recover_refusal, undo_logs_at}
+use Rattle.tc_core.specs.Recovery.{SendsAt, CompensatesLatest, LosesLeast, redo_request, redo_place, redoing, recover_refusal, undo_logs_at}
 use Rattle.tc_core.specs.Undo.{AsksNothing, FindsRequest}
-use Rattle.tc_core.specs.Kept.{IsPhase, IsTc, IsPhaseOf}
+use Rattle.tc_core.specs.Kept.{IsPhase, IsTc}
 use Rattle.world.specs.declared.event.Event.TheVariants as event
 use Rattle.world.specs.declared.event.Out.{Out}
 use Rattle.world.specs.declared.event.Out.TheVariants as out
 use Rattle.world.specs.Node.{NodeView, with_tc, ReconnectsTo, RecoversTo, SendsTo, LowersTo, AsksCheckpoint}
-use Rattle.world.specs.Kept.{IsKept, IsReadTrue, IsSent, IsServed, AreBefore, AllAreCaptured, EarlierAreCaptured}
+use Rattle.world.specs.Kept.{IsKept, IsReadTrue, IsSent, IsServed, AreSessions, AreBefore, AllAreCaptured, EarlierAreCaptured}
 use Rattle.world.specs.Simulation.{Stands, clients, told_committed}
 use Rattle.world.proofs.CallsKeep.{reconnect_keeps, session_keeps, recover_keeps, low_water_keeps, checkpoint_keeps}
-use Rattle.world.proofs.Standing.{stands_logged, stands_reconnected}
+use Rattle.world.proofs.Standing.{stands_logged, stands_reconnected, stands_lost_compensated, stands_lost_ended}
 use Rattle.world.proofs.Grows.{GoesOn, sent_on}
 use Rattle.tc_core.proofs.KeepsTc.{reading_at}
 use Rattle.world.proofs.Readers.{none_same}
 use Rattle.world.proofs.Idle.{both_none, serves_open}
-use Rattle.world.proofs.Keeps.{still_captured, quiet_served, keeps_appended, keeps_same_log, with_request, keeps_sent, none_undone, serving_runs}
+use Rattle.world.proofs.Keeps.{still_captured, asked_captured, quiet_served, served_so, keeps_appended, keeps_same_log, with_request, keeps_sent, IsPastRedo, past_redo}
 use Rattle.world.proofs.Running.{run_is, past_is}
-use Rattle.world.proofs.Follows.{Follows, at_new, no_line, unchanged, left_refused, kept_left, keeps_failed, stands_left}
+use Rattle.world.proofs.Follows.{Follows, at_new, at_tc, no_line, one_line, unchanged, left_refused, kept_left, keeps_failed, stands_left}
 
 -- every request so far is before the next record
 all_before : (log : List Record) → AreBefore log (length log + 1)
@@ -62,7 +61,7 @@ begins w k after =
     let before : AreBefore (is.Session ∷ w.tc.log) (length w.tc.log + 1) =
     λ n o asks. all_before w.tc.log n o (older_at (ARequest o) is.Session w.tc.log n
     (λ e. let none : ARequest o (Some is.Session) = newest_at (ARequest o) is.Session w.tc.log n e asks in cc) asks) in
-    keeps_appended w (reconnected w.tc) is.Session k after k.checked k.unlost refl (omega (arith, k.tc.within)) (inr (omega (arith, k.tc.within))) (omega arith) (none_same w.tc.reads w.tc.open_txns)
+    keeps_appended w (reconnected w.tc) is.Session k after k.checked refl (omega (arith, k.tc.within)) (inr (omega (arith, k.tc.within))) (omega arith) (none_same w.tc.reads w.tc.open_txns)
     (record {
       begun = record { recorded = omega (arith, k.sessions.begun.recorded, k.tc.within); most = λ some. omega (arith, k.sessions.begun.recorded, k.tc.within) };
       served = before;
@@ -72,7 +71,7 @@ begins w k after =
 -- or only its record is logged, since the force failed
 logs_session : (w : NodeView) → IsKept w → IsTc (logged_session w.tc) → IsKept (with_tc w (logged_session w.tc))
 logs_session w k after =
-    keeps_appended w (logged_session w.tc) is.Session k after k.checked k.unlost refl (omega arith) (inl refl) (omega arith) (none_same w.tc.reads w.tc.open_txns)
+    keeps_appended w (logged_session w.tc) is.Session k after k.checked refl (omega arith) (inl refl) (omega arith) (none_same w.tc.reads w.tc.open_txns)
     (record { begun = k.sessions.begun; served = quiet_served w.tc.phase w.tc.session is.Session w.tc.log w.dc (λ o h. cc) k.sessions.served })
     k.right (λ some. still_captured w is.Session (λ o h. cc) (λ m. refl))
 
@@ -121,7 +120,7 @@ pub keeps_redoing : (w : NodeView) (next : ℕ) (was : Bool) (n : ℕ) (ending :
     → (w.dc.session ≡ w.tc.session → AllAreCaptured w.tc.log w.dc n) → IsKept (with_tc w (redoing w.tc n ending))
 keeps_redoing w next was n ending k at tc captured =
     let was_served = redo_served w next was k at in
-    keeps_same_log w (redoing w.tc n ending) k tc k.checked k.unlost refl (omega arith) (inl refl) (omega arith) (none_same w.tc.reads w.tc.open_txns)
+    keeps_same_log w (redoing w.tc n ending) k tc k.checked refl (omega arith) (inl refl) (omega arith) (none_same w.tc.reads w.tc.open_txns)
     (record { begun = k.sessions.begun; served = (was_served.0, was_served.1, captured) })
 
 -- the place of redo, and what it sends
@@ -173,9 +172,18 @@ pub redoing_phase : (w : NodeView) (next : ℕ) (ending : Bool) → IsKept w →
 redoing_phase w next ending k at =
     let P : Phase → Type 0 = IsPhase w.tc.checkpointed w.tc.session in let h = subst P at k.tc.phase in (h.0, h.1)
 
--- no loser is undone
-pub no_undoing : (w : NodeView) (waiting : Option ℕ) → IsKept w → w.tc.phase ≡ phase.Undoing waiting → ⊥
-no_undoing w waiting k at = let P : Phase → Type 0 = IsPhaseOf w.tc.losers in none_undone w waiting k (subst P at k.tc.lost.phase_of)
+-- what is sent past redo: the earlier requests on its key are answered, so captured
+earlier_captured : (w : NodeView) (n : ℕ) (o : Op) → IsKept w → IsPastRedo w → Requests w.tc.log n o → runs w.dc w.tc.session ≡ true
+    → EarlierAreCaptured w.tc.log w.dc n (key_of o)
+earlier_captured w n o k past_redo asks r m p earlier below on =
+    let run = run_is w.dc w.tc.session r in
+    let past = past_is w.dc w.tc.session run.some run.is (past_redo.past run.is) in
+    subst (λ (z : Bytes). captures_at w.dc z m ≡ true) on
+    (k.answered past m p earlier (since (λ x. IsSome (answer_of x m)) (answered_push m) w.tc.log n (one_at_a_time w.tc.log k.tc.legal m n p o earlier below asks (sym on))))
+
+sent_past : (w : NodeView) (n : ℕ) (o : Op) → IsKept w → IsPastRedo w → n ≤ w.tc.stable → Requests w.tc.log n o → IsSent w.tc w.dc (asks.Perform w.tc.session n o)
+sent_past w n o k past stable requests =
+    (stable, requests, record { begun = omega (arith, past.stored); holds = λ runs. earlier_captured w n o k past requests runs })
 
 -- what recovery sends, by its phase
 pub recovers : (old new : NodeView) (q : Request) (p : Phase) → old.tc.phase ≡ p → IsKept old → SendsAt old.tc p q new.tc
@@ -202,31 +210,74 @@ recovers old new q (phase.Redoing next ending) at k h after left =
     stays : (w : NodeView) (n : ℕ) (e : Bool) → IsKept w → GoesOn w.tc (redoing w.tc n e)
     stays w n e k = record { within = k.tc.within; now_within = k.tc.within; log = inl refl; stable = omega arith; session = inl refl; reads = omega arith; none_anew = none_same w.tc.reads w.tc.open_txns }
 recovers old new q (phase.Undoing None) at k h after left = absurd h
-recovers old new q (phase.Undoing (Some n)) at k h after left = absurd (no_undoing old (Some n) k at)
+recovers old new q (phase.Undoing (Some n)) at k h after left =
+    let same : new ≡ with_request old q = left ∙ ap (λ tc. record old { tc = tc; requests = old.requests ++ q ∷ [] }) h.unchanged in
+    let P : Request → Type 0 = IsSent old.tc old.dc in
+    let past = past_redo old k (ap is_serving at) in (
+      subst IsKept (sym same) (keeps_sent old q k (subst P (sym h.request_is) (sent_past old n h.op k past h.stable h.requests))),
+      λ m stands. subst (λ x. StandsFor (clients x) m) (sym h.unchanged) stands,
+    )
 recovers old new q phase.Running at k h after left = absurd h
 
-pub follows_recover : (old new : NodeView) (output : Out) → IsKept old → RecoversTo old output new → Follows old event.Recover output new
-follows_recover old new out.Nothing k h = unchanged old new event.Recover out.Nothing k (h.1 ∙ ap (with_tc old) h.0.1.1) refl
-follows_recover old new (out.Sent i) k h =
+-- where losers are undone a record more leaves the sessions as they were
+losing_on : (w : NodeView) (waiting : Option ℕ) (next : Phase) (log : List Record) → IsKept w → w.tc.phase ≡ phase.Undoing waiting → is_serving next ≡ true
+    → AreSessions w.tc.stable w.tc.session next log w.dc
+losing_on w waiting next log k at serves = record { begun = k.sessions.begun; served = served_so w log next (past_redo w k (ap is_serving at)) serves }
+
+-- a compensation of a loser's operation
+lost_compensates : (old new : NodeView) (n : ℕ) → IsKept old → IsTc new.tc → CompensatesLatest old.tc n new.tc → new ≡ with_tc old new.tc
+    → Follows old event.Recover (out.Compensated n) new
+lost_compensates old new n k is_tc h left =
+    let tc : TcView = lost_compensated old.tc h.loser new.tc.losers in
+    let after : IsTc tc = subst IsTc h.left is_tc in
+    let c : Record = lost_comp old.tc.log h.loser in
+    at_tc old new tc event.Recover (out.Compensated n) left h.left (record {
+      leads = no_line old (with_tc old tc) event.Recover (out.Compensated n) refl
+          (λ m stands. stands_lost_compensated old.tc m h.loser new.tc.losers k.tc after h.same h.next.loser stands);
+      kept = keeps_appended old tc c k after k.checked refl (omega arith) (inl refl) (omega arith) (none_same old.tc.reads old.tc.open_txns)
+          (losing_on old None tc.phase tc.log k h.undoing refl) k.right (λ some. asked_captured old c k (λ m. refl));
+    })
+
+-- its End
+lost_ends : (old new : NodeView) (t : ℕ) → IsKept old → IsTc new.tc → LosesLeast old.tc t new.tc → new ≡ with_tc old new.tc
+    → Follows old event.Recover (out.Lost t) new
+lost_ends old new t k is_tc h left =
+    let tc : TcView = lost_ended old.tc t new.tc.losers in
+    let after : IsTc tc = subst IsTc h.left is_tc in
+    let e : Record = is.End t in
+    at_tc old new tc event.Recover (out.Lost t) left h.left (record {
+      leads = one_line old (with_tc old tc) event.Recover (out.Lost t) (TellsLost t) refl
+          (λ m stands. stands_lost_ended old.tc m t new.tc.losers k.tc after h.same h.least.is.loser stands);
+      kept = keeps_appended old tc e k after k.checked refl (omega arith) (inl refl) (omega arith) (none_same old.tc.reads old.tc.open_txns)
+          (losing_on old None tc.phase tc.log k h.undoing (serves (is_none_lost new.tc.losers))) k.right (λ some. still_captured old e (λ q asks. cc) (λ m. refl));
+    })
+  where
+    serves : (b : Bool) → is_serving (if b then phase.Running else phase.Undoing None) ≡ true
+    serves true = refl
+    serves false = refl
+
+pub follows_recover : (old new : NodeView) (output : Out) → IsKept old → IsTc new.tc → RecoversTo old output new → Follows old event.Recover output new
+follows_recover old new out.Nothing k is h = unchanged old new event.Recover out.Nothing k (h.1 ∙ ap (with_tc old) h.0.1.1) refl
+follows_recover old new (out.Sent i) k is h =
     let both = recovers old new h.0 old.tc.phase refl k h.1.1 (recover_keeps old.tc new.tc h.0 k.tc h.1) h.2.left in
     record { leads = no_line old new event.Recover (out.Sent i) refl both.1; kept = both.0 }
-follows_recover old new (out.Compensated n) k h = absurd (no_undoing old None k h.0.1.undoing)
-follows_recover old new (out.Lost t) k h = absurd (no_undoing old None k h.0.1.undoing)
-follows_recover old new (out.Refused r) k (inl h) = unchanged old new event.Recover (out.Refused r) k h.1 refl
-follows_recover old new (out.Refused r) k (inr h) =
+follows_recover old new (out.Compensated n) k is h = lost_compensates old new n k is h.0.1 h.1
+follows_recover old new (out.Lost t) k is h = lost_ends old new t k is h.0.1 h.1
+follows_recover old new (out.Refused r) k is (inl h) = unchanged old new event.Recover (out.Refused r) k h.1 refl
+follows_recover old new (out.Refused r) k is (inr h) =
     let logs : Bool = undo_logs_at old.tc.phase in
     let which = left_refused (recover_refusal old.tc) logs logs old.tc r new.tc h.0 in
     record {
       leads = no_line old new event.Recover (out.Refused r) refl (λ m stands. stands_left old.tc new.tc m which stands);
       kept = kept_left old new k h.1 which;
     }
-follows_recover old new _ k h = absurd h
+follows_recover old new _ k is h = absurd h
 
 -- a read is of who waits for it: nobody else waits for its number
-read_of : (w : TcView) (o : OpenTxn) (r : Read) → IsTc w → w.phase ≡ phase.Running → find o.txn w.open_txns ≡ Some o → o.reading ≡ Some r
+read_of : (w : TcView) (o : OpenTxn) (r : Read) → IsTc w → 0 < w.session → find o.txn w.open_txns ≡ Some o → o.reading ≡ Some r
     → IsReadTrue w w.session r.number (λ q. q ≡ r.span)
-read_of w o r k running at reads = record {
-  some = let P : Phase → Type 0 = IsPhase w.checkpointed w.session in subst P running k.phase;
+read_of w o r k some at reads = record {
+  some = some;
   begun = k.session;
   asked = λ is. (reading_at w o r k at reads).asked;
   holds = λ is t p q found reading.
@@ -248,33 +299,19 @@ sent_read : (w : TcView) (dc : DcView) (n : ℕ) (s : Span) → IsReadTrue w w.s
 sent_read w dc n (Key key) h = h
 sent_read w dc n (Range low high) h = h
 
--- what clients wait for is sent while they are served: the earlier requests on its key are answered, so captured
-earlier_captured : (w : NodeView) (n : ℕ) (o : Op) → IsKept w → w.tc.phase ≡ phase.Running → Requests w.tc.log n o → runs w.dc w.tc.session ≡ true
-    → EarlierAreCaptured w.tc.log w.dc n (key_of o)
-earlier_captured w n o k running asks r m p earlier below on =
-    let run = run_is w.dc w.tc.session r in
-    let P : Phase → Type 0 = λ p. IsServed p w.tc.session w.tc.log w.dc in
-    let past = past_is w.dc w.tc.session run.some run.is ((subst P running k.sessions.served).1 run.is) in
-    subst (λ (z : Bytes). captures_at w.dc z m ≡ true) on
-    (k.answered past m p earlier (since (λ x. IsSome (answer_of x m)) (answered_push m) w.tc.log n (one_at_a_time w.tc.log k.tc.legal m n p o earlier below asks (sym on))))
-
-sent_of : (old : NodeView) (t : ℕ) (q : Request) → IsKept old → old.tc.phase ≡ phase.Running → IsRequestOf old.tc t q → IsSent old.tc old.dc q
-sent_of old t q k running (inl r) =
+-- what clients wait for is sent while they are served
+sent_of : (old : NodeView) (t : ℕ) (q : Request) → IsKept old → IsPastRedo old → IsRequestOf old.tc t q → IsSent old.tc old.dc q
+sent_of old t q k past (inl r) =
     let P : Request → Type 0 = IsSent old.tc old.dc in
-    let Q : Phase → Type 0 = λ p. IsServed p old.tc.session old.tc.log old.dc in
-    subst P (sym r.is) (
-      r.stable,
-      r.requests,
-      record { begun = omega (arith, (subst Q running k.sessions.served).0); holds = λ runs. earlier_captured old r.number r.op k running r.requests runs },
-    )
-sent_of old t q k running (inr r) =
+    subst P (sym r.is) (sent_past old r.number r.op k past r.stable r.requests)
+sent_of old t q k past (inr r) =
     let P : Request → Type 0 = IsSent old.tc old.dc in
-    subst P (sym r.is) (sent_read old.tc old.dc r.read.number r.read.span (read_of old.tc r.open_txn r.read k.tc running r.at.is r.reading))
+    subst P (sym r.is) (sent_read old.tc old.dc r.read.number r.read.span (read_of old.tc r.open_txn r.read k.tc past.some r.at.is r.reading))
 
 pub follows_send : (old new : NodeView) (t : ℕ) (output : Out) → IsKept old → SendsTo old t output new → Follows old (event.Send t) output new
 follows_send old new t (out.Sent i) k h =
     at_new old new (with_request old h.0) (event.Send t) (out.Sent i) h.2.left
-    (record { leads = no_line old (with_request old h.0) (event.Send t) (out.Sent i) refl (λ m stands. stands); kept = keeps_sent old h.0 k (sent_of old t h.0 k (serving_runs old k (serves_open old.tc t (both_none (open_refusal old.tc t) _ h.1.0).0)) h.1.1) })
+    (record { leads = no_line old (with_request old h.0) (event.Send t) (out.Sent i) refl (λ m stands. stands); kept = keeps_sent old h.0 k (sent_of old t h.0 k (past_redo old k (serves_open old.tc t (both_none (open_refusal old.tc t) _ h.1.0).0)) h.1.1) })
 follows_send old new t (out.Refused r) k h = unchanged old new (event.Send t) (out.Refused r) k h.1 refl
 follows_send old new t _ k h = absurd h
 
@@ -282,7 +319,7 @@ follows_send old new t _ k h = absurd h
 announces : (w : NodeView) (announced : ℕ) (asked : Option ℕ) → IsKept w → IsTc (record w.tc { announced = announced; checkpointing = asked })
     → IsKept (with_tc w (record w.tc { announced = announced; checkpointing = asked }))
 announces w announced asked k after =
-    keeps_same_log w (record w.tc { announced = announced; checkpointing = asked }) k after k.checked k.unlost refl (omega arith) (inl refl) (omega arith)
+    keeps_same_log w (record w.tc { announced = announced; checkpointing = asked }) k after k.checked refl (omega arith) (inl refl) (omega arith)
     (none_same w.tc.reads w.tc.open_txns) k.sessions
 
 pub follows_low_water : (old new : NodeView) (l : ℕ) (output : Out) → IsKept old → LowersTo old l output new → Follows old (event.LowWater l) output new

@@ -1,6 +1,7 @@
 -- A settled node holds what the plain map holds.
 use Rattle.std.proofs.Common.{◌≡◌, ◌⊎◌, ℕ, ◌+◌, ◌<◌, ◌≤◌, Bool, true, false, List, [], ◌∷◌, length, Option, Some, None, IsSome, is_some, refl, sym, ap, ◌∙◌, subst, arith, inl, inr, true≢false}
-use Rattle.std.specs.Prelude.{◌||◌, if◌then◌else◌}
+use Rattle.std.specs.Prelude.{◌||◌, nat_lt, if◌then◌else◌}
+use Rattle.std.proofs.lemmas.Bool.Decides.{nat_tests}
 use Rattle.std.specs.FinMap.{get}
 use Rattle.std.proofs.lemmas.Bool.{cases_eq, cases_lt, cases_Bool}
 use Rattle.record_key.specs.declared.op.Op.{Op}
@@ -29,15 +30,16 @@ use Rattle.tc_core.specs.declared.open_txn.OpenTxn.{OpenTxn}
 use Rattle.tc_core.specs.declared.phase.Phase.{Phase}
 use Rattle.tc_core.specs.declared.phase.Phase.TheVariants as phase
 use Rattle.tc_core.specs.OpenTxns.{find}
-use Rattle.tc_core.specs.TcView.{TcView, rolls_back, is_rolling, is_waiting}
+use Rattle.tc_core.specs.TcView.{TcView, is_none_lost, rolls_back, is_rolling, is_waiting}
 use Rattle.tc_core.proofs.KeepsTc.{open_at, waits_at}
 use Rattle.world.specs.Node.{NodeView}
 use Rattle.world.specs.Kept.{IsKept, IsServed}
 use Rattle.world.proofs.Running.{past_is}
-use Rattle.tc_core.specs.Kept.{IsPhase}
+use Rattle.tc_core.specs.Kept.{IsPhase, IsPhaseOf, IsTc}
 use Rattle.dc_core.specs.Tends.{may_merge}
 use Rattle.world.specs.Simulation.{Stands, IsSettled, AreUnrolled, clients, doing_in}
-use Rattle.world.specs.Rounds.{AreIdle, IsAtRest, IsApart, IsRedoing, IsServing}
+use Rattle.world.specs.declared.round.Round.TheVariants as round
+use Rattle.world.specs.Rounds.{AreIdle, IsAtRest, IsApart, IsServing, IsRecovering, IsNext, recovery_round}
 use Rattle.simulation.proofs.RightAnswers.{plain_there}
 use Rattle.simulation.proofs.Answering.{plain_uncrossed}
 use Rattle.world.proofs.Awaited.{IsOpOf, op_waited}
@@ -45,7 +47,7 @@ use Rattle.world.proofs.Idle.{none_rolls}
 use Rattle.world.proofs.Reading.{flat_undoes_none}
 use Rattle.world.proofs.AtKeys.{honest_at, captured_stable}
 use Rattle.world.proofs.PlainAt.{plain_at}
-use Rattle.world.proofs.Sends.{no_undoing}
+use Rattle.world.proofs.LosersHold.{running_unlost, nobody_listed}
 use Rattle.world.proofs.Waited.{IsAwaited, answered_or}
 
 -- a request on the key is without an answer
@@ -149,12 +151,16 @@ settled_past w k settled =
     past_is w.dc w.tc.session (λ zero. absurd (omega (arith, some, zero))) settled.session
     ((subst P settled.running k.sessions.served).1 settled.session)
 
+-- once the component runs nobody is left whom a crash found open
+none_left : (w : NodeView) → IsKept w → w.tc.phase ≡ phase.Running → is_none_lost w.tc.losers ≡ true
+none_left w k running = subst (IsPhaseOf w.tc.losers) running k.tc.lost.phase_of
+
 -- so at each key
 settled_value : (w : NodeView) → IsKept w → IsSettled w → (key : Bytes) → value_of (captures_at w.dc key) (done_on key w.tc.log) ≡ get (plain (hist w.tc.log)) key
 settled_value w k settled key = elim (answered_all w.tc.log w.tc.log key) [
   | inl each ↦ plain_at w.tc.log key (captures_at w.dc key) k.tc.legal k.right each
       (λ n o asks on. subst (λ (q : Bytes). captures_at w.dc q n ≡ true) on (k.answered (settled_past w k settled) n o asks (each n o asks on)))
-  | inr u ↦ elim (answered_or w.tc u.number u.op k.tc k.unlost u.requests) [
+  | inr u ↦ elim (answered_or w.tc u.number u.op k.tc (none_left w k settled.running) u.requests) [
     | inl some ↦ absurd (true≢false (sym some ∙ ap is_some u.unanswered))
     | inr a ↦
         let x : OpenTxn = a.open_txn in
@@ -173,8 +179,8 @@ settled_value w k settled key = elim (answered_all w.tc.log w.tc.log key) [
 ]
 
 -- nobody rolls back, and nobody loses
-calm : (w : NodeView) → AreUnrolled w.tc.open_txns → IsCalm (clients w.tc)
-calm w unrolled = record { stays = λ t. refl; unrolled = λ t n. by t n (find t w.tc.open_txns) refl }
+calm : (w : NodeView) → IsTc w.tc → w.tc.phase ≡ phase.Running → AreUnrolled w.tc.open_txns → IsCalm (clients w.tc)
+calm w k running unrolled = record { stays = nobody_listed w.tc (running_unlost w.tc k running); unrolled = λ t n. by t n (find t w.tc.open_txns) refl }
   where
     flat : (o : OpenTxn) → rolls_back o ≡ false → o.rolling ≡ None
     flat o unrolling = none_rolls o.rolling unrolling
@@ -187,7 +193,7 @@ calm w unrolled = record { stays = λ t. refl; unrolled = λ t n. by t n (find t
 pub settled_rows : (w : NodeView) (m : Machine) → IsKept w → Stands w m → IsSettled w → rows_of (leaves w.dc) ≡ plain m.h
 settled_rows w m k stands settled =
     same_table (rows_of (leaves w.dc)) (plain (hist w.tc.log)) (λ q. (one_table (leaves w.dc) k.dc.system.leaves).value q ∙ (honest_at w q k).right ∙ settled_value w k settled q)
-    ∙ sym (sym (plain_uncrossed m.h) ∙ ap plain (calm_entries (clients w.tc) m stands (calm w settled.unrolled)) ∙ plain_uncrossed (hist w.tc.log))
+    ∙ sym (sym (plain_uncrossed m.h) ∙ ap plain (calm_entries (clients w.tc) m stands (calm w k.tc settled.running settled.unrolled)) ∙ plain_uncrossed (hist w.tc.log))
 
 -- nothing is left to do
 nobody_waits : (w : TcView) (n : ℕ) → AreIdle w.open_txns → IsAwaited w n → ⊥
@@ -202,7 +208,7 @@ at_rest w k running up session unrolled idle stable = record {
     dc_up = up;
     session = session;
     unrolled = unrolled;
-    answered = λ n o below asks. elim (answered_or w.tc n o k.tc k.unlost asks) [ inl some ↦ some | inr a ↦ absurd (nobody_waits w.tc n idle a) ];
+    answered = λ n o below asks. elim (answered_or w.tc n o k.tc (none_left w k running) asks) [ inl some ↦ some | inr a ↦ absurd (nobody_waits w.tc n idle a) ];
   };
   idle = idle;
   stable = omega (arith, stable, k.tc.within);
@@ -212,14 +218,21 @@ at_rest w k running up session unrolled idle stable = record {
 same_session : (w : NodeView) → (IsApart w → ⊥) → w.dc.session ≡ w.tc.session
 same_session w together = elim (cases_eq w.dc.session w.tc.session) [ inl e ↦ e | inr apart ↦ absurd (together (inr (inr apart))) ]
 
-pub redoes : (w : NodeView) → IsKept w → w.dc_up ≡ true → (IsApart w → ⊥) → (w.tc.phase ≡ phase.Running → ⊥) → (w.dc_up ≡ true) × IsRedoing w.tc.phase × (w.dc.session ≡ w.tc.session)
-redoes w k up together idle = (up, by w.tc.phase refl, same_session w together)
+-- recovery goes on in it
+pub recovers_next : (w : NodeView) → w.dc_up ≡ true → (IsApart w → ⊥) → (w.tc.phase ≡ phase.Running → ⊥) → IsNext w (recovery_round w.tc.stable w.tc.phase)
+recovers_next w up together idle = by w.tc.phase refl
   where
-    by : (p : Phase) → w.tc.phase ≡ p → IsRedoing p
+    awaits_stable : (n : ℕ) → w.tc.phase ≡ phase.Undoing (Some n) → (b : Bool) → nat_lt w.tc.stable n ≡ b → IsNext w (if b then round.Force else round.Recover)
+    awaits_stable n at true less = inr (n, record { undoing = at; dc_up = up; session = same_session w together }, grind (arith, nat_tests, less))
+    awaits_stable n at false most =
+        let le : n ≤ w.tc.stable = grind (arith, nat_tests, most) in (up, subst (IsRecovering w.tc.stable) (sym at) le, same_session w together)
+
+    by : (p : Phase) → w.tc.phase ≡ p → IsNext w (recovery_round w.tc.stable p)
     by phase.Unconnected at = absurd (together (inl at))
     by phase.Connecting at = absurd (together (inr (inl at)))
-    by (phase.Redoing next ending) at = tt
-    by (phase.Undoing waiting) at = absurd (no_undoing w waiting k at)
+    by (phase.Redoing next ending) at = (up, subst (IsRecovering w.tc.stable) (sym at) tt, same_session w together)
+    by (phase.Undoing None) at = record { undoing = at; dc_up = up; session = same_session w together }
+    by (phase.Undoing (Some n)) at = awaits_stable n at (nat_lt w.tc.stable n) refl
     by phase.Running at = absurd (idle at)
 
 pub serving : (w : NodeView) → w.dc_up ≡ true → (IsApart w → ⊥) → w.tc.phase ≡ phase.Running → IsServing w

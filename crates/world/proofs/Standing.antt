@@ -1,6 +1,6 @@
 -- Each change of the transaction component is a step of the list machine, or none.
-use Rattle.std.proofs.Common.{◌≡◌, ◌≢◌, ℕ, ◌+◌, ◌-◌, ◌<◌, ◌≤◌, true, false, List, [], ◌∷◌, ◌++◌, length, Option, Some, None, refl, sym, ap, ◌∙◌, subst, arith, inl, inr, ◌⊎◌, take, true≢false, append-nil}
-use Rattle.std.specs.Prelude.{◌||◌, is_some, slice_get}
+use Rattle.std.proofs.Common.{◌≡◌, ◌≢◌, ℕ, ◌+◌, ◌-◌, ◌<◌, ◌≤◌, true, false, List, [], ◌∷◌, ◌++◌, length, Option, Some, None, refl, sym, ap, ◌∙◌, subst, arith, inl, inr, ◌⊎◌, take, true≢false, eq-eqb, ne_eqb}
+use Rattle.std.specs.Prelude.{◌||◌, ◌==◌, is_some, slice_get, if◌then◌else◌}
 use Rattle.std.specs.FinMap.{get}
 use Rattle.std.proofs.lemmas.Bool.{cases_Bool, cases_eq}
 use Rattle.std.proofs.lemmas.Bool.Decides.{nat_tests}
@@ -11,13 +11,14 @@ use Rattle.history.specs.declared.record.Record.{Record}
 use Rattle.history.specs.declared.record.Record.TheVariants as is
 use Rattle.history.specs.History.{plain}
 use Rattle.history.specs.Spans.{Span, Exclusive, IsRange, at_key, rows_in}
-use Rattle.history.specs.Log.{IsOpBy, IsOpen}
+use Rattle.history.specs.Log.{record_at, IsOpBy, IsOpen}
 use Rattle.history.specs.Legal.{Stands, IsLegal}
 use Rattle.history.specs.Values.{HasRightAnswers}
-use Rattle.history.specs.ListMachine.{Machine, OfKey, OfRange, asked_span, Begins, Acts, TellsAnswer, Reads, TellsRow, TellsRows, Saves, GoesBack, TellsBack, RollsBack, TellsRolledBack, Commits, IsFree, Steps}
-use Rattle.log_laws.proofs.Records.{newest_at, older_at}
+use Rattle.history.specs.ListMachine.{Machine, OfKey, OfRange, asked_span, Begins, Acts, TellsAnswer, Reads, TellsRow, TellsRows, Saves, GoesBack, TellsBack, RollsBack, TellsRolledBack, Commits, TellsLost, IsFree, Steps}
+use Rattle.log_laws.proofs.Records.{op_step, newest_at, older_at}
 use Rattle.log_laws.proofs.Strict.{end_number, end_ends}
-use Rattle.simulation.specs.View.{View, Doing, Ready, Awaits, Looks, Rolls, is_to_undo, IsCommitAt, StandsFor}
+use Rattle.simulation.specs.View.{View, Doing, Ready, Awaits, Looks, Rolls, is_to_undo, IsCommitAt, AreItsKeys, StandsFor}
+use Rattle.simulation.specs.Laws.{after_lost}
 use Rattle.simulation.specs.Views.{HasTrueSpans, IsUncommitting}
 use Rattle.simulation.specs.Running.{put, Leads, does, after_begin, after_act, after_answer, after_save, after_go_back, after_read}
 use Rattle.simulation.proofs.Calling.{begin_is_a_step, act_is_a_step}
@@ -26,7 +27,7 @@ use Rattle.simulation.proofs.Saving.{save_is_a_step, go_back_is_a_step}
 use Rattle.simulation.proofs.Looking.{read_is_a_step, row_is_told, rows_are_told}
 use Rattle.simulation.proofs.Undoing.{rollback_is_a_step, comp_is_no_step, undone_is_no_step}
 use Rattle.simulation.proofs.Ending.{commit_is_a_step, rolled_back_is_told, back_is_told}
-use Rattle.simulation.proofs.Told.{commits_are_told}
+use Rattle.simulation.proofs.Told.{commits_are_told, losers_are_told}
 use Rattle.simulation.proofs.Viewing.{neutral_is_no_step}
 use Rattle.simulation.proofs.Spanning.{free_by_true_spans}
 use Rattle.simulation.proofs.Leftovers.{leftovers_are_no_step, let_go_is_no_step}
@@ -39,16 +40,21 @@ use Rattle.tc_core.specs.declared.open_txn.OpenTxn.{OpenTxn}
 use Rattle.tc_core.specs.declared.open_txn.Read.{Read}
 use Rattle.tc_core.specs.declared.open_txn.Rollback.{Rollback}
 use Rattle.tc_core.specs.OpenTxns.{find, without}
-use Rattle.tc_core.specs.TcView.{TcView, is_nil, is_none_lost}
-use Rattle.restart.specs.Losers.{txns}
+use Rattle.tc_core.specs.TcView.{TcView}
+use Rattle.restart.specs.Losers.{LosersView, txns, IsLoser}
 use Rattle.tc_core.specs.Causes.{saves_of}
-use Rattle.tc_core.specs.Changes.{let_go, forced, logged_session, reconnected, begun_txn, begun, acted_txn, acted, reading_txn, shared, asked_read, told_txn, was_told, saved_txn, saved, rolling_txn, rolled, going_back_txn, going_back, committed, next_of, inverse_at, compensated_txn, compensated, ended, back_txn, is_back, answered_txn, answered, checkpointed}
+use Rattle.tc_core.specs.Changes.{let_go, forced, logged_session, reconnected, begun_txn, begun, acted_txn, acted, reading_txn, shared, asked_read, told_txn, was_told, saved_txn, saved, rolling_txn, rolled, going_back_txn, going_back, committed, next_of, inverse_at, compensated_txn, compensated, ended, back_txn, is_back, answered_txn, answered, answered_lost, lost_comp, lost_compensated, lost_ended, checkpointed}
 use Rattle.tc_core.specs.Locking.{is_listed, is_holder}
-use Rattle.tc_core.specs.Kept.{IsTc, commits_in, closing}
+use Rattle.tc_core.specs.Kept.{IsTc, IsDue, commits_in}
 use Rattle.tc_core.proofs.Finding.{find_here, find_there, found_number, without_same}
 use Rattle.world.specs.Simulation.{query_of, doing_of, doing_in, clients, told_committed}
 use Rattle.world.proofs.Clients.{put_is, doing_now, doing_kept, saves_replaced, saves_kept, doing_without, saves_without, spans_put, rests, awaits, looks, rolls}
-use Rattle.tc_core.proofs.Committing.{open_unlisted}
+use Rattle.restart.specs.declared.loser.Loser.{Loser}
+use Rattle.restart.proofs.Losing.{loser_kept, loser_had}
+use Rattle.tc_core.proofs.Committing.{open_unlisted, holder_more}
+use Rattle.tc_core.proofs.KeepsSteps.{ends}
+use Rattle.tc_core.proofs.Losers.{listed_loser, loser_listed, same_listed, unlisted_late}
+use Rattle.world.proofs.LosersHold.{losers_hold, its_keys}
 use Rattle.tc_core.proofs.LettingGo.{let_go_other}
 use Rattle.world.proofs.Committing.{listed_commit, told_commits}
 use Rattle.world.proofs.Idle.{IsIdleTxn}
@@ -58,20 +64,12 @@ does_nothing : (x : Option OpenTxn) → doing_in x ≡ None → x ≡ None
 does_nothing None h = refl
 does_nothing (Some o) h = absurd (cc)
 
--- besides open transactions only those that are committing hold keys
-only_committing : (w : TcView) → is_none_lost w.losers ≡ true → closing w ≡ w.committing
-only_committing w unlost = ap (λ ts. w.committing ++ ts) (none_there (txns w.losers) unlost) ∙ append-nil w.committing
-  where
-    none_there : (ts : List ℕ) → is_nil ts ≡ true → ts ≡ []
-    none_there [] h = refl
-    none_there (t ∷ ts) h = absurd (true≢false (sym h))
-
 -- the lock table says what each transaction holds, and of whoever is over that it holds nothing
-pub true_spans : (w : TcView) → IsTc w → is_none_lost w.losers ≡ true → HasTrueSpans (clients w)
-true_spans w k unlost = record {
+pub true_spans : (w : TcView) → IsTc w → HasTrueSpans (clients w)
+true_spans w k = record {
   let_go = λ t none stays told. k.locks.others t
-      (ap (λ ts. is_holder w.open_txns ts t) (only_committing w unlost) ∙ unheld t (does_nothing (find t w.open_txns) none) told);
-  losers = λ t loses. absurd (true≢false (sym loses));
+      (holder_more w.open_txns w.committing (txns w.losers) t ∙ rw (unheld t (does_nothing (find t w.open_txns) none) told, stays) refl);
+  losers = λ t loses. let P : List Span → Type 0 = AreItsKeys w.log t in subst P (sym (losers_hold w k t loses)) (its_keys w.log t);
 }
   where
     unlisted : (t : ℕ) → IsUncommitting (clients w) t → is_listed w.committing t ≡ false
@@ -86,8 +84,8 @@ true_spans w k unlost = record {
     unheld t none told = ap (λ (x : Option OpenTxn). is_some x || is_listed w.committing t) none ∙ unlisted t told
 
 -- what is free by the locks is free for the machine
-pub free_there : (w : TcView) (m : Machine) (t : ℕ) (s : Span) → IsTc w → is_none_lost w.losers ≡ true → StandsFor (clients w) m → locks.IsFree w.locks t s → IsFree m t s
-free_there w m t s k unlost stands free = free_by_true_spans (clients w) m t s stands (true_spans w k unlost) free
+pub free_there : (w : TcView) (m : Machine) (t : ℕ) (s : Span) → IsTc w → StandsFor (clients w) m → locks.IsFree w.locks t s → IsFree m t s
+free_there w m t s k stands free = free_by_true_spans (clients w) m t s stands (true_spans w k) free
 
 -- a transaction that does this
 does_this : (w : TcView) (o : OpenTxn) (d : Doing) → find o.txn w.open_txns ≡ Some o → doing_of o ≡ d → (clients w).doing o.txn ≡ Some d
@@ -97,9 +95,9 @@ pub idle_rests : (o : OpenTxn) → IsIdleTxn o → doing_of o ≡ Ready
 idle_rests o i = rests o i.rolling i.reading i.waiting
 
 -- a transaction begins
-pub stands_begun : (w : TcView) (m : Machine) → IsTc w → is_none_lost w.losers ≡ true → find (length w.log + 1) w.open_txns ≡ None → is_listed w.committing (length w.log + 1) ≡ false
+pub stands_begun : (w : TcView) (m : Machine) → IsTc w → find (length w.log + 1) w.open_txns ≡ None → is_listed w.committing (length w.log + 1) ≡ false
     → StandsFor (clients w) m → Leads (clients w) m (Begins (length w.log + 1)) (clients (begun w))
-stands_begun w m k unlost unfound unlisted stands =
+stands_begun w m k unfound unlisted stands =
     let t : ℕ = length w.log + 1 in
     let new : OpenTxn = begun_txn t in
     let l = begin_is_a_step (clients w) m k.legal stands in
@@ -111,7 +109,7 @@ stands_begun w m k unlost unfound unlisted stands =
           (put_is (clients w).doing (clients (begun w)).doing t (Some Ready) (ap doing_in here) (λ u apart. ap doing_in (there u apart)))
           (put_is (clients w).saves (clients (begun w)).saves t [] (ap saves_of here) (λ u apart. ap saves_of (there u apart)))
           (put_is (clients w).spans (clients (begun w)).spans t []
-          (k.locks.others t (ap (λ ts. is_holder w.open_txns ts t) (only_committing w unlost) ∙ ap (λ (x : Option OpenTxn). is_some x || is_listed w.committing t) unfound ∙ unlisted)) (λ u apart. refl)) l.2,
+          (k.locks.others t (holder_more w.open_txns w.committing (txns w.losers) t ∙ rw (unfound, unlisted, unlisted_late w.log w.losers k.lost.losers t k.lost.losers.bound) refl)) (λ u apart. refl)) l.2,
     )
 
 -- no Commit of an open transaction stands, nor does its End make one
@@ -124,7 +122,7 @@ no_commit log t n is_open is_commit = elim (cases_eq n (length log + 1)) [
 ]
 
 -- a transaction that was found
-module _ (w : TcView) (m : Machine) (o : OpenTxn) (k : IsTc w) (unlost : is_none_lost w.losers ≡ true) (at : find o.txn w.open_txns ≡ Some o) (stands : StandsFor (clients w) m) where
+module _ (w : TcView) (m : Machine) (o : OpenTxn) (k : IsTc w) (at : find o.txn w.open_txns ≡ Some o) (stands : StandsFor (clients w) m) where
   -- acts
   pub stands_acted : (op : Op) → IsIdleTxn o → IsTc (acted w o op) → locks.IsFree w.locks o.txn (at_key Exclusive (key_of op))
       → Leads (clients w) m (Acts o.txn op (length w.log + 1)) (clients (acted w o op))
@@ -132,7 +130,7 @@ module _ (w : TcView) (m : Machine) (o : OpenTxn) (k : IsTc w) (unlost : is_none
       let s : Span = at_key Exclusive (key_of op) in
       let n : ℕ = length w.log + 1 in
       let new : OpenTxn = acted_txn o n in
-      let l = act_is_a_step (clients w) m o.txn o.last op after.legal stands (does_this w o Ready at (idle_rests o idle)) (free_there w m o.txn s k unlost stands free) in (
+      let l = act_is_a_step (clients w) m o.txn o.last op after.legal stands (does_this w o Ready at (idle_rests o idle)) (free_there w m o.txn s k stands free) in (
         l.0,
         l.1,
         stands_along (after_act (clients w) o.txn o.last op) (clients (acted w o op)) l.0 refl refl (λ u. refl)
@@ -146,7 +144,7 @@ module _ (w : TcView) (m : Machine) (o : OpenTxn) (k : IsTc w) (unlost : is_none
   stands_asked s idle range free same =
       let n : ℕ = w.reads + 1 in
       let new : OpenTxn = reading_txn o n s in
-      let l = read_is_a_step (clients w) m o.txn (query_of s) stands (does_this w o Ready at (idle_rests o idle)) range (free_there w m o.txn (asked_span (query_of s)) k unlost stands free) in (
+      let l = read_is_a_step (clients w) m o.txn (query_of s) stands (does_this w o Ready at (idle_rests o idle)) range (free_there w m o.txn (asked_span (query_of s)) k stands free) in (
         l.0,
         l.1,
         stands_along (after_read (clients w) o.txn (query_of s)) (clients (asked_read w o s)) l.0 refl refl (λ u. refl)
@@ -279,6 +277,70 @@ module _ (w : TcView) (m : Machine) (o : OpenTxn) (k : IsTc w) (unlost : is_none
       stands_along (record (clients w) { log = is.Answer n a ∷ w.log }) (clients (answered w o n a)) m refl refl (λ u. refl)
       (doing_kept w.open_txns new o at (rolls new r rolling ∙ sym (rolls o r rolling))) (saves_kept w.open_txns new o at refl) (λ u. refl)
       (undone_is_no_step (clients w) m n a legal stands (λ t q by. absurd (no_op t q by)))
+
+-- a loser's operation has a compensation
+pub stands_lost_compensated : (w : TcView) (m : Machine) (x : Loser) (l : LosersView) → IsTc w → IsTc (lost_compensated w x l) → l.below ≡ w.losers.below → IsLoser w.log w.losers.below x.txn
+    → StandsFor (clients w) m → StandsFor (clients (lost_compensated w x l)) m
+stands_lost_compensated w m x l k after same loser stands =
+    let comp : Record = lost_comp w.log x in
+    let listed : (u : ℕ) → is_listed (txns l) u ≡ is_listed (txns w.losers) u =
+    λ u. same_listed w.log (comp ∷ w.log) w.losers l k.lost.losers after.lost.losers u
+    (λ was. let P : ℕ → Type 0 = λ b. IsLoser (comp ∷ w.log) b u in
+    subst P (sym same) (loser_kept comp w.log after.legal w.losers.below u (λ e. cc) (λ e. cc) was))
+    (λ now. let P : ℕ → Type 0 = λ b. IsLoser (comp ∷ w.log) b u in
+    loser_had comp w.log after.legal w.losers.below u k.lost.losers.bound (subst P same now)) in
+    stands_along (record (clients w) { log = comp ∷ w.log }) (clients (lost_compensated w x l)) m refl refl (λ u. sym (listed u)) (λ u. refl) (λ u. refl) (λ u. refl)
+    (comp_is_no_step (clients w) m x.txn x.left (next_of w.log x.left) (inverse_at w.log x.left) after.legal stands (inl (loser_listed w.log w.losers k.lost.losers x.txn loser)))
+
+-- its End is logged
+pub stands_lost_ended : (w : TcView) (m : Machine) (t : ℕ) (l : LosersView) → IsTc w → IsTc (lost_ended w t l) → l.below ≡ w.losers.below → IsLoser w.log w.losers.below t
+    → StandsFor (clients w) m → Leads (clients w) m (TellsLost t) (clients (lost_ended w t l))
+stands_lost_ended w m t l k after same loser stands =
+    let end : Record = is.End t in
+    let told = losers_are_told (clients w) m t after.legal stands (loser_listed w.log w.losers k.lost.losers t loser) in (
+      told.0,
+      told.1,
+      stands_along (record (after_lost (clients w) t) { spans = put (clients w).spans t [] }) (clients (lost_ended w t l)) told.0 refl refl loses (λ u. refl) (λ u. refl)
+          (spans_put w.locks t [] k.locks.table)
+          (let_go_is_no_step (after_lost (clients w) t) told.0 t told.2 (ap doing_in not_open) (λ n is_commit. absurd (no_commit w.log t n loser.open_txn is_commit))),
+    )
+  where
+    not_open : find t w.open_txns ≡ None
+    not_open = by (find t w.open_txns) refl
+      where
+        by : (x : Option OpenTxn) → find t w.open_txns ≡ x → x ≡ None
+        by None none = refl
+        by (Some o) some = absurd (omega (arith, k.open_txns.late t o some, loser.early))
+
+    gone : is_listed (txns l) t ≡ false
+    gone = elim (cases_Bool (is_listed (txns l) t)) [
+      | inl listed ↦
+          let still = listed_loser (is.End t ∷ w.log) l after.lost.losers t listed in
+          absurd ((ends w.log t t still.open_txn).0 refl)
+      | inr unlisted ↦ unlisted
+    ]
+
+    others : (u : ℕ) → u ≢ t → is_listed (txns l) u ≡ is_listed (txns w.losers) u
+    others u apart = same_listed w.log (is.End t ∷ w.log) w.losers l k.lost.losers after.lost.losers u
+        (λ was. let P : ℕ → Type 0 = λ b. IsLoser (is.End t ∷ w.log) b u in
+        subst P (sym same) (loser_kept (is.End t) w.log after.legal w.losers.below u (λ e. cc) (λ e. apart (cc)) was))
+        (λ now. let P : ℕ → Type 0 = λ b. IsLoser (is.End t ∷ w.log) b u in
+        loser_had (is.End t) w.log after.legal w.losers.below u k.lost.losers.bound (subst P same now))
+
+    loses : (u : ℕ) → (if u == t then false else is_listed (txns w.losers) u) ≡ is_listed (txns l) u
+    loses u = elim (cases_eq u t) [
+      | inl e ↦ rw (eq-eqb u t e) (sym (ap (is_listed (txns l)) e ∙ gone))
+      | inr apart ↦ rw (ne_eqb u t apart) (sym (others u apart))
+    ]
+
+-- a loser's request has its answer, of which nobody is told
+pub stands_lost_answered : (w : TcView) (m : Machine) (n : ℕ) (a : Answer) → IsTc w → IsLegal (is.Answer n a ∷ w.log) → IsDue w.log w.losers.below n → StandsFor (clients w) m
+    → StandsFor (clients (answered_lost w n a)) m
+stands_lost_answered w m n a k legal due stands =
+    undone_is_no_step (clients w) m n a legal stands
+    (λ t q by. loser_listed w.log w.losers k.lost.losers t
+    (let P : ℕ → Type 0 = IsLoser w.log w.losers.below in
+    subst P (let both : Some due.txn ≡ Some t = sym due.step ∙ op_step t q (record_at w.log n) by in cc) due.loser))
 
 -- more is stable: who was committing is told so
 pub stands_forced : (w : TcView) (m : Machine) → IsTc w → StandsFor (clients w) m → (n : Machine) × Steps m (told_committed w.committing) n × StandsFor (clients (forced w)) n

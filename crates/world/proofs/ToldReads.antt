@@ -35,7 +35,7 @@ pub tells_row : (w : NodeView) (o : OpenTxn) (n : ℕ) (key : Bytes) → IsKept 
 tells_row w o n key k at reads v value m stands =
     let r : Read = record { number = n; span = Key key } in
     let reading : IsReading w.tc.reads w.tc.locks o r = reading_at w.tc o r k.tc at reads in
-    stands_row w.tc m o k.tc k.unlost at stands r key v reading.flat reading.idle reads refl
+    stands_row w.tc m o k.tc at stands r key v reading.flat reading.idle reads refl
     (value ∙ logged_plain w o r k at reads m stands key (low_within (shared (Key key)) reading.range))
 
 -- rows are told
@@ -45,6 +45,6 @@ pub tells_rows : (w : NodeView) (o : OpenTxn) (n : ℕ) (low : Bytes) (high : Op
 tells_rows w o n low high k at reads rows are m stands =
     let r : Read = record { number = n; span = Range low high } in
     let reading : IsReading w.tc.reads w.tc.locks o r = reading_at w.tc o r k.tc at reads in
-    stands_rows w.tc m o k.tc k.unlost at stands r low high rows reading.flat reading.idle reads refl
+    stands_rows w.tc m o k.tc at stands r low high rows reading.flat reading.idle reads refl
     (are.rows_are ∙ rows_alike (shared (Range low high)) are.table (plain m.h)
     (λ key within. are.values key within ∙ logged_plain w o r k at reads m stands key within))

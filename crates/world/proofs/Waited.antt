@@ -1,5 +1,5 @@
 -- Who waits for a request that has no answer, and on whose key it is.
-use Rattle.std.proofs.Common.{◌≡◌, ℕ, ◌<◌, ◌≤◌, List, Option, Some, None, IsSome, is_some, refl, sym, ap, ◌∙◌, subst, arith, inl, inr, ◌⊎◌, true≢false, true}
+use Rattle.std.proofs.Common.{◌≡◌, ℕ, ◌<◌, List, Option, Some, None, IsSome, is_some, refl, sym, ap, ◌∙◌, subst, inl, inr, ◌⊎◌, true≢false, true}
 use Rattle.std.proofs.lemmas.Bool.{cases_eq, cases_lt, cases_Bool}
 use Rattle.tc_core.proofs.Losers.{some_lost}
 use Rattle.record_key.specs.declared.op.Op.{Op}
@@ -16,14 +16,15 @@ use Rattle.log_laws.proofs.Undo.{number_before}
 use Rattle.tc_core.specs.declared.open_txn.OpenTxn.{OpenTxn}
 use Rattle.tc_core.specs.OpenTxns.{find}
 use Rattle.tc_core.specs.TcView.{TcView, is_none_lost}
-use Rattle.tc_core.specs.Kept.{IsTc}
+use Rattle.restart.specs.Losers.{IsLoser}
+use Rattle.tc_core.specs.Kept.{IsDue, IsTc}
 use Rattle.tc_core.proofs.Finding.{found_number, found_own}
 use Rattle.tc_core.specs.Replies.{Outcome, awaiting, lacks, on_lost, passed}
 use Rattle.tc_core.specs.declared.told.Told.TheVariants as told
 use Rattle.record_key.specs.declared.op.Answer.{Answer}
 use Rattle.tc_core.proofs.KeepsTc.{open_at, idle_at, waits_at, awaits}
 use Rattle.tc_core.proofs.KeepsLost.{fits_lacking}
-use Rattle.std.specs.Prelude.{Bool, false, if◌then◌else◌}
+use Rattle.std.specs.Prelude.{Bool, if◌then◌else◌}
 
 -- an open transaction waits for this number
 pub record IsAwaited (w : TcView) (n : ℕ) : Type 0 where
@@ -32,47 +33,58 @@ pub record IsAwaited (w : TcView) (n : ℕ) : Type 0 where
   pub step : IsStepOf w.log open_txn.txn n
   pub waiting : open_txn.waiting ≡ Some n
 
--- a request is answered, or an open transaction waits for it
-pub answered_or : (w : TcView) (n : ℕ) (o : Op) → IsTc w → is_none_lost w.losers ≡ true → Requests w.log n o → IsSome (answer_of w.log n) ⊎ IsAwaited w n
-answered_or w n o k unlost requests =
+-- a request is answered, or an open transaction waits for it, or it is a loser's
+abbrev pub IsAnsweredOr : TcView → ℕ → Type 0
+IsAnsweredOr w n = IsSome (answer_of w.log n) ⊎ (IsAwaited w n ⊎ IsDue w.log w.losers.below n)
+
+pub answered_or_due : (w : TcView) (n : ℕ) (o : Op) → IsTc w → Requests w.log n o → IsAnsweredOr w n
+answered_or_due w n o k requests =
     let found = request_step o (record_at w.log n) requests in
     elim (cases_Bool (has_ended w.log found.0)) [
       | inl e ↦ inl (ended_answered w.log found.0 n o k.legal e found.1 requests)
       | inr e ↦
           let open_t : IsOpen w.log found.0 = record { begun = begun w.log found.0 n k.legal found.1; goes_on = e } in
-          by_open found.0 found.1 (find found.0 w.open_txns) refl (k.open_txns.all found.0 open_t (is_late found.0 open_t))
+          elim (cases_lt found.0 w.losers.below) [
+            | inl early ↦ by_answer found.0 found.1 (record { open_txn = open_t; early = early }) (answer_of w.log n) refl
+            | inr late ↦ by_open found.0 found.1 (find found.0 w.open_txns) refl (k.open_txns.all found.0 open_t late)
+          ]
     ]
   where
-    is_late : (t : ℕ) → IsOpen w.log t → w.losers.below ≤ t
-    is_late t is_open = elim (cases_lt t w.losers.below) [
-      | inl early ↦ absurd (true≢false (sym unlost ∙ some_lost w.log w.losers t k.lost.losers (record { open_txn = is_open; early = early })))
-      | inr late ↦ late
-    ]
+    by_answer : (t : ℕ) → IsStepOf w.log t n → IsLoser w.log w.losers.below t → (a : Option Answer) → answer_of w.log n ≡ a → IsAnsweredOr w n
+    by_answer t step loser (Some a) is = inl (ap is_some is)
+    by_answer t step loser None none =
+        inr (inr (record { txn = t; loser = loser; op = o; step = step; requests = requests; unanswered = none }))
 
-    by_waiting : (x : OpenTxn) → find x.txn w.open_txns ≡ Some x → IsStepOf w.log x.txn n → (m : Option ℕ) → x.waiting ≡ m → IsSome (answer_of w.log n) ⊎ IsAwaited w n
+    by_waiting : (x : OpenTxn) → find x.txn w.open_txns ≡ Some x → IsStepOf w.log x.txn n → (m : Option ℕ) → x.waiting ≡ m → IsAnsweredOr w n
     by_waiting x at step None none = inl (idle_at w.log x (open_at w x k at) none n o step requests)
     by_waiting x at step (Some m) some = elim (cases_eq n m) [
-      | inl e ↦ inr (record { open_txn = x; is = at; step = step; waiting = some ∙ ap Some (sym e) })
+      | inl e ↦ inr (inl (record { open_txn = x; is = at; step = step; waiting = some ∙ ap Some (sym e) }))
       | inr apart ↦ inl ((waits_at w.log x m (open_at w x k at) some).only n o step requests apart)
     ]
 
-    by_open : (t : ℕ) → IsStepOf w.log t n → (x : Option OpenTxn) → find t w.open_txns ≡ x → IsSome (find t w.open_txns) → IsSome (answer_of w.log n) ⊎ IsAwaited w n
+    by_open : (t : ℕ) → IsStepOf w.log t n → (x : Option OpenTxn) → find t w.open_txns ≡ x → IsSome (find t w.open_txns) → IsAnsweredOr w n
     by_open t step None at some = absurd (true≢false (sym some ∙ ap is_some at))
     by_open t step (Some x) at some =
         let P : ℕ → Type 0 = λ u. IsStepOf w.log u n in
         by_waiting x (found_own t w.open_txns x at) (subst P (sym (found_number t w.open_txns x at)) step) x.waiting refl
 
--- each request without an answer is awaited, since nobody has lost
-pub nothing_lacks : (w : TcView) (n : ℕ) → IsTc w → is_none_lost w.losers ≡ true → awaiting w n ≡ None → lacks w n ≡ false
-nothing_lacks w n k unlost nobody = elim (cases_Bool (lacks w n)) [
-  | inl lacking ↦
-      let fits = fits_lacking w n lacking in
-      elim (answered_or w n fits.op k unlost fits.requested) [
-        | inl some ↦ absurd (true≢false (sym some ∙ ap is_some fits.unanswered))
-        | inr a ↦ let clash : None ≡ Some a.open_txn = sym nobody ∙ awaits w a.open_txn n k a.is a.waiting in absurd (cc)
-      ]
-  | inr none ↦ none
+-- where nobody has lost an open transaction waits for it
+pub answered_or : (w : TcView) (n : ℕ) (o : Op) → IsTc w → is_none_lost w.losers ≡ true → Requests w.log n o → IsSome (answer_of w.log n) ⊎ IsAwaited w n
+answered_or w n o k unlost requests = elim (answered_or_due w n o k requests) [
+  | inl some ↦ inl some
+  | inr (inl a) ↦ inr a
+  | inr (inr due) ↦ absurd (true≢false (sym unlost ∙ some_lost w.log w.losers due.txn k.lost.losers due.loser))
 ]
+
+-- who lacks its answer, and no open transaction waits for it, is a loser's
+pub lacking_due : (w : TcView) (n : ℕ) → IsTc w → lacks w n ≡ true → awaiting w n ≡ None → IsDue w.log w.losers.below n
+lacking_due w n k lacking nobody =
+    let fits = fits_lacking w n lacking in
+    elim (answered_or_due w n fits.op k fits.requested) [
+      | inl some ↦ absurd (true≢false (sym some ∙ ap is_some fits.unanswered))
+      | inr (inl a) ↦ let clash : None ≡ Some a.open_txn = sym nobody ∙ awaits w a.open_txn n k a.is a.waiting in absurd (cc)
+      | inr (inr due) ↦ due
+    ]
 
 -- what an answer comes to that no open transaction waits for
 abbrev pub lost_if : TcView → ℕ → Option Answer → Bool → Outcome

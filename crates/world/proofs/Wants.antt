@@ -29,7 +29,7 @@ use Rattle.tc_core.specs.Causes.{resend_refusal, undo_refusal, undo_logs}
 use Rattle.tc_core.specs.OpenTxns.{find}
 use Rattle.tc_core.specs.Changes.{reconnected}
 use Rattle.tc_core.specs.Calls.{read_request, ReconnectGives, UndoGives}
-use Rattle.tc_core.specs.Recovery.{SendsAt, recover_refusal, redo_request, redo_place, redoing, undo_logs_at}
+use Rattle.tc_core.specs.Recovery.{SendsAt, ResendsUndo, recover_refusal, redo_request, redo_place, redoing, undo_logs_at}
 use Rattle.tc_core.specs.Replies.{session_of, logs, takes_memory, ReplyGives}
 use Rattle.tc_core.specs.Kept.{IsPhase, IsTc}
 use Rattle.tc_core.proofs.Finding.{found_own}
@@ -43,12 +43,12 @@ use Rattle.world.specs.declared.round.Round.{Round}
 use Rattle.world.specs.declared.round.Round.TheVariants as round
 use Rattle.world.specs.Node.{NodeView, LacksRoom, is_replied_to, ReconnectsTo, RecoversTo, SendsTo, sends_at}
 use Rattle.world.specs.Kept.{IsKept, IsServed}
-use Rattle.world.specs.Rounds.{IsDone, IsServing, IsDue, IsReader, IsRolling, IsNext, IsWant, StopsAt, events_of}
-use Rattle.world.proofs.Sends.{redoing_phase, no_undoing}
+use Rattle.world.specs.Rounds.{IsDone, IsServing, IsRecovering, IsDue, IsReader, IsRolling, IsNext, IsWant, StopsAt, events_of}
+use Rattle.world.proofs.Sends.{redoing_phase}
 use Rattle.world.proofs.Exchanges.{HasReply, Stops, stops}
 use Rattle.world.proofs.Running.{stored_recorded}
-use Rattle.world.proofs.Replied.{some_reply, sound_reply, read_reply, read_session, connect_replied, redo_replied, request_replied}
-use Rattle.world.proofs.Falls.{redoing_at}
+use Rattle.world.proofs.Replied.{some_reply, sound_reply, read_reply, read_session, connect_replied, perform_replied, redo_replied, request_replied}
+use Rattle.world.proofs.Falls.{recovering_at}
 
 no_cause : (x : Option Refusal) (r : Refusal) → x ≡ None → RefusesAs x r → IsWant r
 no_cause None r e h = inl h
@@ -212,10 +212,29 @@ want_recover old new mid (out.Sent i) os r next ending k up at same h d rest =
     let R : Request → Type 0 = λ q. Stops old (redoing old.tc (redo_place old.tc.session redo.found) (not (is_some redo.found))) q r in
     stops_redo old next redo.found r k same (omega (arith, bounds.0, bounds.1)) redo.finds (subst R redo.request_is (subst S redo.left stop))
 want_recover old new mid out.Nothing os r next ending k up at same h d rest = let no : phase.Redoing next ending ≡ phase.Running = sym at ∙ h.0.1.0 in absurd (cc)
-want_recover old new mid (out.Compensated n) os r next ending k up at same h d rest = absurd (no_undoing old None k h.0.1.undoing)
-want_recover old new mid (out.Lost t) os r next ending k up at same h d rest = absurd (no_undoing old None k h.0.1.undoing)
+want_recover old new mid (out.Compensated n) os r next ending k up at same h d rest = let no : phase.Redoing next ending ≡ phase.Undoing None = sym at ∙ h.0.1.undoing in absurd (cc)
+want_recover old new mid (out.Lost t) os r next ending k up at same h d rest = let no : phase.Redoing next ending ≡ phase.Undoing None = sym at ∙ h.0.1.undoing in absurd (cc)
 want_recover old new mid (out.Refused q) os r next ending k up at same h d rest = absurd d
 want_recover old new mid _ os r next ending k up at same h d rest = absurd h
+
+undoing_some : (w : NodeView) (waiting : Option ℕ) → IsKept w → w.tc.phase ≡ phase.Undoing waiting → 0 < w.tc.session
+undoing_some w waiting k at = let P : Phase → Type 0 = IsPhase w.tc.checkpointed w.tc.session in subst P at k.tc.phase
+
+want_resend : (old new mid : NodeView) (o : Out) (os : List Out) (r : Refusal) (n : ℕ) → IsKept old → old.dc_up ≡ true → old.tc.phase ≡ phase.Undoing (Some n) → old.dc.session ≡ old.tc.session
+    → RecoversTo old o mid → IsDone o → StopsAt mid (event.Request (length old.requests + 1) ∷ event.Reply (length old.replies + 1) ∷ []) os r new → IsWant r
+want_resend old new mid (out.Sent i) os r n k up at same h d rest =
+    let P : Phase → Type 0 = λ p. SendsAt old.tc p h.0 mid.tc in
+    let undo : ResendsUndo old.tc n h.0 mid.tc = subst P at h.1.1 in
+    let Q : Request → Type 0 = HasReply in
+    let stop = stops old mid mid.tc h.0 i os r new up (subst Q (sym undo.request_is) (perform_replied old.tc.session n undo.op)) h.2 rest in
+    let S : TcView → Type 0 = λ tc. Stops old tc h.0 r in
+    let R : Request → Type 0 = λ q. Stops old old.tc q r in
+    stops_perform old old.tc n undo.op r k refl same (undoing_some old (Some n) k at) undo.requests (subst R undo.request_is (subst S undo.unchanged stop))
+want_resend old new mid out.Nothing os r n k up at same h d rest = let no : phase.Undoing (Some n) ≡ phase.Running = sym at ∙ h.0.1.0 in absurd (cc)
+want_resend old new mid (out.Compensated m) os r n k up at same h d rest = let no : phase.Undoing (Some n) ≡ phase.Undoing None = sym at ∙ h.0.1.undoing in absurd (cc)
+want_resend old new mid (out.Lost t) os r n k up at same h d rest = let no : phase.Undoing (Some n) ≡ phase.Undoing None = sym at ∙ h.0.1.undoing in absurd (cc)
+want_resend old new mid (out.Refused q) os r n k up at same h d rest = absurd d
+want_resend old new mid _ os r n k up at same h d rest = absurd h
 
 running_some : (w : NodeView) → IsKept w → w.tc.phase ≡ phase.Running → 0 < w.tc.session
 running_some w k running = let P : Phase → Type 0 = IsPhase w.tc.checkpointed w.tc.session in subst P running k.tc.phase
@@ -260,6 +279,31 @@ reconnect_want : (w : TcView) (r : Refusal) (new : TcView) → ReconnectGives w 
 reconnect_want w r new (inl h) = spent_want (log_is_spent w.log) true true w r new h
 reconnect_want w r new (inr h) = inr (inr h.1)
 
+may_recover : (w : NodeView) → IsRecovering w.tc.stable w.tc.phase → recover_refusal w.tc ≡ None
+may_recover w recovering = elim (recovering_at w w.tc.phase refl recovering) [
+  | inl at ↦ rw at.2 refl
+  | inr at ↦ let within : nat_lt w.tc.stable at.0 ≡ false = grind (arith, nat_tests, at.2) in rw (at.1, within) refl
+]
+
+recover_want : (w : NodeView) (r : Refusal) (new : NodeView) → RecoversTo w (out.Refused r) new → recover_refusal w.tc ≡ None → IsWant r
+recover_want w r new (inl room) none = no_room (recover_refusal w.tc) (sends_at w.tc.phase) r none room.0
+recover_want w r new (inr refused) none =
+    let logs : Bool = undo_logs_at w.tc.phase in want_refused logs logs w.tc r new.tc (subst (λ x. Refuses x logs logs w.tc r new.tc) none refused.0)
+
+-- to log needs a number
+spent_only : (w : NodeView) → w.tc.phase ≡ phase.Undoing None → recover_refusal w.tc ≡ first_of ((log_is_spent w.tc.log, NumbersSpent) ∷ [])
+spent_only w at = rw at refl
+
+lose_want : (w : NodeView) (r : Refusal) (new : NodeView) → w.tc.phase ≡ phase.Undoing None → RecoversTo w (out.Refused r) new → IsWant r
+lose_want w r new at (inl room) = room_spent (log_is_spent w.tc.log) (subst (λ x. LacksRoom x (sends_at w.tc.phase) r) (spent_only w at) room.0)
+  where
+    room_spent : (b : Bool) → LacksRoom (first_of ((b, NumbersSpent) ∷ [])) (sends_at w.tc.phase) r → IsWant r
+    room_spent true h = inr (inl h)
+    room_spent false h = inl h.1
+lose_want w r new at (inr refused) =
+    let logs : Bool = undo_logs_at w.tc.phase in
+    spent_want (log_is_spent w.tc.log) logs logs w.tc r new.tc (subst (λ x. Refuses x logs logs w.tc r new.tc) (spent_only w at) refused.0)
+
 pub wants : (old new : NodeView) (round : Round) (outs : List Out) (r : Refusal) → IsKept old → IsNext old round → StopsAt old (events_of old round) outs r new → IsWant r
 wants old new round.Restart [] r k next (inl h) = inl h.0
 wants old new round.Restart [] r k next (inr h) = elim h.0.2.0 [ inl memory ↦ inl memory | inr device ↦ inr (inr device) ]
@@ -268,15 +312,14 @@ wants old new round.Connect [] r k next (inl h) = inl h.0
 wants old new round.Connect [] r k next (inr h) = reconnect_want old.tc r new.tc h.0
 wants old new round.Connect (o ∷ os) r k next h = want_connect old new h.0 o os r k next.0 h.1 h.2 h.3
 wants old new round.Recover [] r k next (inl h) = inl h.0
-wants old new round.Recover [] r k next (inr h) =
-    let at = redoing_at old old.tc.phase refl next.1 in
-    let none : recover_refusal old.tc ≡ None = rw at.2 refl in
-    let logs : Bool = undo_logs_at old.tc.phase in
-    elim h [
-      | inl room ↦ no_room (recover_refusal old.tc) (sends_at old.tc.phase) r none room.0
-      | inr refused ↦ want_refused logs logs old.tc r new.tc (subst (λ x. Refuses x logs logs old.tc r new.tc) none refused.0)
-    ]
-wants old new round.Recover (o ∷ os) r k next h = let at = redoing_at old old.tc.phase refl next.1 in want_recover old new h.0 o os r at.0 at.1 k next.0 at.2 next.2 h.1 h.2 h.3
+wants old new round.Recover [] r k next (inr h) = recover_want old r new h (may_recover old next.1)
+wants old new round.Recover (o ∷ os) r k next h = elim (recovering_at old old.tc.phase refl next.1) [
+  | inl at ↦ want_recover old new h.0 o os r at.0 at.1 k next.0 at.2 next.2 h.1 h.2 h.3
+  | inr at ↦ want_resend old new h.0 o os r at.0 k next.0 at.1 next.2 h.1 h.2 h.3
+]
+wants old new round.Lose [] r k next (inl h) = inl h.0
+wants old new round.Lose [] r k next (inr h) = lose_want old r new next.undoing h
+wants old new round.Lose (o ∷ os) r k next h = absurd h.3
 wants old new (round.Exchange t) [] r k next (inl h) = inl h.0
 wants old new (round.Exchange t) [] r k next (inr h) = no_cause (resend_refusal old.tc t) r (resends_any old.tc t k.tc next.0.running next.1) h.0
 wants old new (round.Exchange t) (o ∷ os) r k next h = want_exchange old new h.0 o os r t k next.0 h.1 h.2 h.3

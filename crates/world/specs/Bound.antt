@@ -4,13 +4,13 @@ use Rattle.std.specs.List.{list_any}
 use Rattle.record_key.specs.declared.op.Op.{Op}
 use Rattle.history.specs.declared.record.Record.{Record}
 use Rattle.history.specs.declared.record.Record.TheVariants as is
-use Rattle.history.specs.Log.{request_of, is_crossed}
+use Rattle.history.specs.Log.{request_of, is_crossed, has_ended}
 use Rattle.tc_core.specs.declared.open_txn.OpenTxn.{OpenTxn}
 use Rattle.tc_core.specs.declared.open_txn.Read.{Read}
 use Rattle.tc_core.specs.declared.open_txn.Rollback.{Rollback}
 use Rattle.tc_core.specs.declared.phase.Phase.{Phase}
 use Rattle.tc_core.specs.declared.phase.Phase.TheVariants as phase
-use Rattle.tc_core.specs.TcView.{TcView, rolls_back, waits}
+use Rattle.tc_core.specs.TcView.{TcView, is_running, rolls_back, waits}
 use Rattle.world.specs.Node.{NodeView}
 
 -- how many of these numbers ask for something
@@ -62,16 +62,49 @@ phase_rounds log s phase.Connecting = requests_in 1 (length log + 1) log + 2
 phase_rounds log s (phase.Redoing next ending) = requests_in next s log + 1
 phase_rounds log s _ = 0
 
--- a last force, where something isn't stable or will be logged
+-- a transaction that began below this number and has neither a Commit nor an End is undone
+abbrev pub is_lost : List Record → ℕ → ℕ → Bool
+is_lost whole below t = nat_lt t below && not (has_ended whole t)
+
+-- whether the record of this number is such a one's operation that is left
+abbrev pub lost_op : List Record → ℕ → ℕ → Record → ℕ
+lost_op whole below n (is.Op txn prev op) = if is_lost whole below txn && not (is_crossed whole n) then 1 else 0
+lost_op whole below n _ = 0
+
+abbrev pub lost_ops : List Record → ℕ → List Record → ℕ
+lost_ops whole below [] = 0
+lost_ops whole below (r ∷ log) = lost_op whole below (length log + 1) r + lost_ops whole below log
+
+-- and whether it is such a one's beginning
+abbrev pub lost_end : List Record → ℕ → ℕ → Record → ℕ
+lost_end whole below n is.Begin = if is_lost whole below n then 1 else 0
+lost_end whole below n _ = 0
+
+abbrev pub lost_ends : List Record → ℕ → List Record → ℕ
+lost_ends whole below [] = 0
+lost_ends whole below (r ∷ log) = lost_end whole below (length log + 1) r + lost_ends whole below log
+
+-- for losers three for each operation that is left, and one for each end
+abbrev pub lost_rounds : List Record → ℕ → ℕ
+lost_rounds log below = 3 * lost_ops log below log + lost_ends log below log
+
+-- for the compensation that their undo awaits, as for an open transaction's
+abbrev pub undo_rounds : ℕ → Phase → ℕ
+undo_rounds stable (phase.Undoing waiting) = waiting_rounds stable waiting
+undo_rounds stable _ = 0
+
+-- a last force, where something isn't stable or may be logged
 abbrev pub is_busy : OpenTxn → Bool
 is_busy o = rolls_back o || waits o
 
 abbrev pub force_rounds : TcView → ℕ
-force_rounds w = if list_any is_busy w.open_txns || nat_lt w.stable (length w.log) then 1 else 0
+force_rounds w = if not (is_running w.phase) || (list_any is_busy w.open_txns || nat_lt w.stable (length w.log)) then 1 else 0
 
 -- where the data component runs the session
 abbrev pub tc_rounds : TcView → ℕ
-tc_rounds w = phase_rounds w.log w.session w.phase + total (txn_rounds w.log w.stable) w.open_txns + force_rounds w
+tc_rounds w =
+    phase_rounds w.log w.session w.phase + total (txn_rounds w.log w.stable) w.open_txns + lost_rounds w.log w.losers.below
+    + undo_rounds w.stable w.phase + force_rounds w
 
 -- where it doesn't, a session has to begin first
 abbrev pub without_session : TcView → TcView

@@ -1,14 +1,13 @@
 -- What a crash leaves of the transaction component once it is opened again.
-use Rattle.std.specs.Prelude.{◌≡◌, ℕ, ◌≤◌, true, [], length}
+use Rattle.std.specs.Prelude.{◌≡◌, ℕ, ◌≤◌, [], length}
 use Rattle.logical_log.specs.Low.{stable_part}
 use Rattle.tc_core.specs.declared.phase.Phase.TheVariants as phase
-use Rattle.tc_core.specs.TcView.{TcView, is_none_lost}
+use Rattle.tc_core.specs.TcView.{TcView}
 use Rattle.tc_core.specs.Kept.{IsTc}
 use Rattle.world.specs.Node.{NodeView, with_tc}
 use Rattle.world.specs.Kept.{IsKept}
 
--- a beginning of its log with all stable records, all of it stable now; nobody is connected, and no
--- transaction is open, nor was one in the records that are left
+-- a beginning of its log with all stable records, all of it stable now; nobody is connected, and no transaction is open
 pub record IsFallen (old new : TcView) : Type 0 where
   pub kept : ℕ
   pub stable : old.stable ≤ kept
@@ -18,7 +17,6 @@ pub record IsFallen (old new : TcView) : Type 0 where
   pub session : new.session ≡ 0
   pub unconnected : new.phase ≡ phase.Unconnected
   pub nobody : new.open_txns ≡ []
-  pub unlost : is_none_lost new.losers ≡ true
   pub checkpointed : new.checkpointed ≤ old.checkpointed
 
 -- all else that holds of the node survives

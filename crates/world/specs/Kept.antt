@@ -34,7 +34,7 @@ use Rattle.tc_core.specs.declared.phase.Phase.{Phase}
 use Rattle.tc_core.specs.declared.phase.Phase.TheVariants as phase
 use Rattle.tc_core.specs.OpenTxns.{find}
 use Rattle.tc_core.specs.Changes.{shared}
-use Rattle.tc_core.specs.TcView.{TcView, is_none_lost}
+use Rattle.tc_core.specs.TcView.{TcView}
 use Rattle.tc_core.specs.LowWater.{MayAnnounce}
 use Rattle.tc_core.specs.Kept.{IsTc}
 use Rattle.world.specs.Node.{NodeView}
@@ -157,8 +157,6 @@ pub record IsTrueTo (w : TcView) (v : SystemView) : Type 0 where
 pub record IsKept (w : NodeView) : Type 0 where
   -- 1. the transaction component keeps its own: log, open and committing transactions, locks, reads
   pub tc : IsTc w.tc
-  -- it doesn't crash yet, so no transaction is undone that a crash found open
-  pub unlost : is_none_lost w.tc.losers ≡ true
   -- 2. each answer in the log is the right one
   pub right : HasRightAnswers w.tc.log
   -- 3. the data component keeps its own: leaves that have all keys among them, their log and pages, performances; and

@@ -32,9 +32,17 @@ pub record IsAtRest (w : NodeView) : Type 0 where
 abbrev pub IsApart : NodeView → Type 0
 IsApart w = (w.tc.phase ≡ phase.Unconnected) ⊎ (w.tc.phase ≡ phase.Connecting) ⊎ (w.dc.session ≢ w.tc.session)
 
-abbrev pub IsRedoing : Phase → Type 0
-IsRedoing (phase.Redoing next ending) = Unit {0}
-IsRedoing _ = ⊥
+-- a request of recovery is due that may be sent: redo's, or a stable compensation that undo awaits
+abbrev pub IsRecovering : ℕ → Phase → Type 0
+IsRecovering stable (phase.Redoing next ending) = Unit {0}
+IsRecovering stable (phase.Undoing (Some n)) = n ≤ stable
+IsRecovering stable _ = ⊥
+
+-- the components run in one session, in which losers are undone; the compensation that is awaited
+pub record IsUndoing (w : NodeView) (waiting : Option ℕ) : Type 0 where
+  pub undoing : w.tc.phase ≡ phase.Undoing waiting
+  pub dc_up : w.dc_up ≡ true
+  pub session : w.dc.session ≡ w.tc.session
 
 pub record IsServing (w : NodeView) : Type 0 where
   pub running : w.tc.phase ≡ phase.Running
@@ -70,20 +78,28 @@ IsForced w =
     ((t : ℕ) × (n : ℕ) × IsDue w t n × (w.stable < n))
     ⊎ (AreUnrolled w.open_txns × AreIdle w.open_txns × (w.stable < length w.log))
 
--- the first round that applies: to connect; to recover; for an unanswered request to force the log where its
--- record isn't stable, else to exchange it, as a read always is; to undo; to force what isn't stable
+-- the first round that applies: to connect; to recover, which forces the log for a compensation that isn't stable,
+-- and logs a record where none is awaited; for an unanswered request to force the log where its record isn't stable,
+-- else to exchange it, as a read always is; to undo; to force what isn't stable
 abbrev pub IsNext : NodeView → Round → Type 0
 IsNext w round.Restart = w.dc_up ≡ false
 IsNext w round.Connect = (w.dc_up ≡ true) × IsApart w
-IsNext w round.Recover = (w.dc_up ≡ true) × IsRedoing w.tc.phase × (w.dc.session ≡ w.tc.session)
+IsNext w round.Recover = (w.dc_up ≡ true) × IsRecovering w.tc.stable w.tc.phase × (w.dc.session ≡ w.tc.session)
+IsNext w round.Lose = IsUndoing w None
 IsNext w (round.Exchange t) = IsServing w × (((n : ℕ) × IsDue w.tc t n × (n ≤ w.tc.stable)) ⊎ IsReader w.tc t)
 IsNext w (round.Undo t) = IsServing w × IsRolling w.tc t
-IsNext w round.Force = IsServing w × IsForced w.tc
+IsNext w round.Force = (IsServing w × IsForced w.tc) ⊎ ((n : ℕ) × IsUndoing w (Some n) × (w.tc.stable < n))
 
 -- the round of a transaction that waits for this record's answer, or for a read
 abbrev pub round_for : ℕ → ℕ → Option ℕ → Round
 round_for t stable None = round.Exchange t
 round_for t stable (Some n) = if nat_lt stable n then round.Force else round.Exchange t
+
+-- the round of a recovery that goes on
+abbrev pub recovery_round : ℕ → Phase → Round
+recovery_round stable (phase.Undoing None) = round.Lose
+recovery_round stable (phase.Undoing (Some n)) = if nat_lt stable n then round.Force else round.Recover
+recovery_round stable _ = round.Recover
 
 -- an event that sends a request, the request's delivery, and that of its reply
 abbrev pub exchange_of : Event → ℕ → ℕ → List Event
@@ -96,6 +112,7 @@ abbrev pub events_of : NodeView → Round → List Event
 events_of w round.Restart = event.RestartDc ∷ []
 events_of w round.Connect = exchange w event.Reconnect
 events_of w round.Recover = exchange w event.Recover
+events_of w round.Lose = event.Recover ∷ []
 events_of w (round.Exchange t) = exchange w (event.Send t)
 events_of w (round.Undo t) = event.Undo t ∷ []
 events_of w round.Force = event.Force ∷ []

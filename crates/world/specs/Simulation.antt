@@ -11,7 +11,9 @@ use Rattle.tc_core.specs.declared.open_txn.OpenTxn.{OpenTxn}
 use Rattle.tc_core.specs.declared.open_txn.Read.{Read}
 use Rattle.tc_core.specs.declared.open_txn.Rollback.{Rollback}
 use Rattle.tc_core.specs.declared.phase.Phase.TheVariants as phase
+use Rattle.restart.specs.Losers.{txns}
 use Rattle.tc_core.specs.OpenTxns.{find}
+use Rattle.tc_core.specs.Locking.{is_listed}
 use Rattle.tc_core.specs.Causes.{saves_of}
 use Rattle.tc_core.specs.TcView.{TcView, is_rolling}
 use Rattle.world.specs.Node.{NodeView}
@@ -45,12 +47,12 @@ abbrev pub doing_in : Option OpenTxn → Option Doing
 doing_in None = None
 doing_in (Some o) = Some (doing_of o)
 
--- what clients see of the transaction component; nobody loses, since it doesn't crash yet
+-- what clients see of the transaction component
 abbrev pub clients : TcView → View
 clients w = record {
   log = w.log;
   stable = w.stable;
-  loses = λ t. false;
+  loses = λ t. is_listed (txns w.losers) t;
   doing = λ t. doing_in (find t w.open_txns);
   saves = λ t. saves_of (find t w.open_txns);
   spans = λ t. spans_of w.locks t;

@@ -2,6 +2,7 @@
 ghost use Rattle.std.specs.Prelude.{◌≡◌, ◌&&◌, not, true, IfOk, IfErr};
 ghost use Rattle.world.specs.Node.{fresh_node, StepsTo, out_of, ReconnectsTo, RecoversTo, BeginsTo, ActsTo, ReadsTo, SavesTo, GoesBackTo, RollsBackTo, CommitsTo, UndoesTo, ForcesTo, SendsTo, LowersTo, AsksCheckpoint, ServesTo, TakesTo, IfUp, PartsTo, JoinsTo, KeepsUpTo, WritesTo, CrashesDcTo, RestartsDcTo, as_out, is_replied_to, sends_at};
 ghost use Rattle.dc_core.specs.Kept.{IsDc};
+ghost use Rattle.tc_core.specs.Kept.{IsTc};
 ghost use Rattle.tc_core.specs.Recovery.{undo_unstable};
 ghost use Rattle.world.specs.Kept.{IsKept};
 ghost use Rattle.world.specs.Seen.{seen};
@@ -48,12 +49,14 @@ impl Node {
     pub fn step(&mut self, event: &Event) -> Out
         requires { IsKept (seen self.old) }
         ensures step { StepsTo (seen self.old) event.now result (seen self.new) }
+        ensures tc { IsTc (seen self.new).tc }
         ensures dc { IsDc (seen self.new).dc }
     {
         let out = match self.happen(event) {
             Ok(out) => out,
             Err(refusal) => Out::Refused(refusal),
         };
+        self.tc.kept();
         self.dc.kept();
         out
     }

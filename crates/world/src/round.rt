@@ -9,6 +9,8 @@ pub enum Round {
     Connect,
     /// A request of recovery is sent, served and answered.
     Recover,
+    /// A record of the undo of those that a crash found open is logged.
+    Lose,
     /// The log is made stable.
     Force,
     /// The transaction's unanswered request is sent, served and answered.

@@ -9,8 +9,8 @@ use crate::world::World;
 use record_key::Refusal;
 
 /// Plays the first round that applies until none is left, or as many as `most` says: true where none is left.
-/// Then both components run in one session, nothing waits, nothing is being rolled back and every record is
-/// stable. Makes no client's call. Refused NoMemory, NumbersSpent, Device; what was done before stands, with its
+/// Then both components run in one session, nothing waits, nothing is being rolled back, nobody whom a crash found
+/// open is left and every record is stable. Makes no client's call. Refused NoMemory, NumbersSpent, Device; what was done before stands, with its
 /// outputs in `out`.
 pub fn settle(world: &mut World, most: Option<u64>, out: &mut Vec<Out>) -> Result<bool, Refusal>
     ensures { Settles world.old most out.old.items out.new.items result world.new }
@@ -47,6 +47,7 @@ fn play(world: &mut World, round: Round, out: &mut Vec<Out>) -> Result<(), Refus
         Round::Restart => perform(world, &Event::RestartDc, out),
         Round::Connect => exchange(world, &Event::Reconnect, out),
         Round::Recover => exchange(world, &Event::Recover, out),
+        Round::Lose => perform(world, &Event::Recover, out),
         Round::Exchange { txn } => exchange(world, &Event::Send { txn }, out),
         Round::Force => perform(world, &Event::Force, out),
         Round::Undo { txn } => perform(world, &Event::Undo { txn }, out),

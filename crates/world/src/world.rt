@@ -11,7 +11,7 @@ ghost use Rattle.tc_core.specs.Causes.{begin_refusal};
 ghost use Rattle.world.specs.Node.{fresh_node, StepsTo};
 ghost use Rattle.world.specs.Simulation.{Stands, Leads, IsSettled};
 ghost use Rattle.world.specs.Kept.{IsKept};
-ghost use Rattle.world.specs.Rounds.{IsNext, IsAtRest, IsApart, round_for};
+ghost use Rattle.world.specs.Rounds.{IsNext, IsAtRest, IsApart, round_for, recovery_round};
 
 use crate::data_component::DataComponent;
 use crate::event::{Event, Out};
@@ -167,10 +167,10 @@ impl World {
         self.node.tc.stable_end()
     }
 
-    /// The first round of settling that applies, if any is left: restart the data component; connect where the components have no session
-    /// in common; recover until clients are served; for the least transaction with an unanswered request, force
-    /// the log where its record isn't stable, else exchange it; undo for the least one that is being rolled
-    /// back; force where records aren't stable.
+    /// The first round of settling that applies, if any is left: restart the data component; connect where the
+    /// components have no session in common; recover until nobody is left whom a crash found open; for the least
+    /// transaction with an unanswered request, force the log where its record isn't stable, else exchange it; undo
+    /// for the least one that is being rolled back; force where records aren't stable.
     pub fn next_round(&self) -> Option<Round>
         ensures { MatchOption result (IsAtRest self.now) (IsNext self.now) }
     {
@@ -181,11 +181,11 @@ impl World {
             return Some(Round::Connect);
         }
         let tc = &self.node.tc;
+        let stable = tc.stable_end();
         match tc.phase() {
             Phase::Running => {}
-            _ => return Some(Round::Recover),
+            phase => return Some(recovery_round(phase, stable)),
         }
-        let stable = tc.stable_end();
         if let Some(open) = tc.first_unanswered() {
             return Some(answer_round(&open, stable));
         }
@@ -210,6 +210,20 @@ impl World {
             }
             Err(_) => unreachable!(),
         }
+    }
+}
+
+/// The round of a recovery that goes on: a record of undo where it awaits none, a force where it awaits a compensation
+/// that isn't stable, else an exchange.
+fn recovery_round(phase: Phase, stable: u64) -> Round
+    ensures { result ≡ recovery_round stable phase }
+{
+    match phase {
+        Phase::Undoing { waiting: None } => Round::Lose,
+        Phase::Undoing {
+            waiting: Some(number),
+        } if stable < number => Round::Force,
+        _ => Round::Recover,
     }
 }
 

@@ -1,4 +1,4 @@
-use Rattle.std.proofs.Common.{◌≡◌, ◌∙◌, Bool, true, false, sym, ap, ◌<◌, ◌≤◌, length, arith, inr, true≢false, Some, None}
+use Rattle.std.proofs.Common.{◌≡◌, ◌∙◌, Bool, true, false, sym, ap, ◌<◌, ◌≤◌, length, arith, inl, inr, true≢false, Some, None}
 use Rattle.std.specs.Prelude.{◌↔◌, IsTrue}
 use Rattle.tc_core.specs.declared.open_txns.Wanted.TheVariants.{Unanswered, Rolling}
 use Rattle.tc_core.specs.OpenTxns.{oldest, wants}
@@ -40,7 +40,7 @@ returns-then-stable-records c =
     let none : oldest (wants Unanswered) w.tc.open_txns ≡ None = sym c.first_unanswered.ensures ∙ c.in_default-first_unanswered.is in
     let flat : oldest (wants Rolling) w.tc.open_txns ≡ None = sym c.first_rolling.ensures ∙ c.in_default-first_rolling.is in
     let less : w.tc.stable < length w.tc.log = omega (arith, c.records.ensures, c.stable_end-stable.ensures, c.if-stable-records.true) in
-    rw (← c.self.view_is) (serves, inr (unrolled_all w.tc flat, idle_all w.tc none, less))
+    rw (← c.self.view_is) (inl (serves, inr (unrolled_all w.tc flat, idle_all w.tc none, less)))
 
 pub returns : goal.returns
 returns c =
