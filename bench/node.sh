@@ -5,7 +5,10 @@
 # updates in transactions of a hundred, a savepoint before each ten, of which every second ten is undone; and, into no rows,
 # r inserts of rising and x of scattered keys, the leaf of each eighth key split.
 # Prints operations a second at 1,000, 10,000 and 100,000 operations, each the best of five runs, and the ratio of the
-# last to the first; then how many bytes of resident memory each of 400,000 committed upserts takes.
+# last to the first. Then what follows a crash of the transaction component, in milliseconds for each 1,000 inserts: f of
+# inserts committed in tens and an open transaction of 1,000, until the node is settled; g the same with a checkpoint just
+# before the crash; of one open transaction whose inserts all lie before a checkpoint h until a new insert is answered and i until
+# the node is settled. Last, how many bytes of resident memory each of 400,000 committed upserts takes.
 # The first line is the machine's.
 set -eu
 cd "$(dirname "$0")/../crates/bench_node"
@@ -38,6 +41,24 @@ for workload in a b c d e s r x; do
     done
     awk -v workload="$workload" -v first="$first" -v last="$rate" \
         'BEGIN { printf "%s, ratio of the last to the first: %.2f\n", workload, last / first }'
+done
+restart() {
+    for run in 1 2 3 4 5; do
+        ./out/bench_node node "$1" "$2"
+    done | cut -d, -f5 | sort -n | head -n 1 |
+        awk -v workload="$1" -v committed="$2" -v open="$3" '{
+            inserts = committed + open
+            printf "%s, %s inserts: %.2f ms for each 1,000\n", workload, inserts, $1 * 1000000 / inserts
+        }'
+}
+
+for operations in 10000 100000; do
+    restart f $operations 1000
+    restart g $operations 1000
+done
+for operations in 10 1000 10000; do
+    restart h $operations 0
+    restart i $operations 0
 done
 operations=400000
 bytes=$(((1024 * ($(resident a $operations) - $(resident base 0))) / operations))

@@ -98,8 +98,62 @@ impl Client {
 
     /// The data component may forget the answers up to the stable end: nothing is sent again.
     pub fn lower(&mut self) -> Result<(), Refusal> {
-        let low = self.world.stable_end();
+        let low = self.world.stable_end()?;
         self.step(&Event::LowWater { low })?;
+        self.deliver()
+    }
+
+    /// All that is answered is written, and redo begins after it.
+    pub fn checkpoint(&mut self) -> Result<(), Refusal> {
+        self.lower()?;
+        self.exchange(&Event::Checkpoint)?;
+        self.settle()
+    }
+
+    /// The transaction component is lost, with what isn't stable.
+    pub fn crash(&mut self) -> Result<(), Refusal> {
+        self.step(&Event::CrashTc {
+            frames: 0,
+            bytes: 0,
+        })?;
+        Ok(())
+    }
+
+    /// Rounds until nobody is left whom a crash found open, and all is stable.
+    pub fn settle(&mut self) -> Result<(), Refusal> {
+        self.outs.clear();
+        settle(&mut self.world, None, &mut self.outs)?;
+        Ok(())
+    }
+
+    /// Rounds until clients are served; then a transaction inserts, and is answered.
+    pub fn insert_first(&mut self, key: Key, value: Value) -> Result<(), Refusal> {
+        for _ in 0..u64::MAX {
+            if self.world.can_begin().is_ok() {
+                break;
+            }
+            self.outs.clear();
+            settle(&mut self.world, Some(1), &mut self.outs)?;
+        }
+        self.begin()?;
+        let txn = self.txn;
+        let op = Op::Insert(key, value);
+        self.step(&Event::Act { txn, op })?;
+        self.step(&Event::Force)?;
+        self.exchange(&Event::Send { txn })
+    }
+
+    /// An event that sends a request, the request's delivery, and that of its reply.
+    fn exchange(&mut self, event: &Event) -> Result<(), Refusal> {
+        self.step(event)?;
+        self.deliver()?;
+        let number = self.world.replies();
+        self.step(&Event::Reply { number })?;
+        Ok(())
+    }
+
+    /// The last request is delivered.
+    fn deliver(&mut self) -> Result<(), Refusal> {
         let number = self.world.requests();
         self.step(&Event::Request { number })?;
         Ok(())
@@ -110,11 +164,5 @@ impl Client {
             Out::Refused(refusal) => Err(refusal),
             out => Ok(out),
         }
-    }
-
-    fn settle(&mut self) -> Result<(), Refusal> {
-        self.outs.clear();
-        settle(&mut self.world, None, &mut self.outs)?;
-        Ok(())
     }
 }

@@ -1,11 +1,14 @@
 //! The workloads.
 use crate::client::Client;
 use crate::draws::{Values, draw, key_of, mix};
-use record_key::Refusal;
+use record_key::{Key, Refusal, Value};
 use std::alloc::Global;
 
 /// How many keys there are. Those with an even number are loaded first.
 const KEYS: u64 = 20_000;
+
+/// How many inserts the transaction has that a crash finds open.
+const LOSER: u64 = 1_000;
 
 /// What is measured.
 #[derive(Clone, Copy, PartialEq, Eq)]
@@ -28,6 +31,15 @@ pub enum Workload {
     Rising,
     /// The same of scattered keys.
     Scattered,
+    /// After as many inserts as `Scattered` and a transaction of a thousand that is left open: from a crash of the
+    /// transaction component until the node is settled.
+    Restart,
+    /// The same with a checkpoint just before the crash.
+    RestartChecked,
+    /// The open transaction alone has so many inserts, all before a checkpoint: from the crash until a new one is answered.
+    FirstInsert,
+    /// The same until the node is settled.
+    Undo,
 }
 
 impl Workload {
@@ -43,6 +55,10 @@ impl Workload {
             b"e" => Workload::Scans,
             b"r" => Workload::Rising,
             b"x" => Workload::Scattered,
+            b"f" => Workload::Restart,
+            b"g" => Workload::RestartChecked,
+            b"h" => Workload::FirstInsert,
+            b"i" => Workload::Undo,
             _ => return None,
         })
     }
@@ -58,6 +74,10 @@ impl Workload {
             Workload::Scans => b'e',
             Workload::Rising => b'r',
             Workload::Scattered => b'x',
+            Workload::Restart => b'f',
+            Workload::RestartChecked => b'g',
+            Workload::FirstInsert => b'h',
+            Workload::Undo => b'i',
         }
     }
 }
@@ -83,9 +103,15 @@ impl Work {
 
     /// The rows that stand before the work.
     pub fn load(&mut self) -> Result<(), Refusal> {
-        if matches!(self.workload, Workload::Rising | Workload::Scattered) {
-            return Ok(());
+        match self.workload {
+            Workload::Rising | Workload::Scattered => Ok(()),
+            Workload::Restart | Workload::RestartChecked => self.load_crash(LOSER),
+            Workload::FirstInsert | Workload::Undo => self.load_loser(self.operations),
+            _ => self.load_even(),
         }
+    }
+
+    fn load_even(&mut self) -> Result<(), Refusal> {
         for place in 0..KEYS / 200 {
             self.client.begin()?;
             for key in 0..100 {
@@ -98,10 +124,39 @@ impl Work {
         Ok(())
     }
 
+    /// Committed inserts, and an open transaction of so many.
+    fn load_crash(&mut self, lost: u64) -> Result<(), Refusal> {
+        self.transactions()?;
+        self.client.begin()?;
+        for place in self.operations..self.operations.saturating_add(lost) {
+            self.grow(place, mix(place))?;
+        }
+        if self.workload == Workload::RestartChecked {
+            self.client.checkpoint()?;
+        }
+        Ok(())
+    }
+
+    fn load_loser(&mut self, lost: u64) -> Result<(), Refusal> {
+        self.client.begin()?;
+        for place in 0..lost {
+            self.grow(place, mix(place))?;
+        }
+        self.client.checkpoint()
+    }
+
     /// Does the work.
     pub fn go(&mut self) -> Result<(), Refusal> {
         match self.workload {
             Workload::Base => Ok(()),
+            Workload::Restart | Workload::RestartChecked | Workload::Undo => {
+                self.client.crash()?;
+                self.client.settle()
+            }
+            Workload::FirstInsert => {
+                self.client.crash()?;
+                self.client.insert_first(Key::new(b"a")?, Value::new(b"1")?)
+            }
             Workload::Scans => self.scans(),
             _ => self.transactions(),
         }
@@ -143,7 +198,8 @@ impl Work {
     /// A low number raises every leaf, so where there are many it is announced at each thousandth operation only.
     fn announces(&self, count: u64) -> bool {
         match self.workload {
-            Workload::Rising | Workload::Scattered => count % 1_000 == 0,
+            Workload::Rising | Workload::Scattered | Workload::Restart | Workload::RestartChecked =>
+                count % 1_000 == 0,
             _ => true,
         }
     }
@@ -158,7 +214,9 @@ impl Work {
             Workload::ManySavepoints => self.saved_upsert(at, drawn),
             Workload::Reads => self.read(drawn % KEYS),
             Workload::Rising => self.grow(place, place),
-            Workload::Scattered => self.grow(place, mix(place)),
+            Workload::Scattered | Workload::Restart | Workload::RestartChecked => {
+                self.grow(place, mix(place))
+            }
             _ => self.upsert(drawn % KEYS, drawn >> 8),
         }
     }

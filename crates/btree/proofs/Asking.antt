@@ -1,24 +1,52 @@
--- What a request at one leaf comes to.
-use Rattle.std.proofs.Common.{◌≡◌, ℕ, true, Result, Ok, Err, IfOk, OnErr, IsOk, ap, inl, inr}
-use Rattle.std.proofs.lemmas.Bool.{cases_Bool}
+-- What a request below nodes leaves.
+use Rattle.std.proofs.Common.{◌≡◌, ℕ, ◌+◌, length, get_or, set, take, Option, Vec, vec_capacity, Result, sym, ap, ◌∙◌, subst}
+use Rattle.std.specs.declared.alloc.Global.{Global}
+use Rattle.std.proofs.lemmas.List.{get_or_default}
 use Rattle.record_key.specs.declared.op.Op.{Op}
 use Rattle.record_key.specs.declared.refusal.Refusal.{Refusal}
-use Rattle.ab_lsn.specs.AbLsn.{captures}
+use Rattle.record_key.specs.Table.{Bytes, key_of}
 use Rattle.page.specs.declared.leaf.Done.{Done}
-use Rattle.page.specs.Leaf.{LeafView}
-use Rattle.page.specs.Performs.{Performs}
+use Rattle.page.specs.Leaf.{LeafView, first}
+use Rattle.btree.specs.Choosing.{summary_of}
+use Rattle.btree.specs.Nodes.{NodeView, nothing, under}
+use Rattle.btree.specs.Finding.{IsIn, IsNodeOf, IsPlaceOf}
+use Rattle.btree.specs.Performs.{IsAsked, IsAskedBelow}
+use Rattle.btree.specs.declared.tree.node.Below.TheVariants.{Inner}
+use Rattle.btree.specs.declared.tree.summary.Summary.{Summary}
+use Rattle.btree.specs.Below.{seen, IsNode}
+use Rattle.btree.proofs.AtPlace.{leaf_in}
+use Rattle.btree.proofs.Changed.{IsChanged, inner_changed}
+use Rattle.btree.proofs.PlaceOf.{here, place_of_nodes}
 
-pub record IsAsked (old new : LeafView) (n : ℕ) (o : Op) (result : Result Done Refusal) : Type 0 where
-  pub done : IfOk result (λ done. Performs old n o done new)
-  pub repeated : captures old.ab n ≡ true → IsOk result
-  pub refused : OnErr result (new ≡ old)
+-- what a request below nodes leaves
+pub record IsAfter (low : Option Bytes) (count : ℕ) (summary : Summary) (xs ys : Vec NodeView Global) (n : ℕ) (o : Op)
+    (result : Result Done Refusal) : Type 0 where
+  pub kept : IsNode low count summary (Inner ys)
+  pub asked : IsAskedBelow (seen (Inner xs)) n o result (seen (Inner ys))
 
--- the fences stay
-pub same_begin : (old new : LeafView) (n : ℕ) (o : Op) (result : Result Done Refusal) → IsAsked old new n o result → new.low_fence ≡ old.low_fence
-same_begin old new n o (Ok done) asked =
-    let performs : Performs old n o done new = asked.done in
-    elim (cases_Bool (captures old.ab n)) [
-      | inl captured ↦ let repeated = rw captured at performs in ap (λ (leaf : LeafView). leaf.low_fence) repeated.1
-      | inr out ↦ let performed = rw out at performs in ap (λ (leaf : LeafView). leaf.low_fence) performed.1
-    ]
-same_begin old new n o (Err refusal) asked = ap (λ (leaf : LeafView). leaf.low_fence) asked.refused
+pub inner_asked : (low : Option Bytes) (count : ℕ) (summary again : Summary) (xs ys : Vec NodeView Global) (i : ℕ)
+    (child node : NodeView) (n : ℕ) (o : Op) (result : Result Done Refusal) → IsNode low count summary (Inner xs)
+    → IsNodeOf xs.items (key_of o) i → child ≡ get_or xs.items i child → IsAskedBelow child n o result node
+    → ys.items ≡ set xs.items i node → vec_capacity ys ≡ vec_capacity xs → again ≡ summary_of (under ys.items)
+    → IsAfter low count again xs ys n o result
+inner_asked low count summary again xs ys i child node n o result kept of is below items room summed =
+    let q = below.place in
+    let p = length (under (take i xs.items)) + q in
+    let there : child ≡ get_or xs.items i nothing = is ∙ get_or_default xs.items i child nothing of.there in
+    let found : IsPlaceOf (get_or xs.items i nothing).leaves (key_of o) q =
+    subst (λ (m : NodeView). IsPlaceOf m.leaves (key_of o) q) there below.at in
+    let at : IsIn xs.items p i q = here _ xs.items (key_of o) i q kept.under_it.children of found in
+    let change : IsChanged p low count again (Inner xs) (Inner ys) (get_or node.leaves q first) =
+    inner_changed p i q low count summary again xs ys child node kept at is below.changed items room summed in
+    let old : get_or child.leaves q first ≡ get_or (under xs.items) p first =
+    ap (λ (m : NodeView). get_or m.leaves q first) there ∙ sym (leaf_in xs.items p i q at) in
+    record {
+      kept = change.kept;
+      asked = record {
+        place = p;
+        at = place_of_nodes _ xs.items (key_of o) i q kept.under_it.children of found;
+        changed = change.changed;
+        asked = subst (λ (leaf : LeafView). IsAsked (get_or (under xs.items) p first) leaf n o result) (sym change.leaf)
+            (subst (λ (leaf : LeafView). IsAsked leaf (get_or node.leaves q first) n o result) old below.asked);
+      };
+    }

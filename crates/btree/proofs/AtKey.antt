@@ -137,16 +137,6 @@ module _ (leaves : List LeafView) (kept : AreLeaves leaves) (p id d : ℕ) (may 
         ]
       ]
 
-  pub low_split : (leaf_at (split_at p id d leaves) k).ab.low ≡ (leaf_at leaves k).ab.low
-  low_split =
-      elim (leaf_split leaves p id d k kept.each may) [
-        | inl same ↦ ap (λ (leaf : LeafView). leaf.ab.low) same
-        | inr half ↦ elim half [
-          | inl lower ↦ ap (λ (leaf : LeafView). leaf.ab.low) lower.is
-          | inr upper ↦ ap (λ (leaf : LeafView). leaf.ab.low) upper.is
-        ]
-      ]
-
   -- of the log's numbers on the key
   pub captured_split : (log : List Record) → AreHonest log leaves → (n : ℕ) (o : Op) → Requests log n o → key_of o ≡ k
       → captures (leaf_at (split_at p id d leaves) k).ab n ≡ captures (leaf_at leaves k).ab n

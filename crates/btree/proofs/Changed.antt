@@ -1,13 +1,15 @@
 -- A node below which one leaf is changed.
-use Rattle.std.proofs.Common.{◌≡◌, ℕ, zero, suc, ◌<◌, ◌≤◌, List, [], ◌∷◌, ◌++◌, length, get_or, set, take, drop, Option, Box, Vec, vec_capacity, refl, sym, ap, ◌∙◌, subst, arith}
+use Rattle.std.proofs.Common.{◌≡◌, ℕ, zero, suc, ◌<◌, ◌≤◌, List, [], ◌∷◌, ◌++◌, length, get_or, set, take, drop, Option, Vec, vec_capacity, refl, sym, ap, ◌∙◌, subst, arith}
 use Rattle.std.specs.declared.alloc.Global.{Global}
 use Rattle.std.proofs.lemmas.List.{length-set, get_or-set_same, get_or_default}
 use Rattle.record_key.specs.Table.{Bytes}
 use Rattle.page.specs.Leaf.{LeafView, first}
+use Rattle.btree.specs.Choosing.{summary_of}
 use Rattle.btree.specs.Nodes.{NodeView, nothing, under, height_in, over_nodes, low_of, IsWhole, IsChild, AreChildren, IsChangedAt}
 use Rattle.btree.specs.Finding.{IsIn}
 use Rattle.btree.specs.declared.tree.node.Below.{Below}
-use Rattle.btree.specs.declared.tree.node.Below.TheVariants.{Leaf, Inner}
+use Rattle.btree.specs.declared.tree.node.Below.TheVariants.{Inner}
+use Rattle.btree.specs.declared.tree.summary.Summary.{Summary}
 use Rattle.btree.specs.Below.{seen, IsNode}
 use Rattle.btree.proofs.AtPlace.{under_set, leaf_in, set_in}
 use Rattle.btree.proofs.Under.{count_parts}
@@ -37,8 +39,8 @@ module _ (place : ℕ) (old new : NodeView) (change : IsChangedAt place old new)
   still_child height child = record { level = change.height ∙ child.level; whole = still_whole child.whole }
 
 -- what a change at a place leaves
-pub record IsChanged (place : ℕ) (low : Option Bytes) (count : ℕ) (old new : Below) (x : LeafView) : Type 0 where
-  pub kept : IsNode low count new
+pub record IsChanged (place : ℕ) (low : Option Bytes) (count : ℕ) (summary : Summary) (old new : Below) (x : LeafView) : Type 0 where
+  pub kept : IsNode low count summary new
   pub changed : IsChangedAt place (seen old) (seen new)
   pub leaf : get_or (seen new).leaves place first ≡ x
 
@@ -71,12 +73,12 @@ module _ (place i rest : ℕ) (ns : List NodeView) (n : NodeView) (at : IsIn ns 
     begins = ap (λ (leaf : LeafView). leaf.low_fence) leaf_under ∙ change.begins ∙ ap (λ (leaf : LeafView). leaf.low_fence) (sym (leaf_in ns place i rest at));
   }
 
--- ---- what a change leaves, in the two kinds of node
+-- ---- what a change leaves where there are nodes below
 
-pub inner_changed : (place i rest : ℕ) (low : Option Bytes) (count : ℕ) (xs ys : Vec NodeView Global) (child n : NodeView) → IsNode low count (Inner xs)
-    → IsIn xs.items place i rest → child ≡ get_or xs.items i child → IsChangedAt rest child n → ys.items ≡ set xs.items i n → vec_capacity ys ≡ vec_capacity xs
-    → IsChanged place low count (Inner xs) (Inner ys) (get_or n.leaves rest first)
-inner_changed place i rest low count xs ys child n kept at of by items room =
+pub inner_changed : (place i rest : ℕ) (low : Option Bytes) (count : ℕ) (summary again : Summary) (xs ys : Vec NodeView Global) (child n : NodeView)
+    → IsNode low count summary (Inner xs) → IsIn xs.items place i rest → child ≡ get_or xs.items i child → IsChangedAt rest child n → ys.items ≡ set xs.items i n
+    → vec_capacity ys ≡ vec_capacity xs → again ≡ summary_of (under ys.items) → IsChanged place low count again (Inner xs) (Inner ys) (get_or n.leaves rest first)
+inner_changed place i rest low count summary again xs ys child n kept at of by items room summed =
     let there : child ≡ get_or xs.items i nothing = of ∙ get_or_default xs.items i child nothing at.there in
     let change : IsChangedAt rest (get_or xs.items i nothing) n = subst (λ (m : NodeView). IsChangedAt rest m n) there by in
     let changed : IsChangedAt place (over_nodes xs.items) (over_nodes ys.items) =
@@ -89,6 +91,7 @@ inner_changed place i rest low count xs ys child n kept at of by items room =
         begins = kept.begins ∙ sym (same_low place _ _ changed);
         counted = kept.counted ∙ sym (same_count place _ _ changed);
         fits = kept.fits;
+        summed = summed;
         under_it = record {
           children = subst (λ (ms : List NodeView). AreChildren (height_in ms) ms) (sym items)
               (at_first (height_in xs.items) (set xs.items i n) (all_set (IsChild (height_in xs.items)) xs.items i n same kept.under_it.children));
@@ -100,27 +103,6 @@ inner_changed place i rest low count xs ys child n kept at of by items room =
       leaf = ap (λ (ms : List NodeView). get_or (under ms) place first) items ∙ leaf_under place i rest xs.items n at change;
     }
 
--- the only leaf of a leaf's node
-pub leaf_alone : (self : NodeView) (place : ℕ) (old : Box LeafView Global) → seen (Leaf old) ≡ self → place < length self.leaves → get_or self.leaves place first ≡ old.value
-leaf_alone self place old is there = ap (λ (n : NodeView). get_or n.leaves place first) (sym is) ∙ alone place (subst (λ (n : NodeView). place < length n.leaves) (sym is) there)
-  where
-    alone : (p : ℕ) → p < 1 → get_or (old.value ∷ []) p first ≡ old.value
-    alone zero less = refl
-    alone (suc p) less = absurd (omega (arith, less))
-
-pub leaf_changed : (self : NodeView) (place : ℕ) (low : Option Bytes) (count : ℕ) (old new : Box LeafView Global) → IsNode low count (Leaf old) → seen (Leaf old) ≡ self
-    → place < length self.leaves → new.value.low_fence ≡ (get_or self.leaves place first).low_fence → IsChanged place low count (Leaf old) (Leaf new) new.value
-leaf_changed self place low count old new kept is there begins =
-    only place (subst (λ (n : NodeView). place < length n.leaves) (sym is) there) (begins ∙ ap (λ (leaf : LeafView). leaf.low_fence) (leaf_alone self place old is there))
-  where
-    only : (p : ℕ) → p < 1 → new.value.low_fence ≡ old.value.low_fence → IsChanged p low count (Leaf old) (Leaf new) new.value
-    only zero less same = record {
-      kept = record { begins = kept.begins ∙ sym same; counted = kept.counted; fits = kept.fits; under_it = tt };
-      changed = record { leaves = refl; height = refl; kids = refl; begins = same };
-      leaf = refl;
-    }
-    only (suc p) less same = absurd (omega (arith, less))
-
 -- ---- one level down
 
 -- the same leaf, at a place in a child
@@ -131,9 +113,9 @@ pub record IsBelowAt (self : NodeView) (place : ℕ) (child : NodeView) (rest : 
   pub fewer : length child.leaves ≤ length self.leaves
   pub leaf : get_or self.leaves place first ≡ get_or child.leaves rest first
 
-pub goes_down : (self child : NodeView) (place i rest : ℕ) (low : Option Bytes) (count : ℕ) (xs : Vec NodeView Global) → seen (Inner xs) ≡ self
-    → IsNode low count (Inner xs) → IsIn xs.items place i rest → child ≡ get_or xs.items i child → IsBelowAt self place child rest
-goes_down self child place i rest low count xs is kept at of =
+pub goes_down : (self child : NodeView) (place i rest : ℕ) (low : Option Bytes) (count : ℕ) (summary : Summary) (xs : Vec NodeView Global) → seen (Inner xs) ≡ self
+    → IsNode low count summary (Inner xs) → IsIn xs.items place i rest → child ≡ get_or xs.items i child → IsBelowAt self place child rest
+goes_down self child place i rest low count summary xs is kept at of =
     let there : get_or xs.items i nothing ≡ child = sym (of ∙ get_or_default xs.items i child nothing at.there) in
     let one : IsChild (height_in xs.items) child = subst (IsChild (height_in xs.items)) there (all_get (IsChild (height_in xs.items)) xs.items i nothing at.there kept.under_it.children) in
     record {

@@ -5,6 +5,8 @@ pub mod AtPlace
 pub mod Carried
 pub mod Changed
 pub mod Changing
+pub mod FirstBelow
+pub mod Firsts
 pub mod Inserted
 pub mod Kept
 pub mod Merging
@@ -18,6 +20,7 @@ pub mod Scanning
 pub mod Searching
 pub mod Splitting
 pub mod Stays
+pub mod Summed
 pub mod Taken
 pub mod Taking
 pub mod Tiling

@@ -8,7 +8,7 @@ use Rattle.page.specs.Tiles.{parts_of, TileFrom}
 use Rattle.page.proofs.Halves.{below_trans}
 use Rattle.btree.specs.Leaves.{AreLeaves, place_at}
 use Rattle.btree.specs.Nodes.{NodeView, nothing, under, low_of, AreChildren, IsChild}
-use Rattle.btree.specs.Finding.{IsIn, IsNodeOf, IsPlaceOf, IsLeafOf}
+use Rattle.btree.specs.Finding.{IsIn, IsInside, IsNodeOf, IsPlaceOf, IsLeafOf}
 use Rattle.btree.proofs.AtPlace.{leaf_in, place_there}
 use Rattle.btree.proofs.Tiling.{LiesLater, cases_tile, where_lies, starts_later}
 use Rattle.btree.proofs.Under.{count_more, lies_later}
@@ -22,7 +22,7 @@ module _ (height : ℕ) (ns : List NodeView) (k : Bytes) (i q : ℕ) (are : AreC
   abbrev p : ℕ
   p = length (under (take i ns)) + q
 
-  here : IsIn ns p i q
+  pub here : IsIn ns p i q
   here = record { there = node.there; within = at.there; is = refl }
 
   some_in : (j : ℕ) → j < length ns → 0 < length (get_or ns j nothing).leaves
@@ -63,6 +63,9 @@ module _ (height : ℕ) (ns : List NodeView) (k : Bytes) (i q : ℕ) (are : AreC
     starts = λ some. ap (λ (leaf : LeafView). starts_at_most leaf.low_fence k) (leaf_in ns p i q here) ∙ starts_here q refl some;
     ends = ends_here;
   }
+
+  pub inside_of_nodes : IsInside (under ns) k → is_in_fences (get_or (get_or ns i nothing).leaves q first) k ≡ true
+  inside_of_nodes inside = ap (λ (leaf : LeafView). is_in_fences leaf k) (sym (leaf_in ns p i q here)) ∙ inside p place_of_nodes
 
   pub leaf_of_nodes : (leaf : LeafView) → leaf ≡ get_or (get_or ns i nothing).leaves q first → IsLeafOf (under ns) k leaf
   leaf_of_nodes leaf is = record { place = p; at = place_of_nodes; is = is ∙ sym (leaf_in ns p i q here) }

@@ -1,8 +1,16 @@
 -- Which place among leaves may be split or merged, by what stands there.
-use Rattle.std.proofs.Common.{◌≡◌, ℕ, zero, suc, ◌+◌, ◌<◌, ◌≤◌, true, false, List, [], ◌∷◌, length, get_or, refl, sym, ◌∙◌, arith, inl, inr, true≢false}
+use Rattle.std.proofs.Common.{◌≡◌, ℕ, zero, suc, ◌+◌, ◌<◌, ◌≤◌, true, false, List, [], ◌∷◌, length, get_or, Box, refl, sym, ap, ◌∙◌, arith, inl, inr, true≢false}
+use Rattle.std.specs.declared.alloc.Global.{Global}
 use Rattle.std.proofs.lemmas.Bool.{cases_lt}
+use Rattle.std.proofs.lemmas.List.{get_or-map}
 use Rattle.page.specs.Leaf.{LeafView, first}
+use Rattle.btree.specs.Lists.{leaf_of, leaves_in}
 use Rattle.btree.specs.Parting.{may_split, may_join, may_split_at, may_merge_at}
+
+-- the leaf in a box
+pub in_box : (boxes : List (Box LeafView Global)) (p : ℕ) (b : Box LeafView Global) → p < length boxes → b ≡ get_or boxes p b
+    → get_or (leaves_in boxes) p first ≡ b.value
+in_box boxes p b within is = get_or-map leaf_of boxes p b first within ∙ ap leaf_of (sym is)
 
 pub split_here : (leaves : List LeafView) (p : ℕ) → p < length leaves → may_split_at leaves p ≡ may_split (get_or leaves p first)
 split_here [] p within = absurd (omega (arith, within))

@@ -28,9 +28,6 @@ module _ {X : Type 0} (P : X → Type 0) where
   pub all_removed : (xs : List X) (i : ℕ) → AllByRecursion P xs → AllByRecursion P (remove xs i)
   all_removed xs i all = all_appended P (take i xs) (drop (suc i) xs) (all_take i xs all) (all_drop (suc i) xs all)
 
-  pub all_inserted : (xs : List X) (i : ℕ) (x : X) → P x → AllByRecursion P xs → AllByRecursion P (insert xs i x)
-  all_inserted xs i x is all = all_appended P (take i xs) (x ∷ drop i xs) (all_take i xs all) (is, all_drop i xs all)
-
 -- nodes at one height are at the height of the first
 pub at_first : (height : ℕ) (ns : List NodeView) → AreChildren height ns → AreChildren (height_in ns) ns
 at_first height [] are = tt

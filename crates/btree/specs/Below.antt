@@ -3,8 +3,10 @@ use Rattle.std.specs.Prelude.{◌≡◌, ℕ, ◌^◌, ◌<◌, ◌≤◌, lengt
 use Rattle.std.specs.Vec.{vec_capacity}
 use Rattle.std.specs.declared.alloc.Global.{Global}
 use Rattle.record_key.specs.Table.{Bytes}
+use Rattle.btree.specs.Choosing.{summary_of}
 use Rattle.btree.specs.Nodes.{NodeView, over_leaf, over_nodes, low_of, height_in, AreChildren}
 use Rattle.btree.specs.declared.tree.node.Below.{Below}
+use Rattle.btree.specs.declared.tree.summary.Summary.{Summary}
 use Rattle.btree.specs.declared.tree.node.Below.TheVariants.{Leaf, Inner}
 
 abbrev pub seen : Below → NodeView
@@ -21,9 +23,10 @@ abbrev pub IsBelow : Below → Type 0
 IsBelow (Leaf leaf) = Unit {0}
 IsBelow (Inner nodes) = AreBelow nodes
 
--- a node knows where its leaves begin and how many they are
-pub record IsNode (low : Option Bytes) (count : ℕ) (below : Below) : Type 0 where
+-- a node knows where its leaves begin, how many they are and what decides which of them are tended first
+pub record IsNode (low : Option Bytes) (count : ℕ) (summary : Summary) (below : Below) : Type 0 where
   pub begins : low ≡ low_of (seen below).leaves
   pub counted : count ≡ length (seen below).leaves
   pub fits : count < 2 ^ 64
+  pub summed : summary ≡ summary_of (seen below).leaves
   pub under_it : IsBelow below

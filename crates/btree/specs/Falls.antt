@@ -6,10 +6,12 @@ use Rattle.record_key.specs.Table.{Bytes}
 use Rattle.btree.specs.Nodes.{NodeView, height_in, AreChildren}
 use Rattle.btree.specs.declared.tree.node.Below.{Below}
 use Rattle.btree.specs.declared.tree.node.Below.TheVariants.{Leaf, Inner}
+use Rattle.btree.specs.declared.tree.summary.Summary.{Summary}
 use Rattle.btree.specs.declared.tree.node.Node.TheDeep.{deep-Below}
 use Rattle.btree.specs.Below.{seen, IsNode, IsBelow}
 
-most_below : (height : ℕ) (nodes : List NodeView) → AreChildren height nodes → most (λ (n : NodeView). n.height + 1) nodes ≤ suc height
+most_below : (height : ℕ) (nodes : List NodeView) → AreChildren height nodes
+    → most (λ (n : NodeView). n.height + 1) nodes ≤ suc height
 most_below height [] are = omega arith
 most_below height (node ∷ nodes) are = omega (arith, are.0.level, most_below height nodes are.1)
 
@@ -17,5 +19,6 @@ deepest : (below : Below) → IsBelow below → deep-Below below ≤ (seen below
 deepest (Leaf leaf) is = omega arith
 deepest (Inner nodes) is = omega (arith, most_below (height_in nodes.items) nodes.items is.children)
 
-pub children_lower : (low : Option Bytes) (count : ℕ) (below : Below) → IsNode low count below → max (deep-Below below) 0 ≤ (seen below).height
-children_lower low count below kept = omega (arith, deepest below kept.under_it)
+pub children_lower : (low : Option Bytes) (count : ℕ) (summary : Summary) (below : Below)
+    → IsNode low count summary below → max (deep-Below below) 0 ≤ (seen below).height
+children_lower low count summary below kept = omega (arith, deepest below kept.under_it)

@@ -1,5 +1,6 @@
 pub mod Leaves
 pub mod Parting
+pub mod Choosing
 pub mod Performs
 pub mod TreeLaw
 pub mod Lists

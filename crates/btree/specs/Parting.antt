@@ -28,12 +28,18 @@ middle leaf = key_in (slice_get (map.entries leaf.rows) (count leaf / 2))
 abbrev pub may_split : LeafView → Bool
 may_split leaf = nat_le 2 (count leaf)
 
+abbrev pub is_many : ℕ → Bool
+is_many n = nat_lt 8 n
+
 abbrev pub is_large : LeafView → Bool
-is_large leaf = nat_lt 8 (count leaf)
+is_large leaf = is_many (count leaf)
 
 -- two neighbours may be joined where the left one has fewer than three records and both have six at most
+abbrev pub are_few : ℕ → ℕ → Bool
+are_few left right = nat_lt left 3 && nat_le (left + right) 6
+
 abbrev pub may_join : LeafView → LeafView → Bool
-may_join left right = nat_lt (count left) 3 && nat_le (count left + count right) 6
+may_join left right = are_few (count left) (count right)
 
 -- the leaf at a place may be split, and may be joined with the one after it
 abbrev pub may_split_at : List LeafView → ℕ → Bool

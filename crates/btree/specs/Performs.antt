@@ -1,13 +1,17 @@
 -- What a request comes to among leaves.
-use Rattle.std.specs.Prelude.{◌≡◌, ℕ, List}
+use Rattle.std.specs.Prelude.{◌≡◌, ℕ, true, List, Result, IfOk, IsOk, OnErr, get_or}
 use Rattle.std.specs.Bool.{MatchBool}
 use Rattle.record_key.specs.declared.op.Op.{Op}
+use Rattle.record_key.specs.declared.refusal.Refusal.{Refusal}
 use Rattle.record_key.specs.Table.{key_of, answer_in}
 use Rattle.ab_lsn.specs.AbLsn.{captures, saved_in}
 use Rattle.page.specs.declared.leaf.Done.{Done}
 use Rattle.page.specs.declared.leaf.Done.TheVariants.{Performed, Repeated}
-use Rattle.page.specs.Leaf.{LeafView, performed}
+use Rattle.page.specs.Leaf.{LeafView, first, performed}
+use Rattle.page.specs.Performs.{Performs}
+use Rattle.btree.specs.Finding.{IsPlaceOf}
 use Rattle.btree.specs.Leaves.{leaf_at, changed_at}
+use Rattle.btree.specs.Nodes.{NodeView, IsChangedAt}
 
 -- the leaf of the key performs it, and the others stay as they were
 abbrev pub performed_at : List LeafView → ℕ → Op → List LeafView
@@ -20,3 +24,16 @@ PerformsAt old n o done new =
     MatchBool (captures (leaf_at old (key_of o)).ab n)
     ((done ≡ Repeated (saved_in (leaf_at old (key_of o)).ab.entries n)) × (new ≡ old))
     ((done ≡ Performed (answer_in (leaf_at old (key_of o)).rows o)) × (new ≡ performed_at old n o))
+
+-- what a request at one leaf comes to
+pub record IsAsked (old new : LeafView) (n : ℕ) (o : Op) (result : Result Done Refusal) : Type 0 where
+  pub done : IfOk result (λ done. Performs old n o done new)
+  pub repeated : captures old.ab n ≡ true → IsOk result
+  pub refused : OnErr result (new ≡ old)
+
+-- and below a node: the leaf of the key alone is asked
+pub record IsAskedBelow (old : NodeView) (n : ℕ) (o : Op) (result : Result Done Refusal) (new : NodeView) : Type 0 where
+  pub place : ℕ
+  pub at : IsPlaceOf old.leaves (key_of o) place
+  pub changed : IsChangedAt place old new
+  pub asked : IsAsked (get_or old.leaves place first) (get_or new.leaves place first) n o result

@@ -7,6 +7,7 @@ ghost use Rattle.record_key.specs.Table.{key_of};
 ghost use Rattle.history.specs.Spans.{Shared, rows_in};
 ghost use Rattle.ab_lsn.specs.AbLsn.{captures};
 ghost use Rattle.page.specs.Leaf.{LeafView, first, raised_to};
+ghost use Rattle.btree.specs.Choosing.{first_large, first_pair};
 ghost use Rattle.btree.specs.Leaves.{AreLeaves, leaf_at, place_at, rows_of};
 ghost use Rattle.btree.specs.Parting.{may_split_at, may_merge_at, split_at, merged_at, IsSplitOf, IsMergeOf};
 ghost use Rattle.btree.specs.Performs.{PerformsAt};
@@ -70,6 +71,14 @@ pub trait LeafSet {
             ≡ rows_in (record { lo = low.now; hi = option_copied high.entry; mode = Shared })
             (rows_of (leaves self.now))) }
         ensures memory { IsOkUnless result Refusal.NoMemory };
+
+    /// The place of the first large leaf. Takes no memory.
+    fn first_large(&self) -> Option<usize>
+        ensures { result ≡ first_large (leaves self.now) };
+
+    /// The place of the first leaf that may be joined with the one after it. Takes no memory.
+    fn first_pair(&self) -> Option<usize>
+        ensures { result ≡ first_pair (leaves self.now) };
 
     /// Counts every request up to this number as performed at each leaf. Takes no memory.
     fn raise(&mut self, low: u64)

@@ -7,6 +7,7 @@
 #![tactic(auto)]
 
 mod boxes;
+mod choosing;
 mod laws;
 mod leaf_set;
 mod list;

@@ -2,6 +2,7 @@
 ghost use Rattle.std.specs.Prelude.{◌≡◌};
 
 use crate::boxes::{merge_in, perform_in, place_in, raise_in, scan_in, split_in};
+use crate::choosing::{large_in, pair_in};
 use crate::leaf_set::LeafSet;
 use crate::parting::{Merge, Split};
 use page::{Done, Leaf};
@@ -78,6 +79,14 @@ impl LeafSet for LeafList {
 
     fn scan(&self, low: &Key, high: Option<&Key>) -> Result<Vec<(Key, Value)>, Refusal> {
         scan_in(self.alloc, self.leaves.as_slice(), low, high)
+    }
+
+    fn first_large(&self) -> Option<usize> {
+        large_in(self.leaves.as_slice())
+    }
+
+    fn first_pair(&self) -> Option<usize> {
+        pair_in(self.leaves.as_slice())
     }
 
     fn raise(&mut self, low: u64) {

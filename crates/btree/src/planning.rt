@@ -6,6 +6,7 @@ ghost use Rattle.btree.specs.Leaves.{place_at};
 ghost use Rattle.btree.specs.Parting.{may_split_at, may_merge_at, unless_may, split_at, merged_at};
 ghost use Rattle.btree.specs.Parting.{IsSplitOf, IsMergeOf};
 
+use crate::choosing::may_join;
 use crate::leaf_set::LeafSet;
 use crate::parting::{Merge, Split};
 use record_key::{Key, Refusal};
@@ -73,7 +74,7 @@ pub fn may_merge<L: LeafSet>(leaves: &L, place: usize) -> bool
     }
     let left = leaves.leaf(place).rows().len();
     let right = leaves.leaf(place + 1).rows().len();
-    left < 3 && left + right <= 6
+    may_join(left, right)
 }
 
 /// Splits the leaf that has the key in its middle: the new right leaf has this number, and system transaction

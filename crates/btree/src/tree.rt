@@ -5,10 +5,12 @@ mod blocks;
 mod building;
 mod changing;
 mod children;
+mod choosing;
 mod finding;
 mod growing;
 mod node;
 mod shrinking;
+mod summary;
 mod walking;
 
 use crate::leaf_set::LeafSet;
@@ -83,8 +85,7 @@ impl LeafSet for Tree {
     }
 
     fn perform(&mut self, number: u64, op: &Op) -> Result<Done, Refusal> {
-        let place = self.root.place_of(op.key());
-        self.root.perform(place, number, op)
+        self.root.perform(number, op)
     }
 
     fn get(&self, key: &Key) -> Option<&Value> {
@@ -93,6 +94,14 @@ impl LeafSet for Tree {
 
     fn scan(&self, low: &Key, high: Option<&Key>) -> Result<Vec<(Key, Value)>, Refusal> {
         scan_under(self.alloc, &self.root, low, high)
+    }
+
+    fn first_large(&self) -> Option<usize> {
+        self.root.first_large()
+    }
+
+    fn first_pair(&self) -> Option<usize> {
+        self.root.first_pair()
     }
 
     fn raise(&mut self, low: u64) {

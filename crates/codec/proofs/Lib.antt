@@ -13,3 +13,4 @@ pub mod Frames
 pub mod Ends
 pub mod Results
 pub mod Numbered
+pub mod Cuts

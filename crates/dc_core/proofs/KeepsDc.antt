@@ -196,7 +196,7 @@ is_performed w n o a v ps noted answer left =
 
 -- ---- a component in which nothing was performed yet
 
-nothing_saved : (leaves : List LeafView) → AllByRecursion (AreListed []) leaves
+pub nothing_saved : (leaves : List LeafView) → AllByRecursion (AreListed []) leaves
 nothing_saved [] = tt
 nothing_saved (leaf ∷ leaves) = (each leaf.ab.entries, nothing_saved leaves)
   where

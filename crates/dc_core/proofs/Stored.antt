@@ -13,7 +13,7 @@ stored_last (is.Accept session) log = omega arith
 stored_last (is.Split left cut right) log = omega arith
 stored_last (is.Merge left right merged) log = omega arith
 
-stored_within : (log : List DcRecord) (n : ℕ) → stored_session (beginning log n) ≤ stored_session log
+pub stored_within : (log : List DcRecord) (n : ℕ) → stored_session (beginning log n) ≤ stored_session log
 stored_within [] n = omega arith
 stored_within (r ∷ log) n =
     elim (cases_lt (length log) n) [

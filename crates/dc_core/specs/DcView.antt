@@ -1,9 +1,12 @@
 -- What is seen of the data component.
-use Rattle.std.specs.Prelude.{ℕ, Bool, false, List, [], Option}
+use Rattle.std.specs.Prelude.{ℕ, Bool, false, List, [], ◌∷◌, Option}
 use Rattle.std.specs.FinMap as map
+use Rattle.record_key.specs.declared.op.Op.{Op}
 use Rattle.record_key.specs.Table.{Table, Bytes}
 use Rattle.ab_lsn.specs.AbLsn.{captures}
 use Rattle.btree.specs.Leaves.{leaf_at}
+use Rattle.page.specs.declared.leaf.Done.{Done}
+use Rattle.page.specs.declared.leaf.Done.TheVariants.{Performed, Repeated}
 use Rattle.page.specs.Leaf.{LeafView}
 use Rattle.system_txn.specs.SystemView.{SystemView, fresh as fresh_system}
 use Rattle.dc_core.specs.declared.performance.Performance.{Performance}
@@ -33,3 +36,8 @@ value_at w k = map.get (leaf_at (leaves w) k).rows k
 abbrev pub fresh : ℕ → DcView
 fresh failures =
     record { stored = 0; session = 0; redo = false; system = fresh_system failures; opened = map.empty; performed = [] }
+
+-- the performances with a request's, where it was performed now
+abbrev pub noted : Done → ℕ → Op → List Performance → List Performance
+noted (Performed answer) n o performed = record { number = n; op = o; answer = answer } ∷ performed
+noted (Repeated answer) n o performed = performed

@@ -1,16 +1,14 @@
 //! What was performed, kept as bytes.
-ghost use Rattle.std.specs.Prelude.{◌≡◌, ◌∷◌, ◌<◌, ◌^◌, [], false, length, reverse, slice_get, IfOk, IfErr, OnOk, OnErr};
-ghost use Rattle.record_key.specs.Table.{key_of, answer_in};
-ghost use Rattle.ab_lsn.specs.AbLsn.{captures};
-ghost use Rattle.btree.specs.Leaves.{leaf_at};
-ghost use Rattle.btree.specs.Performs.{performed_at};
+ghost use Rattle.std.specs.Prelude.{◌≡◌, ◌<◌, ◌^◌, [], length, reverse, slice_get, IfOk, IfErr, OnErr};
+ghost use Rattle.btree.specs.Performs.{PerformsAt};
+ghost use Rattle.dc_core.specs.DcView.{noted};
 
 use crate::performance::Performance;
 use crate::place::Place;
 use crate::spelling::{FRAME_LIMIT, answer_at, answer_record, op_at, op_record, put};
 use crate::system::System;
 use page::Done;
-use record_key::{Answer, Op, Refusal};
+use record_key::{Op, Refusal};
 use std::alloc::Global;
 use std::marker::Model;
 
@@ -76,16 +74,13 @@ impl Performances {
         })
     }
 
-    /// Performs a new number at the leaf of its key and notes it. Room for the note is made before the leaf changes.
-    pub fn perform(&mut self, system: &mut System, number: u64, op: &Op) -> Result<Answer, Refusal>
-        requires numbered { number < 2 ^ 48 }
-        requires uncaptured { captures (leaf_at system.old.leaves (key_of op.now)).ab number ≡ false }
-        ensures noted { IfOk result (λ answer. self.new
-            ≡ record { number = number; op = op.now; answer = answer } ∷ self.old) }
-        ensures answer { IfOk result (λ answer.
-            answer ≡ answer_in (leaf_at system.old.leaves (key_of op.now)).rows op.now) }
-        ensures performed { OnOk result (system.new
-            ≡ record system.old { leaves = performed_at system.old.leaves number op.now }) }
+    /// Performs a new number at the leaf of its key and notes it, or gives what a repeated one was answered. Room for
+    /// the note is made before the leaf changes.
+    pub fn perform(&mut self, system: &mut System, number: u64, op: &Op) -> Result<Done, Refusal>
+        requires { number < 2 ^ 48 }
+        ensures noted { IfOk result (λ done. self.new ≡ noted done number op.now self.old) }
+        ensures done { IfOk result (λ done. PerformsAt system.old.leaves number op.now done system.new.leaves) }
+        ensures rest { system.new ≡ record system.old { leaves = system.new.leaves } }
         ensures refused { IfErr result (λ refusal. refusal ≡ Refusal.NoMemory) }
         ensures unnoted { OnErr result (self.new ≡ self.old) }
         ensures unchanged { OnErr result (system.new ≡ system.old) }
@@ -102,9 +97,9 @@ impl Performances {
                 });
                 put(&mut self.ops, &op_record(op));
                 put(&mut self.answers, &answer_record(&answer));
-                Ok(answer)
+                Ok(Done::Performed(answer))
             }
-            Done::Repeated(_) => unreachable!(),
+            repeated => Ok(repeated),
         }
     }
 }

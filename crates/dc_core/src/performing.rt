@@ -13,7 +13,7 @@ use page::Done;
 use record_key::{Answer, Key, Op, Refusal};
 
 impl Parts {
-    /// Performs a new number, or answers a repeated one.
+    /// Performs a new number, or answers a repeated one. The leaf is asked by one descent, unless memory is refused.
     pub fn perform(&mut self, number: u64, op: &Op) -> Result<Option<Answer>, Refusal>
         requires kept { IsDc (seen self.old) }
         requires numbered { number < 2 ^ 48 }
@@ -24,12 +24,34 @@ impl Parts {
         ensures memory { captures_at (seen self.old) (key_of op.now) number ≡ true → IsOk result }
         ensures unchanged { OnErr result (seen self.new ≡ seen self.old) }
     {
-        if self.captures(number, op.key()) {
-            return Ok(self.repeat(number, op));
+        match self.performed.perform(&mut self.system, number, op) {
+            Ok(Done::Performed(answer)) => {
+                self.system.kept();
+                Ok(Some(answer))
+            }
+            Ok(Done::Repeated(answer)) => Ok(answer),
+            Err(refusal) => self.without_room(number, op, refusal),
         }
-        let answer = self.performed.perform(&mut self.system, number, op)?;
-        self.system.kept();
-        Ok(Some(answer))
+    }
+
+    /// Answers a repeated number, which takes no memory.
+    fn without_room(
+        &mut self,
+        number: u64,
+        op: &Op,
+        refusal: Refusal,
+    ) -> Result<Option<Answer>, Refusal>
+        requires numbered { number < 2 ^ 48 }
+        ensures answered { IfOk result (λ answer. Answers (seen self.old) number op.now answer (seen self.new)) }
+        ensures refused { IfErr result (λ refused. refused ≡ refusal) }
+        ensures memory { captures_at (seen self.old) (key_of op.now) number ≡ true → IsOk result }
+        ensures unchanged { seen self.new ≡ seen self.old }
+    {
+        if self.captures(number, op.key()) {
+            Ok(self.repeat(number, op))
+        } else {
+            Err(refusal)
+        }
     }
 
     /// Whether the leaf of the key has captured the number.

@@ -28,7 +28,7 @@ get-after : (k : Bytes) (m : Table) (o : Op) (v : Option Bytes) → get m k ≡ 
 get-after k m o v e = get-with_record m (key_of o) (value_after o (get m (key_of o))) k ∙ on_or_off (is_on k o) k m o v (is_same-true k (key_of o)) e
 
 -- an entry leaves its operation's value unless it is crossed
-entry_leaves : (crossed : Bool) (k : Bytes) (m : Table) (o : Op) (v : Option Bytes) → get m k ≡ v
+pub entry_leaves : (crossed : Bool) (k : Bytes) (m : Table) (o : Op) (v : Option Bytes) → get m k ≡ v
     → get (if crossed then m else after m o) k ≡ (if not crossed && is_on k o then value_after o v else v)
 entry_leaves true k m o v e = e
 entry_leaves false k m o v e = get-after k m o v e

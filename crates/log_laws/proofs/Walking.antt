@@ -155,7 +155,7 @@ after_acts m t o k lines last h = subst (λ x. Steps x lines last) h.1.4 h.2
 same_number : (k j : ℕ) (o q : Op) → Waiting k o ≡ Waiting j q → k ≡ j
 same_number k j o q e = cc
 
-same_op : (k j : ℕ) (o q : Op) → Waiting k o ≡ Waiting j q → o ≡ q
+pub same_op : (k j : ℕ) (o q : Op) → Waiting k o ≡ Waiting j q → o ≡ q
 same_op k j o q e = cc
 
 -- a told answer is the right one

@@ -1,9 +1,11 @@
 pub mod Answered
 pub mod Checks
+pub mod Crashed
 pub mod Following
 pub mod Framed
 pub mod Index
 pub mod Kept
 pub mod Opening
 pub mod Puts
+pub mod ReadOnce
 pub mod Spelled

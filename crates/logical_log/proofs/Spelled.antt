@@ -3,7 +3,7 @@ use Rattle.std.proofs.Common.{◌≡◌, ℕ, ◌+◌, ◌-◌, ◌<◌, ◌≤�
 use Rattle.std.specs.Prelude.{map}
 use Rattle.std.proofs.Math.ListN.{get_or-append}
 use Rattle.std.proofs.Math.Seq.{get_or-append_seam}
-use Rattle.std.proofs.lemmas.Bool.{cases_eq}
+use Rattle.std.proofs.lemmas.Bool.{cases_eq, cases_lt}
 use Rattle.std.proofs.lemmas.List.{length-append, reverse-append, reverse-reverse, map-append, drop_at}
 use Rattle.codec.specs.Frames.{frame}
 use Rattle.codec.specs.Records.{record_bytes, IsRecord}
@@ -15,7 +15,9 @@ use Rattle.history.specs.Log.{record_at}
 use Rattle.codec.specs.declared.taken.Taken.{Taken}
 use Rattle.codec.specs.declared.taken.Taken.TheVariants as took
 use Rattle.log_laws.proofs.Records.{at_newest, at_older, newest_at, older_at, IsNumber, within}
+use Rattle.logical_log.specs.Low.{stable_part}
 use Rattle.logical_log.specs.Spelled.{spelled, places, read_at, records_at, taken_or_session, AreRecords}
+use Rattle.logical_log.proofs.Answered.{part_longer, part_whole}
 
 -- the record's frame stands at the place, and more may follow
 pub record StandsAt (bytes : List ℕ) (place : ℕ) (r : Record) : Type 0 where
@@ -86,6 +88,26 @@ is_record (q ∷ log) n r each is =
       | inl e ↦ let some : Some q ≡ Some r = newest_at (λ x. x ≡ Some r) q log n e is in let same : q ≡ r = cc in
           subst IsRecord same each.0
       | inr e ↦ is_record log n r each.1 (older_at (λ x. x ≡ Some r) q log n e is)
+    ]
+
+-- where a record's frame begins, the frames of those before it end
+pub place_at : (log : List Record) (n x : ℕ) → n < length log
+    → get_or (places log) n x ≡ length (spelled (stable_part log n))
+unfolding places
+place_at [] n x less = absurd (omega (arith, less))
+place_at (r ∷ log) n x less =
+    let older : stable_part (r ∷ log) n ≡ stable_part log n = part_longer r log n (omega (arith, less)) in
+    elim (cases_lt n (length log)) [
+      | inl amid ↦
+          get_or-append (places log) (length (spelled log) ∷ []) x n (omega (arith, amid, length-places log))
+          ∙ place_at log n x amid
+          ∙ ap (λ (l : List Record). length (spelled l)) (sym older)
+      | inr last ↦
+          let is : n ≡ length log = omega (arith, last, less) in
+          let all : stable_part log n ≡ log = ap (stable_part log) is ∙ part_whole log in
+          ap (λ (i : ℕ). get_or (places log ++ length (spelled log) ∷ []) i x) (is ∙ sym (length-places log))
+          ∙ get_or-append_seam (places log) (length (spelled log)) [] x
+          ∙ ap (λ (l : List Record). length (spelled l)) (sym (older ∙ all))
     ]
 
 -- what stands at a place is read there

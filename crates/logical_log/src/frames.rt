@@ -1,5 +1,5 @@
 //! The frames of records, one after another, with an index of places and of answers.
-ghost use Rattle.std.specs.Prelude.{◌≡◌, ◌+◌, ◌<◌, ◌^◌, ◌↔◌, ◌++◌, ◌∷◌, [], ℕ, List, length, None, IsTrue, OnOk, OnErr, IfErr};
+ghost use Rattle.std.specs.Prelude.{◌≡◌, ◌+◌, ◌≤◌, ◌<◌, ◌^◌, ◌↔◌, ◌++◌, ◌∷◌, [], ℕ, List, length, None, IsTrue, OnOk, OnErr, IfErr};
 ghost use Rattle.history.specs.Log.{record_at, answer_of};
 ghost use Rattle.history.specs.Legal.{Fits, IsLegal};
 ghost use Rattle.history.specs.declared.record.Record.{Record};
@@ -7,7 +7,8 @@ ghost use Rattle.codec.specs.Frames.{frame, IfTaken, IfBad, IsThere, IsCut};
 ghost use Rattle.codec.specs.Records.{record_bytes, HasNumbers, IsRecord};
 ghost use Rattle.logical_log.specs.Index.{is_answered};
 ghost use Rattle.record_key.specs.FirstCause.{MayRefuse, failures_in};
-ghost use Rattle.logical_log.specs.Spelled.{spelled, IsNext};
+ghost use Rattle.logical_log.specs.Low.{stable_part};
+ghost use Rattle.logical_log.specs.Spelled.{spelled, AreRecords, IsNext};
 
 use crate::note::{answer_held, answer_place, asks, note};
 use crate::write::write;
@@ -63,6 +64,7 @@ impl Frames {
         ensures count { result ≡ length self.now.records }
         ensures numbered { result < 2 ^ 48 }
         ensures legal { IsLegal self.now.records }
+        ensures spellable { AreRecords self.now.records }
     {
         self.places.len() as u64
     }
@@ -105,6 +107,18 @@ impl Frames {
         ensures { result ≡ length (spelled self.now.records) }
     {
         self.end
+    }
+
+    /// Where the frames of the first records end, so many.
+    pub(crate) fn end_of(&self, count: u64) -> usize
+        requires { count ≤ length self.now.records }
+        ensures { result ≡ length (spelled (stable_part self.now.records count)) }
+    {
+        if count < self.places.len() as u64 {
+            self.places[count as usize]
+        } else {
+            self.end
+        }
     }
 
     /// Nothing is left after the records that were read.

@@ -1,10 +1,10 @@
 //! The log and what is read of it.
-ghost use Rattle.std.specs.Prelude.{◌≡◌, ◌<◌, ◌^◌, ◌++◌, [], length};
+ghost use Rattle.std.specs.Prelude.{◌≡◌, ◌≤◌, ◌<◌, ◌^◌, ◌++◌, [], length};
 ghost use Rattle.history.specs.Log.{record_at, answer_of};
 ghost use Rattle.history.specs.Legal.{IsLegal, FitsCheckpoint, IsLatest};
 ghost use Rattle.stable.specs.Crash.{BeginsWith};
 ghost use Rattle.logical_log.specs.Low.{stable_part, IsGreatestLow};
-ghost use Rattle.logical_log.specs.Spelled.{spelled};
+ghost use Rattle.logical_log.specs.Spelled.{spelled, AreRecords};
 
 use crate::frames::Frames;
 use history::Record;
@@ -57,8 +57,11 @@ impl<D: LogDevice> Log<D> {
     pub fn stop(self) -> D
         ensures holds { D.forced result ++ D.pending result ≡ spelled self.records }
         ensures forced { BeginsWith (D.forced result) (spelled (stable_part self.records self.stable)) }
+        ensures spellable { AreRecords self.records }
         ensures failures { D.failures result ≡ self.failures }
     {
+        // Called for what it tells of the records: each has a spelling.
+        let _count = self.frames.len();
         let Log {
             device,
             frames: _,
@@ -82,6 +85,14 @@ impl<D: LogDevice> Log<D> {
         ensures { result ≡ self.now.stable }
     {
         self.stable
+    }
+
+    /// Where in the device's bytes the first records end, so many. Takes no memory and makes no device call.
+    pub fn end_of(&self, count: u64) -> usize
+        requires { count ≤ length self.now.records }
+        ensures { result ≡ length (spelled (stable_part self.now.records count)) }
+    {
+        self.frames.end_of(count)
     }
 
     /// The record of this number. Takes no memory and makes no device call.

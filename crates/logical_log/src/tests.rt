@@ -114,6 +114,20 @@ fn records_are_read_from_their_bytes(rt: HostRuntime) -> Result<(), Fail> {
     Ok(())
 }
 
+#[test]
+fn the_first_records_end_in_the_bytes(rt: HostRuntime) -> Result<(), Fail> {
+    let device = device_of(rt.alloc(), &COMMITTED)?;
+    let Ok(log) = Log::open(rt.alloc(), device) else {
+        panic!(&rt; "the log is legal")
+    };
+    assert_eq!(rt; log.len(), 7);
+    assert_eq!(rt; log.end_of(0), 0);
+    assert_eq!(rt; log.end_of(1), 9);
+    assert_eq!(rt; log.end_of(3), 48);
+    assert_eq!(rt; log.end_of(7), 140);
+    Ok(())
+}
+
 /// Appends a record, which has to fit.
 fn write(log: &mut Log<MemLog>, so_far: &mut Vec<Record>, next: Record) -> Result<(), Refusal>
     requires same { log.old.records ≡ reverse so_far.old.items }

@@ -70,7 +70,7 @@ under_high None x fence below ends = refl
 under_high (Some high) x fence below ends = below_trans x fence high below ends
 
 -- a low fence at most a key is at most what isn't below the key
-free_below : (x fence low : Bytes) → is_below x fence ≡ false → is_below fence low ≡ false → is_below x low ≡ false
+pub free_below : (x fence low : Bytes) → is_below x fence ≡ false → is_below fence low ≡ false → is_below x low ≡ false
 free_below x fence low free starts =
     elim (cases_Bool (is_below x low)) [
       | inl below ↦ absurd (true≢false (sym (below_free x low fence below starts) ∙ free))

@@ -10,7 +10,7 @@ use Rattle.range_locks.specs.Locks.{LocksView, spans_of, set_spans, IsTable}
 use Rattle.range_locks.specs.Rebuilt.{IsRebuilt, listed_spans}
 use Rattle.range_locks.proofs.Tables.{set_table, set_own, set_other}
 
-abbrev span_at : ℕ × Bytes → Span
+abbrev pub span_at : ℕ × Bytes → Span
 span_at e = at_key Exclusive e.1
 
 module _ (locks : List (ℕ × Bytes)) (i : ℕ) (e : ℕ × Bytes) (within : i < length locks) (is : e ≡ get_or locks i e)

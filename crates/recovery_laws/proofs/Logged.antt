@@ -14,14 +14,6 @@ use Rattle.recovery_laws.proofs.Shapes.{known}
 use Rattle.recovery_laws.proofs.Beginnings.{whole, shorter}
 
 -- leaves in records have numbers that were named
-named_positive : (log : List DcRecord) → IsLegal log → 1 ≤ named log
-named_positive [] legal = omega arith
-named_positive (Accept session ∷ log) legal = named_positive log legal.1
-named_positive (Split left cut right ∷ log) legal =
-    let fits : FitsSplit log left cut right = legal.0 in
-    let le : 1 ≤ named log = named_positive log legal.1 in omega (arith, fits.next, le)
-named_positive (Merge left right merged ∷ log) legal = named_positive log legal.1
-
 not_left : (log : List DcRecord) (left right id : ℕ) → IsLegal log → part_in left (shape log) ≢ None → named log < id
     → left ≢ id
 not_left log left right id legal is above e = is (known log left legal (subst (λ (x : ℕ). named log < x) (sym e) above))

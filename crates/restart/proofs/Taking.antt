@@ -121,16 +121,16 @@ from_with log below l bound same h = record {
 
 -- the records of others
 
-spared_step : (below : ℕ) (r : Record) (t : ℕ) → SparesBelow below r → t < below → AStep t (Some r) → ⊥
+pub spared_step : (below : ℕ) (r : Record) (t : ℕ) → SparesBelow below r → t < below → AStep t (Some r) → ⊥
 spared_step below (is.Op u p o) t spares early s = let e : u ≡ t = cc in omega (arith, spares, early, e)
 spared_step below (is.Comp u w x i) t spares early s = let e : u ≡ t = cc in omega (arith, spares, early, e)
 spared_step below _ t spares early s = cc
 
-spared_commit : (below : ℕ) (r : Record) (t : ℕ) → SparesBelow below r → t < below → r ≡ is.Commit t → ⊥
+pub spared_commit : (below : ℕ) (r : Record) (t : ℕ) → SparesBelow below r → t < below → r ≡ is.Commit t → ⊥
 spared_commit below (is.Commit u) t spares early e = let same : u ≡ t = cc in omega (arith, spares, early, same)
 spared_commit below _ t spares early e = cc
 
-spared_end : (below : ℕ) (r : Record) (t : ℕ) → SparesBelow below r → t < below → r ≡ is.End t → ⊥
+pub spared_end : (below : ℕ) (r : Record) (t : ℕ) → SparesBelow below r → t < below → r ≡ is.End t → ⊥
 spared_end below (is.End u) t spares early e = let same : u ≡ t = cc in omega (arith, spares, early, same)
 spared_end below _ t spares early e = cc
 

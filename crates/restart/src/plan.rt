@@ -25,6 +25,8 @@ pub struct Plan {
     pub winners: Vec<u64>,
     /// The transactions that have neither a Commit nor an End.
     pub losers: Losers,
+    /// Of each of these the latest Op or Comp record, 0 if it has none.
+    pub open_txns: BTreeMap<u64, u64>,
     /// One past the greatest number that a Checkpoint record names, else 1.
     pub redo_start: u64,
     /// The numbers of the requests that have no Answer record, rising.
@@ -37,6 +39,7 @@ pub fn analyse<D: LogDevice>(alloc: Global, log: &Log<D>) -> Result<Plan, Refusa
     ensures winners { IfOk result (λ plan. Lists (HasCommit log.now.records) plan.winners.items) }
     ensures losers { IfOk result (λ plan. AreLosers log.now.records plan.losers) }
     ensures all { IfOk result (λ plan. plan.losers.below ≡ length log.now.records + 1) }
+    ensures open_txns { IfOk result (λ plan. (t : ℕ) → KeptOf log.now.records t (get nat_cmp plan.open_txns t)) }
     ensures redo { IfOk result (λ plan. IsRedoStart log.now.records plan.redo_start) }
     ensures missing { IfOk result (λ plan. AreMissing log.now.records (length log.now.records) plan.missing.items) }
     ensures refused { IfErr result (λ refusal. refusal ≡ Refusal.NoMemory) }
@@ -45,6 +48,7 @@ pub fn analyse<D: LogDevice>(alloc: Global, log: &Log<D>) -> Result<Plan, Refusa
     Ok(Plan {
         winners: found.winners,
         losers: losers_of(alloc, log, &found.open_txns)?,
+        open_txns: found.open_txns,
         redo_start: found.checkpointed + 1,
         missing: found.missing,
     })

@@ -20,3 +20,9 @@ pub mod Leftovers
 pub mod Refusing
 pub mod Equal
 pub mod Exemplary
+pub mod Owning
+pub mod Lasting
+pub mod Falling
+pub mod Committing
+pub mod Resting
+pub mod AtRest

@@ -4,3 +4,4 @@ pub mod Running
 pub mod Views
 pub mod Refusals
 pub mod Examples
+pub mod Lasting

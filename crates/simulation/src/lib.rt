@@ -4,8 +4,9 @@
 //! Knows: the definitions of `history` and the laws of legal logs.
 //! Must not know: any code that keeps, forces or reads a log, and how the component keeps its transactions.
 //! Promises the crates above that whatever the component stands for, after each of its steps it stands for a
-//! machine that a line may leave, or for the same one; and that each refusal's cause is the machine's. Each
-//! law is the contract of a function that does nothing.
+//! machine that a line may leave, or for the same one; and that each refusal's cause is the machine's. Of the list
+//! machine itself it promises that whatever has committed lasts, crashes included. Each law is the contract of a
+//! function that does nothing.
 #![tactic(auto)]
 
 mod examples;
@@ -15,7 +16,9 @@ mod running;
 mod views;
 
 pub use examples::{kept_commit, lost_commit};
-pub use laws::{commit_law, crash_law, fresh_law, lost_law};
+pub use laws::{
+    answered_law, begun_law, commit_law, crash_law, fresh_law, lasting_law, lost_law, value_law,
+};
 pub use refusals::{
     bad_range_law, bad_savepoint_law, busy_law, full_law, node_refusal_law, not_open_law,
     rolling_back_law, unanswered_law,

@@ -2,6 +2,7 @@
 use Rattle.std.proofs.Common.{◌≡◌, ℕ, ◌+◌, ◌<◌, ◌≤◌, List, [], ◌∷◌, ◌++◌, length, take, drop, refl, sym, ap, ◌∙◌, subst, arith, inl, inr, append_assoc, append-nil}
 use Rattle.std.proofs.lemmas.Bool.{cases_lt}
 use Rattle.std.proofs.lemmas.List.{length-append, take_at, drop_at, take-append-drop, take-append-le, nil_from_length}
+use Rattle.codec.proofs.Cuts.{longer, after, part_cut}
 use Rattle.codec.specs.declared.dc_record.DcRecord.{DcRecord}
 use Rattle.codec.specs.DcRecords.{dc_record_bytes, FitsFrame}
 use Rattle.codec.specs.Fields.{number, first_number}
@@ -15,51 +16,13 @@ use Rattle.system_txn.specs.Recovering.{HoldsFrames}
 use Rattle.system_txn.specs.Restarts.{LeavesBeginning, CrashesLeaveFrames}
 use Rattle.system_txn.proofs.ReadOnce.{just_frames}
 
--- ---- two beginnings of the same bytes
-
--- the longer one begins with the other
-longer : (xs ys a b : List ℕ) → xs ++ a ≡ ys ++ b → length xs ≤ length ys → ys ≡ xs ++ drop (length xs) ys
-longer xs ys a b e le =
-    let n : ℕ = length xs in
-    let same : take n ys ≡ xs =
-    sym (take-append-le n ys b le) ∙ ap (take n) (sym e) ∙ take_at xs a n refl in
-    sym (take-append-drop n ys) ∙ ap (λ (t : List ℕ). t ++ drop n ys) same
-
--- and what follows the other goes on with it
-after : (xs ys a b t : List ℕ) → xs ++ a ≡ ys ++ b → ys ≡ xs ++ t → a ≡ t ++ b
-after xs ys a b t e is =
-    let n : ℕ = length xs in
-    sym (drop_at xs a n refl)
-    ∙ ap (drop n) (e ∙ ap (λ (l : List ℕ). l ++ b) is ∙ append_assoc xs t b)
-    ∙ drop_at xs (t ++ b) n refl
-
--- ---- a part of a frame
-
--- it is cut
-part_cut : (r : DcRecord) (part more : List ℕ) → FitsFrame r → frame (dc_record_bytes r) ≡ part ++ more
-    → length part < length (frame (dc_record_bytes r)) → IsCut any_length part
-part_cut r part more fits e less =
-    let body : List ℕ = dc_record_bytes r in
-    let header : List ℕ = number (length body) in
-    let long : length (frame body) ≡ 8 + length body =
-    length-append header body ∙ ap (λ (n : ℕ). n + length body) (length-number (length body)) in
-    elim (cases_lt (length part) 8) [
-      | inl short ↦ inl short
-      | inr there ↦
-          let is : part ≡ header ++ drop (length header) part =
-          longer header part body more e (omega (arith, there, length-number (length body))) in
-          let count : first_number part ≡ length body =
-          ap first_number is ∙ first_number-number (length body) (drop (length header) part) fits.1 in
-          let some : 0 < length body = dc_record_not_empty r in
-          inr (
-            omega (arith, count, some),
-            omega (arith, count, fits.1),
-            there,
-            omega (arith, count, less, long),
-          )
-    ]
-
 -- ---- a beginning of the bytes of all frames
+
+-- a part of a record's frame is cut
+record_part_cut : (r : DcRecord) (part more : List ℕ) → FitsFrame r → frame (dc_record_bytes r) ≡ part ++ more
+    → length part < length (frame (dc_record_bytes r)) → IsCut any_length part
+record_part_cut r part more fits e less =
+    part_cut any_length (dc_record_bytes r) part more (dc_record_not_empty r) (omega (arith, fits.1)) fits.1 e less
 
 -- what a log without its newest record is left with, it is left with
 older_left : (r : DcRecord) (log : List DcRecord) (left : List ℕ) → length left < length (spelled (r ∷ log))
@@ -131,7 +94,7 @@ frames_left (r ∷ log) left more records e =
             let part : List ℕ = drop (length older) left in
             let is : left ≡ older ++ part = longer older left f more e long in
             let cut : IsCut any_length part =
-            part_cut r part more records.0 (after older left f more part e is)
+            record_part_cut r part more records.0 (after older left f more part e is)
             (omega (arith, ap length is, length-append older part, length-append older f, less)) in
             older_left r log left less (amid_left log part left records.1 is cut)
       ]

@@ -3,12 +3,11 @@ use Rattle.std.proofs.Common.{◌≡◌, ℕ, suc, ◌+◌, ◌<◌, ◌≤◌, 
 use Rattle.std.specs.declared.alloc.Global.{Global}
 use Rattle.std.specs.Option.{option_cmp}
 use Rattle.std.specs.Ordering.{is_lt}
-use Rattle.std.proofs.lemmas.Bool.{cases_Bool}
 use Rattle.btree.specs.Lists.{leaves_in}
 use Rattle.record_key.specs.Laws.{key_cmp}
 use Rattle.record_key.specs.Order.{is_below}
 use Rattle.record_key.specs.Table.{Bytes}
-use Rattle.page.proofs.Halves.{below_free}
+use Rattle.page.proofs.Halves.{below_free, free_below}
 use Rattle.page.specs.Leaf.{LeafView}
 use Rattle.page.specs.Tiles.{parts_of, starts_below, TileFrom}
 use Rattle.recovery_laws.specs.Laws.{IsIn}
@@ -36,20 +35,13 @@ rise_from (b ∷ []) up = tt
 rise_from (b ∷ (c ∷ bs)) up =
     (up 0 b (omega arith), rise_from (c ∷ bs) (λ k d lt. up (suc k) d (omega (arith, lt))))
 
-not_below_trans : (c b a : Bytes) → is_below c b ≡ false → is_below b a ≡ false → is_below c a ≡ false
-not_below_trans c b a cb ba =
-    elim (cases_Bool (is_below c a)) [
-      | inl below ↦ absurd (true≢false (sym (below_free c a b below ba) ∙ cb))
-      | inr above ↦ above
-    ]
-
 fence_trans : (c b a : Option Bytes) → fence_below c b ≡ false → fence_below b a ≡ false → fence_below c a ≡ false
 fence_trans None b None cb ba = refl
 fence_trans (Some c) b None cb ba = refl
 fence_trans None None (Some a) cb ba = absurd (true≢false ba)
 fence_trans None (Some b) (Some a) cb ba = absurd (true≢false cb)
 fence_trans (Some c) None (Some a) cb ba = absurd (true≢false ba)
-fence_trans (Some c) (Some b) (Some a) cb ba = not_below_trans c b a cb ba
+fence_trans (Some c) (Some b) (Some a) cb ba = free_below c b a cb ba
 
 -- the first begins lowest
 least : (x z : LeafView) (xs : List LeafView) → Rise (x ∷ xs) → IsIn z xs

@@ -1,11 +1,11 @@
 -- What each call does to the leaves, their log and their pages.
-use Rattle.std.specs.Prelude.{ℕ, ◌+◌, List, [], ◌∷◌, Option, Some, None, get_or, length, map, nat_le, if◌then◌else◌}
+use Rattle.std.specs.Prelude.{ℕ, ◌+◌, List, [], ◌∷◌, get_or, length, map, nat_le, if◌then◌else◌}
 use Rattle.std.specs.FinMap as table
-use Rattle.std.specs.Option.{option_map}
 use Rattle.codec.specs.declared.dc_record.DcRecord.TheVariants as is
 use Rattle.codec.specs.Images.{image_bytes}
 use Rattle.page.specs.Leaf.{LeafView, first, raised_to}
-use Rattle.btree.specs.Parting.{middle, is_large, may_join, split_at, merged_at}
+pub use Rattle.btree.specs.Choosing.{first_large, first_pair}
+use Rattle.btree.specs.Parting.{middle, split_at, merged_at}
 use Rattle.recovery_laws.specs.Images.{image_of}
 use Rattle.recovery_laws.specs.Leaves.{split_of, merge_of}
 use Rattle.recovery_laws.specs.Shape.{named}
@@ -34,17 +34,6 @@ merged_to v p = record v {
   leaves = merged_at p (next_number v) v.leaves;
   log = merge_of v.log (leaf_in v p) (leaf_in v (p + 1)) ∷ v.log;
 }
-
--- the first large leaf, and the first two neighbours that may be joined
-abbrev pub first_large : List LeafView → Option ℕ
-first_large [] = None
-first_large (leaf ∷ leaves) = if is_large leaf then Some 0 else option_map (λ p. p + 1) (first_large leaves)
-
-abbrev pub first_pair : List LeafView → Option ℕ
-first_pair [] = None
-first_pair (leaf ∷ []) = None
-first_pair (left ∷ right ∷ leaves) =
-    if may_join left right then Some 0 else option_map (λ p. p + 1) (first_pair (right ∷ leaves))
 
 -- every record is stable
 abbrev pub forced : SystemView → SystemView

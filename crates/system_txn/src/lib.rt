@@ -8,7 +8,6 @@
 
 mod arranging;
 mod change_log;
-mod choosing;
 mod devices;
 mod frames;
 mod image;

@@ -9,7 +9,6 @@ ghost use Rattle.system_txn.specs.Gives.{SplitGives, MergeGives, TendGives, Spli
 ghost use Rattle.system_txn.specs.Kept.{IsSystem};
 ghost use Rattle.system_txn.specs.Seen.{seen};
 
-use crate::choosing::{first_large, first_pair};
 use crate::image::image_of;
 use crate::parts::{LAST_NUMBER, Parts};
 use crate::tended::{Neighbours, Tended};
@@ -52,13 +51,13 @@ impl<L: LeafSet, D: LogDevice, P: PageDevice> Parts<L, D, P> {
         ensures gives { TendGives (seen L.leaves P.pages P.failures self.old) merges result
             (seen L.leaves P.pages P.failures self.new) }
     {
-        if let Some(place) = first_large(&self.leaves) {
+        if let Some(place) = self.leaves.first_large() {
             return Ok(Tended::Split(self.split_at(place)?));
         }
         if !merges {
             return Ok(Tended::Nothing);
         }
-        match first_pair(&self.leaves) {
+        match self.leaves.first_pair() {
             Some(place) => Ok(Tended::Merged(self.merge_at(place)?)),
             None => Ok(Tended::Nothing),
         }

@@ -15,6 +15,7 @@ mod failing;
 mod frames;
 mod opening;
 mod refusing;
+mod tending;
 
 use bytes::{ACCEPT, LEFT, MERGE, RAISED_LEFT, RAISED_RIGHT, SPLIT};
 

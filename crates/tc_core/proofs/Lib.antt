@@ -31,3 +31,4 @@ pub mod KeepsReads
 pub mod OpenedLosers
 pub mod OpenedLocks
 pub mod OpenedLog
+pub mod CrashedTc

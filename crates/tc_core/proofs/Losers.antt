@@ -19,7 +19,7 @@ use Rattle.restart.specs.Losers.{LosersView, txns, IsLoser, AreLosers}
 use Rattle.restart.specs.Laws.{SparesBelow}
 use Rattle.restart.proofs.Lists.{times_other}
 use Rattle.restart.proofs.Losing.{loser_kept, loser_had}
-use Rattle.restart.proofs.Taking.{others_spare}
+use Rattle.restart.proofs.Taking.{spared_step, spared_commit, spared_end, others_spare}
 use Rattle.tc_core.specs.declared.phase.Phase.{Phase}
 use Rattle.tc_core.specs.declared.phase.Phase.TheVariants as phase
 use Rattle.tc_core.specs.declared.open_txn.OpenTxn.{OpenTxn}
@@ -73,20 +73,6 @@ same_listed log log2 l l2 h h2 t there back =
       ]
     ]
 
--- a record that spares losers is no step and no end of theirs
-pub spares_step : (below : ℕ) (r : Record) (t : ℕ) → SparesBelow below r → t < below → AStep t (Some r) → ⊥
-spares_step below (is.Op u p o) t spares early s = let e : u ≡ t = cc in omega (arith, spares, early, e)
-spares_step below (is.Comp u w x i) t spares early s = let e : u ≡ t = cc in omega (arith, spares, early, e)
-spares_step below _ t spares early s = cc
-
-spares_commit : (below : ℕ) (r : Record) (t : ℕ) → SparesBelow below r → t < below → r ≡ is.Commit t → ⊥
-spares_commit below (is.Commit u) t spares early e = let same : u ≡ t = cc in omega (arith, spares, early, same)
-spares_commit below _ t spares early e = cc
-
-spares_end : (below : ℕ) (r : Record) (t : ℕ) → SparesBelow below r → t < below → r ≡ is.End t → ⊥
-spares_end below (is.End u) t spares early e = let same : u ≡ t = cc in omega (arith, spares, early, same)
-spares_end below _ t spares early e = cc
-
 -- what has no answer had none
 pub unanswered_was : (r : Record) (log : List Record) (n : ℕ) → answer_of (r ∷ log) n ≡ None → answer_of log n ≡ None
 unanswered_was r log n none = pick (is_some (answer_of log n)) refl (answer_of log n) refl
@@ -130,11 +116,11 @@ lost_spared log s p l r h legal spares same = record {
   losers = others_spare log r l h.losers legal spares;
   phase_of = h.phase_of;
   lacking = λ n due. elim (cases_eq n (length log + 1)) [
-    | inl e ↦ absurd (spares_step l.below r due.txn spares due.loser.early (newest_at (AStep due.txn) r log n e due.step))
+    | inl e ↦ absurd (spared_step l.below r due.txn spares due.loser.early (newest_at (AStep due.txn) r log n e due.step))
     | inr e ↦ h.lacking n (due_was r log l.below legal n h.losers.bound e due)
   ];
   due = λ n e. let was = h.due n e in
-      due_kept r log l.below legal n was (spares_commit l.below r was.txn spares was.loser.early) (spares_end l.below r was.txn spares was.loser.early)
+      due_kept r log l.below legal n was (spared_commit l.below r was.txn spares was.loser.early) (spared_end l.below r was.txn spares was.loser.early)
       (same n e ∙ was.unanswered);
 }
 

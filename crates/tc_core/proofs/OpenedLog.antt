@@ -11,7 +11,7 @@ use Rattle.tc_core.proofs.Opened.{opened_tc}
 use Rattle.tc_core.proofs.OpenedLosers.{are_losers}
 use Rattle.tc_core.proofs.OpenedLocks.{locks_open}
 
-checkpoints_found : (log : List Record) → IsLatestOrNone (IsCheckpointed log) (checkpointed_in log)
+pub checkpoints_found : (log : List Record) → IsLatestOrNone (IsCheckpointed log) (checkpointed_in log)
 checkpoints_found [] = inr (refl, λ l h. let e = h.1 in cc)
 checkpoints_found (r ∷ log) = raised_more r log (checkpointed_in log) (checkpoints_found log)
 

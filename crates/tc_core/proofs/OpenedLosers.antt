@@ -87,7 +87,7 @@ open_listed log =
 
 -- the latest step
 
-number_is : (o : Option ℕ) (t : ℕ) → is_number o t ≡ true → o ≡ Some t
+pub number_is : (o : Option ℕ) (t : ℕ) → is_number o t ≡ true → o ≡ Some t
 number_is None t h = absurd (cc)
 number_is (Some u) t h = ap Some (eqb-true u t h)
 

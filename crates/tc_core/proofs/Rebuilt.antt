@@ -1,5 +1,5 @@
 -- The keys that are noted of open transactions, with one record more.
-use Rattle.std.proofs.Common.{◌≡◌, ℕ, ◌+◌, ◌<◌, length, arith, ◌==◌, Bool, true, false, List, [], ◌∷◌, ◌++◌, map, reverse, Option, Some, None, is_some, refl, sym, ap, ◌∙◌, subst, inl, inr, eq-eqb, eqb-true, ne_eqb}
+use Rattle.std.proofs.Common.{◌≡◌, ℕ, ◌+◌, ◌<◌, ◌≤◌, length, arith, ◌==◌, Bool, true, false, List, [], ◌∷◌, ◌++◌, map, reverse, Option, Some, None, is_some, refl, sym, ap, ◌∙◌, subst, inl, inr, eq-eqb, eqb-true, ne_eqb}
 use Rattle.std.specs.Prelude.{filter, if◌then◌else◌}
 use Rattle.std.proofs.lemmas.Bool.{cases_eq}
 use Rattle.std.proofs.lemmas.List.{nil_from_length, reverse-append, map-append, append-nil}
@@ -11,17 +11,13 @@ use Rattle.history.specs.Log.{record_at}
 use Rattle.history.specs.Legal.{IsLegal}
 use Rattle.history.specs.Spans.{Span, Exclusive, at_key}
 use Rattle.logical_log.specs.Low.{stable_part as first_part}
-use Rattle.logical_log.specs.Replay.{KeptOf, Follows}
-use Rattle.logical_log.proofs.Following.{follows}
 use Rattle.logical_log.proofs.Spelled.{has_record}
-use Rattle.log_laws.proofs.Records.{within}
+use Rattle.log_laws.proofs.LegalLogs.{begun_number}
 use Rattle.range_locks.specs.Rebuilt.{listed_spans}
+use Rattle.range_locks.proofs.Rebuilding.{span_at}
 use Rattle.restart.proofs.Passing.{part_more, legal_part, length_part}
 use Rattle.tc_core.specs.Locking.{op_spans}
 use Rattle.tc_core.specs.Opening.{key_noted, spans_if}
-
-abbrev span_at : ℕ × Bytes → Span
-span_at e = at_key Exclusive e.1
 
 -- one that is listed last is the newest of its transaction
 listed_more : (keys : List (ℕ × Bytes)) (e : ℕ × Bytes) (t : ℕ)
@@ -74,35 +70,23 @@ noted_more log end r keys new noted stands is h t =
     ap (λ ks. listed_spans ks t) is ∙ noted_next r (first_part log end) keys noted h t
     ∙ ap (λ p. spans_if (noted t) (op_spans p t)) (sym (part_more log end r stands))
 
-pub noted_none : (log : List Record) (noted : ℕ → Option ℕ) → AreNoted log 0 [] noted
-noted_none log noted t =
-    let none : first_part log 0 ≡ [] = nil_from_length (first_part log 0) (length_part log 0 (omega arith)) in
-    rw none (nothing (noted t))
+-- who began later has no operation among them
+none_early : (part : List Record) (t : ℕ) → IsLegal part → length part ≤ t → op_spans part t ≡ []
+none_early [] t legal le = refl
+none_early (is.Op u p o ∷ part) t legal le =
+    let begun = begun_number part u legal.0.open_txn.begun in
+    rw (ne_eqb t u (λ e. omega (arith, e, begun.bounded, le))) (none_early part t legal.1 (omega (arith, le)))
+none_early (r ∷ part) t legal le = none_early part t legal.1 (omega (arith, le))
+
+pub noted_none : (log : List Record) (end : ℕ) (noted : ℕ → Option ℕ) → IsLegal log → end ≤ length log
+    → ((t n : ℕ) → noted t ≡ Some n → end ≤ t) → AreNoted log end [] noted
+noted_none log end noted legal within late t = by (noted t) refl
   where
-    nothing : (x : Option ℕ) → [] ≡ spans_if x []
-    nothing None = refl
-    nothing (Some n) = refl
-
--- the transactions that are noted as open in the first records
-abbrev pub AreKept : List Record → ℕ → (ℕ → Option ℕ) → Type 0
-AreKept log end noted = (t : ℕ) → KeptOf (first_part log end) t (noted t)
-
-pub kept_none : (log : List Record) (noted : ℕ → Option ℕ) → ((t : ℕ) → noted t ≡ None) → AreKept log 0 noted
-kept_none log noted nobody t =
-    let none : first_part log 0 ≡ [] = nil_from_length (first_part log 0) (length_part log 0 (omega arith)) in
-    let P : List Record → Type 0 = λ p. KeptOf p t (noted t) in
-    subst P (sym none) (subst (KeptOf [] t) (sym (nobody t)) (λ opened. let begun = opened.begun in cc))
-
-pub kept_more : (log : List Record) (end : ℕ) (r : Record) (old new : ℕ → Option ℕ) → IsLegal log → record_at log (end + 1) ≡ Some r
-    → Follows r (end + 1) old new → AreKept log end old → AreKept log (end + 1) new
-kept_more log end r old new legal stands follow h t =
-    let number = within (λ x. x ≡ Some r) (λ f. cc) log (end + 1) stands in
-    let part : first_part log (end + 1) ≡ r ∷ first_part log end = part_more log end r stands in
-    let legal_now : IsLegal (r ∷ first_part log end) = subst IsLegal part (legal_part log (end + 1) legal) in
-    let P : ℕ → Type 0 = λ n. Follows r (n + 1) old new in
-    let Q : List Record → Type 0 = λ p. KeptOf p t (new t) in
-    subst Q (sym part) (follows r (first_part log end) old new legal_now.1 legal_now.0
-    (subst P (sym (length_part log end (omega (arith, number.bounded)))) follow) h t)
+    by : (x : Option ℕ) → noted t ≡ x → [] ≡ spans_if x (op_spans (first_part log end) t)
+    by None none = refl
+    by (Some n) some =
+        sym (none_early (first_part log end) t (legal_part log end legal)
+        (omega (arith, length_part log end within, late t n some)))
 
 -- all records were read
 pub none_past : (log : List Record) (end : ℕ) → end < length log → record_at log (end + 1) ≡ None → ⊥

@@ -1,16 +1,17 @@
 -- What a log opens as, with its losers in one order.
-use Rattle.std.specs.Prelude.{ℕ, ◌+◌, ◌≤◌, ◌==◌, Bool, not, List, [], ◌∷◌, length, map, filter, if◌then◌else◌}
+use Rattle.std.specs.Prelude.{◌≡◌, ℕ, ◌+◌, ◌≤◌, ◌==◌, Bool, not, List, [], ◌∷◌, length, map, filter, if◌then◌else◌}
 use Rattle.history.specs.declared.record.Record.{Record}
 use Rattle.history.specs.declared.record.Record.TheVariants as is
 use Rattle.history.specs.Log.{record_at, has_ended, step_of}
 use Rattle.history.specs.Legal.{IsLegal}
 use Rattle.log_laws.specs.Laws.{undo_from}
+use Rattle.logical_log.specs.Low.{stable_part}
 use Rattle.logical_log.specs.Opening.{IsLogOf}
 use Rattle.range_locks.specs.Locks.{LocksView, set_spans}
 use Rattle.restart.specs.declared.loser.Loser.{Loser}
-use Rattle.restart.specs.Losers.{LosersView}
+use Rattle.restart.specs.Losers.{LosersView, txns}
 use Rattle.restart.specs.Plan.{raised_by}
-use Rattle.tc_core.specs.Locking.{op_spans}
+use Rattle.tc_core.specs.Locking.{op_spans, is_listed}
 use Rattle.tc_core.specs.Opening.{opened, IsOpened}
 use Rattle.tc_core.specs.Replies.{is_number}
 use Rattle.tc_core.specs.TcView.{TcView}
@@ -69,3 +70,31 @@ OpenedIsKept =
 abbrev pub OpenedIsOpened : Type 0
 OpenedIsOpened =
     (bytes : List ℕ) (log : List Record) (failures : ℕ) → IsLogOf bytes log → IsOpened bytes failures (opens_as log failures)
+
+-- what is left of the component where a crash keeps the first records, so many
+abbrev pub crashed : TcView → ℕ → TcView
+crashed w n = opens_as (stable_part w.log n) w.failures
+
+-- it is a transaction component, and its Checkpoint records name no greater number than the whole log's
+abbrev pub CrashedIsKept : Type 0
+CrashedIsKept =
+    (w : TcView) (n : ℕ) → IsTc w → n ≤ length w.log
+    → IsTc (crashed w n) × ((crashed w n).checkpointed ≤ w.checkpointed)
+
+-- one log opened twice: the same but for the order of losers and of locks
+pub record IsOpenedAgain (old new : TcView) : Type 0 where
+  pub was : old ≡ opened old.log old.failures old.checkpointed old.losers old.locks
+  pub is : new ≡ opened old.log old.failures old.checkpointed new.losers new.locks
+  pub below : new.losers.below ≡ old.losers.below
+
+-- whatever the bytes of the log are opened as
+abbrev pub OpensAgain : Type 0
+OpensAgain =
+    (bytes : List ℕ) (log : List Record) (failures : ℕ) (w : TcView) → IsLogOf bytes log → IsOpened bytes failures w
+    → IsTc w → IsOpenedAgain (opens_as log failures) w
+
+-- the same transactions are losers
+abbrev pub SameAreLost : Type 0
+SameAreLost =
+    (old new : TcView) → IsTc old → IsTc new → IsOpenedAgain old new → (t : ℕ)
+    → is_listed (txns new.losers) t ≡ is_listed (txns old.losers) t

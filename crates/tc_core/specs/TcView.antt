@@ -5,7 +5,7 @@ use Rattle.range_locks.specs.Locks.{LocksView}
 use Rattle.restart.specs.Losers.{LosersView, txns}
 use Rattle.tc_core.specs.declared.open_txn.OpenTxn.{OpenTxn}
 use Rattle.tc_core.specs.declared.phase.Phase.{Phase}
-use Rattle.tc_core.specs.declared.phase.Phase.TheVariants.{Unconnected, Connecting, Redoing, Undoing, Running}
+use Rattle.tc_core.specs.declared.phase.Phase.TheVariants.{Unconnected, Undoing, Running}
 
 -- its log, the newest record first, how many are stable, how often the log's device has failed; its session, 0 if
 -- none, and how far that has come; how many reads were asked; the greatest number announced in this session, 0 before
@@ -40,13 +40,6 @@ abbrev pub is_serving : Phase → Bool
 is_serving (Undoing waiting) = true
 is_serving Running = true
 is_serving _ = false
-
--- a step of recovery is due, or its request awaits the reply
-abbrev pub is_recovering : Phase → Bool
-is_recovering Connecting = true
-is_recovering (Redoing next ending) = true
-is_recovering (Undoing waiting) = true
-is_recovering _ = false
 
 -- no transaction was lost
 abbrev pub nobody_lost : LosersView

@@ -29,7 +29,7 @@ mod told;
 mod transactions;
 mod undoing;
 
-pub use laws::opened_law;
+pub use laws::{crashed_law, opened_again_law, opened_law};
 pub use open_txn::{OpenTxn, Read, Rollback};
 pub use phase::Phase;
 pub use tc::Tc;

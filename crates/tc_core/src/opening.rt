@@ -1,5 +1,5 @@
 //! Opening what a crash left.
-ghost use Rattle.std.specs.Prelude.{◌≡◌, ◌++◌, ◌+◌, ℕ, Some, [], length, IfOk, IfErr, OnOk};
+ghost use Rattle.std.specs.Prelude.{◌≡◌, ◌++◌, ◌+◌, ◌≤◌, ℕ, Some, [], length, IfOk, IfErr, OnOk};
 ghost use Rattle.std.specs.BTreeMap.{get};
 ghost use Rattle.std.specs.Ordering.{nat_cmp};
 ghost use Rattle.record_key.specs.FirstCause.{failures_of};
@@ -7,8 +7,8 @@ ghost use Rattle.stable.specs.Crash.{BeginsWith};
 ghost use Rattle.history.specs.Log.{record_at};
 ghost use Rattle.logical_log.specs.Low.{stable_part};
 ghost use Rattle.logical_log.specs.Opening.{RefusesOpen};
-ghost use Rattle.logical_log.specs.Replay.{KeptOf, Follows};
-ghost use Rattle.logical_log.specs.Spelled.{spelled};
+ghost use Rattle.logical_log.specs.Replay.{KeptOf};
+ghost use Rattle.logical_log.specs.Spelled.{spelled, AreRecords};
 ghost use Rattle.range_locks.specs.Rebuilt.{listed_spans};
 ghost use Rattle.restart.specs.Losers.{AreLosers};
 ghost use Rattle.restart.specs.Plan.{IsRedoStart};
@@ -68,6 +68,7 @@ impl<D: LogDevice> Parts<D> {
     pub fn stop(self) -> D
         ensures holds { D.forced result ++ D.pending result ≡ spelled self.log.records }
         ensures forced { BeginsWith (D.forced result) (spelled (stable_part self.log.records self.log.stable)) }
+        ensures spellable { AreRecords self.log.records }
         ensures failures { D.failures result ≡ self.log.failures }
     {
         self.log.stop()
@@ -83,42 +84,8 @@ fn found<D: LogDevice>(alloc: Global, log: &Log<D>) -> Result<(Plan, RangeLocks)
     ensures refused { IfErr result (λ refusal. refusal ≡ Refusal.NoMemory) }
 {
     let plan = analyse(alloc, log)?;
-    let open_txns = read_open(alloc, log)?;
-    let locks = held(alloc, log, &open_txns)?;
+    let locks = held(alloc, log, &plan.open_txns)?;
     Ok((plan, locks))
-}
-
-/// The open transactions of the log, each with its latest step.
-fn read_open<D: LogDevice>(alloc: Global, log: &Log<D>) -> Result<BTreeMap<u64, u64>, AllocError>
-    ensures { IfOk result (λ open_txns. (t : ℕ) → KeptOf log.now.records t (get nat_cmp open_txns t)) }
-{
-    let mut open_txns = BTreeMap::new(alloc);
-    for end in 0..log.len() {
-        match log.record(end + 1) {
-            Some(found) => follow(&mut open_txns, &found, end + 1)?,
-            None => unreachable!(),
-        }
-    }
-    Ok(open_txns)
-}
-
-/// Notes what the record of this number changes of the open transactions.
-fn follow(open_txns: &mut BTreeMap<u64, u64>, found: &Record, number: u64) -> Result<(), AllocError>
-    ensures { OnOk result (Follows found.now number (get nat_cmp open_txns.old) (get nat_cmp open_txns.new)) }
-{
-    match found {
-        Record::Begin => {
-            open_txns.insert(number, 0)?;
-        }
-        Record::Op { txn, .. } | Record::Comp { txn, .. } => {
-            open_txns.insert(*txn, number)?;
-        }
-        Record::Commit { txn } | Record::End { txn } => {
-            open_txns.remove(txn);
-        }
-        _ => {}
-    }
-    Ok(())
 }
 
 /// The keys of these transactions' operations, compensated or not, each with its transaction.
@@ -129,14 +96,26 @@ fn keys_of<D: LogDevice>(
 ) -> Result<Vec<(u64, Key)>, AllocError>
     ensures { IfOk result (λ keys. (t : ℕ) → listed_spans keys.items t ≡ spans_if (get nat_cmp open_txns.now t) (op_spans log.now.records t)) }
 {
+    let records = log.len();
     let mut keys = Vec::new(alloc);
-    for end in 0..log.len() {
+    for end in first_open(open_txns, records)..records {
         match log.record(end + 1) {
             Some(found) => note_key(&mut keys, open_txns, &found)?,
             None => unreachable!(),
         }
     }
     Ok(keys)
+}
+
+/// The number of the first of these transactions' beginnings, or of the last record: no operation of theirs stands before.
+fn first_open(open_txns: &BTreeMap<u64, u64>, last: u64) -> u64
+    ensures within { result ≤ last }
+    ensures first { (t n : ℕ) → get nat_cmp open_txns.now t ≡ Some n → result ≤ t }
+{
+    match open_txns.first_key_value() {
+        Some((txn, _)) => (*txn).min(last),
+        None => last,
+    }
 }
 
 /// Notes the key that the record's operation is on, where its transaction is open.

@@ -15,18 +15,3 @@ pub enum Phase {
     /// Clients are served, and no loser is left.
     Running,
 }
-
-impl Phase {
-    ghost use Rattle.std.specs.Prelude.{◌≡◌};
-    ghost use Rattle.tc_core.specs.TcView.{is_recovering};
-
-    /// A step of recovery is due, or its request awaits the reply.
-    pub fn is_recovering(self) -> bool
-        ensures { result ≡ is_recovering self }
-    {
-        matches!(
-            self,
-            Phase::Connecting | Phase::Redoing { .. } | Phase::Undoing { .. }
-        )
-    }
-}

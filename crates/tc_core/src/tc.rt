@@ -1,11 +1,11 @@
 //! The transaction component.
-ghost use Rattle.std.specs.Prelude.{◌≡◌, ◌++◌, ◌+◌, [], length, Some, None, IfOk, IfErr, OnOk};
+ghost use Rattle.std.specs.Prelude.{◌≡◌, ◌≤◌, ◌++◌, ◌+◌, [], length, Some, None, IfOk, IfErr, OnOk};
 ghost use Rattle.record_key.specs.FirstCause.{failures_of};
 ghost use Rattle.stable.specs.Crash.{BeginsWith};
 ghost use Rattle.history.specs.Log.{record_at};
 ghost use Rattle.logical_log.specs.Low.{stable_part};
 ghost use Rattle.logical_log.specs.Opening.{RefusesOpen};
-ghost use Rattle.logical_log.specs.Spelled.{spelled};
+ghost use Rattle.logical_log.specs.Spelled.{spelled, AreRecords};
 ghost use Rattle.logical_log.specs.LogView.{spent_refusal};
 ghost use Rattle.tc_core.specs.TcView.{TcView, fresh};
 ghost use Rattle.tc_core.specs.OpenTxns.{find, oldest, wants};
@@ -82,6 +82,7 @@ impl<D: LogDevice> Tc<D> {
     pub fn stop(self) -> D
         ensures holds { D.forced result ++ D.pending result ≡ spelled self.log }
         ensures forced { BeginsWith (D.forced result) (spelled (stable_part self.log self.stable)) }
+        ensures spellable { AreRecords self.log }
         ensures failures { D.failures result ≡ self.failures }
     {
         self.parts.stop()
@@ -314,6 +315,14 @@ impl<D: LogDevice> Tc<D> {
         ensures { result ≡ record_at self.now.log number }
     {
         self.parts.log.record(number)
+    }
+
+    /// Where the first records, so many, end in the log's bytes. Takes no memory.
+    pub fn end_of(&self, count: u64) -> usize
+        requires { count ≤ length self.now.log }
+        ensures { result ≡ length (spelled (stable_part self.now.log count)) }
+    {
+        self.parts.log.end_of(count)
     }
 
     /// The number up to which records are stable.

@@ -94,15 +94,19 @@ with_leaf name (Some key) = option_map (λ c. treats c key) (leaf_call_named nam
 
 -- the component that a word names
 abbrev pub component_in : List ℕ → Option Component
-component_in word = if bytes_eq word (codes "dc") then Some component.Dc else None
+component_in word =
+    if bytes_eq word (codes "tc") then Some component.Tc
+    else (if bytes_eq word (codes "dc") then Some component.Dc else None)
 
 -- a component loses what isn't on its devices; of its log's records that aren't stable so many stay, and so many
 -- bytes of the next one
 abbrev pub crash_of : Component → ℕ → ℕ → Event
+crash_of component.Tc frames bytes = event.CrashTc frames bytes
 crash_of component.Dc frames bytes = event.CrashDc frames bytes
 
 -- a component is opened on its devices
 abbrev pub restart_of : Component → Event
+restart_of component.Tc = event.RestartTc
 restart_of component.Dc = event.RestartDc
 
 -- a line of two words, the second a component

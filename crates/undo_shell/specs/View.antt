@@ -32,7 +32,12 @@ abbrev pub leaves_text : Bool → List LeafView → List ℕ
 leaves_text true leaves = flat_map leaf_line leaves
 leaves_text false leaves = refusal_line NotConnected
 
+-- the log of a transaction component that runs, or that it is down
+abbrev pub log_if_up : Bool → List Record → ℕ → List ℕ
+log_if_up true log stable = log_text log stable
+log_if_up false log stable = refusal_line NotConnected
+
 -- what is printed of a part
 abbrev pub part_text : Part → NodeView → List ℕ
-part_text part.Log view = log_text (log_of view) (stable_of view)
+part_text part.Log view = log_if_up view.tc_up (log_of view) (stable_of view)
 part_text part.Leaves view = leaves_text view.dc_up (leaves_of view)

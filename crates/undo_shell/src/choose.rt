@@ -39,10 +39,10 @@ A script is lines; empty lines and lines that begin with # are skipped.
   merge K       joins the leaf that has the key K with the leaf after it
   tend          splits one leaf that is large, or joins two that are small
   flush K       writes the leaf that has the key K to its page
-  crash dc N N  the data component loses what isn't on its devices; of the records
-                of its log that aren't stable the first N stay, and of the next
-                one the second N bytes
-  restart dc    opens the data component on its devices
+  crash C N N   the component C loses what isn't on its devices; of the records of
+                its log that aren't stable the first N stay, and of the next one
+                the second N bytes
+  restart C     opens the component C on its devices
   connect       starts a session of the two components
   recover       does one step of recovery
   settle        lets the node work until nothing is left to do
@@ -53,8 +53,9 @@ A script is lines; empty lines and lines that begin with # are skipped.
 
 T is 1 to 8 lower case letters or digits. K and V are letters and digits, or a dot
 for the empty text; a key has 1 to 32 bytes, a value 0 to 120. N is a decimal number
-below 2 to the power of 48. Words are separated by one space. The whole script is
-checked before its first line is run.
+below 2 to the power of 48. C is tc, the transaction component, or dc, the data
+component. Words are separated by one space. The whole script is checked before its
+first line is run.
 
 Exit status: 0; 2 for a line or a command line outside the grammar; 3 where memory
 or a device failed.";

@@ -11,7 +11,9 @@ use world::Event;
 fn component_in(word: &[u8]) -> Option<Component>
     ensures { result ≡ component_in word.now }
 {
-    if word == b"dc".as_slice() {
+    if word == b"tc".as_slice() {
+        Some(Component::Tc)
+    } else if word == b"dc".as_slice() {
         Some(Component::Dc)
     } else {
         None
@@ -45,6 +47,7 @@ fn crash_of(component: Component, frames: u64, bytes: u64) -> Event
     ensures { result ≡ crash_of component frames bytes }
 {
     match component {
+        Component::Tc => Event::CrashTc { frames, bytes },
         Component::Dc => Event::CrashDc { frames, bytes },
     }
 }
@@ -53,6 +56,7 @@ fn restart_of(component: Component) -> Event
     ensures { result ≡ restart_of component }
 {
     match component {
+        Component::Tc => Event::RestartTc,
         Component::Dc => Event::RestartDc,
     }
 }

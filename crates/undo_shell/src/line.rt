@@ -36,6 +36,8 @@ pub enum LeafCall {
 /// What may crash and be restarted.
 #[derive(Debug, Clone, Copy, PartialEq, Eq)]
 pub enum Component {
+    /// The transaction component.
+    Tc,
     /// The data component.
     Dc,
 }

@@ -6,7 +6,7 @@ ghost use Rattle.std.specs.Cmp.Lexicographic.{slice_cmp};
 ghost use Rattle.std.specs.BTreeMap.{get};
 ghost use Rattle.record_key.specs.FirstCause.{RefusesAs};
 ghost use Rattle.tc_core.specs.Causes.{begin_refusal};
-ghost use Rattle.world.specs.Node.{fresh_node};
+ghost use Rattle.world.specs.Node.{fresh_node, if_up};
 ghost use Rattle.undo_shell.specs.Labels.{number_in, unbound, AreSame};
 ghost use Rattle.undo_shell.specs.Script.{meaning};
 ghost use Rattle.undo_shell.specs.Text.{Replies, Begins, Writes, Gets, Scans, Treats, IsTable, IsSettling, event_of, leaf_event, op_of, length_fault, keys_fault};
@@ -83,7 +83,7 @@ impl Shell {
 
     /// Makes room for the label's binding, where nothing else stands in the way of beginning.
     fn make_way(&mut self, label: &Label) -> Result<(), Refusal>
-        ensures refused { IfErr result (RefusesAs (begin_refusal self.old.world.tc)) }
+        ensures refused { IfErr result (RefusesAs (if_up self.old.world.tc_up (begin_refusal self.old.world.tc))) }
         ensures room { OnOk result (IsSome (get (slice_cmp nat_cmp) self.new.labels.numbers label.now)) }
         ensures world { self.new.world ≡ self.old.world }
         ensures labels { AreSame (number_in self.old.labels) (number_in self.new.labels) }

@@ -5,6 +5,7 @@ use std::process::Abort;
 mod bad_input;
 mod command_line;
 mod commits;
+mod crash_everywhere;
 mod crashes;
 mod examples;
 mod failing;
@@ -14,6 +15,7 @@ mod orders;
 mod printing;
 mod rows;
 mod savepoints;
+mod tc_crashes;
 mod writes;
 
 /// Runs the script and compares all that was written, and the exit status.

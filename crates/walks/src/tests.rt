@@ -2,7 +2,9 @@
 mod calling;
 mod choosing;
 mod counts;
+mod crashing;
 mod holds;
+mod kept;
 mod lines;
 mod model;
 mod open;
@@ -20,8 +22,11 @@ use walking::Walk;
 fn walked(rt: &impl Abort, alloc: Global, seed: u64) -> Result<Walk, Fail> {
     let mut walk = Walk::new(alloc, seed)?;
     for _ in 0..40 {
-        for _ in 0..100 {
-            walk.walk(rt, alloc)?;
+        for _ in 0..10 {
+            for _ in 0..10 {
+                walk.walk(rt, alloc)?;
+            }
+            walk.serve_sometimes(rt, alloc)?;
         }
         walk.settle(rt, alloc)?;
         walk.assert_settled(rt, alloc)?;

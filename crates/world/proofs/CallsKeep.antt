@@ -41,6 +41,7 @@ use Rattle.tc_core.specs.LowWater.{LowWaterGives}
 use Rattle.tc_core.specs.Checkpoint.{CheckpointGives}
 use Rattle.tc_core.specs.Undo.{FindsRequest}
 use Rattle.tc_core.specs.Kept.{IsTc, IsPhase}
+use Rattle.tc_core.proofs.OpenedLosers.{number_is}
 use Rattle.tc_core.proofs.KeepsTc.{keeps_failed, keeps_logged, keeps_force, keeps_session, keeps_begin, keeps_act, keeps_rollback, keeps_save, keeps_back, keeps_is_back, keeps_answer, keeps_passed, newly_answered, awaited_is, open_at, idle_at}
 use Rattle.tc_core.proofs.KeepsUndo.{keeps_comp, fits_end, keeps_end, keeps_commit}
 use Rattle.tc_core.proofs.KeepsReads.{keeps_ask, keeps_told, reader_is}
@@ -283,10 +284,6 @@ redo_ended_keeps w (phase.Redoing next true) k at = keeps_redo_ended w k next at
 redo_ended_keeps w (phase.Undoing waiting) k at = k
 redo_ended_keeps w phase.Running k at = k
 
-is_asked : (x : Option ℕ) (l : ℕ) → is_number x l ≡ true → x ≡ Some l
-is_asked None l h = absurd (true≢false (sym h))
-is_asked (Some m) l h = ap Some (eqb-true m l h)
-
 checkpointed_keeps : (w : TcView) (l : ℕ) → IsTc w → first_of ((is_number w.checkpointing l && is_spent w.log, NumbersSpent) ∷ []) ≡ None → IsTc (on_checkpointed w l).1
 checkpointed_keeps w l k free = pick (is_number w.checkpointing l) refl
   where
@@ -294,7 +291,7 @@ checkpointed_keeps w l k free = pick (is_number w.checkpointing l) refl
     logged_if b = if b then (told.CheckpointLogged (length w.log + 1), checkpointed w l) else (told.Nothing, w)
 
     pick : (b : Bool) → is_number w.checkpointing l ≡ b → IsTc (logged_if b).1
-    pick true asks = keeps_checkpointed w k l (is_asked w.checkpointing l asks) (logged_unspent (is_number w.checkpointing l) (is_spent w.log) asks free)
+    pick true asks = keeps_checkpointed w k l (number_is w.checkpointing l asks) (logged_unspent (is_number w.checkpointing l) (is_spent w.log) asks free)
     pick false other = k
 
 row_keeps : (w : TcView) (n : ℕ) (v : Option Bytes) (x : Option OpenTxn) → IsTc w → reader w n ≡ x → IsTc (on_row w v x).1

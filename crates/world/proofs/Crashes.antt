@@ -1,9 +1,6 @@
 -- A crash of the data component, and its restart, keep what holds of a node.
 use Rattle.std.proofs.Common.{◌≡◌, ℕ, ◌<◌, ◌≤◌, Bool, true, List, [], ◌∷◌, length, refl, sym, ap, subst, arith, inl}
-use Rattle.std.specs.List.{AllByRecursion}
-use Rattle.record_key.specs.declared.entry.Entry.{Entry}
 use Rattle.record_key.specs.declared.refusal.Refusal.{Refusal}
-use Rattle.page.specs.Leaf.{LeafView}
 use Rattle.recovery_laws.specs.Shape.{beginning}
 use Rattle.recovery_laws.specs.Recovery.{stored_session}
 use Rattle.recovery_laws.specs.Laws.{IsKeptByCuts}
@@ -18,8 +15,10 @@ use Rattle.system_txn.specs.Crashed.{crashed}
 use Rattle.system_txn.proofs.AfterCrash.{all_recovered, have_beginning, crashed_kept, crashed_recoverable}
 use Rattle.system_txn.proofs.Checked.{crashed_checked, refused_checked}
 use Rattle.dc_core.specs.DcView.{DcView, leaves}
-use Rattle.dc_core.specs.Kept.{IsDc, IsListed, AreListed}
+use Rattle.dc_core.specs.Kept.{IsDc}
 use Rattle.dc_core.specs.Restarting.{restarted}
+use Rattle.dc_core.proofs.KeepsDc.{nothing_saved}
+use Rattle.dc_core.proofs.Stored.{stored_within}
 use Rattle.dc_core.specs.Serves.{runs, with_system}
 use Rattle.tc_core.specs.declared.phase.Phase.{Phase}
 use Rattle.tc_core.specs.declared.phase.Phase.TheVariants as phase
@@ -29,19 +28,11 @@ use Rattle.history.specs.declared.record.Record.{Record}
 use Rattle.world.specs.Node.{NodeView, with_dc}
 use Rattle.world.specs.Kept.{IsKept, IsBegun, IsServed, IsTrueTo, IsLowAnswered}
 use Rattle.world.proofs.Carries.{keeps_dc}
-use Rattle.world.proofs.Running.{run_is, some_session, stored_shorter}
+use Rattle.world.proofs.Running.{run_is, some_session}
 use Rattle.world.proofs.Systems.{same_leaves, keeps_system}
 use Rattle.world.proofs.Written.{refused_true}
 
 -- ---- what was restarted keeps its own
-
-none_listed : (ls : List LeafView) → AllByRecursion (AreListed []) ls
-none_listed [] = tt
-none_listed (leaf ∷ ls) = (entries leaf.ab.entries, none_listed ls)
-  where
-    entries : (es : List Entry) → AllByRecursion (IsListed []) es
-    entries [] = tt
-    entries (e ∷ es) = (tt, entries es)
 
 pub restarted_kept : (v : SystemView) → IsSystem v → v.stable ≡ length v.log → IsDc (restarted v)
 restarted_kept v is all = record {
@@ -49,7 +40,7 @@ restarted_kept v is all = record {
   rows = refl;
   once = tt;
   captured = tt;
-  saved = none_listed v.leaves;
+  saved = nothing_saved v.leaves;
   session = inl refl;
   stored = omega (arith, ap stored_session (whole v.log v.stable (omega (arith, all))));
 }
@@ -58,7 +49,7 @@ restarted_kept v is all = record {
 
 -- of a log's beginnings the longer accepted the later session
 stored_longer : (v : SystemView) (n : ℕ) → v.stable ≤ n → stored_session (beginning v.log v.stable) ≤ stored_session (beginning v.log n)
-stored_longer v n le = subst (λ log. stored_session log ≤ stored_session (beginning v.log n)) (twice v.log n v.stable le) (stored_shorter (beginning v.log n) v.stable)
+stored_longer v n le = subst (λ log. stored_session log ≤ stored_session (beginning v.log n)) (twice v.log n v.stable le) (stored_within (beginning v.log n) v.stable)
 
 -- no session runs
 no_run : (v : SystemView) (s : ℕ) → runs (restarted v) s ≡ true → ⊥
@@ -84,7 +75,7 @@ cuts_honest w leaf d cut less inside h = record {
 cuts_low : (w : TcView) → IsKeptByCuts (IsLowAnswered w)
 cuts_low w leaf d cut less inside h = h
 
-crash_true : (w : NodeView) (n : ℕ) → IsKept w → w.dc.system.stable ≤ n → IsTrueTo w.tc (crashed w.dc.system n)
+pub crash_true : (w : NodeView) (n : ℕ) → IsKept w → w.dc.system.stable ≤ n → IsTrueTo w.tc (crashed w.dc.system n)
 crash_true w n k le =
     let v : SystemView = w.dc.system in record {
       leaves = all_recovered (IsHonestTo w.tc.log w.tc.stable) (pages_of v.pages) v.log v.stable n (cuts_honest w.tc) k.recoverable.legal k.recoverable.fit le k.true_to.written;
@@ -102,8 +93,8 @@ crash_keeps w n k le =
     let least : w.dc.stored ≤ stored_session v.log = omega (arith, k.dc.stored, stored_longer w.dc.system n le) in
     let begun : IsBegun w.tc.stable w.tc.session (stored_session v.log) =
     record {
-      recorded = omega (arith, stored_shorter w.dc.system.log n, k.sessions.begun.recorded);
-      most = λ some. omega (arith, stored_shorter w.dc.system.log n, k.sessions.begun.most some);
+      recorded = omega (arith, stored_within w.dc.system.log n, k.sessions.begun.recorded);
+      most = λ some. omega (arith, stored_within w.dc.system.log n, k.sessions.begun.most some);
     } in
     keeps_dc w (restarted v) k (crash_kept w n k le)
     (record {
@@ -117,9 +108,9 @@ crash_keeps w n k le =
     (λ may. absurd (some_session (restarted v) may refl))
     (record { begun = begun; served = crash_served w.tc.phase w.tc.checkpointed w.tc.session w.tc.log w.dc v k.tc.phase begun.most least k.sessions.served })
 
--- a component that runs or doesn't is kept as one that does or doesn't
-pub keeps_up : (w : NodeView) (up : Bool) → IsKept w → IsKept (record w { dc_up = up })
-keeps_up w up k = record {
+-- whether the components run is nothing that is kept
+pub keeps_up : (w : NodeView) (tc_up dc_up : Bool) → IsKept w → IsKept (record w { tc_up = tc_up; dc_up = dc_up })
+keeps_up w tc_up dc_up k = record {
   tc = k.tc;
   right = k.right;
   dc = k.dc;

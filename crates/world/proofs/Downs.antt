@@ -112,7 +112,7 @@ pub record IsLeft (v : SystemView) (more : ℕ) (left : List ℕ) : Type 0 where
 whole_length : (v : SystemView) → length (spelled (beginning v.log (length v.log))) ≡ length (spelled v.log)
 whole_length v = ap (λ log. length (spelled log)) (whole v.log (length v.log) (omega arith))
 
-cut_length : (n : ℕ) (forced pending : List ℕ) (bytes : ℕ) → bytes ≤ length forced + length pending → bytes ≤ length forced + n → bytes ≤ length (forced ++ take n pending)
+pub cut_length : (n : ℕ) (forced pending : List ℕ) (bytes : ℕ) → bytes ≤ length forced + length pending → bytes ≤ length forced + n → bytes ≤ length (forced ++ take n pending)
 cut_length n forced pending bytes all some =
     let parts = length-append forced (take n pending) in
     elim (cases_lt n (length pending)) [

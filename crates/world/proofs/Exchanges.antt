@@ -15,7 +15,7 @@ use Rattle.world.specs.declared.event.Event.TheVariants as event
 use Rattle.world.specs.declared.event.Out.{Out}
 use Rattle.world.specs.declared.event.Out.TheVariants as out
 use Rattle.world.specs.Messages.{message_at}
-use Rattle.world.specs.Node.{NodeView, Sends, LacksRoom, is_replied_to, Served, ServesTo, IfUp, StepsTo, Taken, TakesTo}
+use Rattle.world.specs.Node.{NodeView, Sends, LacksRoom, is_replied_to, Served, ServesTo, AreUp, IfTcUp, IfDcUp, StepsTo, Taken, TakesTo}
 use Rattle.world.specs.Rounds.{IsDone, Plays, StopsAt}
 use Rattle.world.proofs.ByNumber.{last_at}
 
@@ -41,7 +41,7 @@ pub record Exchanged (w : NodeView) (tc : TcView) (q : Request) (new : NodeView)
   pub served : Serves w.dc q (Some reply) dc
   pub left : new.tc ≡ (on_reply tc reply).1
   pub dc_is : new.dc ≡ dc
-  pub up : new.dc_up ≡ w.dc_up
+  pub up : AreUp w → AreUp new
 
 -- what is served when the last request arrives
 pub served_last : (w : NodeView) (tc : TcView) (q : Request) (given : Result (Option Reply) Refusal) (dc : DcView) → Served (asked w tc q) (length w.requests + 1) given dc
@@ -55,7 +55,7 @@ served_last w tc q given dc h =
 record IsTook (w : NodeView) (tc : TcView) (dc : DcView) (reply : Reply) (new : NodeView) : Type 0 where
   tc_is : new.tc ≡ (on_reply tc reply).1
   dc_is : new.dc ≡ dc
-  up : new.dc_up ≡ w.dc_up
+  up : AreUp w → AreUp new
 
 taken_last : (w : NodeView) (tc : TcView) (q : Request) (dc : DcView) (reply : Reply) (output : Out) (new : NodeView)
     → Taken (told w tc q dc reply) (length w.replies + 1) output new → IsTook w tc dc reply new
@@ -64,7 +64,10 @@ taken_last w tc q dc reply output new h =
     record {
       tc_is = h.taken.1.left ∙ ap (λ x. (on_reply tc x).1) same;
       dc_is = ap (λ (x : NodeView). x.dc) h.left;
-      up = ap (λ (x : NodeView). x.dc_up) h.left;
+      up = λ (up : AreUp w). record {
+        tc = ap (λ (x : NodeView). x.tc_up) h.left ∙ up.tc;
+        dc = ap (λ (x : NodeView). x.dc_up) h.left ∙ up.dc;
+      };
     }
 
 -- the last reply arrives
@@ -118,25 +121,26 @@ replied_once w mid tc q i output new has sends h d =
     let P : NodeView → Type 0 = λ m. StepsTo m (event.Request (length w.requests + 1)) output new in
     by w.dc_up refl (subst P sends.left h)
   where
-    by : (up : Bool) → w.dc_up ≡ up → IfUp (asked w tc q) output new (ServesTo (asked w tc q) (length w.requests + 1) output new) → length new.replies ≡ length w.replies + 1
+    by : (up : Bool) → w.dc_up ≡ up → IfDcUp (asked w tc q) output new (ServesTo (asked w tc q) (length w.requests + 1) output new) → length new.replies ≡ length w.replies + 1
     by true up h = served_once w tc q output new has (MatchBool-at_true _ _ up h) d
     by false down h = let refused = MatchBool-at_false _ _ down h in absurd (subst IsDone refused.0 d)
 
-rest_of : (w : NodeView) (tc : TcView) (q : Request) (os : List Out) (new : NodeView) → w.dc_up ≡ true → HasReply q
+rest_of : (w : NodeView) (tc : TcView) (q : Request) (os : List Out) (new : NodeView) → AreUp w → HasReply q
     → Plays (asked w tc q) (event.Request (length w.requests + 1) ∷ event.Reply (length w.replies + 1) ∷ []) os new → Exchanged w tc q new
 rest_of w tc q [] new up has h = absurd h
 rest_of w tc q (o ∷ []) new up has h = absurd h.3
 rest_of w tc q (o ∷ p ∷ r ∷ os) new up has h = absurd h.3.3
-rest_of w tc q (o ∷ p ∷ []) new up has h = by o (MatchBool-at_true _ _ up h.1) h.2
+rest_of w tc q (o ∷ p ∷ []) new up has h = by o (MatchBool-at_true _ _ up.dc h.1) h.2
   where
     rest : (mid : NodeView) → Type 0
-    rest mid = (last : NodeView) × TakesTo mid (length w.replies + 1) p last × IsDone p × (new ≡ last)
+    rest mid =
+        (last : NodeView) × IfTcUp mid p last (TakesTo mid (length w.replies + 1) p last) × IsDone p × (new ≡ last)
 
     by : (o : Out) → ServesTo (asked w tc q) (length w.requests + 1) o h.0 → IsDone o → Exchanged w tc q new
     by (out.Replied j) s d =
         let served = served_last w tc q (Ok (Some s.0)) h.0.dc s.1 in
         let last = subst rest s.3 h.3 in
-        let t = took w tc q h.0.dc s.0 p last.0 last.1 last.2 in
+        let t = took w tc q h.0.dc s.0 p last.0 (MatchBool-at_true _ _ up.tc last.1) last.2 in
         record {
           dc = h.0.dc;
           reply = s.0;
@@ -144,14 +148,17 @@ rest_of w tc q (o ∷ p ∷ []) new up has h = by o (MatchBool-at_true _ _ up h.
           served = served.1;
           left = ap (λ (x : NodeView). x.tc) last.3 ∙ t.tc_is;
           dc_is = ap (λ (x : NodeView). x.dc) last.3 ∙ t.dc_is;
-          up = ap (λ (x : NodeView). x.dc_up) last.3 ∙ t.up;
+          up = λ (both : AreUp w). record {
+            tc = ap (λ (x : NodeView). x.tc_up) last.3 ∙ (t.up both).tc;
+            dc = ap (λ (x : NodeView). x.dc_up) last.3 ∙ (t.up both).dc;
+          };
         }
     by out.Noted s d = absurd (has w.dc h.0.dc (served_last w tc q (Ok None) h.0.dc s.0).1)
     by (out.Refused r) s d = absurd d
     by _ s d = absurd s
 
 -- the whole exchange, from a step that sends
-pub exchanged : (w mid : NodeView) (tc : TcView) (q : Request) (i : ℕ) (os : List Out) (new : NodeView) → w.dc_up ≡ true → HasReply q → Sends w tc q i mid
+pub exchanged : (w mid : NodeView) (tc : TcView) (q : Request) (i : ℕ) (os : List Out) (new : NodeView) → AreUp w → HasReply q → Sends w tc q i mid
     → Plays mid (event.Request (length w.requests + 1) ∷ event.Reply (length w.replies + 1) ∷ []) os new → Exchanged w tc q new
 exchanged w mid tc q i os new up has sends h =
     let P : NodeView → Type 0 = λ m. Plays m (event.Request (length w.requests + 1) ∷ event.Reply (length w.replies + 1) ∷ []) os new in
@@ -174,22 +181,24 @@ unserved w tc q r new (inl h) = elim h.0 [
 ]
 unserved w tc q r new (inr h) = inr (inr (inl (new.dc, served_last w tc q (Err r) new.dc h.0)))
 
-stops_of : (w : NodeView) (tc : TcView) (q : Request) (os : List Out) (r : Refusal) (new : NodeView) → w.dc_up ≡ true → HasReply q
+stops_of : (w : NodeView) (tc : TcView) (q : Request) (os : List Out) (r : Refusal) (new : NodeView) → AreUp w → HasReply q
     → StopsAt (asked w tc q) (event.Request (length w.requests + 1) ∷ event.Reply (length w.replies + 1) ∷ []) os r new → Stops w tc q r
 stops_of w tc q [] r new up has (inl h) = inl h.0
-stops_of w tc q [] r new up has (inr refused) = unserved w tc q r new (MatchBool-at_true _ _ up refused)
+stops_of w tc q [] r new up has (inr refused) = unserved w tc q r new (MatchBool-at_true _ _ up.dc refused)
 stops_of w tc q (o ∷ p ∷ os) r new up has h = absurd h.3.3
-stops_of w tc q (o ∷ []) r new up has h = by o (MatchBool-at_true _ _ up h.1) h.2
+stops_of w tc q (o ∷ []) r new up has h = by o (MatchBool-at_true _ _ up.dc h.1) h.2
   where
     rest : (mid : NodeView) → Type 0
-    rest mid = ((r ≡ NoMemory) × (new ≡ mid)) ⊎ TakesTo mid (length w.replies + 1) (out.Refused r) new
+    rest mid =
+        ((r ≡ NoMemory) × (new ≡ mid))
+        ⊎ IfTcUp mid (out.Refused r) new (TakesTo mid (length w.replies + 1) (out.Refused r) new)
 
     by : (o : Out) → ServesTo (asked w tc q) (length w.requests + 1) o h.0 → IsDone o → Stops w tc q r
     by (out.Replied j) s d =
         let served = served_last w tc q (Ok (Some s.0)) h.0.dc s.1 in
         elim (subst rest s.3 h.3) [
           | inl memory ↦ inl memory.0
-          | inr refused ↦ elim refused [
+          | inr refused ↦ elim (MatchBool-at_true _ _ up.tc refused) [
             | inl left ↦ elim left.0 [ inl none ↦ absurd (no_message w.replies s.0 none.1) | inr unread ↦ inl unread.memory ]
             | inr found ↦
                 let same : found.reply ≡ s.0 = some_one (message_at (w.replies ++ s.0 ∷ []) (length w.replies + 1)) found.reply s.0 found.found (last_at w.replies s.0) in
@@ -201,7 +210,7 @@ stops_of w tc q (o ∷ []) r new up has h = by o (MatchBool-at_true _ _ up h.1) 
     by (out.Refused r) s d = absurd d
     by _ s d = absurd s
 
-pub stops : (w mid : NodeView) (tc : TcView) (q : Request) (i : ℕ) (os : List Out) (r : Refusal) (new : NodeView) → w.dc_up ≡ true → HasReply q → Sends w tc q i mid
+pub stops : (w mid : NodeView) (tc : TcView) (q : Request) (i : ℕ) (os : List Out) (r : Refusal) (new : NodeView) → AreUp w → HasReply q → Sends w tc q i mid
     → StopsAt mid (event.Request (length w.requests + 1) ∷ event.Reply (length w.replies + 1) ∷ []) os r new → Stops w tc q r
 stops w mid tc q i os r new up has sends h =
     let P : NodeView → Type 0 = λ m. StopsAt m (event.Request (length w.requests + 1) ∷ event.Reply (length w.replies + 1) ∷ []) os r new in

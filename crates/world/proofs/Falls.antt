@@ -1,4 +1,5 @@
 -- Each round of settling is one less of those that are left.
+use Rattle.std.proofs.lemmas.Bool.{MatchBool-at_true}
 use Rattle.std.proofs.Common.{◌≡◌, ℕ, ◌+◌, ◌<◌, ◌≤◌, Bool, true, false, List, [], ◌∷◌, length, Option, Some, None, MatchBool, refl, sym, ap, ◌∙◌, subst, arith, inl, inr, true≢false, eqb-true, eq-eqb, ◌⊎◌}
 use Rattle.std.specs.Prelude.{◌==◌, ◌||◌, not, is_some, nat_lt, if◌then◌else◌}
 use Rattle.std.specs.List.{list_any}
@@ -39,13 +40,14 @@ use Rattle.world.specs.declared.event.Out.{Out}
 use Rattle.world.specs.declared.event.Out.TheVariants as out
 use Rattle.world.specs.declared.round.Round.{Round}
 use Rattle.world.specs.declared.round.Round.TheVariants as round
-use Rattle.world.specs.Component.{ComponentView}
-use Rattle.world.specs.Node.{NodeView, with_tc, ReconnectsTo, RecoversTo, SendsTo, UndoesTo, ForcesTo, RestartsDcTo}
+use Rattle.tc_core.specs.Opened.{IsOpenedAgain}
+use Rattle.world.specs.Component.{TcSide, DcSide}
+use Rattle.world.specs.Node.{NodeView, AreUp, with_tc, ReconnectsTo, RecoversTo, SendsTo, UndoesTo, ForcesTo, RestartsTcTo, RestartsDcTo}
 use Rattle.log_laws.proofs.LegalLogs.{request_number}
 use Rattle.tc_core.specs.Kept.{IsDue as IsDueLost}
 use Rattle.world.specs.Kept.{IsKept}
 use Rattle.world.specs.Rounds.{IsDone, IsApart, IsRecovering, IsUndoing, IsDue, IsReader, IsServing, IsNext, Plays, events_of}
-use Rattle.world.specs.Bound.{requests_in, txn_rounds, phase_rounds, is_busy, is_apart, force_rounds, tc_rounds, without_session, down_rounds, rounds_left}
+use Rattle.world.specs.Bound.{requests_in, txn_rounds, phase_rounds, is_busy, is_apart, force_rounds, tc_rounds, without_session, down_rounds, session_rounds, lost_rounds, rounds_left}
 use Rattle.world.proofs.Totals.{total_most, total_share}
 use Rattle.world.proofs.Counting.{fewer_later, none_above}
 use Rattle.world.proofs.Exchanges.{HasReply, Exchanged, exchanged}
@@ -56,12 +58,12 @@ use Rattle.world.proofs.Running.{run_is}
 use Rattle.world.proofs.Replied.{some_reply, sound_reply, read_reply, told_read, connect_replied, perform_replied, redo_replied, request_replied}
 
 -- where the components have no session in common
-apart_rounds : (w : NodeView) → w.dc_up ≡ true → IsApart w → rounds_left w ≡ tc_rounds (without_session w.tc)
+apart_rounds : (w : NodeView) → AreUp w → IsApart w → rounds_left w ≡ tc_rounds (without_session w.tc)
 apart_rounds w up apart = by (is_apart w.tc.phase) refl (w.dc.session == w.tc.session) refl
   where
     by : (a : Bool) → is_apart w.tc.phase ≡ a → (b : Bool) → (w.dc.session == w.tc.session) ≡ b → rounds_left w ≡ tc_rounds (without_session w.tc)
-    by true is b same = rw (up, is) (omega arith)
-    by false is false same = rw (up, is, same) (omega arith)
+    by true is b same = rw (up.tc, up.dc, is) (omega arith)
+    by false is false same = rw (up.tc, up.dc, is, same) (omega arith)
     by false is true same = absurd (elim apart [
       | inl e ↦ true≢false (sym (ap is_apart e) ∙ is)
       | inr (inl e) ↦ true≢false (sym (ap is_apart e) ∙ is)
@@ -69,18 +71,18 @@ apart_rounds w up apart = by (is_apart w.tc.phase) refl (w.dc.session == w.tc.se
     ])
 
 -- and where they have one
-together_rounds : (w : NodeView) → w.dc_up ≡ true → is_apart w.tc.phase ≡ false → w.dc.session ≡ w.tc.session → rounds_left w ≡ tc_rounds w.tc
-together_rounds w up on same = rw (up, on, eq-eqb w.dc.session w.tc.session same) (omega arith)
+together_rounds : (w : NodeView) → AreUp w → is_apart w.tc.phase ≡ false → w.dc.session ≡ w.tc.session → rounds_left w ≡ tc_rounds w.tc
+together_rounds w up on same = rw (up.tc, up.dc, on, eq-eqb w.dc.session w.tc.session same) (omega arith)
 
 -- the session goes on
-falls_together : (old new : NodeView) → old.dc_up ≡ true → is_apart old.tc.phase ≡ false → old.dc.session ≡ old.tc.session → new.dc_up ≡ old.dc_up → new.dc.session ≡ old.dc.session
+falls_together : (old new : NodeView) → AreUp old → is_apart old.tc.phase ≡ false → old.dc.session ≡ old.tc.session → AreUp new → new.dc.session ≡ old.dc.session
     → FallsTo old.tc new.tc → rounds_left new < rounds_left old
 falls_together old new up on same up_too session f =
     omega (
       arith,
       f.fewer,
       together_rounds old up on same,
-      together_rounds new (up_too ∙ up) f.goes_on (session ∙ same ∙ sym f.session),
+      together_rounds new up_too f.goes_on (session ∙ same ∙ sym f.session),
     )
 
 -- a session that begins leaves no more to do besides
@@ -102,7 +104,7 @@ connect_runs old s reply new h = by (runs old s) refl h.1
     by true r same = ap (λ (x : DcView). x.session) same ∙ (run_is old s r).is
     by false r same = ap (λ (x : DcView). x.session) same
 
-falls_connected : (old new : NodeView) (q : Request) → IsKept old → old.dc_up ≡ true → IsApart old → q ≡ asks.Connect (length old.tc.log + 1) → Exchanged old (reconnected old.tc) q new
+falls_connected : (old new : NodeView) (q : Request) → IsKept old → AreUp old → IsApart old → q ≡ asks.Connect (length old.tc.log + 1) → Exchanged old (reconnected old.tc) q new
     → rounds_left new < rounds_left old
 falls_connected old new q k up apart same h =
     let s : ℕ = length old.tc.log + 1 in
@@ -116,7 +118,7 @@ falls_connected old new q k up apart same h =
     omega (
       arith,
       apart_rounds old up apart,
-      together_rounds new (h.up ∙ up) (ap (λ (x : TcView). is_apart x.phase) left) session,
+      together_rounds new (h.up up) (ap (λ (x : TcView). is_apart x.phase) left) session,
       ap tc_rounds left,
       begins_session old k,
     )
@@ -166,21 +168,21 @@ awaited_on w n (Some a) (Some o) on = next_on w.phase n on
 
 -- a session in which the data component is served
 pub record IsTogether (w : NodeView) : Type 0 where
-  pub up : w.dc_up ≡ true
+  pub up : AreUp w
   pub on : is_apart w.tc.phase ≡ false
   pub session : w.dc.session ≡ w.tc.session
 
 serving_together : (w : NodeView) → IsServing w → IsTogether w
-serving_together w s = record { up = s.dc_up; on = ap is_apart s.running; session = s.session }
+serving_together w s = record { up = s.up; on = ap is_apart s.running; session = s.session }
 
 undoing_together : (w : NodeView) (waiting : Option ℕ) → IsUndoing w waiting → IsTogether w
-undoing_together w waiting u = record { up = u.dc_up; on = ap is_apart u.undoing; session = u.session }
+undoing_together w waiting u = record { up = u.up; on = ap is_apart u.undoing; session = u.session }
 
 -- an exchange of a request other than a Connect
 falls_within : (old new : NodeView) (tc : TcView) (q : Request) → IsTogether old → ((s : ℕ) → q ≡ asks.Connect s → ⊥) → Exchanged old tc q new → FallsTo old.tc new.tc
     → rounds_left new < rounds_left old
 falls_within old new tc q t other h f =
-    falls_together old new t.up t.on t.session h.up (ap (λ (x : DcView). x.session) h.dc_is ∙ served_session old.dc q (Some h.reply) h.dc other h.served) f
+    falls_together old new t.up t.on t.session (h.up t.up) (ap (λ (x : DcView). x.session) h.dc_is ∙ served_session old.dc q (Some h.reply) h.dc other h.served) f
 
 redo_other : (s : ℕ) (found : Option (ℕ × Op)) (t : ℕ) → redo_request s found ≡ asks.Connect t → ⊥
 redo_other s None t e = cc
@@ -257,7 +259,7 @@ falls_read old new o r q k running at some is h =
     falls_by old.tc new.tc _ (h.left ∙ told_read old.tc o s r.number r.span h.reply k.tc at some reply) (falls_told old.tc o r k.tc at some) refl (ap is_apart running)
 
 -- what a round's first event sent, and the rest of the round
-falls_connect_round : (old new mid : NodeView) (o : Out) (os : List Out) → IsKept old → old.dc_up ≡ true → IsApart old → ReconnectsTo old o mid → IsDone o
+falls_connect_round : (old new mid : NodeView) (o : Out) (os : List Out) → IsKept old → AreUp old → IsApart old → ReconnectsTo old o mid → IsDone o
     → Plays mid (event.Request (length old.requests + 1) ∷ event.Reply (length old.replies + 1) ∷ []) os new → rounds_left new < rounds_left old
 falls_connect_round old new mid (out.Connects i cs) os k up apart h d rest =
     let q : Request = asks.Connect (length old.tc.log + 1) in
@@ -305,7 +307,7 @@ falls_resend_round old new mid _ os n k t at h d rest = absurd h
 falls_exchange_round : (old new mid : NodeView) (o : Out) (os : List Out) (t : ℕ) → IsKept old → IsServing old → SendsTo old t o mid → IsDone o
     → Plays mid (event.Request (length old.requests + 1) ∷ event.Reply (length old.replies + 1) ∷ []) os new → rounds_left new < rounds_left old
 falls_exchange_round old new mid (out.Sent i) os t k serving h d rest =
-    let exchange = exchanged old mid old.tc h.0 i os new serving.dc_up (request_replied old.tc t h.0 h.1.1) h.2 rest in
+    let exchange = exchanged old mid old.tc h.0 i os new serving.up (request_replied old.tc t h.0 h.1.1) h.2 rest in
     let on = serving_together old serving in
     elim h.1.1 [
       | inl r ↦
@@ -323,17 +325,38 @@ falls_alone : (old new mid : NodeView) → IsTogether old → mid ≡ with_tc ol
 falls_alone old new mid on left same f =
     let P : NodeView → Type 0 = λ x. rounds_left x < rounds_left old in
     subst P (sym same)
-    (falls_together old mid on.up on.on on.session (ap (λ (x : NodeView). x.dc_up) left) (ap (λ (x : NodeView). x.dc.session) left) f)
+    (falls_together old mid on.up on.on on.session (subst AreUp (sym left) (record { tc = on.up.tc; dc = on.up.dc }))
+    (ap (λ (x : NodeView). x.dc.session) left) f)
 
--- the data component runs again, whatever else is left
+-- the component runs again, whatever else is left
 falls_restarted : (old new : NodeView) (o : Out) → old.dc_up ≡ false → RestartsDcTo old o new → IsDone o → rounds_left new < rounds_left old
 falls_restarted old new (out.Up count) down h d =
-    let same : new ≡ record old { dc_up = true } = h.1 ∙ ap (λ (c : ComponentView). record old { dc_up = c.up; dc = c.dc }) h.0.2 in
+    let same : new ≡ record old { dc_up = true } = h.1 ∙ ap (λ (s : DcSide). record old { dc_up = s.up; dc = s.dc }) h.0.2 in
     let P : NodeView → Type 0 = λ x. rounds_left x < rounds_left old in
     subst P (sym same) (let one : down_rounds old.dc_up ≡ 1 = ap down_rounds down in omega (arith, one))
 falls_restarted old new out.Nothing down h d = absurd (true≢false (sym h.0.0 ∙ down))
 falls_restarted old new (out.Refused r) down h d = absurd d
 falls_restarted old new _ down h d = absurd h
+
+-- the transaction component has no session then, as before
+falls_tc_restarted : (old new : NodeView) (o : Out) → old.tc_up ≡ false → RestartsTcTo old o new → IsDone o
+    → rounds_left new < rounds_left old
+falls_tc_restarted old new (out.Up count) down h d =
+    let again : IsOpenedAgain old.tc new.tc = h.0.2 in
+    let same : new ≡ record old { tc_up = true; tc = new.tc } =
+    h.1 ∙ ap (λ (s : TcSide). record old { tc_up = s.up; tc = s.tc }) h.0.3 in
+    let P : NodeView → Type 0 = λ x. rounds_left x < rounds_left old in
+    let one : down_rounds old.tc_up ≡ 1 = ap down_rounds down in
+    let rounds : TcView → ℕ = λ w. session_rounds w old.dc.session in
+    let was = ap rounds again.was in
+    let now = ap rounds again.is in
+    let Q : ℕ → Type 0 = λ below. lost_rounds old.tc.log below ≡ lost_rounds old.tc.log old.tc.losers.below in
+    let lost : lost_rounds old.tc.log new.tc.losers.below ≡ lost_rounds old.tc.log old.tc.losers.below =
+    subst Q (sym again.below) refl in
+    subst P (sym same) (omega (arith, one, was, now, lost))
+falls_tc_restarted old new out.Nothing down h d = absurd (true≢false (sym h.0.0 ∙ down))
+falls_tc_restarted old new (out.Refused r) down h d = absurd d
+falls_tc_restarted old new _ down h d = absurd h
 
 -- redo sends, or a compensation that undo awaits is sent
 pub recovering_at : (w : NodeView) (p : Phase) → w.tc.phase ≡ p → IsRecovering w.tc.stable p
@@ -395,32 +418,45 @@ pub falls : (old new : NodeView) (r : Round) (outs : List Out) → IsKept old �
 falls old new r [] k next h = none r h
   where
     none : (r : Round) → Plays old (events_of old r) [] new → rounds_left new < rounds_left old
-    none round.Restart h = absurd h
+    none round.RestartDc h = absurd h
+    none round.RestartTc h = absurd h
     none round.Connect h = absurd h
     none round.Recover h = absurd h
     none round.Lose h = absurd h
     none (round.Exchange t) h = absurd h
     none (round.Undo t) h = absurd h
     none round.Force h = absurd h
-falls old new round.Restart (o ∷ []) k next h =
+falls old new round.RestartDc (o ∷ []) k next h =
     let P : NodeView → Type 0 = λ x. rounds_left x < rounds_left old in subst P (sym h.3) (falls_restarted old h.0 o next h.1 h.2)
-falls old new round.Restart (o ∷ p ∷ os) k next h = absurd h.3
-falls old new round.Connect (o ∷ os) k next h = falls_connect_round old new h.0 o os k next.0 next.1 h.1 h.2 h.3
-falls old new round.Recover (o ∷ os) k next h = elim (recovering_at old old.tc.phase refl next.1) [
-  | inl at ↦ falls_recover_round old new h.0 o os at.0 at.1 k (record { up = next.0; on = ap is_apart at.2; session = next.2 }) at.2 h.1 h.2 h.3
-  | inr at ↦ falls_resend_round old new h.0 o os at.0 k (record { up = next.0; on = ap is_apart at.1; session = next.2 }) at.1 h.1 h.2 h.3
-]
+falls old new round.RestartDc (o ∷ p ∷ os) k next h = absurd h.3
+falls old new round.RestartTc (o ∷ []) k next h =
+    let P : NodeView → Type 0 = λ x. rounds_left x < rounds_left old in subst P (sym h.3) (falls_tc_restarted old h.0 o next.1 h.1 h.2)
+falls old new round.RestartTc (o ∷ p ∷ os) k next h = absurd h.3
+falls old new round.Connect (o ∷ os) k next h =
+    falls_connect_round old new h.0 o os k next.0 next.1 (MatchBool-at_true _ _ next.0.tc h.1) h.2 h.3
+falls old new round.Recover (o ∷ os) k next h =
+    let step = MatchBool-at_true _ _ next.0.tc h.1 in
+    elim (recovering_at old old.tc.phase refl next.1) [
+      | inl at ↦ falls_recover_round old new h.0 o os at.0 at.1 k (record { up = next.0; on = ap is_apart at.2; session = next.2 }) at.2 step h.2 h.3
+      | inr at ↦ falls_resend_round old new h.0 o os at.0 k (record { up = next.0; on = ap is_apart at.1; session = next.2 }) at.1 step h.2 h.3
+    ]
 falls old new round.Lose (o ∷ []) k next h =
-    let lost = lose_left old h.0 o next.undoing h.1 h.2 in falls_alone old new h.0 (undoing_together old None next) lost.0 h.3 lost.1
+    let lost = lose_left old h.0 o next.undoing (MatchBool-at_true _ _ next.up.tc h.1) h.2 in
+    falls_alone old new h.0 (undoing_together old None next) lost.0 h.3 lost.1
 falls old new round.Lose (o ∷ p ∷ os) k next h = absurd h.3
-falls old new (round.Exchange t) (o ∷ os) k next h = falls_exchange_round old new h.0 o os t k next.0 h.1 h.2 h.3
+falls old new (round.Exchange t) (o ∷ os) k next h =
+    falls_exchange_round old new h.0 o os t k next.0 (MatchBool-at_true _ _ next.0.up.tc h.1) h.2 h.3
 falls old new (round.Undo t) (o ∷ []) k next h =
-    falls_alone old new h.0 (serving_together old next.0) (undo_left old h.0 t o h.1 h.2) h.3 (falls_undo old h.0 t o k next.0.running next.1 h.1 h.2)
+    let step = MatchBool-at_true _ _ next.0.up.tc h.1 in
+    falls_alone old new h.0 (serving_together old next.0) (undo_left old h.0 t o step h.2) h.3 (falls_undo old h.0 t o k next.0.running next.1 step h.2)
 falls old new (round.Undo t) (o ∷ p ∷ os) k next h = absurd h.3
 falls old new round.Force (o ∷ []) k (inl next) h =
-    falls_alone old new h.0 (serving_together old next.0) (force_left old h.0 o h.1 h.2) h.3 (falls_force old h.0 o k next.0.running next.1 h.1 h.2)
+    let step = MatchBool-at_true _ _ next.0.up.tc h.1 in
+    falls_alone old new h.0 (serving_together old next.0) (force_left old h.0 o step h.2) h.3 (falls_force old h.0 o k next.0.running next.1 step h.2)
 falls old new round.Force (o ∷ []) k (inr next) h =
-    falls_alone old new h.0 (undoing_together old (Some next.0) next.1) (force_left old h.0 o h.1 h.2) h.3 (falls_force_undoing old h.0 next.0 o k next.1.undoing next.2 h.1 h.2)
+    let step = MatchBool-at_true _ _ next.1.up.tc h.1 in
+    falls_alone old new h.0 (undoing_together old (Some next.0) next.1) (force_left old h.0 o step h.2) h.3
+    (falls_force_undoing old h.0 next.0 o k next.1.undoing next.2 step h.2)
 falls old new round.Force (o ∷ p ∷ os) k next h = absurd h.3
 
 forced_once : (a b : Bool) → 1 ≤ (if a || (b || true) then 1 else 0)
@@ -456,13 +492,14 @@ undoing_left w waiting u =
 
 -- where a round applies, one at least is left
 pub some_left : (w : NodeView) (r : Round) → IsKept w → IsNext w r → 0 < rounds_left w
-some_left w round.Restart k next = let one : down_rounds w.dc_up ≡ 1 = ap down_rounds next in omega (arith, one)
+some_left w round.RestartDc k next = let one : down_rounds w.dc_up ≡ 1 = ap down_rounds next in omega (arith, one)
+some_left w round.RestartTc k next = let one : down_rounds w.tc_up ≡ 1 = ap down_rounds next.1 in omega (arith, one)
 some_left w round.Connect k next = let e = apart_rounds w next.0 next.1 in omega (arith, e)
 some_left w round.Recover k next = elim (recovering_at w w.tc.phase refl next.1) [
   | inl at ↦
       let e : phase_rounds w.tc.log w.tc.session w.tc.phase ≡ requests_in at.0 w.tc.session w.tc.log + 1 = ap (phase_rounds w.tc.log w.tc.session) at.2 in
       some_together w (record { up = next.0; on = ap is_apart at.2; session = next.2 }) (omega (arith, e))
-  | inr at ↦ undoing_left w (Some at.0) (record { undoing = at.1; dc_up = next.0; session = next.2 })
+  | inr at ↦ undoing_left w (Some at.0) (record { undoing = at.1; up = next.0; session = next.2 })
 ]
 some_left w round.Lose k next = undoing_left w None next
 some_left w (round.Exchange t) k next =

@@ -1,12 +1,13 @@
 -- Every step follows the list machine.
-use Rattle.std.proofs.Common.{◌≡◌, ℕ, ◌+◌, ◌<◌, List, [], ◌∷◌, ◌++◌, length, Bool, true, false, Option, Some, None, MatchBool, refl, sym, ap, ◌∙◌, subst, arith, take, get_or, inl, inr}
+use Rattle.std.proofs.Common.{◌≡◌, ℕ, ◌+◌, ◌<◌, List, [], ◌∷◌, ◌++◌, length, Bool, true, false, Option, Some, None, refl, sym, ap, ◌∙◌, subst, arith, take, get_or, inl, inr, true≢false}
 use Rattle.std.specs.Ordering.{nat_cmp}
 use Rattle.std.specs.Cmp.Lexicographic.{slice_cmp}
 use Rattle.std.specs.FinMap.{get-empty}
 use Rattle.std.specs.FinMap as map
 use Rattle.std.proofs.lemmas.Bool.Decides.{nat_tests}
-use Rattle.std.specs.Prelude.{Result, Ok, Err}
+use Rattle.std.specs.Prelude.{Result, Ok, Err, if◌then◌else◌}
 use Rattle.record_key.specs.declared.refusal.Refusal.{Refusal}
+use Rattle.record_key.specs.Order.{ends_above}
 use Rattle.record_key.specs.Table.{Bytes}
 use Rattle.page.specs.Leaf.{LeafView, first}
 use Rattle.recovery_laws.specs.Ready.{IsHonestTo}
@@ -21,23 +22,23 @@ use Rattle.dc_core.proofs.Checked.{checked_served, fresh_checked}
 use Rattle.tc_core.specs.Kept.{IsTc}
 use Rattle.tc_core.specs.TcView.{fresh}
 use Rattle.tc_core.proofs.Low.{may_none}
-use Rattle.record_key.specs.declared.refusal.Refusal.TheVariants.{NotConnected}
-use Rattle.world.specs.Component.{ComponentView}
+use Rattle.record_key.specs.declared.refusal.Refusal.TheVariants.{NotConnected, BadRange}
+use Rattle.world.specs.Component.{DcSide}
 use Rattle.world.proofs.Crashes.{crash_keeps, keeps_up, refused_keeps}
 use Rattle.system_txn.specs.declared.tended.Tended.TheVariants as tended
 use Rattle.dc_core.specs.Kept.{IsDc}
 use Rattle.std.proofs.lemmas.List.{take_more}
 use Rattle.history.specs.ListMachine as machine
-use Rattle.history.specs.ListMachine.{Machine}
+use Rattle.history.specs.ListMachine.{Machine, OfKey, OfRange, Call, ToBegin, ToAct, ToRead, ToSave, ToGoBack, ToRollBack, ToCommit, IsRefused}
 use Rattle.codec.specs.declared.reply.Reply.{Reply}
 use Rattle.dc_core.specs.DcView.{DcView, fresh as fresh_dc}
 use Rattle.world.specs.declared.event.Event.{Event}
 use Rattle.world.specs.declared.event.Event.TheVariants as event
 use Rattle.world.specs.declared.event.Out.{Out}
 use Rattle.world.specs.declared.event.Out.TheVariants as out
-use Rattle.world.specs.Node.{NodeView, with_dc, StepsTo, IfUp, ServesTo, Served, PartsTo, JoinsTo, KeepsUpTo, WritesTo, CrashesDcTo, RestartsDcTo, Chain, fresh_node}
+use Rattle.world.specs.Node.{NodeView, with_dc, StepsTo, IfUp, IfTcUp, IfDcUp, down_refusal, ServesTo, Served, PartsTo, JoinsTo, KeepsUpTo, WritesTo, CrashesDcTo, RestartsDcTo, Chain, fresh_node}
 use Rattle.world.specs.Kept.{IsKept, IsSent, IsAnsweredTo}
-use Rattle.world.specs.Simulation.{lines_of, Happens, Run, Leads, LeadsAll, Stands}
+use Rattle.world.specs.Simulation.{StepsIf, lines_of, Happens, Run, Leads, LeadsAll, Stands}
 use Rattle.world.proofs.CallsKeep.{fresh_tc}
 use Rattle.simulation.proofs.Told.{fresh_stands}
 use Rattle.world.proofs.ByNumber.{all_at}
@@ -48,6 +49,7 @@ use Rattle.world.proofs.Keeps.{with_reply, keeps_given}
 use Rattle.world.proofs.Follows.{Follows, at_new, no_line, unchanged, follows_begin, follows_act, follows_get, follows_scan, follows_save, follows_go_back, follows_rollback, follows_commit, follows_undo, follows_force}
 use Rattle.world.proofs.Sends.{follows_reconnect, follows_recover, follows_send, follows_low_water, follows_checkpoint}
 use Rattle.world.proofs.Replies.{follows_reply}
+use Rattle.world.proofs.TcCrashes.{follows_tc_crash, follows_tc_restart}
 
 -- a request reaches the data component
 sent_there : (old : NodeView) (i : ℕ) (given : Result (Option Reply) Refusal) (dc : DcView) → IsKept old → (h : Served old i given dc) → IsSent old.tc old.dc h.request
@@ -98,72 +100,117 @@ follows_flush old new key (out.Flushed id) k is h = follows_dc old new (event.Fl
 follows_flush old new key (out.Refused r) k is h = follows_dc old new (event.Flush key) (out.Refused r) refl (flushes_keep old key (Err r) new.dc k is h.0) h.1
 follows_flush old new key _ k is h = absurd h
 
--- an event of the data component that doesn't run is refused
-if_up : (old new : NodeView) (e : Event) (output : Out) (Does : Type 0) → IsKept old → lines_of e (out.Refused NotConnected) ≡ Some [] → (Does → Follows old e output new)
-    → IfUp old output new Does → Follows old e output new
-if_up old new e output Does k quiet does h = by old.dc_up h
+-- an event of a component that doesn't run is refused, and that is no step or a line of its own
+if_up : (old new : NodeView) (up : Bool) (r : Refusal) (e : Event) (output : Out) (Does : Type 0) → IsKept old
+    → ((m : Machine) → StepsIf m (lines_of e (out.Refused r)) m) → (Does → Follows old e output new)
+    → IfUp up r old output new Does → Follows old e output new
+if_up old new true r e output Does k line does h = does h
+if_up old new false r e output Does k line does h =
+    let P : Out → Type 0 = λ o. Follows old e o new in
+    subst P (sym h.0) (at_new old new old e (out.Refused r) h.1 (record { leads = λ m stands. (m, line m, stands); kept = k }))
+
+if_tc_up : (old new : NodeView) (e : Event) (output : Out) (Does : Type 0) → IsKept old
+    → ((m : Machine) → StepsIf m (lines_of e (out.Refused NotConnected)) m) → (Does → Follows old e output new)
+    → IfTcUp old output new Does → Follows old e output new
+if_tc_up old new e output Does k line does h = if_up old new old.tc_up NotConnected e output Does k line does h
+
+if_dc_up : (old new : NodeView) (e : Event) (output : Out) (Does : Type 0) → IsKept old
+    → ((m : Machine) → StepsIf m (lines_of e (out.Refused NotConnected)) m) → (Does → Follows old e output new)
+    → IfDcUp old output new Does → Follows old e output new
+if_dc_up old new e output Does k line does h = if_up old new old.dc_up NotConnected e output Does k line does h
+
+-- a client's call is refused so
+call_down : (call : Call) (m : Machine) → StepsIf m (Some (IsRefused call NotConnected ∷ [])) m
+call_down call m = (m, (tt, refl), refl)
+
+scan_down : (t : ℕ) (low : Bytes) (high : Option Bytes) (m : Machine)
+    → StepsIf m (Some (IsRefused (ToRead t (OfRange low high)) (down_refusal low high) ∷ [])) m
+scan_down t low high m = by (ends_above high low) refl
   where
-    by : (b : Bool) → MatchBool b Does ((output ≡ out.Refused NotConnected) × (new ≡ old)) → Follows old e output new
-    by true h = does h
-    by false h =
-        let P : Out → Type 0 = λ o. Follows old e o new in
-        subst P (sym h.0) (unchanged old new e (out.Refused NotConnected) k h.1 quiet)
+    by : (b : Bool) → ends_above high low ≡ b
+        → StepsIf m (Some (IsRefused (ToRead t (OfRange low high)) (if b then NotConnected else BadRange) ∷ [])) m
+    by true ends = (m, (tt, refl), refl)
+    by false none = (m, (λ is. true≢false (sym is ∙ none), refl), refl)
 
 -- a crash of the data component, and its restart
 follows_crash : (old new : NodeView) (frames bytes : ℕ) (output : Out) → IsKept old → CrashesDcTo old frames output new → Follows old (event.CrashDc frames bytes) output new
 follows_crash old new frames bytes out.Down k h =
     let n : ℕ = h.0.1.0 in
     let dc : DcView = restarted (crashed old.dc.system n) in
-    let same : new ≡ record old { dc_up = false; dc = dc } = h.1 ∙ ap (λ (c : ComponentView). record old { dc_up = c.up; dc = c.dc }) h.0.1.2 in
+    let same : new ≡ record old { dc_up = false; dc = dc } = h.1 ∙ ap (λ (s : DcSide). record old { dc_up = s.up; dc = s.dc }) h.0.1.2 in
     at_new old new (record old { dc_up = false; dc = dc }) (event.CrashDc frames bytes) out.Down same (record {
       leads = no_line old (record old { dc_up = false; dc = dc }) (event.CrashDc frames bytes) out.Down refl (λ m stands. stands);
-      kept = keeps_up (with_dc old dc) false (crash_keeps old n k h.0.1.1.stable);
+      kept = keeps_up (with_dc old dc) old.tc_up false (crash_keeps old n k h.0.1.1.stable);
     })
 follows_crash old new frames bytes out.Nothing k h =
-    unchanged old new (event.CrashDc frames bytes) out.Nothing k (h.1 ∙ ap (λ (c : ComponentView). record old { dc_up = c.up; dc = c.dc }) h.0.1) refl
+    unchanged old new (event.CrashDc frames bytes) out.Nothing k (h.1 ∙ ap (λ (s : DcSide). record old { dc_up = s.up; dc = s.dc }) h.0.1) refl
 follows_crash old new frames bytes _ k h = absurd h
 
 follows_restart : (old new : NodeView) (output : Out) → IsKept old → IsDc new.dc → RestartsDcTo old output new → Follows old event.RestartDc output new
 follows_restart old new (out.Up count) k is h =
-    let same : new ≡ record old { dc_up = true } = h.1 ∙ ap (λ (c : ComponentView). record old { dc_up = c.up; dc = c.dc }) h.0.2 in
+    let same : new ≡ record old { dc_up = true } = h.1 ∙ ap (λ (s : DcSide). record old { dc_up = s.up; dc = s.dc }) h.0.2 in
     at_new old new (record old { dc_up = true }) event.RestartDc (out.Up count) same (record {
       leads = no_line old (record old { dc_up = true }) event.RestartDc (out.Up count) refl (λ m stands. stands);
-      kept = keeps_up old true k;
+      kept = keeps_up old old.tc_up true k;
     })
 follows_restart old new out.Nothing k is h =
-    unchanged old new event.RestartDc out.Nothing k (h.1 ∙ ap (λ (c : ComponentView). record old { dc_up = c.up; dc = c.dc }) h.0.1) refl
+    unchanged old new event.RestartDc out.Nothing k (h.1 ∙ ap (λ (s : DcSide). record old { dc_up = s.up; dc = s.dc }) h.0.1) refl
 follows_restart old new (out.Refused r) k is h =
     let dc : DcView = with_system old.dc (refused_so old.dc.system r) in
     let same : new ≡ record old { dc_up = false; dc = dc } =
-    h.1 ∙ ap (λ (c : ComponentView). record old { dc_up = c.up; dc = c.dc }) (h.0.1 ∙ ap (λ (x : DcView). record { up = false; dc = x }) h.0.2.1) in
+    h.1 ∙ ap (λ (s : DcSide). record old { dc_up = s.up; dc = s.dc }) (h.0.1 ∙ ap (λ (x : DcView). record { up = false; dc = x }) h.0.2.1) in
     at_new old new (record old { dc_up = false; dc = dc }) event.RestartDc (out.Refused r) same (record {
       leads = no_line old (record old { dc_up = false; dc = dc }) event.RestartDc (out.Refused r) refl (λ m stands. stands);
-      kept = keeps_up (with_dc old dc) false (refused_keeps old r k (subst IsDc h.0.2.1 is));
+      kept = keeps_up (with_dc old dc) old.tc_up false (refused_keeps old r k (subst IsDc h.0.2.1 is));
     })
 follows_restart old new _ k is h = absurd h
 
 pub follows : (old new : NodeView) (e : Event) (output : Out) → IsKept old → IsTc new.tc → IsDc new.dc → StepsTo old e output new → Follows old e output new
-follows old new event.Reconnect output k tc is h = follows_reconnect old new output k h
-follows old new event.Recover output k tc is h = follows_recover old new output k tc h
-follows old new event.Begin output k tc is h = follows_begin old new output k h
-follows old new (event.Act t op) output k tc is h = follows_act old new t op output k h
-follows old new (event.Get t key) output k tc is h = follows_get old new t key output k h
-follows old new (event.Scan t low high) output k tc is h = follows_scan old new t low high output k h
-follows old new (event.Save t) output k tc is h = follows_save old new t output k h
-follows old new (event.GoBack t s) output k tc is h = follows_go_back old new t s output k h
-follows old new (event.Rollback t) output k tc is h = follows_rollback old new t output k h
-follows old new (event.Commit t) output k tc is h = follows_commit old new t output k h
-follows old new (event.Undo t) output k tc is h = follows_undo old new t output k h
-follows old new event.Force output k tc is h = follows_force old new output k h
-follows old new (event.Send t) output k tc is h = follows_send old new t output k h
-follows old new (event.LowWater l) output k tc is h = follows_low_water old new l output k h
-follows old new event.Checkpoint output k tc is h = follows_checkpoint old new output k h
-follows old new (event.Split key) output k tc is h = if_up old new (event.Split key) output _ k refl (follows_split old new key output k is) h
-follows old new (event.Merge key) output k tc is h = if_up old new (event.Merge key) output _ k refl (follows_merge old new key output k is) h
-follows old new event.Tend output k tc is h = if_up old new event.Tend output _ k refl (follows_tend old new output k is) h
-follows old new (event.Flush key) output k tc is h = if_up old new (event.Flush key) output _ k refl (follows_flush old new key output k is) h
-follows old new (event.Request i) output k tc is h = if_up old new (event.Request i) output _ k refl (follows_request old new i output k is) h
-follows old new (event.Reply i) output k tc is h = follows_reply old new i output k h
+follows old new event.Reconnect output k tc is h =
+    if_tc_up old new event.Reconnect output _ k (λ m. refl) (follows_reconnect old new output k) h
+follows old new event.Recover output k tc is h =
+    if_tc_up old new event.Recover output _ k (λ m. refl) (follows_recover old new output k tc) h
+follows old new event.Begin output k tc is h =
+    if_tc_up old new event.Begin output _ k (call_down ToBegin) (follows_begin old new output k) h
+follows old new (event.Act t op) output k tc is h =
+    if_tc_up old new (event.Act t op) output _ k (call_down (ToAct t op)) (follows_act old new t op output k) h
+follows old new (event.Get t key) output k tc is h =
+    if_tc_up old new (event.Get t key) output _ k (call_down (ToRead t (OfKey key))) (follows_get old new t key output k) h
+follows old new (event.Scan t low high) output k tc is h =
+    if_up old new old.tc_up (down_refusal low high) (event.Scan t low high) output _ k (scan_down t low high)
+    (follows_scan old new t low high output k) h
+follows old new (event.Save t) output k tc is h =
+    if_tc_up old new (event.Save t) output _ k (call_down (ToSave t)) (follows_save old new t output k) h
+follows old new (event.GoBack t s) output k tc is h =
+    if_tc_up old new (event.GoBack t s) output _ k (call_down (ToGoBack t s)) (follows_go_back old new t s output k) h
+follows old new (event.Rollback t) output k tc is h =
+    if_tc_up old new (event.Rollback t) output _ k (call_down (ToRollBack t)) (follows_rollback old new t output k) h
+follows old new (event.Commit t) output k tc is h =
+    if_tc_up old new (event.Commit t) output _ k (call_down (ToCommit t)) (follows_commit old new t output k) h
+follows old new (event.Undo t) output k tc is h =
+    if_tc_up old new (event.Undo t) output _ k (λ m. refl) (follows_undo old new t output k) h
+follows old new event.Force output k tc is h =
+    if_tc_up old new event.Force output _ k (λ m. refl) (follows_force old new output k) h
+follows old new (event.Send t) output k tc is h =
+    if_tc_up old new (event.Send t) output _ k (λ m. refl) (follows_send old new t output k) h
+follows old new (event.LowWater l) output k tc is h =
+    if_tc_up old new (event.LowWater l) output _ k (λ m. refl) (follows_low_water old new l output k) h
+follows old new event.Checkpoint output k tc is h =
+    if_tc_up old new event.Checkpoint output _ k (λ m. refl) (follows_checkpoint old new output k) h
+follows old new (event.Split key) output k tc is h =
+    if_dc_up old new (event.Split key) output _ k (λ m. refl) (follows_split old new key output k is) h
+follows old new (event.Merge key) output k tc is h =
+    if_dc_up old new (event.Merge key) output _ k (λ m. refl) (follows_merge old new key output k is) h
+follows old new event.Tend output k tc is h =
+    if_dc_up old new event.Tend output _ k (λ m. refl) (follows_tend old new output k is) h
+follows old new (event.Flush key) output k tc is h =
+    if_dc_up old new (event.Flush key) output _ k (λ m. refl) (follows_flush old new key output k is) h
+follows old new (event.Request i) output k tc is h =
+    if_dc_up old new (event.Request i) output _ k (λ m. refl) (follows_request old new i output k is) h
+follows old new (event.Reply i) output k tc is h =
+    if_tc_up old new (event.Reply i) output _ k (λ m. refl) (follows_reply old new i output k) h
+follows old new (event.CrashTc frames bytes) output k tc is h = follows_tc_crash old new frames bytes output k h
+follows old new event.RestartTc output k tc is h = follows_tc_restart old new output k tc h
 follows old new (event.CrashDc frames bytes) output k tc is h = follows_crash old new frames bytes output k h
 follows old new event.RestartDc output k tc is h = follows_restart old new output k is h
 

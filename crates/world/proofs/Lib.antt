@@ -1,4 +1,5 @@
 pub mod Announced
+pub mod Asking
 pub mod AtKeys
 pub mod Awaited
 pub mod Beginnings
@@ -26,6 +27,7 @@ pub mod LostRounds
 pub mod MayAsk
 pub mod Performs
 pub mod PlainAt
+pub mod Promised
 pub mod Playing
 pub mod Readers
 pub mod Reading
@@ -44,6 +46,8 @@ pub mod Shares
 pub mod Spellable
 pub mod Standing
 pub mod Systems
+pub mod TcCrashes
+pub mod TcDowns
 pub mod Tends
 pub mod ToldReads
 pub mod Totals

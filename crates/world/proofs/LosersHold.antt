@@ -13,6 +13,7 @@ use Rattle.log_laws.proofs.Records.{AnOp, both_same, newest_at, older_at, at_new
 use Rattle.log_laws.proofs.LegalLogs.{op_number}
 use Rattle.range_locks.specs.Locks.{spans_of}
 use Rattle.restart.specs.Losers.{txns}
+use Rattle.simulation.proofs.Holding.{IsItsKey}
 use Rattle.simulation.specs.View.{IsAmong, AreItsKeys}
 use Rattle.tc_core.specs.declared.phase.Phase.{Phase}
 use Rattle.tc_core.specs.declared.phase.Phase.TheVariants as phase
@@ -43,19 +44,15 @@ losers_hold w k t listed =
     ∙ or-true (is_holder w.open_txns w.committing t) in
     sym (k.early t (listed_loser w.log w.losers k.lost.losers t listed).early) ∙ k.locks.exclusive t ∙ held_is w.log w.open_txns (closing w) t holds
 
--- an operation of the transaction with the span of its key
-abbrev HasSpan : List Record → ℕ → Span → Type 0
-HasSpan log t s = (n : ℕ) × (o : Op) × IsOpBy log n t o × (s ≡ at_key Exclusive (key_of o))
-
-has_longer : (r : Record) (log : List Record) (t : ℕ) (s : Span) → HasSpan log t s → HasSpan (r ∷ log) t s
+has_longer : (r : Record) (log : List Record) (t : ℕ) (s : Span) → IsItsKey log t s → IsItsKey (r ∷ log) t s
 has_longer r log t s h = (h.0, h.1, at_older (AnOp t h.1) r log h.0 (not_newest log h.0 (op_number log h.0 t h.1 h.2)) h.2, h.3)
 
-span_has : (log : List Record) (t : ℕ) (s : Span) → IsAmong s (op_spans log t) → HasSpan log t s
+span_has : (log : List Record) (t : ℕ) (s : Span) → IsAmong s (op_spans log t) → IsItsKey log t s
 span_has [] t s among = absurd among
 span_has (is.Op v p q ∷ log) t s among = pick (span_has log t s) (t == v) refl among
   where
-    pick : (IsAmong s (op_spans log t) → HasSpan log t s) → (b : Bool) → (t == v) ≡ b
-        → IsAmong s (if b then at_key Exclusive (key_of q) ∷ op_spans log t else op_spans log t) → HasSpan (is.Op v p q ∷ log) t s
+    pick : (IsAmong s (op_spans log t) → IsItsKey log t s) → (b : Bool) → (t == v) ≡ b
+        → IsAmong s (if b then at_key Exclusive (key_of q) ∷ op_spans log t else op_spans log t) → IsItsKey (is.Op v p q ∷ log) t s
     pick before true same among = elim among [
       | inl e ↦ (
         length log + 1,

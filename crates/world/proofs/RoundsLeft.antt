@@ -315,7 +315,7 @@ undo_bound stable (phase.Redoing next ending) = omega arith
 undo_bound stable (phase.Undoing waiting) = waiting_bound stable waiting
 undo_bound stable phase.Running = omega arith
 
-tc_bound : (w : TcView) → AreOpen w.log w.losers.below w.open_txns → tc_rounds w + 1 < most_rounds w.log
+tc_bound : (w : TcView) → AreOpen w.log w.losers.below w.open_txns → tc_rounds w + 2 < most_rounds w.log
 tc_bound w k =
     omega (
       arith,
@@ -334,6 +334,6 @@ down_bound false = omega arith
 pub rounds_bound : (w : NodeView) → IsTc w.tc → rounds_left w < most_rounds w.tc.log
 rounds_bound w k = by (is_apart w.tc.phase || not (w.dc.session == w.tc.session))
   where
-    by : (b : Bool) → down_rounds w.dc_up + (if b then tc_rounds (without_session w.tc) else tc_rounds w.tc) < most_rounds w.tc.log
-    by true = omega (arith, down_bound w.dc_up, tc_bound (without_session w.tc) k.open_txns)
-    by false = omega (arith, down_bound w.dc_up, tc_bound w.tc k.open_txns)
+    by : (b : Bool) → down_rounds w.tc_up + down_rounds w.dc_up + (if b then tc_rounds (without_session w.tc) else tc_rounds w.tc) < most_rounds w.tc.log
+    by true = omega (arith, down_bound w.tc_up, down_bound w.dc_up, tc_bound (without_session w.tc) k.open_txns)
+    by false = omega (arith, down_bound w.tc_up, down_bound w.dc_up, tc_bound w.tc k.open_txns)

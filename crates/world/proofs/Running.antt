@@ -5,14 +5,11 @@ use Rattle.std.proofs.lemmas.Bool.{cases_Bool}
 use Rattle.record_key.specs.declared.refusal.Refusal.{Refusal}
 use Rattle.record_key.specs.declared.refusal.Refusal.TheVariants.{NotConnected, Stale, Redoing}
 use Rattle.record_key.specs.FirstCause.{first_of, or_else}
-use Rattle.codec.specs.declared.dc_record.DcRecord.{DcRecord}
-use Rattle.codec.specs.declared.dc_record.DcRecord.TheVariants as dc_record
-use Rattle.recovery_laws.specs.Shape.{beginning}
-use Rattle.recovery_laws.specs.Recovery.{stored_session}
 use Rattle.dc_core.specs.DcView.{DcView}
 use Rattle.dc_core.specs.Serves.{runs, session_refusal, after_redo_refusal}
 use Rattle.dc_core.specs.Tends.{may_merge}
 use Rattle.dc_core.specs.Kept.{IsDc}
+use Rattle.dc_core.proofs.Stored.{stored_within}
 use Rattle.world.specs.Node.{NodeView}
 use Rattle.world.specs.Kept.{IsKept, InSession}
 
@@ -102,26 +99,13 @@ redo_goes_on dc on may = by (dc.session == 0) (dc.redo) on may
 
 -- ---- the sessions that were taken
 
-stored_older : (r : DcRecord) (log : List DcRecord) → stored_session log ≤ stored_session (r ∷ log)
-stored_older (dc_record.Accept s) log = omega arith
-stored_older (dc_record.Split left cut right) log = omega arith
-stored_older (dc_record.Merge left right merged) log = omega arith
-
-pub stored_shorter : (log : List DcRecord) (n : ℕ) → stored_session (beginning log n) ≤ stored_session log
-stored_shorter [] n = omega arith
-stored_shorter (r ∷ log) n = by (nat_lt (length log) n) (stored_shorter log n)
-  where
-    by : (b : Bool) → stored_session (beginning log n) ≤ stored_session log → stored_session (if b then r ∷ log else beginning log n) ≤ stored_session (r ∷ log)
-    by true less = omega arith
-    by false less = omega (arith, less, stored_older r log)
-
 -- none is later than the transaction component's, if that has one
 pub stored_begun : (w : NodeView) → IsKept w → 0 < w.tc.session → w.dc.stored ≤ w.tc.session
-stored_begun w k some = omega (arith, k.dc.stored, stored_shorter w.dc.system.log w.dc.system.stable, k.sessions.begun.most some)
+stored_begun w k some = omega (arith, k.dc.stored, stored_within w.dc.system.log w.dc.system.stable, k.sessions.begun.most some)
 
 -- nor than its stable records
 pub stored_recorded : (w : NodeView) → IsKept w → w.dc.stored ≤ w.tc.stable
-stored_recorded w k = omega (arith, k.dc.stored, stored_shorter w.dc.system.log w.dc.system.stable, k.sessions.begun.recorded)
+stored_recorded w k = omega (arith, k.dc.stored, stored_within w.dc.system.log w.dc.system.stable, k.sessions.begun.recorded)
 
 -- where that was taken and some session runs, it is this one
 pub same_runs : (w : NodeView) (s : ℕ) → IsKept w → 0 < w.tc.session → s ≡ w.tc.session → s ≤ w.dc.stored → w.dc.session ≢ 0 → runs w.dc s ≡ true

@@ -32,7 +32,7 @@ use Rattle.tc_core.specs.declared.phase.Phase.TheVariants as phase
 use Rattle.tc_core.specs.OpenTxns.{find}
 use Rattle.tc_core.specs.TcView.{TcView, is_none_lost, rolls_back, is_rolling, is_waiting}
 use Rattle.tc_core.proofs.KeepsTc.{open_at, waits_at}
-use Rattle.world.specs.Node.{NodeView}
+use Rattle.world.specs.Node.{NodeView, AreUp}
 use Rattle.world.specs.Kept.{IsKept, IsServed}
 use Rattle.world.proofs.Running.{past_is}
 use Rattle.tc_core.specs.Kept.{IsPhase, IsPhaseOf, IsTc}
@@ -179,7 +179,7 @@ settled_value w k settled key = elim (answered_all w.tc.log w.tc.log key) [
 ]
 
 -- nobody rolls back, and nobody loses
-calm : (w : NodeView) → IsTc w.tc → w.tc.phase ≡ phase.Running → AreUnrolled w.tc.open_txns → IsCalm (clients w.tc)
+pub calm : (w : NodeView) → IsTc w.tc → w.tc.phase ≡ phase.Running → AreUnrolled w.tc.open_txns → IsCalm (clients w.tc)
 calm w k running unrolled = record { stays = nobody_listed w.tc (running_unlost w.tc k running); unrolled = λ t n. by t n (find t w.tc.open_txns) refl }
   where
     flat : (o : OpenTxn) → rolls_back o ≡ false → o.rolling ≡ None
@@ -200,12 +200,12 @@ nobody_waits : (w : TcView) (n : ℕ) → AreIdle w.open_txns → IsAwaited w n 
 nobody_waits w n idle a =
     true≢false (sym (ap is_waiting a.is ∙ ap (λ (m : Option ℕ). is_some m || is_some a.open_txn.reading) a.waiting) ∙ idle a.open_txn.txn)
 
-pub at_rest : (w : NodeView) → IsKept w → w.tc.phase ≡ phase.Running → w.dc_up ≡ true → w.dc.session ≡ w.tc.session → AreUnrolled w.tc.open_txns → AreIdle w.tc.open_txns → length w.tc.log ≤ w.tc.stable
+pub at_rest : (w : NodeView) → IsKept w → w.tc.phase ≡ phase.Running → AreUp w → w.dc.session ≡ w.tc.session → AreUnrolled w.tc.open_txns → AreIdle w.tc.open_txns → length w.tc.log ≤ w.tc.stable
     → IsAtRest w
 at_rest w k running up session unrolled idle stable = record {
   settled = record {
     running = running;
-    dc_up = up;
+    up = up;
     session = session;
     unrolled = unrolled;
     answered = λ n o below asks. elim (answered_or w.tc n o k.tc (none_left w k running) asks) [ inl some ↦ some | inr a ↦ absurd (nobody_waits w.tc n idle a) ];
@@ -218,22 +218,5 @@ at_rest w k running up session unrolled idle stable = record {
 same_session : (w : NodeView) → (IsApart w → ⊥) → w.dc.session ≡ w.tc.session
 same_session w together = elim (cases_eq w.dc.session w.tc.session) [ inl e ↦ e | inr apart ↦ absurd (together (inr (inr apart))) ]
 
--- recovery goes on in it
-pub recovers_next : (w : NodeView) → w.dc_up ≡ true → (IsApart w → ⊥) → (w.tc.phase ≡ phase.Running → ⊥) → IsNext w (recovery_round w.tc.stable w.tc.phase)
-recovers_next w up together idle = by w.tc.phase refl
-  where
-    awaits_stable : (n : ℕ) → w.tc.phase ≡ phase.Undoing (Some n) → (b : Bool) → nat_lt w.tc.stable n ≡ b → IsNext w (if b then round.Force else round.Recover)
-    awaits_stable n at true less = inr (n, record { undoing = at; dc_up = up; session = same_session w together }, grind (arith, nat_tests, less))
-    awaits_stable n at false most =
-        let le : n ≤ w.tc.stable = grind (arith, nat_tests, most) in (up, subst (IsRecovering w.tc.stable) (sym at) le, same_session w together)
-
-    by : (p : Phase) → w.tc.phase ≡ p → IsNext w (recovery_round w.tc.stable p)
-    by phase.Unconnected at = absurd (together (inl at))
-    by phase.Connecting at = absurd (together (inr (inl at)))
-    by (phase.Redoing next ending) at = (up, subst (IsRecovering w.tc.stable) (sym at) tt, same_session w together)
-    by (phase.Undoing None) at = record { undoing = at; dc_up = up; session = same_session w together }
-    by (phase.Undoing (Some n)) at = awaits_stable n at (nat_lt w.tc.stable n) refl
-    by phase.Running at = absurd (idle at)
-
-pub serving : (w : NodeView) → w.dc_up ≡ true → (IsApart w → ⊥) → w.tc.phase ≡ phase.Running → IsServing w
-serving w up together running = record { running = running; dc_up = up; session = same_session w together }
+pub serving : (w : NodeView) → AreUp w → (IsApart w → ⊥) → w.tc.phase ≡ phase.Running → IsServing w
+serving w up together running = record { running = running; up = up; session = same_session w together }

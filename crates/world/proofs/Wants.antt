@@ -1,6 +1,7 @@
 -- A round stops only for want of memory or of numbers.
 use Rattle.std.proofs.Common.{◌≡◌, ◌⊎◌, ℕ, ◌+◌, ◌<◌, ◌≤◌, Bool, true, false, List, [], ◌∷◌, length, Option, Some, None, refl, sym, ap, ◌∙◌, subst, arith, inl, inr, true≢false, eq-eqb, ne_eqb}
 use Rattle.std.specs.Prelude.{◌==◌, ◌&&◌, ◌||◌, not, is_some, nat_lt, Err}
+use Rattle.std.proofs.lemmas.Bool.{MatchBool-at_true}
 use Rattle.std.proofs.lemmas.Bool.Decides.{nat_tests}
 use Rattle.record_key.specs.declared.op.Op.{Op}
 use Rattle.record_key.specs.declared.refusal.Refusal.{Refusal}
@@ -41,7 +42,7 @@ use Rattle.world.specs.declared.event.Out.{Out}
 use Rattle.world.specs.declared.event.Out.TheVariants as out
 use Rattle.world.specs.declared.round.Round.{Round}
 use Rattle.world.specs.declared.round.Round.TheVariants as round
-use Rattle.world.specs.Node.{NodeView, LacksRoom, is_replied_to, ReconnectsTo, RecoversTo, SendsTo, sends_at}
+use Rattle.world.specs.Node.{NodeView, AreUp, LacksRoom, is_replied_to, ReconnectsTo, RecoversTo, SendsTo, sends_at}
 use Rattle.world.specs.Kept.{IsKept, IsServed}
 use Rattle.world.specs.Rounds.{IsDone, IsServing, IsRecovering, IsDue, IsReader, IsRolling, IsNext, IsWant, StopsAt, events_of}
 use Rattle.world.proofs.Sends.{redoing_phase}
@@ -186,7 +187,7 @@ stops_read w n q r k serving some (inr (inr (inr h))) =
     reply_want w.tc h.1 r h.2 (read_session w.tc.session n q h.1 (read_reply w.tc.session n q w.dc h.0 h.1 h.3)) some h.4
 
 -- each round
-want_connect : (old new mid : NodeView) (o : Out) (os : List Out) (r : Refusal) → IsKept old → old.dc_up ≡ true → ReconnectsTo old o mid → IsDone o
+want_connect : (old new mid : NodeView) (o : Out) (os : List Out) (r : Refusal) → IsKept old → AreUp old → ReconnectsTo old o mid → IsDone o
     → StopsAt mid (event.Request (length old.requests + 1) ∷ event.Reply (length old.replies + 1) ∷ []) os r new → IsWant r
 want_connect old new mid (out.Connects i cs) os r k up h d rest =
     let s : ℕ = length old.tc.log + 1 in
@@ -200,7 +201,7 @@ stops_redo : (w : NodeView) (next : ℕ) (found : Option (ℕ × Op)) (r : Refus
 stops_redo w next None r k same some finds h = stops_redo_end w (redoing w.tc w.tc.session true) r refl same some h
 stops_redo w next (Some x) r k same some finds h = stops_perform w (redoing w.tc x.0 false) x.0 x.1 r k refl same some finds.2 h
 
-want_recover : (old new mid : NodeView) (o : Out) (os : List Out) (r : Refusal) (next : ℕ) (ending : Bool) → IsKept old → old.dc_up ≡ true → old.tc.phase ≡ phase.Redoing next ending → old.dc.session ≡ old.tc.session
+want_recover : (old new mid : NodeView) (o : Out) (os : List Out) (r : Refusal) (next : ℕ) (ending : Bool) → IsKept old → AreUp old → old.tc.phase ≡ phase.Redoing next ending → old.dc.session ≡ old.tc.session
     → RecoversTo old o mid → IsDone o → StopsAt mid (event.Request (length old.requests + 1) ∷ event.Reply (length old.replies + 1) ∷ []) os r new → IsWant r
 want_recover old new mid (out.Sent i) os r next ending k up at same h d rest =
     let P : Phase → Type 0 = λ p. SendsAt old.tc p h.0 mid.tc in
@@ -220,7 +221,7 @@ want_recover old new mid _ os r next ending k up at same h d rest = absurd h
 undoing_some : (w : NodeView) (waiting : Option ℕ) → IsKept w → w.tc.phase ≡ phase.Undoing waiting → 0 < w.tc.session
 undoing_some w waiting k at = let P : Phase → Type 0 = IsPhase w.tc.checkpointed w.tc.session in subst P at k.tc.phase
 
-want_resend : (old new mid : NodeView) (o : Out) (os : List Out) (r : Refusal) (n : ℕ) → IsKept old → old.dc_up ≡ true → old.tc.phase ≡ phase.Undoing (Some n) → old.dc.session ≡ old.tc.session
+want_resend : (old new mid : NodeView) (o : Out) (os : List Out) (r : Refusal) (n : ℕ) → IsKept old → AreUp old → old.tc.phase ≡ phase.Undoing (Some n) → old.dc.session ≡ old.tc.session
     → RecoversTo old o mid → IsDone o → StopsAt mid (event.Request (length old.requests + 1) ∷ event.Reply (length old.replies + 1) ∷ []) os r new → IsWant r
 want_resend old new mid (out.Sent i) os r n k up at same h d rest =
     let P : Phase → Type 0 = λ p. SendsAt old.tc p h.0 mid.tc in
@@ -242,7 +243,7 @@ running_some w k running = let P : Phase → Type 0 = IsPhase w.tc.checkpointed 
 want_exchange : (old new mid : NodeView) (o : Out) (os : List Out) (r : Refusal) (t : ℕ) → IsKept old → IsServing old → SendsTo old t o mid → IsDone o
     → StopsAt mid (event.Request (length old.requests + 1) ∷ event.Reply (length old.replies + 1) ∷ []) os r new → IsWant r
 want_exchange old new mid (out.Sent i) os r t k serving h d rest =
-    let stop = stops old mid old.tc h.0 i os r new serving.dc_up (request_replied old.tc t h.0 h.1.1) h.2 rest in
+    let stop = stops old mid old.tc h.0 i os r new serving.up (request_replied old.tc t h.0 h.1.1) h.2 rest in
     let R : Request → Type 0 = λ x. Stops old old.tc x r in
     let some = running_some old k serving.running in
     elim h.1.1 [
@@ -305,27 +306,38 @@ lose_want w r new at (inr refused) =
     spent_want (log_is_spent w.tc.log) logs logs w.tc r new.tc (subst (λ x. Refuses x logs logs w.tc r new.tc) (spent_only w at) refused.0)
 
 pub wants : (old new : NodeView) (round : Round) (outs : List Out) (r : Refusal) → IsKept old → IsNext old round → StopsAt old (events_of old round) outs r new → IsWant r
-wants old new round.Restart [] r k next (inl h) = inl h.0
-wants old new round.Restart [] r k next (inr h) = elim h.0.2.0 [ inl memory ↦ inl memory | inr device ↦ inr (inr device) ]
-wants old new round.Restart (o ∷ os) r k next h = absurd h.3
+wants old new round.RestartDc [] r k next (inl h) = inl h.0
+wants old new round.RestartDc [] r k next (inr h) = elim h.0.2.0 [ inl memory ↦ inl memory | inr device ↦ inr (inr device) ]
+wants old new round.RestartDc (o ∷ os) r k next h = absurd h.3
+wants old new round.RestartTc [] r k next (inl h) = inl h.0
+wants old new round.RestartTc [] r k next (inr h) = elim h.0.1 [ inl memory ↦ inl memory | inr device ↦ inr (inr device) ]
+wants old new round.RestartTc (o ∷ os) r k next h = absurd h.3
 wants old new round.Connect [] r k next (inl h) = inl h.0
-wants old new round.Connect [] r k next (inr h) = reconnect_want old.tc r new.tc h.0
-wants old new round.Connect (o ∷ os) r k next h = want_connect old new h.0 o os r k next.0 h.1 h.2 h.3
+wants old new round.Connect [] r k next (inr h) = reconnect_want old.tc r new.tc (MatchBool-at_true _ _ next.0.tc h).0
+wants old new round.Connect (o ∷ os) r k next h =
+    want_connect old new h.0 o os r k next.0 (MatchBool-at_true _ _ next.0.tc h.1) h.2 h.3
 wants old new round.Recover [] r k next (inl h) = inl h.0
-wants old new round.Recover [] r k next (inr h) = recover_want old r new h (may_recover old next.1)
-wants old new round.Recover (o ∷ os) r k next h = elim (recovering_at old old.tc.phase refl next.1) [
-  | inl at ↦ want_recover old new h.0 o os r at.0 at.1 k next.0 at.2 next.2 h.1 h.2 h.3
-  | inr at ↦ want_resend old new h.0 o os r at.0 k next.0 at.1 next.2 h.1 h.2 h.3
-]
+wants old new round.Recover [] r k next (inr h) =
+    recover_want old r new (MatchBool-at_true _ _ next.0.tc h) (may_recover old next.1)
+wants old new round.Recover (o ∷ os) r k next h =
+    let step = MatchBool-at_true _ _ next.0.tc h.1 in
+    elim (recovering_at old old.tc.phase refl next.1) [
+      | inl at ↦ want_recover old new h.0 o os r at.0 at.1 k next.0 at.2 next.2 step h.2 h.3
+      | inr at ↦ want_resend old new h.0 o os r at.0 k next.0 at.1 next.2 step h.2 h.3
+    ]
 wants old new round.Lose [] r k next (inl h) = inl h.0
-wants old new round.Lose [] r k next (inr h) = lose_want old r new next.undoing h
+wants old new round.Lose [] r k next (inr h) = lose_want old r new next.undoing (MatchBool-at_true _ _ next.up.tc h)
 wants old new round.Lose (o ∷ os) r k next h = absurd h.3
 wants old new (round.Exchange t) [] r k next (inl h) = inl h.0
-wants old new (round.Exchange t) [] r k next (inr h) = no_cause (resend_refusal old.tc t) r (resends_any old.tc t k.tc next.0.running next.1) h.0
-wants old new (round.Exchange t) (o ∷ os) r k next h = want_exchange old new h.0 o os r t k next.0 h.1 h.2 h.3
+wants old new (round.Exchange t) [] r k next (inr h) =
+    no_cause (resend_refusal old.tc t) r (resends_any old.tc t k.tc next.0.running next.1) (MatchBool-at_true _ _ next.0.up.tc h).0
+wants old new (round.Exchange t) (o ∷ os) r k next h =
+    want_exchange old new h.0 o os r t k next.0 (MatchBool-at_true _ _ next.0.up.tc h.1) h.2 h.3
 wants old new (round.Undo t) [] r k next (inl h) = inl h.0
-wants old new (round.Undo t) [] r k next (inr h) = undo_want old.tc t r new.tc next.0.running next.1 h.0
+wants old new (round.Undo t) [] r k next (inr h) =
+    undo_want old.tc t r new.tc next.0.running next.1 (MatchBool-at_true _ _ next.0.up.tc h).0
 wants old new (round.Undo t) (o ∷ os) r k next h = absurd h.3
 wants old new round.Force [] r k next (inl h) = inl h.0
-wants old new round.Force [] r k next (inr h) = inr (inr h.0.0)
+wants old new round.Force [] r k (inl next) (inr h) = inr (inr (MatchBool-at_true _ _ next.0.up.tc h).0.0)
+wants old new round.Force [] r k (inr next) (inr h) = inr (inr (MatchBool-at_true _ _ next.1.up.tc h).0.0)
 wants old new round.Force (o ∷ os) r k next h = absurd h.3

@@ -118,13 +118,13 @@ is_apart _ = false
 abbrev pub session_rounds : TcView → ℕ → ℕ
 session_rounds w s = if is_apart w.phase || not (s == w.session) then tc_rounds (without_session w) else tc_rounds w
 
--- to restart the data component
+-- to restart a component
 abbrev pub down_rounds : Bool → ℕ
 down_rounds up = if up then 0 else 1
 
 -- every round takes one of them at least
 abbrev pub rounds_left : NodeView → ℕ
-rounds_left w = down_rounds w.dc_up + session_rounds w.tc w.dc.session
+rounds_left w = down_rounds w.tc_up + down_rounds w.dc_up + session_rounds w.tc w.dc.session
 
 -- records of operations and compensations, and of beginnings
 abbrev pub steps_in : List Record → ℕ

@@ -9,3 +9,4 @@ pub mod SentReads
 pub mod Bound
 pub mod Rounds
 pub mod Fallen
+pub mod Promises

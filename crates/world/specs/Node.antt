@@ -1,11 +1,12 @@
 -- What is seen of a node, and what one event may do to it: the contracts of the components' calls, side by
 -- side, and the messages that they send and take.
-use Rattle.std.specs.Prelude.{◌≡◌, ◌⊎◌, ℕ, ◌+◌, Bool, true, false, List, [], ◌∷◌, ◌++◌, Option, Some, None, Result, Ok, Err, length}
+use Rattle.std.specs.Prelude.{◌≡◌, ◌⊎◌, ℕ, ◌+◌, Bool, true, false, List, [], ◌∷◌, ◌++◌, Option, Some, None, Result, Ok, Err, length, if◌then◌else◌}
 use Rattle.std.specs.Bool.{MatchBool}
 use Rattle.record_key.specs.declared.op.Op.{Op}
+use Rattle.record_key.specs.Order.{ends_above}
 use Rattle.record_key.specs.Table.{Bytes}
 use Rattle.record_key.specs.declared.refusal.Refusal.{Refusal}
-use Rattle.record_key.specs.declared.refusal.Refusal.TheVariants.{NoMemory, NotConnected, Unsent}
+use Rattle.record_key.specs.declared.refusal.Refusal.TheVariants.{NoMemory, NotConnected, BadRange, Unsent}
 use Rattle.record_key.specs.FirstCause.{RefusesAs}
 use Rattle.range_locks.specs.declared.span.Span.{Span}
 use Rattle.range_locks.specs.declared.span.Span.TheVariants.{Key, Range}
@@ -34,22 +35,28 @@ use Rattle.world.specs.declared.event.Event.{Event}
 use Rattle.world.specs.declared.event.Event.TheVariants as event
 use Rattle.world.specs.declared.event.Out.{Out}
 use Rattle.world.specs.declared.event.Out.TheVariants as out
-use Rattle.world.specs.Component.{ComponentView, CrashesTo, RestartsTo}
+use Rattle.world.specs.Component.{TcSide, DcSide, TcCrashesTo, TcRestartsTo, DcCrashesTo, DcRestartsTo}
 use Rattle.world.specs.Messages.{message_at}
 use Rattle.world.specs.Sent.{IsUnread}
 
--- whether the data component runs, and what it is, or where it doesn't run will be once it is restarted; every message
+-- of each component whether it runs, and what it is, or where it doesn't run will be once it is restarted; every message
 -- ever sent stands, the oldest first
 pub record NodeView : Type 0 where
+  pub tc_up : Bool
   pub tc : TcView
   pub dc_up : Bool
   pub dc : DcView
   pub requests : List Request
   pub replies : List Reply
 
+-- both components run
+pub record AreUp (w : NodeView) : Type 0 where
+  pub tc : w.tc_up ≡ true
+  pub dc : w.dc_up ≡ true
+
 -- nothing is logged, stored or sent
 abbrev pub fresh_node : NodeView
-fresh_node = record { tc = fresh 0; dc_up = true; dc = fresh_dc 0; requests = []; replies = [] }
+fresh_node = record { tc_up = true; tc = fresh 0; dc_up = true; dc = fresh_dc 0; requests = []; replies = [] }
 
 abbrev pub out_of : Result Out Refusal → Out
 out_of (Ok o) = o
@@ -195,9 +202,24 @@ ServesTo old i (out.Refused r) new =
     ((IsUnsent old.requests i r ⊎ Unreplied old i r) × (new ≡ old)) ⊎ (Served old i (Err r) new.dc × (new ≡ with_dc old new.dc))
 ServesTo old i _ new = ⊥
 
--- an event of the data component: refused where that doesn't run
-abbrev pub IfUp : NodeView → Out → NodeView → Type 0 → Type 0
-IfUp old output new Does = MatchBool old.dc_up Does ((output ≡ out.Refused NotConnected) × (new ≡ old))
+-- an event of a component: refused where that doesn't run
+abbrev pub IfUp : Bool → Refusal → NodeView → Out → NodeView → Type 0 → Type 0
+IfUp up refusal old output new Does = MatchBool up Does ((output ≡ out.Refused refusal) × (new ≡ old))
+
+abbrev pub IfTcUp : NodeView → Out → NodeView → Type 0 → Type 0
+IfTcUp old output new Does = IfUp old.tc_up NotConnected old output new Does
+
+abbrev pub IfDcUp : NodeView → Out → NodeView → Type 0 → Type 0
+IfDcUp old output new Does = IfUp old.dc_up NotConnected old output new Does
+
+-- why a call of it is refused, where this would be why
+abbrev pub if_up : Bool → Option Refusal → Option Refusal
+if_up true refusal = refusal
+if_up false refusal = Some NotConnected
+
+-- a span that is no range is refused before
+abbrev pub down_refusal : Bytes → Option Bytes → Refusal
+down_refusal low high = if ends_above high low then NotConnected else BadRange
 
 -- a call of the data component
 abbrev pub CallsDc : (DcView → Type 0) → NodeView → NodeView → Type 0
@@ -225,24 +247,41 @@ WritesTo old k (out.Flushed id) new = CallsDc (FlushesTo old.dc k (Ok id)) old n
 WritesTo old k (out.Refused r) new = CallsDc (FlushesTo old.dc k (Err r)) old new
 WritesTo old k _ new = ⊥
 
--- the data component changes so, and nothing else does
-abbrev pub Becomes : NodeView → ComponentView → NodeView → Type 0
-Becomes old component new = new ≡ record old { dc_up = component.up; dc = component.dc }
+-- a component changes so, and nothing else does
+abbrev pub BecomesTc : NodeView → TcSide → NodeView → Type 0
+BecomesTc old side new = new ≡ record old { tc_up = side.up; tc = side.tc }
 
-abbrev pub component : NodeView → ComponentView
-component w = record { up = w.dc_up; dc = w.dc }
+abbrev pub BecomesDc : NodeView → DcSide → NodeView → Type 0
+BecomesDc old side new = new ≡ record old { dc_up = side.up; dc = side.dc }
+
+abbrev pub tc_side : NodeView → TcSide
+tc_side w = record { up = w.tc_up; tc = w.tc }
+
+abbrev pub dc_side : NodeView → DcSide
+dc_side w = record { up = w.dc_up; dc = w.dc }
+
+abbrev pub CrashesTcTo : NodeView → ℕ → Out → NodeView → Type 0
+CrashesTcTo old more out.Down new = TcCrashesTo (tc_side old) more true (tc_side new) × BecomesTc old (tc_side new) new
+CrashesTcTo old more out.Nothing new = TcCrashesTo (tc_side old) more false (tc_side new) × BecomesTc old (tc_side new) new
+CrashesTcTo old more _ new = ⊥
+
+abbrev pub RestartsTcTo : NodeView → Out → NodeView → Type 0
+RestartsTcTo old (out.Up count) new =
+    TcRestartsTo (tc_side old) (Ok (Some count)) (tc_side new) × BecomesTc old (tc_side new) new
+RestartsTcTo old out.Nothing new = TcRestartsTo (tc_side old) (Ok None) (tc_side new) × BecomesTc old (tc_side new) new
+RestartsTcTo old (out.Refused r) new = TcRestartsTo (tc_side old) (Err r) (tc_side new) × BecomesTc old (tc_side new) new
+RestartsTcTo old _ new = ⊥
 
 abbrev pub CrashesDcTo : NodeView → ℕ → Out → NodeView → Type 0
-CrashesDcTo old more out.Down new = CrashesTo (component old) more true (component new) × Becomes old (component new) new
-CrashesDcTo old more out.Nothing new =
-    CrashesTo (component old) more false (component new) × Becomes old (component new) new
+CrashesDcTo old more out.Down new = DcCrashesTo (dc_side old) more true (dc_side new) × BecomesDc old (dc_side new) new
+CrashesDcTo old more out.Nothing new = DcCrashesTo (dc_side old) more false (dc_side new) × BecomesDc old (dc_side new) new
 CrashesDcTo old more _ new = ⊥
 
 abbrev pub RestartsDcTo : NodeView → Out → NodeView → Type 0
 RestartsDcTo old (out.Up count) new =
-    RestartsTo (component old) (Ok (Some count)) (component new) × Becomes old (component new) new
-RestartsDcTo old out.Nothing new = RestartsTo (component old) (Ok None) (component new) × Becomes old (component new) new
-RestartsDcTo old (out.Refused r) new = RestartsTo (component old) (Err r) (component new) × Becomes old (component new) new
+    DcRestartsTo (dc_side old) (Ok (Some count)) (dc_side new) × BecomesDc old (dc_side new) new
+RestartsDcTo old out.Nothing new = DcRestartsTo (dc_side old) (Ok None) (dc_side new) × BecomesDc old (dc_side new) new
+RestartsDcTo old (out.Refused r) new = DcRestartsTo (dc_side old) (Err r) (dc_side new) × BecomesDc old (dc_side new) new
 RestartsDcTo old _ new = ⊥
 
 abbrev pub as_out : Told → Out
@@ -277,27 +316,30 @@ TakesTo old i output new = Taken old i output new
 
 -- from old, the event may have this output and leave new
 abbrev pub StepsTo : NodeView → Event → Out → NodeView → Type 0
-StepsTo old event.Reconnect output new = ReconnectsTo old output new
-StepsTo old event.Recover output new = RecoversTo old output new
-StepsTo old event.Begin output new = BeginsTo old output new
-StepsTo old (event.Act t op) output new = ActsTo old t op output new
-StepsTo old (event.Get t k) output new = ReadsTo old t (Key k) output new
-StepsTo old (event.Scan t low high) output new = ReadsTo old t (Range low high) output new
-StepsTo old (event.Save t) output new = SavesTo old t output new
-StepsTo old (event.GoBack t s) output new = GoesBackTo old t s output new
-StepsTo old (event.Rollback t) output new = RollsBackTo old t output new
-StepsTo old (event.Commit t) output new = CommitsTo old t output new
-StepsTo old (event.Undo t) output new = UndoesTo old t output new
-StepsTo old event.Force output new = ForcesTo old output new
-StepsTo old (event.Send t) output new = SendsTo old t output new
-StepsTo old (event.LowWater l) output new = LowersTo old l output new
-StepsTo old event.Checkpoint output new = AsksCheckpoint old output new
-StepsTo old (event.Split k) output new = IfUp old output new (PartsTo old k output new)
-StepsTo old (event.Merge k) output new = IfUp old output new (JoinsTo old k output new)
-StepsTo old event.Tend output new = IfUp old output new (KeepsUpTo old output new)
-StepsTo old (event.Flush k) output new = IfUp old output new (WritesTo old k output new)
-StepsTo old (event.Request i) output new = IfUp old output new (ServesTo old i output new)
-StepsTo old (event.Reply i) output new = TakesTo old i output new
+StepsTo old event.Reconnect output new = IfTcUp old output new (ReconnectsTo old output new)
+StepsTo old event.Recover output new = IfTcUp old output new (RecoversTo old output new)
+StepsTo old event.Begin output new = IfTcUp old output new (BeginsTo old output new)
+StepsTo old (event.Act t op) output new = IfTcUp old output new (ActsTo old t op output new)
+StepsTo old (event.Get t k) output new = IfTcUp old output new (ReadsTo old t (Key k) output new)
+StepsTo old (event.Scan t low high) output new =
+    IfUp old.tc_up (down_refusal low high) old output new (ReadsTo old t (Range low high) output new)
+StepsTo old (event.Save t) output new = IfTcUp old output new (SavesTo old t output new)
+StepsTo old (event.GoBack t s) output new = IfTcUp old output new (GoesBackTo old t s output new)
+StepsTo old (event.Rollback t) output new = IfTcUp old output new (RollsBackTo old t output new)
+StepsTo old (event.Commit t) output new = IfTcUp old output new (CommitsTo old t output new)
+StepsTo old (event.Undo t) output new = IfTcUp old output new (UndoesTo old t output new)
+StepsTo old event.Force output new = IfTcUp old output new (ForcesTo old output new)
+StepsTo old (event.Send t) output new = IfTcUp old output new (SendsTo old t output new)
+StepsTo old (event.LowWater l) output new = IfTcUp old output new (LowersTo old l output new)
+StepsTo old event.Checkpoint output new = IfTcUp old output new (AsksCheckpoint old output new)
+StepsTo old (event.Split k) output new = IfDcUp old output new (PartsTo old k output new)
+StepsTo old (event.Merge k) output new = IfDcUp old output new (JoinsTo old k output new)
+StepsTo old event.Tend output new = IfDcUp old output new (KeepsUpTo old output new)
+StepsTo old (event.Flush k) output new = IfDcUp old output new (WritesTo old k output new)
+StepsTo old (event.Request i) output new = IfDcUp old output new (ServesTo old i output new)
+StepsTo old (event.Reply i) output new = IfTcUp old output new (TakesTo old i output new)
+StepsTo old (event.CrashTc frames bytes) output new = CrashesTcTo old frames output new
+StepsTo old event.RestartTc output new = RestartsTcTo old output new
 StepsTo old (event.CrashDc frames bytes) output new = CrashesDcTo old frames output new
 StepsTo old event.RestartDc output new = RestartsDcTo old output new
 

@@ -2,6 +2,7 @@
 use Rattle.std.specs.Prelude.{◌≡◌, ◌≢◌, ◌⊎◌, ℕ, ◌+◌, ◌-◌, ◌<◌, ◌≤◌, Bool, true, false, List, [], ◌∷◌, ◌++◌, Option, Some, None, Result, Ok, Err, length, nat_lt, if◌then◌else◌}
 use Rattle.record_key.specs.declared.refusal.Refusal.{Refusal}
 use Rattle.record_key.specs.declared.refusal.Refusal.TheVariants.{NoMemory, NumbersSpent, Device}
+use Rattle.dc_core.specs.DcView.{DcView}
 use Rattle.tc_core.specs.declared.open_txn.OpenTxn.{OpenTxn}
 use Rattle.tc_core.specs.declared.open_txn.Read.{Read}
 use Rattle.tc_core.specs.declared.phase.Phase.{Phase}
@@ -14,7 +15,7 @@ use Rattle.world.specs.declared.event.Out.{Out}
 use Rattle.world.specs.declared.event.Out.TheVariants as out
 use Rattle.world.specs.declared.round.Round.{Round}
 use Rattle.world.specs.declared.round.Round.TheVariants as round
-use Rattle.world.specs.Node.{NodeView, StepsTo}
+use Rattle.world.specs.Node.{NodeView, AreUp, StepsTo}
 use Rattle.world.specs.Simulation.{IsSettled, AreUnrolled}
 use Rattle.world.specs.Bound.{most_rounds}
 
@@ -29,8 +30,11 @@ pub record IsAtRest (w : NodeView) : Type 0 where
   pub stable : w.tc.stable ≡ length w.tc.log
 
 -- the transaction component has no session that the data component runs
+abbrev pub AreApart : TcView → DcView → Type 0
+AreApart tc dc = (tc.phase ≡ phase.Unconnected) ⊎ (tc.phase ≡ phase.Connecting) ⊎ (dc.session ≢ tc.session)
+
 abbrev pub IsApart : NodeView → Type 0
-IsApart w = (w.tc.phase ≡ phase.Unconnected) ⊎ (w.tc.phase ≡ phase.Connecting) ⊎ (w.dc.session ≢ w.tc.session)
+IsApart w = AreApart w.tc w.dc
 
 -- a request of recovery is due that may be sent: redo's, or a stable compensation that undo awaits
 abbrev pub IsRecovering : ℕ → Phase → Type 0
@@ -41,12 +45,12 @@ IsRecovering stable _ = ⊥
 -- the components run in one session, in which losers are undone; the compensation that is awaited
 pub record IsUndoing (w : NodeView) (waiting : Option ℕ) : Type 0 where
   pub undoing : w.tc.phase ≡ phase.Undoing waiting
-  pub dc_up : w.dc_up ≡ true
+  pub up : AreUp w
   pub session : w.dc.session ≡ w.tc.session
 
 pub record IsServing (w : NodeView) : Type 0 where
   pub running : w.tc.phase ≡ phase.Running
-  pub dc_up : w.dc_up ≡ true
+  pub up : AreUp w
   pub session : w.dc.session ≡ w.tc.session
 
 -- of those that wait, the transaction with the least number waits for this record's answer
@@ -78,13 +82,14 @@ IsForced w =
     ((t : ℕ) × (n : ℕ) × IsDue w t n × (w.stable < n))
     ⊎ (AreUnrolled w.open_txns × AreIdle w.open_txns × (w.stable < length w.log))
 
--- the first round that applies: to connect; to recover, which forces the log for a compensation that isn't stable,
+-- the first round that applies: to restart a component that is down; to connect; to recover, which forces the log for a compensation that isn't stable,
 -- and logs a record where none is awaited; for an unanswered request to force the log where its record isn't stable,
 -- else to exchange it, as a read always is; to undo; to force what isn't stable
 abbrev pub IsNext : NodeView → Round → Type 0
-IsNext w round.Restart = w.dc_up ≡ false
-IsNext w round.Connect = (w.dc_up ≡ true) × IsApart w
-IsNext w round.Recover = (w.dc_up ≡ true) × IsRecovering w.tc.stable w.tc.phase × (w.dc.session ≡ w.tc.session)
+IsNext w round.RestartDc = w.dc_up ≡ false
+IsNext w round.RestartTc = (w.dc_up ≡ true) × (w.tc_up ≡ false)
+IsNext w round.Connect = AreUp w × IsApart w
+IsNext w round.Recover = AreUp w × IsRecovering w.tc.stable w.tc.phase × (w.dc.session ≡ w.tc.session)
 IsNext w round.Lose = IsUndoing w None
 IsNext w (round.Exchange t) = IsServing w × (((n : ℕ) × IsDue w.tc t n × (n ≤ w.tc.stable)) ⊎ IsReader w.tc t)
 IsNext w (round.Undo t) = IsServing w × IsRolling w.tc t
@@ -109,7 +114,8 @@ abbrev pub exchange : NodeView → Event → List Event
 exchange w e = exchange_of e (length w.requests + 1) (length w.replies + 1)
 
 abbrev pub events_of : NodeView → Round → List Event
-events_of w round.Restart = event.RestartDc ∷ []
+events_of w round.RestartDc = event.RestartDc ∷ []
+events_of w round.RestartTc = event.RestartTc ∷ []
 events_of w round.Connect = exchange w event.Reconnect
 events_of w round.Recover = exchange w event.Recover
 events_of w round.Lose = event.Recover ∷ []

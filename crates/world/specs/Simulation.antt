@@ -1,7 +1,7 @@
 -- The list machines that a node stands for, and runs of events.
 use Rattle.std.specs.Prelude.{◌≡◌, ℕ, ◌≤◌, true, false, List, [], ◌∷◌, Option, Some, None, IsSome, map}
 use Rattle.record_key.specs.declared.op.Op.{Op}
-use Rattle.history.specs.ListMachine.{Machine, Line, Query, OfKey, OfRange, Begins, Acts, TellsAnswer, Reads, TellsRow, TellsRows, Saves, GoesBack, TellsBack, RollsBack, TellsRolledBack, Commits, TellsCommitted, TellsLost, IsRefused, ToBegin, ToAct, ToRead, ToSave, ToGoBack, ToRollBack, ToCommit, Steps}
+use Rattle.history.specs.ListMachine.{Machine, Line, Query, OfKey, OfRange, Begins, Acts, TellsAnswer, Reads, TellsRow, TellsRows, Saves, GoesBack, TellsBack, RollsBack, TellsRolledBack, Commits, TellsCommitted, Crashes, TellsLost, IsRefused, ToBegin, ToAct, ToRead, ToSave, ToGoBack, ToRollBack, ToCommit, Steps}
 use Rattle.history.specs.Log.{answer_of, Requests}
 use Rattle.simulation.specs.View.{View, Doing, Ready, Awaits, Looks, Rolls, StandsFor}
 use Rattle.range_locks.specs.declared.span.Span.{Span}
@@ -16,7 +16,7 @@ use Rattle.tc_core.specs.OpenTxns.{find}
 use Rattle.tc_core.specs.Locking.{is_listed}
 use Rattle.tc_core.specs.Causes.{saves_of}
 use Rattle.tc_core.specs.TcView.{TcView, is_rolling}
-use Rattle.world.specs.Node.{NodeView}
+use Rattle.world.specs.Node.{NodeView, AreUp}
 use Rattle.world.specs.declared.event.Event.{Event}
 use Rattle.world.specs.declared.event.Event.TheVariants as event
 use Rattle.world.specs.declared.event.Out.{Out}
@@ -126,6 +126,11 @@ lines_of event.Recover out.Nothing = Some []
 lines_of event.Recover (out.Compensated n) = Some []
 lines_of event.Recover (out.Lost t) = Some (TellsLost t ∷ [])
 lines_of event.Recover (out.Refused r) = Some []
+lines_of (event.CrashTc frames bytes) out.Down = Some (Crashes ∷ [])
+lines_of (event.CrashTc frames bytes) out.Nothing = Some []
+lines_of event.RestartTc (out.Up count) = Some []
+lines_of event.RestartTc out.Nothing = Some []
+lines_of event.RestartTc (out.Refused r) = Some []
 lines_of (event.CrashDc frames bytes) out.Down = Some []
 lines_of (event.CrashDc frames bytes) out.Nothing = Some []
 lines_of event.RestartDc (out.Up count) = Some []
@@ -162,7 +167,7 @@ AreUnrolled os = (t : ℕ) → is_rolling (find t os) ≡ false
 -- both components run in one session, nobody is being rolled back, and every stable request is answered
 pub record IsSettled (w : NodeView) : Type 0 where
   pub running : w.tc.phase ≡ phase.Running
-  pub dc_up : w.dc_up ≡ true
+  pub up : AreUp w
   pub session : w.dc.session ≡ w.tc.session
   pub unrolled : AreUnrolled w.tc.open_txns
   pub answered : (n : ℕ) (o : Op) → n ≤ w.tc.stable → Requests w.tc.log n o → IsSome (answer_of w.tc.log n)

@@ -80,13 +80,19 @@ pub enum Event {
     Reply {
         number: u64,
     },
-    /// The data component loses what isn't on its devices. Of the records of its log that aren't stable the first
+    /// The transaction component loses what isn't on its device. Of the records of its log that aren't stable the first
     /// `frames` stay, and of the next one at most so many bytes.
+    CrashTc {
+        frames: u64,
+        bytes: u64,
+    },
+    /// The transaction component is opened again on its device.
+    RestartTc,
+    /// The same of the data component and its devices.
     CrashDc {
         frames: u64,
         bytes: u64,
     },
-    /// The data component is opened again on its devices.
     RestartDc,
 }
 
@@ -134,7 +140,7 @@ pub enum Out {
     Lost(u64),
     /// The component doesn't run any more.
     Down,
-    /// The component runs again, with so many leaves.
+    /// The component runs again, with so many records or leaves.
     Up(u64),
     Refused(Refusal),
 }

@@ -9,9 +9,11 @@
 
 mod crashing;
 mod data_component;
+mod dc_events;
 mod driving;
 mod event;
 mod found;
+mod found_log;
 mod laws;
 mod message;
 mod messages;
@@ -20,6 +22,9 @@ mod round;
 mod sent;
 mod settling;
 mod stopped;
+mod stopped_tc;
+mod tc_events;
+mod transaction_component;
 mod world;
 
 pub use dc_core::Neighbours;

@@ -4,7 +4,9 @@
 #[derive(Debug, Clone, Copy, PartialEq, Eq)]
 pub enum Round {
     /// The data component is restarted.
-    Restart,
+    RestartDc,
+    /// The transaction component is.
+    RestartTc,
     /// A session is started, and its Connect is sent, served and answered.
     Connect,
     /// A request of recovery is sent, served and answered.

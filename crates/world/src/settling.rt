@@ -44,7 +44,8 @@ fn play(world: &mut World, round: Round, out: &mut Vec<Out>) -> Result<(), Refus
     ensures { Does world.old (events_of world.old round) out.old.items out.new.items result world.new }
 {
     match round {
-        Round::Restart => perform(world, &Event::RestartDc, out),
+        Round::RestartDc => perform(world, &Event::RestartDc, out),
+        Round::RestartTc => perform(world, &Event::RestartTc, out),
         Round::Connect => exchange(world, &Event::Reconnect, out),
         Round::Recover => exchange(world, &Event::Recover, out),
         Round::Lose => perform(world, &Event::Recover, out),

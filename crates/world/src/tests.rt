@@ -6,6 +6,7 @@ mod events;
 mod repeating;
 mod rounds;
 mod sent;
+mod tc_crashing;
 
 use super::*;
 use page::Leaf;
@@ -49,12 +50,19 @@ fn leaves(world: &World) -> Result<usize, Refusal> {
     world.leaves()
 }
 
+/// None while the transaction component is down; so of the next.
 fn records(world: &World) -> u64 {
-    world.records()
+    match world.records() {
+        Ok(records) => records,
+        Err(_) => 0,
+    }
 }
 
 fn stable_end(world: &World) -> u64 {
-    world.stable_end()
+    match world.stable_end() {
+        Ok(end) => end,
+        Err(_) => 0,
+    }
 }
 
 fn next_round(world: &World) -> Option<Round> {

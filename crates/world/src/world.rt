@@ -1,29 +1,31 @@
 //! The world: a node, one event at a time.
 ghost use Rattle.std.specs.Prelude.{◌≡◌, ◌<◌, ◌↔◌, true, false, IsTrue, length, get_or, MatchOption, Some, None, OnOk, OnErr, IfOk, IfErr, if◌then◌else◌};
 ghost use Rattle.std.specs.FinMap.{entries};
-ghost use Rattle.history.specs.History.{plain};
 ghost use Rattle.history.specs.Log.{record_at};
-ghost use Rattle.history.specs.ListMachine.{fresh, Machine};
+ghost use Rattle.history.specs.ListMachine.{fresh};
 ghost use Rattle.page.specs.Leaf.{first};
 ghost use Rattle.btree.specs.Leaves.{rows_of};
 ghost use Rattle.dc_core.specs.DcView.{leaves};
 ghost use Rattle.tc_core.specs.Causes.{begin_refusal};
-ghost use Rattle.world.specs.Node.{fresh_node, StepsTo};
-ghost use Rattle.world.specs.Simulation.{Stands, Leads, IsSettled};
+ghost use Rattle.world.specs.Node.{fresh_node, StepsTo, if_up};
+ghost use Rattle.world.specs.Simulation.{Stands, Leads};
 ghost use Rattle.world.specs.Kept.{IsKept};
-ghost use Rattle.world.specs.Rounds.{IsNext, IsAtRest, IsApart, round_for, recovery_round};
+ghost use Rattle.world.specs.Promises.{Promises};
+ghost use Rattle.world.specs.Rounds.{IsNext, IsAtRest, AreApart, round_for, recovery_round};
 
 use crate::data_component::DataComponent;
 use crate::event::{Event, Out};
 use crate::node::Node;
 use crate::round::Round;
+use crate::transaction_component::TransactionComponent;
 use dc_core::Dc;
 use history::Record;
 use page::Leaf;
 use record_key::{Key, Refusal, Value};
+use stable::MemLog;
 use std::alloc::Global;
 use std::marker::Model;
-use tc_core::{OpenTxn, Phase};
+use tc_core::{OpenTxn, Phase, Tc};
 
 /// A node with what holds of it at every moment.
 #[derive(Drop)]
@@ -69,17 +71,31 @@ impl World {
         self.node.step(event)
     }
 
-    /// What holds at every moment; and where the node is settled, its records are those of a plain map, for each list
-    /// machine that it stands for.
+    /// What holds at every moment, and what the node promises by that: every leaf is honest, also after any crash; no
+    /// operation is compensated twice, no compensation is refused, whose Commit record is stable has committed; and where
+    /// the node is settled, its records are those of a plain map, for each list machine that it stands for.
     pub fn kept(&self)
         ensures kept { IsKept self.now }
-        ensures rows { (m : Machine) → Stands self.now m → IsSettled self.now → rows_of (leaves self.now.dc) ≡ plain m.h }
+        ensures promised { Promises self.now }
     {
         let _ = &self.node;
     }
 
+    /// The transaction component, where it runs. Refused NotConnected.
+    fn running_tc(&self) -> Result<&Tc<MemLog>, Refusal>
+        ensures up { OnOk result (self.now.tc_up ≡ true) }
+        ensures tc { IfOk result (λ tc. tc.now ≡ self.now.tc) }
+        ensures refused { IfErr result (λ refusal. refusal ≡ Refusal.NotConnected) }
+        ensures down { OnErr result (self.now.tc_up ≡ false) }
+    {
+        match &self.node.tc {
+            TransactionComponent::Up(tc) => Ok(tc),
+            TransactionComponent::Down(_) => Err(Refusal::NotConnected),
+        }
+    }
+
     /// The data component, where it runs. Refused NotConnected.
-    fn running(&self) -> Result<&Dc, Refusal>
+    fn running_dc(&self) -> Result<&Dc, Refusal>
         ensures up { OnOk result (self.now.dc_up ≡ true) }
         ensures dc { IfOk result (λ dc. dc.now ≡ self.now.dc) }
         ensures refused { IfErr result (λ refusal. refusal ≡ Refusal.NotConnected) }
@@ -99,7 +115,7 @@ impl World {
             refusal ≡ (if self.now.dc_up then Refusal.NoMemory else Refusal.NotConnected)) }
     {
         self.kept();
-        Ok(self.running()?.rows()?)
+        Ok(self.running_dc()?.rows()?)
     }
 
     /// How many leaves the data component has. Refused NotConnected where it is down.
@@ -109,7 +125,7 @@ impl World {
         ensures refused { IfErr result (λ refusal. refusal ≡ Refusal.NotConnected) }
         ensures down { OnErr result (self.now.dc_up ≡ false) }
     {
-        Ok(self.running()?.leaves())
+        Ok(self.running_dc()?.leaves())
     }
 
     /// The leaf at a place in key order, from 0, of a data component that runs.
@@ -118,7 +134,7 @@ impl World {
         requires within { place < length (leaves self.now.dc) }
         ensures { result.now ≡ get_or (leaves self.now.dc) place first }
     {
-        match self.running() {
+        match self.running_dc() {
             Ok(dc) => dc.leaf(place),
             Err(_) => unreachable!(),
         }
@@ -126,10 +142,12 @@ impl World {
 
     /// Whether a transaction may begin, memory and the device aside.
     pub fn can_begin(&self) -> Result<(), Refusal>
+        ensures up { OnOk result (self.now.tc_up ≡ true) }
         ensures allowed { OnOk result (begin_refusal self.now.tc ≡ None) }
-        ensures refused { IfErr result (λ refusal. begin_refusal self.now.tc ≡ Some refusal) }
+        ensures refused { IfErr result (λ refusal.
+            if_up self.now.tc_up (begin_refusal self.now.tc) ≡ Some refusal) }
     {
-        self.node.tc.can_begin()
+        self.running_tc()?.can_begin()
     }
 
     /// How many requests were sent.
@@ -146,41 +164,52 @@ impl World {
         self.node.replies.len()
     }
 
-    /// How many records the log has.
-    pub fn records(&self) -> u64
-        ensures { result ≡ length self.now.tc.log }
+    /// How many records the log has. Refused NotConnected where the transaction component is down; so are the next two.
+    pub fn records(&self) -> Result<u64, Refusal>
+        ensures count { IfOk result (λ count. count ≡ length self.now.tc.log) }
+        ensures up { OnOk result (self.now.tc_up ≡ true) }
+        ensures refused { IfErr result (λ refusal. refusal ≡ Refusal.NotConnected) }
+        ensures down { OnErr result (self.now.tc_up ≡ false) }
     {
-        self.node.tc.records()
+        Ok(self.running_tc()?.records())
     }
 
     /// The record of this number. Takes no memory.
-    pub fn record(&self, number: u64) -> Option<Record>
-        ensures { result ≡ record_at self.now.tc.log number }
+    pub fn record(&self, number: u64) -> Result<Option<Record>, Refusal>
+        ensures record { IfOk result (λ found. found ≡ record_at self.now.tc.log number) }
+        ensures up { OnOk result (self.now.tc_up ≡ true) }
+        ensures refused { IfErr result (λ refusal. refusal ≡ Refusal.NotConnected) }
+        ensures down { OnErr result (self.now.tc_up ≡ false) }
     {
-        self.node.tc.record(number)
+        Ok(self.running_tc()?.record(number))
     }
 
     /// The number up to which records are stable.
-    pub fn stable_end(&self) -> u64
-        ensures { result ≡ self.now.tc.stable }
+    pub fn stable_end(&self) -> Result<u64, Refusal>
+        ensures end { IfOk result (λ end. end ≡ self.now.tc.stable) }
+        ensures up { OnOk result (self.now.tc_up ≡ true) }
+        ensures refused { IfErr result (λ refusal. refusal ≡ Refusal.NotConnected) }
+        ensures down { OnErr result (self.now.tc_up ≡ false) }
     {
-        self.node.tc.stable_end()
+        Ok(self.running_tc()?.stable_end())
     }
 
-    /// The first round of settling that applies, if any is left: restart the data component; connect where the
-    /// components have no session in common; recover until nobody is left whom a crash found open; for the least
+    /// The first round of settling that applies, if any is left: restart the data component, then the other; connect
+    /// where they have no session in common; recover until nobody is left whom a crash found open; for the least
     /// transaction with an unanswered request, force the log where its record isn't stable, else exchange it; undo
     /// for the least one that is being rolled back; force where records aren't stable.
     pub fn next_round(&self) -> Option<Round>
         ensures { MatchOption result (IsAtRest self.now) (IsNext self.now) }
     {
-        let DataComponent::Up(_) = &self.node.dc else {
-            return Some(Round::Restart);
+        let DataComponent::Up(dc) = &self.node.dc else {
+            return Some(Round::RestartDc);
         };
-        if self.is_apart() {
+        let TransactionComponent::Up(tc) = &self.node.tc else {
+            return Some(Round::RestartTc);
+        };
+        if is_apart(tc, dc) {
             return Some(Round::Connect);
         }
-        let tc = &self.node.tc;
         let stable = tc.stable_end();
         match tc.phase() {
             Phase::Running => {}
@@ -197,20 +226,13 @@ impl World {
         }
         None
     }
+}
 
-    /// The transaction component has no session that the data component runs.
-    fn is_apart(&self) -> bool
-        requires { self.now.dc_up ≡ true }
-        ensures { IsTrue result ↔ IsApart self.now }
-    {
-        match self.running() {
-            Ok(dc) => {
-                matches!(self.node.tc.phase(), Phase::Unconnected | Phase::Connecting)
-                    || dc.session() != self.node.tc.session()
-            }
-            Err(_) => unreachable!(),
-        }
-    }
+/// The transaction component has no session that the data component runs.
+fn is_apart(tc: &Tc<MemLog>, dc: &Dc) -> bool
+    ensures { IsTrue result ↔ AreApart tc.now dc.now }
+{
+    matches!(tc.phase(), Phase::Unconnected | Phase::Connecting) || dc.session() != tc.session()
 }
 
 /// The round of a recovery that goes on: a record of undo where it awaits none, a force where it awaits a compensation

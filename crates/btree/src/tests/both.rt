@@ -20,9 +20,11 @@ fn expect_leaf<R: Abort>(rt: &R, one: &Leaf, other: &Leaf) {
     assert_eq!(rt; one.entries(), other.entries());
 }
 
-/// The leaves of both are the same.
+/// The leaves of both are the same, and so are those that are tended first.
 fn expect_same<R: Abort>(rt: &R, list: &LeafList, tree: &Tree) {
     assert_eq!(rt; list.len(), tree.len());
+    assert_eq!(rt; list.first_large(), tree.first_large());
+    assert_eq!(rt; list.first_pair(), tree.first_pair());
     for place in 0..list.len() {
         if place < tree.len() {
             expect_leaf(rt, list.leaf(place), tree.leaf(place));

@@ -1,34 +1,37 @@
 //! Leaves changed in their place, by the nodes above them.
-ghost use Rattle.std.specs.Prelude.{◌≡◌, ◌<◌, ◌^◌, true, length, get_or, OnErr, IfOk, IsOk, IsOkUnless};
+ghost use Rattle.std.specs.Prelude.{◌≡◌, ◌<◌, ◌^◌, length, get_or, IsOkUnless};
 ghost use Rattle.record_key.specs.Table.{key_of};
-ghost use Rattle.ab_lsn.specs.AbLsn.{captures};
-ghost use Rattle.page.specs.Leaf.{first, is_in_fences};
+ghost use Rattle.page.specs.Leaf.{first};
 ghost use Rattle.page.specs.Parting.{lower_of};
-ghost use Rattle.page.specs.Performs.{Performs};
-ghost use Rattle.btree.specs.Nodes.{IsChangedAt, raised_node};
+ghost use Rattle.btree.specs.Finding.{IsInside};
+ghost use Rattle.btree.specs.Nodes.{IsChangedAt, IsWhole, raised_node};
+ghost use Rattle.btree.specs.Performs.{IsAskedBelow};
 
-use super::children::node_at;
+use super::children::{node_at, node_of, summary_in};
 use super::node::{Below, Node};
+use super::summary::Summary;
 use page::{Done, Leaf};
 use record_key::{Key, Op, Refusal};
 
 impl Node {
-    /// The leaf at a place performs the operation.
-    pub fn perform(&mut self, place: usize, number: u64, op: &Op) -> Result<Done, Refusal>
-        requires there { place < length self.old.leaves }
-        requires inside { is_in_fences (get_or self.old.leaves place first) (key_of op.now) ≡ true }
-        ensures changed { IsChangedAt place self.old self.new }
-        ensures done { IfOk result (λ done.
-            Performs (get_or self.old.leaves place first) number op.now done (get_or self.new.leaves place first)) }
-        ensures repeated { captures (get_or self.old.leaves place first).ab number ≡ true → IsOk result }
-        ensures refused { OnErr result (get_or self.new.leaves place first ≡ get_or self.old.leaves place first) }
+    /// The leaf of the key performs the operation: the last one that begins at it or below, or the first leaf.
+    pub fn perform(&mut self, number: u64, op: &Op) -> Result<Done, Refusal>
+        requires whole { IsWhole self.old }
+        requires inside { IsInside self.old.leaves (key_of op.now) }
+        ensures asked { IsAskedBelow self.old number op.now result self.new }
         ensures memory { IsOkUnless result Refusal.NoMemory }
     {
         match &mut self.below {
-            Below::Leaf(leaf) => leaf.perform(number, op),
+            Below::Leaf(leaf) => {
+                let done = leaf.perform(number, op);
+                self.summary = Summary::of_leaf(leaf);
+                done
+            }
             Below::Inner(children) => {
-                let (i, rest) = node_at(children.as_slice(), place);
-                children[i].perform(rest, number, op)
+                let (i, _before) = node_of(children.as_slice(), op.key());
+                let done = children[i].perform(number, op);
+                self.summary = summary_in(children.as_slice());
+                done
             }
         }
     }
@@ -54,10 +57,14 @@ impl Node {
         ensures lower { get_or self.new.leaves place first ≡ lower_of (get_or self.old.leaves place first) key.now last }
     {
         match &mut self.below {
-            Below::Leaf(leaf) => leaf.drop_from(key, last),
+            Below::Leaf(leaf) => {
+                leaf.drop_from(key, last);
+                self.summary = Summary::of_leaf(leaf);
+            }
             Below::Inner(children) => {
                 let (i, rest) = node_at(children.as_slice(), place);
                 children[i].drop_from(rest, key, last);
+                self.summary = summary_in(children.as_slice());
             }
         }
     }
@@ -71,10 +78,14 @@ impl Node {
         ensures counted { length self.new.leaves < 2 ^ 64 }
     {
         match &mut self.below {
-            Below::Leaf(old) => *old = leaf,
+            Below::Leaf(old) => {
+                self.summary = Summary::of_leaf(&leaf);
+                *old = leaf;
+            }
             Below::Inner(children) => {
                 let (i, rest) = node_at(children.as_slice(), place);
                 children[i].put(rest, leaf);
+                self.summary = summary_in(children.as_slice());
             }
         }
     }

@@ -1,9 +1,11 @@
 //! Nodes beside one another, at one depth.
 ghost use Rattle.std.specs.Prelude.{◌≡◌, ◌+◌, ◌<◌, ◌^◌, length, take};
+ghost use Rattle.btree.specs.Choosing.{summary_of};
 ghost use Rattle.btree.specs.Nodes.{AreChildren, height_in, low_of, under};
 ghost use Rattle.btree.specs.Finding.{IsIn, IsNodeOf};
 
 use super::node::Node;
+use super::summary::Summary;
 use record_key::Key;
 
 /// How many leaves are below them.
@@ -28,6 +30,21 @@ pub fn low_in(nodes: &[Node]) -> Option<Key>
     } else {
         nodes[0].low().map(|fence| fence.copied())
     }
+}
+
+/// What decides which of the leaves below them are tended first.
+pub fn summary_in(nodes: &[Node]) -> Summary
+    requires { AreChildren (height_in nodes.now) nodes.now }
+    ensures { result ≡ summary_of (under nodes.now) }
+{
+    if nodes.is_empty() {
+        return Summary::nothing();
+    }
+    let mut all = nodes[0].summary();
+    for i in 1..nodes.len() {
+        all = all.before(nodes[i].summary());
+    }
+    all
 }
 
 /// The node in which a place among the leaves lies, and the place there.

@@ -6,7 +6,7 @@ ghost use Rattle.std.specs.Option.{option_to_list};
 ghost use Rattle.btree.specs.Nodes.{AreChildren, AreSpare, IsChild, IsWhole, under};
 
 use super::blocks::{divide, put_in, take_block};
-use super::children::{count_in, low_in, node_at};
+use super::children::{count_in, low_in, node_at, summary_in};
 use super::node::{Below, MOST, Node};
 use page::Leaf;
 use record_key::Refusal;
@@ -68,6 +68,7 @@ impl Node {
                 };
                 self.low = low_in(children.as_slice());
                 self.count = count_in(children.as_slice());
+                self.summary = summary_in(children.as_slice());
                 right
             }
         }

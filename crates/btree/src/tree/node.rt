@@ -3,9 +3,11 @@ ghost use Rattle.std.specs.Prelude.{◌≡◌, ◌<◌, ◌≤◌, ◌^◌, true
 ghost use Rattle.std.specs.Option.{option_copied};
 ghost use Rattle.std.specs.Vec.{vec_capacity};
 ghost use Rattle.record_key.specs.Order.{starts_at_most};
+ghost use Rattle.btree.specs.Choosing.{summary_of};
 ghost use Rattle.btree.specs.Nodes.{AreChildren, height_in, low_of, over_leaf, over_nodes, under};
 
-use super::children::{count_in, low_in};
+use super::children::{count_in, low_in, summary_in};
+use super::summary::Summary;
 use page::Leaf;
 use record_key::Key;
 use std::alloc::Global;
@@ -22,6 +24,8 @@ pub struct Node {
     pub(super) low: Option<Key>,
     /// How many leaves there are.
     pub(super) count: usize,
+    /// What decides which of them are tended first.
+    pub(super) summary: Summary,
     pub(super) below: Below,
 }
 
@@ -46,13 +50,13 @@ impl Model for Node {
 
     ghost view = { λ n. seen n.below };
 
-    ghost invariant = { λ n. IsNode n.low n.count n.below };
+    ghost invariant = { λ n. IsNode n.low n.count n.summary n.below };
 
     ghost size = { λ n. n.height };
 
     ghost use Rattle.btree.specs.Falls.{children_lower};
 
-    ghost size_decreases = { λ n kept. children_lower n.low n.count n.below kept };
+    ghost size_decreases = { λ n kept. children_lower n.low n.count n.summary n.below kept };
 }
 
 impl Node {
@@ -62,6 +66,7 @@ impl Node {
         Node {
             low: leaf.low_fence().map(|fence| fence.copied()),
             count: 1,
+            summary: Summary::of_leaf(&leaf),
             below: Below::Leaf(leaf),
         }
     }
@@ -77,6 +82,7 @@ impl Node {
         Node {
             low: low_in(children.as_slice()),
             count: count_in(children.as_slice()),
+            summary: summary_in(children.as_slice()),
             below: Below::Inner(children),
         }
     }
@@ -88,6 +94,7 @@ impl Node {
         Node {
             low: None,
             count: 0,
+            summary: Summary::nothing(),
             below: Below::Inner(Vec::new(alloc)),
         }
     }
@@ -103,6 +110,12 @@ impl Node {
         ensures { result ≡ length self.now.leaves }
     {
         self.count
+    }
+
+    pub fn summary(&self) -> Summary
+        ensures { result ≡ summary_of self.now.leaves }
+    {
+        self.summary
     }
 
     /// How many children it has.

@@ -7,7 +7,7 @@ ghost use Rattle.btree.specs.Below.{AreBelow};
 ghost use Rattle.btree.specs.Nodes.{AreChildren, height_in, IsChild, IsReduced, IsWhole, over_nodes, under};
 
 use super::blocks::{divide, put_in};
-use super::children::{count_in, low_in, node_at};
+use super::children::{count_in, low_in, node_at, summary_in};
 use super::node::{Below, MOST, Node};
 use std::alloc::Global;
 use std::mem::replace;
@@ -54,6 +54,7 @@ impl Node {
                 }
                 self.low = low_in(children.as_slice());
                 self.count = count_in(children.as_slice());
+                self.summary = summary_in(children.as_slice());
             }
         }
     }
@@ -77,6 +78,7 @@ impl Node {
                 let more = join_in(children, right.opened(), stays);
                 self.low = low_in(children.as_slice());
                 self.count = count_in(children.as_slice());
+                self.summary = summary_in(children.as_slice());
                 more
             }
         }

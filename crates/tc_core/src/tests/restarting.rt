@@ -77,6 +77,7 @@ fn nobody_is_connected_at_first(rt: HostRuntime) -> Result<(), Fail> {
     let mut tc = restarted(rt.alloc(), tc, 0)?;
     assert_eq!(rt; tc.records(), 4);
     assert_eq!(rt; tc.stable_end(), 4);
+    assert_eq!(rt; tc.end_of(2), 18);
     assert_eq!(rt; tc.phase(), Phase::Unconnected);
     assert_eq!(rt; tc.open_txn(2), None);
     assert_eq!(rt; begin(&mut tc), Err(Refusal::NotConnected));
@@ -166,7 +167,7 @@ fn a_lost_answer_is_logged_again(rt: HostRuntime) -> Result<(), Fail> {
     Ok(())
 }
 
-/// Transaction 2 has inserted `a`, 3 and 5 that are not its own; 3 has inserted `b`.
+/// Transactions 2 and 3 have inserted `a` and `b`, each one key, and were lost in a crash; redo is over.
 fn two_lost(alloc: Global) -> Result<Tc<MemLog>, Fail> {
     let mut tc = failing(alloc, 0);
     run(&mut tc)?;

@@ -34,15 +34,16 @@ fn lines_of_a_label(rt: HostRuntime) {
 fn lines_of_a_component(rt: HostRuntime) {
     let lines = "restart t|restart DC|restart dcs|restart |restart dc 0|crash dc|crash dc 0|\
                  crash 0 0|crash t 0 0|crash dc 0 t|crash dc t 0|crash dc 00 0|crash dc 0 0 0|\
-                 crash dc 0 |crash dc 281474976710656 0|crash dc 0 281474976710656";
+                 crash dc 0 |crash dc 281474976710656 0|crash dc 0 281474976710656|\
+                 restart TC|restart tcs|restart  tc|restart tc 0|restart tc dc|crash tc|crash tc 0|\
+                 crash tc 0 t|crash tc 01 0|crash tc 0 0 0|crash tc 281474976710656 0";
     assert_faults(&rt, lines);
 }
 
 #[test]
 fn lines_of_a_label_and_a_word(rt: HostRuntime) {
     let lines = "begin t u|rollback t t|save t 1|commit t t|undo t 1|get t|get t *|get T a|\
-                 get t a-|delete t|delete T k|delete t k-|insert t k|update t k|upsert t k |\
-                 crash tc 0 0";
+                 get t a-|delete t|delete T k|delete t k-|insert t k|update t k|upsert t k ";
     assert_faults(&rt, lines);
 }
 
@@ -91,6 +92,10 @@ fn components_in_the_grammar(rt: HostRuntime) {
     assert_lines(
         &rt,
         "restart dc\ncrash dc 0 0\ncrash dc 281474976710655 1\nbegin dc\nsettle 0",
+    );
+    assert_lines(
+        &rt,
+        "restart tc\ncrash tc 0 281474976710655\ncrash tc 1 0\nsave tc",
     );
 }
 

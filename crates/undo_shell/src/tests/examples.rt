@@ -495,3 +495,119 @@ fn restart(rt: HostRuntime) {
         records 13 stable 13\n";
     assert_run(&rt, script, text, 0);
 }
+
+#[test]
+fn lost_transaction(rt: HostRuntime) {
+    let script = "\
+        # The transaction component crashes. Who hadn't committed is lost: what it did is undone, while new clients are served.\n\
+        # Run it with: undo_shell run < examples/lost_transaction.script\n\
+        \n\
+        settle\n\
+        begin t\n\
+        insert t apple 1\n\
+        settle\n\
+        commit t\n\
+        begin u\n\
+        insert u pear 2\n\
+        settle\n\
+        insert u plum 3\n\
+        \n\
+        # crash tc N M: of the records of its log that weren't stable N stay, and M bytes of the next one. Here none does.\n\
+        crash tc 0 0\n\
+        begin x\n\
+        table\n\
+        restart tc\n\
+        \n\
+        # A new session by hand: what the log has is sent again, one operation at a time, also that of transaction 6.\n\
+        connect\n\
+        req 5\n\
+        rep 5\n\
+        recover\n\
+        req 6\n\
+        rep 6\n\
+        recover\n\
+        req 7\n\
+        rep 7\n\
+        recover\n\
+        req 8\n\
+        rep 8\n\
+        \n\
+        # From here on clients are served. Transaction 6 holds its key until all that it did is undone.\n\
+        begin w\n\
+        upsert w pear 5\n\
+        insert w fig 4\n\
+        settle\n\
+        upsert w pear 5\n\
+        settle\n\
+        commit w\n\
+        settle\n\
+        table\n\
+        log\n";
+    let text = "\
+        settled\n\
+        txn 2\n\
+        logged 3\n\
+        answer 2 inserted\n\
+        settled\n\
+        commit logged 5\n\
+        txn 6\n\
+        logged 7\n\
+        committed 2\n\
+        answer 6 inserted\n\
+        settled\n\
+        logged 9\n\
+        down\n\
+        no 9 NotConnected\n\
+        apple=1\n\
+        pear=2\n\
+        rows 2\n\
+        up 8\n\
+        request 5\n\
+        reply 5\n\
+        connected 9\n\
+        request 6\n\
+        reply 6\n\
+        nothing\n\
+        request 7\n\
+        reply 7\n\
+        nothing\n\
+        request 8\n\
+        reply 8\n\
+        redo ended 9\n\
+        txn 10\n\
+        no 2 Busy 6\n\
+        logged 11\n\
+        lost 6\n\
+        answer 10 inserted\n\
+        settled\n\
+        logged 16\n\
+        answer 10 was -\n\
+        settled\n\
+        commit logged 18\n\
+        committed 10\n\
+        settled\n\
+        apple=1\n\
+        fig=4\n\
+        pear=5\n\
+        rows 3\n\
+        1 session\n\
+        2 begin\n\
+        3 op 2 prev 0 insert apple 1\n\
+        4 answer 3 inserted\n\
+        5 commit 2\n\
+        6 begin\n\
+        7 op 6 prev 0 insert pear 2\n\
+        8 answer 7 inserted\n\
+        9 session\n\
+        10 begin\n\
+        11 op 10 prev 0 insert fig 4\n\
+        12 comp 6 undoes 7 next 0 delete pear\n\
+        13 answer 12 deleted 2\n\
+        14 end 6\n\
+        15 answer 11 inserted\n\
+        16 op 10 prev 11 upsert pear 5\n\
+        17 answer 16 was -\n\
+        18 commit 10\n\
+        records 18 stable 18\n";
+    assert_run(&rt, script, text, 0);
+}

@@ -64,7 +64,7 @@ impl Model {
     fn act(&mut self, txn: u64, op: &Op, next: u64) -> Result<Out, Refusal> {
         self.idle(txn)?;
         self.holds.take(txn, Span::Key(op.key().copied()), true)?;
-        self.lines.add(txn, op)?;
+        self.lines.add(next, txn, op)?;
         self.goes_on(txn, Doing::WaitsForAnswer);
         Ok(Out::Logged(next))
     }

@@ -82,7 +82,7 @@ impl Chooser {
 
     /// A call of a transaction with so many savepoints. Some transactions do little else than set them.
     fn call_of(&mut self, txn: u64, saves: u64) -> Result<Event, Refusal> {
-        let kinds = if txn % 4 == 0 { 60 } else { 23 };
+        let kinds = if txn % 4 == 0 { 80 } else { 23 };
         match self.below(kinds) {
             0 => Ok(Event::Rollback { txn }),
             1 | 2 => Ok(Event::Commit { txn }),
@@ -114,20 +114,31 @@ impl Chooser {
         })
     }
 
-    /// The data component crashes. Of the records of its log that aren't stable none stays, one or all.
+    /// A component crashes. Of the records of its log that aren't stable none stays, one or all.
     fn crash(&mut self) -> Event {
-        Event::CrashDc {
-            frames: match self.below(3) {
-                0 => 0,
-                1 => 1,
-                _ => u64::MAX,
-            },
-            bytes: self.below(40),
+        let frames = match self.below(3) {
+            0 => 0,
+            1 => 1,
+            _ => u64::MAX,
+        };
+        let bytes = self.below(40);
+        if self.below(2) == 0 {
+            Event::CrashTc { frames, bytes }
+        } else {
+            Event::CrashDc { frames, bytes }
         }
+    }
+
+    /// Whether those whom a crash found open are to be undone further.
+    fn undoes(&mut self, model: &Model) -> bool {
+        !model.losers.is_empty() && !is_amid(&self.last) && self.below(10) == 0
     }
 
     /// What would go on from the last event.
     pub fn useful(&mut self, model: &Model, world: &World) -> Result<Event, Refusal> {
+        if self.undoes(model) {
+            return Ok(Event::Recover);
+        }
         let txn = self.txn;
         Ok(match &self.last {
             Out::Logged(_) | Out::Compensated(_) => Event::Force,
@@ -138,8 +149,7 @@ impl Chooser {
             Out::Refused(Refusal::RollingBack) => Event::Undo { txn },
             Out::Connects { request, .. } => Event::Request { number: *request },
             Out::Connected(_) | Out::Refused(Refusal::Redoing) => Event::Recover,
-            Out::Refused(Refusal::NotConnected) if is_down(world) => Event::RestartDc,
-            Out::Refused(Refusal::NotConnected) | Out::Up(_) => Event::Reconnect,
+            Out::Refused(Refusal::NotConnected) | Out::Up(_) => connecting(world),
             Out::Refused(Refusal::Unanswered) => Event::Force,
             _ => self.call(model)?,
         })
@@ -159,16 +169,17 @@ impl Chooser {
             160..=169 => Event::Send { txn },
             170..=175 => Event::Undo { txn },
             176..=179 => Event::LowWater {
-                low: self.earlier(world.stable_end()),
+                low: self.earlier(world.stable_end().unwrap_or(0)),
             },
             180..=183 => Event::Recover,
             184 | 185 => Event::Reconnect,
             186 => Event::Begin,
             187 => Event::Send { txn: txn / 2 },
             188..=207 => self.tree()?,
-            208 | 209 => self.crash(),
-            210 | 211 => Event::RestartDc,
-            212 | 213 => Event::Checkpoint,
+            208..=210 => self.crash(),
+            211 => Event::RestartDc,
+            212 => Event::RestartTc,
+            213..=218 => Event::Checkpoint,
             _ => self.call(model)?,
         })
     }
@@ -179,7 +190,31 @@ impl Chooser {
     }
 }
 
+/// What leads to a session: components that are down are restarted first.
+fn connecting(world: &World) -> Event {
+    if is_dc_down(world) {
+        Event::RestartDc
+    } else if is_tc_down(world) {
+        Event::RestartTc
+    } else {
+        Event::Reconnect
+    }
+}
+
+/// A message was sent and not taken yet, or is to be sent once the log is stable.
+fn is_amid(last: &Out) -> bool {
+    matches!(
+        last,
+        Out::Sent(_) | Out::Replied(_) | Out::Connects { .. } | Out::Compensated(_)
+    )
+}
+
 /// The data component doesn't run.
-pub fn is_down(world: &World) -> bool {
+pub fn is_dc_down(world: &World) -> bool {
     world.leaves().is_err()
+}
+
+/// The transaction component doesn't run.
+pub fn is_tc_down(world: &World) -> bool {
+    world.records().is_err()
 }

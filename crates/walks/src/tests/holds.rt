@@ -1,7 +1,7 @@
 //! What transactions hold.
 use super::span::Span;
 use record_key::Refusal;
-use std::alloc::Global;
+use std::alloc::{AllocError, Global};
 
 /// A span that a transaction holds, alone or with others.
 #[derive(Drop)]
@@ -36,8 +36,19 @@ impl Holds {
         if let Some(holder) = self.least_bar(txn, &span, alone) {
             return Err(Refusal::Busy(holder));
         }
+        self.add(txn, span, alone)?;
+        Ok(())
+    }
+
+    /// The transaction holds the span, which nobody bars.
+    pub fn add(&mut self, txn: u64, span: Span, alone: bool) -> Result<(), AllocError> {
         self.holds.push(Hold { txn, span, alone })?;
         Ok(())
+    }
+
+    /// Nobody holds anything any more.
+    pub fn clear(&mut self) {
+        self.holds.clear();
     }
 
     fn least_bar(&self, txn: u64, span: &Span, alone: bool) -> Option<u64> {

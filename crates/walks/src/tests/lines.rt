@@ -5,6 +5,8 @@ use std::alloc::{AllocError, Global};
 
 #[derive(Drop)]
 struct Line {
+    /// That of the record.
+    number: u64,
     txn: u64,
     op: Op,
     answered: bool,
@@ -29,15 +31,21 @@ impl Lines {
         self.lines.len()
     }
 
-    /// The transaction's operation was logged.
-    pub fn add(&mut self, txn: u64, op: &Op) -> Result<(), AllocError> {
+    /// The transaction's operation was logged under this number.
+    pub fn add(&mut self, number: u64, txn: u64, op: &Op) -> Result<(), AllocError> {
         self.lines.push(Line {
+            number,
             txn,
             op: op.copied(),
             answered: false,
             crossed: false,
         })?;
         Ok(())
+    }
+
+    /// The operations above this number were never logged.
+    pub fn forget(&mut self, above: u64) {
+        self.lines.retain(|line| line.number <= above);
     }
 
     /// The transaction's operations from this place on are crossed out.

@@ -1,5 +1,6 @@
 //! The plain slow model of a node's clients: what each call answers and what each client is told. It has one list of
-//! operations with the undone ones crossed out, and neither messages nor anything to undo.
+//! operations with the undone ones crossed out, and neither messages nor anything to undo. Of a crash of the transaction
+//! component it knows what the log that was kept says.
 use super::holds::Holds;
 use super::lines::Lines;
 use super::open::{Doing, Open};
@@ -21,6 +22,10 @@ pub struct Model {
     pub open: Vec<Open>,
     /// Those that have committed and aren't told so yet, the earliest first.
     pub committing: Vec<u64>,
+    /// Those that were told that they have committed.
+    pub committed: Vec<u64>,
+    /// Those whom a crash found open and who aren't told so yet, the earliest first.
+    pub losers: Vec<u64>,
     pub lines: Lines,
     pub holds: Holds,
     /// How many reads were asked for.
@@ -33,6 +38,8 @@ impl Model {
             service: Service::NotConnected,
             open: Vec::new(alloc),
             committing: Vec::new(alloc),
+            committed: Vec::new(alloc),
+            losers: Vec::new(alloc),
             lines: Lines::new(alloc),
             holds: Holds::new(alloc),
             reads: 0,
@@ -101,14 +108,14 @@ impl Model {
         }
     }
 
-    /// No client waits for anything.
+    /// No client waits for anything, and each that was lost is told so.
     pub fn is_at_rest(&self) -> bool {
         for open in &self.open {
             if open.is_idle().is_err() {
                 return false;
             }
         }
-        self.committing.is_empty()
+        self.committing.is_empty() && self.losers.is_empty()
     }
 
     /// The table of the operations that stand.

@@ -18,22 +18,23 @@ impl Model {
             Out::Rows { txn, .. } => Some(self.rows(alloc, *txn)?),
             Out::Back { txn, .. } => Some(self.back(*txn)),
             Out::RolledBack(txn) => Some(self.rolled_back(*txn)),
-            _ => self.turned(alloc, out),
+            Out::Lost(txn) => Some(self.lost(*txn)),
+            _ => self.turned(alloc, out)?,
         })
     }
 
     /// A force, or what becomes of a session.
-    fn turned(&mut self, alloc: Global, out: &Out) -> Option<Out> {
-        match out {
+    fn turned(&mut self, alloc: Global, out: &Out) -> Result<Option<Out>, AllocError> {
+        Ok(match out {
             Out::Stable { end, .. } => Some(Out::Stable {
                 end: *end,
-                committed: self.committed(alloc),
+                committed: self.tell_committed(alloc)?,
             }),
             Out::Connects { request, .. } => {
                 self.service = Service::Redoing;
                 Some(Out::Connects {
                     request: *request,
-                    committed: self.committed(alloc),
+                    committed: self.tell_committed(alloc)?,
                 })
             }
             Out::RedoEnded(_) => {
@@ -41,16 +42,17 @@ impl Model {
                 None
             }
             _ => None,
-        }
+        })
     }
 
     /// Who has committed is told, and holds nothing any more.
-    fn committed(&mut self, alloc: Global) -> Committed {
+    fn tell_committed(&mut self, alloc: Global) -> Result<Committed, AllocError> {
         let txns = mem::replace(&mut self.committing, Vec::new(alloc));
         for txn in &txns {
             self.holds.release(*txn);
+            self.committed.push(*txn)?;
         }
-        Committed::new(txns)
+        Ok(Committed::new(txns))
     }
 
     fn answered(&mut self, alloc: Global, txn: u64) -> Result<Out, AllocError> {
@@ -131,6 +133,16 @@ impl Model {
         self.close(txn);
         self.holds.release(txn);
         Out::RolledBack(txn)
+    }
+
+    /// What a crash found open is undone.
+    fn lost(&mut self, txn: u64) -> Out {
+        if !self.losers.contains(&txn) {
+            return Out::Nothing;
+        }
+        self.losers.retain(|loser| *loser != txn);
+        self.holds.release(txn);
+        Out::Lost(txn)
     }
 
     fn rolls_back(&self, txn: u64) -> bool {

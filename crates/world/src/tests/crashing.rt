@@ -21,7 +21,7 @@ fn a_component_that_is_down(rt: HostRuntime) -> Result<(), Fail> {
     ];
     assert_outs(&rt, &mut world, steps);
     assert_eq!(rt; leaves(&world), Err(Refusal::NotConnected));
-    assert_eq!(rt; next_round(&world), Some(Round::Restart));
+    assert_eq!(rt; next_round(&world), Some(Round::RestartDc));
     Ok(())
 }
 

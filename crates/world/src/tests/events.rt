@@ -66,8 +66,8 @@ fn a_transaction_is_rolled_back(rt: HostRuntime) -> Result<(), Fail> {
     ];
     assert_outs(&rt, &mut world, steps);
     assert_eq!(rt; rows_in(&world), 0);
-    assert_eq!(rt; world.record(7), Some(Record::End { txn: 2 }));
-    assert_eq!(rt; world.record(8), None);
+    assert_eq!(rt; world.record(7), Ok(Some(Record::End { txn: 2 })));
+    assert_eq!(rt; world.record(8), Ok(None));
     Ok(())
 }
 

@@ -1,17 +1,13 @@
-use Rattle.std.proofs.Common.{◌++◌, ap, sym, ◌∙◌}
-use Rattle.undo_shell.proofs.Printing.{stops_first, prints_both}
-use Rattle.undo_shell.specs.Logged.{lines_to, log_end}
-use Rattle.undo_shell.specs.View.{log_of, stable_of}
+use Rattle.std.proofs.Common.{Bool, sym, subst}
+use Rattle.record_key.specs.declared.refusal.Refusal.{Refusal}
+use Rattle.undo_shell.specs.Printed.{Prints, refusal_line}
+use Rattle.undo_shell.specs.View.{log_of, log_if_up, stable_of}
 use Rattle.undo_shell.proofs.shown.print_log.Goals as goal
 
-pub returns-in_err-print_records : goal.returns-in_err-print_records
-returns-in_err-print_records g c =
-    let log = log_of c.args.world.now in
-    stops_first _ _ _ (log_end c.records-count.result (stable_of c.args.world.now)) _ c.from_residual.result c.from_residual.ensures.0 c.in_err-print_records.ensures
-    (ap (λ n. lines_to log n ++ log_end n (stable_of c.args.world.now)) (sym c.records-count.ensures))
-
-pub returns : goal.returns
-returns g c =
-    let log = log_of c.args.world.now in
-    prints_both _ _ _ _ _ _ c.print.result c.in_ok-print_records.ensures c.print.ensures
-    (ap (λ n. lines_to log n ++ log_end n (stable_of c.args.world.now)) (sym c.records-count.ensures) ∙ ap (λ s. lines_to log c.records-count.result ++ log_end c.records-count.result s) (sym c.stable_end.ensures))
+pub returns-in-Err : goal.returns-in-Err
+returns-in-Err g c =
+    let old = g.W.Write.contents c.args.writer.now in
+    let new = g.W.Write.contents c.print_refusal.new.writer in
+    let P : Bool → Type 0 = λ up. Prints old new c.print_refusal.result (log_if_up up (log_of c.args.world.now) (stable_of c.args.world.now)) in
+    let Q : Refusal → Type 0 = λ r. Prints old new c.print_refusal.result (refusal_line r) in
+    subst P (sym c.in-Err.ensures.down) (subst Q c.in-Err.ensures.refused c.print_refusal.ensures)

@@ -37,6 +37,6 @@ longer c =
 pub invariant_of-self-in-Performed : goal.invariant_of-self-in-Performed
 invariant_of-self-in-Performed c = spelled_longer _ _ _ (noted c) c.self.invariant _ _ _ (longer c)
 
-pub returns-clause-noted : goal.returns-clause-noted
-returns-clause-noted c = listed_longer _ _ _ (noted c) c.self.invariant _ _ _ (longer c)
+pub returns-in-Performed-clause-noted : goal.returns-in-Performed-clause-noted
+returns-in-Performed-clause-noted c = listed_longer _ _ _ (noted c) c.self.invariant _ _ _ (longer c)
     ∙ ap (λ (performed : List Performance). noted c ∷ performed) c.self.view_is

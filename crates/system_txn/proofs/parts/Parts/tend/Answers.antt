@@ -1,5 +1,5 @@
 use Rattle.std.proofs.Common.{◌∙◌, sym}
-use Rattle.system_txn.proofs.Places.{first_large_may, first_pair_may}
+use Rattle.btree.proofs.Firsts.{first_large_may, first_pair_may}
 use Rattle.system_txn.proofs.parts.Parts.tend.Goals as goal
 
 pub split_at-requires-clause-may : goal.split_at-requires-clause-may

@@ -6,7 +6,7 @@ use Rattle.world.proofs.Spellable.{numbers_spelled, reply_ordered}
 use Rattle.world.proofs.ByNumber.{all_at}
 use Rattle.world.proofs.MayAsk.{may_ask}
 use Rattle.world.specs.Kept.{IsSent}
-use Rattle.world.specs.Seen.{seen, component_of}
+use Rattle.world.specs.Seen.{seen, dc_of}
 use Rattle.world.specs.declared.data_component.DataComponent.{DataComponent}
 use Rattle.world.proofs.node.Node.request.Goals as goal
 
@@ -17,7 +17,7 @@ pub serve-requires-clause-key : goal.serve-requires-clause-key
 serve-requires-clause-key c =
     let w = seen c.args.self.now in
     let q = c.in_ok-request.request in
-    let Asks : DataComponent → Type 0 = λ component. MayAsk (component_of component).dc q in
+    let Asks : DataComponent → Type 0 = λ component. MayAsk (dc_of component).dc q in
     subst Asks c.in-Up.is (may_ask w q c.requires (all_at (IsSent w.tc w.dc) w.requests c.args.number q c.requires.sent c.in_ok-request.ensures.found))
 
 pub push-requires : goal.push-requires

@@ -1,6 +1,6 @@
 use Rattle.world.specs.Seen.{seen}
-use Rattle.world.proofs.Settled.{settled_rows}
+use Rattle.world.proofs.Promised.{promised}
 use Rattle.world.proofs.world.World.kept.Goals as goal
 
-pub returns-clause-rows : goal.returns-clause-rows
-returns-clause-rows c = rw (← c.self.view_is) (λ m. settled_rows (seen c.self.inside.node) m c.self.invariant)
+pub returns-clause-promised : goal.returns-clause-promised
+returns-clause-promised c = rw (← c.self.view_is) (promised (seen c.self.inside.node) c.self.invariant)

@@ -1,52 +1,95 @@
-use Rattle.std.proofs.Common.{◌≡◌, ◌∙◌, Bool, true, false, sym, ap, ◌<◌, ◌≤◌, length, arith, inl, inr, true≢false, Some, None}
+use Rattle.std.proofs.Common.{◌≡◌, ◌∙◌, ℕ, Bool, true, false, sym, ap, subst, ◌<◌, ◌≤◌, length, arith, inl, inr, true≢false, Some, None}
 use Rattle.std.specs.Prelude.{◌↔◌, IsTrue}
 use Rattle.tc_core.specs.declared.open_txns.Wanted.TheVariants.{Unanswered, Rolling}
+use Rattle.tc_core.specs.declared.phase.Phase.{Phase}
+use Rattle.tc_core.specs.declared.phase.Phase.TheVariants as phase
 use Rattle.tc_core.specs.OpenTxns.{oldest, wants}
-use Rattle.world.specs.Node.{NodeView}
-use Rattle.world.specs.Rounds.{IsApart}
-use Rattle.world.specs.Seen.{seen, component_of}
+use Rattle.tc_core.specs.TcView.{TcView}
 use Rattle.dc_core.specs.DcView.{DcView}
+use Rattle.world.specs.Node.{NodeView, AreUp}
+use Rattle.world.specs.Rounds.{AreApart, IsApart, IsServing, IsNext, round_for}
+use Rattle.world.specs.Seen.{seen, tc_of, dc_of}
+use Rattle.world.specs.declared.node.Node.{Node}
+use Rattle.world.specs.declared.transaction_component.TransactionComponent.{TransactionComponent}
+use Rattle.world.specs.declared.transaction_component.TransactionComponent.TheVariants as tc_is
 use Rattle.world.specs.declared.data_component.DataComponent.{DataComponent}
-use Rattle.world.specs.declared.data_component.DataComponent.TheVariants.{Up}
+use Rattle.world.specs.declared.data_component.DataComponent.TheVariants as dc_is
 use Rattle.world.proofs.Settled.{at_rest, serving}
 use Rattle.world.proofs.Rounds.{next_for, idle_all, rolling_first, unrolled_all}
 use Rattle.world.proofs.world.World.next_round.Goals as goal
 
-together : (w : NodeView) (r : Bool) → (IsTrue r ↔ IsApart w) → r ≡ false → IsApart w → ⊥
-together w r test isnt apart = true≢false (sym (test.1 apart) ∙ isnt)
+-- the components run, and are these
+record AreThese (w : NodeView) (tc : TcView) (dc : DcView) : Type 0 where
+  up : AreUp w
+  tc_same : w.tc ≡ tc
+  dc_same : w.dc ≡ dc
 
-runs : (component : DataComponent) (dc : DcView) → component ≡ Up dc → (component_of component).up ≡ true
-runs component dc is = ap (λ (d : DataComponent). (component_of d).up) is
+these : (n : Node) (tc : TcView) (dc : DcView) → n.tc ≡ tc_is.Up tc → n.dc ≡ dc_is.Up dc → AreThese (seen n) tc dc
+these n tc dc one two = record {
+  up = record {
+    tc = ap (λ (x : TransactionComponent). (tc_of x).up) one;
+    dc = ap (λ (x : DataComponent). (dc_of x).up) two;
+  };
+  tc_same = ap (λ (x : TransactionComponent). (tc_of x).tc) one;
+  dc_same = ap (λ (x : DataComponent). (dc_of x).dc) two;
+}
+
+serves : (w : NodeView) (tc : TcView) (dc : DcView) (apart : Bool) (p : Phase) → AreThese w tc dc
+    → (IsTrue apart ↔ AreApart tc dc) → apart ≡ false → p ≡ tc.phase → p ≡ phase.Running → IsServing w
+serves w tc dc apart p t test isnt at running =
+    serving w t.up together (ap (λ (x : TcView). x.phase) t.tc_same ∙ sym at ∙ running)
+  where
+    together : IsApart w → ⊥
+    together is =
+        let P : TcView → Type 0 = λ x. AreApart x w.dc in
+        true≢false (sym (test.1 (subst (AreApart tc) t.dc_same (subst P t.tc_same is))) ∙ isnt)
 
 pub returns-in-Some : goal.returns-in-Some
 returns-in-Some c =
     let w : NodeView = seen c.self.inside.node in
-    let serves = serving w (runs c.self.inside.node.dc c.in-Up.field-0 c.in-Up.is) (together w c.is_apart.result (rw (← c.self.view_is) at c.is_apart.ensures) c.if-is_apart.false) (sym c.phase.ensures ∙ c.in-Running.is) in
-    let at : oldest (wants Unanswered) w.tc.open_txns ≡ Some c.in-Some.open = sym c.first_unanswered.ensures ∙ c.in-Some.is in
-    rw (← c.self.view_is, c.answer_round.ensures, c.stable_end-stable.ensures) (next_for w c.in-Some.open serves c.self.invariant.tc at)
+    let t = these c.self.inside.node c.in-Up-tc.tc c.in-Up.dc c.in-Up-tc.is c.in-Up.is in
+    let serving_now = serves w c.in-Up-tc.tc c.in-Up.dc c.is_apart.result c.phase.result t c.is_apart.ensures c.if-is_apart.false c.phase.ensures c.in-Running.is in
+    let o = c.in-Some.open in
+    let at : oldest (wants Unanswered) w.tc.open_txns ≡ Some o =
+    ap (λ (x : TcView). oldest (wants Unanswered) x.open_txns) t.tc_same ∙ sym c.first_unanswered.ensures ∙ c.in-Some.is in
+    let stable : w.tc.stable ≡ c.stable_end-stable.result =
+    ap (λ (x : TcView). x.stable) t.tc_same ∙ sym c.stable_end-stable.ensures in
+    let P : ℕ → Type 0 = λ n. IsNext w (round_for o.txn n o.waiting) in
+    rw (← c.self.view_is, c.answer_round.ensures) (subst P stable (next_for w o serving_now c.self.invariant.tc at))
 
 pub returns-in-Some-first_rolling : goal.returns-in-Some-first_rolling
 returns-in-Some-first_rolling c =
     let w : NodeView = seen c.self.inside.node in
-    let serves = serving w (runs c.self.inside.node.dc c.in-Up.field-0 c.in-Up.is) (together w c.is_apart.result (rw (← c.self.view_is) at c.is_apart.ensures) c.if-is_apart.false) (sym c.phase.ensures ∙ c.in-Running.is) in
-    let none : oldest (wants Unanswered) w.tc.open_txns ≡ None = sym c.first_unanswered.ensures ∙ c.in_default-first_unanswered.is in
-    let at : oldest (wants Rolling) w.tc.open_txns ≡ Some c.in-Some-first_rolling.open = sym c.first_rolling.ensures ∙ c.in-Some-first_rolling.is in
-    rw (← c.self.view_is) (serves, rolling_first w.tc c.in-Some-first_rolling.open c.self.invariant.tc none at)
+    let t = these c.self.inside.node c.in-Up-tc.tc c.in-Up.dc c.in-Up-tc.is c.in-Up.is in
+    let serving_now = serves w c.in-Up-tc.tc c.in-Up.dc c.is_apart.result c.phase.result t c.is_apart.ensures c.if-is_apart.false c.phase.ensures c.in-Running.is in
+    let none : oldest (wants Unanswered) w.tc.open_txns ≡ None =
+    ap (λ (x : TcView). oldest (wants Unanswered) x.open_txns) t.tc_same ∙ sym c.first_unanswered.ensures ∙ c.in_default-first_unanswered.is in
+    let at : oldest (wants Rolling) w.tc.open_txns ≡ Some c.in-Some-first_rolling.open =
+    ap (λ (x : TcView). oldest (wants Rolling) x.open_txns) t.tc_same ∙ sym c.first_rolling.ensures ∙ c.in-Some-first_rolling.is in
+    rw (← c.self.view_is) (serving_now, rolling_first w.tc c.in-Some-first_rolling.open c.self.invariant.tc none at)
 
 pub returns-then-stable-records : goal.returns-then-stable-records
 returns-then-stable-records c =
     let w : NodeView = seen c.self.inside.node in
-    let serves = serving w (runs c.self.inside.node.dc c.in-Up.field-0 c.in-Up.is) (together w c.is_apart.result (rw (← c.self.view_is) at c.is_apart.ensures) c.if-is_apart.false) (sym c.phase.ensures ∙ c.in-Running.is) in
-    let none : oldest (wants Unanswered) w.tc.open_txns ≡ None = sym c.first_unanswered.ensures ∙ c.in_default-first_unanswered.is in
-    let flat : oldest (wants Rolling) w.tc.open_txns ≡ None = sym c.first_rolling.ensures ∙ c.in_default-first_rolling.is in
-    let less : w.tc.stable < length w.tc.log = omega (arith, c.records.ensures, c.stable_end-stable.ensures, c.if-stable-records.true) in
-    rw (← c.self.view_is) (inl (serves, inr (unrolled_all w.tc flat, idle_all w.tc none, less)))
+    let t = these c.self.inside.node c.in-Up-tc.tc c.in-Up.dc c.in-Up-tc.is c.in-Up.is in
+    let serving_now = serves w c.in-Up-tc.tc c.in-Up.dc c.is_apart.result c.phase.result t c.is_apart.ensures c.if-is_apart.false c.phase.ensures c.in-Running.is in
+    let none : oldest (wants Unanswered) w.tc.open_txns ≡ None =
+    ap (λ (x : TcView). oldest (wants Unanswered) x.open_txns) t.tc_same ∙ sym c.first_unanswered.ensures ∙ c.in_default-first_unanswered.is in
+    let flat : oldest (wants Rolling) w.tc.open_txns ≡ None =
+    ap (λ (x : TcView). oldest (wants Rolling) x.open_txns) t.tc_same ∙ sym c.first_rolling.ensures ∙ c.in_default-first_rolling.is in
+    let less : w.tc.stable < length w.tc.log =
+    omega (arith, ap (λ (x : TcView). length x.log) t.tc_same, ap (λ (x : TcView). x.stable) t.tc_same, c.records.ensures, c.stable_end-stable.ensures, c.if-stable-records.true) in
+    rw (← c.self.view_is) (inl (serving_now, inr (unrolled_all w.tc flat, idle_all w.tc none, less)))
 
 pub returns : goal.returns
 returns c =
     let w : NodeView = seen c.self.inside.node in
-    let serves = serving w (runs c.self.inside.node.dc c.in-Up.field-0 c.in-Up.is) (together w c.is_apart.result (rw (← c.self.view_is) at c.is_apart.ensures) c.if-is_apart.false) (sym c.phase.ensures ∙ c.in-Running.is) in
-    let none : oldest (wants Unanswered) w.tc.open_txns ≡ None = sym c.first_unanswered.ensures ∙ c.in_default-first_unanswered.is in
-    let flat : oldest (wants Rolling) w.tc.open_txns ≡ None = sym c.first_rolling.ensures ∙ c.in_default-first_rolling.is in
-    let most : length w.tc.log ≤ w.tc.stable = omega (arith, c.records.ensures, c.stable_end-stable.ensures, c.if-stable-records.false) in
-    rw (← c.self.view_is) (at_rest w c.self.invariant serves.running serves.dc_up serves.session (unrolled_all w.tc flat) (idle_all w.tc none) most)
+    let t = these c.self.inside.node c.in-Up-tc.tc c.in-Up.dc c.in-Up-tc.is c.in-Up.is in
+    let serving_now = serves w c.in-Up-tc.tc c.in-Up.dc c.is_apart.result c.phase.result t c.is_apart.ensures c.if-is_apart.false c.phase.ensures c.in-Running.is in
+    let none : oldest (wants Unanswered) w.tc.open_txns ≡ None =
+    ap (λ (x : TcView). oldest (wants Unanswered) x.open_txns) t.tc_same ∙ sym c.first_unanswered.ensures ∙ c.in_default-first_unanswered.is in
+    let flat : oldest (wants Rolling) w.tc.open_txns ≡ None =
+    ap (λ (x : TcView). oldest (wants Rolling) x.open_txns) t.tc_same ∙ sym c.first_rolling.ensures ∙ c.in_default-first_rolling.is in
+    let most : length w.tc.log ≤ w.tc.stable =
+    omega (arith, ap (λ (x : TcView). length x.log) t.tc_same, ap (λ (x : TcView). x.stable) t.tc_same, c.records.ensures, c.stable_end-stable.ensures, c.if-stable-records.false) in
+    rw (← c.self.view_is) (at_rest w c.self.invariant serving_now.running serving_now.up serving_now.session (unrolled_all w.tc flat) (idle_all w.tc none) most)

@@ -6,5 +6,5 @@ use Rattle.world.proofs.world.World.rows.Goals as goal
 
 pub returns-clause-rows : goal.returns-clause-rows
 returns-clause-rows c =
-    c.in_ok-rows.ensures.rows ∙ ap (λ (dc : DcView). all_rows (leaves dc)) c.in_ok-running.ensures.dc
+    c.in_ok-rows.ensures.rows ∙ ap (λ (dc : DcView). all_rows (leaves dc)) c.in_ok-running_dc.ensures.dc
     ∙ sym (one_table (leaves c.args.self.now.dc) c.kept.ensures.kept.dc.system.leaves).listed

@@ -14,9 +14,9 @@ use Rattle.btree.proofs.tree.node.Node.+insert.Goals.{in-None, in-Some}
 pub insert-requires : goal.insert-requires
 insert-requires t c =
     let xs = c.in-Inner.children.items in
-    let kept = subst (IsNode c.self.inside.low c.self.inside.count) c.in-Inner.is c.self.invariant in
+    let kept = subst (IsNode c.self.inside.low c.self.inside.count c.self.inside.summary) c.in-Inner.is c.self.invariant in
     let at : IsIn xs c.args.place c.node_at-i.result.0 c.node_at-i.result.1 = rw c.as_slice.ensures.value at c.node_at-i.ensures in
-    let down = goes_down c.args.self.now c.index_mut.result.now c.args.place _ _ _ _ c.in-Inner.children (ap seen (sym c.in-Inner.is) ∙ c.self.view_is) kept at c.index_mut.ensures.value in
+    let down = goes_down c.args.self.now c.index_mut.result.now c.args.place _ _ _ _ _ c.in-Inner.children (ap seen (sym c.in-Inner.is) ∙ c.self.view_is) kept at c.index_mut.ensures.value in
     let lower = down.lower in
     let within = down.within in
     let whole = down.whole in
@@ -58,4 +58,4 @@ count_in-self-inside-requires t c =
     (omega (arith, all, one, c.requires.counted, length-append (under c.match-insert.children.items) (under (option_to_list c.match-insert.right))))
 
 pub returns-after-insert-clause-leaves : goal.returns-after-insert-clause-leaves
-returns-after-insert-clause-leaves t c = leaves t c.before.before
+returns-after-insert-clause-leaves t c = leaves t c.before.before.before.before

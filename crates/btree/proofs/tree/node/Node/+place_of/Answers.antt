@@ -9,7 +9,7 @@ use Rattle.btree.proofs.tree.node.Node.+place_of.Goals as goal
 
 few : (t : ℕ) (c : goal.After-as_slice t) → length (under c.in-Inner.children.items) < 2 ^ 64
 few t c =
-    let kept = subst (IsNode c.self.inside.low c.self.inside.count) c.in-Inner.is c.self.invariant in
+    let kept = subst (IsNode c.self.inside.low c.self.inside.count c.self.inside.summary) c.in-Inner.is c.self.invariant in
     subst (λ (n : ℕ). n < 2 ^ 64) kept.counted kept.fits
 
 pub node_of-i-requires-clause-counted : goal.node_of-i-requires-clause-counted
@@ -19,8 +19,8 @@ module _ (t : ℕ) (c : goal.After-place_of t) where
   abbrev ns : Rattle.std.proofs.Common.List NodeView
   ns = c.in-Inner.children.items
 
-  kept : IsNode c.self.inside.low c.self.inside.count (Inner c.in-Inner.children)
-  kept = subst (IsNode c.self.inside.low c.self.inside.count) c.in-Inner.is c.self.invariant
+  kept : IsNode c.self.inside.low c.self.inside.count c.self.inside.summary (Inner c.in-Inner.children)
+  kept = subst (IsNode c.self.inside.low c.self.inside.count c.self.inside.summary) c.in-Inner.is c.self.invariant
 
   node : IsNodeOf ns c.args.key.now c.node_of-i.result.0
   node = rw c.as_slice.ensures.value at c.node_of-i.ensures.node

@@ -14,7 +14,7 @@ use Rattle.btree.proofs.tree.node.Node.+remove.Goals.{then-not-is_leaf, else-not
 pub put_reduced-requires-clause-counted : goal.put_reduced-requires-clause-counted
 put_reduced-requires-clause-counted t c =
     let xs = c.in-Inner.children.items in
-    let kept = subst (IsNode c.self.inside.low c.self.inside.count) c.in-Inner.is c.self.invariant in
+    let kept = subst (IsNode c.self.inside.low c.self.inside.count c.self.inside.summary) c.in-Inner.is c.self.invariant in
     let at : IsIn xs c.args.place c.node_at-i.result.0 c.node_at-i.result.1 = rw c.as_slice.ensures.value at c.node_at-i.ensures in
     let left = count_reduced xs c.args.place c.node_at-i.result.0 c.node_at-i.result.1 at c.remove-child.result c.remove-child.ensures.value c.remove.new.self c.remove.ensures.leaves in
     rw c.remove-child.ensures.items (omega (arith, left, kept.counted, kept.fits))
@@ -25,7 +25,7 @@ are_reduced t c =
     let h = height_in xs in
     let i = c.node_at-i.result.0 in
     let rest = c.node_at-i.result.1 in
-    let kept = subst (IsNode c.self.inside.low c.self.inside.count) c.in-Inner.is c.self.invariant in
+    let kept = subst (IsNode c.self.inside.low c.self.inside.count c.self.inside.summary) c.in-Inner.is c.self.invariant in
     let at : IsIn xs c.args.place i rest = rw c.as_slice.ensures.value at c.node_at-i.ensures in
     let many : 2 ≤ length xs = subst (λ (n : NodeView). 2 ≤ n.kids) (sym (ap seen (sym c.in-Inner.is) ∙ c.self.view_is)) (c.requires.whole.two c.requires.inner) in
     let child : IsChild h c.remove-child.result = subst (IsChild h) (sym c.remove-child.ensures.value) (all_get (IsChild h) xs i c.remove-child.result at.there kept.under_it.children) in
@@ -52,7 +52,7 @@ are_reduced t c =
 pub count_in-self-inside-requires : goal.count_in-self-inside-requires
 count_in-self-inside-requires t c =
     let xs = c.in-Inner.children.items in
-    let kept = subst (IsNode c.self.inside.low c.self.inside.count) c.in-Inner.is c.self.invariant in
+    let kept = subst (IsNode c.self.inside.low c.self.inside.count c.self.inside.summary) c.in-Inner.is c.self.invariant in
     let at : IsIn xs c.args.place c.node_at-i.result.0 c.node_at-i.result.1 = rw c.as_slice.ensures.value at c.node_at-i.ensures in
     let fewer = count_fewer xs c.args.place c.if-not-is_leaf.children.items (are_reduced t c) (place_there xs c.args.place c.node_at-i.result.0 c.node_at-i.result.1 at) in
     rw c.as_slice-in-Inner-2.ensures.value (omega (arith, fewer, kept.counted, kept.fits))
@@ -60,10 +60,10 @@ count_in-self-inside-requires t c =
 pub returns-clause-leaves : goal.returns-clause-leaves
 returns-clause-leaves t c =
     let same = ap seen (sym c.in-Inner.is) ∙ c.self.view_is in
-    (are_reduced t c.before.before.before).leaves ∙ ap (λ (n : NodeView). remove n.leaves c.args.place) same
+    (are_reduced t c.before.before.before.before.before).leaves ∙ ap (λ (n : NodeView). remove n.leaves c.args.place) same
 
 pub returns-clause-reduced : goal.returns-clause-reduced
 returns-clause-reduced t c =
     let same = ap seen (sym c.in-Inner.is) ∙ c.self.view_is in
     subst (λ (n : NodeView). IsReduced n.height (over_nodes c.if-not-is_leaf.children.items)) same
-    (reduced_over c.in-Inner.children.items c.args.place c.if-not-is_leaf.children.items (are_reduced t c.before.before.before))
+    (reduced_over c.in-Inner.children.items c.args.place c.if-not-is_leaf.children.items (are_reduced t c.before.before.before.before.before))

@@ -1,0 +1,36 @@
+-- What a crash leaves of a log, and what is opened from it.
+use Rattle.std.specs.Prelude.{◌≡◌, ◌⊎◌, ℕ, ◌<◌, ◌≤◌, ◌^◌, List, ◌++◌, length}
+use Rattle.record_key.specs.declared.refusal.Refusal.{Refusal}
+use Rattle.record_key.specs.declared.refusal.Refusal.TheVariants.{NoMemory, Device}
+use Rattle.stable.specs.Crash.{BeginsWith, MayLeave}
+use Rattle.history.specs.declared.record.Record.{Record}
+use Rattle.history.specs.Legal.{IsLegal}
+use Rattle.logical_log.specs.Low.{stable_part}
+use Rattle.logical_log.specs.Opening.{IsLogOf, RefusesOpen}
+use Rattle.logical_log.specs.Spelled.{spelled, AreRecords}
+
+-- what a crash left are the frames of the first records, so many, and perhaps a part of one; with all that are stable,
+-- and with each one more whose frame there is room for
+pub record IsLeftOf (log : List Record) (stable : ℕ) (left : List ℕ) : Type 0 where
+  pub kept : ℕ
+  pub stable_left : stable ≤ kept
+  pub within : kept ≤ length log
+  pub is : IsLogOf left (stable_part log kept)
+  pub most : (n : ℕ) → n ≤ length log → length (spelled (stable_part log n)) ≤ length left → n ≤ kept
+
+-- a crash leaves whole frames, and perhaps a cut one
+abbrev pub CrashesLeaveLogs : Type 0
+CrashesLeaveLogs =
+    (log : List Record) (stable : ℕ) (forced pending left : List ℕ) → IsLegal log → AreRecords log
+    → length log < 2 ^ 48 → stable ≤ length log → forced ++ pending ≡ spelled log
+    → BeginsWith forced (spelled (stable_part log stable)) → MayLeave forced pending left → IsLeftOf log stable left
+
+-- bytes are those of one log
+abbrev pub OpensOnce : Type 0
+OpensOnce = (bytes : List ℕ) (log other : List Record) → IsLogOf bytes log → IsLogOf bytes other → log ≡ other
+
+-- and opening these isn't refused for what they are
+abbrev pub NeverBad : Type 0
+NeverBad =
+    (bytes : List ℕ) (log : List Record) (r : Refusal) → IsLogOf bytes log → RefusesOpen bytes r
+    → (r ≡ NoMemory) ⊎ (r ≡ Device)

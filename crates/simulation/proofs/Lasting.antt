@@ -1,0 +1,80 @@
+-- What lasts over lines, one at a time and then all of a run.
+use Rattle.std.proofs.Common.{◌≡◌, ◌≢◌, ℕ, Bool, true, false, List, [], ◌∷◌, sym, ap, ◌∙◌, subst, arith, inl, inr, ◌⊎◌}
+use Rattle.history.specs.History.{Entry, entries_of}
+use Rattle.history.specs.ListMachine.{Machine, Txn, Status, Open, Waiting, Reading, Rolling, Committing, Committed, Losing, Gone, Line, Begins, TellsCommitted, Crashes, TellsLost, HasStatus, Falls, Survives, Step}
+use Rattle.simulation.specs.Lasting.{HasCommitted, HasFallen, CommitsLast}
+use Rattle.simulation.proofs.Owning.{IsClosed, IsUntouched, untouched, own_marked}
+
+-- what a crash makes of one transaction
+pub survives_as : (m n : Machine) (t : ℕ) (s : Status) (h : Step m Crashes n) → HasStatus m t s
+    → Survives m t s (n.txns t) (h.0 t)
+survives_as m n t s h is = subst (λ x. Survives m t x (n.txns t) (h.0 t)) is (h.1 t)
+
+pub own_stays : (m n : Machine) (t : ℕ) (h : Step m Crashes n) → h.0 t ≡ false → entries_of t n.h ≡ entries_of t m.h
+own_stays m n t h stays = ap (entries_of t) h.2 ∙ own_marked (λ u k. h.0 u) t m.h (λ k. stays)
+
+has_status : (x : Txn) (s : Status) (y : Txn) → x ≡ y → y.status ≡ s → x.status ≡ s
+has_status x s y same is = ap (λ z. z.status) same ∙ is
+
+pub falls_so : (m n : Machine) (t : ℕ) → Falls m t (n.txns t) → HasFallen n t
+falls_so m n t (inl k) = inl (ap (λ x. x.status) k.1)
+falls_so m n t (inr b) = inr (ap (λ x. x.status) b.1)
+
+-- whether its entries stay or fall
+pub stays_or_falls : (m n : Machine) (t : ℕ) (s : Status) (fell : Bool) → Survives m t s (n.txns t) fell
+    → (fell ≡ false) ⊎ HasFallen n t
+stays_or_falls m n t Open fell h = inr (falls_so m n t h.0)
+stays_or_falls m n t (Waiting k o) fell h = inr (falls_so m n t h.0)
+stays_or_falls m n t (Reading q) fell h = inr (falls_so m n t h.0)
+stays_or_falls m n t (Rolling p) fell h = inr (falls_so m n t h.0)
+stays_or_falls m n t Committing fell (inl h) = inl h.1
+stays_or_falls m n t Committing fell (inr h) = inr (falls_so m n t h.0)
+stays_or_falls m n t Committed fell h = inl h.1
+stays_or_falls m n t Losing fell h = inl h.1
+stays_or_falls m n t Gone fell h = inl h.1
+
+-- a committed transaction
+kept : (m n : Machine) (t : ℕ) (own : List Entry) → HasCommitted m t own → IsUntouched m n t → HasCommitted n t own
+kept m n t own has same = record {
+  begun = ap (λ x. x.begun) same.txn ∙ has.begun;
+  status = ap (λ x. x.status) same.txn ∙ has.status;
+  own_is = same.own ∙ has.own_is;
+}
+
+pub closed_as : (m : Machine) (t : ℕ) (s : Status) → HasStatus m t s → IsClosed s → IsClosed (m.txns t).status
+closed_as m t s is closed = subst IsClosed (sym is) closed
+
+-- another's status is another
+pub other_than : (m : Machine) (t u : ℕ) (r s : Status) → HasStatus m t r → HasStatus m u s → r ≢ s → t ≡ u → ⊥
+other_than m t u r s has at apart e = apart (sym has ∙ ap (λ (k : ℕ). (m.txns k).status) e ∙ at)
+
+-- a line that doesn't give its number again leaves it, and its entries
+pub committed_kept : (m n : Machine) (line : Line) (t : ℕ) → Step m line n → line ≢ Begins t → HasStatus m t Committed
+    → IsUntouched m n t
+committed_kept m n (Begins u) t h anew is =
+    untouched m n (Begins u) t h (closed_as m t Committed is tt) (λ e. anew (ap Begins (sym e)))
+committed_kept m n (TellsCommitted u) t h anew is =
+    untouched m n (TellsCommitted u) t h (closed_as m t Committed is tt)
+    (other_than m t u Committed Committing is h.0 (λ e. cc))
+committed_kept m n (TellsLost u) t h anew is =
+    untouched m n (TellsLost u) t h (closed_as m t Committed is tt) (other_than m t u Committed Losing is h.0 (λ e. cc))
+committed_kept m n Crashes t h anew is =
+    let stays = survives_as m n t Committed h is in
+    record { txn = stays.0; own = own_stays m n t h stays.1 }
+committed_kept m n line t h anew is = untouched m n line t h (closed_as m t Committed is tt) tt
+
+-- and none does
+not_anew : (m n : Machine) (line : Line) (t : ℕ) → Step m line n → (m.txns t).begun ≡ true → line ≢ Begins t
+not_anew m n line t h begun e =
+    let above = (subst (λ l. Step m l n) e h).0.1 t begun in
+    omega (arith, above)
+
+pub committed_step : (m n : Machine) (line : Line) (t : ℕ) (own : List Entry) → Step m line n → HasCommitted m t own
+    → HasCommitted n t own
+committed_step m n line t own h has =
+    kept m n t own has (committed_kept m n line t h (not_anew m n line t h has.begun) has.status)
+
+pub commits_last : CommitsLast
+commits_last m n [] t own steps has = subst (λ x. HasCommitted x t own) (sym steps) has
+commits_last m n (line ∷ lines) t own steps has =
+    commits_last steps.0 n lines t own steps.2 (committed_step m steps.0 line t own steps.1 has)

@@ -1,0 +1,127 @@
+-- What a line leaves of one transaction and of its entries.
+use Rattle.std.proofs.Common.{◌≡◌, ℕ, Bool, true, false, cond, List, [], ◌∷◌, refl, sym, ap, ◌∙◌, subst, inl, inr, eqb-true, ne_eqb}
+use Rattle.std.specs.Prelude.{◌==◌, ◌||◌, ◌&&◌, not, map, nat_lt, if◌then◌else◌}
+use Rattle.std.specs.List.{list_any}
+use Rattle.std.proofs.Math.Bool.{or-false}
+use Rattle.history.specs.History.{Entry, placed, entries_of}
+use Rattle.history.specs.ListMachine.{Machine, Txn, Status, Open, Waiting, Reading, Rolling, Line, Begins, Acts, TellsAnswer, Reads, TellsRow, TellsRows, Saves, GoesBack, TellsBack, RollsBack, TellsRolledBack, Commits, TellsCommitted, Crashes, TellsLost, IsRefused, HasStatus, Step, with_txn}
+use Rattle.simulation.specs.Lasting.{IsEntry}
+use Rattle.simulation.proofs.Entries.{marked}
+
+-- an entry that isn't marked stays as it is
+pub unmarked : (f : ℕ → ℕ → Bool) (e : Entry) → f e.txn e.number ≡ false → marked f e ≡ e
+unmarked f e spared = λ j. record e { crossed = (ap (λ (b : Bool). e.crossed || b) spared ∙ or-false e.crossed) j }
+
+-- marks on entries of others leave a transaction's own
+pub own_marked : (f : ℕ → ℕ → Bool) (t : ℕ) (h : List Entry) → ((n : ℕ) → f t n ≡ false)
+    → entries_of t (map (marked f) h) ≡ entries_of t h
+own_marked f t [] spared = refl
+own_marked f t (e ∷ h) spared = by (e.txn == t) refl (own_marked f t h spared)
+  where
+    by : (b : Bool) → (e.txn == t) ≡ b → entries_of t (map (marked f) h) ≡ entries_of t h
+        → cond b (marked f e ∷ entries_of t (map (marked f) h)) (entries_of t (map (marked f) h))
+        ≡ cond b (e ∷ entries_of t h) (entries_of t h)
+    by true own rest =
+        let same = unmarked f e (ap (λ (u : ℕ). f u e.number) (eqb-true e.txn t own) ∙ spared e.number) in
+        λ j. same j ∷ rest j
+    by false own rest = rest
+
+pub entry_marked : (f : ℕ → ℕ → Bool) (e : Entry) (h : List Entry) → f e.txn e.number ≡ false → IsEntry e h
+    → IsEntry e (map (marked f) h)
+entry_marked f e [] spared has = absurd has
+entry_marked f e (g ∷ h) spared (inl is) = inl (ap (marked f) is ∙ unmarked f e spared)
+entry_marked f e (g ∷ h) spared (inr has) = inr (entry_marked f e h spared has)
+
+-- and so does an entry of another
+pub own_placed : (e : Entry) (t : ℕ) (h : List Entry) → (t ≡ e.txn → ⊥) → entries_of t (placed e h) ≡ entries_of t h
+own_placed e t [] apart = ap (λ (b : Bool). cond b (e ∷ []) []) (ne_eqb e.txn t (λ s. apart (sym s)))
+own_placed e t (f ∷ h) apart = pick (nat_lt f.number e.number) (own_placed e t h apart)
+  where
+    pick : (b : Bool) → entries_of t (placed e h) ≡ entries_of t h
+        → entries_of t (if b then e ∷ f ∷ h else f ∷ placed e h) ≡ entries_of t (f ∷ h)
+    pick true rest =
+        let off = ne_eqb e.txn t (λ s. apart (sym s)) in
+        ap (λ (b : Bool). cond b (e ∷ entries_of t (f ∷ h)) (entries_of t (f ∷ h))) off
+    pick false rest = ap (λ x. cond (f.txn == t) (f ∷ x) x) rest
+
+pub entry_placed : (e g : Entry) (h : List Entry) → IsEntry e h → IsEntry e (placed g h)
+entry_placed e g [] has = absurd has
+entry_placed e g (f ∷ h) (inl is) = pick (nat_lt f.number g.number)
+  where
+    pick : (b : Bool) → IsEntry e (if b then g ∷ f ∷ h else f ∷ placed g h)
+    pick true = inr (inl is)
+    pick false = inl is
+entry_placed e g (f ∷ h) (inr has) = pick (nat_lt f.number g.number) (entry_placed e g h has)
+  where
+    pick : (b : Bool) → IsEntry e (placed g h) → IsEntry e (if b then g ∷ f ∷ h else f ∷ placed g h)
+    pick true rest = inr (inr has)
+    pick false rest = inr rest
+
+-- no crossing of another's names it
+pub spared_by : (p : ℕ → Bool) (t u : ℕ) → (t ≡ u → ⊥) → (n : ℕ) → ((t == u) && p n) ≡ false
+spared_by p t u apart n = ap (λ (b : Bool). b && p n) (ne_eqb t u apart)
+
+-- nothing is done to it
+pub record IsUntouched (m n : Machine) (t : ℕ) : Type 0 where
+  pub txn : n.txns t ≡ m.txns t
+  pub own : entries_of t n.h ≡ entries_of t m.h
+
+-- where another is changed, and its own entries aren't
+changed : (m n : Machine) (t u : ℕ) (x : Txn) (g : List Entry) → (t ≡ u → ⊥) → entries_of t g ≡ entries_of t m.h
+    → n ≡ record (with_txn m u x) { h = g }
+    → IsUntouched m n t
+changed m n t u x g apart own is =
+    subst (λ y. IsUntouched m y t) (sym is) (record {
+      txn = ap (λ (b : Bool). if b then x else m.txns t) (ne_eqb t u apart);
+      own = own;
+    })
+
+-- it waits for no call and no answer
+abbrev pub IsClosed : Status → Type 0
+IsClosed Open = ⊥
+IsClosed (Waiting n o) = ⊥
+IsClosed (Reading q) = ⊥
+IsClosed (Rolling s) = ⊥
+IsClosed _ = Unit {0}
+
+other : (m : Machine) (t u : ℕ) (s : Status) → IsClosed (m.txns t).status → HasStatus m u s → (IsClosed s → ⊥)
+    → t ≡ u → ⊥
+other m t u s closed at active e = active (subst IsClosed (ap (λ (k : ℕ). (m.txns k).status) e ∙ at) closed)
+
+-- then only these lines may touch it
+abbrev pub Spares : ℕ → Line → Type 0
+Spares t (Begins u) = t ≡ u → ⊥
+Spares t (TellsCommitted u) = t ≡ u → ⊥
+Spares t Crashes = ⊥
+Spares t (TellsLost u) = t ≡ u → ⊥
+Spares t _ = Unit {0}
+
+pub untouched : (m n : Machine) (line : Line) (t : ℕ) → Step m line n → IsClosed (m.txns t).status → Spares t line
+    → IsUntouched m n t
+untouched m n (Begins u) t h closed apart = changed m n t u _ m.h apart refl h.1
+untouched m n (Acts u o k) t h closed spared = changed m n t u _ m.h (other m t u Open closed h.0 (λ x. x)) refl h.4
+untouched m n (TellsAnswer u a) t h closed spared =
+    let apart = other m t u (Waiting h.0 h.1) closed h.2 (λ x. x) in
+    changed m n t u _ _ apart (own_placed _ t m.h apart) h.4
+untouched m n (Reads u q) t h closed spared = changed m n t u _ m.h (other m t u Open closed h.0 (λ x. x)) refl h.3
+untouched m n (TellsRow u value) t h closed spared =
+    changed m n t u _ m.h (other m t u (Reading _) closed h.1 (λ x. x)) refl h.3
+untouched m n (TellsRows u rows) t h closed spared =
+    changed m n t u _ m.h (other m t u (Reading _) closed h.2 (λ x. x)) refl h.4
+untouched m n (Saves u s) t h closed spared = changed m n t u _ m.h (other m t u Open closed h.0 (λ x. x)) refl h.3
+untouched m n (GoesBack u s) t h closed spared =
+    let apart = other m t u Open closed h.1 (λ x. x) in
+    changed m n t u _ _ apart (own_marked _ t m.h (spared_by (λ k. not (list_any (λ j. j == k) h.0)) t u apart)) h.4
+untouched m n (TellsBack u s) t h closed spared =
+    changed m n t u _ m.h (other m t u (Rolling _) closed h.0 (λ x. x)) refl h.1
+untouched m n (RollsBack u) t h closed spared =
+    let apart = other m t u Open closed h.0 (λ x. x) in
+    changed m n t u _ _ apart (own_marked _ t m.h (spared_by (λ _. true) t u apart)) h.1
+untouched m n (TellsRolledBack u) t h closed spared =
+    changed m n t u _ m.h (other m t u (Rolling _) closed h.0 (λ x. x)) refl h.1
+untouched m n (Commits u) t h closed spared = changed m n t u _ m.h (other m t u Open closed h.0 (λ x. x)) refl h.1
+untouched m n (TellsCommitted u) t h closed apart = changed m n t u _ m.h apart refl h.1
+untouched m n Crashes t h closed none = absurd none
+untouched m n (TellsLost u) t h closed apart = changed m n t u _ m.h apart refl h.1
+untouched m n (IsRefused call refusal) t h closed spared =
+    record { txn = ap (λ y. y.txns t) h.1; own = ap (λ y. entries_of t y.h) h.1 }

@@ -1,0 +1,240 @@
+-- The value at a key on which nobody acts stays, where only committed transactions left it.
+use Rattle.std.proofs.Common.{◌≡◌, ◌≢◌, ℕ, Bool, true, false, cond, List, [], ◌∷◌, Option, None, refl, sym, ap, ◌∙◌, subst, inl, inr, true≢false}
+use Rattle.std.specs.Prelude.{◌==◌, ◌&&◌, ◌||◌, not, map, nat_lt, if◌then◌else◌}
+use Rattle.std.specs.List.{AllByRecursion, list_any}
+use Rattle.std.specs.FinMap.{get, get-empty}
+use Rattle.std.proofs.lemmas.Bool.{cases_Bool}
+use Rattle.record_key.specs.declared.op.Op.{Op}
+use Rattle.record_key.specs.Table.{Bytes, Table, key_of, value_after, after}
+use Rattle.record_key.specs.Laws.{key_cmp}
+use Rattle.record_key.proofs.Tables.{is_same-true, get-with_record}
+use Rattle.history.specs.History.{Entry, plain, placed, entries_of}
+use Rattle.history.specs.Values.{is_on}
+use Rattle.history.specs.ListMachine.{Machine, Txn, Status, Open, Waiting, Reading, Rolling, Committing, Committed, Losing, Gone, Line, Begins, Acts, TellsAnswer, Reads, TellsRow, TellsRows, Saves, GoesBack, TellsBack, RollsBack, TellsRolledBack, Commits, TellsCommitted, Crashes, TellsLost, IsRefused, HasStatus, Falls, Survives, Step, Steps, with_txn}
+use Rattle.log_laws.proofs.Plain.{entry_leaves}
+use Rattle.log_laws.proofs.Walking.{same_op}
+use Rattle.simulation.specs.Lasting.{HasCommitted, IsOwned, IsAtRest, ActsElsewhere, ValuesLast}
+use Rattle.simulation.proofs.Entries.{marked, marked_all}
+use Rattle.simulation.proofs.Placing.{all_placed}
+use Rattle.simulation.proofs.Owning.{spared_by}
+use Rattle.simulation.proofs.Lasting.{survives_as, other_than, committed_step}
+
+-- what an operation leaves, if it does
+abbrev leaving : Bool → Op → Option Bytes → Option Bytes
+leaving does o v = if does then value_after o v else v
+
+-- what the entries that stand leave at a key
+abbrev value_in : Bytes → List Entry → Option Bytes
+value_in k [] = None
+value_in k (e ∷ h) = leaving (not e.crossed && is_on k e.op) e.op (value_in k h)
+
+plain_value : (k : Bytes) (h : List Entry) → get (plain h) k ≡ value_in k h
+plain_value k [] = get-empty key_cmp k
+plain_value k (e ∷ h) = entry_leaves e.crossed k (plain h) e.op (value_in k h) (plain_value k h)
+
+-- an entry at another key leaves it
+off_key : (k : Bytes) (o : Op) → key_of o ≢ k → is_on k o ≡ false
+off_key k o apart =
+    elim (cases_Bool (is_on k o)) [
+      | inl on ↦ absurd (apart (sym (is_same-true k (key_of o) on)))
+      | inr off ↦ off
+    ]
+
+passed : (k : Bytes) (e : Entry) (h : List Entry) → key_of e.op ≢ k → value_in k (e ∷ h) ≡ value_in k h
+passed k e h apart = by e.crossed (is_on k e.op) (off_key k e.op apart)
+  where
+    by : (c on : Bool) → on ≡ false
+        → (if not c && on then value_after e.op (value_in k h) else value_in k h) ≡ value_in k h
+    by true on off = refl
+    by false true off = absurd (true≢false off)
+    by false false off = refl
+
+placed_value : (k : Bytes) (e : Entry) (h : List Entry) → key_of e.op ≢ k → value_in k (placed e h) ≡ value_in k h
+placed_value k e [] apart = passed k e [] apart
+placed_value k e (f ∷ h) apart = pick (nat_lt f.number e.number) (placed_value k e h apart)
+  where
+    pick : (b : Bool) → value_in k (placed e h) ≡ value_in k h
+        → value_in k (if b then e ∷ f ∷ h else f ∷ placed e h) ≡ value_in k (f ∷ h)
+    pick true rest = passed k e (f ∷ h) apart
+    pick false rest = ap (λ v. if not f.crossed && is_on k f.op then value_after f.op v else v) rest
+
+-- and so do marks on none that stands there
+marked_value : (k : Bytes) (f : ℕ → ℕ → Bool) (h : List Entry)
+    → AllByRecursion (λ e. e.crossed ≡ false → key_of e.op ≡ k → f e.txn e.number ≡ false) h
+    → value_in k (map (marked f) h) ≡ value_in k h
+marked_value k f [] spared = refl
+marked_value k f (e ∷ h) spared =
+    by e.crossed (f e.txn e.number) (is_on k e.op) (λ c on. spared.0 c (sym (is_same-true k (key_of e.op) on)))
+    (marked_value k f h spared.1)
+  where
+    by : (c b on : Bool) → (c ≡ false → on ≡ true → b ≡ false) → value_in k (map (marked f) h) ≡ value_in k h
+        → leaving (not (c || b) && on) e.op (value_in k (map (marked f) h)) ≡ leaving (not c && on) e.op (value_in k h)
+    by true b on spared rest = rest
+    by false true true spared rest = absurd (true≢false (spared refl refl))
+    by false true false spared rest = rest
+    by false false true spared rest = ap (value_after e.op) rest
+    by false false false spared rest = rest
+
+-- how a line changes the history
+data Change (m n : Machine) : Type 0 where
+  Stays : n.h ≡ m.h → Change m n
+  Places : (e : Entry) → HasStatus m e.txn (Waiting e.number e.op) → n.h ≡ placed e m.h → Change m n
+  Marks : (f : ℕ → ℕ → Bool) → ((t k : ℕ) → HasStatus m t Committed → f t k ≡ false) → n.h ≡ map (marked f) m.h
+      → Change m n
+
+change : (m n : Machine) (line : Line) → Step m line n → Change m n
+change m n (Begins u) h = Stays (ap (λ y. y.h) h.1)
+change m n (Acts u o k) h = Stays (ap (λ y. y.h) h.4)
+change m n (TellsAnswer u a) h =
+    Places (record { number = h.0; txn = u; op = h.1; answer = a; crossed = false }) h.2 (ap (λ y. y.h) h.4)
+change m n (Reads u q) h = Stays (ap (λ y. y.h) h.3)
+change m n (TellsRow u value) h = Stays (ap (λ y. y.h) h.3)
+change m n (TellsRows u rows) h = Stays (ap (λ y. y.h) h.4)
+change m n (Saves u s) h = Stays (ap (λ y. y.h) h.3)
+change m n (GoesBack u s) h =
+    let p : ℕ → Bool = λ k. not (list_any (λ j. j == k) h.0) in
+    Marks (λ t k. t == u && p k) (λ t k is. spared_by p t u (other_than m t u Committed Open is h.1 (λ e. cc)) k)
+    (ap (λ y. y.h) h.4)
+change m n (TellsBack u s) h = Stays (ap (λ y. y.h) h.1)
+change m n (RollsBack u) h =
+    let p : ℕ → Bool = λ _. true in
+    Marks (λ t k. t == u && p k) (λ t k is. spared_by p t u (other_than m t u Committed Open is h.0 (λ e. cc)) k)
+    (ap (λ y. y.h) h.1)
+change m n (TellsRolledBack u) h = Stays (ap (λ y. y.h) h.1)
+change m n (Commits u) h = Stays (ap (λ y. y.h) h.1)
+change m n (TellsCommitted u) h = Stays (ap (λ y. y.h) h.1)
+change m n Crashes h = Marks (λ t k. h.0 t) (λ t k is. (survives_as m n t Committed h is).1) h.2
+change m n (TellsLost u) h = Stays (ap (λ y. y.h) h.1)
+change m n (IsRefused call refusal) h = Stays (ap (λ y. y.h) h.1)
+
+-- of whoever committed are the entries that stand there, and so they stay
+owns_on : (m n : Machine) (line : Line) (k : Bytes) (e : Entry) → Step m line n → IsOwned m k e → IsOwned n k e
+owns_on m n line k e h owns stands on =
+    let own = owns stands on in
+    let had : HasCommitted m e.txn (entries_of e.txn m.h) = record { begun = own.0; status = own.1; own_is = refl } in
+    let has = committed_step m n line e.txn (entries_of e.txn m.h) h had in
+    (has.begun, has.status)
+
+each_on : (m n : Machine) (line : Line) (k : Bytes) (h : List Entry) → Step m line n → AllByRecursion (IsOwned m k) h
+    → AllByRecursion (IsOwned n k) h
+each_on m n line k [] step all = tt
+each_on m n line k (e ∷ h) step all = (owns_on m n line k e step all.0, each_on m n line k h step all.1)
+
+unmarked_before : (c b : Bool) → (c || b) ≡ false → c ≡ false
+unmarked_before true b e = e
+unmarked_before false b e = refl
+
+owners_step : (m n : Machine) (line : Line) (k : Bytes) → Step m line n → IsAtRest m k → Change m n
+    → AllByRecursion (IsOwned n k) n.h
+owners_step m n line k h rest (Stays same) =
+    subst (AllByRecursion (IsOwned n k)) (sym same) (each_on m n line k m.h h rest.owners)
+owners_step m n line k h rest (Places e waits same) =
+    subst (AllByRecursion (IsOwned n k)) (sym same)
+    (all_placed (IsOwned n k) e m.h (λ stands on. absurd (rest.unasked e.txn e.number e.op waits on))
+    (each_on m n line k m.h h rest.owners))
+owners_step m n line k h rest (Marks f spared same) =
+    subst (AllByRecursion (IsOwned n k)) (sym same)
+    (marked_all (IsOwned n k) (IsOwned n k) f m.h
+    (λ e owns stands on. owns (unmarked_before e.crossed (f e.txn e.number) stands) on)
+    (each_on m n line k m.h h rest.owners))
+
+spares_each : (m : Machine) (k : Bytes) (f : ℕ → ℕ → Bool) (h : List Entry)
+    → ((t j : ℕ) → HasStatus m t Committed → f t j ≡ false) → AllByRecursion (IsOwned m k) h
+    → AllByRecursion (λ e. e.crossed ≡ false → key_of e.op ≡ k → f e.txn e.number ≡ false) h
+spares_each m k f [] spared all = tt
+spares_each m k f (e ∷ h) spared all =
+    (λ stands on. spared e.txn e.number (all.0 stands on).1, spares_each m k f h spared all.1)
+
+value_step : (m n : Machine) (k : Bytes) → IsAtRest m k → Change m n → value_in k n.h ≡ value_in k m.h
+value_step m n k rest (Stays same) = ap (value_in k) same
+value_step m n k rest (Places e waits same) =
+    ap (value_in k) same ∙ placed_value k e m.h (rest.unasked e.txn e.number e.op waits)
+value_step m n k rest (Marks f spared same) =
+    ap (value_in k) same ∙ marked_value k f m.h (spares_each m k f m.h spared rest.owners)
+
+-- whoever waits waits for an operation elsewhere
+abbrev WaitsElsewhere : Bytes → Txn → Type 0
+WaitsElsewhere k x = (j : ℕ) (o : Op) → x.status ≡ Waiting j o → key_of o ≢ k
+
+abbrev WaitsNot : Status → Type 0
+WaitsNot (Waiting j o) = ⊥
+WaitsNot _ = Unit {0}
+
+waits_not : (k : Bytes) (x : Txn) → WaitsNot x.status → WaitsElsewhere k x
+waits_not k x idle j o e = absurd (subst WaitsNot e idle)
+
+waits_with : (m n : Machine) (k : Bytes) (u : ℕ) (x : Txn) (g : List Entry) → IsAtRest m k → WaitsElsewhere k x
+    → n ≡ record (with_txn m u x) { h = g }
+    → (t : ℕ) → WaitsElsewhere k (n.txns t)
+waits_with m n k u x g rest new is = subst (λ y. (t : ℕ) → WaitsElsewhere k (y.txns t)) (sym is) (λ t. pick t (t == u))
+  where
+    pick : (t : ℕ) (b : Bool) → WaitsElsewhere k (if b then x else m.txns t)
+    pick t true = new
+    pick t false = rest.unasked t
+
+still_with : (m n : Machine) (k : Bytes) (u : ℕ) (x : Txn) (g : List Entry) → IsAtRest m k → WaitsNot x.status
+    → n ≡ record (with_txn m u x) { h = g }
+    → (t : ℕ) → WaitsElsewhere k (n.txns t)
+still_with m n k u x g rest idle is = waits_with m n k u x g rest (waits_not k x idle) is
+
+falls_waits : (m : Machine) (t : ℕ) (new : Txn) → Falls m t new → WaitsNot new.status
+falls_waits m t new (inl k) = subst WaitsNot (sym (ap (λ x. x.status) k.1)) tt
+falls_waits m t new (inr b) = subst WaitsNot (sym (ap (λ x. x.status) b.1)) tt
+
+stays_waits : (m : Machine) (t : ℕ) (s : Status) (new : Txn) → HasStatus m t s → new ≡ m.txns t → WaitsNot s
+    → WaitsNot new.status
+stays_waits m t s new is same idle = subst WaitsNot (sym (ap (λ x. x.status) same ∙ is)) idle
+
+crash_waits : (m : Machine) (t : ℕ) (s : Status) (new : Txn) (fell : Bool) → HasStatus m t s → Survives m t s new fell
+    → WaitsNot new.status
+crash_waits m t Open new fell is h = falls_waits m t new h.0
+crash_waits m t (Waiting j o) new fell is h = falls_waits m t new h.0
+crash_waits m t (Reading q) new fell is h = falls_waits m t new h.0
+crash_waits m t (Rolling p) new fell is h = falls_waits m t new h.0
+crash_waits m t Committing new fell is (inl h) = subst WaitsNot (sym (ap (λ x. x.status) h.0)) tt
+crash_waits m t Committing new fell is (inr h) = falls_waits m t new h.0
+crash_waits m t Committed new fell is h = stays_waits m t Committed new is h.0 tt
+crash_waits m t Losing new fell is h = stays_waits m t Losing new is h.0 tt
+crash_waits m t Gone new fell is h =
+    elim (h.0) [
+      | inl same ↦ stays_waits m t Gone new is same tt
+      | inr (inl b) ↦ subst WaitsNot (sym (ap (λ x. x.status) b.1)) tt
+      | inr (inr l) ↦ subst WaitsNot (sym (ap (λ x. x.status) l.2)) tt
+    ]
+
+waits_step : (m n : Machine) (line : Line) (k : Bytes) → Step m line n → ActsElsewhere k line → IsAtRest m k
+    → (t : ℕ) → WaitsElsewhere k (n.txns t)
+waits_step m n (Begins u) k h off rest = still_with m n k u _ _ rest tt h.1
+waits_step m n (Acts u o i) k h off rest =
+    waits_with m n k u _ _ rest (λ j p e. subst (λ q. key_of q ≢ k) (same_op i j o p e) off) h.4
+waits_step m n (TellsAnswer u a) k h off rest = still_with m n k u _ _ rest tt h.4
+waits_step m n (Reads u q) k h off rest = still_with m n k u _ _ rest tt h.3
+waits_step m n (TellsRow u value) k h off rest = still_with m n k u _ _ rest tt h.3
+waits_step m n (TellsRows u rows) k h off rest = still_with m n k u _ _ rest tt h.4
+waits_step m n (Saves u s) k h off rest = waits_with m n k u _ _ rest (rest.unasked u) h.3
+waits_step m n (GoesBack u s) k h off rest = still_with m n k u _ _ rest tt h.4
+waits_step m n (TellsBack u s) k h off rest = still_with m n k u _ _ rest tt h.1
+waits_step m n (RollsBack u) k h off rest = still_with m n k u _ _ rest tt h.1
+waits_step m n (TellsRolledBack u) k h off rest = still_with m n k u _ _ rest tt h.1
+waits_step m n (Commits u) k h off rest = still_with m n k u _ _ rest tt h.1
+waits_step m n (TellsCommitted u) k h off rest = still_with m n k u _ _ rest tt h.1
+waits_step m n Crashes k h off rest =
+    λ t. waits_not k (n.txns t) (crash_waits m t (m.txns t).status (n.txns t) (h.0 t) refl (h.1 t))
+waits_step m n (TellsLost u) k h off rest = still_with m n k u _ _ rest tt h.1
+waits_step m n (IsRefused call refusal) k h off rest =
+    λ t. subst (λ y. WaitsElsewhere k (y.txns t)) (sym h.1) (rest.unasked t)
+
+values_in : (m n : Machine) (lines : List Line) (k : Bytes) → Steps m lines n → AllByRecursion (ActsElsewhere k) lines
+    → IsAtRest m k
+    → value_in k n.h ≡ value_in k m.h
+values_in m n [] k steps off rest = ap (λ y. value_in k y.h) steps
+values_in m n (line ∷ lines) k steps off rest =
+    let next : IsAtRest steps.0 k = record {
+      owners = owners_step m steps.0 line k steps.1 rest (change m steps.0 line steps.1);
+      unasked = waits_step m steps.0 line k steps.1 off.0 rest;
+    } in
+    values_in steps.0 n lines k steps.2 off.1 next ∙ value_step m steps.0 k rest (change m steps.0 line steps.1)
+
+pub values_last : ValuesLast
+values_last m n lines k steps off rest =
+    plain_value k n.h ∙ values_in m n lines k steps off rest ∙ sym (plain_value k m.h)

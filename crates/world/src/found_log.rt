@@ -1,0 +1,33 @@
+//! The records that a device's bytes spell, which contracts alone see.
+ghost use Rattle.std.specs.Prelude.{List};
+ghost use Rattle.std.specs.Coded.{codes};
+ghost use Rattle.history.specs.declared.record.Record.{Record};
+ghost use Rattle.logical_log.specs.Opening.{IsLogOf};
+
+use stable::MemLog;
+use std::marker::{Model, PhantomData};
+
+#[derive(Drop)]
+pub struct FoundLog {
+    marker: PhantomData<u8>,
+    pub ghost log: { List Record } by { Prim.hlevel codes },
+}
+
+impl Model for FoundLog {
+    ghost use Rattle.std.specs.Borrow.{ftrue};
+
+    ghost also_owns = { λ _. ftrue };
+}
+
+impl FoundLog {
+    /// Those of this device.
+    pub fn on(device: &MemLog) -> FoundLog
+        requires { (records : List Record) × IsLogOf device.now.forced records }
+        ensures { IsLogOf device.now.forced result.log }
+    {
+        let _ = device;
+        FoundLog {
+            marker: PhantomData,
+        }
+    }
+}

@@ -1,0 +1,96 @@
+//! What is left of the transaction component while it is down: its log's device.
+ghost use Rattle.std.specs.Prelude.{◌≡◌, ℕ, IfOk, IfErr};
+ghost use Rattle.tc_core.specs.Kept.{IsTc};
+ghost use Rattle.tc_core.specs.Opened.{crashed, IsOpenedAgain};
+ghost use Rattle.world.specs.Component.{MayKeepOf, LacksDevice, unopened};
+
+use crate::crashing::bytes_kept_of;
+use crate::found_log::FoundLog;
+use logical_log::Refused;
+use record_key::Refusal;
+use stable::MemLog;
+use std::alloc::Global;
+use std::marker::Model;
+use tc_core::Tc;
+
+/// A device that a crash left. It is seen as what its log opens as.
+#[derive(Drop)]
+pub struct StoppedTc {
+    device: MemLog,
+    found: FoundLog,
+}
+
+impl Model for StoppedTc {
+    ghost use Rattle.std.specs.Prelude.{◌≡◌, []};
+    ghost use Rattle.std.specs.Coded.{codes};
+    ghost use Rattle.logical_log.specs.Opening.{IsLogOf};
+    ghost use Rattle.tc_core.specs.TcView.{TcView};
+    ghost use Rattle.tc_core.specs.Opened.{opens_as};
+
+    ghost Value = { TcView };
+
+    ghost coded = { Prim.hlevel codes };
+
+    ghost view = { λ s. opens_as s.found.log s.device.failures };
+
+    ghost invariant = { λ s. IsLogOf s.device.forced s.found.log × (s.device.pending ≡ []) };
+}
+
+/// A device that wasn't opened, and why.
+#[derive(Drop)]
+pub struct UnopenedTc {
+    pub refusal: Refusal,
+    pub stopped: StoppedTc,
+}
+
+impl StoppedTc {
+    /// A device that holds nothing.
+    pub fn empty(alloc: Global) -> StoppedTc {
+        let device = MemLog::new(alloc);
+        let found = FoundLog::on(&device);
+        StoppedTc { device, found }
+    }
+
+    /// What a crash leaves of the component: of the records that aren't stable the first stay, so many, and of the next
+    /// one at most so many bytes.
+    pub fn crashed(tc: Tc<MemLog>, frames: u64, bytes: u64) -> StoppedTc
+        ensures { (kept : ℕ) × MayKeepOf tc frames kept × (result ≡ crashed tc kept) }
+    {
+        tc.kept();
+        let end = tc.end_of(tc.records());
+        let kept = bytes_kept_of(&tc, frames, bytes);
+        let mut device = tc.stop();
+        let forced = end - device.pending().len();
+        device.crash(kept.saturating_sub(forced));
+        let found = FoundLog::on(&device);
+        StoppedTc { device, found }
+    }
+
+    /// The component on its device. Refused NoMemory, Device.
+    pub fn restart(self, alloc: Global) -> Result<Tc<MemLog>, UnopenedTc>
+        ensures restarted { IfOk result (IsOpenedAgain self) }
+        ensures refused { IfErr result (λ left. LacksDevice left.refusal) }
+        ensures left { IfErr result (λ left. left.stopped ≡ unopened self left.refusal) }
+    {
+        let StoppedTc { device, found: _ } = self;
+        match Tc::open(alloc, device) {
+            Ok(tc) => {
+                tc.kept();
+                Ok(tc)
+            }
+            Err(Refused { refusal, device }) => {
+                let found = FoundLog::on(&device);
+                Err(UnopenedTc {
+                    refusal,
+                    stopped: StoppedTc { device, found },
+                })
+            }
+        }
+    }
+
+    pub fn kept(&self)
+        ensures { IsTc self.now }
+    {
+        let _ = &self.found;
+    }
+}
