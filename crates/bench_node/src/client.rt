@@ -81,13 +81,10 @@ impl Client {
         self.world.rows()
     }
 
-    /// Splits the leaf of the key, where it may be split.
-    pub fn split(&mut self, key: Key) -> Result<(), Refusal> {
-        match self.world.step(&Event::Split { key }) {
-            Out::Refused(Refusal::NotNow) => Ok(()),
-            Out::Refused(refusal) => Err(refusal),
-            _ => Ok(()),
-        }
+    /// A leaf that is large is split, or two that are small are joined.
+    pub fn tend(&mut self) -> Result<(), Refusal> {
+        self.step(&Event::Tend)?;
+        Ok(())
     }
 
     /// One call, and all that it comes to.
@@ -111,11 +108,19 @@ impl Client {
     }
 
     /// The transaction component is lost, with what isn't stable.
-    pub fn crash(&mut self) -> Result<(), Refusal> {
+    pub fn crash_transactions(&mut self) -> Result<(), Refusal> {
         self.step(&Event::CrashTc {
             frames: 0,
             bytes: 0,
         })?;
+        Ok(())
+    }
+
+    /// Both components are lost. All that they have logged is found.
+    pub fn crash(&mut self) -> Result<(), Refusal> {
+        let (frames, bytes) = (u64::MAX, u64::MAX);
+        self.step(&Event::CrashTc { frames, bytes })?;
+        self.step(&Event::CrashDc { frames, bytes })?;
         Ok(())
     }
 

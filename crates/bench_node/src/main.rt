@@ -8,11 +8,12 @@ mod client;
 mod draws;
 mod measure;
 mod work;
+mod workload;
 
 use measure::{Outcome, measured};
 use std::process::ExitCode;
 use std::{env, io};
-use work::Workload;
+use workload::Workload;
 
 fn main(rt: HostRuntime) -> ExitCode {
     match print_line(&rt) {

@@ -1,5 +1,6 @@
 //! One measurement.
-use crate::work::{Work, Workload};
+use crate::work::Work;
+use crate::workload::Workload;
 use record_key::Refusal;
 use std::alloc::Global;
 use std::io;

@@ -1,86 +1,18 @@
-//! The workloads.
+//! The work of each workload.
 use crate::client::Client;
 use crate::draws::{Values, draw, key_of, mix};
+use crate::workload::Workload;
 use record_key::{Key, Refusal, Value};
 use std::alloc::Global;
 
 /// How many keys there are. Those with an even number are loaded first.
 const KEYS: u64 = 20_000;
 
-/// How many inserts the transaction has that a crash finds open.
+/// How many upserts the transaction has that a crash finds open.
 const LOSER: u64 = 1_000;
 
-/// What is measured.
-#[derive(Clone, Copy, PartialEq, Eq)]
-pub enum Workload {
-    /// The load alone.
-    Base,
-    /// Upserts, ten a transaction.
-    Commits,
-    /// The same, each transaction rolled back.
-    Rollbacks,
-    /// Updates, ten a transaction, of which a savepoint undoes the first five.
-    Savepoints,
-    /// Updates, a hundred a transaction, a savepoint before each ten, of which every second ten is undone.
-    ManySavepoints,
-    /// Reads of one key, ten a transaction.
-    Reads,
-    /// Rows read a hundred at a time, each hundred in a transaction.
-    Scans,
-    /// Inserts of rising keys, ten a transaction, into no rows. The leaf of each eighth key is split.
-    Rising,
-    /// The same of scattered keys.
-    Scattered,
-    /// After as many inserts as `Scattered` and a transaction of a thousand that is left open: from a crash of the
-    /// transaction component until the node is settled.
-    Restart,
-    /// The same with a checkpoint just before the crash.
-    RestartChecked,
-    /// The open transaction alone has so many inserts, all before a checkpoint: from the crash until a new one is answered.
-    FirstInsert,
-    /// The same until the node is settled.
-    Undo,
-}
-
-impl Workload {
-    /// The workload of this name: `base` or a letter.
-    pub fn named(name: &str) -> Option<Workload> {
-        Some(match name.as_bytes() {
-            b"base" => Workload::Base,
-            b"a" => Workload::Commits,
-            b"b" => Workload::Rollbacks,
-            b"c" => Workload::Savepoints,
-            b"s" => Workload::ManySavepoints,
-            b"d" => Workload::Reads,
-            b"e" => Workload::Scans,
-            b"r" => Workload::Rising,
-            b"x" => Workload::Scattered,
-            b"f" => Workload::Restart,
-            b"g" => Workload::RestartChecked,
-            b"h" => Workload::FirstInsert,
-            b"i" => Workload::Undo,
-            _ => return None,
-        })
-    }
-
-    /// What its draws begin from.
-    fn letter(self) -> u8 {
-        match self {
-            Workload::Base | Workload::Commits => b'a',
-            Workload::Rollbacks => b'b',
-            Workload::Savepoints => b'c',
-            Workload::ManySavepoints => b's',
-            Workload::Reads => b'd',
-            Workload::Scans => b'e',
-            Workload::Rising => b'r',
-            Workload::Scattered => b'x',
-            Workload::Restart => b'f',
-            Workload::RestartChecked => b'g',
-            Workload::FirstInsert => b'h',
-            Workload::Undo => b'i',
-        }
-    }
-}
+/// After so many operations a low number is announced: it raises every leaf.
+const LOWERED: u64 = 1_000;
 
 /// A client with its draws.
 #[derive(Drop)]
@@ -101,13 +33,16 @@ impl Work {
         })
     }
 
-    /// The rows that stand before the work.
+    /// What stands before the work.
     pub fn load(&mut self) -> Result<(), Refusal> {
+        if self.workload.has_rows() {
+            self.load_even()?;
+        }
         match self.workload {
-            Workload::Rising | Workload::Scattered => Ok(()),
-            Workload::Restart | Workload::RestartChecked => self.load_crash(LOSER),
+            Workload::Reopening | Workload::CheckedReopening => self.load_crash(LOSER),
+            Workload::CleanReopening => self.load_crash(0),
             Workload::FirstInsert | Workload::Undo => self.load_loser(self.operations),
-            _ => self.load_even(),
+            _ => Ok(()),
         }
     }
 
@@ -119,19 +54,21 @@ impl Work {
                 self.upsert(number, mix(number))?;
             }
             self.client.commit()?;
-            self.client.lower()?;
         }
-        Ok(())
+        self.client.lower()
     }
 
-    /// Committed inserts, and an open transaction of so many.
-    fn load_crash(&mut self, lost: u64) -> Result<(), Refusal> {
+    /// Committed upserts, and an open transaction of so many.
+    fn load_crash(&mut self, open: u64) -> Result<(), Refusal> {
         self.transactions()?;
-        self.client.begin()?;
-        for place in self.operations..self.operations.saturating_add(lost) {
-            self.grow(place, mix(place))?;
+        if open > 0 {
+            self.client.begin()?;
         }
-        if self.workload == Workload::RestartChecked {
+        for place in 0..open {
+            self.client
+                .upsert(key_of(2 * place)?, Value::new(b"loser")?)?;
+        }
+        if self.workload == Workload::CheckedReopening {
             self.client.checkpoint()?;
         }
         Ok(())
@@ -140,7 +77,7 @@ impl Work {
     fn load_loser(&mut self, lost: u64) -> Result<(), Refusal> {
         self.client.begin()?;
         for place in 0..lost {
-            self.grow(place, mix(place))?;
+            self.upsert(mix(place), mix(place))?;
         }
         self.client.checkpoint()
     }
@@ -149,38 +86,44 @@ impl Work {
     pub fn go(&mut self) -> Result<(), Refusal> {
         match self.workload {
             Workload::Base => Ok(()),
-            Workload::Restart | Workload::RestartChecked | Workload::Undo => {
-                self.client.crash()?;
-                self.client.settle()
+            Workload::Reopening | Workload::CleanReopening | Workload::CheckedReopening => {
+                self.reopen()
             }
             Workload::FirstInsert => {
-                self.client.crash()?;
-                self.client.insert_first(Key::new(b"a")?, Value::new(b"1")?)
+                self.client.crash_transactions()?;
+                let key = Key::new(b"a")?;
+                self.client.insert_first(key, Value::new(b"1")?)
+            }
+            Workload::Undo => {
+                self.client.crash_transactions()?;
+                self.client.settle()
             }
             Workload::Scans => self.scans(),
             _ => self.transactions(),
         }
     }
 
+    /// Until a row is read that the open transaction had changed.
+    fn reopen(&mut self) -> Result<(), Refusal> {
+        self.client.crash()?;
+        self.client.settle()?;
+        self.client.begin()?;
+        self.read(0)?;
+        self.client.commit()
+    }
+
     fn transactions(&mut self) -> Result<(), Refusal> {
+        let length = self.workload.per_transaction();
         for place in 0..self.operations {
-            let at = self.place_in_transaction(place);
-            if at == 0 {
+            if place % length == 0 {
                 self.client.begin()?;
             }
-            self.one(place, at)?;
-            if self.place_in_transaction(place + 1) == 0 {
+            self.one(place, place % length)?;
+            if (place + 1) % length == 0 {
                 self.end(place + 1)?;
             }
         }
         Ok(())
-    }
-
-    fn place_in_transaction(&self, place: u64) -> u64 {
-        match self.workload {
-            Workload::ManySavepoints => place % 100,
-            _ => place % 10,
-        }
     }
 
     /// Ends the transaction; so many operations are done.
@@ -189,21 +132,13 @@ impl Work {
             Workload::Rollbacks => self.client.roll_back()?,
             _ => self.client.commit()?,
         }
-        if self.announces(count) {
+        if count % LOWERED == 0 {
             self.client.lower()?;
         }
         Ok(())
     }
 
-    /// A low number raises every leaf, so where there are many it is announced at each thousandth operation only.
-    fn announces(&self, count: u64) -> bool {
-        match self.workload {
-            Workload::Rising | Workload::Scattered | Workload::Restart | Workload::RestartChecked =>
-                count % 1_000 == 0,
-            _ => true,
-        }
-    }
-
+    /// The operation at a place of the whole work, and at one of its transaction.
     fn one(&mut self, place: u64, at: u64) -> Result<(), Refusal> {
         let drawn = draw(self.workload.letter(), place);
         match self.workload {
@@ -213,10 +148,8 @@ impl Work {
             }
             Workload::ManySavepoints => self.saved_upsert(at, drawn),
             Workload::Reads => self.read(drawn % KEYS),
-            Workload::Rising => self.grow(place, place),
-            Workload::Scattered | Workload::Restart | Workload::RestartChecked => {
-                self.grow(place, mix(place))
-            }
+            Workload::Rising => self.upsert(place, mix(place)),
+            Workload::Scattered => self.upsert(mix(place), mix(place)),
             _ => self.upsert(drawn % KEYS, drawn >> 8),
         }
     }
@@ -240,17 +173,9 @@ impl Work {
         Ok(())
     }
 
-    /// A new key; the leaf of each eighth one is split.
-    fn grow(&mut self, place: u64, key: u64) -> Result<(), Refusal> {
-        self.upsert(key, mix(place))?;
-        if place % 8 == 7 {
-            self.client.split(key_of(key)?)?;
-        }
-        Ok(())
-    }
-
     fn upsert(&mut self, key: u64, value: u64) -> Result<(), Refusal> {
-        self.client.upsert(key_of(key)?, self.values.of(value)?)
+        self.client.upsert(key_of(key)?, self.values.of(value)?)?;
+        self.client.tend()
     }
 
     /// Just the even keys have values. Refused BadBytes where the node says otherwise.
