@@ -1,15 +1,15 @@
 #!/bin/sh
 # Usage: bench/node.sh. Proves and builds crates/bench_node and measures a node over the world's public calls, with no
-# script and no text, in transactions of ten over 20,000 keys, the 10,000 even ones loaded before: a upserts, b the same
-# rolled back, c updates of which a savepoint undoes the first five, d reads, e rows read a hundred at a time, and s
-# updates in transactions of a hundred, a savepoint before each ten, of which every second ten is undone; and, into no rows,
-# r inserts of rising and x of scattered keys, the leaf of each eighth key split.
+# script and no text, in transactions of ten over 20,000 keys, the 10,000 even ones loaded before, the leaves tended after
+# each write: a upserts, b the same rolled back, c updates of which a savepoint undoes the first five, d reads, e rows read
+# a hundred at a time; savepoints: updates in transactions of a hundred, a savepoint before each ten, of which every second
+# ten is undone; and, into no rows, inserts of rising and of scattered keys.
 # Prints operations a second at 1,000, 10,000 and 100,000 operations, each the best of five runs, and the ratio of the
-# last to the first. Then what follows a crash of the transaction component, in milliseconds for each 1,000 inserts: f of
-# inserts committed in tens and an open transaction of 1,000, until the node is settled; g the same with a checkpoint just
-# before the crash; of one open transaction whose inserts all lie before a checkpoint h until a new insert is answered and i until
-# the node is settled. Last, how many bytes of resident memory each of 400,000 committed upserts takes.
-# The first line is the machine's.
+# last to the first. Then what follows a crash, in milliseconds for each 1,000 upserts: f of both components, of upserts
+# committed in tens and an open transaction of 1,000, until that is undone and a row is read; checked the same with a
+# checkpoint just before the crash; of one open transaction whose upserts all lie before a checkpoint, and the transaction
+# component alone, first until a new insert is answered and undo until the node is settled. Last, how many bytes of
+# resident memory each of 400,000 committed upserts takes. The first line is the machine's.
 set -eu
 cd "$(dirname "$0")/../crates/bench_node"
 model=$(sed -n 's/^model name[^:]*: //p' /proc/cpuinfo | head -n 1)
@@ -32,7 +32,7 @@ resident() {
     cat "$folder/memory"
 }
 
-for workload in a b c d e s r x; do
+for workload in a b c d e savepoints rising scattered; do
     first=
     for operations in 1000 10000 100000; do
         rate=$(best "$workload" "$operations")
@@ -46,19 +46,19 @@ restart() {
     for run in 1 2 3 4 5; do
         ./out/bench_node node "$1" "$2"
     done | cut -d, -f5 | sort -n | head -n 1 |
-        awk -v workload="$1" -v committed="$2" -v open="$3" '{
-            inserts = committed + open
-            printf "%s, %s inserts: %.2f ms for each 1,000\n", workload, inserts, $1 * 1000000 / inserts
+        awk -v workload="$1" -v committed="$2" -v others="$3" '{
+            upserts = committed + others
+            printf "%s, %s upserts: %.2f ms for each 1,000\n", workload, upserts, $1 * 1000000 / upserts
         }'
 }
 
 for operations in 10000 100000; do
-    restart f $operations 1000
-    restart g $operations 1000
+    restart f $operations 11000
+    restart checked $operations 11000
 done
 for operations in 10 1000 10000; do
-    restart h $operations 0
-    restart i $operations 0
+    restart first $operations 0
+    restart undo $operations 0
 done
 operations=400000
 bytes=$(((1024 * ($(resident a $operations) - $(resident base 0))) / operations))

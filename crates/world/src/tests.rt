@@ -9,6 +9,7 @@ mod sent;
 mod tc_crashing;
 
 use super::*;
+use history::Record;
 use page::Leaf;
 use record_key::{Answer, Key, Op, Refusal, Value};
 use std::alloc::Global;
@@ -50,7 +51,7 @@ fn leaves(world: &World) -> Result<usize, Refusal> {
     world.leaves()
 }
 
-/// None while the transaction component is down; so of the next.
+/// None while the transaction component is down; so of the next two.
 fn records(world: &World) -> u64 {
     match world.records() {
         Ok(records) => records,
@@ -62,6 +63,13 @@ fn stable_end(world: &World) -> u64 {
     match world.stable_end() {
         Ok(end) => end,
         Err(_) => 0,
+    }
+}
+
+fn record(world: &World, number: u64) -> Option<Record> {
+    match world.record(number) {
+        Ok(record) => record,
+        Err(_) => None,
     }
 }
 

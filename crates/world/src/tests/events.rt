@@ -1,7 +1,6 @@
 //! An event of each kind, with its output.
 use super::*;
 use codec::Rows;
-use history::Record;
 
 #[test]
 fn a_session_begins(rt: HostRuntime) -> Result<(), Fail> {
@@ -66,8 +65,8 @@ fn a_transaction_is_rolled_back(rt: HostRuntime) -> Result<(), Fail> {
     ];
     assert_outs(&rt, &mut world, steps);
     assert_eq!(rt; rows_in(&world), 0);
-    assert_eq!(rt; world.record(7), Ok(Some(Record::End { txn: 2 })));
-    assert_eq!(rt; world.record(8), Ok(None));
+    assert_eq!(rt; record(&world, 7), Some(Record::End { txn: 2 }));
+    assert_eq!(rt; record(&world, 8), None);
     Ok(())
 }
 

@@ -1,6 +1,16 @@
 //! A transaction component that is down. What its crashes and restarts come to is told by scripts of the shell.
 use super::*;
 
+/// Why each reader of its log is refused.
+fn refusals(world: &World) -> [Option<Refusal>; 4] {
+    [
+        world.records().err(),
+        world.record(1).err(),
+        world.stable_end().err(),
+        world.can_begin().err(),
+    ]
+}
+
 /// It has nothing to show, and its restart is the next round.
 #[test]
 fn a_component_that_is_down(rt: HostRuntime) -> Result<(), Fail> {
@@ -10,10 +20,7 @@ fn a_component_that_is_down(rt: HostRuntime) -> Result<(), Fail> {
         bytes: 0,
     };
     assert_out(&rt, &mut world, &crash, &Out::Down);
-    assert_eq!(rt; world.records(), Err(Refusal::NotConnected));
-    assert_eq!(rt; world.record(1), Err(Refusal::NotConnected));
-    assert_eq!(rt; world.stable_end(), Err(Refusal::NotConnected));
-    assert_eq!(rt; world.can_begin(), Err(Refusal::NotConnected));
+    assert_eq!(rt; refusals(&world), [Some(Refusal::NotConnected); 4]);
     assert_eq!(rt; next_round(&world), Some(Round::RestartTc));
     Ok(())
 }

@@ -1,0 +1,19 @@
+#!/bin/sh
+# Usage: bench/peers.sh FOLDER [RESULTS]. Proves and builds crates/bench_node and measures it beside other databases.
+# FOLDER/run.sh measures them: it takes further programs by EXTRA (name=command; a program is called with NAME WORKLOAD
+# N and prints the line that crates/bench_node/src/main.rt describes) and writes results.md into the folder RESULTS.
+# REPS, SIZES, WORKLOADS and PEERS choose what is measured. Prints the table. The first line is the machine's.
+set -eu
+folder=$(cd "$1" && pwd)
+results=${2:-$(mktemp -d)}
+mkdir -p "$results"
+results=$(cd "$results" && pwd)
+cd "$(dirname "$0")/../crates/bench_node"
+model=$(sed -n 's/^model name[^:]*: //p' /proc/cpuinfo | head -n 1)
+printf 'machine: %s processors, %s\n' "$(nproc)" "$model"
+if ! rt run >"$results/build" 2>&1; then
+    cat "$results/build" >&2
+    exit 1
+fi
+EXTRA="node=$PWD/out/bench_node" RESULTS="$results" "$folder/run.sh"
+cat "$results/results.md"
