@@ -27,24 +27,6 @@ fn a_request_that_comes_again(rt: HostRuntime) -> Result<(), Fail> {
     Ok(())
 }
 
-/// The request is sent again under another number; it is still performed once.
-#[test]
-fn a_request_that_is_sent_again(rt: HostRuntime) -> Result<(), Fail> {
-    let mut world = waiting(rt.alloc())?;
-    let steps = [
-        (Event::Force, stable(rt.alloc(), 3)),
-        (SEND, Out::Sent(3)),
-        (SEND, Out::Sent(4)),
-        (Event::Request { number: 4 }, Out::Replied(3)),
-        (Event::Request { number: 3 }, Out::Replied(4)),
-        (Event::Reply { number: 4 }, INSERTED),
-        (Event::Reply { number: 3 }, Out::Nothing),
-    ];
-    assert_outs(&rt, &mut world, steps);
-    assert_eq!(rt; first_leaf(&world)?.entries().len(), 1);
-    Ok(())
-}
-
 #[test]
 fn a_message_that_is_not_there(rt: HostRuntime) -> Result<(), Fail> {
     let mut world = answered(rt.alloc())?;
@@ -53,24 +35,6 @@ fn a_message_that_is_not_there(rt: HostRuntime) -> Result<(), Fail> {
         assert_out(&rt, &mut world, &Event::Request { number }, &unsent);
         assert_out(&rt, &mut world, &Event::Reply { number }, &unsent);
     }
-    Ok(())
-}
-
-/// A request that comes once its answer is no longer kept: the reply has none, and nobody is told.
-#[test]
-fn a_request_below_the_low_water(rt: HostRuntime) -> Result<(), Fail> {
-    let mut world = answered(rt.alloc())?;
-    assert_eq!(rt; first_leaf(&world)?.entries().len(), 1);
-    let steps = [
-        (Event::Force, stable(rt.alloc(), 4)),
-        (Event::LowWater { low: 4 }, Out::Sent(4)),
-        (Event::Request { number: 4 }, Out::Noted),
-        (Event::Request { number: 3 }, Out::Replied(4)),
-        (Event::Reply { number: 4 }, Out::Nothing),
-    ];
-    assert_outs(&rt, &mut world, steps);
-    assert_eq!(rt; first_leaf(&world)?.entries().len(), 0);
-    assert_eq!(rt; (rows_in(&world), records(&world)), (1, 4));
     Ok(())
 }
 
@@ -100,23 +64,5 @@ fn messages_of_the_session_before(rt: HostRuntime) -> Result<(), Fail> {
     }
     assert_eq!(rt; exchange(&mut world, &Event::Recover), INSERTED);
     assert_eq!(rt; rows_in(&world), 1);
-    Ok(())
-}
-
-/// Session 1 is given up for session 2 before its Connect arrives: that comes too late, and a Connect that
-/// comes again is answered again.
-#[test]
-fn a_connect_that_comes_late(rt: HostRuntime) -> Result<(), Fail> {
-    let mut world = fresh(rt.alloc())?;
-    let steps = [
-        (Event::Reconnect, connects(rt.alloc(), 1)),
-        (Event::Reconnect, connects(rt.alloc(), 2)),
-        (Event::Request { number: 2 }, Out::Replied(1)),
-        (Event::Request { number: 1 }, Out::Refused(Refusal::Stale)),
-        (Event::Request { number: 2 }, Out::Replied(2)),
-        (Event::Reply { number: 2 }, Out::Connected(2)),
-        (Event::Reply { number: 1 }, Out::Nothing),
-    ];
-    assert_outs(&rt, &mut world, steps);
     Ok(())
 }
