@@ -39,8 +39,12 @@ impl Work {
             self.load_even()?;
         }
         match self.workload {
-            Workload::Reopening | Workload::CheckedReopening => self.load_crash(LOSER),
-            Workload::CleanReopening => self.load_crash(0),
+            Workload::Reopening => self.load_open(),
+            Workload::CleanReopening => self.transactions(),
+            Workload::CheckedReopening => {
+                self.load_open()?;
+                self.client.checkpoint()
+            }
             Workload::FirstInsert | Workload::Undo => self.load_loser(self.operations),
             _ => Ok(()),
         }
@@ -58,18 +62,13 @@ impl Work {
         self.client.lower()
     }
 
-    /// Committed upserts, and an open transaction of so many.
-    fn load_crash(&mut self, open: u64) -> Result<(), Refusal> {
+    /// Committed upserts, and an open transaction.
+    fn load_open(&mut self) -> Result<(), Refusal> {
         self.transactions()?;
-        if open > 0 {
-            self.client.begin()?;
-        }
-        for place in 0..open {
-            self.client
-                .upsert(key_of(2 * place)?, Value::new(b"loser")?)?;
-        }
-        if self.workload == Workload::CheckedReopening {
-            self.client.checkpoint()?;
+        self.client.begin()?;
+        for place in 0..LOSER {
+            let key = key_of(2 * place)?;
+            self.client.upsert(key, Value::new(b"loser")?)?;
         }
         Ok(())
     }
@@ -113,13 +112,13 @@ impl Work {
     }
 
     fn transactions(&mut self) -> Result<(), Refusal> {
-        let length = self.workload.per_transaction();
         for place in 0..self.operations {
-            if place % length == 0 {
+            let at = self.workload.place_in_transaction(place);
+            if at == 0 {
                 self.client.begin()?;
             }
-            self.one(place, place % length)?;
-            if (place + 1) % length == 0 {
+            self.one(place, at)?;
+            if self.workload.place_in_transaction(place + 1) == 0 {
                 self.end(place + 1)?;
             }
         }

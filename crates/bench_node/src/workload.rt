@@ -70,11 +70,11 @@ impl Workload {
         }
     }
 
-    /// How many operations a transaction has.
-    pub fn per_transaction(self) -> u64 {
+    /// The place in its transaction of the operation at a place of the whole work.
+    pub fn place_in_transaction(self, place: u64) -> u64 {
         match self {
-            Workload::ManySavepoints => 100,
-            _ => 10,
+            Workload::ManySavepoints => place % 100,
+            _ => place % 10,
         }
     }
 
