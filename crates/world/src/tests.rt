@@ -114,12 +114,6 @@ fn stable(alloc: Global, end: u64) -> Out {
     Out::Stable { end, committed }
 }
 
-/// A session is started, and nobody has committed by that.
-fn connects(alloc: Global, request: u64) -> Out {
-    let committed = Committed::new(Vec::new(alloc));
-    Out::Connects { request, committed }
-}
-
 /// The event comes to this.
 fn assert_out(rt: &impl Abort, world: &mut World, event: &Event, out: &Out) {
     assert_eq!(rt; step(world, event), *out, "{event:?}");

@@ -83,5 +83,6 @@ fn refused_memory_before_any_event(rt: HostRuntime) -> Result<(), Fail> {
         assert_eq!(rt; sight(&world), before);
         driven(rt.alloc(), &mut world, &events)?;
     }
+    assert_eq!(rt; records(&world), 3);
     Ok(())
 }

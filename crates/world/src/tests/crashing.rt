@@ -54,31 +54,3 @@ fn a_crash_is_settled(rt: HostRuntime) -> Result<(), Fail> {
     assert_eq!(rt; rows_in(&world), 1);
     Ok(())
 }
-
-/// Two leaves, parted by a record that isn't stable.
-fn parted(alloc: Global) -> Result<World, Fail> {
-    let mut world = answered(alloc)?;
-    step(&mut world, &insert(b"b", b"1")?);
-    step(&mut world, &Event::Force);
-    exchange(&mut world, &SEND);
-    let key = Key::new(b"a")?;
-    step(&mut world, &Event::Split { key });
-    Ok(world)
-}
-
-/// The record of a split stays where it is counted, or has all its bytes.
-#[test]
-fn what_a_crash_keeps(rt: HostRuntime) -> Result<(), Fail> {
-    for (frames, bytes, leaves) in [
-        (0, 0, 1),
-        (0, 1, 1),
-        (0, u64::MAX, 2),
-        (1, 0, 2),
-        (u64::MAX, u64::MAX, 2),
-    ] {
-        let mut world = parted(rt.alloc())?;
-        step(&mut world, &Event::CrashDc { frames, bytes });
-        assert_out(&rt, &mut world, &Event::RestartDc, &Out::Up(leaves));
-    }
-    Ok(())
-}

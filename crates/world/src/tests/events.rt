@@ -43,22 +43,3 @@ fn low_water_is_told(rt: HostRuntime) -> Result<(), Fail> {
     assert_eq!(rt; (requests(&world), replies(&world)), (5, 3));
     Ok(())
 }
-
-/// A list of events is driven to the same outputs.
-#[test]
-fn events_are_driven(rt: HostRuntime) -> Result<(), Fail> {
-    let mut world = running(rt.alloc())?;
-    let events = [
-        Event::Begin,
-        insert(b"a", b"1")?,
-        Event::Force,
-        SEND,
-        Event::Request { number: 3 },
-        Event::Reply { number: 3 },
-    ];
-    let outs = driven(rt.alloc(), &mut world, &events)?;
-    assert_eq!(rt; outs.len(), 6);
-    assert_eq!(rt; outs.last(), Some(&INSERTED));
-    assert_eq!(rt; records(&world), 4);
-    Ok(())
-}

@@ -27,17 +27,6 @@ fn a_request_that_comes_again(rt: HostRuntime) -> Result<(), Fail> {
     Ok(())
 }
 
-#[test]
-fn a_message_that_is_not_there(rt: HostRuntime) -> Result<(), Fail> {
-    let mut world = answered(rt.alloc())?;
-    let unsent = Out::Refused(Refusal::Unsent);
-    for number in [0, 4, u64::MAX] {
-        assert_out(&rt, &mut world, &Event::Request { number }, &unsent);
-        assert_out(&rt, &mut world, &Event::Reply { number }, &unsent);
-    }
-    Ok(())
-}
-
 /// Redo passes a request whose answer is no longer kept.
 #[test]
 fn redo_below_the_low_water(rt: HostRuntime) -> Result<(), Fail> {
@@ -48,21 +37,6 @@ fn redo_below_the_low_water(rt: HostRuntime) -> Result<(), Fail> {
     assert_eq!(rt; exchange(&mut world, &Event::Reconnect), Out::Connected(5));
     assert_eq!(rt; exchange(&mut world, &Event::Recover), Out::Nothing);
     assert_eq!(rt; exchange(&mut world, &Event::Recover), Out::RedoEnded(5));
-    assert_eq!(rt; rows_in(&world), 1);
-    Ok(())
-}
-
-/// Messages of session 1 once session 4 is connected; its insert waits.
-#[test]
-fn messages_of_the_session_before(rt: HostRuntime) -> Result<(), Fail> {
-    let mut world = served_three_times(rt.alloc())?;
-    assert_eq!(rt; exchange(&mut world, &Event::Reconnect), Out::Connected(4));
-    let stale = Out::Refused(Refusal::Stale);
-    for number in 1..4 {
-        assert_out(&rt, &mut world, &Event::Request { number }, &stale);
-        assert_out(&rt, &mut world, &Event::Reply { number }, &stale);
-    }
-    assert_eq!(rt; exchange(&mut world, &Event::Recover), INSERTED);
     assert_eq!(rt; rows_in(&world), 1);
     Ok(())
 }
