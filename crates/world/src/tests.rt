@@ -159,13 +159,6 @@ fn answered(alloc: Global) -> Result<World, Fail> {
     Ok(world)
 }
 
-/// The transaction is being rolled back.
-fn rolling(alloc: Global) -> Result<World, Fail> {
-    let mut world = answered(alloc)?;
-    step(&mut world, &ROLLBACK);
-    Ok(world)
-}
-
 #[test]
 fn the_laws_take_nothing() {
     fallen_law();
