@@ -10,6 +10,3 @@ mod ab_lsn;
 mod entries;
 
 pub use ab_lsn::AbLsn;
-
-#[cfg(test)]
-mod tests;

@@ -3,7 +3,7 @@ use record_key::{Key, Op, Refusal, Value};
 use std::alloc::Global;
 use world::{Event, Out, World, settle};
 
-/// A node and the transaction of its one client. After each call the node is settled.
+/// A node and the transaction of its one client, who hands on the messages. After each call nothing waits.
 #[derive(Drop)]
 pub struct Client {
     world: World,
@@ -31,49 +31,51 @@ impl Client {
     }
 
     pub fn upsert(&mut self, key: Key, value: Value) -> Result<(), Refusal> {
-        let op = Op::Upsert(key, value);
-        self.call(&Event::Act { txn: self.txn, op })
+        let (txn, op) = (self.txn, Op::Upsert(key, value));
+        self.step(&Event::Act { txn, op })?;
+        self.perform()
     }
 
     /// Whether the key has a value.
     pub fn get(&mut self, key: Key) -> Result<bool, Refusal> {
-        self.call(&Event::Get { txn: self.txn, key })?;
-        for out in &self.outs {
-            if let Out::Row { value, .. } = out {
-                return Ok(value.is_some());
-            }
+        let txn = self.txn;
+        self.step(&Event::Get { txn, key })?;
+        match &self.exchange(&Event::Send { txn })? {
+            Out::Row { value, .. } => Ok(value.is_some()),
+            _ => Err(Refusal::Unanswered),
         }
-        Err(Refusal::Unanswered)
     }
 
     /// How many rows stand from `low` on and below `high`.
     pub fn scan(&mut self, low: Key, high: Key) -> Result<usize, Refusal> {
-        let high = Some(high);
-        let txn = self.txn;
-        self.call(&Event::Scan { txn, low, high })?;
-        for out in &self.outs {
-            if let Out::Rows { rows, .. } = out {
-                return Ok(rows.as_slice().len());
-            }
+        let (txn, high) = (self.txn, Some(high));
+        self.step(&Event::Scan { txn, low, high })?;
+        match &self.exchange(&Event::Send { txn })? {
+            Out::Rows { rows, .. } => Ok(rows.as_slice().len()),
+            _ => Err(Refusal::Unanswered),
         }
-        Err(Refusal::Unanswered)
     }
 
     pub fn save(&mut self) -> Result<(), Refusal> {
-        self.call(&Event::Save { txn: self.txn })
+        self.step(&Event::Save { txn: self.txn })?;
+        Ok(())
     }
 
     pub fn go_back(&mut self, savepoint: u64) -> Result<(), Refusal> {
         let txn = self.txn;
-        self.call(&Event::GoBack { txn, savepoint })
+        self.step(&Event::GoBack { txn, savepoint })?;
+        self.undo()
     }
 
     pub fn roll_back(&mut self) -> Result<(), Refusal> {
-        self.call(&Event::Rollback { txn: self.txn })
+        self.step(&Event::Rollback { txn: self.txn })?;
+        self.undo()
     }
 
     pub fn commit(&mut self) -> Result<(), Refusal> {
-        self.call(&Event::Commit { txn: self.txn })
+        self.step(&Event::Commit { txn: self.txn })?;
+        self.step(&Event::Force)?;
+        Ok(())
     }
 
     /// The rows, in key order.
@@ -87,14 +89,29 @@ impl Client {
         Ok(())
     }
 
-    /// One call, and all that it comes to.
-    fn call(&mut self, event: &Event) -> Result<(), Refusal> {
-        self.step(event)?;
-        self.settle()
+    /// The compensations of a rollback, each answered before the next.
+    fn undo(&mut self) -> Result<(), Refusal> {
+        let txn = self.txn;
+        for _ in 0..u64::MAX {
+            let Out::Compensated(_) = self.step(&Event::Undo { txn })? else {
+                break;
+            };
+            self.perform()?;
+        }
+        Ok(())
+    }
+
+    /// What the transaction has logged last is made stable, sent, performed and answered. The answer is forced with
+    /// the next record.
+    fn perform(&mut self) -> Result<(), Refusal> {
+        self.step(&Event::Force)?;
+        self.exchange(&Event::Send { txn: self.txn })?;
+        Ok(())
     }
 
     /// The data component may forget the answers up to the stable end: nothing is sent again.
     pub fn lower(&mut self) -> Result<(), Refusal> {
+        self.step(&Event::Force)?;
         let low = self.world.stable_end()?;
         self.step(&Event::LowWater { low })?;
         self.deliver()
@@ -141,20 +158,17 @@ impl Client {
             settle(&mut self.world, Some(1), &mut self.outs)?;
         }
         self.begin()?;
-        let txn = self.txn;
-        let op = Op::Insert(key, value);
+        let (txn, op) = (self.txn, Op::Insert(key, value));
         self.step(&Event::Act { txn, op })?;
-        self.step(&Event::Force)?;
-        self.exchange(&Event::Send { txn })
+        self.perform()
     }
 
-    /// An event that sends a request, the request's delivery, and that of its reply.
-    fn exchange(&mut self, event: &Event) -> Result<(), Refusal> {
+    /// An event that sends a request, the request's delivery, and that of its reply, which says what came of it.
+    fn exchange(&mut self, event: &Event) -> Result<Out, Refusal> {
         self.step(event)?;
         self.deliver()?;
         let number = self.world.replies();
-        self.step(&Event::Reply { number })?;
-        Ok(())
+        self.step(&Event::Reply { number })
     }
 
     /// The last request is delivered.

@@ -19,7 +19,13 @@ pub fn measured<R: Clock>(
     workload: Workload,
     operations: u64,
 ) -> io::Result<Outcome> {
-    let mut work = done(loaded(alloc, workload, operations))?;
+    let mut work = done(Work::new(alloc, workload, operations))?;
+    timed(rt, &mut work)
+}
+
+/// Loads what stands there before, and then does the work.
+fn timed<R: Clock>(rt: &R, work: &mut Work) -> io::Result<Outcome> {
+    done(work.load())?;
     let start = Instant::now(rt)?;
     done(work.go())?;
     let end = Instant::now(rt)?;
@@ -27,12 +33,6 @@ pub fn measured<R: Clock>(
         took: end.duration_since(start),
         digest: done(work.digest())?,
     })
-}
-
-fn loaded(alloc: Global, workload: Workload, operations: u64) -> Result<Work, Refusal> {
-    let mut work = Work::new(alloc, workload, operations)?;
-    work.load()?;
-    Ok(work)
 }
 
 fn done<T: Drop>(work: Result<T, Refusal>) -> io::Result<T> {

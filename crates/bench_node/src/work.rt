@@ -11,8 +11,8 @@ const KEYS: u64 = 20_000;
 /// How many upserts the transaction has that a crash finds open.
 const LOSER: u64 = 1_000;
 
-/// After so many operations a low number is announced: it raises every leaf.
-const LOWERED: u64 = 1_000;
+/// After so many operations a low number is announced. It raises every leaf, and the keys make about so many.
+const LOWERED: u64 = 4_000;
 
 /// A client with its draws.
 #[derive(Drop)]
@@ -25,9 +25,11 @@ pub struct Work {
 
 impl Work {
     pub fn new(alloc: Global, workload: Workload, operations: u64) -> Result<Work, Refusal> {
+        // The client comes last: a node that is dropped where something else fails is dear to prove.
+        let values = Values::new(alloc)?;
         Ok(Work {
             client: Client::new(alloc)?,
-            values: Values::new(alloc)?,
+            values,
             workload,
             operations,
         })
@@ -131,7 +133,7 @@ impl Work {
             Workload::Rollbacks => self.client.roll_back()?,
             _ => self.client.commit()?,
         }
-        if count % LOWERED == 0 {
+        if count % LOWERED == 0 && self.workload.writes() {
             self.client.lower()?;
         }
         Ok(())

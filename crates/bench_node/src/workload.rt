@@ -78,6 +78,11 @@ impl Workload {
         }
     }
 
+    /// Whether transactions change rows: only then are there answers that a low number lets go.
+    pub fn writes(self) -> bool {
+        self != Workload::Reads
+    }
+
     /// Whether rows are loaded first.
     pub fn has_rows(self) -> bool {
         !matches!(

@@ -17,7 +17,7 @@ use Rattle.record_key.specs.Entries.{RiseAbove, StandBetween}
 use Rattle.record_key.proofs.Lists.{all_from, all_appended}
 use Rattle.record_key.proofs.Truths.{from_T, and_first, and_second}
 use Rattle.record_key.proofs.Tables.{is_same-refl, is_same-true, get-with_record}
-use Rattle.record_key.proofs.Rows.{entries-table_of}
+use Rattle.record_key.proofs.Rows.{entries-table_of, own_rows}
 use Rattle.ab_lsn.specs.AbLsn.{captures}
 use Rattle.ab_lsn.specs.Parting.{is_under, is_from, placed_all}
 use Rattle.ab_lsn.proofs.Rising.{filtered_rises, placed_rises}
@@ -30,7 +30,6 @@ use Rattle.page.proofs.Performing.{all_placed}
 use Rattle.page.proofs.Raising.{all_raised}
 use Rattle.page.proofs.Halves.{all_kept, all_joined, below_free, between_lower, between_upper, lower_between, upper_between, retained, table_again, Apart, apart_of, ordered_both}
 use Rattle.btree.specs.Parting.{key_in, count, middle, may_split}
-use Rattle.btree.proofs.Together.{own_rows}
 
 -- ---- keys of a table
 

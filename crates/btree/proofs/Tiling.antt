@@ -6,7 +6,7 @@ use Rattle.record_key.specs.Order.{is_below, starts_at_most, ends_above}
 use Rattle.page.specs.Leaf.{LeafView, is_in_fences}
 use Rattle.page.specs.Tiles.{parts_of, starts_below, TileFrom}
 use Rattle.page.proofs.Halves.{from_low}
-use Rattle.page.proofs.Starts.{starts_weaker}
+use Rattle.page.proofs.Starts.{starts_weaker, no_parts}
 use Rattle.btree.specs.Leaves.{leaf_at, place_at}
 
 -- ---- the first leaf, and those after it
@@ -25,10 +25,6 @@ pub record GoesOn (from : Option Bytes) (leaf : LeafView) (rest : List LeafView)
   pub above : starts_below from fence ≡ true
   pub later : TileFrom (Some fence) (parts_of rest)
 
-none_left : (rest : List LeafView) → parts_of rest ≡ [] → rest ≡ []
-none_left [] alone = refl
-none_left (leaf ∷ rest) alone = absurd (cc)
-
 pub cases_tile : (from : Option Bytes) (leaf : LeafView) (rest : List LeafView) → TileFrom from (parts_of (leaf ∷ rest)) → IsLast from leaf rest ⊎ GoesOn from leaf rest
 cases_tile from leaf rest tile =
     pick leaf.high_fence refl tile.1
@@ -36,7 +32,7 @@ cases_tile from leaf rest tile =
     pick : (high : Option Bytes) → leaf.high_fence ≡ high
         → MatchOption high (parts_of rest ≡ []) (λ fence. (starts_below leaf.low_fence fence ≡ true) × TileFrom (Some fence) (parts_of rest))
         → IsLast from leaf rest ⊎ GoesOn from leaf rest
-    pick None is alone = inl (record { begins = tile.0; ends = is; alone = none_left rest alone })
+    pick None is alone = inl (record { begins = tile.0; ends = is; alone = no_parts rest alone })
     pick (Some fence) is on =
         inr (record {
           fence = fence;

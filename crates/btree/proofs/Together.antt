@@ -7,8 +7,7 @@ use Rattle.record_key.specs.Table.{Bytes, Table}
 use Rattle.record_key.specs.Order.{is_below, starts_at_most, ends_above}
 use Rattle.record_key.specs.Rows.{Row, AreInOrder, LieBetween, table_of}
 use Rattle.record_key.proofs.Lists.{all_from, all_appended}
-use Rattle.record_key.proofs.Truths.{from_T}
-use Rattle.record_key.proofs.Rows.{entries-table_of}
+use Rattle.record_key.proofs.Rows.{entries-table_of, own_rows}
 use Rattle.ab_lsn.specs.Parting.{is_under, is_from}
 use Rattle.page.specs.Leaf.{LeafView, IsLeaf, is_in_fences}
 use Rattle.page.specs.Tiles.{parts_of, TileFrom}
@@ -22,10 +21,6 @@ use Rattle.btree.proofs.Tiling.{IsLast, GoesOn, cases_tile, where_lies, within_f
 pub record Ordered (from : Option Bytes) (rows : List Row) : Type 0 where
   pub rising : AreInOrder rows
   pub above : LieBetween from None rows
-
--- a leaf's own rows
-pub own_rows : (m : Table) → AreInOrder (map.entries m)
-own_rows m = from_T _ (map.entries_sorted m)
 
 no_end : (low high : Option Bytes) (rows : List Row) → LieBetween low high rows → LieBetween low None rows
 no_end low high rows between =

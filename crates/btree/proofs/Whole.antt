@@ -1,6 +1,6 @@
 -- Nodes at one height, each whole, of which one is another, is put in or is taken out.
 use Rattle.std.proofs.Common.{◌≡◌, ℕ, zero, suc, ◌<◌, ◌≤◌, List, [], ◌∷◌, length, get_or, set, take, drop, sym, ap, subst, arith, length-append}
-use Rattle.std.specs.List.{AllByRecursion, insert, remove}
+use Rattle.std.specs.List.{AllByRecursion, remove}
 use Rattle.record_key.proofs.Lists.{all_appended}
 use Rattle.btree.specs.Nodes.{NodeView, under, over_nodes, height_in, AreChildren, IsChild}
 

@@ -21,6 +21,3 @@ pub use list::LeafList;
 pub use parting::{Merge, Split};
 pub use planning::{may_merge, may_split, merge_at, plan_merge, plan_split, split_at};
 pub use tree::Tree;
-
-#[cfg(test)]
-mod tests;

@@ -14,3 +14,4 @@ pub mod Ends
 pub mod Results
 pub mod Numbered
 pub mod Cuts
+mod Told

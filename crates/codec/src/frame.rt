@@ -38,7 +38,7 @@ pub fn frame_end(bytes: &[u8], at: usize, limit: u64) -> FrameEnd
 }
 
 /// The bytes from a place on, none where it is past the end.
-fn left_at(bytes: &[u8], at: usize) -> &[u8]
+pub(crate) fn left_at(bytes: &[u8], at: usize) -> &[u8]
     ensures { result.now ≡ drop at bytes.now }
 {
     if at < bytes.len() { &bytes[at..] } else { &[] }

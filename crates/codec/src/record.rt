@@ -5,16 +5,17 @@ ghost use Rattle.codec.specs.Records.{record_bytes, HasNumbers, IsRecord};
 ghost use Rattle.codec.specs.Frames.{frame, IfTaken, IfBad, IsThere, IsCut};
 ghost use Rattle.std.specs.List.{flat_map, AllByRecursion};
 ghost use Rattle.codec.specs.Writing.{HasRoom, Puts};
-ghost use Rattle.codec.specs.Reading.{Gives, pair, mapped, optional_at, number_at, op_at, record_at};
+ghost use Rattle.history.specs.Log.{request_of, step_of};
+ghost use Rattle.codec.specs.Reading.{Gives, pair, mapped, optional_at, byte_at, number_at, op_at, record_at};
 
-use crate::frame::{HEADER_LEN, take_framed};
+use crate::frame::{HEADER_LEN, left_at, take_framed};
 use crate::framed::Framed;
 use crate::lengths::{answer_len, op_len, optional_op_len};
 use crate::reading::{take_answer, take_number, take_op, take_optional_op};
 use crate::taken::Taken;
 use crate::writing::{put_answer, put_byte, put_number, put_op, put_optional_op};
 use history::Record;
-use record_key::Refusal;
+use record_key::{Op, Refusal};
 use std::convert::Infallible;
 
 /// Appends the record's frame, its one spelling. Where memory for it is refused nothing is appended.
@@ -46,6 +47,41 @@ pub fn take_record(bytes: &[u8], at: usize) -> Taken<Record>
 {
     let Ok(taken) = take_framed((), bytes, at, RECORD_LIMIT);
     taken
+}
+
+/// The transaction of the Op or Comp record whose frame begins at a place, none of another record. Reads no more than
+/// the kind and one number, and takes no memory.
+pub fn step_txn(bytes: &[u8], at: usize) -> Option<u64>
+    ensures { (r : Record) (rest : List ℕ) → IsRecord r → drop at bytes.now ≡ frame (record_bytes r) ++ rest
+        → result ≡ step_of r }
+{
+    let (kind, rest) = kind_at(bytes, at)?;
+    match kind {
+        3 | 5 => Some(take_number(rest)?.0),
+        _ => None,
+    }
+}
+
+/// The operation that the record whose frame begins at a place asks for, if any. Takes no memory.
+pub fn asked_op(bytes: &[u8], at: usize) -> Option<Op>
+    ensures { (r : Record) (rest : List ℕ) → IsRecord r → drop at bytes.now ≡ frame (record_bytes r) ++ rest
+        → result ≡ request_of r }
+{
+    let (kind, rest) = kind_at(bytes, at)?;
+    // Two numbers stand before an Op's operation, three before a Comp's inverse.
+    match kind {
+        3 => Some(take_op(left_at(rest, 16))?.0),
+        5 => take_optional_op(left_at(rest, 24))?.0,
+        _ => None,
+    }
+}
+
+/// The kind of the record whose frame begins at a place, and the bytes after it.
+fn kind_at(bytes: &[u8], at: usize) -> Option<(u8, &[u8])>
+    ensures { Gives (λ x. (x.0, x.1.now)) result (byte_at (drop 8 (drop at bytes.now))) }
+{
+    let (kind, rest) = left_at(left_at(bytes, at), HEADER_LEN).split_first()?;
+    Some((*kind, rest))
 }
 
 /// No record's frame begins another's, so what was written is read back, whatever follows it.

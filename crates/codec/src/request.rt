@@ -16,7 +16,7 @@ use record_key::{Key, Op, Refusal};
 use std::convert::Infallible;
 
 /// A request of a session. Requests of other sessions than the last that connected are stale.
-#[derive(Debug, Clone, PartialEq, Eq, Drop)]
+#[derive(Debug, PartialEq, Eq, Drop)]
 pub enum Request {
     /// The session begins.
     Connect {

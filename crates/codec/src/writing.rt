@@ -22,7 +22,7 @@ pub(crate) fn put_byte(out: &mut Vec<u8>, byte: u8)
     requires { HasRoom out.old (byte ∷ []) }
     ensures { Puts out.old out.new (byte ∷ []) }
 {
-    put_bytes(out, &[byte]);
+    out.push_reserved(byte);
 }
 
 #[tactic(auto, unfolding(crate::specs::Fields::number))]

@@ -12,6 +12,3 @@ mod undo_chain;
 
 pub use saves::Saves;
 pub use undo_chain::{Chain, Next, left_from, next_undo};
-
-#[cfg(test)]
-mod tests;

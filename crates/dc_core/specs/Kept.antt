@@ -31,6 +31,7 @@ IsListed performed e = AllByRecursion (λ (p : Performance). Saves p e) performe
 abbrev pub AreListed : List Performance → LeafView → Type 0
 AreListed performed leaf = AllByRecursion (IsListed performed) leaf.ab.entries
 
+-- what holds of a data component at every moment
 pub record IsDc (w : DcView) : Type 0 where
   pub system : IsSystem w.system
   -- the records are those at the last opening with what was performed since

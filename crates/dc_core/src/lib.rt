@@ -26,6 +26,3 @@ mod tending;
 pub use dc::Dc;
 pub use performance::Performance;
 pub use system_txn::{Devices, Neighbours, Refused, Tended};
-
-#[cfg(test)]
-mod tests;

@@ -2,7 +2,7 @@
 use record_key::{Answer, Op};
 
 /// An operation that was performed under this number, and what it was answered then.
-#[derive(Debug, Clone, PartialEq, Eq, Drop)]
+#[derive(Debug, PartialEq, Eq, Drop)]
 pub struct Performance {
     pub number: u64,
     pub op: Op,

@@ -10,27 +10,36 @@ use std::process::ExitCode;
 use world::{Event, Out, World, settle};
 
 fn main(rt: HostRuntime) -> ExitCode {
-    match work(&rt) {
+    match run(&rt) {
         Ok(()) => ExitCode::from(0),
         Err(_) => ExitCode::from(1),
     }
 }
 
-fn work(rt: &HostRuntime) -> Result<(), Refusal> {
+fn run(rt: &HostRuntime) -> Result<(), Refusal> {
     let mut world = World::new(rt.alloc())?;
-    settled(rt, &mut world)?;
-    let Out::Begun(txn) = call(rt, &mut world, &Event::Begin)? else {
-        return Err(Refusal::NotOpen);
-    };
-    write_and_go_back(rt, &mut world, txn)?;
-    call(rt, &mut world, &Event::Commit { txn })?;
-    let Out::Begun(txn) = call(rt, &mut world, &Event::Begin)? else {
-        return Err(Refusal::NotOpen);
-    };
+    work(rt, &mut world)
+}
+
+/// Two transactions, one after the other. The node is lent: who owns it has one place where it goes.
+fn work(rt: &HostRuntime, world: &mut World) -> Result<(), Refusal> {
+    settled(rt, world)?;
+    let txn = begun(rt, world)?;
+    write_and_go_back(rt, world, txn)?;
+    call(rt, world, &Event::Commit { txn })?;
+    let txn = begun(rt, world)?;
     let key = key()?;
-    call(rt, &mut world, &Event::Get { txn, key })?;
-    call(rt, &mut world, &Event::Commit { txn })?;
+    call(rt, world, &Event::Get { txn, key })?;
+    call(rt, world, &Event::Commit { txn })?;
     Ok(())
+}
+
+/// The number of a new transaction.
+fn begun(rt: &HostRuntime, world: &mut World) -> Result<u64, Refusal> {
+    match call(rt, world, &Event::Begin)? {
+        Out::Begun(txn) => Ok(txn),
+        _ => Err(Refusal::NotOpen),
+    }
 }
 
 /// The first value stays; the second is undone by going back to the savepoint between them.

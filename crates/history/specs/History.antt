@@ -1,6 +1,6 @@
 -- A history: one list of answered operations, the newest first, with the rolled-back ones crossed out;
 -- and the plain map that the others leave.
-use Rattle.std.specs.Prelude.{ℕ, ◌==◌, ◌&&◌, ◌||◌, Bool, true, false, not, List, [], ◌∷◌, map, filter, nat_lt, if◌then◌else◌}
+use Rattle.std.specs.Prelude.{ℕ, ◌==◌, ◌&&◌, ◌||◌, Bool, List, [], ◌∷◌, map, filter, nat_lt, if◌then◌else◌}
 use Rattle.std.specs.FinMap as table
 use Rattle.record_key.specs.declared.op.Op.{Op}
 use Rattle.record_key.specs.declared.op.Answer.{Answer}

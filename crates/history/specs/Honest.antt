@@ -1,10 +1,9 @@
 -- When a leaf is honest for a log: of each of its keys it has captured a beginning of what the log does there.
-use Rattle.std.specs.Prelude.{◌≡◌, ℕ, ◌+◌, ◌<◌, ◌≤◌, ◌==◌, ◌||◌, Bool, true, false, List, [], ◌∷◌, Option, Some, None, length, nat_le, if◌then◌else◌}
-use Rattle.std.specs.List.{AllByRecursion, list_any}
+use Rattle.std.specs.Prelude.{◌≡◌, ℕ, ◌+◌, Bool, true, List, [], ◌∷◌, Option, Some, None, length, if◌then◌else◌}
+use Rattle.std.specs.List.{AllByRecursion}
 use Rattle.std.specs.Bool.{MatchBool}
 use Rattle.record_key.specs.declared.op.Op.{Op}
-use Rattle.record_key.specs.declared.op.Answer.{Answer}
-use Rattle.record_key.specs.Table.{Bytes, key_of, answer_at, value_after}
+use Rattle.record_key.specs.Table.{Bytes, value_after}
 use Rattle.history.specs.declared.record.Record.{Record}
 use Rattle.history.specs.Log.{request_of}
 use Rattle.history.specs.Values.{is_on}

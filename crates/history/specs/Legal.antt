@@ -1,12 +1,12 @@
 -- When a record fits the records before it, and so which logs are legal.
-use Rattle.std.specs.Prelude.{◌≡◌, ◌≢◌, ◌⊎◌, ℕ, ◌<◌, ◌≤◌, false, List, [], ◌∷◌, Option, Some, None, IsSome, length}
+use Rattle.std.specs.Prelude.{◌≡◌, ◌⊎◌, ℕ, ◌<◌, ◌≤◌, false, List, [], ◌∷◌, Option, Some, None, IsSome, length}
 use Rattle.record_key.specs.declared.op.Op.{Op}
 use Rattle.record_key.specs.declared.op.Answer.{Answer}
 use Rattle.record_key.specs.Table.{Bytes, key_of}
 use Rattle.inverse.specs.Inverse.{inverse_of}
 use Rattle.history.specs.declared.record.Record.{Record}
 use Rattle.history.specs.declared.record.Record.TheVariants as is
-use Rattle.history.specs.Log.{record_at, answer_of, is_crossed, IsOpen, Requests, IsStepOf, IsOpBy}
+use Rattle.history.specs.Log.{answer_of, is_crossed, IsOpen, Requests, IsStepOf, IsOpBy}
 
 -- the greatest number of a kind
 pub record IsLatest (P : ℕ → Type 0) (n : ℕ) : Type 0 where

@@ -1,9 +1,8 @@
 -- A transaction log: the list of its records, the newest first. A record's number is how many there are up
 -- to it, from 1.
-use Rattle.std.specs.Prelude.{◌≡◌, ℕ, ◌+◌, ◌-◌, ◌<◌, ◌≤◌, ◌==◌, ◌||◌, ◌&&◌, Bool, true, false, not, List, [], ◌∷◌, Option, Some, None, length, drop, if◌then◌else◌}
+use Rattle.std.specs.Prelude.{◌≡◌, ℕ, ◌+◌, ◌==◌, ◌||◌, Bool, false, List, [], ◌∷◌, Option, Some, None, length, if◌then◌else◌}
 use Rattle.record_key.specs.declared.op.Op.{Op}
 use Rattle.record_key.specs.declared.op.Answer.{Answer}
-use Rattle.record_key.specs.Table.{Bytes, key_of}
 use Rattle.history.specs.declared.record.Record.{Record}
 use Rattle.history.specs.declared.record.Record.TheVariants as is
 use Rattle.history.specs.History.{Entry}
@@ -55,6 +54,11 @@ request_in (Some r) = request_of r
 -- the record of this number has this done
 abbrev pub Requests : List Record → ℕ → Op → Type 0
 Requests log n o = request_in (record_at log n) ≡ Some o
+
+-- it asks for something
+pub record HasRequest (log : List Record) (n : ℕ) : Type 0 where
+  pub op : Op
+  pub requested : Requests log n op
 
 -- the transaction whose Op or Comp record it is
 abbrev pub step_of : Record → Option ℕ

@@ -1,5 +1,5 @@
 -- Spans of keys that transactions hold, and when two of them conflict.
-use Rattle.std.specs.Prelude.{◌≡◌, ◌⊎◌, ℕ, ◌&&◌, Bool, true, false, not, List, [], ◌∷◌, ◌++◌, Option, Some, None, IsTrue, filter}
+use Rattle.std.specs.Prelude.{◌⊎◌, ◌&&◌, Bool, true, false, not, List, [], ◌∷◌, ◌++◌, Option, Some, IsTrue, filter}
 use Rattle.std.specs.FinMap as table
 use Rattle.record_key.specs.Table.{Bytes, Table}
 use Rattle.record_key.specs.Order.{is_below, ends_above}

@@ -35,6 +35,3 @@ pub fn inverse_law()
 pub fn no_inverse_law()
     ensures { WithoutEffect }
 {}
-
-#[cfg(test)]
-mod tests;

@@ -6,7 +6,7 @@ use Rattle.record_key.specs.declared.op.Op.{Op}
 use Rattle.record_key.specs.declared.op.Answer.{Answer}
 use Rattle.history.specs.declared.record.Record.{Record}
 use Rattle.history.specs.declared.record.Record.TheVariants as is
-use Rattle.history.specs.Log.{record_at, before, answer_of, is_crossed, has_ended, IsOpen, Requests, IsStepOf, IsOpBy}
+use Rattle.history.specs.Log.{record_at, before, answer_of, is_crossed, has_ended, IsOpen, Requests, IsStepOf, IsOpBy, HasRequest}
 use Rattle.history.specs.Legal.{Fits, IsLegal, IsIdle, Stands}
 use Rattle.history.specs.Values.{HasRightAnswers}
 use Rattle.log_laws.proofs.Records.{AStep, AnOp, ARequest, op_step, no_step, no_op, no_request, newest_at, older_at, IsNumber, not_newest, within, kept_at, had_at, before_newest, before_older, until}
@@ -119,15 +119,11 @@ ended_cases t (is.End u) log h =
     elim (or_cases (t == u) (has_ended log t) h) [ inl e ↦ inr (inr (ap is.End (sym (eqb-true t u e)))) | inr e ↦ inl e ]
 ended_cases t _ log h = inl h
 
--- a number of an operation, and one of a request
+-- a number of an operation
 pub record SomeOp (log : List Record) (n : ℕ) : Type 0 where
   pub txn : ℕ
   pub op : Op
   pub is_op : IsOpBy log n txn op
-
-pub record SomeRequest (log : List Record) (n : ℕ) : Type 0 where
-  pub op : Op
-  pub requested : Requests log n op
 
 -- each of these is a number of the log
 pub op_number : (log : List Record) (n t : ℕ) (o : Op) → IsOpBy log n t o → IsNumber log n
@@ -143,7 +139,7 @@ step_number log n t h = within (AStep t) (no_step t) log n h
 kept_op : (r : Record) (log : List Record) (n : ℕ) → SomeOp log n → SomeOp (r ∷ log) n
 kept_op r log n h = record { txn = h.txn; op = h.op; is_op = kept_at (AnOp h.txn h.op) r log n (op_number log n h.txn h.op h.is_op) h.is_op }
 
-kept_request : (r : Record) (log : List Record) (n : ℕ) → SomeRequest log n → SomeRequest (r ∷ log) n
+kept_request : (r : Record) (log : List Record) (n : ℕ) → HasRequest log n → HasRequest (r ∷ log) n
 kept_request r log n h = record { op = h.op; requested = kept_at (ARequest h.op) r log n (request_number log n h.op h.requested) h.requested }
 
 -- what a compensation names is an operation of its transaction
@@ -161,16 +157,16 @@ crossed_is_op [] n h c = absurd (cc)
 crossed_is_op (r ∷ log) n h c = kept_op r log n (crossed_now r log n h.0 c (crossed_is_op log n h.1))
 
 -- what is answered is a request
-answered_now : (r : Record) (log : List Record) (n : ℕ) → Fits log r → IsSome (answer_of (r ∷ log) n) → (IsSome (answer_of log n) → SomeRequest log n) → SomeRequest log n
+answered_now : (r : Record) (log : List Record) (n : ℕ) → Fits log r → IsSome (answer_of (r ∷ log) n) → (IsSome (answer_of log n) → HasRequest log n) → HasRequest log n
 answered_now (is.Answer m a) log n h c before =
     elim (cases_eq n m) [
-      | inl e ↦ subst (SomeRequest log) (sym e) (record { op = h.op; requested = h.requested })
+      | inl e ↦ subst (HasRequest log) (sym e) (record { op = h.op; requested = h.requested })
       | inr e ↦ before (subst (λ (b : Bool). IsSome (cond b (Some a) (answer_of log n))) (ne_eqb n m e) c)
     ]
 answered_now _ log n h c before = before c
 
 -- so it is in the whole log
-pub answered_is_request : (log : List Record) (n : ℕ) → IsLegal log → IsSome (answer_of log n) → SomeRequest log n
+pub answered_is_request : (log : List Record) (n : ℕ) → IsLegal log → IsSome (answer_of log n) → HasRequest log n
 answered_is_request [] n h c = absurd (cc)
 answered_is_request (r ∷ log) n h c = kept_request r log n (answered_now r log n h.0 c (answered_is_request log n h.1))
 

@@ -23,6 +23,3 @@ pub use runs::{
     busy_read_run, commit_crash_run, held_key_run, rollback_crash_run, rolled_back_run,
     savepoint_run, second_insert_run,
 };
-
-#[cfg(test)]
-mod tests;

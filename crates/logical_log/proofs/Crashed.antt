@@ -1,12 +1,10 @@
 -- A crash leaves whole frames, and perhaps a part of one; and what is opened from them is the log of these.
-use Rattle.std.proofs.Common.{◌≡◌, ℕ, ◌+◌, ◌<◌, ◌≤◌, ◌^◌, List, [], ◌∷◌, ◌++◌, length, take, drop, refl, sym, ap, ◌∙◌, subst, arith, inl, inr, append_assoc, append-nil}
+use Rattle.std.proofs.Common.{◌≡◌, ℕ, ◌+◌, ◌<◌, ◌≤◌, ◌^◌, List, [], ◌∷◌, ◌++◌, length, drop, sym, ap, ◌∙◌, subst, arith, inl, inr, append-nil}
 use Rattle.std.proofs.lemmas.Bool.{cases_lt}
-use Rattle.std.proofs.lemmas.List.{length-append, take_at, drop_at, take-append-drop, take-append-le, nil_from_length}
+use Rattle.std.proofs.lemmas.List.{length-append, nil_from_length}
 use Rattle.codec.proofs.Cuts.{longer, after, part_cut}
-use Rattle.codec.specs.Fields.{number, first_number}
 use Rattle.codec.specs.Frames.{frame, IsCut}
 use Rattle.codec.specs.Records.{record_bytes, IsRecord}
-use Rattle.codec.proofs.Fields.{length-number, first_number-number}
 use Rattle.codec.proofs.Records.{record_length}
 use Rattle.history.specs.declared.record.Record.{Record}
 use Rattle.history.specs.Legal.{IsLegal}

@@ -1,5 +1,5 @@
 -- Frames stay what they are as records are read or appended.
-use Rattle.std.proofs.Common.{◌≡◌, ℕ, ◌+◌, ◌-◌, ◌<◌, ◌≤◌, List, [], ◌∷◌, ◌++◌, length, get_or, Some, refl, sym, ap, ◌∙◌, subst, arith, append_assoc, drop, take}
+use Rattle.std.proofs.Common.{◌≡◌, ℕ, ◌+◌, ◌-◌, ◌<◌, List, [], ◌∷◌, ◌++◌, length, get_or, Some, None, ◌⊎◌, inl, inr, refl, sym, ap, ◌∙◌, subst, arith, append_assoc, drop, take}
 use Rattle.std.proofs.lemmas.List.{append-nil, length-append, drop_at, take_at}
 use Rattle.std.proofs.lemmas.Grind.{get_or_default_zero}
 use Rattle.codec.specs.Frames.{frame}
@@ -11,8 +11,9 @@ use Rattle.history.specs.Log.{record_at}
 use Rattle.history.specs.Legal.{Fits}
 use Rattle.logical_log.specs.Index.{noted}
 use Rattle.logical_log.specs.Kept.{AreFrames}
-use Rattle.logical_log.specs.Spelled.{spelled, places, records_at}
-use Rattle.logical_log.proofs.Spelled.{read_back, length-places, takes, Takes}
+use Rattle.logical_log.specs.Spelled.{spelled, places, records_at, IsPlaceOf}
+use Rattle.logical_log.proofs.Index.{record_at-zero, record_at-past}
+use Rattle.logical_log.proofs.Spelled.{read_back, length-places, tells, Tells}
 
 -- the records that are read at the places are those of the log that is kept
 pub same_log : (log : List Record) (bytes left begins answers : List ℕ) (end : ℕ)
@@ -83,23 +84,37 @@ kept_longer log bytes left begins answers end r bytes' rest h fits spells room i
   indexed = ap (noted r (length log + 1)) h.indexed;
 }
 
--- what a reading at its place takes of a number
-pub takes_kept : (log : List Record) (bytes left begins answers : List ℕ) (end : ℕ)
+-- what a reading at its place tells of a number
+pub tells_kept : {X : Type 0} (of : Record → X) (log : List Record) (bytes left begins answers : List ℕ) (end : ℕ)
     → AreFrames log bytes left begins answers end
-    → (n place : ℕ) (given : List ℕ) (taken : Taken Record) → given ≡ bytes → place ≡ get_or begins (n - 1) place
-    → 0 < n → n ≤ length log
-    → ((r : Record) (rest : List ℕ) → IsRecord r → drop place given ≡ frame (record_bytes r) ++ rest
-    → taken ≡ took.Record r (place + length (frame (record_bytes r))))
-    → Takes log n taken
-takes_kept log bytes left begins answers end h n place given taken same at some there only =
+    → (n place : ℕ) (given : List ℕ) (told : X) → given ≡ bytes → IsPlaceOf begins n place
+    → ((r : Record) (rest : List ℕ) → IsRecord r → drop place given ≡ frame (record_bytes r) ++ rest → told ≡ of r)
+    → Tells log n of told
+tells_kept of log bytes left begins answers end h n place given told same at only =
     let count : length begins ≡ length log = ap length h.begins_are ∙ length-places log in
-    let at_zero : place ≡ get_or (places log) (n - 1) 0 = at
-    ∙ get_or_default_zero begins (n - 1) place (omega (arith, count))
+    let at_zero : place ≡ get_or (places log) (n - 1) 0 = at.at
+    ∙ get_or_default_zero begins (n - 1) place (omega (arith, at.positive, at.bounded))
     ∙ ap (λ (b : List ℕ). get_or b (n - 1) 0) h.begins_are in
-    takes log n given left place taken h.spellable (same ∙ h.bytes_are) at_zero some there only
+    tells of log n given left place told h.spellable (same ∙ h.bytes_are) at_zero at.positive
+    (omega (arith, at.bounded, count)) only
+
+-- a number that has no place has no record
+pub none_kept : (log : List Record) (bytes left begins answers : List ℕ) (end : ℕ)
+    → AreFrames log bytes left begins answers end → (n : ℕ) → (n ≡ 0) ⊎ (length begins < n) → record_at log n ≡ None
+none_kept log bytes left begins answers end h n none =
+    elim none [
+      | inl zero ↦ ap (record_at log) zero ∙ record_at-zero log
+      | inr past ↦ record_at-past log n (omega (arith, past, ap length h.begins_are ∙ length-places log))
+    ]
+
+-- a record and the place after it
+abbrev pub taken_from : ℕ → Record → Taken Record
+taken_from place r = took.Record r (place + length (frame (record_bytes r)))
 
 -- it is the record of the number, and nothing else is taken
-pub taken_is : (log : List Record) (n : ℕ) (taken : Taken Record) (found : Record) (next : ℕ) → Takes log n taken
-    → taken ≡ took.Record found next → Some found ≡ record_at log n
-taken_is log n taken found next h is = let both : took.Record found next ≡ took.Record h.found h.next = sym is
-    ∙ h.taken_is in let same : found ≡ h.found = cc in ap Some same ∙ sym h.is
+pub taken_is : (log : List Record) (n place : ℕ) (taken : Taken Record) (found : Record) (next : ℕ)
+    → Tells log n (taken_from place) taken → taken ≡ took.Record found next → Some found ≡ record_at log n
+taken_is log n place taken found next h is =
+    let both : took.Record found next ≡ taken_from place h.found = sym is ∙ h.told_is in
+    let same : found ≡ h.found = cc in
+    ap Some same ∙ sym h.is

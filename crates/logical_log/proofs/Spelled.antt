@@ -12,8 +12,6 @@ use Rattle.codec.proofs.Frames as frames
 use Rattle.codec.proofs.Records.{record_reads, record_length}
 use Rattle.history.specs.declared.record.Record.{Record}
 use Rattle.history.specs.Log.{record_at}
-use Rattle.codec.specs.declared.taken.Taken.{Taken}
-use Rattle.codec.specs.declared.taken.Taken.TheVariants as took
 use Rattle.log_laws.proofs.Records.{at_newest, at_older, newest_at, older_at, IsNumber, within}
 use Rattle.logical_log.specs.Low.{stable_part}
 use Rattle.logical_log.specs.Spelled.{spelled, places, read_at, records_at, taken_or_session, AreRecords}
@@ -148,20 +146,18 @@ has_record (q ∷ log) n some there =
       | inr e ↦ let was = has_record log n some (omega arith) in (was.0, at_older (λ x. x ≡ Some was.0) q log n e was.1)
     ]
 
--- what a reading at its place takes of a number: its record
-pub record Takes (log : List Record) (n : ℕ) (taken : Taken Record) : Type 0 where
+-- what a reading at its place tells of a number: this of its record
+pub record Tells {X : Type 0} (log : List Record) (n : ℕ) (of : Record → X) (told : X) : Type 0 where
   pub found : Record
-  pub next : ℕ
   pub is : record_at log n ≡ Some found
-  pub taken_is : taken ≡ took.Record found next
+  pub told_is : told ≡ of found
 
-pub takes : (log : List Record) (n : ℕ) (bytes left : List ℕ) (place : ℕ) (taken : Taken Record) → AreRecords log
-    → bytes ≡ spelled log ++ left → place ≡ get_or (places log) (n - 1) 0
+pub tells : {X : Type 0} (of : Record → X) (log : List Record) (n : ℕ) (bytes left : List ℕ) (place : ℕ) (told : X)
+    → AreRecords log → bytes ≡ spelled log ++ left → place ≡ get_or (places log) (n - 1) 0
     → 0 < n → n ≤ length log
-    → ((r : Record) (rest : List ℕ) → IsRecord r → drop place bytes ≡ frame (record_bytes r) ++ rest
-    → taken ≡ took.Record r (place + length (frame (record_bytes r))))
-    → Takes log n taken
-takes log n bytes left place taken each whole at some there only =
+    → ((r : Record) (rest : List ℕ) → IsRecord r → drop place bytes ≡ frame (record_bytes r) ++ rest → told ≡ of r)
+    → Tells log n of told
+tells of log n bytes left place told each whole at some there only =
     let has = has_record log n some there in
     let stands_at : StandsAt (spelled log ++ left) (get_or (places log) (n - 1) 0) has.0 = stands log left n has.0
     has.1 in
@@ -169,8 +165,6 @@ takes log n bytes left place taken each whole at some there only =
     ap (λ (p : ℕ). drop p bytes) at ∙ ap (drop (get_or (places log) (n - 1) 0)) whole ∙ stands_at.is in
     record {
       found = has.0;
-      next = place + length (frame (record_bytes has.0));
       is = has.1;
-      taken_is = only has.0
-          stands_at.rest (is_record log n has.0 each has.1) here;
+      told_is = only has.0 stands_at.rest (is_record log n has.0 each has.1) here;
     }

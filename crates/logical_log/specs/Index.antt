@@ -1,20 +1,30 @@
--- The index of Answer records.
+-- The index of Answer records, which also tells which records ask for nothing.
 use Rattle.std.specs.Prelude.{ℕ, ◌+◌, ◌-◌, ◌<◌, ◌≤◌, ◌||◌, Bool, not, List, [], ◌∷◌, ◌++◌, Option, Some, None, is_some, length, slice_set}
 use Rattle.record_key.specs.declared.op.Answer.{Answer}
+use Rattle.record_key.specs.declared.op.Op.{Op}
 use Rattle.history.specs.declared.record.Record.{Record}
 use Rattle.history.specs.declared.record.Record.TheVariants as is
-use Rattle.history.specs.Log.{record_at, answer_of, request_in}
+use Rattle.history.specs.Log.{record_at, answer_of, request_of, request_in}
+
+-- no record's number: the index holds it where nothing is asked for
+abbrev pub asks_nothing : ℕ
+asks_nothing = 18446744073709551615
+
+-- what the index holds at first for a record that asks for this
+abbrev pub first_place : Option Op → ℕ
+first_place None = asks_nothing
+first_place (Some op) = 0
 
 -- the index, once this record of this number is noted in it
 abbrev pub noted : Record → ℕ → List ℕ → List ℕ
-noted (is.Answer of answer) n answers = slice_set answers (of - 1) n ++ 0 ∷ []
-noted _ n answers = answers ++ 0 ∷ []
+noted (is.Answer of answer) n answers = slice_set answers (of - 1) n ++ asks_nothing ∷ []
+noted r n answers = answers ++ first_place (request_of r) ∷ []
 
 abbrev pub NamesWithin : Record → ℕ → Type 0
 NamesWithin (is.Answer of answer) count = (0 < of) × (of ≤ count)
 NamesWithin _ count = Unit {0}
 
--- by each number the number of its Answer record, 0 while there is none
+-- by each number the number of its Answer record, 0 while there is none, no record's number where nothing is asked for
 abbrev pub index : List Record → List ℕ
 index [] = []
 index (r ∷ log) = noted r (length log + 1) (index log)

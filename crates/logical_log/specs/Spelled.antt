@@ -1,5 +1,5 @@
 -- A log as bytes: the frames of its records one after another.
-use Rattle.std.specs.Prelude.{ℕ, List, [], ◌∷◌, ◌++◌, length, map, reverse, drop}
+use Rattle.std.specs.Prelude.{◌≡◌, ℕ, ◌-◌, ◌<◌, ◌≤◌, get_or, List, [], ◌∷◌, ◌++◌, length, map, reverse, drop}
 use Rattle.std.specs.List.{AllByRecursion}
 use Rattle.codec.specs.Frames.{frame, IsThere}
 use Rattle.codec.specs.Records.{record_bytes, IsRecord}
@@ -18,6 +18,12 @@ spelled (r ∷ log) = spelled log ++ frame (record_bytes r)
 unfoldable pub places : List Record → List ℕ
 places [] = []
 places (r ∷ log) = places log ++ length (spelled log) ∷ []
+
+-- of these places this is the one of a number
+pub record IsPlaceOf (begins : List ℕ) (n place : ℕ) : Type 0 where
+  pub positive : 0 < n
+  pub bounded : n ≤ length begins
+  pub at : place ≡ get_or begins (n - 1) place
 
 -- each record has a spelling
 abbrev pub AreRecords : List Record → Type 0

@@ -1,6 +1,6 @@
 //! The frames of records, one after another, with an index of places and of answers.
-ghost use Rattle.std.specs.Prelude.{◌≡◌, ◌+◌, ◌≤◌, ◌<◌, ◌^◌, ◌↔◌, ◌++◌, ◌∷◌, [], ℕ, List, length, None, IsTrue, OnOk, OnErr, IfErr};
-ghost use Rattle.history.specs.Log.{record_at, answer_of};
+ghost use Rattle.std.specs.Prelude.{◌≡◌, ◌+◌, ◌≤◌, ◌<◌, ◌^◌, ◌↔◌, ◌++◌, ◌∷◌, [], ℕ, List, length, ◌⊎◌, None, IsTrue, IfSome, IfNone, OnOk, OnErr, IfErr};
+ghost use Rattle.history.specs.Log.{record_at, answer_of, request_in, step_in};
 ghost use Rattle.history.specs.Legal.{Fits, IsLegal};
 ghost use Rattle.history.specs.declared.record.Record.{Record};
 ghost use Rattle.codec.specs.Frames.{frame, IfTaken, IfBad, IsThere, IsCut};
@@ -8,13 +8,13 @@ ghost use Rattle.codec.specs.Records.{record_bytes, HasNumbers, IsRecord};
 ghost use Rattle.logical_log.specs.Index.{is_answered};
 ghost use Rattle.record_key.specs.FirstCause.{MayRefuse, failures_in};
 ghost use Rattle.logical_log.specs.Low.{stable_part};
-ghost use Rattle.logical_log.specs.Spelled.{spelled, AreRecords, IsNext};
+ghost use Rattle.logical_log.specs.Spelled.{spelled, AreRecords, IsNext, IsPlaceOf};
 
-use crate::note::{answer_held, answer_place, asks, note};
+use crate::note::{answer_held, answer_place, note};
 use crate::write::write;
-use codec::{Taken, take_record};
+use codec::{Taken, asked_op, step_txn, take_record};
 use history::Record;
-use record_key::{Answer, Refusal};
+use record_key::{Answer, Op, Refusal};
 use stable::LogDevice;
 use std::alloc::{AllocError, Global};
 use std::marker::Model;
@@ -27,7 +27,8 @@ pub(crate) struct Frames {
     end: usize,
     // Where the frame of each record begins.
     places: Vec<usize>,
-    // For each record the number of its Answer record, 0 while there is none.
+    // For each record the number of its Answer record, 0 while there is none, and no record's number where it asks for
+    // nothing: so whether it is answered is told without reading it.
     answers: Vec<u64>,
 }
 
@@ -72,14 +73,27 @@ impl Frames {
     pub(crate) fn record(&self, number: u64) -> Option<Record>
         ensures { result ≡ record_at self.now.records number }
     {
-        let count = self.len();
-        if number == 0 || count < number {
-            return None;
-        }
-        match take_record(&self.bytes, self.places[number as usize - 1]) {
+        let place = place_of(self.places.as_slice(), number)?;
+        match take_record(&self.bytes, place) {
             Taken::Record(found, _) => Some(found),
             _ => None,
         }
+    }
+
+    /// The transaction of the Op or Comp record of this number, told without reading the whole record.
+    pub(crate) fn step_txn(&self, number: u64) -> Option<u64>
+        ensures { result ≡ step_in (record_at self.now.records number) }
+    {
+        let place = place_of(self.places.as_slice(), number)?;
+        step_txn(&self.bytes, place)
+    }
+
+    /// The operation that the record of this number asks for, told without reading the whole record.
+    pub(crate) fn asked_op(&self, number: u64) -> Option<Op>
+        ensures { result ≡ request_in (record_at self.now.records number) }
+    {
+        let place = place_of(self.places.as_slice(), number)?;
+        asked_op(&self.bytes, place)
     }
 
     pub(crate) fn answer_of(&self, number: u64) -> Option<Answer>
@@ -96,10 +110,10 @@ impl Frames {
     pub(crate) fn is_answered(&self, number: u64) -> bool
         ensures { result ≡ is_answered self.now.records number }
     {
-        match self.record(number) {
-            Some(item) if asks(&item) => self.answer_of(number).is_some(),
-            _ => true,
+        if number == 0 {
+            return true;
         }
+        answer_place(self.answers.as_slice(), number) != 0
     }
 
     /// Where the frames that were read end.
@@ -192,4 +206,15 @@ impl Frames {
     {
         self.bytes.truncate(self.end);
     }
+}
+
+/// Where the frame of the record of this number begins, if there is one.
+fn place_of(places: &[usize], number: u64) -> Option<usize>
+    ensures some { IfSome result (IsPlaceOf places.now number) }
+    ensures none { IfNone result ((number ≡ 0) ⊎ (length places.now < number)) }
+{
+    if number == 0 {
+        return None;
+    }
+    places.get(number as usize - 1).copied()
 }

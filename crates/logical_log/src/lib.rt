@@ -20,6 +20,3 @@ mod write;
 pub use laws::crash_law;
 pub use log::Log;
 pub use open::Refused;
-
-#[cfg(test)]
-mod tests;

@@ -1,6 +1,6 @@
 //! The log and what is read of it.
 ghost use Rattle.std.specs.Prelude.{◌≡◌, ◌≤◌, ◌<◌, ◌^◌, ◌++◌, [], length};
-ghost use Rattle.history.specs.Log.{record_at, answer_of};
+ghost use Rattle.history.specs.Log.{record_at, answer_of, request_in, step_in};
 ghost use Rattle.history.specs.Legal.{IsLegal, FitsCheckpoint, IsLatest};
 ghost use Rattle.stable.specs.Crash.{BeginsWith};
 ghost use Rattle.logical_log.specs.Low.{stable_part, IsGreatestLow};
@@ -8,7 +8,7 @@ ghost use Rattle.logical_log.specs.Spelled.{spelled, AreRecords};
 
 use crate::frames::Frames;
 use history::Record;
-use record_key::Answer;
+use record_key::{Answer, Op};
 use stable::LogDevice;
 use std::alloc::Global;
 use std::marker::Model;
@@ -100,6 +100,20 @@ impl<D: LogDevice> Log<D> {
         ensures { result ≡ record_at self.now.records number }
     {
         self.frames.record(number)
+    }
+
+    /// The transaction of the Op or Comp record of this number. Takes no memory and makes no device call.
+    pub fn step_txn(&self, number: u64) -> Option<u64>
+        ensures { result ≡ step_in (record_at self.now.records number) }
+    {
+        self.frames.step_txn(number)
+    }
+
+    /// The operation that the record of this number asks for, if any. Takes no memory and makes no device call.
+    pub fn asked_op(&self, number: u64) -> Option<Op>
+        ensures { result ≡ request_in (record_at self.now.records number) }
+    {
+        self.frames.asked_op(number)
     }
 
     /// The answer of this number's operation, if its Answer record stands.

@@ -1,9 +1,9 @@
 //! The index of Answer records.
-ghost use Rattle.std.specs.Prelude.{◌≡◌, ◌-◌, ◌<◌, vec_len, slice_index};
+ghost use Rattle.std.specs.Prelude.{◌≡◌, ◌-◌, ◌<◌, vec_len, get_or};
 ghost use Rattle.std.specs.Vec.{vec_capacity};
 ghost use Rattle.std.specs.Prelude.{is_some};
 ghost use Rattle.history.specs.Log.{request_of};
-ghost use Rattle.logical_log.specs.Index.{noted, NamesWithin, answer_in};
+ghost use Rattle.logical_log.specs.Index.{noted, NamesWithin, answer_in, asks_nothing, first_place as place_first};
 
 use history::Record;
 use record_key::Answer;
@@ -29,15 +29,25 @@ pub(crate) fn answer_held(found: Option<Record>) -> Option<Answer>
     }
 }
 
-/// The number of the Answer record of this number's operation, 0 if there is none.
+/// No record's number. The index holds it for each record that asks for nothing.
+const ASKS_NOTHING: u64 = u64::MAX;
+
+/// What the index holds for this number: 0 while an answer is to come, and no record's number if none ever is.
 pub(crate) fn answer_place(answers: &[u64], number: u64) -> u64
     requires { 0 < number }
-    ensures { result ≡ slice_index answers.now (number - 1) }
+    ensures { result ≡ get_or answers.now (number - 1) asks_nothing }
 {
     match answers.get(number as usize - 1) {
         Some(place) => *place,
-        None => 0,
+        None => ASKS_NOTHING,
     }
+}
+
+/// What the index holds for a record that is appended.
+fn first_place(appended: &Record) -> u64
+    ensures { result ≡ place_first (request_of appended.now) }
+{
+    if asks(appended) { 0 } else { ASKS_NOTHING }
 }
 
 /// Notes that a record of this number is appended.
@@ -49,5 +59,5 @@ pub(crate) fn note(answers: &mut Vec<u64>, appended: &Record, number: u64)
     if let Record::Answer { of, .. } = appended {
         answers[*of as usize - 1] = number;
     }
-    answers.push_reserved(0);
+    answers.push_reserved(first_place(appended));
 }

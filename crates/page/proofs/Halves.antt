@@ -18,7 +18,7 @@ use Rattle.record_key.specs.declared.entry.Entry.{Entry}
 use Rattle.record_key.proofs.Lists.{all_from}
 use Rattle.record_key.proofs.Truths.{is_lt-Less, as_T, from_T, and_first, and_second, both_T}
 use Rattle.record_key.proofs.Tables.{same_table}
-use Rattle.record_key.proofs.Rows.{get-table_of, table_of_entries}
+use Rattle.record_key.proofs.Rows.{get-table_of, table_of_entries, own_rows}
 use Rattle.ab_lsn.specs.AbLsn.{AbLsnView, stands_in}
 use Rattle.ab_lsn.specs.Parting.{is_under, is_from, placed_above, placed_all, joined}
 use Rattle.page.proofs.Performing.{all_placed}
@@ -177,10 +177,10 @@ ordered_both fence rows more one two apart = from_T _ (sorted_both fence rows mo
 
 -- a cut of both at the fence gives each back
 pub table_again : (m : Table) → table_of (map.entries m) ≡ m
-table_again m = table_of_entries m (map.entries m) (from_T _ (map.entries_sorted m)) refl
+table_again m = table_of_entries m (map.entries m) (own_rows m) refl
 
 entries_ordered : (fence : Bytes) (l r : Table) → Apart fence (map.entries l) (map.entries r) → AreInOrder (map.entries l ++ map.entries r)
-entries_ordered fence l r apart = ordered_both fence (map.entries l) (map.entries r) (from_T _ (map.entries_sorted l)) (from_T _ (map.entries_sorted r)) apart
+entries_ordered fence l r apart = ordered_both fence (map.entries l) (map.entries r) (own_rows l) (own_rows r) apart
 
 pub first_again : (fence : Bytes) (l r : Table) → Apart fence (map.entries l) (map.entries r)
     → map.retain_keys (table_of (map.entries l ++ map.entries r)) (is_under fence) ≡ l

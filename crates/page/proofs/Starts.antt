@@ -1,5 +1,5 @@
 -- Keys above a low fence.
-use Rattle.std.proofs.Common.{◌≡◌, true, Option, Some, None, refl, ap, ◌∙◌}
+use Rattle.std.proofs.Common.{◌≡◌, true, List, [], ◌∷◌, Option, Some, None, refl, ap, ◌∙◌}
 use Rattle.std.specs.Prelude.{not}
 use Rattle.std.specs.Ordering.{is_lt, ordering_reverse}
 use Rattle.std.proofs.lemmas.Bool.{and_from}
@@ -7,7 +7,7 @@ use Rattle.std.proofs.lemmas.Cmp.{nat_list_cmp_total}
 use Rattle.record_key.specs.Table.{Bytes}
 use Rattle.record_key.specs.Order.{is_below, starts_at_most, ends_above}
 use Rattle.page.specs.Leaf.{LeafView, is_in_fences}
-use Rattle.page.specs.Tiles.{part_of, starts_below, IsInside}
+use Rattle.page.specs.Tiles.{part_of, parts_of, starts_below, IsInside}
 use Rattle.page.proofs.Halves.{less_of, below_trans}
 
 -- a key strictly above a low fence is at or above it
@@ -28,3 +28,8 @@ inside_fences leaf cut inside =
     and_from (starts_at_most leaf.low_fence cut) (ends_above leaf.high_fence cut)
     (starts_weaker leaf.low_fence cut inside.above)
     inside.under
+
+-- no keys are divided among no leaves alone
+pub no_parts : (leaves : List LeafView) → parts_of leaves ≡ [] → leaves ≡ []
+no_parts [] none = refl
+no_parts (leaf ∷ leaves) none = absurd (cc)

@@ -15,6 +15,3 @@ mod rows;
 pub use laws::leaf_law;
 pub use leaf::{Done, Leaf};
 pub use rows::add_rows;
-
-#[cfg(test)]
-mod tests;

@@ -5,7 +5,7 @@ use Rattle.std.specs.BTreeMap.{BTreeMap, get, Updates, is_at}
 use Rattle.std.specs.Map.{lookup, set_value}
 use Rattle.std.specs.Ordering.{is_eq, nat_cmp}
 use Rattle.std.proofs.lemmas.Bool.Decides.{nat_tests}
-use Rattle.std.specs.Prelude.{not}
+use Rattle.std.specs.Prelude.{not, is_some, None}
 use Rattle.std.specs.Bool.{MatchBool}
 use Rattle.std.proofs.lemmas.List.{reverse-append, length-map, length-reverse}
 use Rattle.std.proofs.lemmas.Option.{same_Some}
@@ -30,6 +30,26 @@ read h t = read_entries h.by_txn.entries t
 
 pub apart : (t u : ℕ) → u ≢ t → is_eq (nat_cmp t u) ≡ false
 apart t u other = grind (arith, nat_tests)
+
+-- where one transaction is listed, no other has a lock
+listed : (b : Bool) (locks : Vec Lock) → is_some (cond b (Some locks) None) ≡ true → b ≡ true
+listed true locks h = refl
+listed false locks h = h
+
+unlisted : (es : List (ℕ × Vec Lock)) (t : ℕ) → length es ≡ 1 → is_some (lookup (is_at (nat_cmp t)) es) ≡ true
+    → (u : ℕ) → u ≢ t → lookup (is_at (nat_cmp u)) es ≡ None
+unlisted [] t one some u other = refl
+unlisted (e ∷ []) t one some u other =
+    let own : is_eq (nat_cmp t e.0) ≡ true = listed (is_eq (nat_cmp t e.0)) e.1 some in
+    let differs : is_eq (nat_cmp u e.0) ≡ false = grind (arith, nat_tests) in
+    ap (λ b. cond b (Some e.1) None) differs
+unlisted (e ∷ f ∷ es) t one some u other =
+    let none : ⊥ = grind arith in
+    absurd none
+
+pub alone : (h : Held) (t : ℕ) → length h.by_txn.entries ≡ 1 → is_some (get nat_cmp h.by_txn t) ≡ true
+    → (u : ℕ) → u ≢ t → spans_of (seen h) u ≡ []
+alone h t one some u other = read h u ∙ ap (λ o. newest_first (items_of o)) (unlisted h.by_txn.entries t one some u other)
 
 pub lists : (old new : BTreeMap ℕ (Vec Lock)) (t : ℕ) (locks : Option (Vec Lock)) → Updates nat_cmp old new t locks
     → Lists (record { by_txn = old }) t (items_of locks) (record { by_txn = new })

@@ -1,5 +1,5 @@
 //! The locks of each transaction, the oldest first.
-ghost use Rattle.std.specs.Prelude.{◌≡◌, ◌≢◌, ℕ, ◌∷◌, ◌++◌, [], drop, IfOk, IfErr, IfSome, IfNone, OnOk, OnErr};
+ghost use Rattle.std.specs.Prelude.{◌≡◌, ◌≢◌, ℕ, ◌∷◌, ◌++◌, [], true, drop, IfOk, IfErr, IfSome, IfNone, OnOk, OnErr};
 ghost use Rattle.std.specs.Bool.{MatchBool};
 ghost use Rattle.std.specs.List.{list_any};
 ghost use Rattle.range_locks.specs.Locks.{spans_of, set_spans, IsFree, IsLeastHolder};
@@ -97,6 +97,17 @@ impl Held {
         match self.by_txn.get(&txn) {
             Some(locks) => !locks.is_empty(),
             None => false,
+        }
+    }
+
+    /// Whether no transaction but this one has a lock: then nothing is in its way. False may be said where it is so.
+    pub fn is_alone(&self, txn: u64) -> bool
+        ensures { result ≡ true → (u : ℕ) → u ≢ txn → spans_of (seen self.now) u ≡ [] }
+    {
+        match self.by_txn.len() {
+            0 => true,
+            1 => self.by_txn.contains_key(&txn),
+            _ => false,
         }
     }
 

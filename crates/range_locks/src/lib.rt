@@ -18,6 +18,3 @@ mod span;
 pub use plain_locks::PlainLocks;
 pub use range_locks::RangeLocks;
 pub use span::{Mode, Span};
-
-#[cfg(test)]
-mod tests;

@@ -73,9 +73,22 @@ impl Parts {
         self.add(txn, lock)
     }
 
-    /// Of the other transactions that hold a conflicting lock, the least one. Looks at the ranges that begin
-    /// below the span's upper end, and at the keys in the span.
+    /// Of the other transactions that hold a conflicting lock, the least one. The index is searched only where another
+    /// transaction has a lock.
     pub fn least_holder(&self, txn: u64, lock: &Lock) -> Option<u64>
+        requires indexed { IsIndexed self.now.held self.now.index }
+        requires range { ends_above (high_of lock.now.span) (low_of lock.now.span) ≡ true }
+        ensures free { IfNone result (IsFree (seen self.now.held) txn (span_of lock.now)) }
+        ensures least { IfSome result (IsLeastHolder (seen self.now.held) txn (span_of lock.now)) }
+    {
+        if self.held.is_alone(txn) {
+            return None;
+        }
+        self.least_indexed(txn, lock)
+    }
+
+    /// The same by the index. Looks at the ranges that begin below the span's upper end, and at the keys in the span.
+    fn least_indexed(&self, txn: u64, lock: &Lock) -> Option<u64>
         requires indexed { IsIndexed self.now.held self.now.index }
         requires range { ends_above (high_of lock.now.span) (low_of lock.now.span) ≡ true }
         ensures free { IfNone result (IsFree (seen self.now.held) txn (span_of lock.now)) }

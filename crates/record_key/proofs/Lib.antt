@@ -4,3 +4,6 @@ pub mod Tables
 pub mod KeyOrder
 pub mod Search
 pub mod Rows
+pub mod Numbers
+pub mod Steps
+pub mod Padding

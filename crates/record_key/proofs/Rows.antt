@@ -25,6 +25,10 @@ entries-table_of rows ordered = map.entries-from_sorted key_cmp rows (as_T (map.
 pub table_of_entries : (m : Table) (rows : List Row) → AreInOrder rows → map.entries m ≡ rows → table_of rows ≡ m
 table_of_entries m rows ordered is = map.same_entries_map (table_of rows) m (entries-table_of rows ordered ∙ sym is)
 
+-- the entries of a table are in order
+pub own_rows : (m : Table) → AreInOrder (map.entries m)
+own_rows m = from_T _ (map.entries_sorted m)
+
 -- rows in order, by the first two of them
 below_further : (x y : Bytes) (rows : List Row) → key_cmp x y ≡ Less → T (below_all key_cmp y rows) → T (below_all key_cmp x rows)
 below_further x y [] less above = tt

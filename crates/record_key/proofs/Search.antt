@@ -9,9 +9,9 @@ use Rattle.std.specs.Cmp.{nat_cmp_total}
 use Rattle.std.specs.FinMap.{is_sorted}
 use Rattle.std.specs.FinMap.Entries.{below_all}
 use Rattle.std.proofs.lemmas.Bool.{cases_lt}
-use Rattle.std.proofs.lemmas.Bool.Decides.{nat_tests}
 use Rattle.std.proofs.lemmas.Cmp.{nat_list_cmp_total}
 use Rattle.std.proofs.Math.Nat.{eq-or-lt_of_le}
+use Rattle.record_key.proofs.Numbers.{below, above}
 use Rattle.record_key.specs.Table.{Bytes}
 use Rattle.record_key.specs.Laws.{key_cmp}
 use Rattle.record_key.specs.Places.{StandsAt, BelongsAt, IsPlace}
@@ -128,15 +128,9 @@ numbers_rise l (e ∷ es) zero (suc j) d h lt within = numbers_above e.number es
 numbers_rise l (e ∷ es) (suc i) (suc j) d h lt within =
     numbers_rise e.number es i j d h.1 (omega (arith, lt)) (omega (arith, within))
 
-is_less : (m n : ℕ) → m < n → nat_cmp m n ≡ Less
-is_less m n h = grind (arith, nat_tests)
-
-is_greater : (m n : ℕ) → n < m → nat_cmp m n ≡ Greater
-is_greater m n h = grind (arith, nat_tests)
-
 numbers_part : (m n k : ℕ) → m < n → Part (nat_cmp m k) (nat_cmp n k)
 numbers_part m n k less =
-    elim (cases_lt m k) [ inl lt ↦ inl (is_less m k lt) | inr ge ↦ inr (is_greater n k (omega (arith, less, ge))) ]
+    elim (cases_lt m k) [ inl lt ↦ inl (below m k lt) | inr ge ↦ inr (above n k (omega (arith, less, ge))) ]
 
 pub entries_searched : (es : List Entry) (l : ℕ) → RiseAbove l es → (n : ℕ) (d : Entry) (r : Result ℕ ℕ) → IsSearchInRange r (length es)
     → IsBinarySearchResult (λ (e : Entry). nat_cmp e.number n) es r → IsPlaceOfNumber n es r

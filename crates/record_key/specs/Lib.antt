@@ -6,3 +6,4 @@ pub mod Order
 pub mod Places
 pub mod Rows
 pub mod Entries
+pub mod Inline

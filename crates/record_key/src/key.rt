@@ -3,15 +3,15 @@ ghost use Rattle.std.specs.Prelude.{◌≡◌, ◌<◌, ◌≤◌, ◌↔◌, �
 ghost use Rattle.std.specs.Ordering.{nat_cmp};
 ghost use Rattle.std.specs.Cmp.Lexicographic.{slice_cmp, nat_list_cmp_total, texts_po, texts_ties};
 
+use crate::inline::Inline;
 use crate::refusal::Refusal;
-use arrayvec::ArrayVec;
 use std::cmp::Ordering;
 use std::marker::Model;
 
 /// A key: 1 to 32 bytes, kept inline. Keys are ordered by their bytes, a beginning first.
 #[derive(Debug, Clone, PartialEq, Eq, Drop)]
 pub struct Key {
-    bytes: ArrayVec<u8, 32>,
+    bytes: Inline<32>,
 }
 
 impl Model for Key {
@@ -22,11 +22,11 @@ impl Model for Key {
 
     ghost coded = { coded_list coded_ℕ };
 
-    ghost view = { λ k. k.bytes.items };
+    ghost view = { λ k. k.bytes };
 
-    ghost invariant = { λ k. (0 < length k.bytes.items) × (length k.bytes.items ≤ 32) };
+    ghost invariant = { λ k. (0 < length k.bytes) × (length k.bytes ≤ 32) };
 
-    ghost inverse = { λ bytes. record { bytes = record { items = bytes } } };
+    ghost inverse = { λ bytes. record { bytes = bytes } };
 }
 
 impl Key {
@@ -42,9 +42,9 @@ impl Key {
         if bytes.is_empty() {
             return Err(Refusal::EmptyKey);
         }
-        match ArrayVec::try_from(bytes) {
-            Ok(bytes) => Ok(Key { bytes }),
-            Err(_) => Err(Refusal::TooLong),
+        match Inline::new(bytes) {
+            Some(bytes) => Ok(Key { bytes }),
+            None => Err(Refusal::TooLong),
         }
     }
 
@@ -61,7 +61,7 @@ impl Key {
     pub fn copied(&self) -> Key
         ensures { result ≡ self.now }
     {
-        self.clone().unwrap()
+        Key { bytes: self.bytes }
     }
 }
 
@@ -85,6 +85,6 @@ impl Ord for Key {
     ghost matches_eq = { λ a b. texts_ties a b };
 
     fn cmp(&self, other: &Self) -> Ordering {
-        self.bytes.cmp(&other.bytes)
+        self.bytes.order(&other.bytes)
     }
 }

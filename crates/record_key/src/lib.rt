@@ -7,12 +7,14 @@
 #![tactic(auto)]
 
 mod entry;
+mod inline;
 mod key;
 mod laws;
 mod op;
 mod plain_table;
 mod refusal;
 mod value;
+mod words;
 
 pub use entry::Entry;
 pub use key::Key;
@@ -21,6 +23,3 @@ pub use op::{Answer, Op};
 pub use plain_table::PlainTable;
 pub use refusal::Refusal;
 pub use value::Value;
-
-#[cfg(test)]
-mod tests;

@@ -1,14 +1,14 @@
 //! The value of a record.
 ghost use Rattle.std.specs.Prelude.{◌≡◌, ◌<◌, ◌≤◌, length};
 
+use crate::inline::Inline;
 use crate::refusal::Refusal;
-use arrayvec::ArrayVec;
 use std::marker::Model;
 
 /// A value: 0 to 120 bytes, kept inline.
 #[derive(Debug, Clone, PartialEq, Eq, Drop)]
 pub struct Value {
-    bytes: ArrayVec<u8, 120>,
+    bytes: Inline<120>,
 }
 
 impl Model for Value {
@@ -19,11 +19,11 @@ impl Model for Value {
 
     ghost coded = { coded_list coded_ℕ };
 
-    ghost view = { λ v. v.bytes.items };
+    ghost view = { λ v. v.bytes };
 
-    ghost invariant = { λ v. length v.bytes.items ≤ 120 };
+    ghost invariant = { λ v. length v.bytes ≤ 120 };
 
-    ghost inverse = { λ bytes. record { bytes = record { items = bytes } } };
+    ghost inverse = { λ bytes. record { bytes = bytes } };
 }
 
 impl Value {
@@ -35,9 +35,9 @@ impl Value {
         ensures ok { length bytes.now ≤ 120 → result ≡ Ok bytes.now }
         ensures too_long { 120 < length bytes.now → result ≡ Err Refusal.TooLong }
     {
-        match ArrayVec::try_from(bytes) {
-            Ok(bytes) => Ok(Value { bytes }),
-            Err(_) => Err(Refusal::TooLong),
+        match Inline::new(bytes) {
+            Some(bytes) => Ok(Value { bytes }),
+            None => Err(Refusal::TooLong),
         }
     }
 
@@ -53,6 +53,6 @@ impl Value {
     pub fn copied(&self) -> Value
         ensures { result ≡ self.now }
     {
-        self.clone().unwrap()
+        Value { bytes: self.bytes }
     }
 }

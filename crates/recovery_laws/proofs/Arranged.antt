@@ -7,6 +7,7 @@ use Rattle.record_key.specs.Order.{is_below}
 use Rattle.page.specs.Leaf.{LeafView}
 use Rattle.page.specs.Tiles.{Part, part_of, parts_of, starts_below, TileFrom}
 use Rattle.page.proofs.Halves.{below_trans}
+use Rattle.page.proofs.Starts.{no_parts}
 use Rattle.recovery_laws.specs.Shape.{part_in, shape, IsLegal}
 use Rattle.recovery_laws.specs.Recovery.{Pages, recovered, with_leaf, leaves_of, recover}
 use Rattle.recovery_laws.specs.Laws.{IsCurrent, HasShape, IsIn, IsArranged, ArrangedOnce}
@@ -78,10 +79,6 @@ same_rest x y xs ys r e to z at =
       | inl same ↦ absurd (not_later z x xs r (ap (λ (l : LeafView). l.low_fence) (same ∙ sym e)) at)
       | inr there ↦ there
     ]
-
-pub no_parts : (xs : List LeafView) → parts_of xs ≡ [] → xs ≡ []
-no_parts [] e = refl
-no_parts (x ∷ xs) e = absurd (cc)
 
 tails : (low other high : Option Bytes) (xs ys : List LeafView)
     → ((h : Bytes) → TileFrom (Some h) (parts_of xs) → TileFrom (Some h) (parts_of ys) → xs ≡ ys)

@@ -6,9 +6,8 @@ use Rattle.std.proofs.lemmas.Bool.{cases_lt}
 use Rattle.record_key.specs.Table.{Table, key_of, answer_in}
 use Rattle.record_key.specs.Rows.{Row, AreInOrder}
 use Rattle.record_key.specs.declared.entry.Entry.{Entry}
-use Rattle.record_key.proofs.Truths.{from_T}
 use Rattle.record_key.proofs.Lists.{all_from}
-use Rattle.record_key.proofs.Rows.{entries-table_of, table_of_entries}
+use Rattle.record_key.proofs.Rows.{entries-table_of, table_of_entries, own_rows}
 use Rattle.ab_lsn.specs.AbLsn.{AbLsnView, raised}
 use Rattle.ab_lsn.specs.Parting.{is_under, is_from}
 use Rattle.codec.specs.declared.image.LeafImage.{LeafImage}
@@ -21,13 +20,10 @@ use Rattle.page.proofs.Raising.{all_raised}
 use Rattle.page.proofs.Halves.{all_kept, all_joined}
 use Rattle.recovery_laws.specs.Images.{leaf_of, image_of, HasLeafNumbers, ImagesKeepLeaves, NumbersStay}
 
-entries_ordered : (rows : Table) → AreInOrder (map.entries rows)
-entries_ordered rows = from_T _ (map.entries_sorted rows)
-
 pub leaf_again : (leaf : LeafView) → leaf_of (image_of leaf) ≡ leaf
 leaf_again leaf =
     ap (λ (rows : Table). record leaf { rows = rows })
-    (table_of_entries leaf.rows (map.entries leaf.rows) (entries_ordered leaf.rows) refl)
+    (table_of_entries leaf.rows (map.entries leaf.rows) (own_rows leaf.rows) refl)
 
 image_again : (image : LeafImage) → AreInOrder image.rows → image_of (leaf_of image) ≡ image
 image_again image ordered =
@@ -38,7 +34,7 @@ ordered_image leaf kept numbers = record {
   id = numbers.id;
   last = numbers.last;
   low = numbers.low;
-  rows = entries_ordered leaf.rows;
+  rows = own_rows leaf.rows;
   numbers = numbers.entries;
   bounds = record { rows = kept.rows; entries = kept.entries; rising = kept.rising };
 }

@@ -13,6 +13,3 @@ pub use laws::{
     halves_law, honest_law, image_law, leaves_law, low_law, numbers_law, readable_law,
     recovery_law, shape_law,
 };
-
-#[cfg(test)]
-mod tests;

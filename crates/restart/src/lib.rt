@@ -20,6 +20,3 @@ pub use loser::Loser;
 pub use losers::Losers;
 pub use plan::{Plan, analyse};
 pub use redo::redo_next;
-
-#[cfg(test)]
-mod tests;

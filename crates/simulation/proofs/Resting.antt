@@ -1,13 +1,13 @@
 -- The value at a key on which nobody acts stays, where only committed transactions left it.
-use Rattle.std.proofs.Common.{◌≡◌, ◌≢◌, ℕ, Bool, true, false, cond, List, [], ◌∷◌, Option, None, refl, sym, ap, ◌∙◌, subst, inl, inr, true≢false}
+use Rattle.std.proofs.Common.{◌≡◌, ◌≢◌, ℕ, Bool, true, false, List, [], ◌∷◌, Option, None, refl, sym, ap, ◌∙◌, subst, inl, inr, true≢false}
 use Rattle.std.specs.Prelude.{◌==◌, ◌&&◌, ◌||◌, not, map, nat_lt, if◌then◌else◌}
 use Rattle.std.specs.List.{AllByRecursion, list_any}
 use Rattle.std.specs.FinMap.{get, get-empty}
 use Rattle.std.proofs.lemmas.Bool.{cases_Bool}
 use Rattle.record_key.specs.declared.op.Op.{Op}
-use Rattle.record_key.specs.Table.{Bytes, Table, key_of, value_after, after}
+use Rattle.record_key.specs.Table.{Bytes, key_of, value_after}
 use Rattle.record_key.specs.Laws.{key_cmp}
-use Rattle.record_key.proofs.Tables.{is_same-true, get-with_record}
+use Rattle.record_key.proofs.Tables.{is_same-true}
 use Rattle.history.specs.History.{Entry, plain, placed, entries_of}
 use Rattle.history.specs.Values.{is_on}
 use Rattle.history.specs.ListMachine.{Machine, Txn, Status, Open, Waiting, Reading, Rolling, Committing, Committed, Losing, Gone, Line, Begins, Acts, TellsAnswer, Reads, TellsRow, TellsRows, Saves, GoesBack, TellsBack, RollsBack, TellsRolledBack, Commits, TellsCommitted, Crashes, TellsLost, IsRefused, HasStatus, Falls, Survives, Step, Steps, with_txn}

@@ -10,7 +10,7 @@ use Rattle.std.specs.List.Sorted.{IsStrictlySortedBy}
 use Rattle.std.specs.FinMap.{find, put, get, insert, keys, entries, get-from_entries, get-insert, entries-insert, same_map, nat_cmp-IsAntisymmetric, len-entries, len-empty}
 use Rattle.std.proofs.lemmas.List.{nil_from_length}
 use Rattle.std.proofs.lemmas.Map.Keys.{sorted_head, sorted_tail}
-use Rattle.stable.specs.PagesState.{Pages, pages_of}
+use Rattle.stable.specs.PagesState.{pages_of}
 
 abbrev pub Entries : Type 0
 Entries = List (ℕ × Vec ℕ Global)
@@ -44,11 +44,6 @@ pages_of-updates old new k v updates = same_map nat_cmp_total nat_cmp-IsAntisymm
     get-pages_of new q ∙ ap image (updates q)
     ∙ image-cond (is_at (nat_cmp k) q) (eq_by_cmp nat_cmp q k) ((eq_by_cmp_equiv nat_cmp_total).symm k q) v (lookup (is_at (nat_cmp q)) old)
     ∙ sym (get-insert nat_cmp_total (pages_of old) k v.items q ∙ ap (cond (eq_by_cmp nat_cmp q k) (Some v.items)) (get-pages_of old q)))
-
--- what was written is read
-pub get-insert_same : (m : Pages) (k : ℕ) (bytes : List ℕ) → get (insert m k bytes) k ≡ Some bytes
-get-insert_same m k bytes =
-    get-insert nat_cmp_total m k bytes k ∙ ap (λ b. cond b (Some bytes) (get m k)) ((eq_by_cmp_equiv nat_cmp_total).refl k)
 
 -- a first entry stays first
 put-first : (e : ℕ × Vec ℕ Global) (es : Entries) → IsStrictlySortedBy nat_cmp (keys_of (e ∷ es)) → put nat_cmp e.0 e.1.items (images es) ≡ images (e ∷ es)

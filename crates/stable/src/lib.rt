@@ -13,8 +13,6 @@ mod log_device;
 mod mem_log;
 mod mem_pages;
 mod page_device;
-#[cfg(test)]
-mod tests;
 
 pub use crash::crash_law;
 pub use error::DeviceError;

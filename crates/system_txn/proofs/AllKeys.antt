@@ -16,7 +16,7 @@ use Rattle.record_key.proofs.KeyOrder.{is_key_order}
 use Rattle.page.specs.Leaf.{LeafView}
 use Rattle.page.specs.Tiles.{parts_of, TileFrom}
 use Rattle.recovery_laws.specs.Laws.{IsIn}
-use Rattle.recovery_laws.proofs.Arranged.{no_parts}
+use Rattle.page.proofs.Starts.{no_parts}
 use Rattle.recovery_laws.proofs.Splitting.{Rest}
 use Rattle.system_txn.specs.Arranging.{is_same_fence, ends_after, tiles_on, count_of, AreApart, AreSame, IsArrangement}
 use Rattle.system_txn.proofs.InOrder.{Rise, sorted_same}

@@ -1,14 +1,12 @@
 -- A crash leaves whole frames, and perhaps a part of one.
-use Rattle.std.proofs.Common.{◌≡◌, ℕ, ◌+◌, ◌<◌, ◌≤◌, List, [], ◌∷◌, ◌++◌, length, take, drop, refl, sym, ap, ◌∙◌, subst, arith, inl, inr, append_assoc, append-nil}
+use Rattle.std.proofs.Common.{◌≡◌, ℕ, ◌<◌, ◌≤◌, List, [], ◌∷◌, ◌++◌, length, drop, sym, ap, ◌∙◌, subst, arith, inl, inr, append-nil}
 use Rattle.std.proofs.lemmas.Bool.{cases_lt}
-use Rattle.std.proofs.lemmas.List.{length-append, take_at, drop_at, take-append-drop, take-append-le, nil_from_length}
+use Rattle.std.proofs.lemmas.List.{length-append, nil_from_length}
 use Rattle.codec.proofs.Cuts.{longer, after, part_cut}
 use Rattle.codec.specs.declared.dc_record.DcRecord.{DcRecord}
 use Rattle.codec.specs.DcRecords.{dc_record_bytes, FitsFrame}
-use Rattle.codec.specs.Fields.{number, first_number}
 use Rattle.codec.specs.Frames.{frame, any_length, IsCut}
 use Rattle.codec.proofs.DcRecords.{dc_record_not_empty}
-use Rattle.codec.proofs.Fields.{length-number, first_number-number}
 use Rattle.recovery_laws.specs.Shape.{beginning}
 use Rattle.recovery_laws.proofs.Beginnings.{whole, shorter}
 use Rattle.system_txn.specs.Devices.{spelled, AreRecords}

@@ -5,13 +5,13 @@ use Rattle.std.specs.Option.{option_cmp}
 use Rattle.std.specs.Ordering.{is_lt}
 use Rattle.btree.specs.Lists.{leaves_in}
 use Rattle.record_key.specs.Laws.{key_cmp}
-use Rattle.record_key.specs.Order.{is_below}
 use Rattle.record_key.specs.Table.{Bytes}
 use Rattle.page.proofs.Halves.{below_free, free_below}
 use Rattle.page.specs.Leaf.{LeafView}
 use Rattle.page.specs.Tiles.{parts_of, starts_below, TileFrom}
 use Rattle.recovery_laws.specs.Laws.{IsIn}
-use Rattle.recovery_laws.proofs.Arranged.{IsFrom, later, all_from, no_parts, same_rest}
+use Rattle.recovery_laws.proofs.Arranged.{IsFrom, later, all_from, same_rest}
+use Rattle.page.proofs.Starts.{no_parts}
 use Rattle.recovery_laws.proofs.Splitting.{Rest}
 use Rattle.system_txn.specs.Arranging.{count_of, AreApart}
 

@@ -1,5 +1,5 @@
 -- What a crash leaves of the leaves and their devices.
-use Rattle.std.specs.Prelude.{◌≡◌, ◌⊎◌, ℕ, ◌+◌, ◌≤◌, List, length}
+use Rattle.std.specs.Prelude.{ℕ, List, length}
 use Rattle.codec.specs.declared.dc_record.DcRecord.{DcRecord}
 use Rattle.stable.specs.PagesState.{Pages}
 use Rattle.recovery_laws.specs.Shape.{beginning}
@@ -15,9 +15,3 @@ found pages failures log =
 -- those that the first records, so many, give
 abbrev pub crashed : SystemView → ℕ → SystemView
 crashed v n = found v.pages v.failures (beginning v.log n)
-
--- a crash keeps the stable records, and of the others the first, so many or more
-pub record MayKeep (v : SystemView) (more n : ℕ) : Type 0 where
-  pub stable : v.stable ≤ n
-  pub counted : (v.stable + more ≤ n) ⊎ (n ≡ length v.log)
-  pub within : n ≤ length v.log

@@ -33,6 +33,3 @@ pub use opening::Opened;
 pub use recovering::{Recovered, recover};
 pub use system::SystemTxns;
 pub use tended::{Neighbours, Tended};
-
-#[cfg(test)]
-mod tests;

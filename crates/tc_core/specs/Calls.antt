@@ -85,6 +85,7 @@ abbrev pub SaveGives : TcView → ℕ → Result ℕ Refusal → TcView → Type
 SaveGives old t (Ok s) new = Saves old t s new
 SaveGives old t (Err r) new = Refuses (save_refusal old t) true false old r new
 
+-- a transaction that may go back begins to, to what the savepoint remembers
 pub record GoesBack (old : TcView) (t s : ℕ) (new : TcView) : Type 0 where
   pub open_txn : OpenTxn
   pub end : ℕ
@@ -97,6 +98,7 @@ abbrev pub BackGives : TcView → ℕ → ℕ → Result (Unit {0}) Refusal → 
 BackGives old t s (Ok u) new = GoesBack old t s new
 BackGives old t s (Err r) new = Refuses (back_refusal old t s) false false old r new
 
+-- a transaction that is idle begins to be rolled back wholly
 pub record RollsBack (old : TcView) (t : ℕ) (new : TcView) : Type 0 where
   pub open_txn : OpenTxn
   pub at : IsAt old t open_txn
@@ -119,6 +121,7 @@ Undoes w o (Some r) (step.RolledBack t) new = (o.undo ≤ r.above) × (r.savepoi
 Undoes w o (Some r) (step.Back t s) new = (o.undo ≤ r.above) × (r.savepoint ≡ Some s) × (t ≡ o.txn) × (new ≡ is_back w o)
 Undoes w o _ _ new = ⊥
 
+-- a step of a rollback, of a transaction that waits for nothing
 pub record UndoesStep (old : TcView) (t : ℕ) (step : UndoStep) (new : TcView) : Type 0 where
   pub open_txn : OpenTxn
   pub at : IsAt old t open_txn
@@ -151,6 +154,7 @@ abbrev pub read_request : ℕ → ℕ → Span → Request
 read_request s n (Key k) = asks.Get s n k
 read_request s n (Range low high) = asks.Scan s n low high
 
+-- what a reader sends: the read that it waits for, in the session
 pub record IsReadRequest (w : TcView) (t : ℕ) (request : Request) : Type 0 where
   pub open_txn : OpenTxn
   pub read : Read

@@ -72,6 +72,7 @@ pub record IsReading (reads : ℕ) (locks : LocksView) (o : OpenTxn) (r : Read) 
   pub before : List Span
   pub held : spans_of locks o.txn ≡ shared r.span ∷ before
 
+-- each reader waits for its own read, whose span it holds
 pub record AreReading (reads : ℕ) (os : List OpenTxn) (locks : LocksView) : Type 0 where
   pub each : (t : ℕ) (o : OpenTxn) (r : Read) → find t os ≡ Some o → o.reading ≡ Some r → IsReading reads locks o r
   pub apart : (t u : ℕ) (o p : OpenTxn) (r q : Read) → find t os ≡ Some o → find u os ≡ Some p → o.reading ≡ Some r → p.reading ≡ Some q

@@ -46,6 +46,7 @@ abbrev pub redo_place : ℕ → Option (ℕ × Op) → ℕ
 redo_place s None = s
 redo_place s (Some x) = x.0
 
+-- redo asks for the next record that asks for something, or for the end of redo
 pub record Redoes (old : TcView) (next : ℕ) (request : Request) (new : TcView) : Type 0 where
   pub found : Option (ℕ × Op)
   pub finds : FindsRequest old.log next old.session found

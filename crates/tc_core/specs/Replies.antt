@@ -153,6 +153,7 @@ on_reply w (says.Row s r v) = on_row w v (reader w r)
 on_reply w (says.Rows s r rows) = on_rows w rows (reader w r)
 on_reply w (says.Checkpointed s l) = on_checkpointed w l
 
+-- a reply comes to what its kind does
 pub record TakesReply (old : TcView) (reply : Reply) (what : Told) (new : TcView) : Type 0 where
   pub told : what ≡ (on_reply old reply).0
   pub left : new ≡ (on_reply old reply).1

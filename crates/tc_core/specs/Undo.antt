@@ -4,10 +4,6 @@ use Rattle.record_key.specs.declared.op.Op.{Op}
 use Rattle.history.specs.declared.record.Record.{Record}
 use Rattle.history.specs.Log.{Requests}
 
-pub record HasRequest (log : List Record) (n : ℕ) : Type 0 where
-  pub op : Op
-  pub is : Requests log n op
-
 -- no record of these numbers asks for anything
 abbrev pub AsksNothing : List Record → ℕ → ℕ → Type 0
 AsksNothing log from below = (n : ℕ) (o : Op) → from ≤ n → n < below → Requests log n o → ⊥

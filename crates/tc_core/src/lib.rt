@@ -34,6 +34,3 @@ pub use open_txn::{OpenTxn, Read, Rollback};
 pub use phase::Phase;
 pub use tc::Tc;
 pub use told::{Committed, Connecting, Forced, RecoverStep, Told, UndoStep};
-
-#[cfg(test)]
-mod tests;

@@ -40,7 +40,7 @@ impl Rollback {
 }
 
 /// An open transaction: its number, what it does, where its chains begin, and its savepoints.
-#[derive(Debug, Clone, PartialEq, Eq, Drop)]
+#[derive(Debug, PartialEq, Eq, Drop)]
 pub struct OpenTxn {
     /// The number of its Begin record.
     pub txn: u64,

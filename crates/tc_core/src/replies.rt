@@ -1,6 +1,5 @@
 //! What a reply is to a session and to a transaction.
 ghost use Rattle.std.specs.Prelude.{◌≡◌};
-ghost use Rattle.history.specs.Log.{step_of};
 ghost use Rattle.tc_core.specs.Replies.{session_of as session_named, takes as is_taken, told_of as tells, told_lost as tells_lost, left_awaited, span_read, is_key, is_range};
 
 use crate::open_txn::OpenTxn;
@@ -33,16 +32,6 @@ pub fn takes(session: u64, phase: Phase, number: u64) -> bool
         Phase::Unconnected | Phase::Connecting => false,
         Phase::Redoing { next, .. } => next == number && number < session,
         Phase::Undoing { .. } | Phase::Running => true,
-    }
-}
-
-/// The transaction whose Op or Comp record it is.
-pub fn step_txn(item: &Record) -> Option<u64>
-    ensures { result ≡ step_of item.now }
-{
-    match item {
-        Record::Op { txn, .. } | Record::Comp { txn, .. } => Some(*txn),
-        _ => None,
     }
 }
 

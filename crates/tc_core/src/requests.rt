@@ -1,34 +1,22 @@
 //! What the data component is asked for: the records of a log, and reads.
 ghost use Rattle.std.specs.Prelude.{◌≡◌};
-ghost use Rattle.history.specs.Log.{record_at, Requests, request_in};
-ghost use Rattle.tc_core.specs.Undo.{HasRequest, FindsRequest};
+ghost use Rattle.history.specs.Log.{Requests, HasRequest};
+ghost use Rattle.tc_core.specs.Undo.{FindsRequest};
 ghost use Rattle.tc_core.specs.Calls.{read_request as asks_for};
 
 use crate::open_txn::Read;
 use codec::Request;
-use history::Record;
 use logical_log::Log;
 use range_locks::Span;
 use record_key::{Key, Op};
 use stable::LogDevice;
-
-/// What the record of this number asks for, if anything.
-pub fn request_at<D: LogDevice>(log: &Log<D>, number: u64) -> Option<Op>
-    ensures { result ≡ request_in (record_at log.now.records number) }
-{
-    match log.record(number) {
-        Some(Record::Op { op, .. }) => Some(op),
-        Some(Record::Comp { inverse, .. }) => inverse,
-        _ => None,
-    }
-}
 
 /// What the record of this number asks for, where it does.
 pub fn request<D: LogDevice>(log: &Log<D>, number: u64) -> Op
     requires { HasRequest log.now.records number }
     ensures { Requests log.now.records number result }
 {
-    match request_at(log, number) {
+    match log.asked_op(number) {
         Some(op) => op,
         None => unreachable!(),
     }
@@ -40,7 +28,7 @@ pub fn first_request<D: LogDevice>(log: &Log<D>, from: u64, below: u64) -> Optio
 {
     let mut number = from;
     while number < below {
-        if let Some(op) = request_at(log, number) {
+        if let Some(op) = log.asked_op(number) {
             return Some((number, op));
         }
         number += 1;

@@ -12,9 +12,8 @@ use crate::open_txns::Wanted;
 use crate::parts::Parts;
 use crate::phase::Phase;
 use crate::replies::{
-    copied, left_waiting, reads_key, reads_range, session_of, step_txn, takes, told_lost, told_of,
+    copied, left_waiting, reads_key, reads_range, session_of, takes, told_lost, told_of,
 };
-use crate::requests::request_at;
 use crate::told::Told;
 use codec::{Reply, Rows};
 use history::Record;
@@ -126,7 +125,7 @@ impl<D: LogDevice> Parts<D> {
     fn lacks(&self, number: u64) -> bool
         ensures { result ≡ lacks (seen self.now) number }
     {
-        request_at(&self.log, number).is_some() && self.log.answer_of(number).is_none()
+        self.log.asked_op(number).is_some() && self.log.answer_of(number).is_none()
     }
 
     /// Who waits for the row is told; a reply of another kind than was asked for is none.
@@ -172,7 +171,7 @@ impl<D: LogDevice> Parts<D> {
     fn awaiting(&self, number: u64) -> Option<&OpenTxn>
         ensures { option_copied result ≡ awaiting (seen self.now) number }
     {
-        let txn = step_txn(&self.log.record(number)?)?;
+        let txn = self.log.step_txn(number)?;
         let opened = self.open_txns.find(txn)?;
         if opened.waiting == Some(number) {
             Some(opened)

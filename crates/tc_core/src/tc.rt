@@ -1,5 +1,6 @@
 //! The transaction component.
 ghost use Rattle.std.specs.Prelude.{◌≡◌, ◌≤◌, ◌++◌, ◌+◌, [], length, Some, None, IfOk, IfErr, OnOk};
+ghost use Rattle.std.specs.Option.{option_copied};
 ghost use Rattle.record_key.specs.FirstCause.{failures_of};
 ghost use Rattle.stable.specs.Crash.{BeginsWith};
 ghost use Rattle.history.specs.Log.{record_at};
@@ -283,17 +284,17 @@ impl<D: LogDevice> Tc<D> {
     }
 
     /// The least transaction that waits for an answer, or for what it reads.
-    pub fn first_unanswered(&self) -> Option<OpenTxn>
-        ensures { result ≡ oldest (wants Wanted.Unanswered) self.now.open_txns }
+    pub fn first_unanswered(&self) -> Option<&OpenTxn>
+        ensures { option_copied result ≡ oldest (wants Wanted.Unanswered) self.now.open_txns }
     {
-        copied_txn(self.parts.open_txns.oldest(Wanted::Unanswered))
+        self.parts.open_txns.oldest(Wanted::Unanswered)
     }
 
     /// The least transaction that is being rolled back.
-    pub fn first_rolling(&self) -> Option<OpenTxn>
-        ensures { result ≡ oldest (wants Wanted.Rolling) self.now.open_txns }
+    pub fn first_rolling(&self) -> Option<&OpenTxn>
+        ensures { option_copied result ≡ oldest (wants Wanted.Rolling) self.now.open_txns }
     {
-        copied_txn(self.parts.open_txns.oldest(Wanted::Rolling))
+        self.parts.open_txns.oldest(Wanted::Rolling)
     }
 
     /// The transactions whose Commit record isn't stable, in the order of these records.

@@ -175,6 +175,7 @@ abbrev pub RunsLine : Bool → Option Command → NodeView → Bindings → Node
 RunsLine true command view labels after next said = (cs : List Command) (text : List ℕ) (status : ℕ) → Runs cs after next text status → Runs (onto command cs) view labels (said ++ text) status
 RunsLine false command view labels after next said = (cs : List Command) → Runs (onto command cs) view labels said 3
 
+-- a line and those after it: what it writes stands before what they write, with the exit status of the last
 pub record WritesLine (going : Bool) (command : Option Command) (view : NodeView) (labels : Bindings) (after : NodeView) (next : Bindings) (old new : Option (List ℕ)) : Type 0 where
   pub said : List ℕ
   pub appended : Appends old new said
@@ -184,6 +185,7 @@ pub record WritesLine (going : Bool) (command : Option Command) (view : NodeView
 abbrev pub IsAlone : List ℕ → ℕ → List ℕ → ℕ → Type 0
 IsAlone line own text status = ((text ≡ line) × (status ≡ own)) ⊎ (IsBeginning text line × (status ≡ 3))
 
+-- nothing but this line, or a beginning of it, is written
 pub record WritesAlone (line : List ℕ) (own : ℕ) (old new : Option (List ℕ)) (status : ℕ) : Type 0 where
   pub text : List ℕ
   pub appended : Appends old new text

@@ -61,7 +61,11 @@ fn put_some<W: io::Write>(writer: &mut W, bytes: &[u8]) -> io::Result<usize>
     match writer.write(bytes) {
         Ok(0) => Err(io::Error::from(io::ErrorKind::WriteZero)),
         Ok(count) => Ok(count),
-        Err(error) if error.kind() == io::ErrorKind::Interrupted => Ok(0),
+        Err(error) if is_interrupted(&error) => Ok(0),
         Err(error) => Err(error),
     }
+}
+
+fn is_interrupted(error: &io::Error) -> bool {
+    error.kind() == io::ErrorKind::Interrupted
 }

@@ -5,7 +5,6 @@ use std::process::Abort;
 mod bad_input;
 mod command_line;
 mod commits;
-mod crash_everywhere;
 mod crashes;
 mod examples;
 mod failing;

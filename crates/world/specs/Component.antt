@@ -7,7 +7,7 @@ use Rattle.codec.specs.declared.dc_record.DcRecord.{DcRecord}
 use Rattle.stable.specs.LogState.{LogState}
 use Rattle.stable.specs.PagesState.{PagesState}
 use Rattle.system_txn.specs.SystemView.{refused_so}
-use Rattle.system_txn.specs.Crashed.{found, crashed, MayKeep}
+use Rattle.system_txn.specs.Crashed.{found, crashed}
 use Rattle.dc_core.specs.DcView.{DcView, leaves}
 use Rattle.dc_core.specs.Restarting.{restarted}
 use Rattle.dc_core.specs.Serves.{with_system}
@@ -19,6 +19,7 @@ pub record TcSide : Type 0 where
   pub up : Bool
   pub tc : TcView
 
+-- the same of the data component
 pub record DcSide : Type 0 where
   pub up : Bool
   pub dc : DcView
@@ -27,18 +28,18 @@ pub record DcSide : Type 0 where
 abbrev pub LacksDevice : Refusal → Type 0
 LacksDevice r = (r ≡ NoMemory) ⊎ (r ≡ Device)
 
--- ---- the transaction component
+-- a crash keeps the stable records of a log, and of the others the first, so many or more
+pub record MayKeep (stable_end records more n : ℕ) : Type 0 where
+  pub stable : stable_end ≤ n
+  pub counted : (stable_end + more ≤ n) ⊎ (n ≡ records)
+  pub within : n ≤ records
 
--- a crash keeps the stable records, and of the others the first, so many or more
-pub record MayKeepOf (w : TcView) (more n : ℕ) : Type 0 where
-  pub stable : w.stable ≤ n
-  pub counted : (w.stable + more ≤ n) ⊎ (n ≡ length w.log)
-  pub within : n ≤ length w.log
+-- ---- the transaction component
 
 -- what isn't on the device is gone
 abbrev pub TcCrashesTo : TcSide → ℕ → Bool → TcSide → Type 0
 TcCrashesTo old more true new =
-    (old.up ≡ true) × ((n : ℕ) × MayKeepOf old.tc more n × (new ≡ record { up = false; tc = crashed_tc old.tc n }))
+    (old.up ≡ true) × ((n : ℕ) × MayKeep old.tc.stable (length old.tc.log) more n × (new ≡ record { up = false; tc = crashed_tc old.tc n }))
 TcCrashesTo old more false new = (old.up ≡ false) × (new ≡ old)
 
 -- its device has failed once more, if that is why it isn't opened
@@ -61,7 +62,7 @@ found_on device pages log = restarted (found pages.pages (device.failures + page
 
 abbrev pub DcCrashesTo : DcSide → ℕ → Bool → DcSide → Type 0
 DcCrashesTo old more true new =
-    (old.up ≡ true) × ((n : ℕ) × MayKeep old.dc.system more n
+    (old.up ≡ true) × ((n : ℕ) × MayKeep old.dc.system.stable (length old.dc.system.log) more n
     × (new ≡ record { up = false; dc = restarted (crashed old.dc.system n) }))
 DcCrashesTo old more false new = (old.up ≡ false) × (new ≡ old)
 

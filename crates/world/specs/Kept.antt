@@ -107,6 +107,7 @@ abbrev pub IsValue : List Record → Option Bytes → Span → Type 0
 IsValue log v (Key k) = v ≡ value_on k log
 IsValue log v _ = Unit {0}
 
+-- rows that the log gives in a span: those of a table that has at each key there what the log gives
 pub record AreRowsOf (log : List Record) (rows : List (Bytes × Bytes)) (s : spans.Span) : Type 0 where
   pub table : Table
   pub rows_are : rows ≡ rows_in s table
@@ -138,15 +139,17 @@ IsServed (phase.Redoing next ending) s log dc =
     AreBefore log s × (dc.stored ≡ s) × (dc.session ≡ s → AllAreCaptured log dc next)
 IsServed _ s log dc = (dc.stored ≡ s) × (dc.session ≡ s → dc.redo ≡ false)
 
+-- how far the two components are with the session of the transaction component
 pub record AreSessions (stable session : ℕ) (at : Phase) (log : List Record) (dc : DcView) : Type 0 where
   pub begun : IsBegun stable session (stored_session dc.system.log)
   pub served : IsServed at session log dc
 
--- the leaves and what outlives them are true to the transactions' log: each leaf, each page and each leaf in a record
--- is honest for it and has captured stable numbers only, and every request up to its low number is answered
+-- every request up to the leaf's low number is answered
 abbrev pub IsLowAnswered : TcView → LeafView → Type 0
 IsLowAnswered w leaf = IsAnsweredTo w leaf.ab.low
 
+-- the leaves and what outlives them are true to the transactions' log: each leaf, each page and each leaf in a record
+-- is honest for it and has captured stable numbers only, and every request up to its low number is answered
 pub record IsTrueTo (w : TcView) (v : SystemView) : Type 0 where
   pub leaves : AllByRecursion (IsHonestTo w.log w.stable) v.leaves
   pub written : AllHave (IsHonestTo w.log w.stable) (pages_of v.pages) v.log

@@ -303,6 +303,7 @@ pub record Taken (old : NodeView) (i : ℕ) (output : Out) (new : NodeView) : Ty
   pub taken : ReplyGives old.tc reply (Ok what) new.tc
   pub left : new ≡ with_tc old new.tc
 
+-- a reply that was found is refused, and the transaction component is left as its contract says
 pub record Untaken (old : NodeView) (i : ℕ) (r : Refusal) (new : NodeView) : Type 0 where
   pub reply : Reply
   pub found : message_at old.replies i ≡ Some reply

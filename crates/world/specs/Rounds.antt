@@ -48,6 +48,7 @@ pub record IsUndoing (w : NodeView) (waiting : Option ℕ) : Type 0 where
   pub up : AreUp w
   pub session : w.dc.session ≡ w.tc.session
 
+-- both components run, in one session, and nothing is left to recover
 pub record IsServing (w : NodeView) : Type 0 where
   pub running : w.tc.phase ≡ phase.Running
   pub up : AreUp w
@@ -146,6 +147,7 @@ pub record Performed (old : NodeView) (events : List Event) (before after : List
   pub appended : after ≡ before ++ outs
   pub steps : Plays old events outs new
 
+-- the events up to a refused one, whose outputs are listed but for that one's
 pub record Stopped (old : NodeView) (events : List Event) (before after : List Out) (r : Refusal) (new : NodeView) : Type 0 where
   pub outs : List Out
   pub appended : after ≡ before ++ outs

@@ -34,6 +34,3 @@ pub use laws::fallen_law;
 pub use round::Round;
 pub use settling::settle;
 pub use world::World;
-
-#[cfg(test)]
-mod tests;

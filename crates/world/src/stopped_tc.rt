@@ -1,8 +1,8 @@
 //! What is left of the transaction component while it is down: its log's device.
-ghost use Rattle.std.specs.Prelude.{◌≡◌, ℕ, IfOk, IfErr};
+ghost use Rattle.std.specs.Prelude.{◌≡◌, ℕ, IfOk, IfErr, length};
 ghost use Rattle.tc_core.specs.Kept.{IsTc};
 ghost use Rattle.tc_core.specs.Opened.{crashed, IsOpenedAgain};
-ghost use Rattle.world.specs.Component.{MayKeepOf, LacksDevice, unopened};
+ghost use Rattle.world.specs.Component.{MayKeep, LacksDevice, unopened};
 
 use crate::crashing::bytes_kept_of;
 use crate::found_log::FoundLog;
@@ -54,7 +54,7 @@ impl StoppedTc {
     /// What a crash leaves of the component: of the records that aren't stable the first stay, so many, and of the next
     /// one at most so many bytes.
     pub fn crashed(tc: Tc<MemLog>, frames: u64, bytes: u64) -> StoppedTc
-        ensures { (kept : ℕ) × MayKeepOf tc frames kept × (result ≡ crashed tc kept) }
+        ensures { (kept : ℕ) × MayKeep tc.stable (length tc.log) frames kept × (result ≡ crashed tc kept) }
     {
         tc.kept();
         let end = tc.end_of(tc.records());

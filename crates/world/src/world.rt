@@ -216,7 +216,7 @@ impl World {
             phase => return Some(recovery_round(phase, stable)),
         }
         if let Some(open) = tc.first_unanswered() {
-            return Some(answer_round(&open, stable));
+            return Some(answer_round(open, stable));
         }
         if let Some(open) = tc.first_rolling() {
             return Some(Round::Undo { txn: open.txn });

@@ -1,5 +1,5 @@
 use Rattle.std.proofs.Common.{arith}
-use Rattle.world.proofs.Ends.{records_longer}
+use Rattle.world.proofs.Restarts.Ends.{records_longer}
 use Rattle.world.proofs.crashing.bytes_kept_of.Goals as goal
 
 pub returns : goal.returns

@@ -1,5 +1,5 @@
 use Rattle.std.proofs.Common.{arith}
-use Rattle.world.proofs.Ends.{spelled_longer}
+use Rattle.world.proofs.Restarts.Ends.{spelled_longer}
 use Rattle.world.proofs.crashing.kept_of.Goals as goal
 
 pub returns : goal.returns

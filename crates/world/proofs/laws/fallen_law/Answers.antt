@@ -1,4 +1,4 @@
-use Rattle.world.proofs.Fallen.{fallen_is_kept}
+use Rattle.world.proofs.Restarts.Fallen.{fallen_is_kept}
 use Rattle.world.proofs.laws.fallen_law.Goals as goal
 
 pub returns : goal.returns

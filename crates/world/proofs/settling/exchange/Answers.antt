@@ -6,11 +6,12 @@ use Rattle.world.specs.declared.event.Event.TheVariants as event
 use Rattle.world.specs.declared.event.Out.{Out}
 use Rattle.world.specs.Node.{NodeView}
 use Rattle.world.specs.Rounds.{Performed, Stopped, Does, IsExchange, exchange}
-use Rattle.world.proofs.Playing.{then_done, then_stopped, first_stopped, sent_number, replied_number}
+use Rattle.world.proofs.Settles.Playing.{then_done, then_stopped, first_stopped, sent_number, replied_number}
 use Rattle.world.proofs.settling.exchange.Goals as goal
 
 -- the request was delivered or not, and then its reply
-second_stopped : (w mid new : NodeView) (e : Event) (i : ℕ) (a b c : List Out) (r : Refusal) → IsExchange w e → Performed w (e ∷ []) a b mid → i ≡ length mid.requests
+second_stopped : (w mid new : NodeView) (e : Event) (i : ℕ) (a b c : List Out) (r : Refusal) → IsExchange w e
+    → Performed w (e ∷ []) a b mid → i ≡ length mid.requests
     → Stopped mid (event.Request i ∷ []) b c r new → Stopped w (exchange w e) a c r new
 second_stopped w mid new e i a b c r asks first number h =
     let same : i ≡ length w.requests + 1 = number ∙ sent_number w mid e a b asks first in
@@ -25,8 +26,10 @@ second_failed w mid new e i a b c r (Ok u) asks first number h same = absurd sam
 second_failed w mid new e i a b c r (Err q) asks first number h same =
     let P : Refusal → Type 0 = λ x. Stopped w (exchange w e) a c x new in subst P (sym same) (second_stopped w mid new e i a b c r asks first number h)
 
-third : (w mid after new : NodeView) (e : Event) (i j : ℕ) (a b c d : List Out) (result : Result (Unit {0}) Refusal) → IsExchange w e → Performed w (e ∷ []) a b mid → i ≡ length mid.requests
-    → Performed mid (event.Request i ∷ []) b c after → j ≡ length after.replies → Does after (event.Reply j ∷ []) c d result new → Does w (exchange w e) a d result new
+third : (w mid after new : NodeView) (e : Event) (i j : ℕ) (a b c d : List Out) (result : Result (Unit {0}) Refusal)
+    → IsExchange w e → Performed w (e ∷ []) a b mid → i ≡ length mid.requests
+    → Performed mid (event.Request i ∷ []) b c after → j ≡ length after.replies
+    → Does after (event.Reply j ∷ []) c d result new → Does w (exchange w e) a d result new
 third w mid after new e i j a b c d result asks first number second reply h =
     let same : i ≡ length w.requests + 1 = number ∙ sent_number w mid e a b asks first in
     let P : ℕ → Type 0 = λ n. Performed mid (event.Request n ∷ []) b c after in
@@ -35,7 +38,8 @@ third w mid after new e i j a b c d result asks first number second reply h =
     let Q : ℕ → Type 0 = λ n. Does after (event.Reply n ∷ []) c d result new in
     by result served (subst Q numbered h)
   where
-    by : (result : Result (Unit {0}) Refusal) → Performed mid (event.Request (length w.requests + 1) ∷ []) b c after → Does after (event.Reply (length w.replies + 1) ∷ []) c d result new
+    by : (result : Result (Unit {0}) Refusal) → Performed mid (event.Request (length w.requests + 1) ∷ []) b c after
+        → Does after (event.Reply (length w.replies + 1) ∷ []) c d result new
         → Does w (exchange w e) a d result new
     by (Ok u) served h =
         then_done w mid new e (event.Request (length w.requests + 1) ∷ event.Reply (length w.replies + 1) ∷ []) a b d first

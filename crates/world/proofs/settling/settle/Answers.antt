@@ -6,9 +6,9 @@ use Rattle.record_key.specs.declared.refusal.Refusal.{Refusal}
 use Rattle.world.specs.declared.event.Out.{Out}
 use Rattle.world.specs.Node.{NodeView}
 use Rattle.world.specs.Rounds.{IsNext, Settles}
-use Rattle.world.proofs.RoundsLeft.{rounds_bound}
-use Rattle.world.proofs.Falls.{falls, some_left}
-use Rattle.world.proofs.Playing.{none_yet, one_more, all_played, allowed, broken}
+use Rattle.world.proofs.Settles.RoundsLeft.{rounds_bound}
+use Rattle.world.proofs.Settles.Falls.{falls, some_left}
+use Rattle.world.proofs.Settles.Playing.{none_yet, one_more, all_played, allowed, broken}
 use Rattle.world.proofs.settling.settle.Goals as goal
 
 pub loop-round-init : goal.loop-round-init

@@ -17,4 +17,4 @@ returns c =
           c.self.view_is,
       c.self.invariant.indexed,
     )
-    (sym (answer_found _ c.args.number c.self.invariant.legal some))
+    (sym (answer_found _ c.args.number c.self.invariant.legal c.self.invariant.numbered some))

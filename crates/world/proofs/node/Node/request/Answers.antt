@@ -2,9 +2,9 @@ use Rattle.std.proofs.Common.{subst, Option}
 use Rattle.std.specs.Prelude.{Ok}
 use Rattle.codec.specs.declared.reply.Reply.{Reply}
 use Rattle.dc_core.specs.Serves.{MayAsk, ServeGives}
-use Rattle.world.proofs.Spellable.{numbers_spelled, reply_ordered}
-use Rattle.world.proofs.ByNumber.{all_at}
-use Rattle.world.proofs.MayAsk.{may_ask}
+use Rattle.world.proofs.Invariant.Spellable.{numbers_spelled, reply_ordered}
+use Rattle.world.proofs.Invariant.ByNumber.{all_at}
+use Rattle.world.proofs.Invariant.MayAsk.{may_ask}
 use Rattle.world.specs.Kept.{IsSent}
 use Rattle.world.specs.Seen.{seen, dc_of}
 use Rattle.world.specs.declared.data_component.DataComponent.{DataComponent}

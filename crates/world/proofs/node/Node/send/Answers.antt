@@ -1,4 +1,4 @@
-use Rattle.world.proofs.Spellable.{resend_numbers}
+use Rattle.world.proofs.Invariant.Spellable.{resend_numbers}
 use Rattle.world.proofs.node.Node.send.Goals as goal
 
 pub push-requires : goal.push-requires

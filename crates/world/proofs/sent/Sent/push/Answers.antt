@@ -1,7 +1,7 @@
 use Rattle.std.proofs.Common.{◌≡◌, ◌∙◌, [], ◌∷◌, ◌++◌, ap, arith, length}
 use Rattle.std.proofs.lemmas.Grind.{common_steps}
 use Rattle.world.specs.Sent.{SentView}
-use Rattle.world.proofs.Framed.{stand_more, read_more}
+use Rattle.world.proofs.Invariant.Framed.{stand_more, read_more}
 use Rattle.world.proofs.sent.Sent.push.Given as given
 use Rattle.world.proofs.sent.Sent.push.Goals as goal
 

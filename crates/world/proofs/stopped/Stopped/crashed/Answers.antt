@@ -1,7 +1,7 @@
 use Rattle.std.proofs.Common.{length, ap, arith}
 use Rattle.recovery_laws.specs.Shape.{beginning}
 use Rattle.stable.specs.LogState.{LogState}
-use Rattle.world.proofs.Downs.{IsStopped, IsCrash, log_length, crash_of, same_pages, crash_leaves, crash_is, crash_found}
+use Rattle.world.proofs.Restarts.Downs.{IsStopped, IsCrash, log_length, crash_of, same_pages, crash_leaves, crash_is, crash_found}
 use Rattle.world.proofs.stopped.Stopped.crashed.Goals as goal
 
 pub overflow_sub-forced : goal.overflow_sub-forced
@@ -23,7 +23,8 @@ on-found-requires c =
     (beginning v.log left.count, left.holds)
 
 -- the crash, with the records found after it
-crash_then : (c : goal.After-on-found) → IsCrash c.args.dc.system c.args.frames c.kept_of-kept.result c.stop-log.result.log c.crash.new.self c.crash-2.new.self
+crash_then : (c : goal.After-on-found)
+    → IsCrash c.args.dc.system c.args.frames c.kept_of-kept.result c.stop-log.result.log c.crash.new.self c.crash-2.new.self
 crash_then c =
     let v = c.args.dc.system in
     let log = c.stop-log.result.log in

@@ -1,5 +1,5 @@
 use Rattle.std.specs.Prelude.{[]}
-use Rattle.world.proofs.Downs.{no_frames, empty_found}
+use Rattle.world.proofs.Restarts.Downs.{no_frames, empty_found}
 use Rattle.world.proofs.stopped.Stopped.empty.Goals as goal
 
 pub on-found-requires : goal.on-found-requires

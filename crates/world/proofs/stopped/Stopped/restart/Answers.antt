@@ -2,7 +2,7 @@ use Rattle.std.proofs.Common.{◌∙◌, sym, subst}
 use Rattle.system_txn.specs.Kept.{IsRecoverable}
 use Rattle.dc_core.specs.DcView.{DcView}
 use Rattle.world.specs.Component.{found_on, IsDownWith}
-use Rattle.world.proofs.Downs.{opened_is, down_with, down_kept}
+use Rattle.world.proofs.Restarts.Downs.{opened_is, down_with, down_kept}
 use Rattle.world.proofs.stopped.Stopped.restart.Goals as goal
 
 pub invariant_of-result : goal.invariant_of-result

@@ -1,7 +1,7 @@
 use Rattle.std.proofs.Common.{length, ap, arith}
 use Rattle.logical_log.specs.Low.{stable_part}
 use Rattle.stable.specs.LogState.{LogState}
-use Rattle.world.proofs.TcDowns.{IsHalted, device_length, tc_crash_of, kept_left, tc_crash_is}
+use Rattle.world.proofs.Restarts.TcDowns.{IsHalted, device_length, tc_crash_of, kept_left, tc_crash_is}
 use Rattle.world.proofs.stopped_tc.StoppedTc.crashed.Goals as goal
 
 pub overflow_sub-forced : goal.overflow_sub-forced

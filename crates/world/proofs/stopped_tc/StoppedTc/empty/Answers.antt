@@ -1,5 +1,5 @@
 use Rattle.std.specs.Prelude.{[]}
-use Rattle.world.proofs.TcDowns.{no_records}
+use Rattle.world.proofs.Restarts.TcDowns.{no_records}
 use Rattle.world.proofs.stopped_tc.StoppedTc.empty.Goals as goal
 
 pub on-found-requires : goal.on-found-requires

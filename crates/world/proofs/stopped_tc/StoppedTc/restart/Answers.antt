@@ -1,10 +1,10 @@
-use Rattle.std.proofs.Common.{◌∙◌, sym, ap, subst}
+use Rattle.std.proofs.Common.{◌∙◌, ap, subst}
 use Rattle.logical_log.proofs.Crashed.{never_bad}
 use Rattle.tc_core.specs.TcView.{TcView}
 use Rattle.tc_core.specs.Opened.{IsOpenedAgain}
 use Rattle.tc_core.proofs.CrashedTc.{opens_again, left_again}
 use Rattle.world.specs.Component.{unopened}
-use Rattle.world.proofs.TcDowns.{tc_unopened}
+use Rattle.world.proofs.Restarts.TcDowns.{tc_unopened}
 use Rattle.world.proofs.stopped_tc.StoppedTc.restart.Goals as goal
 
 pub returns-in-Ok-clause-restarted : goal.returns-in-Ok-clause-restarted

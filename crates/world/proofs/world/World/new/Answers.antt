@@ -4,7 +4,7 @@ use Rattle.dc_core.specs.Kept.{IsDc}
 use Rattle.world.specs.Kept.{IsKept}
 use Rattle.world.specs.Node.{NodeView}
 use Rattle.world.specs.Simulation.{Stands}
-use Rattle.world.proofs.Headline.{kept_fresh, fresh_stands_for}
+use Rattle.world.proofs.Machine.Headline.{kept_fresh, fresh_stands_for}
 use Rattle.world.proofs.world.World.new.Goals as goal
 
 pub invariant_of-result : goal.invariant_of-result

@@ -1,5 +1,6 @@
-use Rattle.std.proofs.Common.{◌≡◌, ◌∙◌, ℕ, Bool, true, false, sym, ap, subst, ◌<◌, ◌≤◌, length, arith, inl, inr, true≢false, Some, None}
+use Rattle.std.proofs.Common.{◌≡◌, ◌∙◌, ℕ, Bool, false, sym, ap, subst, ◌<◌, ◌≤◌, length, arith, inl, inr, true≢false, Some, None}
 use Rattle.std.specs.Prelude.{◌↔◌, IsTrue}
+use Rattle.std.specs.Option.{option_copied}
 use Rattle.tc_core.specs.declared.open_txns.Wanted.TheVariants.{Unanswered, Rolling}
 use Rattle.tc_core.specs.declared.phase.Phase.{Phase}
 use Rattle.tc_core.specs.declared.phase.Phase.TheVariants as phase
@@ -14,8 +15,8 @@ use Rattle.world.specs.declared.transaction_component.TransactionComponent.{Tran
 use Rattle.world.specs.declared.transaction_component.TransactionComponent.TheVariants as tc_is
 use Rattle.world.specs.declared.data_component.DataComponent.{DataComponent}
 use Rattle.world.specs.declared.data_component.DataComponent.TheVariants as dc_is
-use Rattle.world.proofs.Settled.{at_rest, serving}
-use Rattle.world.proofs.Rounds.{next_for, idle_all, rolling_first, unrolled_all}
+use Rattle.world.proofs.Machine.Settled.{at_rest, serving}
+use Rattle.world.proofs.Settles.Rounds.{next_for, idle_all, rolling_first, unrolled_all}
 use Rattle.world.proofs.world.World.next_round.Goals as goal
 
 -- the components run, and are these
@@ -49,9 +50,9 @@ returns-in-Some c =
     let w : NodeView = seen c.self.inside.node in
     let t = these c.self.inside.node c.in-Up-tc.tc c.in-Up.dc c.in-Up-tc.is c.in-Up.is in
     let serving_now = serves w c.in-Up-tc.tc c.in-Up.dc c.is_apart.result c.phase.result t c.is_apart.ensures c.if-is_apart.false c.phase.ensures c.in-Running.is in
-    let o = c.in-Some.open in
+    let o = c.in-Some.open.now in
     let at : oldest (wants Unanswered) w.tc.open_txns ≡ Some o =
-    ap (λ (x : TcView). oldest (wants Unanswered) x.open_txns) t.tc_same ∙ sym c.first_unanswered.ensures ∙ c.in-Some.is in
+    ap (λ (x : TcView). oldest (wants Unanswered) x.open_txns) t.tc_same ∙ sym c.first_unanswered.ensures ∙ ap option_copied c.in-Some.is in
     let stable : w.tc.stable ≡ c.stable_end-stable.result =
     ap (λ (x : TcView). x.stable) t.tc_same ∙ sym c.stable_end-stable.ensures in
     let P : ℕ → Type 0 = λ n. IsNext w (round_for o.txn n o.waiting) in
@@ -63,10 +64,10 @@ returns-in-Some-first_rolling c =
     let t = these c.self.inside.node c.in-Up-tc.tc c.in-Up.dc c.in-Up-tc.is c.in-Up.is in
     let serving_now = serves w c.in-Up-tc.tc c.in-Up.dc c.is_apart.result c.phase.result t c.is_apart.ensures c.if-is_apart.false c.phase.ensures c.in-Running.is in
     let none : oldest (wants Unanswered) w.tc.open_txns ≡ None =
-    ap (λ (x : TcView). oldest (wants Unanswered) x.open_txns) t.tc_same ∙ sym c.first_unanswered.ensures ∙ c.in_default-first_unanswered.is in
-    let at : oldest (wants Rolling) w.tc.open_txns ≡ Some c.in-Some-first_rolling.open =
-    ap (λ (x : TcView). oldest (wants Rolling) x.open_txns) t.tc_same ∙ sym c.first_rolling.ensures ∙ c.in-Some-first_rolling.is in
-    rw (← c.self.view_is) (serving_now, rolling_first w.tc c.in-Some-first_rolling.open c.self.invariant.tc none at)
+    ap (λ (x : TcView). oldest (wants Unanswered) x.open_txns) t.tc_same ∙ sym c.first_unanswered.ensures ∙ ap option_copied c.in_default-first_unanswered.is in
+    let at : oldest (wants Rolling) w.tc.open_txns ≡ Some c.in-Some-first_rolling.open.now =
+    ap (λ (x : TcView). oldest (wants Rolling) x.open_txns) t.tc_same ∙ sym c.first_rolling.ensures ∙ ap option_copied c.in-Some-first_rolling.is in
+    rw (← c.self.view_is) (serving_now, rolling_first w.tc c.in-Some-first_rolling.open.now c.self.invariant.tc none at)
 
 pub returns-then-stable-records : goal.returns-then-stable-records
 returns-then-stable-records c =
@@ -74,9 +75,9 @@ returns-then-stable-records c =
     let t = these c.self.inside.node c.in-Up-tc.tc c.in-Up.dc c.in-Up-tc.is c.in-Up.is in
     let serving_now = serves w c.in-Up-tc.tc c.in-Up.dc c.is_apart.result c.phase.result t c.is_apart.ensures c.if-is_apart.false c.phase.ensures c.in-Running.is in
     let none : oldest (wants Unanswered) w.tc.open_txns ≡ None =
-    ap (λ (x : TcView). oldest (wants Unanswered) x.open_txns) t.tc_same ∙ sym c.first_unanswered.ensures ∙ c.in_default-first_unanswered.is in
+    ap (λ (x : TcView). oldest (wants Unanswered) x.open_txns) t.tc_same ∙ sym c.first_unanswered.ensures ∙ ap option_copied c.in_default-first_unanswered.is in
     let flat : oldest (wants Rolling) w.tc.open_txns ≡ None =
-    ap (λ (x : TcView). oldest (wants Rolling) x.open_txns) t.tc_same ∙ sym c.first_rolling.ensures ∙ c.in_default-first_rolling.is in
+    ap (λ (x : TcView). oldest (wants Rolling) x.open_txns) t.tc_same ∙ sym c.first_rolling.ensures ∙ ap option_copied c.in_default-first_rolling.is in
     let less : w.tc.stable < length w.tc.log =
     omega (arith, ap (λ (x : TcView). length x.log) t.tc_same, ap (λ (x : TcView). x.stable) t.tc_same, c.records.ensures, c.stable_end-stable.ensures, c.if-stable-records.true) in
     rw (← c.self.view_is) (inl (serving_now, inr (unrolled_all w.tc flat, idle_all w.tc none, less)))
@@ -87,9 +88,9 @@ returns c =
     let t = these c.self.inside.node c.in-Up-tc.tc c.in-Up.dc c.in-Up-tc.is c.in-Up.is in
     let serving_now = serves w c.in-Up-tc.tc c.in-Up.dc c.is_apart.result c.phase.result t c.is_apart.ensures c.if-is_apart.false c.phase.ensures c.in-Running.is in
     let none : oldest (wants Unanswered) w.tc.open_txns ≡ None =
-    ap (λ (x : TcView). oldest (wants Unanswered) x.open_txns) t.tc_same ∙ sym c.first_unanswered.ensures ∙ c.in_default-first_unanswered.is in
+    ap (λ (x : TcView). oldest (wants Unanswered) x.open_txns) t.tc_same ∙ sym c.first_unanswered.ensures ∙ ap option_copied c.in_default-first_unanswered.is in
     let flat : oldest (wants Rolling) w.tc.open_txns ≡ None =
-    ap (λ (x : TcView). oldest (wants Rolling) x.open_txns) t.tc_same ∙ sym c.first_rolling.ensures ∙ c.in_default-first_rolling.is in
+    ap (λ (x : TcView). oldest (wants Rolling) x.open_txns) t.tc_same ∙ sym c.first_rolling.ensures ∙ ap option_copied c.in_default-first_rolling.is in
     let most : length w.tc.log ≤ w.tc.stable =
     omega (arith, ap (λ (x : TcView). length x.log) t.tc_same, ap (λ (x : TcView). x.stable) t.tc_same, c.records.ensures, c.stable_end-stable.ensures, c.if-stable-records.false) in
     rw (← c.self.view_is) (at_rest w c.self.invariant serving_now.running serving_now.up serving_now.session (unrolled_all w.tc flat) (idle_all w.tc none) most)

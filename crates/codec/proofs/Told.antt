@@ -1,0 +1,199 @@
+-- What a record's kind and the fields behind it tell of the record.
+use Rattle.std.proofs.Common.{◌≡◌, ◌≢◌, ℕ, ◌⊎◌, List, ◌∷◌, ◌++◌, [], length, drop, Option, Some, None, option_map, refl, sym, ap, subst, ◌∙◌, append_assoc, arith, inl, inr}
+use Rattle.std.proofs.lemmas.List.{drop_at}
+use Rattle.std.proofs.lemmas.Option.{none-some, same_Some}
+use Rattle.history.specs.declared.record.Record.{Record}
+use Rattle.history.specs.declared.record.Record.TheVariants as is
+use Rattle.history.specs.Log.{request_of, step_of}
+use Rattle.record_key.specs.declared.op.Op.{Op}
+use Rattle.codec.specs.Fields.{number, optional, op_bytes, answer_bytes}
+use Rattle.codec.specs.Frames.{frame}
+use Rattle.codec.specs.Reading.{byte_at, number_at, op_at, optional_at}
+use Rattle.codec.specs.Records.{record_bytes, IsRecord}
+use Rattle.codec.proofs.Fields.{length-number, numbers_length, number_reads, op_reads, optional_reads}
+
+-- a value that was read, without the bytes after it
+abbrev pub first : {X : Type 0} → Option (X × List ℕ) → Option X
+first found = option_map (λ x. x.0) found
+
+-- the same where there may be none
+abbrev pub inner : {X : Type 0} → Option (Option X × List ℕ) → Option X
+inner None = None
+inner (Some x) = x.0
+
+abbrev kind : Record → ℕ
+kind is.Session = 1
+kind is.Begin = 2
+kind (is.Op txn prev o) = 3
+kind (is.Answer of a) = 4
+kind (is.Comp txn undoes next inverse) = 5
+kind (is.Commit txn) = 6
+kind (is.End txn) = 7
+kind (is.Checkpoint low) = 8
+
+abbrev fields : Record → List ℕ
+fields is.Session = []
+fields is.Begin = []
+fields (is.Op txn prev o) = number txn ++ (number prev ++ op_bytes o)
+fields (is.Answer of a) = number of ++ answer_bytes a
+fields (is.Comp txn undoes next inverse) = number txn ++ (number undoes ++ (number next ++ optional op_bytes inverse))
+fields (is.Commit txn) = number txn
+fields (is.End txn) = number txn
+fields (is.Checkpoint low) = number low
+
+spelled : (r : Record) → record_bytes r ≡ kind r ∷ fields r
+unfolding record_bytes
+spelled is.Session = refl
+spelled is.Begin = refl
+spelled (is.Op txn prev o) = refl
+spelled (is.Answer of a) = refl
+spelled (is.Comp txn undoes next inverse) = refl
+spelled (is.Commit txn) = refl
+spelled (is.End txn) = refl
+spelled (is.Checkpoint low) = refl
+
+-- they stand behind the length
+behind : (r : Record) (left rest : List ℕ) → left ≡ frame (record_bytes r) ++ rest
+    → byte_at (drop 8 left) ≡ Some (kind r, fields r ++ rest)
+behind r left rest e =
+    let body : List ℕ = record_bytes r in
+    let after : drop 8 left ≡ body ++ rest = ap (drop 8) (e ∙ append_assoc (number (length body)) body rest)
+    ∙ drop_at (number (length body)) (body ++ rest) 8 (length-number (length body)) in
+    ap byte_at (after ∙ ap (λ (b : List ℕ). b ++ rest) (spelled r))
+
+-- so what is read there are the record's own
+record Stands (r : Record) (rest : List ℕ) (k : ℕ) (tail : List ℕ) : Type 0 where
+  kind_is : k ≡ kind r
+  tail_is : tail ≡ fields r ++ rest
+
+stands : (r : Record) (left rest : List ℕ) (k : ℕ) (tail : List ℕ) → left ≡ frame (record_bytes r) ++ rest
+    → byte_at (drop 8 left) ≡ Some (k, tail) → Stands r rest k tail
+stands r left rest k tail e read =
+    let same = same_Some (k, tail) (kind r, fields r ++ rest) (sym read ∙ behind r left rest e) in
+    record { kind_is = ap (λ (p : ℕ × List ℕ). p.0) same; tail_is = ap (λ (p : ℕ × List ℕ). p.1) same }
+
+abbrev IsStep : ℕ → Type 0
+IsStep k = (k ≡ 3) ⊎ (k ≡ 5)
+
+-- the first number of an Op or a Comp record is its transaction
+step_read : (r : Record) (rest : List ℕ) → IsRecord r → IsStep (kind r)
+    → first (number_at (fields r ++ rest)) ≡ step_of r
+step_read (is.Op txn prev o) rest fits step =
+    ap (λ (b : List ℕ). first (number_at b)) (append_assoc (number txn) (number prev ++ op_bytes o) rest)
+    ∙ ap first (number_reads.again txn ((number prev ++ op_bytes o) ++ rest) fits.0)
+step_read (is.Comp txn undoes next inverse) rest fits step =
+    let more : List ℕ = number undoes ++ (number next ++ optional op_bytes inverse) in
+    ap (λ (b : List ℕ). first (number_at b)) (append_assoc (number txn) more rest)
+    ∙ ap first (number_reads.again txn (more ++ rest) fits.0)
+step_read is.Session rest fits step = elim step [ inl e ↦ absurd (cc) | inr e ↦ absurd (cc) ]
+step_read is.Begin rest fits step = elim step [ inl e ↦ absurd (cc) | inr e ↦ absurd (cc) ]
+step_read (is.Answer of a) rest fits step = elim step [ inl e ↦ absurd (cc) | inr e ↦ absurd (cc) ]
+step_read (is.Commit txn) rest fits step = elim step [ inl e ↦ absurd (cc) | inr e ↦ absurd (cc) ]
+step_read (is.End txn) rest fits step = elim step [ inl e ↦ absurd (cc) | inr e ↦ absurd (cc) ]
+step_read (is.Checkpoint low) rest fits step = elim step [ inl e ↦ absurd (cc) | inr e ↦ absurd (cc) ]
+
+-- and no other record is a step
+no_step : (r : Record) → kind r ≢ 3 → kind r ≢ 5 → step_of r ≡ None
+no_step (is.Op txn prev o) op comp = absurd (op refl)
+no_step (is.Comp txn undoes next inverse) op comp = absurd (comp refl)
+no_step is.Session op comp = refl
+no_step is.Begin op comp = refl
+no_step (is.Answer of a) op comp = refl
+no_step (is.Commit txn) op comp = refl
+no_step (is.End txn) op comp = refl
+no_step (is.Checkpoint low) op comp = refl
+
+-- behind an Op record's two numbers stands what it asks for
+op_read : (r : Record) (rest : List ℕ) → IsRecord r → kind r ≡ 3
+    → first (op_at (drop 16 (fields r ++ rest))) ≡ request_of r
+op_read (is.Op txn prev o) rest fits op =
+    let numbers : List ℕ = number txn ++ number prev in
+    let parts : fields (is.Op txn prev o) ++ rest ≡ numbers ++ (op_bytes o ++ rest) =
+    ap (λ (b : List ℕ). b ++ rest) (sym (append_assoc (number txn) (number prev) (op_bytes o)))
+    ∙ append_assoc numbers (op_bytes o) rest in
+    let two : length numbers ≡ 16 = omega (arith, numbers_length txn (number prev), length-number prev) in
+    ap (λ (b : List ℕ). first (op_at b)) (ap (drop 16) parts ∙ drop_at numbers (op_bytes o ++ rest) 16 two)
+    ∙ ap first (op_reads.again o rest fits.1.1)
+op_read is.Session rest fits op = absurd (cc)
+op_read is.Begin rest fits op = absurd (cc)
+op_read (is.Answer of a) rest fits op = absurd (cc)
+op_read (is.Comp txn undoes next inverse) rest fits op = absurd (cc)
+op_read (is.Commit txn) rest fits op = absurd (cc)
+op_read (is.End txn) rest fits op = absurd (cc)
+op_read (is.Checkpoint low) rest fits op = absurd (cc)
+
+-- behind a Comp record's three numbers stands its inverse
+inverse_read : (r : Record) (rest : List ℕ) → IsRecord r → kind r ≡ 5
+    → inner (optional_at op_at (drop 24 (fields r ++ rest))) ≡ request_of r
+inverse_read (is.Comp txn undoes next inverse) rest fits comp =
+    let two : List ℕ = number undoes ++ number next in
+    let numbers : List ℕ = number txn ++ two in
+    let tail : List ℕ = optional op_bytes inverse in
+    let all : fields (is.Comp txn undoes next inverse) ≡ numbers ++ tail =
+    ap (λ (b : List ℕ). number txn ++ b) (sym (append_assoc (number undoes) (number next) tail))
+    ∙ sym (append_assoc (number txn) two tail) in
+    let parts : fields (is.Comp txn undoes next inverse) ++ rest ≡ numbers ++ (tail ++ rest) =
+    ap (λ (b : List ℕ). b ++ rest) all ∙ append_assoc numbers tail rest in
+    let three : length numbers ≡ 24 =
+    omega (arith, numbers_length txn two, numbers_length undoes (number next), length-number next) in
+    ap (λ (b : List ℕ). inner (optional_at op_at b)) (ap (drop 24) parts ∙ drop_at numbers (tail ++ rest) 24 three)
+    ∙ ap inner ((optional_reads Op op_bytes _ op_at op_reads).again inverse rest fits.1.1.1)
+inverse_read is.Session rest fits comp = absurd (cc)
+inverse_read is.Begin rest fits comp = absurd (cc)
+inverse_read (is.Op txn prev o) rest fits comp = absurd (cc)
+inverse_read (is.Answer of a) rest fits comp = absurd (cc)
+inverse_read (is.Commit txn) rest fits comp = absurd (cc)
+inverse_read (is.End txn) rest fits comp = absurd (cc)
+inverse_read (is.Checkpoint low) rest fits comp = absurd (cc)
+
+-- and no other record asks for anything
+asks_nothing : (r : Record) → kind r ≢ 3 → kind r ≢ 5 → request_of r ≡ None
+asks_nothing (is.Op txn prev o) op comp = absurd (op refl)
+asks_nothing (is.Comp txn undoes next inverse) op comp = absurd (comp refl)
+asks_nothing is.Session op comp = refl
+asks_nothing is.Begin op comp = refl
+asks_nothing (is.Answer of a) op comp = refl
+asks_nothing (is.Commit txn) op comp = refl
+asks_nothing (is.End txn) op comp = refl
+asks_nothing (is.Checkpoint low) op comp = refl
+
+-- ---- what is told of the record whose frame the bytes begin with, by the kind and the bytes after it
+
+module _ (r : Record) (left rest : List ℕ) (k : ℕ) (tail : List ℕ) where
+  pub step_told : IsRecord r → left ≡ frame (record_bytes r) ++ rest → byte_at (drop 8 left) ≡ Some (k, tail)
+      → IsStep k → first (number_at tail) ≡ step_of r
+  step_told fits e read step =
+      let own = stands r left rest k tail e read in
+      ap (λ (b : List ℕ). first (number_at b)) own.tail_is
+      ∙ step_read r rest fits (subst IsStep own.kind_is step)
+
+  pub no_step_told : left ≡ frame (record_bytes r) ++ rest → byte_at (drop 8 left) ≡ Some (k, tail)
+      → k ≢ 3 → k ≢ 5 → None ≡ step_of r
+  no_step_told e read op comp =
+      let own = stands r left rest k tail e read in
+      sym (no_step r (λ is. op (own.kind_is ∙ is)) (λ is. comp (own.kind_is ∙ is)))
+
+  pub op_told : IsRecord r → left ≡ frame (record_bytes r) ++ rest → byte_at (drop 8 left) ≡ Some (k, tail)
+      → k ≡ 3 → first (op_at (drop 16 tail)) ≡ request_of r
+  op_told fits e read op =
+      let own = stands r left rest k tail e read in
+      ap (λ (b : List ℕ). first (op_at (drop 16 b))) own.tail_is
+      ∙ op_read r rest fits (sym own.kind_is ∙ op)
+
+  pub inverse_told : IsRecord r → left ≡ frame (record_bytes r) ++ rest → byte_at (drop 8 left) ≡ Some (k, tail)
+      → k ≡ 5 → inner (optional_at op_at (drop 24 tail)) ≡ request_of r
+  inverse_told fits e read comp =
+      let own = stands r left rest k tail e read in
+      ap (λ (b : List ℕ). inner (optional_at op_at (drop 24 b))) own.tail_is
+      ∙ inverse_read r rest fits (sym own.kind_is ∙ comp)
+
+  pub asks_nothing_told : left ≡ frame (record_bytes r) ++ rest → byte_at (drop 8 left) ≡ Some (k, tail)
+      → k ≢ 3 → k ≢ 5 → None ≡ request_of r
+  asks_nothing_told e read op comp =
+      let own = stands r left rest k tail e read in
+      sym (asks_nothing r (λ is. op (own.kind_is ∙ is)) (λ is. comp (own.kind_is ∙ is)))
+
+-- a kind stands there
+pub kind_stands : (r : Record) (left rest : List ℕ) → left ≡ frame (record_bytes r) ++ rest
+    → byte_at (drop 8 left) ≡ None → ⊥
+kind_stands r left rest e none = none-some (kind r, fields r ++ rest) (sym none ∙ behind r left rest e)

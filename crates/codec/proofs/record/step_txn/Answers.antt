@@ -1,0 +1,22 @@
+use Rattle.std.proofs.Common.{rules, ◌∙◌, drop, sym, ap}
+use Rattle.codec.proofs.Told.{first, step_told, no_step_told, kind_stands}
+use Rattle.codec.proofs.record.step_txn.Goals as goal
+
+pub returns-in_err-kind : goal.returns-in_err-kind
+returns-in_err-kind c = λ r rest fits e. absurd
+    (kind_stands r (drop c.args.at c.args.bytes.now) rest e c.in_err-kind.ensures)
+
+pub returns-in_err-take_number-in-3 : goal.returns-in_err-take_number-in-3
+returns-in_err-take_number-in-3 c = λ r rest fits e.
+    c.from_residual-in_err-take_number-in-3.ensures ∙ ap first (sym c.in_err-take_number-in-3.ensures)
+    ∙ step_told r (drop c.args.at c.args.bytes.now) rest _ _ fits e c.in_ok-kind.ensures c.in-3.is
+
+pub returns-in_ok-take_number-in-3 : goal.returns-in_ok-take_number-in-3
+returns-in_ok-take_number-in-3 c = λ r rest fits e.
+    ap first (sym c.in_ok-take_number-in-3.ensures)
+    ∙ step_told r (drop c.args.at c.args.bytes.now) rest _ _ fits e c.in_ok-kind.ensures c.in-3.is
+
+pub returns-in_default : goal.returns-in_default
+returns-in_default c = λ r rest fits e.
+    no_step_told r (drop c.args.at c.args.bytes.now) rest _ _ e c.in_ok-kind.ensures
+    (search rules) (search rules)

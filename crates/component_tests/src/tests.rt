@@ -1,0 +1,4 @@
+//! A module for each crate.
+mod data;
+mod system_transactions;
+mod transactions;

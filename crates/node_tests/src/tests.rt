@@ -1,0 +1,3 @@
+//! Walks of a node.
+mod calls;
+mod walks;

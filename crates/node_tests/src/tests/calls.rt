@@ -1,0 +1,33 @@
+//! The calls of a node, each in a small function without a contract: a test of several calls is cheap to check then.
+use history::Record;
+use record_key::{Key, Refusal, Value};
+use world::{Event, Out, World, settle};
+
+pub(super) fn step(world: &mut World, event: &Event) -> Out {
+    world.step(event)
+}
+
+pub(super) fn settle_all(
+    world: &mut World,
+    most: Option<u64>,
+    outs: &mut Vec<Out>,
+) -> Result<bool, Refusal> {
+    let is_done = settle(world, most, outs)?;
+    Ok(is_done)
+}
+
+pub(super) fn stable_end(world: &World) -> Result<u64, Refusal> {
+    world.stable_end()
+}
+
+pub(super) fn records(world: &World) -> Result<u64, Refusal> {
+    world.records()
+}
+
+pub(super) fn record(world: &World, number: u64) -> Result<Option<Record>, Refusal> {
+    world.record(number)
+}
+
+pub(super) fn rows(world: &World) -> Result<Vec<(Key, Value)>, Refusal> {
+    world.rows()
+}

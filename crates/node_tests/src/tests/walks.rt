@@ -1,0 +1,51 @@
+//! The walks.
+mod calling;
+mod choosing;
+mod counts;
+mod crashing;
+mod holds;
+mod kept;
+mod lines;
+mod model;
+mod open;
+mod span;
+mod telling;
+mod walking;
+
+use log_laws::is_legal;
+use std::alloc::Global;
+use std::process::Abort;
+use std::test::Fail;
+use walking::Walk;
+
+/// A hundred events, after which the node is settled and compared.
+fn walk_on(rt: &impl Abort, alloc: Global, walk: &mut Walk) -> Result<(), Fail> {
+    for _ in 0..10 {
+        for _ in 0..10 {
+            walk.walk(rt, alloc)?;
+        }
+        walk.serve_sometimes(rt, alloc)?;
+    }
+    walk.settle(rt, alloc)?;
+    walk.assert_settled(rt, alloc)?;
+    walk.assert_history(rt, alloc)
+}
+
+/// Four thousand events. Their log is legal, and so is each beginning of it.
+fn walk_far(rt: &impl Abort, alloc: Global, walk: &mut Walk) -> Result<(), Fail> {
+    for _ in 0..40 {
+        walk_on(rt, alloc, walk)?;
+    }
+    assert!(rt; is_legal(&walk.log(alloc)?));
+    walk.counts.assert_enough(rt);
+    Ok(())
+}
+
+#[test]
+fn as_the_plain_model(rt: HostRuntime) -> Result<(), Fail> {
+    for seed in 1..5 {
+        let mut walk = Walk::new(rt.alloc(), seed)?;
+        walk_far(&rt, rt.alloc(), &mut walk)?;
+    }
+    Ok(())
+}

@@ -1,0 +1,34 @@
+-- What holds of the leaf of a key.
+use Rattle.std.proofs.Common.{◌≡◌, ℕ, ◌≤◌, true, refl, arith}
+use Rattle.std.specs.Prelude.{nat_le}
+use Rattle.std.proofs.lemmas.Bool.Decides.{nat_tests}
+use Rattle.record_key.specs.Table.{Bytes}
+use Rattle.history.specs.Honest.{IsHonestAt}
+use Rattle.btree.specs.Leaves.{leaf_at}
+use Rattle.btree.proofs.AtKey.{all_at, within_at}
+use Rattle.recovery_laws.specs.Ready.{IsHonestTo, IsLow}
+use Rattle.system_txn.specs.Checked.{IsChecked}
+use Rattle.dc_core.specs.DcView.{leaves, captures_at, value_at}
+use Rattle.world.specs.Node.{NodeView}
+use Rattle.world.specs.Kept.{IsKept, IsLowAnswered}
+
+pub own_leaf : (w : NodeView) (key : Bytes) → IsKept w → IsHonestTo w.tc.log w.tc.stable (leaf_at (leaves w.dc) key)
+own_leaf w key k = all_at (IsHonestTo w.tc.log w.tc.stable) (leaves w.dc) key k.dc.system.leaves k.true_to.leaves
+
+pub honest_at : (w : NodeView) (key : Bytes) → IsKept w
+    → IsHonestAt w.tc.log (captures_at w.dc key) key (value_at w.dc key)
+honest_at w key k = (own_leaf w key k).honest.at key (within_at (leaves w.dc) key k.dc.system.leaves)
+
+pub captured_stable : (w : NodeView) (key : Bytes) (n : ℕ) → IsKept w → captures_at w.dc key n ≡ true → n ≤ w.tc.stable
+captured_stable w key n k h = (own_leaf w key k).within n h
+
+pub own_low : (w : NodeView) (key : Bytes) → IsKept w → IsLowAnswered w.tc (leaf_at (leaves w.dc) key)
+own_low w key k = all_at (IsLowAnswered w.tc) (leaves w.dc) key k.dc.system.leaves k.true_to.low
+
+-- a leaf that is so low has captured it
+pub low_captured : (w : NodeView) (l n : ℕ) (key : Bytes) → IsKept w → IsChecked l w.dc.system → n ≤ l
+    → captures_at w.dc key n ≡ true
+low_captured w l n key k checked below =
+    let low : l ≤ (leaf_at (leaves w.dc) key).ab.low = all_at (IsLow l) (leaves w.dc) key k.dc.system.leaves checked.leaves in
+    let within : nat_le n (leaf_at (leaves w.dc) key).ab.low ≡ true = grind (arith, nat_tests, low, below) in
+    rw within refl

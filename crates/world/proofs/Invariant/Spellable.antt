@@ -1,0 +1,76 @@
+-- What is sent has a spelling: numbers of records and reads are few, and rows rise.
+use Rattle.std.proofs.Common.{◌≡◌, ℕ, ◌≤◌, Bool, true, false, Option, Some, None, sym, subst, arith, inl, inr}
+use Rattle.std.specs.Prelude.{MatchBool, Ok}
+use Rattle.std.specs.FinMap as map
+use Rattle.record_key.specs.Table.{Bytes, Table, key_of, answer_in}
+use Rattle.record_key.specs.Rows.{AreInOrder}
+use Rattle.record_key.proofs.Rows.{own_rows}
+use Rattle.history.specs.Spans.{is_within, rows_in}
+use Rattle.range_locks.specs.declared.span.Span.{Span}
+use Rattle.range_locks.specs.declared.span.Span.TheVariants.{Key, Range}
+use Rattle.codec.specs.Fields.{IsNumber}
+use Rattle.codec.specs.declared.request.Request.{Request}
+use Rattle.codec.specs.declared.request.Request.TheVariants as asks
+use Rattle.codec.specs.declared.reply.Reply.{Reply}
+use Rattle.codec.specs.declared.reply.Reply.TheVariants as says
+use Rattle.codec.specs.Requests.{HasRequestNumbers, IsRequest}
+use Rattle.codec.specs.Replies.{IsOrdered}
+use Rattle.ab_lsn.specs.AbLsn.{saved_in}
+use Rattle.page.proofs.Halves.{retained}
+use Rattle.btree.specs.Leaves.{leaf_at, rows_of}
+use Rattle.dc_core.specs.DcView.{DcView, leaves, captures_at}
+use Rattle.dc_core.specs.Serves.{Serves, performs, range}
+use Rattle.tc_core.specs.TcView.{TcView}
+use Rattle.tc_core.specs.Calls.{read_request, IsRequestOf, ResendGives}
+use Rattle.tc_core.specs.Kept.{IsTc}
+
+session_number : (w : TcView) → IsTc w → IsNumber w.session
+session_number w k = omega (arith, k.session, k.within, k.few.records)
+
+read_numbers : (w : TcView) (n : ℕ) (q : Span) → IsTc w → n ≤ w.reads → HasRequestNumbers (read_request w.session n q)
+read_numbers w n (Key k) tc few = (session_number w tc, omega (arith, few, tc.few.reads))
+read_numbers w n (Range low high) tc few = (session_number w tc, omega (arith, few, tc.few.reads))
+
+request_numbers : (w : TcView) (t : ℕ) (request : Request) → IsTc w → IsRequestOf w t request
+    → HasRequestNumbers request
+request_numbers w t request k (inl r) = subst HasRequestNumbers (sym r.is) (session_number w k, omega (arith, r.stable, k.within, k.few.records))
+request_numbers w t request k (inr r) =
+    let asked = (k.reading.each r.open_txn.txn r.open_txn r.read r.at.is r.reading).asked in
+    subst HasRequestNumbers (sym r.is) (read_numbers w r.read.number r.read.span k asked)
+
+pub resend_numbers : (w : TcView) (t : ℕ) (request : Request) → IsTc w → ResendGives w t (Ok request)
+    → HasRequestNumbers request
+resend_numbers w t request k h = request_numbers w t request k h.1
+
+-- what is spelled has numbers
+pub numbers_spelled : (q : Request) → IsRequest q → HasRequestNumbers q
+numbers_spelled (asks.Connect s) h = h
+numbers_spelled (asks.Perform s n o) h = (h.0, h.1.0)
+numbers_spelled (asks.Get s n k) h = (h.0, h.1.0)
+numbers_spelled (asks.Scan s n lo hi) h = (h.0, h.1.0)
+numbers_spelled (asks.LowWater s l) h = h
+numbers_spelled (asks.Checkpoint s l) h = h
+numbers_spelled (asks.RedoEnd s) h = h
+
+-- a range of a table's rows rises
+rows_rise : (lo : Bytes) (hi : Option Bytes) (t : Table) → AreInOrder (rows_in (range lo hi) t)
+rows_rise lo hi t = (retained (map.entries t) (λ k. is_within (range lo hi) k) (own_rows t)).0
+
+reply_is : {A : Type 0} {a b : A} → Some a ≡ Some b → a ≡ b
+reply_is e = cc
+
+pub reply_ordered : (q : Request) (reply : Reply) (old new : DcView) → IsRequest q → Serves old q (Some reply) new
+    → IsOrdered reply
+reply_ordered (asks.Connect s) reply old new fits h = subst IsOrdered (sym (reply_is h.0)) fits
+reply_ordered (asks.Perform s n o) reply old new fits h = pick (captures_at old (key_of o) n) h
+  where
+    pick : (b : Bool)
+        → MatchBool b ((Some reply ≡ Some (says.Answered s n (saved_in (leaf_at (leaves old) (key_of o)).ab.entries n))) × (new ≡ old))
+        ((Some reply ≡ Some (says.Answered s n (Some (answer_in (leaf_at (leaves old) (key_of o)).rows o)))) × (new ≡ performs old n o)) → IsOrdered reply
+    pick true h = subst IsOrdered (sym (reply_is h.0)) (fits.0, fits.1.0)
+    pick false h = subst IsOrdered (sym (reply_is h.0)) (fits.0, fits.1.0)
+reply_ordered (asks.Get s n k) reply old new fits h = subst IsOrdered (sym (reply_is h.0)) (fits.0, fits.1.0)
+reply_ordered (asks.Scan s n lo hi) reply old new fits h = subst IsOrdered (sym (reply_is h.0)) (fits.0, fits.1.0, rows_rise lo hi (rows_of (leaves old)))
+reply_ordered (asks.LowWater s l) reply old new fits h = let e : Some reply ≡ None = h.0 in absurd (cc)
+reply_ordered (asks.Checkpoint s l) reply old new fits h = subst IsOrdered (sym (reply_is h.0)) fits
+reply_ordered (asks.RedoEnd s) reply old new fits h = subst IsOrdered (sym (reply_is h.0)) fits

@@ -1,0 +1,37 @@
+-- Changes of the leaves and their devices that leave what is captured at each key keep what holds of a node.
+use Rattle.std.proofs.Common.{◌≡◌, ℕ, true, List, refl, arith}
+use Rattle.record_key.specs.declared.op.Op.{Op}
+use Rattle.record_key.specs.Table.{key_of}
+use Rattle.history.specs.declared.record.Record.{Record}
+use Rattle.history.specs.Log.{Requests}
+use Rattle.ab_lsn.specs.AbLsn.{captures}
+use Rattle.page.specs.Leaf.{LeafView}
+use Rattle.btree.specs.Leaves.{leaf_at}
+use Rattle.recovery_laws.specs.Recovery.{stored_session}
+use Rattle.system_txn.specs.SystemView.{SystemView}
+use Rattle.system_txn.specs.Kept.{IsRecoverable}
+use Rattle.system_txn.specs.Checked.{Checks}
+use Rattle.dc_core.specs.Serves.{with_system}
+use Rattle.dc_core.specs.Kept.{IsDc}
+use Rattle.world.specs.Node.{NodeView, with_dc}
+use Rattle.world.specs.Kept.{IsKept, IsBegun, IsTrueTo}
+use Rattle.world.proofs.Invariant.Carries.{keeps_dc}
+use Rattle.world.proofs.Invariant.Performs.{served_alike}
+
+-- no request's number is lost at its key
+pub record LeavesCarry (log : List Record) (old new : List LeafView) : Type 0 where
+  pub captured : (n : ℕ) (o : Op) → Requests log n o → captures (leaf_at old (key_of o)).ab n ≡ true
+      → captures (leaf_at new (key_of o)).ab n ≡ true
+
+pub same_leaves : (log : List Record) (leaves : List LeafView) → LeavesCarry log leaves leaves
+same_leaves log leaves = record { captured = λ n o asks h. h }
+
+-- the leaves' log accepts no later session than the transaction component's
+pub keeps_system : (w : NodeView) (v : SystemView) → IsKept w → IsDc (with_system w.dc v) → IsRecoverable v
+    → Checks w.dc.system v → LeavesCarry w.tc.log w.dc.system.leaves v.leaves → IsTrueTo w.tc v
+    → IsBegun w.tc.stable w.tc.session (stored_session v.log) → IsKept (with_dc w (with_system w.dc v))
+keeps_system w v k is recoverable checks c true_to begun =
+    keeps_dc w (with_system w.dc v) k is
+    (record { captured = λ some. c.captured; stored = omega arith; ran = λ s begun r. r; past = λ s begun r past. past; checks = checks })
+    recoverable true_to k.performed k.answered
+    (record { begun = begun; served = served_alike w.tc.phase w.tc.session w.tc.log w.dc (with_system w.dc v) refl refl refl c.captured k.sessions.served })

@@ -1,0 +1,130 @@
+-- Splits, merges and writes of leaves keep what holds of a node.
+use Rattle.std.proofs.Common.{◌≡◌, ℕ, Bool, true, false, refl, sym, subst}
+use Rattle.std.specs.Prelude.{Result, Ok, Err, MatchBool, Option, Some, None}
+use Rattle.record_key.specs.declared.refusal.Refusal.{Refusal}
+use Rattle.record_key.specs.Table.{Bytes}
+use Rattle.btree.specs.Leaves.{leaf_at}
+use Rattle.recovery_laws.specs.Recovery.{stored_session}
+use Rattle.system_txn.specs.Kept.{IsRecoverable}
+use Rattle.system_txn.specs.Checked.{Checks}
+use Rattle.system_txn.specs.SystemView.{SystemView, refused_so}
+use Rattle.system_txn.specs.Changes.{split_to, merged_to, written_to, first_large, first_pair}
+use Rattle.system_txn.specs.Gives.{Splits, Merges, SplitGives, MergeGives, TendGives, FlushGives, tending}
+use Rattle.system_txn.specs.declared.tended.Neighbours.{Neighbours}
+use Rattle.system_txn.specs.declared.tended.Tended.{Tended}
+use Rattle.system_txn.specs.declared.tended.Tended.TheVariants as tended
+use Rattle.system_txn.specs.Gives as gives
+use Rattle.dc_core.specs.DcView.{DcView, leaves}
+use Rattle.dc_core.specs.Kept.{IsDc}
+use Rattle.dc_core.specs.Serves.{with_system}
+use Rattle.dc_core.specs.Tends.{may_merge, Changes, SplitsTo, MergesTo, TendsTo, FlushesTo, IsNotNow}
+use Rattle.dc_core.proofs.Recoverable.{recoverable_split, recoverable_merge, recoverable_tend, recoverable_flush}
+use Rattle.dc_core.proofs.Checked.{checked_split, checked_merge, checked_tend, checked_flush}
+use Rattle.world.specs.Node.{NodeView, with_dc}
+use Rattle.world.specs.Kept.{IsKept, IsBegun}
+use Rattle.world.proofs.Invariant.AtKeys.{own_leaf, own_low}
+use Rattle.world.proofs.Invariant.Systems.{LeavesCarry, same_leaves, keeps_system}
+use Rattle.world.proofs.Invariant.Trees.{split_true, split_carries, merged_true, merged_carries}
+use Rattle.world.proofs.Invariant.Written.{covered_leaves, covered_log, written_true, refused_true, stops_true}
+
+-- what is kept where the leaves and their devices become these
+abbrev Keeps : NodeView → SystemView → Type 0
+Keeps w v = IsDc (with_system w.dc v) → IsRecoverable v → Checks w.dc.system v → IsKept (with_dc w (with_system w.dc v))
+
+keeps_split : (w : NodeView) (p : ℕ) (pair : Neighbours) (v : SystemView) → IsKept w → Splits w.dc.system p pair v
+    → Keeps w v
+keeps_split w p pair v k h =
+    subst (Keeps w) (sym h.after) (λ is recoverable checks. keeps_system w (split_to w.dc.system p) k is recoverable checks (split_carries w p k h.may) (split_true w p k h.may) k.sessions.begun)
+
+keeps_merge : (w : NodeView) (p : ℕ) (pair : Neighbours) (v : SystemView) → IsKept w → may_merge w.dc ≡ true
+    → Merges w.dc.system p pair v → Keeps w v
+keeps_merge w p pair v k let_merge h =
+    subst (Keeps w) (sym h.after) (λ is recoverable checks.
+    keeps_system w (merged_to w.dc.system p) k is recoverable checks (merged_carries w p k (k.answered let_merge) h.may) (merged_true w p k (k.answered let_merge) h.may)
+    k.sessions.begun)
+
+keeps_refused : (w : NodeView) (r : Refusal) (v : SystemView) → IsKept w → v ≡ refused_so w.dc.system r → Keeps w v
+keeps_refused w r v k same =
+    subst (Keeps w) (sym same)
+    (λ is recoverable checks. keeps_system w (refused_so w.dc.system r) k is recoverable checks (same_leaves w.tc.log (leaves w.dc)) (refused_true w.tc w.dc.system r k.true_to)
+    k.sessions.begun)
+
+split_keeps : (w : NodeView) (key : Bytes) (given : Result Neighbours Refusal) (v : SystemView) → IsKept w
+    → SplitGives w.dc.system key given v → Keeps w v
+split_keeps w key (Ok pair) v k h = keeps_split w _ pair v k h
+split_keeps w key (Err r) v k h = keeps_refused w r v k h.1
+
+merge_keeps : (w : NodeView) (key : Bytes) (given : Result Neighbours Refusal) (v : SystemView) → IsKept w
+    → may_merge w.dc ≡ true → MergeGives w.dc.system key given v → Keeps w v
+merge_keeps w key (Ok pair) v k let_merge h = keeps_merge w _ pair v k let_merge h
+merge_keeps w key (Err r) v k let_merge h = keeps_refused w r v k h.1
+
+-- tending merges only where it is let
+tended_keeps : (w : NodeView) (what : gives.Tending) (done : Tended) (v : SystemView) → IsKept w
+    → ((p : ℕ) → what ≡ gives.MergesAt p → may_merge w.dc ≡ true)
+    → gives.TendsTo w.dc.system what done v → Keeps w v
+tended_keeps w (gives.SplitsAt p) (tended.Split pair) v k merges h = keeps_split w p pair v k h
+tended_keeps w (gives.MergesAt p) (tended.Merged pair) v k merges h = keeps_merge w p pair v k (merges p refl) h
+tended_keeps w gives.Rests tended.Nothing v k merges h = subst (Keeps w) (sym h) (λ is recoverable checks. k)
+tended_keeps w (gives.SplitsAt p) (tended.Merged pair) v k merges h = absurd h
+tended_keeps w (gives.SplitsAt p) tended.Nothing v k merges h = absurd h
+tended_keeps w (gives.MergesAt p) (tended.Split pair) v k merges h = absurd h
+tended_keeps w (gives.MergesAt p) tended.Nothing v k merges h = absurd h
+tended_keeps w gives.Rests (tended.Split pair) v k merges h = absurd h
+tended_keeps w gives.Rests (tended.Merged pair) v k merges h = absurd h
+
+merges_let : (large : Option ℕ) (b : Bool) (pair : Option ℕ) (p : ℕ)
+    → gives.tending_of large (gives.merging b pair) ≡ gives.MergesAt p → b ≡ true
+merges_let (Some q) b pair p h = absurd (cc)
+merges_let None true pair p h = refl
+merges_let None false None p h = absurd (cc)
+merges_let None false (Some q) p h = absurd (cc)
+
+tend_keeps : (w : NodeView) (given : Result Tended Refusal) (v : SystemView) → IsKept w
+    → TendGives w.dc.system (may_merge w.dc) given v → Keeps w v
+tend_keeps w (Ok done) v k h =
+    tended_keeps w (tending w.dc.system (may_merge w.dc)) done v k
+    (merges_let (first_large (leaves w.dc)) (may_merge w.dc) (first_pair (leaves w.dc))) h
+tend_keeps w (Err r) v k h = keeps_refused w r v k h.1
+
+flush_keeps : (w : NodeView) (key : Bytes) (given : Result ℕ Refusal) (v : SystemView) → IsKept w
+    → FlushGives w.dc.system key given v → Keeps w v
+flush_keeps w key (Ok id) v k h =
+    subst (Keeps w) (sym h.2) (λ is recoverable checks. keeps_system w (written_to w.dc.system (leaf_at (leaves w.dc) key)) k is recoverable checks
+    (subst (LeavesCarry w.tc.log (leaves w.dc)) (sym (covered_leaves w.dc.system (leaf_at (leaves w.dc) key))) (same_leaves w.tc.log (leaves w.dc)))
+    (written_true w.tc w.dc.system (leaf_at (leaves w.dc) key) k.true_to h.1 (own_leaf w key k) (own_low w key k))
+    (subst (λ log. IsBegun w.tc.stable w.tc.session (stored_session log)) (sym (covered_log w.dc.system (leaf_at (leaves w.dc) key))) k.sessions.begun))
+flush_keeps w key (Err r) v k h =
+    let stopped = stops_true w.tc w.dc.system (leaf_at (leaves w.dc) key) r v k.true_to h in
+    λ is recoverable checks. keeps_system w v k is recoverable checks (subst (LeavesCarry w.tc.log (leaves w.dc)) (sym stopped.leaves) (same_leaves w.tc.log (leaves w.dc))) stopped.true_to
+    (subst (λ log. IsBegun w.tc.stable w.tc.session (stored_session log)) (sym stopped.log) k.sessions.begun)
+
+-- the data component's calls
+at_dc : (w : NodeView) (dc : DcView) → IsDc dc → IsRecoverable dc.system → Checks w.dc.system dc.system
+    → dc ≡ with_system w.dc dc.system → Keeps w dc.system → IsKept (with_dc w dc)
+at_dc w dc is recoverable checks same keeps = subst (λ (x : DcView). IsKept (with_dc w x)) (sym same) (keeps (subst IsDc same is) recoverable checks)
+
+pub splits_keep : (w : NodeView) (key : Bytes) (given : Result Neighbours Refusal) (dc : DcView) → IsKept w → IsDc dc
+    → SplitsTo w.dc key given dc → IsKept (with_dc w dc)
+splits_keep w key given dc k is h =
+    at_dc w dc is (recoverable_split w.dc key given dc k.dc k.recoverable h) (checked_split w.dc key given dc k.dc k.recoverable h) h.1 (split_keeps w key given dc.system k h.0)
+
+pub merges_keep : (w : NodeView) (key : Bytes) (given : Result Neighbours Refusal) (dc : DcView) → IsKept w → IsDc dc
+    → MergesTo w.dc key given dc → IsKept (with_dc w dc)
+merges_keep w key given dc k is h = by (may_merge w.dc) refl h
+  where
+    by : (b : Bool) → may_merge w.dc ≡ b
+        → MatchBool b (Changes (MergeGives w.dc.system key given) w.dc dc) (IsNotNow w.dc given dc)
+        → IsKept (with_dc w dc)
+    by true may g = at_dc w dc is (recoverable_merge w.dc key given dc k.dc k.recoverable h) (checked_merge w.dc key given dc k.dc k.recoverable h) g.1 (merge_keeps w key given dc.system k may g.0)
+    by false may g = subst (λ (x : DcView). IsKept (with_dc w x)) (sym g.1) k
+
+pub tends_keep : (w : NodeView) (given : Result Tended Refusal) (dc : DcView) → IsKept w → IsDc dc
+    → TendsTo w.dc given dc → IsKept (with_dc w dc)
+tends_keep w given dc k is h =
+    at_dc w dc is (recoverable_tend w.dc given dc k.dc k.recoverable h) (checked_tend w.dc given dc k.dc k.recoverable h) h.1 (tend_keeps w given dc.system k h.0)
+
+pub flushes_keep : (w : NodeView) (key : Bytes) (given : Result ℕ Refusal) (dc : DcView) → IsKept w → IsDc dc
+    → FlushesTo w.dc key given dc → IsKept (with_dc w dc)
+flushes_keep w key given dc k is h =
+    at_dc w dc is (recoverable_flush w.dc key given dc k.dc k.recoverable h) (checked_flush w.dc key given dc k.dc k.recoverable h) h.1 (flush_keeps w key given dc.system k h.0)

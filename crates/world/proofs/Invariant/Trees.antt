@@ -1,0 +1,207 @@
+-- Leaves that are raised, split or merged stay true to the log, and carry on what stands at each key.
+use Rattle.std.proofs.Common.{◌≡◌, ℕ, ◌≤◌, Bool, true, List, ◌∷◌, Some, refl, sym, ap, ◌∙◌, subst, arith, inl, inr}
+use Rattle.std.specs.Prelude.{map, nat_le, ◌||◌}
+use Rattle.std.specs.List.{AllByRecursion}
+use Rattle.std.proofs.lemmas.Bool.{or_cases}
+use Rattle.std.proofs.lemmas.Bool.Decides.{nat_tests}
+use Rattle.record_key.specs.Table.{Bytes, key_of}
+use Rattle.record_key.proofs.Lists.{all_from}
+use Rattle.history.specs.declared.record.Record.{Record}
+use Rattle.codec.specs.declared.dc_record.DcRecord.{DcRecord}
+use Rattle.ab_lsn.specs.AbLsn.{captures}
+use Rattle.ab_lsn.specs.Parting.{is_under, is_from}
+use Rattle.ab_lsn.proofs.Capturing.{raised_captures, joined_captures}
+use Rattle.page.specs.Leaf.{LeafView, is_in_fences, raised_to}
+use Rattle.page.specs.Parting.{lower_of, upper_of, joined_of}
+use Rattle.page.specs.Honest.{IsHonestLeaf, IsCapturedTo}
+use Rattle.page.proofs.Raising.{honest_raised}
+use Rattle.btree.specs.Leaves.{leaf_at}
+use Rattle.btree.specs.Parting.{middle, may_split_at, may_merge_at, split_at, merged_at}
+use Rattle.btree.specs.TreeLaw.{AreHonest, AreCaptured}
+use Rattle.btree.proofs.AtKey.{captured_split, captured_merged, captured_raised}
+use Rattle.btree.proofs.Changing.{all_mapped}
+use Rattle.btree.proofs.Splitting.{all_split}
+use Rattle.btree.proofs.Merging.{AtPair, all_merged, pair_all, pair_with}
+use Rattle.btree.proofs.Stays.{split_honest, merged_honest}
+use Rattle.btree.proofs.Carried.{lows_raised, lows_split, lows_merged}
+use Rattle.btree.proofs.Owning.{own_leaves, the_upper, the_merged}
+use Rattle.recovery_laws.specs.Images.{leaf_of, image_of}
+use Rattle.recovery_laws.specs.Laws.{leaf_in}
+use Rattle.recovery_laws.specs.Ready.{IsHonestTo, AllHave}
+use Rattle.recovery_laws.specs.Recovery.{Pages}
+use Rattle.recovery_laws.proofs.Images.{leaf_again}
+use Rattle.recovery_laws.proofs.Honesty.{captures_fewer}
+use Rattle.system_txn.specs.SystemView.{SystemView}
+use Rattle.system_txn.specs.Devices.{pages_of}
+use Rattle.system_txn.specs.Changes.{next_id, next_number, split_to, merged_to, lowered}
+use Rattle.dc_core.specs.DcView.{leaves}
+use Rattle.dc_core.proofs.KeepsDc.{all_both}
+use Rattle.world.specs.Node.{NodeView}
+use Rattle.world.specs.Kept.{IsKept, IsAnsweredTo, IsTrueTo, IsLowAnswered, AnsweredAreCaptured}
+use Rattle.world.proofs.Invariant.Announced.{all_answered, most_stable}
+use Rattle.world.proofs.Invariant.Systems.{LeavesCarry}
+
+-- ---- what is answered up to a number is captured by the leaf of its key
+
+captured_leaf : (w : NodeView) (l : ℕ) (leaf : LeafView) → AnsweredAreCaptured w.tc.log w.dc
+    → ((key : Bytes) → is_in_fences leaf key ≡ true → leaf_at (leaves w.dc) key ≡ leaf) → IsAnsweredTo w.tc l
+    → IsCapturedTo w.tc.log leaf l
+captured_leaf w l leaf all own to = record {
+  all = λ n o asks within below. subst (λ (x : LeafView). captures x.ab n ≡ true) (own (key_of o) within) (all n o asks (all_answered w.tc l to n o below asks));
+}
+
+abbrev IsOwn : NodeView → LeafView → Type 0
+IsOwn w leaf = (key : Bytes) → is_in_fences leaf key ≡ true → leaf_at (leaves w.dc) key ≡ leaf
+
+all_own : (w : NodeView) → IsKept w → AllByRecursion (IsOwn w) (leaves w.dc)
+all_own w k = own_leaves (leaves w.dc) k.dc.system.leaves
+
+are_captured : (w : NodeView) → IsKept w → AnsweredAreCaptured w.tc.log w.dc → AreCaptured w.tc.log (leaves w.dc)
+are_captured w k all =
+    all_from (IsOwn w) (λ (leaf : LeafView). AllByRecursion (λ (other : LeafView). IsCapturedTo w.tc.log leaf other.ab.low) (leaves w.dc))
+    (λ leaf own. all_from (λ (other : LeafView). IsAnsweredTo w.tc other.ab.low) (λ (other : LeafView). IsCapturedTo w.tc.log leaf other.ab.low)
+    (λ other to. captured_leaf w other.ab.low leaf all own to) (leaves w.dc) k.true_to.low)
+    (leaves w.dc) (all_own w k)
+
+-- ---- parts of what is true to a log
+
+are_honest : (w : NodeView) → IsKept w → AreHonest w.tc.log (leaves w.dc)
+are_honest w k = all_from (IsHonestTo w.tc.log w.tc.stable) (IsHonestLeaf w.tc.log) (λ leaf h. h.honest) (leaves w.dc) k.true_to.leaves
+
+-- whatever the leaf has captured is stable
+abbrev HasStable : ℕ → LeafView → Type 0
+HasStable stable leaf = (n : ℕ) → captures leaf.ab n ≡ true → n ≤ stable
+
+have_stable : (w : NodeView) → IsKept w → AllByRecursion (HasStable w.tc.stable) (leaves w.dc)
+have_stable w k = all_from (IsHonestTo w.tc.log w.tc.stable) (HasStable w.tc.stable) (λ leaf h. h.within) (leaves w.dc) k.true_to.leaves
+
+honest_to_all : (log : List Record) (stable : ℕ) (ls : List LeafView) → AllByRecursion (IsHonestLeaf log) ls
+    → AllByRecursion (HasStable stable) ls
+    → AllByRecursion (IsHonestTo log stable) ls
+honest_to_all log stable ls honest within =
+    all_both (IsHonestLeaf log) (HasStable stable) (IsHonestTo log stable) (λ leaf h s. record { honest = h; within = s }) ls honest within
+
+-- a record more, whose leaf is one of these
+have_logged : (P : LeafView → Type 0) (pages : Pages) (r : DcRecord) (log : List DcRecord) → AllHave P pages log
+    → ((leaf : LeafView) → leaf_in r ≡ Some leaf → P leaf)
+    → AllHave P pages (r ∷ log)
+have_logged P pages r log h here = record { first_leaf = h.first_leaf; page = h.page; logged = (here, h.logged) }
+
+in_image : (P : LeafView → Type 0) (leaf x : LeafView) → P leaf → Some (leaf_of (image_of leaf)) ≡ Some x → P x
+in_image P leaf x h e = subst P (let same : leaf_of (image_of leaf) ≡ x = cc in sym (leaf_again leaf) ∙ same) h
+
+-- ---- splits
+
+stable_split : (stable : ℕ) (leaf : LeafView) (k : Bytes) (id d : ℕ) → HasStable stable leaf
+    → HasStable stable (lower_of leaf k d) × HasStable stable (upper_of leaf k id d)
+stable_split stable leaf k id d h =
+    (λ n captured. h n (captures_fewer leaf.ab (is_under k) n captured), λ n captured. h n (captures_fewer leaf.ab (is_from k) n captured))
+
+module _ (w : NodeView) (p : ℕ) (k : IsKept w) (may : may_split_at (leaves w.dc) p ≡ true) where
+  abbrev v : SystemView
+  v = w.dc.system
+
+  abbrev split_leaves : List LeafView
+  split_leaves = split_at p (next_id v) (next_number v) (leaves w.dc)
+
+  split_honest_to : AllByRecursion (IsHonestTo w.tc.log w.tc.stable) split_leaves
+  split_honest_to =
+      honest_to_all w.tc.log w.tc.stable split_leaves (split_honest w.tc.log (leaves w.dc) p (next_id v) (next_number v) k.dc.system.leaves may (are_honest w k))
+      (all_split (HasStable w.tc.stable) (next_id v) (next_number v) (λ leaf is may h. stable_split w.tc.stable leaf (middle leaf) (next_id v) (next_number v) h)
+      (leaves w.dc) p k.dc.system.leaves.each may (have_stable w k))
+
+  split_low : AllByRecursion (IsLowAnswered w.tc) split_leaves
+  split_low = lows_split (IsAnsweredTo w.tc) (leaves w.dc) p (next_id v) (next_number v) k.dc.system.leaves may k.true_to.low
+
+  pub split_true : IsTrueTo w.tc (split_to v p)
+  split_true = record {
+    leaves = split_honest_to;
+    written = have_logged (IsHonestTo w.tc.log w.tc.stable) (pages_of v.pages) _ v.log k.true_to.written
+        (λ leaf is. in_image (IsHonestTo w.tc.log w.tc.stable) _ leaf
+        (the_upper (IsHonestTo w.tc.log w.tc.stable) (leaves w.dc) p (next_id v) (next_number v) may split_honest_to) is);
+    low = split_low;
+    written_low = have_logged (IsLowAnswered w.tc) (pages_of v.pages) _ v.log k.true_to.written_low
+        (λ leaf is. in_image (IsLowAnswered w.tc) _ leaf (the_upper (IsLowAnswered w.tc) (leaves w.dc) p (next_id v) (next_number v) may split_low) is);
+  }
+
+  pub split_carries : LeavesCarry w.tc.log (leaves w.dc) split_leaves
+  split_carries = record {
+    captured = λ n o asks h.
+        captured_split (leaves w.dc) k.dc.system.leaves p (next_id v) (next_number v) may (key_of o) w.tc.log (are_honest w k) n o asks refl ∙ h;
+  }
+
+-- ---- merges
+
+stable_joined : (stable : ℕ) (left right : LeafView) (d : ℕ) → HasStable stable left → HasStable stable right
+    → HasStable stable (joined_of left right d)
+stable_joined stable left right d h g n captured =
+    elim (or_cases (captures left.ab n) (captures right.ab n) (sym (joined_captures left.ab right.ab n) ∙ captured)) [ inl l ↦ h n l | inr r ↦ g n r ]
+
+module _ (w : NodeView) (p : ℕ) (k : IsKept w) (all : AnsweredAreCaptured w.tc.log w.dc) (may : may_merge_at (leaves w.dc) p ≡ true) where
+  abbrev u : SystemView
+  u = w.dc.system
+
+  abbrev merged_leaves : List LeafView
+  merged_leaves = merged_at p (next_number u) (leaves w.dc)
+
+  abbrev AreStable : LeafView → LeafView → Type 0
+  AreStable left right = HasStable w.tc.stable left × HasStable w.tc.stable right
+
+  stable_pair : AtPair AreStable (leaves w.dc) p
+  stable_pair = pair_all (HasStable w.tc.stable) (leaves w.dc) p (have_stable w k)
+
+  merged_honest_to : AllByRecursion (IsHonestTo w.tc.log w.tc.stable) merged_leaves
+  merged_honest_to =
+      honest_to_all w.tc.log w.tc.stable merged_leaves (merged_honest w.tc.log (leaves w.dc) p (next_number u) k.dc.system.leaves (are_honest w k) (are_captured w k all))
+      (all_merged (HasStable w.tc.stable) (next_number u) (leaves w.dc) p
+      (pair_with AreStable AreStable _ (λ left right both again. stable_joined w.tc.stable left right (next_number u) both.0 both.1) (leaves w.dc) p stable_pair stable_pair)
+      (have_stable w k))
+
+  merged_low : AllByRecursion (IsLowAnswered w.tc) merged_leaves
+  merged_low = lows_merged (IsAnsweredTo w.tc) (leaves w.dc) p (next_number u) k.true_to.low
+
+  pub merged_true : IsTrueTo w.tc (merged_to u p)
+  merged_true = record {
+    leaves = merged_honest_to;
+    written = have_logged (IsHonestTo w.tc.log w.tc.stable) (pages_of u.pages) _ u.log k.true_to.written
+        (λ leaf is. in_image (IsHonestTo w.tc.log w.tc.stable) _ leaf (the_merged (IsHonestTo w.tc.log w.tc.stable) (leaves w.dc) p (next_number u) may merged_honest_to) is);
+    low = merged_low;
+    written_low = have_logged (IsLowAnswered w.tc) (pages_of u.pages) _ u.log k.true_to.written_low
+        (λ leaf is. in_image (IsLowAnswered w.tc) _ leaf (the_merged (IsLowAnswered w.tc) (leaves w.dc) p (next_number u) may merged_low) is);
+  }
+
+  pub merged_carries : LeavesCarry w.tc.log (leaves w.dc) merged_leaves
+  merged_carries = record {
+    captured = λ n o asks h.
+        captured_merged w.tc.log (leaves w.dc) k.dc.system.leaves (are_honest w k) (are_captured w k all) p (next_number u) (key_of o) n o asks refl ∙ h;
+  }
+
+-- ---- low water
+
+abbrev IsOwnHonest : NodeView → LeafView → Type 0
+IsOwnHonest w leaf = IsOwn w leaf × IsHonestTo w.tc.log w.tc.stable leaf
+
+module _ (w : NodeView) (l : ℕ) (k : IsKept w) (all : AnsweredAreCaptured w.tc.log w.dc) (to : IsAnsweredTo w.tc l) where
+  raised_honest_to : (leaf : LeafView) → IsOwn w leaf → IsHonestTo w.tc.log w.tc.stable leaf
+      → IsHonestTo w.tc.log w.tc.stable (raised_to leaf l)
+  raised_honest_to leaf own h = record {
+    honest = honest_raised w.tc.log leaf l h.honest (captured_leaf w l leaf all own to);
+    within = λ n captured. elim (or_cases (captures leaf.ab n) (nat_le n l) (sym (raised_captures leaf.ab l n) ∙ captured)) [
+      | inl before ↦ h.within n before
+      | inr below ↦ let less : n ≤ l = grind (arith, nat_tests, below) in omega (arith, less, most_stable w.tc l k.tc.within to)
+    ];
+  }
+
+  pub lowered_true : IsTrueTo w.tc (lowered w.dc.system l)
+  lowered_true = record {
+    leaves = all_mapped (IsOwnHonest w) (IsHonestTo w.tc.log w.tc.stable) (λ leaf. raised_to leaf l) (λ leaf both. raised_honest_to leaf both.0 both.1) (leaves w.dc)
+        (all_both (IsOwn w) (IsHonestTo w.tc.log w.tc.stable) (IsOwnHonest w) (λ leaf own h. (own, h)) (leaves w.dc) (all_own w k) k.true_to.leaves);
+    written = k.true_to.written;
+    low = lows_raised (IsAnsweredTo w.tc) (leaves w.dc) l to k.true_to.low;
+    written_low = k.true_to.written_low;
+  }
+
+  pub lowered_carries : LeavesCarry w.tc.log (leaves w.dc) (map (λ leaf. raised_to leaf l) (leaves w.dc))
+  lowered_carries = record {
+    captured = λ n o asks h. captured_raised (leaves w.dc) k.dc.system.leaves l (key_of o) n ∙ ap (λ (b : Bool). b || nat_le n l) h;
+  }

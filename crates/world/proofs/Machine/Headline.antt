@@ -1,0 +1,297 @@
+-- Every step follows the list machine.
+use Rattle.std.proofs.Common.{◌≡◌, ℕ, ◌+◌, ◌<◌, List, [], ◌∷◌, ◌++◌, length, Bool, true, false, Option, Some, None, refl, sym, ap, ◌∙◌, subst, arith, take, get_or, inl, inr, true≢false}
+use Rattle.std.specs.Ordering.{nat_cmp}
+use Rattle.std.specs.Cmp.Lexicographic.{slice_cmp}
+use Rattle.std.specs.FinMap.{get-empty}
+use Rattle.std.specs.FinMap as map
+use Rattle.std.proofs.lemmas.Bool.Decides.{nat_tests}
+use Rattle.std.specs.Prelude.{Result, Ok, Err, if◌then◌else◌}
+use Rattle.record_key.specs.declared.refusal.Refusal.{Refusal}
+use Rattle.record_key.specs.Order.{ends_above}
+use Rattle.record_key.specs.Table.{Bytes}
+use Rattle.page.specs.Leaf.{LeafView, first}
+use Rattle.recovery_laws.specs.Ready.{IsHonestTo}
+use Rattle.system_txn.specs.Devices.{pages_of}
+use Rattle.system_txn.specs.SystemView.{refused_so}
+use Rattle.system_txn.specs.Crashed.{crashed}
+use Rattle.system_txn.proofs.Recoverable.{recoverable_fresh}
+use Rattle.dc_core.specs.Restarting.{restarted}
+use Rattle.dc_core.specs.Serves.{with_system}
+use Rattle.dc_core.proofs.Recoverable.{recoverable_served}
+use Rattle.dc_core.proofs.Checked.{checked_served, fresh_checked}
+use Rattle.tc_core.specs.Kept.{IsTc}
+use Rattle.tc_core.specs.TcView.{fresh}
+use Rattle.tc_core.proofs.Low.{may_none}
+use Rattle.record_key.specs.declared.refusal.Refusal.TheVariants.{NotConnected, BadRange}
+use Rattle.world.specs.Component.{DcSide}
+use Rattle.world.proofs.Restarts.Crashes.{crash_keeps, keeps_up, refused_keeps}
+use Rattle.system_txn.specs.declared.tended.Tended.TheVariants as tended
+use Rattle.dc_core.specs.Kept.{IsDc}
+use Rattle.std.proofs.lemmas.List.{take_more}
+use Rattle.history.specs.ListMachine as machine
+use Rattle.history.specs.ListMachine.{Machine, OfKey, OfRange, Call, ToBegin, ToAct, ToRead, ToSave, ToGoBack, ToRollBack, ToCommit, IsRefused}
+use Rattle.codec.specs.declared.reply.Reply.{Reply}
+use Rattle.dc_core.specs.DcView.{DcView, fresh as fresh_dc}
+use Rattle.world.specs.declared.event.Event.{Event}
+use Rattle.world.specs.declared.event.Event.TheVariants as event
+use Rattle.world.specs.declared.event.Out.{Out}
+use Rattle.world.specs.declared.event.Out.TheVariants as out
+use Rattle.world.specs.Node.{NodeView, with_dc, StepsTo, IfUp, IfTcUp, IfDcUp, down_refusal, ServesTo, Served, PartsTo, JoinsTo, KeepsUpTo, WritesTo, CrashesDcTo, RestartsDcTo, Chain, fresh_node}
+use Rattle.world.specs.Kept.{IsKept, IsSent, IsAnsweredTo}
+use Rattle.world.specs.Simulation.{StepsIf, lines_of, Happens, Run, Leads, LeadsAll, Stands}
+use Rattle.world.proofs.Invariant.CallsKeep.{fresh_tc}
+use Rattle.simulation.proofs.Told.{fresh_stands}
+use Rattle.world.proofs.Invariant.ByNumber.{all_at}
+use Rattle.world.proofs.Invariant.Performs.{IsServing}
+use Rattle.world.proofs.Invariant.Serves.{serves, stops_serving}
+use Rattle.world.proofs.Invariant.Tends.{splits_keep, merges_keep, tends_keep, flushes_keep}
+use Rattle.world.proofs.Invariant.Keeps.{with_reply, keeps_given}
+use Rattle.world.proofs.Machine.Follows.{Follows, at_new, no_line, unchanged, follows_begin, follows_act, follows_get, follows_scan, follows_save, follows_go_back, follows_rollback, follows_commit, follows_undo, follows_force}
+use Rattle.world.proofs.Invariant.Sends.{follows_reconnect, follows_recover, follows_send, follows_low_water, follows_checkpoint}
+use Rattle.world.proofs.Machine.Replies.{follows_reply}
+use Rattle.world.proofs.Restarts.TcCrashes.{follows_tc_crash, follows_tc_restart}
+
+-- a request reaches the data component
+sent_there : (old : NodeView) (i : ℕ) (given : Result (Option Reply) Refusal) (dc : DcView) → IsKept old
+    → (h : Served old i given dc) → IsSent old.tc old.dc h.request
+sent_there old i given dc k h = all_at (IsSent old.tc old.dc) old.requests i h.request k.sent h.found
+
+served : (old : NodeView) (i : ℕ) (reply : Option Reply) (dc : DcView) → IsKept old → IsDc dc
+    → Served old i (Ok reply) dc → IsServing old reply dc
+served old i reply dc k is h =
+    serves old h.request reply dc k is (recoverable_served old.dc h.request (Ok reply) dc k.dc k.recoverable h.gives)
+    (checked_served old.dc h.request (Ok reply) dc k.dc k.recoverable h.gives) (sent_there old i (Ok reply) dc k h) h.gives.0 h.gives.1
+
+-- the data component goes on, and no client is told anything
+follows_dc : (old new : NodeView) (e : Event) (output : Out) → lines_of e output ≡ Some []
+    → IsKept (with_dc old new.dc) → new ≡ with_dc old new.dc → Follows old e output new
+follows_dc old new e output quiet kept same =
+    at_new old new (with_dc old new.dc) e output same (record { leads = no_line old (with_dc old new.dc) e output quiet (λ m stands. stands); kept = kept })
+
+follows_request : (old new : NodeView) (i : ℕ) (output : Out) → IsKept old → IsDc new.dc → ServesTo old i output new
+    → Follows old (event.Request i) output new
+follows_request old new i (out.Replied j) k is h =
+    let s = served old i (Some h.0) new.dc k is h.1 in
+    let next : NodeView = with_reply (with_dc old new.dc) h.0 in
+    at_new old new next (event.Request i) (out.Replied j) h.3
+    (record { leads = no_line old next (event.Request i) (out.Replied j) refl (λ m stands. stands); kept = keeps_given (with_dc old new.dc) h.0 s.kept s.given })
+follows_request old new i out.Noted k is h = follows_dc old new (event.Request i) out.Noted refl (served old i None new.dc k is h.0).kept h.1
+follows_request old new i (out.Refused r) k is (inl h) = unchanged old new (event.Request i) (out.Refused r) k h.1 refl
+follows_request old new i (out.Refused r) k is (inr h) =
+    follows_dc old new (event.Request i) (out.Refused r) refl
+    (stops_serving old h.0.request r new.dc k is (sent_there old i (Err r) new.dc k h.0) h.0.gives) h.1
+follows_request old new i _ k is h = absurd h
+
+follows_split : (old new : NodeView) (key : Bytes) (output : Out) → IsKept old → IsDc new.dc
+    → PartsTo old key output new → Follows old (event.Split key) output new
+follows_split old new key (out.Split pair) k is h = follows_dc old new (event.Split key) (out.Split pair) refl (splits_keep old key (Ok pair) new.dc k is h.0) h.1
+follows_split old new key (out.Refused r) k is h = follows_dc old new (event.Split key) (out.Refused r) refl (splits_keep old key (Err r) new.dc k is h.0) h.1
+follows_split old new key _ k is h = absurd h
+
+follows_merge : (old new : NodeView) (key : Bytes) (output : Out) → IsKept old → IsDc new.dc
+    → JoinsTo old key output new → Follows old (event.Merge key) output new
+follows_merge old new key (out.Merged pair) k is h = follows_dc old new (event.Merge key) (out.Merged pair) refl (merges_keep old key (Ok pair) new.dc k is h.0) h.1
+follows_merge old new key (out.Refused r) k is h = follows_dc old new (event.Merge key) (out.Refused r) refl (merges_keep old key (Err r) new.dc k is h.0) h.1
+follows_merge old new key _ k is h = absurd h
+
+follows_tend : (old new : NodeView) (output : Out) → IsKept old → IsDc new.dc → KeepsUpTo old output new
+    → Follows old event.Tend output new
+follows_tend old new (out.Split pair) k is h = follows_dc old new event.Tend (out.Split pair) refl (tends_keep old (Ok (tended.Split pair)) new.dc k is h.0) h.1
+follows_tend old new (out.Merged pair) k is h = follows_dc old new event.Tend (out.Merged pair) refl (tends_keep old (Ok (tended.Merged pair)) new.dc k is h.0) h.1
+follows_tend old new out.Nothing k is h = follows_dc old new event.Tend out.Nothing refl (tends_keep old (Ok tended.Nothing) new.dc k is h.0) h.1
+follows_tend old new (out.Refused r) k is h = follows_dc old new event.Tend (out.Refused r) refl (tends_keep old (Err r) new.dc k is h.0) h.1
+follows_tend old new _ k is h = absurd h
+
+follows_flush : (old new : NodeView) (key : Bytes) (output : Out) → IsKept old → IsDc new.dc
+    → WritesTo old key output new → Follows old (event.Flush key) output new
+follows_flush old new key (out.Flushed id) k is h = follows_dc old new (event.Flush key) (out.Flushed id) refl (flushes_keep old key (Ok id) new.dc k is h.0) h.1
+follows_flush old new key (out.Refused r) k is h = follows_dc old new (event.Flush key) (out.Refused r) refl (flushes_keep old key (Err r) new.dc k is h.0) h.1
+follows_flush old new key _ k is h = absurd h
+
+-- an event of a component that doesn't run is refused, and that is no step or a line of its own
+if_up : (old new : NodeView) (up : Bool) (r : Refusal) (e : Event) (output : Out) (Does : Type 0) → IsKept old
+    → ((m : Machine) → StepsIf m (lines_of e (out.Refused r)) m) → (Does → Follows old e output new)
+    → IfUp up r old output new Does → Follows old e output new
+if_up old new true r e output Does k line does h = does h
+if_up old new false r e output Does k line does h =
+    let P : Out → Type 0 = λ o. Follows old e o new in
+    subst P (sym h.0) (at_new old new old e (out.Refused r) h.1 (record { leads = λ m stands. (m, line m, stands); kept = k }))
+
+if_tc_up : (old new : NodeView) (e : Event) (output : Out) (Does : Type 0) → IsKept old
+    → ((m : Machine) → StepsIf m (lines_of e (out.Refused NotConnected)) m) → (Does → Follows old e output new)
+    → IfTcUp old output new Does → Follows old e output new
+if_tc_up old new e output Does k line does h = if_up old new old.tc_up NotConnected e output Does k line does h
+
+if_dc_up : (old new : NodeView) (e : Event) (output : Out) (Does : Type 0) → IsKept old
+    → ((m : Machine) → StepsIf m (lines_of e (out.Refused NotConnected)) m) → (Does → Follows old e output new)
+    → IfDcUp old output new Does → Follows old e output new
+if_dc_up old new e output Does k line does h = if_up old new old.dc_up NotConnected e output Does k line does h
+
+-- a client's call is refused so
+call_down : (call : Call) (m : Machine) → StepsIf m (Some (IsRefused call NotConnected ∷ [])) m
+call_down call m = (m, (tt, refl), refl)
+
+scan_down : (t : ℕ) (low : Bytes) (high : Option Bytes) (m : Machine)
+    → StepsIf m (Some (IsRefused (ToRead t (OfRange low high)) (down_refusal low high) ∷ [])) m
+scan_down t low high m = by (ends_above high low) refl
+  where
+    by : (b : Bool) → ends_above high low ≡ b
+        → StepsIf m (Some (IsRefused (ToRead t (OfRange low high)) (if b then NotConnected else BadRange) ∷ [])) m
+    by true ends = (m, (tt, refl), refl)
+    by false none = (m, (λ is. true≢false (sym is ∙ none), refl), refl)
+
+-- a crash of the data component, and its restart
+follows_crash : (old new : NodeView) (frames bytes : ℕ) (output : Out) → IsKept old
+    → CrashesDcTo old frames output new → Follows old (event.CrashDc frames bytes) output new
+follows_crash old new frames bytes out.Down k h =
+    let n : ℕ = h.0.1.0 in
+    let dc : DcView = restarted (crashed old.dc.system n) in
+    let same : new ≡ record old { dc_up = false; dc = dc } = h.1 ∙ ap (λ (s : DcSide). record old { dc_up = s.up; dc = s.dc }) h.0.1.2 in
+    at_new old new (record old { dc_up = false; dc = dc }) (event.CrashDc frames bytes) out.Down same (record {
+      leads = no_line old (record old { dc_up = false; dc = dc }) (event.CrashDc frames bytes) out.Down refl (λ m stands. stands);
+      kept = keeps_up (with_dc old dc) old.tc_up false (crash_keeps old n k h.0.1.1.stable);
+    })
+follows_crash old new frames bytes out.Nothing k h =
+    unchanged old new (event.CrashDc frames bytes) out.Nothing k (h.1 ∙ ap (λ (s : DcSide). record old { dc_up = s.up; dc = s.dc }) h.0.1) refl
+follows_crash old new frames bytes _ k h = absurd h
+
+follows_restart : (old new : NodeView) (output : Out) → IsKept old → IsDc new.dc → RestartsDcTo old output new
+    → Follows old event.RestartDc output new
+follows_restart old new (out.Up count) k is h =
+    let same : new ≡ record old { dc_up = true } = h.1 ∙ ap (λ (s : DcSide). record old { dc_up = s.up; dc = s.dc }) h.0.2 in
+    at_new old new (record old { dc_up = true }) event.RestartDc (out.Up count) same (record {
+      leads = no_line old (record old { dc_up = true }) event.RestartDc (out.Up count) refl (λ m stands. stands);
+      kept = keeps_up old old.tc_up true k;
+    })
+follows_restart old new out.Nothing k is h =
+    unchanged old new event.RestartDc out.Nothing k (h.1 ∙ ap (λ (s : DcSide). record old { dc_up = s.up; dc = s.dc }) h.0.1) refl
+follows_restart old new (out.Refused r) k is h =
+    let dc : DcView = with_system old.dc (refused_so old.dc.system r) in
+    let same : new ≡ record old { dc_up = false; dc = dc } =
+    h.1 ∙ ap (λ (s : DcSide). record old { dc_up = s.up; dc = s.dc }) (h.0.1 ∙ ap (λ (x : DcView). record { up = false; dc = x }) h.0.2.1) in
+    at_new old new (record old { dc_up = false; dc = dc }) event.RestartDc (out.Refused r) same (record {
+      leads = no_line old (record old { dc_up = false; dc = dc }) event.RestartDc (out.Refused r) refl (λ m stands. stands);
+      kept = keeps_up (with_dc old dc) old.tc_up false (refused_keeps old r k (subst IsDc h.0.2.1 is));
+    })
+follows_restart old new _ k is h = absurd h
+
+pub follows : (old new : NodeView) (e : Event) (output : Out) → IsKept old → IsTc new.tc → IsDc new.dc
+    → StepsTo old e output new → Follows old e output new
+follows old new event.Reconnect output k tc is h =
+    if_tc_up old new event.Reconnect output _ k (λ m. refl) (follows_reconnect old new output k) h
+follows old new event.Recover output k tc is h =
+    if_tc_up old new event.Recover output _ k (λ m. refl) (follows_recover old new output k tc) h
+follows old new event.Begin output k tc is h =
+    if_tc_up old new event.Begin output _ k (call_down ToBegin) (follows_begin old new output k) h
+follows old new (event.Act t op) output k tc is h =
+    if_tc_up old new (event.Act t op) output _ k (call_down (ToAct t op)) (follows_act old new t op output k) h
+follows old new (event.Get t key) output k tc is h =
+    if_tc_up old new (event.Get t key) output _ k (call_down (ToRead t (OfKey key))) (follows_get old new t key output k) h
+follows old new (event.Scan t low high) output k tc is h =
+    if_up old new old.tc_up (down_refusal low high) (event.Scan t low high) output _ k (scan_down t low high)
+    (follows_scan old new t low high output k) h
+follows old new (event.Save t) output k tc is h =
+    if_tc_up old new (event.Save t) output _ k (call_down (ToSave t)) (follows_save old new t output k) h
+follows old new (event.GoBack t s) output k tc is h =
+    if_tc_up old new (event.GoBack t s) output _ k (call_down (ToGoBack t s)) (follows_go_back old new t s output k) h
+follows old new (event.Rollback t) output k tc is h =
+    if_tc_up old new (event.Rollback t) output _ k (call_down (ToRollBack t)) (follows_rollback old new t output k) h
+follows old new (event.Commit t) output k tc is h =
+    if_tc_up old new (event.Commit t) output _ k (call_down (ToCommit t)) (follows_commit old new t output k) h
+follows old new (event.Undo t) output k tc is h =
+    if_tc_up old new (event.Undo t) output _ k (λ m. refl) (follows_undo old new t output k) h
+follows old new event.Force output k tc is h =
+    if_tc_up old new event.Force output _ k (λ m. refl) (follows_force old new output k) h
+follows old new (event.Send t) output k tc is h =
+    if_tc_up old new (event.Send t) output _ k (λ m. refl) (follows_send old new t output k) h
+follows old new (event.LowWater l) output k tc is h =
+    if_tc_up old new (event.LowWater l) output _ k (λ m. refl) (follows_low_water old new l output k) h
+follows old new event.Checkpoint output k tc is h =
+    if_tc_up old new event.Checkpoint output _ k (λ m. refl) (follows_checkpoint old new output k) h
+follows old new (event.Split key) output k tc is h =
+    if_dc_up old new (event.Split key) output _ k (λ m. refl) (follows_split old new key output k is) h
+follows old new (event.Merge key) output k tc is h =
+    if_dc_up old new (event.Merge key) output _ k (λ m. refl) (follows_merge old new key output k is) h
+follows old new event.Tend output k tc is h =
+    if_dc_up old new event.Tend output _ k (λ m. refl) (follows_tend old new output k is) h
+follows old new (event.Flush key) output k tc is h =
+    if_dc_up old new (event.Flush key) output _ k (λ m. refl) (follows_flush old new key output k is) h
+follows old new (event.Request i) output k tc is h =
+    if_dc_up old new (event.Request i) output _ k (λ m. refl) (follows_request old new i output k is) h
+follows old new (event.Reply i) output k tc is h =
+    if_tc_up old new (event.Reply i) output _ k (λ m. refl) (follows_reply old new i output k) h
+follows old new (event.CrashTc frames bytes) output k tc is h = follows_tc_crash old new frames bytes output k h
+follows old new event.RestartTc output k tc is h = follows_tc_restart old new output k tc h
+follows old new (event.CrashDc frames bytes) output k tc is h = follows_crash old new frames bytes output k h
+follows old new event.RestartDc output k tc is h = follows_restart old new output k is h
+
+-- a new node
+first_honest : IsHonestTo [] 0 first
+first_honest = record {
+  honest = record { at = λ k within. record { beginning = tt; right = get-empty (slice_cmp nat_cmp) k }; saved = tt };
+  within = λ n captured. grind (arith, nat_tests, captured);
+}
+
+low_answered : IsAnsweredTo (fresh 0) 0
+low_answered = may_none []
+
+pub kept_fresh : IsDc (fresh_dc 0) → IsKept fresh_node
+kept_fresh is = record {
+  tc = fresh_tc;
+  right = tt;
+  dc = is;
+  recoverable = recoverable_fresh 0;
+  true_to = record {
+    leaves = (first_honest, tt);
+    written = record { first_leaf = first_honest; page = λ id page h. absurd (no_page id page h); logged = tt };
+    low = (low_answered, tt);
+    written_low = record { first_leaf = low_answered; page = λ id page h. absurd (no_page id page h); logged = tt };
+  };
+  performed = tt;
+  answered = λ may. absurd (cc);
+  sent = tt;
+  given = tt;
+  sessions = record { begun = record { recorded = omega arith; most = λ some. omega arith }; served = tt };
+  checked = fresh_checked 0;
+}
+  where
+    no_page : (id : ℕ) (page : LeafView) → pages_of map.empty id ≡ Some page → ⊥
+    no_page id page h = let none : None ≡ Some page = rw (get-empty nat_cmp id) at h in absurd (cc)
+
+-- and stands for the machine to which nothing was done
+pub fresh_stands_for : Stands fresh_node machine.fresh
+fresh_stands_for = fresh_stands
+
+-- a run goes on by one event
+run_push : (m : Machine) (es : List Event) (os : List Out) (n : Machine) (e : Event) (o : Out) (k : Machine)
+    → Run m es os n → Happens n e o k → Run m (es ++ e ∷ []) (os ++ o ∷ []) k
+run_push m [] [] n e o k run happens = let P : Machine → Type 0 = λ x. Happens x e o k in (k, subst P run happens, refl)
+run_push m [] (p ∷ os) n e o k run happens = absurd run
+run_push m (d ∷ es) [] n e o k run happens = absurd run
+run_push m (d ∷ es) (p ∷ os) n e o k run happens = (run.0, run.1, run_push run.0 es os n e o k run.2 happens)
+
+leads_push : (old : NodeView) (es : List Event) (os : List Out) (mid : NodeView) (e : Event) (o : Out) (new : NodeView) → LeadsAll old es os mid → Leads mid e o new
+    → LeadsAll old (es ++ e ∷ []) (os ++ o ∷ []) new
+leads_push old es os mid e o new all one m stands =
+    let first = all m stands in
+    let last = one first.0 first.2 in
+    (last.0, run_push m es os first.0 e o last.0 first.1 last.1, last.2)
+
+pub leads_more : (old : NodeView) (es : List Event) (i : ℕ) (os : List Out) (mid : NodeView) (e : Event) (o : Out) (new : NodeView)
+    → i < length es → e ≡ get_or es i e → LeadsAll old (take i es) os mid → Leads mid e o new
+    → LeadsAll old (take (i + 1) es) (os ++ o ∷ []) new
+leads_more old es i os mid e o new lt at all one = rw (take_more es i e lt, ← at) (leads_push old (take i es) os mid e o new all one)
+
+-- a chain too
+chain_push : (w : NodeView) (es : List Event) (os : List Out) (mid : NodeView) (e : Event) (o : Out) (new : NodeView)
+    → Chain w es os mid → StepsTo mid e o new
+    → Chain w (es ++ e ∷ []) (os ++ o ∷ []) new
+chain_push w [] [] mid e o new chain step = let P : NodeView → Type 0 = λ x. StepsTo x e o new in (new, subst P chain step, refl)
+chain_push w [] (p ∷ os) mid e o new chain step = absurd chain
+chain_push w (d ∷ es) [] mid e o new chain step = absurd chain
+chain_push w (d ∷ es) (p ∷ os) mid e o new chain step = (chain.0, chain.1, chain_push chain.0 es os mid e o new chain.2 step)
+
+pub chain_more : (w : NodeView) (es : List Event) (i : ℕ) (os : List Out) (mid : NodeView) (e : Event) (o : Out) (new : NodeView)
+    → i < length es → e ≡ get_or es i e → Chain w (take i es) os mid → StepsTo mid e o new
+    → Chain w (take (i + 1) es) (os ++ o ∷ []) new
+chain_more w es i os mid e o new lt at chain step = rw (take_more es i e lt, ← at) (chain_push w (take i es) os mid e o new chain step)

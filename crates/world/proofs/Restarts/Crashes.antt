@@ -1,0 +1,136 @@
+-- A crash of the data component, and its restart, keep what holds of a node.
+use Rattle.std.proofs.Common.{◌≡◌, ℕ, ◌<◌, ◌≤◌, Bool, true, List, length, refl, sym, ap, subst, arith, inl}
+use Rattle.record_key.specs.declared.refusal.Refusal.{Refusal}
+use Rattle.recovery_laws.specs.Shape.{beginning}
+use Rattle.recovery_laws.specs.Recovery.{stored_session}
+use Rattle.recovery_laws.specs.Laws.{IsKeptByCuts}
+use Rattle.recovery_laws.specs.Ready.{IsHonestTo}
+use Rattle.recovery_laws.proofs.Beginnings.{whole, twice}
+use Rattle.recovery_laws.proofs.Honesty.{captures_fewer, cuts_keep_honest}
+use Rattle.ab_lsn.specs.Parting.{is_under}
+use Rattle.system_txn.specs.SystemView.{SystemView, refused_so}
+use Rattle.system_txn.specs.Devices.{pages_of}
+use Rattle.system_txn.specs.Kept.{IsSystem}
+use Rattle.system_txn.specs.Crashed.{crashed}
+use Rattle.system_txn.proofs.AfterCrash.{all_recovered, have_beginning, crashed_kept, crashed_recoverable}
+use Rattle.system_txn.proofs.Checked.{crashed_checked, refused_checked}
+use Rattle.dc_core.specs.DcView.{DcView, leaves}
+use Rattle.dc_core.specs.Kept.{IsDc}
+use Rattle.dc_core.specs.Restarting.{restarted}
+use Rattle.dc_core.proofs.KeepsDc.{nothing_saved}
+use Rattle.dc_core.proofs.Stored.{stored_within}
+use Rattle.dc_core.specs.Serves.{runs, with_system}
+use Rattle.tc_core.specs.declared.phase.Phase.{Phase}
+use Rattle.tc_core.specs.declared.phase.Phase.TheVariants as phase
+use Rattle.tc_core.specs.TcView.{TcView}
+use Rattle.tc_core.specs.Kept.{IsPhase}
+use Rattle.history.specs.declared.record.Record.{Record}
+use Rattle.world.specs.Node.{NodeView, with_dc}
+use Rattle.world.specs.Kept.{IsKept, IsBegun, IsServed, IsTrueTo, IsLowAnswered}
+use Rattle.world.proofs.Invariant.Carries.{keeps_dc}
+use Rattle.world.proofs.Invariant.Running.{run_is, some_session}
+use Rattle.world.proofs.Invariant.Systems.{same_leaves, keeps_system}
+use Rattle.world.proofs.Invariant.Written.{refused_true}
+
+-- ---- what was restarted keeps its own
+
+pub restarted_kept : (v : SystemView) → IsSystem v → v.stable ≡ length v.log → IsDc (restarted v)
+restarted_kept v is all = record {
+  system = is;
+  rows = refl;
+  once = tt;
+  captured = tt;
+  saved = nothing_saved v.leaves;
+  session = inl refl;
+  stored = omega (arith, ap stored_session (whole v.log v.stable (omega (arith, all))));
+}
+
+-- ---- sessions
+
+-- of a log's beginnings the longer accepted the later session
+stored_longer : (v : SystemView) (n : ℕ) → v.stable ≤ n
+    → stored_session (beginning v.log v.stable) ≤ stored_session (beginning v.log n)
+stored_longer v n le = subst (λ log. stored_session log ≤ stored_session (beginning v.log n)) (twice v.log n v.stable le) (stored_within (beginning v.log n) v.stable)
+
+-- no session runs
+no_run : (v : SystemView) (s : ℕ) → runs (restarted v) s ≡ true → ⊥
+no_run v s r = let run = run_is (restarted v) s r in run.some (sym run.is)
+
+crash_served : (at : Phase) (c session : ℕ) (log : List Record) (old : DcView) (v : SystemView) → IsPhase c session at
+    → (0 < session → stored_session v.log ≤ session)
+    → old.stored ≤ stored_session v.log → IsServed at session log old → IsServed at session log (restarted v)
+crash_served phase.Unconnected c session log old v is most least h = tt
+crash_served phase.Connecting c session log old v is most least h = h
+crash_served (phase.Redoing next ending) c session log old v is most least h =
+    (h.0, omega (arith, h.1, most (omega (arith, is.0, is.1)), least), λ runs. absurd (omega (arith, runs, is.0, is.1)))
+crash_served (phase.Undoing waiting) c session log old v is most least h = (omega (arith, h.0, most is, least), λ runs. absurd (omega (arith, runs, is)))
+crash_served phase.Running c session log old v is most least h = (omega (arith, h.0, most is, least), λ runs. absurd (omega (arith, runs, is)))
+
+-- ---- a crash
+
+cuts_honest : (w : TcView) → IsKeptByCuts (IsHonestTo w.log w.stable)
+cuts_honest w leaf d cut less inside h = record {
+  honest = cuts_keep_honest w.log leaf d cut less inside h.honest;
+  within = λ n got. h.within n (captures_fewer leaf.ab (is_under cut) n got);
+}
+
+cuts_low : (w : TcView) → IsKeptByCuts (IsLowAnswered w)
+cuts_low w leaf d cut less inside h = h
+
+pub crash_true : (w : NodeView) (n : ℕ) → IsKept w → w.dc.system.stable ≤ n → IsTrueTo w.tc (crashed w.dc.system n)
+crash_true w n k le =
+    let v : SystemView = w.dc.system in record {
+      leaves = all_recovered (IsHonestTo w.tc.log w.tc.stable) (pages_of v.pages) v.log v.stable n (cuts_honest w.tc) k.recoverable.legal k.recoverable.fit le k.true_to.written;
+      written = have_beginning (IsHonestTo w.tc.log w.tc.stable) (pages_of v.pages) v.log n k.true_to.written;
+      low = all_recovered (IsLowAnswered w.tc) (pages_of v.pages) v.log v.stable n (cuts_low w.tc) k.recoverable.legal k.recoverable.fit le k.true_to.written_low;
+      written_low = have_beginning (IsLowAnswered w.tc) (pages_of v.pages) v.log n k.true_to.written_low;
+    }
+
+pub crash_kept : (w : NodeView) (n : ℕ) → IsKept w → w.dc.system.stable ≤ n → IsDc (restarted (crashed w.dc.system n))
+crash_kept w n k le = restarted_kept (crashed w.dc.system n) (crashed_kept w.dc.system n k.dc.system k.recoverable le) refl
+
+pub crash_keeps : (w : NodeView) (n : ℕ) → IsKept w → w.dc.system.stable ≤ n
+    → IsKept (with_dc w (restarted (crashed w.dc.system n)))
+crash_keeps w n k le =
+    let v : SystemView = crashed w.dc.system n in
+    let least : w.dc.stored ≤ stored_session v.log = omega (arith, k.dc.stored, stored_longer w.dc.system n le) in
+    let begun : IsBegun w.tc.stable w.tc.session (stored_session v.log) =
+    record {
+      recorded = omega (arith, stored_within w.dc.system.log n, k.sessions.begun.recorded);
+      most = λ some. omega (arith, stored_within w.dc.system.log n, k.sessions.begun.most some);
+    } in
+    keeps_dc w (restarted v) k (crash_kept w n k le)
+    (record {
+      captured = λ some n o asks h. absurd (some refl);
+      stored = least;
+      ran = λ s before r. absurd (no_run v s r);
+      past = λ s before r past. refl;
+      checks = crashed_checked w.dc.system n k.recoverable le;
+    })
+    (crashed_recoverable w.dc.system n k.recoverable le) (crash_true w n k le) tt
+    (λ may. absurd (some_session (restarted v) may refl))
+    (record { begun = begun; served = crash_served w.tc.phase w.tc.checkpointed w.tc.session w.tc.log w.dc v k.tc.phase begun.most least k.sessions.served })
+
+-- whether the components run is nothing that is kept
+pub keeps_up : (w : NodeView) (tc_up dc_up : Bool) → IsKept w → IsKept (record w { tc_up = tc_up; dc_up = dc_up })
+keeps_up w tc_up dc_up k = record {
+  tc = k.tc;
+  right = k.right;
+  dc = k.dc;
+  recoverable = k.recoverable;
+  true_to = k.true_to;
+  performed = k.performed;
+  answered = k.answered;
+  sent = k.sent;
+  given = k.given;
+  sessions = k.sessions;
+  checked = k.checked;
+}
+
+-- a restart that is refused counts as a failure of a device at most
+pub refused_keeps : (w : NodeView) (r : Refusal) → IsKept w → IsDc (with_system w.dc (refused_so w.dc.system r))
+    → IsKept (with_dc w (with_system w.dc (refused_so w.dc.system r)))
+refused_keeps w r k is =
+    keeps_system w (refused_so w.dc.system r) k is
+    (record { legal = k.recoverable.legal; current = k.recoverable.current; fit = k.recoverable.fit })
+    (refused_checked w.dc.system r) (same_leaves w.tc.log (leaves w.dc)) (refused_true w.tc w.dc.system r k.true_to) k.sessions.begun

@@ -1,0 +1,240 @@
+-- What a crash leaves of the data component's devices, and what they give again.
+use Rattle.std.proofs.Common.{◌≡◌, ℕ, ◌+◌, ◌-◌, ◌≤◌, List, [], ◌∷◌, ◌++◌, length, take, Option, None, refl, sym, ap, ◌∙◌, subst, arith, inl, inr}
+use Rattle.std.proofs.lemmas.Bool.{cases_lt}
+use Rattle.std.proofs.lemmas.List.{length-append, length-take-le, take_all}
+use Rattle.std.specs.FinMap as map
+use Rattle.record_key.specs.declared.refusal.Refusal.{Refusal}
+use Rattle.record_key.specs.FirstCause.{failures_of}
+use Rattle.codec.specs.declared.dc_record.DcRecord.{DcRecord}
+use Rattle.stable.specs.Crash.{BeginsWith, MayLeave}
+use Rattle.stable.specs.LogState.{LogState, with_bytes}
+use Rattle.stable.specs.PagesState.{Pages, PagesState}
+use Rattle.recovery_laws.specs.Shape.{beginning}
+use Rattle.recovery_laws.proofs.Beginnings.{whole}
+use Rattle.system_txn.specs.SystemView.{SystemView, refused_so, fresh}
+use Rattle.codec.specs.Reading.{◌>>=◌}
+use Rattle.page.specs.Leaf.{first}
+use Rattle.recovery_laws.specs.Recovery.{page_or}
+use Rattle.system_txn.specs.Devices.{spelled, pages_of, page_in}
+use Rattle.system_txn.specs.Kept.{IsSystem, IsRecoverable}
+use Rattle.system_txn.specs.Recovering.{HoldsFrames, Recovers, RefusesRecovery, LeavesFrames}
+use Rattle.system_txn.specs.Crashed.{found, crashed}
+use Rattle.system_txn.proofs.AfterCrash.{crashed_kept}
+use Rattle.system_txn.proofs.Crashed.{crashes_leave_frames}
+use Rattle.system_txn.proofs.Fresh.{fresh_kept, no_page}
+use Rattle.system_txn.proofs.Keeps.{keeps_failures}
+use Rattle.system_txn.proofs.ReadOnce.{frames_read_once, just_frames}
+use Rattle.system_txn.proofs.Restarting.{restarts, never_bad}
+use Rattle.dc_core.specs.DcView.{DcView}
+use Rattle.dc_core.specs.Kept.{IsDc}
+use Rattle.dc_core.specs.Restarting.{restarted}
+use Rattle.dc_core.specs.Serves.{with_system}
+use Rattle.world.specs.Component.{MayKeep, found_on, IsDownWith}
+use Rattle.world.proofs.Restarts.Crashes.{restarted_kept}
+use Rattle.world.proofs.Restarts.Ends.{spelled_longer}
+
+-- ---- what is opened
+
+-- the system that these devices give
+opened_system : (bytes : List ℕ) (pages : Pages) (failures : ℕ) (log : List DcRecord) (v : SystemView)
+    → IsRecoverable (found pages failures log) → HoldsFrames bytes log
+    → Recovers bytes pages v → v.failures ≡ failures → v ≡ found pages failures log
+opened_system bytes pages failures log v r holds recovers count =
+    let is = restarts bytes pages log (length log) v r.legal r.fit holds recovers in
+    let stable : v.stable ≡ length log = recovers.stable ∙ ap length is.log_is in
+    λ i. record { leaves = is.leaves_are i; log = is.log_is i; stable = stable i; pages = recovers.pages_are i; failures = count i }
+
+-- the component is the one that was seen while it was down
+pub opened_is : (device : LogState) (pages : PagesState) (log : List DcRecord) (dc : DcView)
+    → HoldsFrames device.forced log
+    → IsRecoverable (found_on device pages log).system → Recovers device.forced pages.pages dc.system
+    → dc ≡ restarted dc.system
+    → dc.system.failures ≡ device.failures + pages.failures → dc ≡ found_on device pages log
+opened_is device pages log dc holds r recovers is count =
+    is ∙ ap restarted (opened_system device.forced pages.pages (device.failures + pages.failures) log dc.system r holds recovers count)
+
+-- ---- what isn't opened
+
+-- the same records stand on the device
+same_records : (old new : List ℕ) (log later : List DcRecord) → HoldsFrames old log → LeavesFrames old new
+    → HoldsFrames new later → later ≡ log
+same_records old new log later holds left again = frames_read_once.once new later log again (frames_read_once.cut old new log holds left)
+
+same_down : (device device' : LogState) (pages pages' : PagesState) (log later : List DcRecord) (r : Refusal)
+    → later ≡ log → pages'.pages ≡ pages.pages
+    → device'.failures + pages'.failures ≡ device.failures + pages.failures + failures_of r
+    → found_on device' pages' later ≡ with_system (found_on device pages log) (refused_so (found_on device pages log).system r)
+same_down device device' pages pages' log later r records same count = λ i. restarted (found (same i) (count i) (records i))
+
+pub down_with : (device device' : LogState) (pages pages' : PagesState) (log later : List DcRecord) (r : Refusal)
+    → IsDc (found_on device pages log)
+    → IsRecoverable (found_on device pages log).system → HoldsFrames device.forced log
+    → LeavesFrames device.forced device'.forced → HoldsFrames device'.forced later
+    → pages'.pages ≡ pages.pages
+    → device'.failures + pages'.failures ≡ device.failures + pages.failures + failures_of r
+    → RefusesRecovery device.forced pages.pages r
+    → IsDownWith (found_on device pages log) r (found_on device' pages' later)
+down_with device device' pages pages' log later r is rec holds left again same count refuses = (
+  never_bad device.forced pages.pages log (length log) r rec.legal rec.fit is.system.pages is.system.numbered holds refuses,
+  same_down device device' pages pages' log later r (same_records device.forced device'.forced log later holds left again) same count,
+)
+
+-- one failure more leaves it as it must be
+failures_kept : (w : DcView) (r : Refusal) → IsDc w → IsDc (with_system w (refused_so w.system r))
+failures_kept w r is = record {
+  system = keeps_failures w.system (w.system.failures + failures_of r) is.system;
+  rows = is.rows;
+  once = is.once;
+  captured = is.captured;
+  saved = is.saved;
+  session = is.session;
+  stored = is.stored;
+}
+
+pub down_kept : (device device' : LogState) (pages pages' : PagesState) (log later : List DcRecord) (r : Refusal)
+    → IsDc (found_on device pages log)
+    → HoldsFrames device.forced log → LeavesFrames device.forced device'.forced → HoldsFrames device'.forced later
+    → pages'.pages ≡ pages.pages → device'.failures + pages'.failures ≡ device.failures + pages.failures + failures_of r
+    → IsDc (found_on device' pages' later)
+down_kept device device' pages pages' log later r is holds left again same count =
+    subst IsDc (sym (same_down device device' pages pages' log later r (same_records device.forced device'.forced log later holds left again) same count))
+    (failures_kept (found_on device pages log) r is)
+
+-- ---- a crash
+
+-- the devices of a component that stopped
+pub record IsStopped (v : SystemView) (log : LogState) (written : PagesState) : Type 0 where
+  pub holds : log.forced ++ log.pending ≡ spelled v.log
+  pub forced : BeginsWith log.forced (spelled (beginning v.log v.stable))
+  pub pages : written.pages ≡ v.pages
+  pub failures : log.failures + written.failures ≡ v.failures
+
+-- all that a crash may keep has room in so many bytes
+abbrev pub HasRoom : SystemView → ℕ → ℕ → Type 0
+HasRoom v more bytes = (n : ℕ) → n ≤ v.stable + more → n ≤ length v.log → length (spelled (beginning v.log n)) ≤ bytes
+
+-- what is left on the log's device: the frames of a beginning that the crash may keep
+pub record IsLeft (v : SystemView) (more : ℕ) (left : List ℕ) : Type 0 where
+  pub count : ℕ
+  pub keeps : MayKeep v.stable (length v.log) more count
+  pub holds : HoldsFrames left (beginning v.log count)
+
+whole_length : (v : SystemView) → length (spelled (beginning v.log (length v.log))) ≡ length (spelled v.log)
+whole_length v = ap (λ log. length (spelled log)) (whole v.log (length v.log) (omega arith))
+
+pub cut_length : (n : ℕ) (forced pending : List ℕ) (bytes : ℕ) → bytes ≤ length forced + length pending
+    → bytes ≤ length forced + n → bytes ≤ length (forced ++ take n pending)
+cut_length n forced pending bytes all some =
+    let parts = length-append forced (take n pending) in
+    elim (cases_lt n (length pending)) [
+      | inl less ↦ omega (arith, parts, length-take-le n pending (omega (arith, less)), some)
+      | inr whole ↦ omega (arith, parts, ap length (take_all n pending whole), all)
+    ]
+
+pub room_left : (v : SystemView) (more kept : ℕ) (log : LogState) → log.forced ++ log.pending ≡ spelled v.log
+    → HasRoom v more kept
+    → HasRoom v more (length (log.forced ++ take (kept - length log.forced) log.pending))
+room_left v more kept log holds room n few within =
+    let all : length log.forced + length log.pending ≡ length (spelled v.log) = sym (length-append log.forced log.pending) ∙ ap length holds in
+    let most = spelled_longer v.log n (length v.log) within in
+    cut_length (kept - length log.forced) log.forced log.pending (length (spelled (beginning v.log n)))
+    (omega (arith, all, most, whole_length v)) (omega (arith, room n few within))
+
+crash_left : (v : SystemView) (more : ℕ) (log : LogState) (pages : PagesState) (left : List ℕ) → IsSystem v
+    → IsRecoverable v → IsStopped v log pages → MayLeave log.forced log.pending left
+    → HasRoom v more (length left) → IsLeft v more left
+crash_left v more log pages left is rec stopped may room =
+    let l = crashes_leave_frames v.log v.stable log.forced log.pending left is.records (record { within = rec.fit.kept; stored = stopped.holds; covered = stopped.forced }) may in
+    record {
+      count = l.count;
+      keeps = record {
+        stable = l.stable_left;
+        counted = elim (cases_lt (length v.log) (v.stable + more)) [
+          | inl past ↦ inr (omega (arith, l.within, l.most (length v.log) (omega arith) (room (length v.log) (omega (arith, past)) (omega arith))))
+          | inr few ↦ inl (l.most (v.stable + more) few (room (v.stable + more) (omega arith) few))
+        ];
+        within = l.within;
+      };
+      holds = l.frames;
+    }
+
+-- what is seen once it has crashed
+crash_seen : (v : SystemView) (more : ℕ) (log log' : LogState) (pages : PagesState) (later : List DcRecord)
+    → IsStopped v log pages → log'.failures ≡ log.failures → (l : IsLeft v more log'.forced)
+    → HoldsFrames log'.forced later → found_on log' pages later ≡ restarted (crashed v l.count)
+crash_seen v more log log' pages later stopped same l again =
+    let records : later ≡ beginning v.log l.count = frames_read_once.once log'.forced later (beginning v.log l.count) again l.holds in
+    let failures : log'.failures + pages.failures ≡ v.failures = ap (λ n. n + pages.failures) same ∙ stopped.failures in
+    λ i. restarted (found (stopped.pages i) (failures i) (records i))
+
+-- the component crashed so
+pub record IsCrash (v : SystemView) (more kept : ℕ) (log log' : LogState) (pages : PagesState) : Type 0 where
+  pub stopped : IsStopped v log pages
+  pub left : log' ≡ with_bytes log (log.forced ++ take (kept - length log.forced) log.pending) []
+  pub law : MayLeave log.forced log.pending log'.forced
+  pub room : HasRoom v more kept
+
+-- so many bytes has the log
+pub log_length : (v : SystemView) (log : LogState) (end records : ℕ) → log.forced ++ log.pending ≡ spelled v.log
+    → records ≡ length v.log → end ≡ length (spelled (beginning v.log records))
+    → end ≡ length log.forced + length log.pending
+log_length v log end records holds all is =
+    is ∙ ap (λ n. length (spelled (beginning v.log n))) all ∙ whole_length v ∙ sym (ap length holds) ∙ length-append log.forced log.pending
+
+pub crash_of : (v : SystemView) (more kept end cut : ℕ) (log log' : LogState) (written : PagesState)
+    → end ≡ length log.forced + length log.pending → cut ≡ kept - (end - length log.pending)
+    → IsStopped v log written → log' ≡ with_bytes log (log.forced ++ take cut log.pending) []
+    → MayLeave log.forced log.pending log'.forced → HasRoom v more kept
+    → IsCrash v more kept log log' written
+crash_of v more kept end cut log log' written all is stopped left may room =
+    let so : cut ≡ kept - length log.forced = omega (arith, all, is) in
+    record { stopped = stopped; left = left ∙ ap (λ n. with_bytes log (log.forced ++ take n log.pending) []) so; law = may; room = room }
+
+-- reading the pages' device changes nothing
+pub same_pages : (v : SystemView) (log : LogState) (old new : PagesState) → new ≡ old → IsStopped v log old
+    → IsStopped v log new
+same_pages v log old new same stopped = let P : PagesState → Type 0 = IsStopped v log in subst P (sym same) stopped
+
+pub crash_leaves : (v : SystemView) (more kept : ℕ) (log log' : LogState) (pages : PagesState) → IsSystem v
+    → IsRecoverable v → IsCrash v more kept log log' pages → IsLeft v more log'.forced
+crash_leaves v more kept log log' pages is rec c =
+    crash_left v more log pages log'.forced is rec c.stopped c.law
+    (λ n few within. omega (arith, room_left v more kept log c.stopped.holds c.room n few within, ap (λ (l : LogState). length l.forced) c.left))
+
+pub crash_is : (v : SystemView) (more kept : ℕ) (log log' : LogState) (pages : PagesState) (later : List DcRecord)
+    → IsSystem v → IsRecoverable v → IsCrash v more kept log log' pages
+    → HoldsFrames log'.forced later → (n : ℕ) × MayKeep v.stable (length v.log) more n × (found_on log' pages later ≡ restarted (crashed v n))
+crash_is v more kept log log' pages later is rec c again =
+    let l = crash_leaves v more kept log log' pages is rec c in
+    (l.count, l.keeps, crash_seen v more log log' pages later c.stopped (ap (λ (l : LogState). l.failures) c.left) l again)
+
+pub crash_found : (v : SystemView) (more kept : ℕ) (log log' : LogState) (pages : PagesState) (later : List DcRecord)
+    → IsSystem v → IsRecoverable v → IsCrash v more kept log log' pages
+    → HoldsFrames log'.forced later → IsDc (found_on log' pages later)
+crash_found v more kept log log' pages later is rec c again =
+    let x = crash_is v more kept log log' pages later is rec c again in
+    subst IsDc (sym x.2) (restarted_kept (crashed v x.0) (crashed_kept v x.0 is rec x.1.stable) refl)
+
+-- ---- devices that hold nothing
+
+empty_frames : HoldsFrames [] []
+unfolding spelled
+empty_frames = just_frames [] tt
+
+pub no_frames : (bytes : List ℕ) → bytes ≡ [] → HoldsFrames bytes []
+no_frames bytes none = let P : List ℕ → Type 0 = λ b. HoldsFrames b [] in subst P (sym none) empty_frames
+
+-- without a page the first leaf is found
+first_found : (pages : Pages) (failures : ℕ) → pages ≡ map.empty → found pages failures [] ≡ fresh failures
+first_found pages failures blank =
+    let none : pages_of pages 1 ≡ None = ap (λ (o : Option (List ℕ)). o >>= page_in) (no_page 1 pages blank) in
+    λ i. record { leaves = page_or (none i) first ∷ []; log = []; stable = 0; pages = blank i; failures = failures }
+
+pub empty_found : (log : LogState) (pages : PagesState) (later : List DcRecord) → log.forced ≡ []
+    → pages.pages ≡ map.empty → HoldsFrames log.forced later → IsDc (found_on log pages later)
+empty_found log pages later none blank again =
+    let failures : ℕ = log.failures + pages.failures in
+    let records : later ≡ [] = frames_read_once.once log.forced later [] again (no_frames log.forced none) in
+    let same : found pages.pages failures later ≡ fresh failures = ap (found pages.pages failures) records ∙ first_found pages.pages failures blank in
+    let P : SystemView → Type 0 = λ v. IsDc (restarted v) in
+    subst P (sym same) (restarted_kept (fresh failures) (fresh_kept failures) refl)
