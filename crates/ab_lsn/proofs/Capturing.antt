@@ -17,16 +17,19 @@ or_swap true false c = refl
 or_swap false b c = refl
 
 -- one entry more
-either_side : (b : Bool) (f e : Entry) (es fs : List Entry) (m : ℕ) → stands_in fs m ≡ ((m == f.number) || stands_in es m)
+either_side : (b : Bool) (f e : Entry) (es fs : List Entry) (m : ℕ)
+    → stands_in fs m ≡ ((m == f.number) || stands_in es m)
     → stands_in (cond b (e ∷ fs) (f ∷ e ∷ es)) m ≡ ((m == f.number) || stands_in (e ∷ es) m)
 either_side true f e es fs m h = ap (λ b. (m == e.number) || b) h ∙ or_swap (m == e.number) (m == f.number) (stands_in es m)
 either_side false f e es fs m h = refl
 
-pub placed_stands : (f : Entry) (es : List Entry) (m : ℕ) → stands_in (placed f es) m ≡ ((m == f.number) || stands_in es m)
+pub placed_stands : (f : Entry) (es : List Entry) (m : ℕ)
+    → stands_in (placed f es) m ≡ ((m == f.number) || stands_in es m)
 placed_stands f [] m = refl
 placed_stands f (e ∷ es) m = either_side (nat_lt e.number f.number) f e es (placed f es) m (placed_stands f es m)
 
-pub noted_captures : (v : AbLsnView) (n : ℕ) (k : Bytes) (a : Answer) (m : ℕ) → captures (noted v n k a) m ≡ (captures v m || m == n)
+pub noted_captures : (v : AbLsnView) (n : ℕ) (k : Bytes) (a : Answer) (m : ℕ)
+    → captures (noted v n k a) m ≡ (captures v m || m == n)
 noted_captures v n k a m =
     ap (λ b. nat_le m v.low || b) (placed_stands (record { number = n; key = k; answer = a }) v.entries m ∙ or_comm (m == n) (stands_in v.entries m))
     ∙ sym (or_assoc (nat_le m v.low) (stands_in v.entries m) (m == n))
@@ -49,7 +52,8 @@ above_rises l k (e ∷ es) h =
     ]
 
 -- every number up to another captured besides
-lifted : (v : AbLsnView) (l m : ℕ) → v.low < l → (nat_le m l || stands_in (above l v.entries) m) ≡ ((nat_le m v.low || stands_in v.entries m) || nat_le m l)
+lifted : (v : AbLsnView) (l m : ℕ) → v.low < l
+    → (nat_le m l || stands_in (above l v.entries) m) ≡ ((nat_le m v.low || stands_in v.entries m) || nat_le m l)
 lifted v l m lt =
     elim (cases_lt l m) [
       | inl less ↦
@@ -83,14 +87,16 @@ put_stood m f es true there =
     ]
 
 -- the entries of another, those above a number
-above_stood : (l m : ℕ) (f : Entry) (es : List Entry) → l < m → stands_in (placed_above l f es) m ≡ ((m == f.number) || stands_in es m)
+above_stood : (l m : ℕ) (f : Entry) (es : List Entry) → l < m
+    → stands_in (placed_above l f es) m ≡ ((m == f.number) || stands_in es m)
 above_stood l m f es lt =
     elim (cases_lt l f.number) [
       | inl less ↦ rw (lt-ltb l f.number less) (put_stood m f es (stands_in es f.number) refl)
       | inr ge ↦ rw (le-ltb l f.number ge, ne_eqb m f.number (λ same. omega (arith, same, ge, lt))) refl
     ]
 
-all_stood : (l m : ℕ) (fs es : List Entry) → l < m → stands_in (placed_all l fs es) m ≡ (stands_in fs m || stands_in es m)
+all_stood : (l m : ℕ) (fs es : List Entry) → l < m
+    → stands_in (placed_all l fs es) m ≡ (stands_in fs m || stands_in es m)
 all_stood l m [] es lt = refl
 all_stood l m (f ∷ fs) es lt =
     all_stood l m fs (placed_above l f es) lt
@@ -132,7 +138,8 @@ either_with : (m : ℕ) (e : Entry) (es fs : List Entry) (b : Bool) (rest : Bool
 either_with m e es fs true rest is = ap (λ (r : Bool). (m == e.number) || r) is ∙ ap (λ (r : Bool). r || rest) (sym (and-true (m == e.number)))
 either_with m e es fs false rest is = is ∙ ap (λ (r : Bool). r || rest) (sym (and-false (m == e.number)))
 
-pub parted_stands : (test : Bytes → Bool) (es : List Entry) (m : ℕ) → stands_in (entries_with test es) m ≡ stands_with test es m
+pub parted_stands : (test : Bytes → Bool) (es : List Entry) (m : ℕ)
+    → stands_in (entries_with test es) m ≡ stands_with test es m
 parted_stands test [] m = refl
 parted_stands test (e ∷ es) m =
     either_with m e es (entries_with test es) (test e.key) (stands_with test es m) (parted_stands test es m)

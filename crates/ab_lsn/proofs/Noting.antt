@@ -10,7 +10,8 @@ use Rattle.ab_lsn.specs.AbLsn.{AbLsnView, stands_in, captures, placed}
 use Rattle.ab_lsn.specs.Parting.{placed_above}
 use Rattle.ab_lsn.proofs.Rising.{at_stands, gap_stands, gap_placed, placed_rises}
 
-pub found_captured : (v : AbLsnView) (n : ℕ) (r : Result ℕ ℕ) → v.low < n → RiseAbove v.low v.entries → IsPlaceOfNumber n v.entries r
+pub found_captured : (v : AbLsnView) (n : ℕ) (r : Result ℕ ℕ) → v.low < n → RiseAbove v.low v.entries
+    → IsPlaceOfNumber n v.entries r
     → is_ok r ≡ captures v n
 found_captured v n (Ok p) lt h at = sym (ap (λ b. b || stands_in v.entries n) (lt-leb n v.low lt) ∙ at_stands n v.entries p at)
 found_captured v n (Err p) lt h gap =
@@ -32,7 +33,8 @@ noted_rises v f p h out gap =
     subst (RiseAbove v.low) (gap_placed f v.entries p gap) (placed_rises f v.low v.entries fresh.0 h fresh.1)
 
 -- entries of another that are put at their places, one after another
-pub put_rises : (low : ℕ) (f : Entry) (es : List Entry) (b : Bool) → low < f.number → RiseAbove low es → stands_in es f.number ≡ b
+pub put_rises : (low : ℕ) (f : Entry) (es : List Entry) (b : Bool) → low < f.number → RiseAbove low es
+    → stands_in es f.number ≡ b
     → RiseAbove low (cond (not b) (placed f es) es)
 put_rises low f es false less h out = placed_rises f low es less h out
 put_rises low f es true less h there = h

@@ -12,7 +12,8 @@ pub record IsPlacing (low : ℕ) (end rest : List Entry) (now : SmallVec Entry) 
   pub rising : RiseAbove low now.items
   pub room : small_vec_len now + length rest ≤ now.capacity
 
-pub placed_one : (low : ℕ) (end rest : List Entry) (f : Entry) (now new : SmallVec Entry) → IsPlacing low end (f ∷ rest) now
+pub placed_one : (low : ℕ) (end rest : List Entry) (f : Entry) (now new : SmallVec Entry)
+    → IsPlacing low end (f ∷ rest) now
     → new.items ≡ placed_above low f now.items → small_vec_len new ≤ small_vec_len now + 1 → new.capacity ≡ now.capacity
     → IsPlacing low end rest new
 placed_one low end rest f now new h is longer same = record {

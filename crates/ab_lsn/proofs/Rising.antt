@@ -27,7 +27,8 @@ pub rises : (l : ℕ) (es : List Entry) → RiseAbove l es → RiseAbove 0 es
 rises l es h = rises_from 0 l es (omega arith) h
 
 -- what is kept of rising numbers rises
-kept_rises : (b : Bool) (l : ℕ) (e : Entry) (es : List Entry) → l < e.number → RiseAbove e.number es → RiseAbove l (cond b (e ∷ es) es)
+kept_rises : (b : Bool) (l : ℕ) (e : Entry) (es : List Entry) → l < e.number → RiseAbove e.number es
+    → RiseAbove l (cond b (e ∷ es) es)
 kept_rises true l e es lt h = (lt, h)
 kept_rises false l e es lt h = rises_from l e.number es (omega (arith, lt)) h
 
@@ -58,7 +59,8 @@ gap_stands n l (e ∷ es) (suc p) h gap =
     rw (ne_eqb n e.number (λ same. omega (arith, same, above))) (gap_stands n e.number es p h.1 gap.1)
 
 -- the answer that is saved at a place, and none in a gap
-pub at_saved : (n : ℕ) (es : List Entry) (p : ℕ) (d : Entry) → HasNumberAt n es p → saved_in es n ≡ Some (get_or es p d).answer
+pub at_saved : (n : ℕ) (es : List Entry) (p : ℕ) (d : Entry) → HasNumberAt n es p
+    → saved_in es n ≡ Some (get_or es p d).answer
 at_saved n [] p d at = absurd at
 at_saved n (e ∷ es) zero d at = rw (eq-eqb e.number n (sym (tie n e.number at))) refl
 at_saved n (e ∷ es) (suc p) d at =

@@ -20,7 +20,8 @@ use Rattle.btree.proofs.Searching.{leaf_there, performs_there, split_there, merg
 abbrev pub itself : LeafView → LeafView
 itself leaf = leaf
 
-pub leaf_found : (leaves : List LeafView) (k : Bytes) (p : ℕ) → AreLeaves leaves → IsPlaceOf leaves k p → get_or leaves p first ≡ leaf_at leaves k
+pub leaf_found : (leaves : List LeafView) (k : Bytes) (p : ℕ) → AreLeaves leaves → IsPlaceOf leaves k p
+    → get_or leaves p first ≡ leaf_at leaves k
 leaf_found leaves k p kept at =
     let is = place_found leaves k p kept at in
     let there : place_at leaves k < length leaves = subst (λ (q : ℕ). q < length leaves) is at.there in
@@ -29,7 +30,8 @@ leaf_found leaves k p kept at =
     ∙ subst (λ (ls : List LeafView). get_or leaves (place_at ls k) first ≡ leaf_at ls k) (map-id leaves)
     (leaf_there itself leaves k first (subst P (sym (map-id leaves)) there))
 
-performs_at : (leaves : List LeafView) (n : ℕ) (o : Op) (done : Done) (x : LeafView) → place_at leaves (key_of o) < length leaves → Performs (leaf_at leaves (key_of o)) n o done x
+performs_at : (leaves : List LeafView) (n : ℕ) (o : Op) (done : Done) (x : LeafView)
+    → place_at leaves (key_of o) < length leaves → Performs (leaf_at leaves (key_of o)) n o done x
     → PerformsAt leaves n o done (set leaves (place_at leaves (key_of o)) x)
 performs_at leaves n o done x there performs =
     let P : List LeafView → Type 0 = λ (ls : List LeafView).
@@ -40,8 +42,10 @@ performs_at leaves n o done x there performs =
     subst P (map-id leaves) all there performs
 
 -- a request at the leaf of its key
-pub performs_among : (p : ℕ) (old new : NodeView) (n : ℕ) (o : Op) (result : Result Done Refusal) → AreLeaves old.leaves → IsPlaceOf old.leaves (key_of o) p → IsChangedAt p old new
-    → IfOk result (λ done. Performs (get_or old.leaves p first) n o done (get_or new.leaves p first)) → IfOk result (λ done. PerformsAt old.leaves n o done new.leaves)
+pub performs_among : (p : ℕ) (old new : NodeView) (n : ℕ) (o : Op) (result : Result Done Refusal) → AreLeaves old.leaves
+    → IsPlaceOf old.leaves (key_of o) p → IsChangedAt p old new
+    → IfOk result (λ done. Performs (get_or old.leaves p first) n o done (get_or new.leaves p first))
+    → IfOk result (λ done. PerformsAt old.leaves n o done new.leaves)
 performs_among p old new n o (Ok done) kept at change performs =
     let is = place_found old.leaves (key_of o) p kept at in
     let there : place_at old.leaves (key_of o) < length old.leaves = subst (λ (q : ℕ). q < length old.leaves) is at.there in
@@ -52,15 +56,18 @@ performs_among p old new n o (Ok done) kept at change performs =
     (performs_at old.leaves n o done (get_or new.leaves p first) there at_leaf)
 performs_among p old new n o (Err refusal) kept at change performs = tt
 
-pub split_among : (leaves : List LeafView) (p id d : ℕ) (x y leaf : LeafView) → may_split_at leaves p ≡ true → leaf ≡ get_or leaves p first
-    → x ≡ lower_of leaf (middle leaf) d → y ≡ upper_of leaf (middle leaf) id d → insert (set leaves p x) (suc p) y ≡ split_at p id d leaves
+pub split_among : (leaves : List LeafView) (p id d : ℕ) (x y leaf : LeafView) → may_split_at leaves p ≡ true
+    → leaf ≡ get_or leaves p first
+    → x ≡ lower_of leaf (middle leaf) d → y ≡ upper_of leaf (middle leaf) id d
+    → insert (set leaves p x) (suc p) y ≡ split_at p id d leaves
 split_among leaves p id d x y leaf may at lower upper =
     let P : List LeafView → Type 0 = λ (ls : List LeafView).
     may_split_at ls p ≡ true → leaf ≡ get_or ls p first → map itself (insert (set leaves p x) (suc p) y) ≡ split_at p id d ls in
     let all : P (map itself leaves) = λ may at. split_there itself leaves p id d x y leaf may at lower upper in
     sym (map-id (insert (set leaves p x) (suc p) y)) ∙ subst P (map-id leaves) all may at
 
-pub merge_among : (leaves : List LeafView) (p d : ℕ) (x : LeafView) → may_merge_at leaves p ≡ true → x ≡ joined_of (get_or leaves p first) (get_or leaves (suc p) first) d
+pub merge_among : (leaves : List LeafView) (p d : ℕ) (x : LeafView) → may_merge_at leaves p ≡ true
+    → x ≡ joined_of (get_or leaves p first) (get_or leaves (suc p) first) d
     → remove (set leaves p x) (suc p) ≡ merged_at p d leaves
 merge_among leaves p d x may is =
     let P : List LeafView → Type 0 = λ (ls : List LeafView).
@@ -77,7 +84,8 @@ not_leaf node whole more = pick node.height refl
     pick (suc h) level = omega arith
 
 -- a refused one leaves the leaves as they were
-pub unchanged_among : (p : ℕ) (old new : NodeView) (result : Result Done Refusal) → IsChangedAt p old new → OnErr result (get_or new.leaves p first ≡ get_or old.leaves p first)
+pub unchanged_among : (p : ℕ) (old new : NodeView) (result : Result Done Refusal) → IsChangedAt p old new
+    → OnErr result (get_or new.leaves p first ≡ get_or old.leaves p first)
     → OnErr result (new.leaves ≡ old.leaves)
 unchanged_among p old new (Ok done) change same = tt
 unchanged_among p old new (Err refusal) change same =

@@ -36,7 +36,8 @@ pub within_at : (leaves : List LeafView) (k : Bytes) → AreLeaves leaves → is
 within_at leaves k kept = within_from None leaves k kept.tile refl
 
 -- what all leaves have, the leaf of a key has
-all_there : (P : LeafView → Type 0) (leaves : List LeafView) (k : Bytes) → place_at leaves k < length leaves → AllByRecursion P leaves → P (leaf_at leaves k)
+all_there : (P : LeafView → Type 0) (leaves : List LeafView) (k : Bytes) → place_at leaves k < length leaves
+    → AllByRecursion P leaves → P (leaf_at leaves k)
 all_there P [] k there all = absurd (omega (arith, there))
 all_there P (leaf ∷ leaves) k there all =
     elim (cases_Bool (is_in_fences leaf k)) [
@@ -46,30 +47,36 @@ all_there P (leaf ∷ leaves) k there all =
           rw later (all_there P leaves k (omega (arith, less)) all.1)
     ]
 
-pub all_at : (P : LeafView → Type 0) (leaves : List LeafView) (k : Bytes) → AreLeaves leaves → AllByRecursion P leaves → P (leaf_at leaves k)
+pub all_at : (P : LeafView → Type 0) (leaves : List LeafView) (k : Bytes) → AreLeaves leaves → AllByRecursion P leaves
+    → P (leaf_at leaves k)
 all_at P leaves k kept all = all_there P leaves k (there_from None leaves k kept.tile refl) all
 
 -- a key that lies in the leaf of another has that very leaf
-pub same_leaf : (leaves : List LeafView) (k q : Bytes) → AreLeaves leaves → is_in_fences (leaf_at leaves k) q ≡ true → leaf_at leaves q ≡ leaf_at leaves k
+pub same_leaf : (leaves : List LeafView) (k q : Bytes) → AreLeaves leaves → is_in_fences (leaf_at leaves k) q ≡ true
+    → leaf_at leaves q ≡ leaf_at leaves k
 same_leaf leaves k q kept inside = same_from None leaves k q kept.tile refl inside
 
 -- ---- the leaf of a key changed
 
 module _ (change : LeafView → LeafView) (part_kept : (leaf : LeafView) → part_of (change leaf) ≡ part_of leaf) (leaves : List LeafView) (kept : AreLeaves leaves) (k : Bytes) where
-  pub leaf_changed : (q : Bytes) → is_in_fences (leaf_at leaves k) q ≡ true → leaf_at (changed_at k change leaves) q ≡ change (leaf_at leaves q)
+  pub leaf_changed : (q : Bytes) → is_in_fences (leaf_at leaves k) q ≡ true
+      → leaf_at (changed_at k change leaves) q ≡ change (leaf_at leaves q)
   leaf_changed q inside = changed_same change part_kept None leaves k q kept.tile refl inside ∙ ap change (sym (same_leaf leaves k q kept inside))
 
-  pub leaf_unchanged : (q : Bytes) → is_in_fences (leaf_at leaves k) q ≡ false → leaf_at (changed_at k change leaves) q ≡ leaf_at leaves q
+  pub leaf_unchanged : (q : Bytes) → is_in_fences (leaf_at leaves k) q ≡ false
+      → leaf_at (changed_at k change leaves) q ≡ leaf_at leaves q
   leaf_unchanged q outside = changed_other change part_kept leaves k q outside
 
 -- ---- an operation
 
 module _ (leaves : List LeafView) (kept : AreLeaves leaves) (n : ℕ) (o : Op) where
   -- the leaf of the operation's key performs it, and the leaves of keys that don't lie there stay
-  pub leaf_performed : (k : Bytes) → is_in_fences (leaf_at leaves (key_of o)) k ≡ true → leaf_at (performed_at leaves n o) k ≡ performed (leaf_at leaves k) n o
+  pub leaf_performed : (k : Bytes) → is_in_fences (leaf_at leaves (key_of o)) k ≡ true
+      → leaf_at (performed_at leaves n o) k ≡ performed (leaf_at leaves k) n o
   leaf_performed k inside = leaf_changed (λ leaf. performed leaf n o) (λ leaf. refl) leaves kept (key_of o) k inside
 
-  pub leaf_not_performed : (k : Bytes) → is_in_fences (leaf_at leaves (key_of o)) k ≡ false → leaf_at (performed_at leaves n o) k ≡ leaf_at leaves k
+  pub leaf_not_performed : (k : Bytes) → is_in_fences (leaf_at leaves (key_of o)) k ≡ false
+      → leaf_at (performed_at leaves n o) k ≡ leaf_at leaves k
   leaf_not_performed k outside = leaf_unchanged (λ leaf. performed leaf n o) (λ leaf. refl) leaves kept (key_of o) k outside
 
   pub value_performed : table.get (leaf_at (performed_at leaves n o) (key_of o)).rows (key_of o) ≡ value_after o (table.get (leaf_at leaves (key_of o)).rows (key_of o))
@@ -77,7 +84,8 @@ module _ (leaves : List LeafView) (kept : AreLeaves leaves) (n : ℕ) (o : Op) w
       ap (λ (leaf : LeafView). table.get leaf.rows (key_of o)) (leaf_performed (key_of o) (within_at leaves (key_of o) kept))
       ∙ get-with_record_same (leaf_at leaves (key_of o)).rows (key_of o) (value_after o (table.get (leaf_at leaves (key_of o)).rows (key_of o)))
 
-  pub value_not_performed : (k : Bytes) → k ≢ key_of o → table.get (leaf_at (performed_at leaves n o) k).rows k ≡ table.get (leaf_at leaves k).rows k
+  pub value_not_performed : (k : Bytes) → k ≢ key_of o
+      → table.get (leaf_at (performed_at leaves n o) k).rows k ≡ table.get (leaf_at leaves k).rows k
   value_not_performed k apart =
       elim (cases_Bool (is_in_fences (leaf_at leaves (key_of o)) k)) [
         | inl inside ↦
@@ -97,7 +105,8 @@ module _ (leaves : List LeafView) (kept : AreLeaves leaves) (n : ℕ) (o : Op) w
       ∙ ap (λ (b : Bool). captures (leaf_at leaves (key_of o)).ab n || b) (eq-eqb n n refl)
       ∙ or-true (captures (leaf_at leaves (key_of o)).ab n)
 
-  pub captured_not_performed : (k : Bytes) (m : ℕ) → m ≢ n → captures (leaf_at (performed_at leaves n o) k).ab m ≡ captures (leaf_at leaves k).ab m
+  pub captured_not_performed : (k : Bytes) (m : ℕ) → m ≢ n
+      → captures (leaf_at (performed_at leaves n o) k).ab m ≡ captures (leaf_at leaves k).ab m
   captured_not_performed k m apart =
       elim (cases_Bool (is_in_fences (leaf_at leaves (key_of o)) k)) [
         | inl inside ↦
@@ -117,7 +126,8 @@ module _ (leaves : List LeafView) (kept : AreLeaves leaves) (l : ℕ) (k : Bytes
   pub value_raised : table.get (leaf_at (map (λ leaf. raised_to leaf l) leaves) k).rows k ≡ table.get (leaf_at leaves k).rows k
   value_raised = ap (λ (leaf : LeafView). table.get leaf.rows k) leaf_raised
 
-  pub captured_raised : (n : ℕ) → captures (leaf_at (map (λ leaf. raised_to leaf l) leaves) k).ab n ≡ (captures (leaf_at leaves k).ab n || nat_le n l)
+  pub captured_raised : (n : ℕ)
+      → captures (leaf_at (map (λ leaf. raised_to leaf l) leaves) k).ab n ≡ (captures (leaf_at leaves k).ab n || nat_le n l)
   captured_raised n = ap (λ (leaf : LeafView). captures leaf.ab n) leaf_raised ∙ raised_captures (leaf_at leaves k).ab l n
 
 -- ---- a leaf parted
@@ -187,7 +197,8 @@ record AreHonestBoth (log : List Record) (left right : LeafView) : Type 0 where
   pub honest : IsHonestLeaf log left × IsHonestLeaf log right
   pub captured : IsCapturedTo log left right.ab.low × IsCapturedTo log right left.ab.low
 
-honest_pair : (log : List Record) (leaves : List LeafView) (p : ℕ) → AreLeaves leaves → AreHonest log leaves → AreCaptured log leaves
+honest_pair : (log : List Record) (leaves : List LeafView) (p : ℕ) → AreLeaves leaves → AreHonest log leaves
+    → AreCaptured log leaves
     → AtPair (AreHonestBoth log) leaves p
 honest_pair log leaves p kept honest captured =
     let known : AtPair (λ left right. (IsHonestLeaf log left × IsHonestLeaf log right) × (IsCapturedTo log left right.ab.low × IsCapturedTo log right left.ab.low)) leaves p =
@@ -195,14 +206,16 @@ honest_pair log leaves p kept honest captured =
     (pair_all (IsHonestLeaf log) leaves p honest) (pair_each (λ (leaf other : LeafView). IsCapturedTo log leaf other.ab.low) leaves p captured) in
     pair_with _ _ (AreHonestBoth log) (λ left right pair both. record { pair = pair; honest = both.0; captured = both.1 }) leaves p (joinable leaves p kept) known
 
-pub honest_merged_at : (log : List Record) (leaves : List LeafView) (p d : ℕ) → AreLeaves leaves → AreHonest log leaves → AreCaptured log leaves
+pub honest_merged_at : (log : List Record) (leaves : List LeafView) (p d : ℕ) → AreLeaves leaves → AreHonest log leaves
+    → AreCaptured log leaves
     → AtPair (λ left right. IsHonestLeaf log (joined_of left right d)) leaves p
 honest_merged_at log leaves p d kept honest captured =
     pair_with (AreHonestBoth log) (AreHonestBoth log) _ (λ left right both again.
     honest_joined log left right d both.pair.left_kept both.pair.right_kept both.pair.next both.honest.0 both.honest.1 both.captured.0 both.captured.1)
     leaves p (honest_pair log leaves p kept honest captured) (honest_pair log leaves p kept honest captured)
 
-captured_in_left : (log : List Record) (left right : LeafView) (d : ℕ) (k : Bytes) → AreHonestBoth log left right → is_in_fences left k ≡ true
+captured_in_left : (log : List Record) (left right : LeafView) (d : ℕ) (k : Bytes) → AreHonestBoth log left right
+    → is_in_fences left k ≡ true
     → (n : ℕ) (o : Op) → Requests log n o → key_of o ≡ k → captures (joined_of left right d).ab n ≡ captures left.ab n
 captured_in_left log left right d k both held n o requests on =
     let next = both.pair.next in
@@ -210,7 +223,8 @@ captured_in_left log left right d k both held n o requests on =
     joined_captures left.ab right.ab n
     ∙ sym (captured_both log left right k both.pair.right_kept both.honest.1 both.captured.0 held outside n o requests on)
 
-captured_in_right : (log : List Record) (left right : LeafView) (d : ℕ) (k : Bytes) → AreHonestBoth log left right → is_in_fences right k ≡ true
+captured_in_right : (log : List Record) (left right : LeafView) (d : ℕ) (k : Bytes) → AreHonestBoth log left right
+    → is_in_fences right k ≡ true
     → (n : ℕ) (o : Op) → Requests log n o → key_of o ≡ k → captures (joined_of left right d).ab n ≡ captures right.ab n
 captured_in_right log left right d k both held n o requests on =
     let next = both.pair.next in
@@ -220,8 +234,10 @@ captured_in_right log left right d k both held n o requests on =
     ∙ sym (captured_both log right left k both.pair.left_kept both.honest.0 both.captured.1 held outside n o requests on)
 
 -- of the log's numbers on the key
-pub captured_merged : (log : List Record) (leaves : List LeafView) → AreLeaves leaves → AreHonest log leaves → AreCaptured log leaves → (p d : ℕ) (k : Bytes)
-    → (n : ℕ) (o : Op) → Requests log n o → key_of o ≡ k → captures (leaf_at (merged_at p d leaves) k).ab n ≡ captures (leaf_at leaves k).ab n
+pub captured_merged : (log : List Record) (leaves : List LeafView) → AreLeaves leaves → AreHonest log leaves
+    → AreCaptured log leaves → (p d : ℕ) (k : Bytes)
+    → (n : ℕ) (o : Op) → Requests log n o → key_of o ≡ k
+    → captures (leaf_at (merged_at p d leaves) k).ab n ≡ captures (leaf_at leaves k).ab n
 captured_merged log leaves kept honest captured p d k n o requests on =
     elim (leaf_merged (AreHonestBoth log) (λ left right both. both.pair.next) d k leaves p (honest_pair log leaves p kept honest captured)) [
       | inl same ↦ ap (λ (leaf : LeafView). captures leaf.ab n) same

@@ -9,7 +9,8 @@ use Rattle.btree.specs.Finding.{IsIn}
 use Rattle.btree.proofs.Under.{under_parts}
 
 -- nodes of which one is another
-pub under_set : (ns : List NodeView) (i : ℕ) (n : NodeView) → i < length ns → under (set ns i n) ≡ under (take i ns) ++ (n.leaves ++ under (drop (suc i) ns))
+pub under_set : (ns : List NodeView) (i : ℕ) (n : NodeView) → i < length ns
+    → under (set ns i n) ≡ under (take i ns) ++ (n.leaves ++ under (drop (suc i) ns))
 under_set [] i n within = absurd (omega (arith, within))
 under_set (m ∷ ns) zero n within = refl
 under_set (m ∷ ns) (suc i) n within =

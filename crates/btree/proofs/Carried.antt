@@ -36,11 +36,13 @@ module _ (P : ℕ → Type 0) where
   pub lows_performed : (leaves : List LeafView) (n : ℕ) (o : Op) → AreLows leaves → AreLows (performed_at leaves n o)
   lows_performed leaves n o all = all_changed (λ (leaf : LeafView). P leaf.ab.low) (key_of o) (λ leaf. performed leaf n o) leaves (λ low. low) all
 
-  pub lows_raised : (leaves : List LeafView) (l : ℕ) → P l → AreLows leaves → AreLows (map (λ leaf. raised_to leaf l) leaves)
+  pub lows_raised : (leaves : List LeafView) (l : ℕ) → P l → AreLows leaves
+      → AreLows (map (λ leaf. raised_to leaf l) leaves)
   lows_raised leaves l here all =
       all_mapped (λ (leaf : LeafView). P leaf.ab.low) (λ (leaf : LeafView). P leaf.ab.low) (λ leaf. raised_to leaf l) (λ leaf low. low_raised leaf.ab l low here) leaves all
 
-  pub lows_split : (leaves : List LeafView) (p id d : ℕ) → AreLeaves leaves → may_split_at leaves p ≡ true → AreLows leaves → AreLows (split_at p id d leaves)
+  pub lows_split : (leaves : List LeafView) (p id d : ℕ) → AreLeaves leaves → may_split_at leaves p ≡ true
+      → AreLows leaves → AreLows (split_at p id d leaves)
   lows_split leaves p id d kept may all = all_split (λ (leaf : LeafView). P leaf.ab.low) id d (λ leaf is may low. (low, low)) leaves p kept.each may all
 
   pub lows_merged : (leaves : List LeafView) (p d : ℕ) → AreLows leaves → AreLows (merged_at p d leaves)
@@ -55,18 +57,21 @@ module _ (P : Entry → Type 0) where
   abbrev pub AreEntries : List LeafView → Type 0
   AreEntries leaves = AllByRecursion (λ (leaf : LeafView). AllByRecursion P leaf.ab.entries) leaves
 
-  pub entries_performed : (leaves : List LeafView) (n : ℕ) (o : Op) → P (record { number = n; key = key_of o; answer = answer_in (leaf_at leaves (key_of o)).rows o })
+  pub entries_performed : (leaves : List LeafView) (n : ℕ) (o : Op)
+      → P (record { number = n; key = key_of o; answer = answer_in (leaf_at leaves (key_of o)).rows o })
       → AreEntries leaves → AreEntries (performed_at leaves n o)
   entries_performed leaves n o new all =
       all_changed (λ (leaf : LeafView). AllByRecursion P leaf.ab.entries) (key_of o) (λ leaf. performed leaf n o) leaves
       (λ entries. all_placed P _ (leaf_at leaves (key_of o)).ab.entries new entries) all
 
-  pub entries_raised : (leaves : List LeafView) (l : ℕ) → AreEntries leaves → AreEntries (map (λ leaf. raised_to leaf l) leaves)
+  pub entries_raised : (leaves : List LeafView) (l : ℕ) → AreEntries leaves
+      → AreEntries (map (λ leaf. raised_to leaf l) leaves)
   entries_raised leaves l all =
       all_mapped (λ (leaf : LeafView). AllByRecursion P leaf.ab.entries) (λ (leaf : LeafView). AllByRecursion P leaf.ab.entries) (λ leaf. raised_to leaf l)
       (λ leaf entries. all_raised P leaf.ab l entries) leaves all
 
-  pub entries_split : (leaves : List LeafView) (p id d : ℕ) → AreLeaves leaves → may_split_at leaves p ≡ true → AreEntries leaves → AreEntries (split_at p id d leaves)
+  pub entries_split : (leaves : List LeafView) (p id d : ℕ) → AreLeaves leaves → may_split_at leaves p ≡ true
+      → AreEntries leaves → AreEntries (split_at p id d leaves)
   entries_split leaves p id d kept may all =
       all_split (λ (leaf : LeafView). AllByRecursion P leaf.ab.entries) id d (λ leaf is may entries. (
         all_kept P P (λ (e : Entry). is_under (middle leaf) e.key) (λ e here passes. here) leaf.ab.entries entries,

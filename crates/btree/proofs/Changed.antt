@@ -15,7 +15,8 @@ use Rattle.btree.proofs.AtPlace.{under_set, leaf_in, set_in}
 use Rattle.btree.proofs.Under.{count_parts}
 use Rattle.btree.proofs.Whole.{all_get, all_set, at_first}
 
-pub low_set : (leaves : List LeafView) (p : ℕ) (x : LeafView) → x.low_fence ≡ (get_or leaves p first).low_fence → low_of (set leaves p x) ≡ low_of leaves
+pub low_set : (leaves : List LeafView) (p : ℕ) (x : LeafView) → x.low_fence ≡ (get_or leaves p first).low_fence
+    → low_of (set leaves p x) ≡ low_of leaves
 low_set [] p x begins = refl
 low_set (leaf ∷ leaves) zero x begins = begins
 low_set (leaf ∷ leaves) (suc p) x begins = refl
@@ -44,7 +45,8 @@ pub record IsChanged (place : ℕ) (low : Option Bytes) (count : ℕ) (summary :
   pub changed : IsChangedAt place (seen old) (seen new)
   pub leaf : get_or (seen new).leaves place first ≡ x
 
-same_height : (ns : List NodeView) (i : ℕ) (n : NodeView) → n.height ≡ (get_or ns i nothing).height → height_in (set ns i n) ≡ height_in ns
+same_height : (ns : List NodeView) (i : ℕ) (n : NodeView) → n.height ≡ (get_or ns i nothing).height
+    → height_in (set ns i n) ≡ height_in ns
 same_height [] i n same = refl
 same_height (m ∷ ns) zero n same = same
 same_height (m ∷ ns) (suc i) n same = refl
@@ -75,9 +77,12 @@ module _ (place i rest : ℕ) (ns : List NodeView) (n : NodeView) (at : IsIn ns 
 
 -- ---- what a change leaves where there are nodes below
 
-pub inner_changed : (place i rest : ℕ) (low : Option Bytes) (count : ℕ) (summary again : Summary) (xs ys : Vec NodeView Global) (child n : NodeView)
-    → IsNode low count summary (Inner xs) → IsIn xs.items place i rest → child ≡ get_or xs.items i child → IsChangedAt rest child n → ys.items ≡ set xs.items i n
-    → vec_capacity ys ≡ vec_capacity xs → again ≡ summary_of (under ys.items) → IsChanged place low count again (Inner xs) (Inner ys) (get_or n.leaves rest first)
+pub inner_changed : (place i rest : ℕ) (low : Option Bytes) (count : ℕ) (summary again : Summary)
+    (xs ys : Vec NodeView Global) (child n : NodeView)
+    → IsNode low count summary (Inner xs) → IsIn xs.items place i rest → child ≡ get_or xs.items i child
+    → IsChangedAt rest child n → ys.items ≡ set xs.items i n
+    → vec_capacity ys ≡ vec_capacity xs → again ≡ summary_of (under ys.items)
+    → IsChanged place low count again (Inner xs) (Inner ys) (get_or n.leaves rest first)
 inner_changed place i rest low count summary again xs ys child n kept at of by items room summed =
     let there : child ≡ get_or xs.items i nothing = of ∙ get_or_default xs.items i child nothing at.there in
     let change : IsChangedAt rest (get_or xs.items i nothing) n = subst (λ (m : NodeView). IsChangedAt rest m n) there by in
@@ -113,8 +118,11 @@ pub record IsBelowAt (self : NodeView) (place : ℕ) (child : NodeView) (rest : 
   pub fewer : length child.leaves ≤ length self.leaves
   pub leaf : get_or self.leaves place first ≡ get_or child.leaves rest first
 
-pub goes_down : (self child : NodeView) (place i rest : ℕ) (low : Option Bytes) (count : ℕ) (summary : Summary) (xs : Vec NodeView Global) → seen (Inner xs) ≡ self
-    → IsNode low count summary (Inner xs) → IsIn xs.items place i rest → child ≡ get_or xs.items i child → IsBelowAt self place child rest
+pub goes_down : (self child : NodeView) (place i rest : ℕ) (low : Option Bytes) (count : ℕ) (summary : Summary)
+    (xs : Vec NodeView Global)
+    → seen (Inner xs) ≡ self
+    → IsNode low count summary (Inner xs) → IsIn xs.items place i rest → child ≡ get_or xs.items i child
+    → IsBelowAt self place child rest
 goes_down self child place i rest low count summary xs is kept at of =
     let there : get_or xs.items i nothing ≡ child = sym (of ∙ get_or_default xs.items i child nothing at.there) in
     let one : IsChild (height_in xs.items) child = subst (IsChild (height_in xs.items)) there (all_get (IsChild (height_in xs.items)) xs.items i nothing at.there kept.under_it.children) in

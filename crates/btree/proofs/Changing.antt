@@ -10,7 +10,8 @@ use Rattle.btree.specs.Leaves.{leaf_at, place_at, changed_at}
 use Rattle.btree.proofs.Tiling.{where_lies, starts_later, held_out}
 
 pub all_changed : (P : LeafView → Type 0) (k : Bytes) (change : LeafView → LeafView) (leaves : List LeafView)
-    → (P (leaf_at leaves k) → P (change (leaf_at leaves k))) → AllByRecursion P leaves → AllByRecursion P (changed_at k change leaves)
+    → (P (leaf_at leaves k) → P (change (leaf_at leaves k))) → AllByRecursion P leaves
+    → AllByRecursion P (changed_at k change leaves)
 all_changed P k change [] step all = tt
 all_changed P k change (leaf ∷ leaves) step all =
     elim (cases_Bool (is_in_fences leaf k)) [
@@ -32,7 +33,8 @@ module _ (change : LeafView → LeafView) (part_kept : (leaf : LeafView) → par
         | inr later ↦ rw later (ap (λ (ps : List Part). part_of leaf ∷ ps) (parts_changed k leaves))
       ]
 
-  pub changed_same : (from : Option Bytes) (leaves : List LeafView) (k q : Bytes) → TileFrom from (parts_of leaves) → starts_at_most from k ≡ true
+  pub changed_same : (from : Option Bytes) (leaves : List LeafView) (k q : Bytes) → TileFrom from (parts_of leaves)
+      → starts_at_most from k ≡ true
       → is_in_fences (leaf_at leaves k) q ≡ true → leaf_at (changed_at k change leaves) q ≡ change (leaf_at leaves k)
   changed_same from [] k q tile starts inside = absurd tile
   changed_same from (leaf ∷ leaves) k q tile starts inside =
@@ -49,7 +51,8 @@ module _ (change : LeafView → LeafView) (part_kept : (leaf : LeafView) → par
   next : (b : Bool) (leaf : LeafView) (one other : LeafView) → one ≡ other → cond b leaf one ≡ cond b leaf other
   next b leaf one other same = ap (λ (rest : LeafView). cond b leaf rest) same
 
-  pub changed_other : (leaves : List LeafView) (k q : Bytes) → is_in_fences (leaf_at leaves k) q ≡ false → leaf_at (changed_at k change leaves) q ≡ leaf_at leaves q
+  pub changed_other : (leaves : List LeafView) (k q : Bytes) → is_in_fences (leaf_at leaves k) q ≡ false
+      → leaf_at (changed_at k change leaves) q ≡ leaf_at leaves q
   changed_other [] k q outside = refl
   changed_other (leaf ∷ leaves) k q outside =
       elim (cases_Bool (is_in_fences leaf k)) [
@@ -67,7 +70,8 @@ module _ (change : LeafView → LeafView) (part_kept : (leaf : LeafView) → par
   parts_mapped [] = refl
   parts_mapped (leaf ∷ leaves) = λ i. part_kept leaf i ∷ parts_mapped leaves i
 
-  pub leaf_mapped : (leaves : List LeafView) (k : Bytes) → place_at leaves k < length leaves → leaf_at (map change leaves) k ≡ change (leaf_at leaves k)
+  pub leaf_mapped : (leaves : List LeafView) (k : Bytes) → place_at leaves k < length leaves
+      → leaf_at (map change leaves) k ≡ change (leaf_at leaves k)
   leaf_mapped [] k there = absurd (omega (arith, there))
   leaf_mapped (leaf ∷ leaves) k there =
       elim (cases_Bool (is_in_fences leaf k)) [
@@ -77,7 +81,8 @@ module _ (change : LeafView → LeafView) (part_kept : (leaf : LeafView) → par
             rw (later, same_fences leaf k ∙ later) (leaf_mapped leaves k (omega (arith, less)))
       ]
 
-pub all_mapped : (P Q : LeafView → Type 0) (change : LeafView → LeafView) → ((leaf : LeafView) → P leaf → Q (change leaf)) → (leaves : List LeafView)
+pub all_mapped : (P Q : LeafView → Type 0) (change : LeafView → LeafView)
+    → ((leaf : LeafView) → P leaf → Q (change leaf)) → (leaves : List LeafView)
     → AllByRecursion P leaves → AllByRecursion Q (map change leaves)
 all_mapped P Q change step [] all = tt
 all_mapped P Q change step (leaf ∷ leaves) all = (step leaf all.0, all_mapped P Q change step leaves all.1)

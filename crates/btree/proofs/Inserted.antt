@@ -18,7 +18,8 @@ under_two (k ∷ ns) (suc i) n m within =
     ∙ sym (append_assoc k.leaves (under (take i ns)) ((n.leaves ++ m.leaves) ++ under (drop (suc i) ns)))
 
 module _ (ns : List NodeView) (place i rest : ℕ) (at : IsIn ns place i rest) (x : LeafView) where
-  pub inserted_one : (n : NodeView) → n.leaves ++ [] ≡ insert (get_or ns i nothing).leaves (suc rest) x → under (set ns i n) ++ [] ≡ insert (under ns) (suc place) x
+  pub inserted_one : (n : NodeView) → n.leaves ++ [] ≡ insert (get_or ns i nothing).leaves (suc rest) x
+      → under (set ns i n) ++ [] ≡ insert (under ns) (suc place) x
   inserted_one n is =
       append-nil (under (set ns i n))
       ∙ under_set ns i n at.there

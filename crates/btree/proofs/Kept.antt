@@ -34,7 +34,8 @@ use Rattle.btree.specs.Parting.{key_in, count, middle, may_split}
 -- ---- keys of a table
 
 -- what each key has where something stands
-keys_all : (P : Bytes → Type 0) (rows : List Row) → ((q v : Bytes) → find key_cmp q rows ≡ Some v → P q) → AllByRecursion (λ (row : Row). P row.0) rows
+keys_all : (P : Bytes → Type 0) (rows : List Row) → ((q v : Bytes) → find key_cmp q rows ≡ Some v → P q)
+    → AllByRecursion (λ (row : Row). P row.0) rows
 keys_all P [] each = tt
 keys_all P (row ∷ rows) each = (
   each row.0 row.1 (rw (is_same-refl row.0) refl),
@@ -44,7 +45,8 @@ keys_all P (row ∷ rows) each = (
   ]),
 )
 
-key_all : (P : Bytes → Type 0) (rows : List Row) (q v : Bytes) → AllByRecursion (λ (row : Row). P row.0) rows → find key_cmp q rows ≡ Some v → P q
+key_all : (P : Bytes → Type 0) (rows : List Row) (q v : Bytes) → AllByRecursion (λ (row : Row). P row.0) rows
+    → find key_cmp q rows ≡ Some v → P q
 key_all P [] q v all found = absurd (cc)
 key_all P (row ∷ rows) q v all found =
     elim (cases_Bool (eq_by_cmp key_cmp q row.0)) [
@@ -52,7 +54,8 @@ key_all P (row ∷ rows) q v all found =
       | inr apart ↦ key_all P rows q v all.1 (rw apart at found)
     ]
 
-written_all : (P : Bytes → Type 0) (m : Table) (k : Bytes) (r : Option Bytes) → AllByRecursion (λ (row : Row). P row.0) (map.entries m) → P k
+written_all : (P : Bytes → Type 0) (m : Table) (k : Bytes) (r : Option Bytes)
+    → AllByRecursion (λ (row : Row). P row.0) (map.entries m) → P k
     → AllByRecursion (λ (row : Row). P row.0) (map.entries (with_record m k r))
 written_all P m k r all new =
     keys_all P (map.entries (with_record m k r)) (λ q v found.
@@ -63,7 +66,8 @@ written_all P m k r all new =
     ])
 
 -- what is kept of a table's rows
-pub entries_retained : (m : Table) (test : Bytes → Bool) → map.entries (map.retain_keys m test) ≡ filter (λ (row : Row). test row.0) (map.entries m)
+pub entries_retained : (m : Table) (test : Bytes → Bool)
+    → map.entries (map.retain_keys m test) ≡ filter (λ (row : Row). test row.0) (map.entries m)
 entries_retained m test =
     let left = retained (map.entries m) test (own_rows m) in
     ap (λ (t : Table). map.entries t) (sym (left.1 ∙ ap (λ (t : Table). map.retain_keys t test) (table_again m)))
@@ -71,7 +75,8 @@ entries_retained m test =
 
 -- ---- leaves
 
-pub kept_performed : (leaf : LeafView) (n : ℕ) (o : Op) → is_in_fences leaf (key_of o) ≡ true → captures leaf.ab n ≡ false → IsLeaf leaf → IsLeaf (performed leaf n o)
+pub kept_performed : (leaf : LeafView) (n : ℕ) (o : Op) → is_in_fences leaf (key_of o) ≡ true
+    → captures leaf.ab n ≡ false → IsLeaf leaf → IsLeaf (performed leaf n o)
 kept_performed leaf n o inside out kept =
     let fresh = uncaptured leaf.ab n out in
     let new : Entry = record { number = n; key = key_of o; answer = answer_in leaf.rows o } in
@@ -148,7 +153,8 @@ module _ (left right : LeafView) (d : ℕ) (left_kept : IsLeaf left) (right_kept
 
 -- ---- the key at which a leaf is split
 
-starts_past : (low : Option Bytes) (x y : Bytes) → starts_at_most low x ≡ true → is_below x y ≡ true → starts_below low y ≡ true
+starts_past : (low : Option Bytes) (x y : Bytes) → starts_at_most low x ≡ true → is_below x y ≡ true
+    → starts_below low y ≡ true
 starts_past None x y starts below = refl
 starts_past (Some low) x y starts below =
     elim (cases_Bool (is_below low y)) [
@@ -156,17 +162,20 @@ starts_past (Some low) x y starts below =
       | inr free ↦ absurd (true≢false (sym (below_free x y low below free) ∙ not-true (is_below x low) starts))
     ]
 
-row_between : (low high : Option Bytes) (rows : List Row) (p : ℕ) → LieBetween low high rows → p < length rows → is_between low high (key_in (slice_get rows p)) ≡ true
+row_between : (low high : Option Bytes) (rows : List Row) (p : ℕ) → LieBetween low high rows → p < length rows
+    → is_between low high (key_in (slice_get rows p)) ≡ true
 row_between low high [] p between within = absurd (omega (arith, within))
 row_between low high (row ∷ rows) zero between within = between.0
 row_between low high (row ∷ rows) (suc p) between within = row_between low high rows p between.1 (omega (arith, within))
 
-row_above : (x : Bytes) (rows : List Row) (p : ℕ) → T (below_all key_cmp x rows) → p < length rows → is_below x (key_in (slice_get rows p)) ≡ true
+row_above : (x : Bytes) (rows : List Row) (p : ℕ) → T (below_all key_cmp x rows) → p < length rows
+    → is_below x (key_in (slice_get rows p)) ≡ true
 row_above x [] p below within = absurd (omega (arith, within))
 row_above x (row ∷ rows) zero below within = from_T _ (and_first _ _ below)
 row_above x (row ∷ rows) (suc p) below within = row_above x rows p (and_second _ _ below) (omega (arith, within))
 
-past_first : (low high : Option Bytes) (rows : List Row) (p : ℕ) → T (is_sorted key_cmp rows) → LieBetween low high rows → 0 < p → p < length rows
+past_first : (low high : Option Bytes) (rows : List Row) (p : ℕ) → T (is_sorted key_cmp rows) → LieBetween low high rows
+    → 0 < p → p < length rows
     → starts_below low (key_in (slice_get rows p)) ≡ true
 past_first low high [] p sorted between some within = absurd (omega (arith, within))
 past_first low high (row ∷ rows) zero sorted between some within = absurd (omega (arith, some))

@@ -53,28 +53,32 @@ AtPair Q (leaf ∷ []) p = Unit {0}
 AtPair Q (left ∷ right ∷ rest) zero = Q left right
 AtPair Q (left ∷ right ∷ rest) (suc p) = AtPair Q (right ∷ rest) p
 
-pub pair_with : (Q R S : LeafView → LeafView → Type 0) → ((left right : LeafView) → Q left right → R left right → S left right) → (leaves : List LeafView) (p : ℕ)
+pub pair_with : (Q R S : LeafView → LeafView → Type 0)
+    → ((left right : LeafView) → Q left right → R left right → S left right) → (leaves : List LeafView) (p : ℕ)
     → AtPair Q leaves p → AtPair R leaves p → AtPair S leaves p
 pair_with Q R S both [] p one two = tt
 pair_with Q R S both (leaf ∷ []) p one two = tt
 pair_with Q R S both (left ∷ right ∷ rest) zero one two = both left right one two
 pair_with Q R S both (left ∷ right ∷ rest) (suc p) one two = pair_with Q R S both (right ∷ rest) p one two
 
-pub pair_there : (Q : LeafView → LeafView → Type 0) (leaves : List LeafView) (p : ℕ) → AtPair Q leaves p → p + 1 < length leaves
+pub pair_there : (Q : LeafView → LeafView → Type 0) (leaves : List LeafView) (p : ℕ) → AtPair Q leaves p
+    → p + 1 < length leaves
     → Q (get_or leaves p first) (get_or leaves (suc p) first)
 pair_there Q [] p pair within = absurd (omega (arith, within))
 pair_there Q (leaf ∷ []) p pair within = absurd (omega (arith, within))
 pair_there Q (left ∷ right ∷ rest) zero pair within = pair
 pair_there Q (left ∷ right ∷ rest) (suc p) pair within = pair_there Q (right ∷ rest) p pair (omega (arith, within))
 
-pub pair_all : (P : LeafView → Type 0) (leaves : List LeafView) (p : ℕ) → AllByRecursion P leaves → AtPair (λ left right. P left × P right) leaves p
+pub pair_all : (P : LeafView → Type 0) (leaves : List LeafView) (p : ℕ) → AllByRecursion P leaves
+    → AtPair (λ left right. P left × P right) leaves p
 pair_all P [] p all = tt
 pair_all P (leaf ∷ []) p all = tt
 pair_all P (left ∷ right ∷ rest) zero all = (all.0, all.1.0)
 pair_all P (left ∷ right ∷ rest) (suc p) all = pair_all P (right ∷ rest) p all.1
 
 -- what each leaf has with each other, a pair has both ways
-pub pair_each : (R : LeafView → LeafView → Type 0) (leaves : List LeafView) (p : ℕ) → AllByRecursion (λ (leaf : LeafView). AllByRecursion (R leaf) leaves) leaves
+pub pair_each : (R : LeafView → LeafView → Type 0) (leaves : List LeafView) (p : ℕ)
+    → AllByRecursion (λ (leaf : LeafView). AllByRecursion (R leaf) leaves) leaves
     → AtPair (λ left right. R left right × R right left) leaves p
 pair_each R [] p all = tt
 pair_each R (leaf ∷ []) p all = tt
@@ -82,7 +86,8 @@ pair_each R (left ∷ right ∷ rest) zero all = (all.0.1.0, all.1.0.0)
 pair_each R (left ∷ right ∷ rest) (suc p) all =
     pair_each R (right ∷ rest) p (all_from (λ (leaf : LeafView). AllByRecursion (R leaf) (left ∷ right ∷ rest)) (λ (leaf : LeafView). AllByRecursion (R leaf) (right ∷ rest)) (λ leaf both. both.1) (right ∷ rest) all.1)
 
-pair_next : (from : Option Bytes) (leaves : List LeafView) (p : ℕ) → TileFrom from (parts_of leaves) → AtPair AreNeighbours leaves p
+pair_next : (from : Option Bytes) (leaves : List LeafView) (p : ℕ) → TileFrom from (parts_of leaves)
+    → AtPair AreNeighbours leaves p
 pair_next from [] p tile = tt
 pair_next from (leaf ∷ []) p tile = tt
 pair_next from (left ∷ right ∷ rest) zero tile =
@@ -108,7 +113,8 @@ joinable leaves p kept =
     (pair_next None leaves p kept.tile) (pair_all IsLeaf leaves p kept.each)
 
 -- what the leaf of both has and the others had, all have
-pub all_merged : (P : LeafView → Type 0) (d : ℕ) (leaves : List LeafView) (p : ℕ) → AtPair (λ left right. P (joined_of left right d)) leaves p → AllByRecursion P leaves
+pub all_merged : (P : LeafView → Type 0) (d : ℕ) (leaves : List LeafView) (p : ℕ)
+    → AtPair (λ left right. P (joined_of left right d)) leaves p → AllByRecursion P leaves
     → AllByRecursion P (merged_at p d leaves)
 all_merged P d [] p here all = tt
 all_merged P d (leaf ∷ []) p here all = all
@@ -117,7 +123,8 @@ all_merged P d (left ∷ right ∷ rest) (suc p) here all = (all.0, all_merged P
 
 -- ---- the keys of all
 
-pub tile_merged : (from : Option Bytes) (leaves : List LeafView) (p d : ℕ) → TileFrom from (parts_of leaves) → may_merge_at leaves p ≡ true
+pub tile_merged : (from : Option Bytes) (leaves : List LeafView) (p d : ℕ) → TileFrom from (parts_of leaves)
+    → may_merge_at leaves p ≡ true
     → TileFrom from (parts_of (merged_at p d leaves))
 tile_merged from [] p d tile may = absurd tile
 tile_merged from (leaf ∷ []) p d tile may = absurd (true≢false (sym may))
@@ -154,11 +161,13 @@ abbrev pub IsJoinedAt : (LeafView → LeafView → Type 0) → ℕ → LeafView 
 IsJoinedAt Q d old new k = (new ≡ old) ⊎ (HasLeft Q d old new k ⊎ HasRight Q d old new k)
 
 -- in the fences of one of two neighbours a key is below the fence between them, or isn't
-pub under_next : (left right : LeafView) (next : AreNeighbours left right) (k : Bytes) → is_in_fences left k ≡ true → is_below k next.fence ≡ true
+pub under_next : (left right : LeafView) (next : AreNeighbours left right) (k : Bytes) → is_in_fences left k ≡ true
+    → is_below k next.fence ≡ true
 under_next left right next k inside =
     subst (λ (f : Option Bytes). ends_above f k ≡ true) next.ends (and_parts (starts_at_most left.low_fence k) (ends_above left.high_fence k) inside).1
 
-pub past_next : (left right : LeafView) (next : AreNeighbours left right) (k : Bytes) → is_in_fences right k ≡ true → is_below k next.fence ≡ false
+pub past_next : (left right : LeafView) (next : AreNeighbours left right) (k : Bytes) → is_in_fences right k ≡ true
+    → is_below k next.fence ≡ false
 past_next left right next k inside =
     not-true (is_below k next.fence)
     (subst (λ (f : Option Bytes). starts_at_most f k ≡ true) next.begins (and_parts (starts_at_most right.low_fence k) (ends_above right.high_fence k) inside).0)
@@ -174,7 +183,8 @@ module _ (left right : LeafView) (d : ℕ) (next : AreNeighbours left right) (k 
       upper_between left.low_fence right.high_fence next.fence k next.above
       (subst (λ (f : Option Bytes). is_between f right.high_fence k ≡ true) next.begins inside)
 
-  held_neither : is_in_fences left k ≡ false → is_in_fences right k ≡ false → is_in_fences (joined_of left right d) k ≡ false
+  held_neither : is_in_fences left k ≡ false → is_in_fences right k ≡ false
+      → is_in_fences (joined_of left right d) k ≡ false
   held_neither one two =
       false_from_ne_true _ (λ inside. elim (cases_Bool (is_below k next.fence)) [
         | inl under ↦
@@ -201,7 +211,8 @@ module _ (Q : LeafView → LeafView → Type 0) (near : (left right : LeafView) 
         ]
       ]
 
-  pub leaf_merged : (leaves : List LeafView) (p : ℕ) → AtPair Q leaves p → IsJoinedAt Q d (leaf_at leaves k) (leaf_at (merged_at p d leaves) k) k
+  pub leaf_merged : (leaves : List LeafView) (p : ℕ) → AtPair Q leaves p
+      → IsJoinedAt Q d (leaf_at leaves k) (leaf_at (merged_at p d leaves) k) k
   leaf_merged [] p here = inl refl
   leaf_merged (leaf ∷ []) p here = inl refl
   leaf_merged (left ∷ right ∷ rest) zero here = leaf_joined left right rest here

@@ -18,20 +18,23 @@ use Rattle.btree.proofs.Tiling.{GoesOn, cases_tile}
 abbrev Owns : Option Bytes → List LeafView → LeafView → Type 0
 Owns from leaves leaf = (k : Bytes) → is_in_fences leaf k ≡ true → (starts_at_most from k ≡ true) × (leaf_at leaves k ≡ leaf)
 
-owns_later : (from : Option Bytes) (leaf : LeafView) (rest : List LeafView) (on : GoesOn from leaf rest) (other : LeafView)
+owns_later : (from : Option Bytes) (leaf : LeafView) (rest : List LeafView) (on : GoesOn from leaf rest)
+    (other : LeafView)
     → Owns (Some on.fence) rest other → Owns from (leaf ∷ rest) other
 owns_later from leaf rest on other owns k inside =
     let past : is_below k on.fence ≡ false = not-true (is_below k on.fence) (owns k inside).0 in
     let outside : is_in_fences leaf k ≡ false = rw (on.ends, past) (and_right (starts_at_most leaf.low_fence k) false refl) in
     (from_low from k on.fence past (starts_weaker from on.fence on.above), rw outside (owns k inside).1)
 
-owns_first : (from : Option Bytes) (leaf : LeafView) (rest : List LeafView) → leaf.low_fence ≡ from → Owns from (leaf ∷ rest) leaf
+owns_first : (from : Option Bytes) (leaf : LeafView) (rest : List LeafView) → leaf.low_fence ≡ from
+    → Owns from (leaf ∷ rest) leaf
 owns_first from leaf rest begins k inside = (
   subst (λ (low : Option Bytes). starts_at_most low k ≡ true) begins (and_parts (starts_at_most leaf.low_fence k) (ends_above leaf.high_fence k) inside).0,
   rw inside refl,
 )
 
-all_own : (from : Option Bytes) (leaves : List LeafView) → TileFrom from (parts_of leaves) → AllByRecursion (Owns from leaves) leaves
+all_own : (from : Option Bytes) (leaves : List LeafView) → TileFrom from (parts_of leaves)
+    → AllByRecursion (Owns from leaves) leaves
 all_own from [] tile = absurd tile
 all_own from (leaf ∷ rest) tile =
     elim (cases_tile from leaf rest tile) [
@@ -50,13 +53,15 @@ own_leaves leaves kept =
     leaves (all_own None leaves kept.tile)
 
 -- the new leaf of a split, and the one leaf of a merge
-pub the_upper : (P : LeafView → Type 0) (leaves : List LeafView) (p id d : ℕ) → may_split_at leaves p ≡ true → AllByRecursion P (split_at p id d leaves)
+pub the_upper : (P : LeafView → Type 0) (leaves : List LeafView) (p id d : ℕ) → may_split_at leaves p ≡ true
+    → AllByRecursion P (split_at p id d leaves)
     → P (upper_of (get_or leaves p first) (middle (get_or leaves p first)) id d)
 the_upper P [] p id d may all = absurd (true≢false (sym may))
 the_upper P (leaf ∷ leaves) zero id d may all = all.1.0
 the_upper P (leaf ∷ leaves) (suc p) id d may all = the_upper P leaves p id d may all.1
 
-pub the_merged : (P : LeafView → Type 0) (leaves : List LeafView) (p d : ℕ) → may_merge_at leaves p ≡ true → AllByRecursion P (merged_at p d leaves)
+pub the_merged : (P : LeafView → Type 0) (leaves : List LeafView) (p d : ℕ) → may_merge_at leaves p ≡ true
+    → AllByRecursion P (merged_at p d leaves)
     → P (joined_of (get_or leaves p first) (get_or leaves (p + 1) first) d)
 the_merged P [] p d may all = absurd (true≢false (sym may))
 the_merged P (leaf ∷ []) p d may all = absurd (true≢false (sym may))

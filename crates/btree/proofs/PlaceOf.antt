@@ -28,7 +28,8 @@ module _ (height : ℕ) (ns : List NodeView) (k : Bytes) (i q : ℕ) (are : AreC
   some_in : (j : ℕ) → j < length ns → 0 < length (get_or ns j nothing).leaves
   some_in j there = (all_get (IsChild height) ns j nothing there are).whole.some
 
-  starts_here : (r : ℕ) → r ≡ q → 0 < p → starts_at_most (get_or (get_or ns i nothing).leaves q first).low_fence k ≡ true
+  starts_here : (r : ℕ) → r ≡ q → 0 < p
+      → starts_at_most (get_or (get_or ns i nothing).leaves q first).low_fence k ≡ true
   starts_here zero is some =
       let low = low_first (get_or ns i nothing).leaves (some_in i node.there) in
       subst (λ (r : ℕ). starts_at_most (get_or (get_or ns i nothing).leaves r first).low_fence k ≡ true) is
@@ -67,13 +68,15 @@ module _ (height : ℕ) (ns : List NodeView) (k : Bytes) (i q : ℕ) (are : AreC
   pub inside_of_nodes : IsInside (under ns) k → is_in_fences (get_or (get_or ns i nothing).leaves q first) k ≡ true
   inside_of_nodes inside = ap (λ (leaf : LeafView). is_in_fences leaf k) (sym (leaf_in ns p i q here)) ∙ inside p place_of_nodes
 
-  pub leaf_of_nodes : (leaf : LeafView) → leaf ≡ get_or (get_or ns i nothing).leaves q first → IsLeafOf (under ns) k leaf
+  pub leaf_of_nodes : (leaf : LeafView) → leaf ≡ get_or (get_or ns i nothing).leaves q first
+      → IsLeafOf (under ns) k leaf
   leaf_of_nodes leaf is = record { place = p; at = place_of_nodes; is = is ∙ sym (leaf_in ns p i q here) }
 
 -- ---- among leaves that have all keys among them it is the place of the leaf that has the key
 
 -- where a key is below a fence, no leaf from that fence on begins at it or below
-none_begins : (fence : Bytes) (leaves : List LeafView) (q : ℕ) (k : Bytes) → TileFrom (Some fence) (parts_of leaves) → q < length leaves → is_below k fence ≡ true
+none_begins : (fence : Bytes) (leaves : List LeafView) (q : ℕ) (k : Bytes) → TileFrom (Some fence) (parts_of leaves)
+    → q < length leaves → is_below k fence ≡ true
     → starts_at_most (get_or leaves q first).low_fence k ≡ false
 none_begins fence [] q k tile within below = absurd tile
 none_begins fence (leaf ∷ leaves) zero k tile within below = rw (tile.0, below) refl
@@ -94,12 +97,14 @@ module _ (from : Option Bytes) (leaf : LeafView) (leaves : List LeafView) (k : B
             absurd (true≢false (sym (at.starts (omega arith)) ∙ none_begins on.fence leaves q k on.later (omega (arith, at.there)) below))
       ]
 
-  next_begins : (rest : List LeafView) (fence : Bytes) → TileFrom (Some fence) (parts_of rest) → is_below k fence ≡ false
+  next_begins : (rest : List LeafView) (fence : Bytes) → TileFrom (Some fence) (parts_of rest)
+      → is_below k fence ≡ false
       → (0 < length rest) × (starts_at_most (get_or rest 0 first).low_fence k ≡ true)
   next_begins [] fence later past = absurd later
   next_begins (next ∷ rest) fence later past = (omega arith, rw later.0 (starts_later k fence past))
 
-  in_later : (p : ℕ) → IsPlaceOf (leaf ∷ leaves) k p → LiesLater from leaf leaves k → ((q : ℕ) → IsPlaceOf leaves k q → q ≡ place_at leaves k) → p ≡ place_at leaves k + 1
+  in_later : (p : ℕ) → IsPlaceOf (leaf ∷ leaves) k p → LiesLater from leaf leaves k
+      → ((q : ℕ) → IsPlaceOf leaves k q → q ≡ place_at leaves k) → p ≡ place_at leaves k + 1
   in_later zero at later again =
       let begins = next_begins leaves later.on.fence later.on.later later.past in
       absurd (true≢false (sym begins.1 ∙ at.ends (omega (arith, begins.0))))
@@ -111,7 +116,8 @@ module _ (from : Option Bytes) (leaf : LeafView) (leaves : List LeafView) (k : B
       }) in
       omega (arith, same)
 
-found_from : (from : Option Bytes) (leaves : List LeafView) (k : Bytes) (p : ℕ) → TileFrom from (parts_of leaves) → starts_at_most from k ≡ true → IsPlaceOf leaves k p
+found_from : (from : Option Bytes) (leaves : List LeafView) (k : Bytes) (p : ℕ) → TileFrom from (parts_of leaves)
+    → starts_at_most from k ≡ true → IsPlaceOf leaves k p
     → p ≡ place_at leaves k
 found_from from [] k p tile starts at = absurd tile
 found_from from (leaf ∷ leaves) k p tile starts at =
@@ -123,5 +129,6 @@ found_from from (leaf ∷ leaves) k p tile starts at =
           (λ q found. found_from (Some later.on.fence) leaves k q later.on.later (starts_later k later.on.fence later.past) found))
     ]
 
-pub place_found : (leaves : List LeafView) (k : Bytes) (p : ℕ) → AreLeaves leaves → IsPlaceOf leaves k p → p ≡ place_at leaves k
+pub place_found : (leaves : List LeafView) (k : Bytes) (p : ℕ) → AreLeaves leaves → IsPlaceOf leaves k p
+    → p ≡ place_at leaves k
 place_found leaves k p kept at = found_from None leaves k p kept.tile refl at

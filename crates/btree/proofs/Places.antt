@@ -8,11 +8,13 @@ use Rattle.btree.specs.Lists.{leaf_of, leaves_in}
 use Rattle.btree.specs.Parting.{may_split, may_join, may_split_at, may_merge_at}
 
 -- the leaf in a box
-pub in_box : (boxes : List (Box LeafView Global)) (p : ℕ) (b : Box LeafView Global) → p < length boxes → b ≡ get_or boxes p b
+pub in_box : (boxes : List (Box LeafView Global)) (p : ℕ) (b : Box LeafView Global) → p < length boxes
+    → b ≡ get_or boxes p b
     → get_or (leaves_in boxes) p first ≡ b.value
 in_box boxes p b within is = get_or-map leaf_of boxes p b first within ∙ ap leaf_of (sym is)
 
-pub split_here : (leaves : List LeafView) (p : ℕ) → p < length leaves → may_split_at leaves p ≡ may_split (get_or leaves p first)
+pub split_here : (leaves : List LeafView) (p : ℕ) → p < length leaves
+    → may_split_at leaves p ≡ may_split (get_or leaves p first)
 split_here [] p within = absurd (omega (arith, within))
 split_here (leaf ∷ leaves) zero within = refl
 split_here (leaf ∷ leaves) (suc p) within = split_here leaves p (omega (arith, within))
@@ -22,7 +24,8 @@ split_nowhere [] p past = refl
 split_nowhere (leaf ∷ leaves) zero past = absurd (omega (arith, past))
 split_nowhere (leaf ∷ leaves) (suc p) past = split_nowhere leaves p (omega (arith, past))
 
-pub merge_here : (leaves : List LeafView) (p : ℕ) → p + 1 < length leaves → may_merge_at leaves p ≡ may_join (get_or leaves p first) (get_or leaves (suc p) first)
+pub merge_here : (leaves : List LeafView) (p : ℕ) → p + 1 < length leaves
+    → may_merge_at leaves p ≡ may_join (get_or leaves p first) (get_or leaves (suc p) first)
 merge_here [] p within = absurd (omega (arith, within))
 merge_here (leaf ∷ []) p within = absurd (omega (arith, within))
 merge_here (left ∷ right ∷ leaves) zero within = refl

@@ -70,7 +70,8 @@ module _ (l : ℕ) where
         eight = whole.eight;
       }
 
-  children_raised : (height : ℕ) (ns : List NodeView) → AreChildren height ns → AreChildren height (map (raised_node l) ns)
+  children_raised : (height : ℕ) (ns : List NodeView) → AreChildren height ns
+      → AreChildren height (map (raised_node l) ns)
   children_raised height [] are = tt
   children_raised height (n ∷ ns) are = (record { level = are.0.level; whole = whole_raised n are.0.whole }, children_raised height ns are.1)
 
@@ -82,15 +83,18 @@ pub record IsRaised (l : ℕ) (low : Option Bytes) (count : ℕ) (summary : Summ
   pub kept : IsNode low count summary new
   pub raised : seen new ≡ raised_node l (seen old)
 
-pub leaf_raised : (l : ℕ) (low : Option Bytes) (count : ℕ) (summary : Summary) (old new : Box LeafView Global) → IsNode low count summary (Leaf old)
+pub leaf_raised : (l : ℕ) (low : Option Bytes) (count : ℕ) (summary : Summary) (old new : Box LeafView Global)
+    → IsNode low count summary (Leaf old)
     → new.value ≡ raised_to old.value l → IsRaised l low count summary (Leaf old) (Leaf new)
 leaf_raised l low count summary old new kept is = record {
   kept = record { begins = kept.begins ∙ sym (ap (λ (leaf : LeafView). leaf.low_fence) is); counted = kept.counted; fits = kept.fits; summed = kept.summed ∙ sym (ap (λ (leaf : LeafView). summary_of (leaf ∷ [])) is); under_it = tt };
   raised = ap (λ (leaf : LeafView). record { leaves = leaf ∷ []; height = 0; kids = 0 }) is;
 }
 
-pub inner_raised : (l : ℕ) (low : Option Bytes) (count : ℕ) (summary : Summary) (xs ys : Vec NodeView Global) → IsNode low count summary (Inner xs)
-    → ys.items ≡ map (raised_node l) xs.items → vec_capacity ys ≡ vec_capacity xs → IsRaised l low count summary (Inner xs) (Inner ys)
+pub inner_raised : (l : ℕ) (low : Option Bytes) (count : ℕ) (summary : Summary) (xs ys : Vec NodeView Global)
+    → IsNode low count summary (Inner xs)
+    → ys.items ≡ map (raised_node l) xs.items → vec_capacity ys ≡ vec_capacity xs
+    → IsRaised l low count summary (Inner xs) (Inner ys)
 inner_raised l low count summary xs ys kept items room =
     let raised : over_nodes ys.items ≡ raised_node l (over_nodes xs.items) = ap over_nodes items ∙ nodes_raised l xs.items in
     let leaves : under ys.items ≡ map (λ leaf. raised_to leaf l) (under xs.items) = ap (λ (n : NodeView). n.leaves) raised in

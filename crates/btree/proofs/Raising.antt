@@ -19,7 +19,8 @@ module _ {X : Type 0} (f : X → X) where
   each_length (suc i) [] = refl
   each_length (suc i) (x ∷ xs) = ap suc (each_length i xs)
 
-  pub each_next : (i : ℕ) (xs : List X) (d : X) → i < length xs → set (each_below f i xs) i (f (get_or (each_below f i xs) i d)) ≡ each_below f (suc i) xs
+  pub each_next : (i : ℕ) (xs : List X) (d : X) → i < length xs
+      → set (each_below f i xs) i (f (get_or (each_below f i xs) i d)) ≡ each_below f (suc i) xs
   each_next i [] d within = absurd (omega (arith, within))
   each_next zero (x ∷ xs) d within = refl
   each_next (suc i) (x ∷ xs) d within = ap (λ (rest : List X). f x ∷ rest) (each_next i xs d (omega (arith, within)))
@@ -28,11 +29,13 @@ module _ {X : Type 0} (f : X → X) where
 abbrev pub raised_below : ℕ → ℕ → List LeafView → List LeafView
 raised_below l i leaves = each_below (λ leaf. raised_to leaf l) i leaves
 
-pub raised_all : (l : ℕ) (leaves : List LeafView) → raised_below l (length leaves) leaves ≡ map (λ leaf. raised_to leaf l) leaves
+pub raised_all : (l : ℕ) (leaves : List LeafView)
+    → raised_below l (length leaves) leaves ≡ map (λ leaf. raised_to leaf l) leaves
 raised_all l leaves = each_all (λ (leaf : LeafView). raised_to leaf l) leaves
 
 module _ {X : Type 0} (leaf_of : X → LeafView) where
-  pub raised_next : (xs : List X) (leaves : List LeafView) (l i : ℕ) (x d : X) → map leaf_of xs ≡ raised_below l i leaves → i < length leaves
+  pub raised_next : (xs : List X) (leaves : List LeafView) (l i : ℕ) (x d : X)
+      → map leaf_of xs ≡ raised_below l i leaves → i < length leaves
       → leaf_of x ≡ raised_to (leaf_of (get_or xs i d)) l → map leaf_of (set xs i x) ≡ raised_below l (suc i) leaves
   raised_next xs leaves l i x d are within is =
       map-set leaf_of xs i x

@@ -11,7 +11,8 @@ use Rattle.btree.proofs.Taken.{take_removed, drop_removed, drop_past, none_left}
 use Rattle.btree.proofs.Whole.{height_of, some_under}
 use Rattle.btree.proofs.Under.{under_more, under_inserted, under_removed, count_parts}
 
-pub count_removed : (ns : List NodeView) (i : ℕ) (d : NodeView) → i < length ns → length (under (remove ns i)) + length (get_or ns i d).leaves ≡ length (under ns)
+pub count_removed : (ns : List NodeView) (i : ℕ) (d : NodeView) → i < length ns
+    → length (under (remove ns i)) + length (get_or ns i d).leaves ≡ length (under ns)
 count_removed ns i d within =
     omega (arith, ap length (under_removed ns i), length-append (under (take i ns)) (under (drop (suc i) ns)), count_parts ns i d within)
 
@@ -46,7 +47,8 @@ module _ (ns : List NodeView) (place i rest : ℕ) (at : IsIn ns place i rest) (
   there = ap (λ (m : NodeView). m.leaves) (is ∙ get_or_default ns i child nothing at.there)
 
   -- a leaf taken out of a node that has others
-  pub without_leaf : (n : NodeView) → n.leaves ≡ remove child.leaves rest → under (insert (remove ns i) i n) ≡ remove (under ns) place
+  pub without_leaf : (n : NodeView) → n.leaves ≡ remove child.leaves rest
+      → under (insert (remove ns i) i n) ≡ remove (under ns) place
   without_leaf n left =
       put_again ns i at.there n
       ∙ ap (λ (leaves : List LeafView). under (take i ns) ++ (leaves ++ under (drop (suc i) ns))) (left ∙ ap (λ (leaves : List LeafView). remove leaves rest) there)
@@ -60,7 +62,8 @@ module _ (ns : List NodeView) (place i rest : ℕ) (at : IsIn ns place i rest) (
       ∙ ap (λ (leaves : List LeafView). under (take i ns) ++ (leaves ++ under (drop (suc i) ns))) (sym gone)
       ∙ sym (removed_in ns place i rest at)
 
-  pub count_reduced : (n : NodeView) → n.leaves ≡ remove child.leaves rest → length (under (remove ns i)) + length n.leaves + 1 ≡ length (under ns)
+  pub count_reduced : (n : NodeView) → n.leaves ≡ remove child.leaves rest
+      → length (under (remove ns i)) + length n.leaves + 1 ≡ length (under ns)
   count_reduced n left =
       omega (
         arith,
@@ -79,7 +82,8 @@ pub record AreReduced (old : List NodeView) (place : ℕ) (new : List NodeView) 
   pub some : 0 < length new
   pub most : length new ≤ 8
 
-pub reduced_over : (old : List NodeView) (place : ℕ) (new : List NodeView) → AreReduced old place new → IsReduced (suc (height_in old)) (over_nodes new)
+pub reduced_over : (old : List NodeView) (place : ℕ) (new : List NodeView) → AreReduced old place new
+    → IsReduced (suc (height_in old)) (over_nodes new)
 reduced_over old place new left = record {
   level = ap suc (height_of (height_in old) new left.some left.children);
   inner = omega arith;
@@ -88,5 +92,6 @@ reduced_over old place new left = record {
   eight = left.most;
 }
 
-pub count_fewer : (old : List NodeView) (place : ℕ) (new : List NodeView) → AreReduced old place new → place < length (under old) → length (under new) + 1 ≡ length (under old)
+pub count_fewer : (old : List NodeView) (place : ℕ) (new : List NodeView) → AreReduced old place new
+    → place < length (under old) → length (under new) + 1 ≡ length (under old)
 count_fewer old place new left within = omega (arith, ap length left.leaves, length-remove (under old) place within)

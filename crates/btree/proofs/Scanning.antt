@@ -25,7 +25,8 @@ abbrev pub found_in : Span → List LeafView → List Row
 found_in s [] = []
 found_in s (leaf ∷ leaves) = rows_in s leaf.rows ++ found_in s leaves
 
-found_rows : (s : Span) (leaves : List LeafView) → filter (λ (row : Row). is_within s row.0) (all_rows leaves) ≡ found_in s leaves
+found_rows : (s : Span) (leaves : List LeafView)
+    → filter (λ (row : Row). is_within s row.0) (all_rows leaves) ≡ found_in s leaves
 found_rows s [] = refl
 found_rows s (leaf ∷ leaves) =
     filter-append (λ (row : Row). is_within s row.0) (map.entries leaf.rows) (all_rows leaves)
@@ -37,7 +38,8 @@ found_all s leaves kept =
 
 -- ---- leaves that end at most where the range begins
 
-none_before : (s : Span) (from : Option Bytes) (leaf : LeafView) (rest : List LeafView) → IsLeaf leaf → LiesLater from leaf rest s.lo → rows_in s leaf.rows ≡ []
+none_before : (s : Span) (from : Option Bytes) (leaf : LeafView) (rest : List LeafView) → IsLeaf leaf
+    → LiesLater from leaf rest s.lo → rows_in s leaf.rows ≡ []
 none_before s from leaf rest kept later =
     none_pass (is_within s) (map.entries leaf.rows)
     (all_from _ _ (λ (row : Row) inside.
@@ -46,7 +48,8 @@ none_before s from leaf rest kept later =
     rw (below_free row.0 later.on.fence s.lo under later.past) refl)
     (map.entries leaf.rows) kept.rows)
 
-pub found_before : (s : Span) (from : Option Bytes) (leaves : List LeafView) → TileFrom from (parts_of leaves) → AllByRecursion IsLeaf leaves
+pub found_before : (s : Span) (from : Option Bytes) (leaves : List LeafView) → TileFrom from (parts_of leaves)
+    → AllByRecursion IsLeaf leaves
     → starts_at_most from s.lo ≡ true → found_in s leaves ≡ found_in s (drop (place_at leaves s.lo) leaves)
 found_before s from [] tile each starts = absurd tile
 found_before s from (leaf ∷ leaves) tile each starts =
@@ -60,14 +63,16 @@ found_before s from (leaf ∷ leaves) tile each starts =
 
 -- ---- leaves that begin where the range ends, or above
 
-past_end : (low high : Option Bytes) (x : Bytes) → is_past low high ≡ true → starts_at_most low x ≡ true → ends_above high x ≡ false
+past_end : (low high : Option Bytes) (x : Bytes) → is_past low high ≡ true → starts_at_most low x ≡ true
+    → ends_above high x ≡ false
 past_end None high x past starts = absurd (true≢false (sym past))
 past_end (Some low) None x past starts = absurd (true≢false (sym past))
 past_end (Some low) (Some high) x past starts =
     false_from_ne_true (is_below x high) (λ under.
     true≢false (sym (below_free x high low under (not-true (is_below low high) past)) ∙ not-true (is_below x low) starts))
 
-found_after : (s : Span) (from : Option Bytes) (leaf : LeafView) (rest : List LeafView) → TileFrom from (parts_of (leaf ∷ rest)) → AllByRecursion IsLeaf (leaf ∷ rest)
+found_after : (s : Span) (from : Option Bytes) (leaf : LeafView) (rest : List LeafView)
+    → TileFrom from (parts_of (leaf ∷ rest)) → AllByRecursion IsLeaf (leaf ∷ rest)
     → is_past leaf.low_fence s.hi ≡ true → found_in s (leaf ∷ rest) ≡ []
 found_after s from leaf rest tile each past =
     sym (found_rows s (leaf ∷ rest))
@@ -88,8 +93,10 @@ module _ {X : Type 0} (leaf_of : X → LeafView) (s : Span) where
       ∙ sym (append_assoc (rows_in s (leaf_of y).rows) (found_in s (map leaf_of (take i xs))) (rows_in s (leaf_of x).rows))
 
   -- where a leaf begins past the range, it and those after it have none of it
-  found_past : (from : Option Bytes) (xs : List X) (i : ℕ) (d : X) → TileFrom from (parts_of (map leaf_of xs)) → AllByRecursion IsLeaf (map leaf_of xs) → i < length xs
-      → is_past (leaf_of (get_or xs i d)).low_fence s.hi ≡ true → found_in s (map leaf_of xs) ≡ found_in s (map leaf_of (take i xs))
+  found_past : (from : Option Bytes) (xs : List X) (i : ℕ) (d : X) → TileFrom from (parts_of (map leaf_of xs))
+      → AllByRecursion IsLeaf (map leaf_of xs) → i < length xs
+      → is_past (leaf_of (get_or xs i d)).low_fence s.hi ≡ true
+      → found_in s (map leaf_of xs) ≡ found_in s (map leaf_of (take i xs))
   found_past from [] i d tile each within past = absurd tile
   found_past from (x ∷ xs) zero d tile each within past = found_after s from (leaf_of x) (map leaf_of xs) tile each past
   found_past from (x ∷ xs) (suc i) d tile each within past =
@@ -105,7 +112,8 @@ module _ {X : Type 0} (leaf_of : X → LeafView) (s : Span) where
     pub tile : TileFrom from (parts_of (map leaf_of xs))
     pub each : AllByRecursion IsLeaf (map leaf_of xs)
 
-  from_place : (from : Option Bytes) (xs : List X) (i : ℕ) → TileFrom from (parts_of (map leaf_of xs)) → AllByRecursion IsLeaf (map leaf_of xs) → i < length xs
+  from_place : (from : Option Bytes) (xs : List X) (i : ℕ) → TileFrom from (parts_of (map leaf_of xs))
+      → AllByRecursion IsLeaf (map leaf_of xs) → i < length xs
       → FromPlace (drop i xs)
   from_place from [] i tile each within = absurd tile
   from_place from (x ∷ xs) zero tile each within = record { from = from; tile = tile; each = each }
@@ -130,12 +138,14 @@ module _ {X : Type 0} (leaf_of : X → LeafView) (s : Span) where
         (ap (λ (q : ℕ). drop q (map leaf_of xs)) (sym at) ∙ drop_map p xs ∙ ap (λ (zs : List X). map leaf_of zs) (sym are))
 
     -- and so have those before one that begins past the range
-    pub found_stopped : (i : ℕ) (x : X) → p < length xs → i < length ys → x ≡ get_or ys i x → is_past (leaf_of x).low_fence s.hi ≡ true
+    pub found_stopped : (i : ℕ) (x : X) → p < length xs → i < length ys → x ≡ get_or ys i x
+        → is_past (leaf_of x).low_fence s.hi ≡ true
         → found_in s (map leaf_of (take i ys)) ≡ rows_in s (rows_of (map leaf_of xs))
     found_stopped i x within less is past =
         let suffix : FromPlace ys = subst (λ (zs : List X). FromPlace zs) (sym are) (from_place None xs p kept.tile kept.each within) in
         let there : is_past (leaf_of (get_or ys i x)).low_fence s.hi ≡ true = ap (λ (y : X). is_past (leaf_of y).low_fence s.hi) (sym is) ∙ past in
         sym (found_from ∙ found_past suffix.from ys i x suffix.tile suffix.each less there)
 
-    pub found_ended : (i : ℕ) → length ys ≤ i → found_in s (map leaf_of (take i ys)) ≡ rows_in s (rows_of (map leaf_of xs))
+    pub found_ended : (i : ℕ) → length ys ≤ i
+        → found_in s (map leaf_of (take i ys)) ≡ rows_in s (rows_of (map leaf_of xs))
     found_ended i le = sym (found_from ∙ ap (λ (zs : List X). found_in s (map leaf_of zs)) (sym (take_all i ys le)))

@@ -32,7 +32,8 @@ module _ {X : Type 0} (leaf_of : X → LeafView) where
   none_there (x ∷ xs) j alone within = let no : leaf_of x ∷ map leaf_of xs ≡ [] = alone in cc
 
   -- where a later leaf ends at most at a key, those after a fence begin at most there
-  past_fence : (fence : Bytes) (xs : List X) (j : ℕ) (d : X) (k : Bytes) → TileFrom (Some fence) (parts_of (map leaf_of xs)) → j < length xs
+  past_fence : (fence : Bytes) (xs : List X) (j : ℕ) (d : X) (k : Bytes)
+      → TileFrom (Some fence) (parts_of (map leaf_of xs)) → j < length xs
       → lies_under k (get_or xs j d) ≡ true → is_below k fence ≡ false
   past_fence fence [] j d k tile within under = absurd tile
   past_fence fence (x ∷ xs) j d k tile within under =
@@ -41,18 +42,21 @@ module _ {X : Type 0} (leaf_of : X → LeafView) where
         | inr on ↦ false_from_ne_true _ (λ below. true≢false (sym (below_trans k fence on.fence below on.above) ∙ later j within under on (past_fence on.fence xs)))
       ]
     where
-      never : (j : ℕ) → j < length (x ∷ xs) → lies_under k (get_or (x ∷ xs) j d) ≡ true → IsLast (Some fence) (leaf_of x) (map leaf_of xs) → ⊥
+      never : (j : ℕ) → j < length (x ∷ xs) → lies_under k (get_or (x ∷ xs) j d) ≡ true
+          → IsLast (Some fence) (leaf_of x) (map leaf_of xs) → ⊥
       never zero within under last = true≢false (sym (subst (λ (f : Option Bytes). not (ends_above f k) ≡ true) last.ends under))
       never (suc j) within under last = none_there xs j last.alone (omega (arith, within))
 
-      later : (j : ℕ) → j < length (x ∷ xs) → lies_under k (get_or (x ∷ xs) j d) ≡ true → (on : GoesOn (Some fence) (leaf_of x) (map leaf_of xs))
+      later : (j : ℕ) → j < length (x ∷ xs) → lies_under k (get_or (x ∷ xs) j d) ≡ true
+          → (on : GoesOn (Some fence) (leaf_of x) (map leaf_of xs))
           → ((j : ℕ) (d : X) (k : Bytes) → TileFrom (Some on.fence) (parts_of (map leaf_of xs)) → j < length xs → lies_under k (get_or xs j d) ≡ true → is_below k on.fence ≡ false)
           → is_below k on.fence ≡ false
       later zero within under on again = not-true (is_below k on.fence) (subst (λ (f : Option Bytes). not (ends_above f k) ≡ true) on.ends under)
       later (suc j) within under on again = again j d k on.later (omega (arith, within)) under
 
   -- no leaf that ends at most at a key comes after one that ends above it
-  pub ends_rise : (from : Option Bytes) (xs : List X) (k : Bytes) → TileFrom from (parts_of (map leaf_of xs)) → IsPartitionedBy (lies_under k) xs
+  pub ends_rise : (from : Option Bytes) (xs : List X) (k : Bytes) → TileFrom from (parts_of (map leaf_of xs))
+      → IsPartitionedBy (lies_under k) xs
   ends_rise from [] k tile i j d le within under = absurd (omega (arith, within))
   ends_rise from (x ∷ xs) k tile zero zero d le within under = under
   ends_rise from (x ∷ xs) k tile (suc i) zero d le within under = absurd (omega (arith, le))
@@ -71,8 +75,10 @@ module _ {X : Type 0} (leaf_of : X → LeafView) where
 
   -- ---- the place between those that end at most at a key and those that end above it
 
-  pub place_parted : (from : Option Bytes) (xs : List X) (k : Bytes) (p : ℕ) → TileFrom from (parts_of (map leaf_of xs)) → starts_at_most from k ≡ true
-      → IsPartitionPoint (λ (x : X). lies_under k x ≡ true) (λ (x : X). lies_under k x ≡ false) xs p → p ≤ length xs → p ≡ place_at (map leaf_of xs) k
+  pub place_parted : (from : Option Bytes) (xs : List X) (k : Bytes) (p : ℕ) → TileFrom from (parts_of (map leaf_of xs))
+      → starts_at_most from k ≡ true
+      → IsPartitionPoint (λ (x : X). lies_under k x ≡ true) (λ (x : X). lies_under k x ≡ false) xs p → p ≤ length xs
+      → p ≡ place_at (map leaf_of xs) k
   place_parted from [] k p tile starts parted within = absurd tile
   place_parted from (x ∷ xs) k p tile starts parted within =
       elim (where_lies from (leaf_of x) (map leaf_of xs) k tile starts) [
@@ -82,11 +88,15 @@ module _ {X : Type 0} (leaf_of : X → LeafView) where
             (after p parted within (rw (later.on.ends) later.past) (λ q parted within. place_parted (Some later.on.fence) xs k q later.on.later (starts_later k later.on.fence later.past) parted within))
       ]
     where
-      first : (p : ℕ) → IsPartitionPoint (λ (x : X). lies_under k x ≡ true) (λ (x : X). lies_under k x ≡ false) (x ∷ xs) p → ends_above (leaf_of x).high_fence k ≡ true → p ≡ 0
+      first : (p : ℕ)
+          → IsPartitionPoint (λ (x : X). lies_under k x ≡ true) (λ (x : X). lies_under k x ≡ false) (x ∷ xs) p
+          → ends_above (leaf_of x).high_fence k ≡ true → p ≡ 0
       first zero parted ends = refl
       first (suc p) parted ends = absurd (true≢false (sym (parted.0 0 x (omega arith) (omega arith)) ∙ ap not ends))
 
-      after : (p : ℕ) → IsPartitionPoint (λ (x : X). lies_under k x ≡ true) (λ (x : X). lies_under k x ≡ false) (x ∷ xs) p → p ≤ length (x ∷ xs)
+      after : (p : ℕ)
+          → IsPartitionPoint (λ (x : X). lies_under k x ≡ true) (λ (x : X). lies_under k x ≡ false) (x ∷ xs) p
+          → p ≤ length (x ∷ xs)
           → ends_above (leaf_of x).high_fence k ≡ false
           → ((q : ℕ) → IsPartitionPoint (λ (x : X). lies_under k x ≡ true) (λ (x : X). lies_under k x ≡ false) xs q → q ≤ length xs → q ≡ place_at (map leaf_of xs) k)
           → p ≡ place_at (map leaf_of xs) k + 1
@@ -103,7 +113,8 @@ module _ {X : Type 0} (leaf_of : X → LeafView) where
       let less : place_at (map leaf_of xs) k < length (map leaf_of xs) = there_from None (map leaf_of xs) k kept.tile refl in
       omega (arith, less, length-map xs leaf_of)
 
-  pub leaf_there : (xs : List X) (k : Bytes) (d : X) → place_at (map leaf_of xs) k < length xs → leaf_of (get_or xs (place_at (map leaf_of xs) k) d) ≡ leaf_at (map leaf_of xs) k
+  pub leaf_there : (xs : List X) (k : Bytes) (d : X) → place_at (map leaf_of xs) k < length xs
+      → leaf_of (get_or xs (place_at (map leaf_of xs) k) d) ≡ leaf_at (map leaf_of xs) k
   leaf_there [] k d within = absurd (omega (arith, within))
   leaf_there (x ∷ xs) k d within =
       elim (cases_Bool (is_in_fences (leaf_of x) k)) [
@@ -113,13 +124,16 @@ module _ {X : Type 0} (leaf_of : X → LeafView) where
             rw (later, add-one) (leaf_there xs k d (omega (arith, less)))
       ]
 
-  pub found : (xs : List X) (k : Bytes) (p : ℕ) (x : X) → AreLeaves (map leaf_of xs) → p ≡ place_at (map leaf_of xs) k → x ≡ get_or xs p x
+  pub found : (xs : List X) (k : Bytes) (p : ℕ) (x : X) → AreLeaves (map leaf_of xs) → p ≡ place_at (map leaf_of xs) k
+      → x ≡ get_or xs p x
       → leaf_of x ≡ leaf_at (map leaf_of xs) k
   found xs k p x kept at is = ap leaf_of (is ∙ ap (λ (q : ℕ). get_or xs q x) at) ∙ leaf_there xs k x (there_in xs k kept)
 
   -- the leaf there changed
-  pub changed_there : (change : LeafView → LeafView) (xs : List X) (k : Bytes) (x : X) → place_at (map leaf_of xs) k < length xs
-      → leaf_of x ≡ change (leaf_at (map leaf_of xs) k) → map leaf_of (set xs (place_at (map leaf_of xs) k) x) ≡ changed_at k change (map leaf_of xs)
+  pub changed_there : (change : LeafView → LeafView) (xs : List X) (k : Bytes) (x : X)
+      → place_at (map leaf_of xs) k < length xs
+      → leaf_of x ≡ change (leaf_at (map leaf_of xs) k)
+      → map leaf_of (set xs (place_at (map leaf_of xs) k) x) ≡ changed_at k change (map leaf_of xs)
   changed_there change [] k x within is = absurd (omega (arith, within))
   changed_there change (y ∷ xs) k x within is =
       elim (cases_Bool (is_in_fences (leaf_of y) k)) [
@@ -130,13 +144,15 @@ module _ {X : Type 0} (leaf_of : X → LeafView) where
       ]
 
   -- and put back as it was
-  pub same_there : (xs : List X) (p : ℕ) (x d : X) → leaf_of x ≡ leaf_of (get_or xs p d) → map leaf_of (set xs p x) ≡ map leaf_of xs
+  pub same_there : (xs : List X) (p : ℕ) (x d : X) → leaf_of x ≡ leaf_of (get_or xs p d)
+      → map leaf_of (set xs p x) ≡ map leaf_of xs
   same_there [] p x d is = refl
   same_there (y ∷ xs) zero x d is = ap (λ (leaf : LeafView). leaf ∷ map leaf_of xs) is
   same_there (y ∷ xs) (suc p) x d is = ap (λ (leaves : List LeafView). leaf_of y ∷ leaves) (same_there xs p x d is)
 
   -- a request at the leaf there is one among the leaves
-  pub performs_there : (xs : List X) (n : ℕ) (o : Op) (done : Done) (x : X) → place_at (map leaf_of xs) (key_of o) < length xs
+  pub performs_there : (xs : List X) (n : ℕ) (o : Op) (done : Done) (x : X)
+      → place_at (map leaf_of xs) (key_of o) < length xs
       → Performs (leaf_at (map leaf_of xs) (key_of o)) n o done (leaf_of x)
       → PerformsAt (map leaf_of xs) n o done (map leaf_of (set xs (place_at (map leaf_of xs) (key_of o)) x))
   performs_there xs n o done x within performs =
@@ -152,7 +168,8 @@ module _ {X : Type 0} (leaf_of : X → LeafView) where
 
   -- ---- what is put among them
 
-  pub split_there : (xs : List X) (p id d : ℕ) (x y : X) (leaf : LeafView) → may_split_at (map leaf_of xs) p ≡ true → leaf ≡ get_or (map leaf_of xs) p first
+  pub split_there : (xs : List X) (p id d : ℕ) (x y : X) (leaf : LeafView) → may_split_at (map leaf_of xs) p ≡ true
+      → leaf ≡ get_or (map leaf_of xs) p first
       → leaf_of x ≡ lower_of leaf (middle leaf) d → leaf_of y ≡ upper_of leaf (middle leaf) id d
       → map leaf_of (insert (set xs p x) (suc p) y) ≡ split_at p id d (map leaf_of xs)
   split_there [] p id d x y leaf may at under from = absurd (true≢false (sym may))

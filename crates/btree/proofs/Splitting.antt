@@ -19,15 +19,18 @@ none_to_split : (rest : List LeafView) (p : ℕ) → rest ≡ [] → may_split_a
 none_to_split rest p alone may = true≢false (sym may ∙ ap (λ (r : List LeafView). may_split_at r p) alone)
 
 -- what both halves have and the others had, all have
-pub all_split : (P : LeafView → Type 0) (id d : ℕ) → ((leaf : LeafView) → IsLeaf leaf → may_split leaf ≡ true → P leaf → P (lower_of leaf (middle leaf) d) × P (upper_of leaf (middle leaf) id d))
-    → (leaves : List LeafView) (p : ℕ) → AllByRecursion IsLeaf leaves → may_split_at leaves p ≡ true → AllByRecursion P leaves → AllByRecursion P (split_at p id d leaves)
+pub all_split : (P : LeafView → Type 0) (id d : ℕ)
+    → ((leaf : LeafView) → IsLeaf leaf → may_split leaf ≡ true → P leaf → P (lower_of leaf (middle leaf) d) × P (upper_of leaf (middle leaf) id d))
+    → (leaves : List LeafView) (p : ℕ) → AllByRecursion IsLeaf leaves → may_split_at leaves p ≡ true
+    → AllByRecursion P leaves → AllByRecursion P (split_at p id d leaves)
 all_split P id d halves [] p each may all = tt
 all_split P id d halves (leaf ∷ leaves) zero each may all = let both = halves leaf each.0 may all.0 in (both.0, (both.1, all.1))
 all_split P id d halves (leaf ∷ leaves) (suc p) each may all = (all.0, all_split P id d halves leaves p each.1 may all.1)
 
 -- ---- the keys of both halves
 
-split_first : (from : Option Bytes) (leaf : LeafView) (rest : List LeafView) (id d : ℕ) → IsInside (part_of leaf) (middle leaf) → TileFrom from (parts_of (leaf ∷ rest))
+split_first : (from : Option Bytes) (leaf : LeafView) (rest : List LeafView) (id d : ℕ)
+    → IsInside (part_of leaf) (middle leaf) → TileFrom from (parts_of (leaf ∷ rest))
     → TileFrom from (parts_of (lower_of leaf (middle leaf) d ∷ upper_of leaf (middle leaf) id d ∷ rest))
 split_first from leaf rest id d cut tile =
     let upper : LeafView = upper_of leaf (middle leaf) id d in
@@ -38,7 +41,8 @@ split_first from leaf rest id d cut tile =
     ] in
     (tile.0, (cut.above, later))
 
-pub tile_split : (from : Option Bytes) (leaves : List LeafView) (p id d : ℕ) → TileFrom from (parts_of leaves) → AllByRecursion IsLeaf leaves → may_split_at leaves p ≡ true
+pub tile_split : (from : Option Bytes) (leaves : List LeafView) (p id d : ℕ) → TileFrom from (parts_of leaves)
+    → AllByRecursion IsLeaf leaves → may_split_at leaves p ≡ true
     → TileFrom from (parts_of (split_at p id d leaves))
 tile_split from [] p id d tile each may = absurd tile
 tile_split from (leaf ∷ leaves) zero id d tile each may = split_first from leaf leaves id d (cuts_inside leaf each.0 may) tile
@@ -68,11 +72,13 @@ pub record HasUpper (id d : ℕ) (old new : LeafView) (k : Bytes) : Type 0 where
 abbrev pub IsHalfAt : ℕ → ℕ → LeafView → LeafView → Bytes → Type 0
 IsHalfAt id d old new k = (new ≡ old) ⊎ (HasLower d old new k ⊎ HasUpper id d old new k)
 
-not_in_lower : (leaf : LeafView) (k : Bytes) (d : ℕ) → IsInside (part_of leaf) (middle leaf) → is_in_fences leaf k ≡ false → is_in_fences (lower_of leaf (middle leaf) d) k ≡ false
+not_in_lower : (leaf : LeafView) (k : Bytes) (d : ℕ) → IsInside (part_of leaf) (middle leaf)
+    → is_in_fences leaf k ≡ false → is_in_fences (lower_of leaf (middle leaf) d) k ≡ false
 not_in_lower leaf k d cut outside =
     false_from_ne_true _ (λ inside. true≢false (sym (lower_between leaf.low_fence leaf.high_fence (middle leaf) k cut.under inside) ∙ outside))
 
-not_in_upper : (leaf : LeafView) (k : Bytes) (id d : ℕ) → IsInside (part_of leaf) (middle leaf) → is_in_fences leaf k ≡ false → is_in_fences (upper_of leaf (middle leaf) id d) k ≡ false
+not_in_upper : (leaf : LeafView) (k : Bytes) (id d : ℕ) → IsInside (part_of leaf) (middle leaf)
+    → is_in_fences leaf k ≡ false → is_in_fences (upper_of leaf (middle leaf) id d) k ≡ false
 not_in_upper leaf k id d cut outside =
     false_from_ne_true _ (λ inside. true≢false (sym (upper_between leaf.low_fence leaf.high_fence (middle leaf) k (starts_weaker leaf.low_fence (middle leaf) cut.above) inside) ∙ outside))
 
@@ -93,7 +99,8 @@ leaf_halved leaf rest id d k cut =
       | inr outside ↦ rw (outside, not_in_lower leaf k d cut outside, not_in_upper leaf k id d cut outside) (inl refl)
     ]
 
-pub leaf_split : (leaves : List LeafView) (p id d : ℕ) (k : Bytes) → AllByRecursion IsLeaf leaves → may_split_at leaves p ≡ true
+pub leaf_split : (leaves : List LeafView) (p id d : ℕ) (k : Bytes) → AllByRecursion IsLeaf leaves
+    → may_split_at leaves p ≡ true
     → IsHalfAt id d (leaf_at leaves k) (leaf_at (split_at p id d leaves) k) k
 leaf_split [] p id d k each may = inl refl
 leaf_split (leaf ∷ leaves) zero id d k each may = leaf_halved leaf leaves id d k (cuts_inside leaf each.0 may)

@@ -28,12 +28,14 @@ use Rattle.btree.proofs.Splitting.{all_split, tile_split}
 use Rattle.btree.proofs.Merging.{AreJoinable, joinable, pair_with, all_merged, tile_merged}
 use Rattle.btree.proofs.AtKey.{within_at, value_performed, value_not_performed, value_raised, value_split, value_merged, honest_merged_at}
 
-value_in : (leaves : List LeafView) (k : Bytes) → AreLeaves leaves → table.get (rows_of leaves) k ≡ table.get (leaf_at leaves k).rows k
+value_in : (leaves : List LeafView) (k : Bytes) → AreLeaves leaves
+    → table.get (rows_of leaves) k ≡ table.get (leaf_at leaves k).rows k
 value_in leaves k kept = value_from None leaves k kept.tile kept.each refl
 
 -- ---- an operation
 
-pub performed_leaves : (leaves : List LeafView) (n : ℕ) (o : Op) → AreLeaves leaves → captures (leaf_at leaves (key_of o)).ab n ≡ false → AreLeaves (performed_at leaves n o)
+pub performed_leaves : (leaves : List LeafView) (n : ℕ) (o : Op) → AreLeaves leaves
+    → captures (leaf_at leaves (key_of o)).ab n ≡ false → AreLeaves (performed_at leaves n o)
 performed_leaves leaves n o kept out = record {
   each = all_changed IsLeaf (key_of o) (λ leaf. performed leaf n o) leaves (kept_performed (leaf_at leaves (key_of o)) n o (within_at leaves (key_of o) kept) out) kept.each;
   tile = subst (λ (ps : List Part). TileFrom None ps) (sym (parts_changed (λ leaf. performed leaf n o) (λ leaf. refl) (key_of o) leaves)) kept.tile;
@@ -80,7 +82,8 @@ module _ (leaves : List LeafView) (n : ℕ) (o : Op) (kept : AreLeaves leaves) (
   }
 
 -- a request, or one that was refused
-pub asked_leaves : (old new : List LeafView) (n : ℕ) (o : Op) (result : Result Done Refusal) → IfOk result (λ done. PerformsAt old n o done new) → OnErr result (new ≡ old)
+pub asked_leaves : (old new : List LeafView) (n : ℕ) (o : Op) (result : Result Done Refusal)
+    → IfOk result (λ done. PerformsAt old n o done new) → OnErr result (new ≡ old)
     → AreLeaves old → AreLeaves new
 asked_leaves old new n o (Ok done) performs refused kept =
     elim (cases_Bool (captures (leaf_at old (key_of o)).ab n)) [
@@ -98,7 +101,8 @@ same_rows old new kept stays same = record {
   rows = same_table (rows_of new) (rows_of old) (λ k. value_in new k stays ∙ same k ∙ sym (value_in old k kept));
 }
 
-pub raised_stays : (leaves : List LeafView) (l : ℕ) → AreLeaves leaves → SameTable leaves (map (λ leaf. raised_to leaf l) leaves)
+pub raised_stays : (leaves : List LeafView) (l : ℕ) → AreLeaves leaves
+    → SameTable leaves (map (λ leaf. raised_to leaf l) leaves)
 raised_stays leaves l kept =
     let stays : AreLeaves (map (λ leaf. raised_to leaf l) leaves) = record {
       each = all_mapped IsLeaf IsLeaf (λ leaf. raised_to leaf l) (λ leaf is. kept_raised leaf l is) leaves kept.each;
@@ -106,7 +110,8 @@ raised_stays leaves l kept =
     } in
     same_rows leaves _ kept stays (λ k. value_raised leaves kept l k)
 
-pub split_stays : (leaves : List LeafView) (p id d : ℕ) → AreLeaves leaves → may_split_at leaves p ≡ true → SameTable leaves (split_at p id d leaves)
+pub split_stays : (leaves : List LeafView) (p id d : ℕ) → AreLeaves leaves → may_split_at leaves p ≡ true
+    → SameTable leaves (split_at p id d leaves)
 split_stays leaves p id d kept may =
     let stays : AreLeaves (split_at p id d leaves) = record {
       each = all_split IsLeaf id d (λ leaf is may again. (kept_lower leaf (middle leaf) d is, kept_upper leaf (middle leaf) id d is)) leaves p kept.each may kept.each;
@@ -114,7 +119,8 @@ split_stays leaves p id d kept may =
     } in
     same_rows leaves _ kept stays (λ k. value_split leaves kept p id d may k)
 
-pub merged_stays : (leaves : List LeafView) (p d : ℕ) → AreLeaves leaves → may_merge_at leaves p ≡ true → SameTable leaves (merged_at p d leaves)
+pub merged_stays : (leaves : List LeafView) (p d : ℕ) → AreLeaves leaves → may_merge_at leaves p ≡ true
+    → SameTable leaves (merged_at p d leaves)
 merged_stays leaves p d kept may =
     let stays : AreLeaves (merged_at p d leaves) = record {
       each = all_merged IsLeaf d leaves p
@@ -126,29 +132,34 @@ merged_stays leaves p d kept may =
 
 -- ---- honest leaves
 
-all_both : (P Q : LeafView → Type 0) (leaves : List LeafView) → AllByRecursion P leaves → AllByRecursion Q leaves → AllByRecursion (λ (leaf : LeafView). P leaf × Q leaf) leaves
+all_both : (P Q : LeafView → Type 0) (leaves : List LeafView) → AllByRecursion P leaves → AllByRecursion Q leaves
+    → AllByRecursion (λ (leaf : LeafView). P leaf × Q leaf) leaves
 all_both P Q [] one two = tt
 all_both P Q (leaf ∷ leaves) one two = ((one.0, two.0), all_both P Q leaves one.1 two.1)
 
-pub performed_honest : (log : List Record) (leaves : List LeafView) (n : ℕ) (o : Op) → AreHonest log leaves → IsNextOn log (leaf_at leaves (key_of o)) n o
+pub performed_honest : (log : List Record) (leaves : List LeafView) (n : ℕ) (o : Op) → AreHonest log leaves
+    → IsNextOn log (leaf_at leaves (key_of o)) n o
     → AreHonest log (performed_at leaves n o)
 performed_honest log leaves n o honest next =
     all_changed (IsHonestLeaf log) (key_of o) (λ leaf. performed leaf n o) leaves (λ right. leaf_performed log (leaf_at leaves (key_of o)) n o right next) honest
 
-pub raised_honest : (log : List Record) (leaves : List LeafView) (l : ℕ) → AreHonest log leaves → AllByRecursion (λ (leaf : LeafView). IsCapturedTo log leaf l) leaves
+pub raised_honest : (log : List Record) (leaves : List LeafView) (l : ℕ) → AreHonest log leaves
+    → AllByRecursion (λ (leaf : LeafView). IsCapturedTo log leaf l) leaves
     → AreHonest log (map (λ leaf. raised_to leaf l) leaves)
 raised_honest log leaves l honest captured =
     all_mapped (λ (leaf : LeafView). IsHonestLeaf log leaf × IsCapturedTo log leaf l) (IsHonestLeaf log) (λ leaf. raised_to leaf l)
     (λ leaf both. leaf_raised log leaf l both.0 both.1) leaves (all_both _ _ leaves honest captured)
 
-pub split_honest : (log : List Record) (leaves : List LeafView) (p id d : ℕ) → AreLeaves leaves → may_split_at leaves p ≡ true → AreHonest log leaves
+pub split_honest : (log : List Record) (leaves : List LeafView) (p id d : ℕ) → AreLeaves leaves
+    → may_split_at leaves p ≡ true → AreHonest log leaves
     → AreHonest log (split_at p id d leaves)
 split_honest log leaves p id d kept may honest =
     all_split (IsHonestLeaf log) id d (λ leaf is may right.
     let cut = inside_fences leaf (middle leaf) (cuts_inside leaf is may) in
     (honest_lower log leaf (middle leaf) d right cut, honest_upper log leaf (middle leaf) id d right cut)) leaves p kept.each may honest
 
-pub merged_honest : (log : List Record) (leaves : List LeafView) (p d : ℕ) → AreLeaves leaves → AreHonest log leaves → AreCaptured log leaves
+pub merged_honest : (log : List Record) (leaves : List LeafView) (p d : ℕ) → AreLeaves leaves → AreHonest log leaves
+    → AreCaptured log leaves
     → AreHonest log (merged_at p d leaves)
 merged_honest log leaves p d kept honest captured =
     all_merged (IsHonestLeaf log) d leaves p (honest_merged_at log leaves p d kept honest captured) honest

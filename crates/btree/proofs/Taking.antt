@@ -12,7 +12,8 @@ use Rattle.btree.specs.Steps.{TreeStep, Performs, Splits, Merges, Raises, MayTak
 use Rattle.btree.proofs.Stays.{performs_one, raised_stays, split_stays, merged_stays}
 
 -- the table that a step leaves is what further operations find
-further : (old new : List LeafView) (ops : List Op) (end : List LeafView) → rows_of new ≡ rows_of old → HasTable end (after_all (rows_of new) ops)
+further : (old new : List LeafView) (ops : List Op) (end : List LeafView) → rows_of new ≡ rows_of old
+    → HasTable end (after_all (rows_of new) ops)
     → HasTable end (after_all (rows_of old) ops)
 further old new ops end same has = subst (λ (m : Table). HasTable end (after_all m ops)) same has
 

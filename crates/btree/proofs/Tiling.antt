@@ -25,7 +25,8 @@ pub record GoesOn (from : Option Bytes) (leaf : LeafView) (rest : List LeafView)
   pub above : starts_below from fence ≡ true
   pub later : TileFrom (Some fence) (parts_of rest)
 
-pub cases_tile : (from : Option Bytes) (leaf : LeafView) (rest : List LeafView) → TileFrom from (parts_of (leaf ∷ rest)) → IsLast from leaf rest ⊎ GoesOn from leaf rest
+pub cases_tile : (from : Option Bytes) (leaf : LeafView) (rest : List LeafView) → TileFrom from (parts_of (leaf ∷ rest))
+    → IsLast from leaf rest ⊎ GoesOn from leaf rest
 cases_tile from leaf rest tile =
     pick leaf.high_fence refl tile.1
   where
@@ -42,10 +43,12 @@ cases_tile from leaf rest tile =
           later = on.1;
         })
 
-pub tile_last : (from : Option Bytes) (leaf : LeafView) → leaf.low_fence ≡ from → leaf.high_fence ≡ None → TileFrom from (parts_of (leaf ∷ []))
+pub tile_last : (from : Option Bytes) (leaf : LeafView) → leaf.low_fence ≡ from → leaf.high_fence ≡ None
+    → TileFrom from (parts_of (leaf ∷ []))
 tile_last from leaf begins ends = (begins, rw ends refl)
 
-pub tile_on : (from : Option Bytes) (leaf : LeafView) (rest : List LeafView) (fence : Bytes) → leaf.low_fence ≡ from → leaf.high_fence ≡ Some fence
+pub tile_on : (from : Option Bytes) (leaf : LeafView) (rest : List LeafView) (fence : Bytes) → leaf.low_fence ≡ from
+    → leaf.high_fence ≡ Some fence
     → starts_below from fence ≡ true → TileFrom (Some fence) (parts_of rest) → TileFrom from (parts_of (leaf ∷ rest))
 tile_on from leaf rest fence begins ends above later = (begins, rw (ends, begins) (above, later))
 
@@ -57,14 +60,17 @@ pub record LiesLater (from : Option Bytes) (leaf : LeafView) (rest : List LeafVi
   pub past : is_below k on.fence ≡ false
   pub outside : is_in_fences leaf k ≡ false
 
-in_last : (from : Option Bytes) (leaf : LeafView) (rest : List LeafView) (k : Bytes) → IsLast from leaf rest → starts_at_most from k ≡ true → is_in_fences leaf k ≡ true
+in_last : (from : Option Bytes) (leaf : LeafView) (rest : List LeafView) (k : Bytes) → IsLast from leaf rest
+    → starts_at_most from k ≡ true → is_in_fences leaf k ≡ true
 in_last from leaf rest k last starts = rw (last.begins, last.ends, starts) refl
 
-in_first : (from : Option Bytes) (leaf : LeafView) (rest : List LeafView) (k : Bytes) (on : GoesOn from leaf rest) → starts_at_most from k ≡ true
+in_first : (from : Option Bytes) (leaf : LeafView) (rest : List LeafView) (k : Bytes) (on : GoesOn from leaf rest)
+    → starts_at_most from k ≡ true
     → is_in_fences leaf k ≡ is_below k on.fence
 in_first from leaf rest k on starts = rw (on.begins, on.ends, starts) refl
 
-pub where_lies : (from : Option Bytes) (leaf : LeafView) (rest : List LeafView) (k : Bytes) → TileFrom from (parts_of (leaf ∷ rest)) → starts_at_most from k ≡ true
+pub where_lies : (from : Option Bytes) (leaf : LeafView) (rest : List LeafView) (k : Bytes)
+    → TileFrom from (parts_of (leaf ∷ rest)) → starts_at_most from k ≡ true
     → (is_in_fences leaf k ≡ true) ⊎ LiesLater from leaf rest k
 where_lies from leaf rest k tile starts =
     elim (cases_tile from leaf rest tile) [
@@ -78,7 +84,8 @@ where_lies from leaf rest k tile starts =
 pub starts_later : (k fence : Bytes) → is_below k fence ≡ false → starts_at_most (Some fence) k ≡ true
 starts_later k fence past = not_from_false (is_below k fence) past
 
-pub within_from : (from : Option Bytes) (leaves : List LeafView) (k : Bytes) → TileFrom from (parts_of leaves) → starts_at_most from k ≡ true
+pub within_from : (from : Option Bytes) (leaves : List LeafView) (k : Bytes) → TileFrom from (parts_of leaves)
+    → starts_at_most from k ≡ true
     → is_in_fences (leaf_at leaves k) k ≡ true
 within_from from [] k tile starts = absurd tile
 within_from from (leaf ∷ leaves) k tile starts =
@@ -87,7 +94,8 @@ within_from from (leaf ∷ leaves) k tile starts =
       | inr later ↦ rw later.outside (within_from (Some later.on.fence) leaves k later.on.later (starts_later k later.on.fence later.past))
     ]
 
-pub there_from : (from : Option Bytes) (leaves : List LeafView) (k : Bytes) → TileFrom from (parts_of leaves) → starts_at_most from k ≡ true
+pub there_from : (from : Option Bytes) (leaves : List LeafView) (k : Bytes) → TileFrom from (parts_of leaves)
+    → starts_at_most from k ≡ true
     → place_at leaves k < length leaves
 there_from from [] k tile starts = absurd tile
 there_from from (leaf ∷ leaves) k tile starts =
@@ -101,7 +109,8 @@ there_from from (leaf ∷ leaves) k tile starts =
 -- ---- two keys in one leaf
 
 -- what lies in the leaf of a key lies where the leaves begin, or above
-held_from : (from : Option Bytes) (leaves : List LeafView) (k q : Bytes) → TileFrom from (parts_of leaves) → starts_at_most from k ≡ true
+held_from : (from : Option Bytes) (leaves : List LeafView) (k q : Bytes) → TileFrom from (parts_of leaves)
+    → starts_at_most from k ≡ true
     → is_in_fences (leaf_at leaves k) q ≡ true → starts_at_most from q ≡ true
 held_from from [] k q tile starts inside = absurd tile
 held_from from (leaf ∷ leaves) k q tile starts inside =
@@ -125,7 +134,8 @@ held_out from leaf rest k q later inside =
     rw (later.on.ends, not-true (is_below q later.on.fence) above) (and_right (starts_at_most leaf.low_fence q) false refl)
 
 -- a key that lies in the leaf of another has that very leaf
-pub same_from : (from : Option Bytes) (leaves : List LeafView) (k q : Bytes) → TileFrom from (parts_of leaves) → starts_at_most from k ≡ true
+pub same_from : (from : Option Bytes) (leaves : List LeafView) (k q : Bytes) → TileFrom from (parts_of leaves)
+    → starts_at_most from k ≡ true
     → is_in_fences (leaf_at leaves k) q ≡ true → leaf_at leaves q ≡ leaf_at leaves k
 same_from from [] k q tile starts inside = absurd tile
 same_from from (leaf ∷ leaves) k q tile starts inside =

@@ -26,7 +26,8 @@ no_end : (low high : Option Bytes) (rows : List Row) → LieBetween low high row
 no_end low high rows between =
     all_from _ _ (λ (row : Row) inside. and_from (starts_at_most low row.0) true (and_parts (starts_at_most low row.0) (ends_above high row.0) inside).0 refl) rows between
 
-only_rows : (from : Option Bytes) (leaf : LeafView) (rest : List LeafView) → IsLast from leaf rest → IsLeaf leaf → Ordered from (all_rows (leaf ∷ rest))
+only_rows : (from : Option Bytes) (leaf : LeafView) (rest : List LeafView) → IsLast from leaf rest → IsLeaf leaf
+    → Ordered from (all_rows (leaf ∷ rest))
 only_rows from leaf rest last kept =
     rw (last.alone, append-nil (map.entries leaf.rows))
     (record {
@@ -34,13 +35,16 @@ only_rows from leaf rest last kept =
       above = subst (λ (low : Option Bytes). LieBetween low None (map.entries leaf.rows)) last.begins (no_end leaf.low_fence leaf.high_fence (map.entries leaf.rows) kept.rows);
     })
 
-pub rows_apart : (from : Option Bytes) (leaf : LeafView) (rest : List LeafView) (on : GoesOn from leaf rest) (more : List Row) → IsLeaf leaf
+pub rows_apart : (from : Option Bytes) (leaf : LeafView) (rest : List LeafView) (on : GoesOn from leaf rest)
+    (more : List Row)
+    → IsLeaf leaf
     → LieBetween (Some on.fence) None more → Apart on.fence (map.entries leaf.rows) more
 rows_apart from leaf rest on more kept above =
     apart_of leaf.low_fence None on.fence (map.entries leaf.rows) more
     (subst (λ (f : Option Bytes). LieBetween leaf.low_fence f (map.entries leaf.rows)) on.ends kept.rows) above
 
-more_rows : (from : Option Bytes) (leaf : LeafView) (rest : List LeafView) (on : GoesOn from leaf rest) → IsLeaf leaf → Ordered (Some on.fence) (all_rows rest)
+more_rows : (from : Option Bytes) (leaf : LeafView) (rest : List LeafView) (on : GoesOn from leaf rest) → IsLeaf leaf
+    → Ordered (Some on.fence) (all_rows rest)
     → Ordered from (all_rows (leaf ∷ rest))
 more_rows from leaf rest on kept ordered = record {
   rising = ordered_both on.fence (map.entries leaf.rows) (all_rows rest) (own_rows leaf.rows) ordered.rising
@@ -50,7 +54,8 @@ more_rows from leaf rest on kept ordered = record {
       (all_from _ _ (λ (row : Row) inside. upper_between from None on.fence row.0 (starts_weaker from on.fence on.above) inside) (all_rows rest) ordered.above);
 }
 
-pub ordered_from : (from : Option Bytes) (leaves : List LeafView) → TileFrom from (parts_of leaves) → AllByRecursion IsLeaf leaves → Ordered from (all_rows leaves)
+pub ordered_from : (from : Option Bytes) (leaves : List LeafView) → TileFrom from (parts_of leaves)
+    → AllByRecursion IsLeaf leaves → Ordered from (all_rows leaves)
 ordered_from from [] tile each = absurd tile
 ordered_from from (leaf ∷ leaves) tile each =
     elim (cases_tile from leaf leaves tile) [
@@ -86,10 +91,12 @@ module _ (from : Option Bytes) (leaf : LeafView) (rest : List LeafView) (on : Go
   value_first k here =
       value_under k (subst (λ (f : Option Bytes). ends_above f k ≡ true) on.ends (and_parts (starts_at_most leaf.low_fence k) (ends_above leaf.high_fence k) here).1)
 
-value_alone : (from : Option Bytes) (leaf : LeafView) (rest : List LeafView) → IsLast from leaf rest → rows_of (leaf ∷ rest) ≡ leaf.rows
+value_alone : (from : Option Bytes) (leaf : LeafView) (rest : List LeafView) → IsLast from leaf rest
+    → rows_of (leaf ∷ rest) ≡ leaf.rows
 value_alone from leaf rest last = rw (last.alone, append-nil (map.entries leaf.rows)) (table_again leaf.rows)
 
-value_here : (from : Option Bytes) (leaf : LeafView) (rest : List LeafView) (k : Bytes) → TileFrom from (parts_of (leaf ∷ rest)) → AllByRecursion IsLeaf (leaf ∷ rest)
+value_here : (from : Option Bytes) (leaf : LeafView) (rest : List LeafView) (k : Bytes)
+    → TileFrom from (parts_of (leaf ∷ rest)) → AllByRecursion IsLeaf (leaf ∷ rest)
     → is_in_fences leaf k ≡ true → map.get (rows_of (leaf ∷ rest)) k ≡ map.get leaf.rows k
 value_here from leaf rest k tile each here =
     elim (cases_tile from leaf rest tile) [
@@ -97,7 +104,8 @@ value_here from leaf rest k tile each here =
       | inr on ↦ value_first from leaf rest on each.0 (ordered_from (Some on.fence) rest on.later each.1) k here
     ]
 
-pub value_from : (from : Option Bytes) (leaves : List LeafView) (k : Bytes) → TileFrom from (parts_of leaves) → AllByRecursion IsLeaf leaves
+pub value_from : (from : Option Bytes) (leaves : List LeafView) (k : Bytes) → TileFrom from (parts_of leaves)
+    → AllByRecursion IsLeaf leaves
     → starts_at_most from k ≡ true → map.get (rows_of leaves) k ≡ map.get (leaf_at leaves k).rows k
 value_from from [] k tile each starts = absurd tile
 value_from from (leaf ∷ leaves) k tile each starts =

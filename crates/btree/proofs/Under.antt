@@ -10,7 +10,8 @@ under_append [] ms = refl
 under_append (n ∷ ns) ms = ap (λ (more : List LeafView). n.leaves ++ more) (under_append ns ms) ∙ sym (append_assoc n.leaves (under ns) (under ms))
 
 -- one node more
-pub under_more : (ns : List NodeView) (i : ℕ) (d : NodeView) → i < length ns → under (take (suc i) ns) ≡ under (take i ns) ++ (get_or ns i d).leaves
+pub under_more : (ns : List NodeView) (i : ℕ) (d : NodeView) → i < length ns
+    → under (take (suc i) ns) ≡ under (take i ns) ++ (get_or ns i d).leaves
 under_more [] i d within = absurd (omega (arith, within))
 under_more (n ∷ ns) zero d within = append-nil n.leaves
 under_more (n ∷ ns) (suc i) d within =
@@ -57,13 +58,16 @@ lies_later (n ∷ m ∷ ns) (suc i) place d there within past =
 pub under_halves : (ns : List NodeView) (i : ℕ) → under ns ≡ under (take i ns) ++ under (drop i ns)
 under_halves ns i = ap under (sym (take-append-drop i ns)) ∙ under_append (take i ns) (drop i ns)
 
-pub count_halves : (ns : List NodeView) (i : ℕ) → length (under ns) ≡ length (under (take i ns)) + length (under (drop i ns))
+pub count_halves : (ns : List NodeView) (i : ℕ)
+    → length (under ns) ≡ length (under (take i ns)) + length (under (drop i ns))
 count_halves ns i = ap length (under_halves ns i) ∙ length-append (under (take i ns)) (under (drop i ns))
 
-pub under_inserted : (ns : List NodeView) (i : ℕ) (n : NodeView) → under (insert ns i n) ≡ under (take i ns) ++ (n.leaves ++ under (drop i ns))
+pub under_inserted : (ns : List NodeView) (i : ℕ) (n : NodeView)
+    → under (insert ns i n) ≡ under (take i ns) ++ (n.leaves ++ under (drop i ns))
 under_inserted ns i n = under_append (take i ns) (n ∷ drop i ns)
 
-pub count_inserted : (ns : List NodeView) (i : ℕ) (n : NodeView) → length (under (insert ns i n)) ≡ length (under ns) + length n.leaves
+pub count_inserted : (ns : List NodeView) (i : ℕ) (n : NodeView)
+    → length (under (insert ns i n)) ≡ length (under ns) + length n.leaves
 count_inserted ns i n =
     omega (arith, ap length (under_inserted ns i n), length-append (under (take i ns)) (n.leaves ++ under (drop i ns)), length-append n.leaves (under (drop i ns)), count_halves ns i)
 

@@ -19,7 +19,8 @@ module _ (s : Span) (leaves : List LeafView) (p : ℕ) where
   within : (q : ℕ) → p ≤ q → q < length leaves → q - p < length (drop p leaves)
   within q le less = omega (arith, le, less, length-drop p leaves)
 
-  pub found_next : (q : ℕ) (x : LeafView) → p ≤ q → q < length leaves → x ≡ get_or leaves q first → found_to (suc q) ≡ found_to q ++ rows_in s x.rows
+  pub found_next : (q : ℕ) (x : LeafView) → p ≤ q → q < length leaves → x ≡ get_or leaves q first
+      → found_to (suc q) ≡ found_to q ++ rows_in s x.rows
   found_next q x le less is =
       let ys : List LeafView = drop p leaves in
       let next : suc q - p ≡ suc (q - p) = omega (arith, le) in
@@ -39,7 +40,8 @@ module _ (s : Span) (leaves : List LeafView) (p : ℕ) where
     all_as = ap (λ (ls : List LeafView). rows_in s (rows_of ls)) (map-id leaves)
 
     -- up to a leaf that begins past the range, or to the last one, they are all of them
-    pub found_past : (q : ℕ) (x : LeafView) → p ≤ q → q < length leaves → x ≡ get_or leaves q first → is_past x.low_fence s.hi ≡ true
+    pub found_past : (q : ℕ) (x : LeafView) → p ≤ q → q < length leaves → x ≡ get_or leaves q first
+        → is_past x.low_fence s.hi ≡ true
         → found_to q ≡ rows_in s (rows_of leaves)
     found_past q x le less is past =
         let ys : List LeafView = drop p leaves in

@@ -42,7 +42,8 @@ some_under height [] some are = absurd (omega (arith, some))
 some_under height (n ∷ ns) some are = omega (arith, length-append n.leaves (under ns), are.0.whole.some)
 
 -- a node over two to eight of them
-pub child_over : (height : ℕ) (ns : List NodeView) → AreChildren height ns → 2 ≤ length ns → length ns ≤ 8 → IsChild (suc height) (over_nodes ns)
+pub child_over : (height : ℕ) (ns : List NodeView) → AreChildren height ns → 2 ≤ length ns → length ns ≤ 8
+    → IsChild (suc height) (over_nodes ns)
 child_over height ns are two eight = record {
   level = ap suc (height_of height ns (omega (arith, two)) are);
   whole = record {

@@ -20,7 +20,8 @@ split_reads = both number_reads (both key_reads image_reads)
 merge_reads : IsReader (ℕ × (ℕ × LeafImage)) (λ p. number p.0 ++ (number p.1.0 ++ image_bytes p.1.1)) (λ p. (IsNumber p.0 × (IsNumber p.1.0 × IsImage p.1.1)) × (eqb p.1.1.id p.0 ≡ true)) merge_at
 merge_reads = where_reads _ _ _ _ (both number_reads (both number_reads image_reads)) (λ p. eqb p.1.1.id p.0)
 
-dc_record_again : (r : DcRecord) (rest : List ℕ) → IsDcRecord r → dc_record_at (dc_record_bytes r ++ rest) ≡ Some (r, rest)
+dc_record_again : (r : DcRecord) (rest : List ℕ) → IsDcRecord r
+    → dc_record_at (dc_record_bytes r ++ rest) ≡ Some (r, rest)
 unfolding dc_record_bytes dc_record_at
 dc_record_again (is.Accept session) rest fits = made_again number_reads (λ n. is.Accept n) session rest fits
 dc_record_again (is.Split left cut right) rest fits = made_again split_reads (λ p. is.Split p.0 p.1.0 p.1.1) (left, (cut, right)) rest fits
@@ -43,7 +44,8 @@ dc_record_reads = record {
   again = dc_record_again;
 }
 
-pub split_length : (left : ℕ) (cut : Bytes) (right : LeafImage) → length (dc_record_bytes (is.Split left cut right)) ≡ 9 + (length (text cut) + length (image_bytes right))
+pub split_length : (left : ℕ) (cut : Bytes) (right : LeafImage)
+    → length (dc_record_bytes (is.Split left cut right)) ≡ 9 + (length (text cut) + length (image_bytes right))
 unfolding dc_record_bytes
 split_length left cut right = omega (arith, numbers_length left (text cut ++ image_bytes right), length-append (text cut) (image_bytes right))
 

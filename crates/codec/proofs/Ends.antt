@@ -22,7 +22,8 @@ pub record IsEnd (limit place : ℕ) (left : List ℕ) (end : FrameEnd) : Type 0
   pub short : (end ≡ ends.Short) ↔ IsCut limit left
   pub bad : (end ≡ ends.Bad) ↔ IsNoLength limit left
 
-short_end : (limit place : ℕ) (left : List ℕ) → IsCut limit left → (IsWholeFrame limit left → ⊥) → (IsNoLength limit left → ⊥)
+short_end : (limit place : ℕ) (left : List ℕ) → IsCut limit left → (IsWholeFrame limit left → ⊥)
+    → (IsNoLength limit left → ⊥)
     → IsEnd limit place left ends.Short
 short_end limit place left broken not_whole not_bad = record {
   whole = λ next. (λ e. absurd cc, λ h. absurd (not_whole h.0));
@@ -30,7 +31,8 @@ short_end limit place left broken not_whole not_bad = record {
   bad = (λ e. absurd cc, λ h. absurd (not_bad h));
 }
 
-bad_end : (limit place : ℕ) (left : List ℕ) → IsNoLength limit left → (IsWholeFrame limit left → ⊥) → (IsCut limit left → ⊥)
+bad_end : (limit place : ℕ) (left : List ℕ) → IsNoLength limit left → (IsWholeFrame limit left → ⊥)
+    → (IsCut limit left → ⊥)
     → IsEnd limit place left ends.Bad
 bad_end limit place left bad not_whole not_cut = record {
   whole = λ next. (λ e. absurd cc, λ h. absurd (not_whole h.0));
@@ -38,7 +40,8 @@ bad_end limit place left bad not_whole not_cut = record {
   bad = (λ e. bad, λ h. refl);
 }
 
-whole_end : (limit place : ℕ) (left : List ℕ) → IsWholeFrame limit left → (IsCut limit left → ⊥) → (IsNoLength limit left → ⊥)
+whole_end : (limit place : ℕ) (left : List ℕ) → IsWholeFrame limit left → (IsCut limit left → ⊥)
+    → (IsNoLength limit left → ⊥)
     → IsEnd limit place left (ends.At (place + (8 + first_number left)))
 whole_end limit place left entire not_cut not_bad = record {
   whole = λ next. (λ e. (entire, cc), λ h. ap (λ (n : ℕ). ends.At n) (sym h.1));
@@ -79,7 +82,8 @@ end_told limit place left =
           rw is (whole_end limit place left h (λ cut. cut_or_whole limit left cut h) (whole_or_bad limit left h))
     ]
 
-pub ends_so : (limit place : ℕ) (left : List ℕ) (t : Taken Bytes) → t ≡ frame_at limit place left → IsEnd limit place left (end_of t)
+pub ends_so : (limit place : ℕ) (left : List ℕ) (t : Taken Bytes) → t ≡ frame_at limit place left
+    → IsEnd limit place left (end_of t)
 ends_so limit place left t e = subst (λ (t : Taken Bytes). IsEnd limit place left (end_of t)) (sym e) (end_told limit place left)
 
 -- a body that was taken, of which this holds

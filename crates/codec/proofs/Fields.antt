@@ -66,7 +66,8 @@ count_reads = below_reads (2 ^ 64) (omega arith)
 
 -- ---- texts
 
-bytes_takes : (bytes : List ℕ) (x : Bytes × List ℕ) → IsBytes bytes → bytes_at bytes ≡ Some x → Takes bytes (text x.0) x.1
+bytes_takes : (bytes : List ℕ) (x : Bytes × List ℕ) → IsBytes bytes → bytes_at bytes ≡ Some x
+    → Takes bytes (text x.0) x.1
 unfolding bytes_at
 bytes_takes [] x fits e = absurd cc
 bytes_takes (n ∷ rest) x fits e =
@@ -139,7 +140,8 @@ optional_again X spell Fits read law (Some x) rest fits = mapped_again X (Option
 
 -- what is read behind a flag
 after_flag : (X : Type 0) (spell : X → List ℕ) (Fits : X → Type 0) (read : Reader X) → IsReader X spell Fits read →
-    (b : Bool) (bytes rest : List ℕ) (x : Option X × List ℕ) → Takes bytes (flag b) rest → cond b (mapped (λ x. Some x) read rest) (Some (None, rest)) ≡ Some x
+    (b : Bool) (bytes rest : List ℕ) (x : Option X × List ℕ) → Takes bytes (flag b) rest
+    → cond b (mapped (λ x. Some x) read rest) (Some (None, rest)) ≡ Some x
     → Takes bytes (optional spell x.0) x.1 × IfSome x.0 Fits
 after_flag X spell Fits read law false bytes rest x front e =
     let made : Option X × List ℕ = (None, rest) in
@@ -151,7 +153,8 @@ after_flag X spell Fits read law true bytes rest x front e =
     subst (λ (z : Option X × List ℕ). Takes bytes (optional spell z.0) z.1 × IfSome z.0 Fits) (same_Some made x a.2)
     (Takes-then bytes (flag true) rest (spell a.0.0) a.0.1 front t.0, t.1)
 
-pub optional_reads : (X : Type 0) (spell : X → List ℕ) (Fits : X → Type 0) (read : Reader X) → IsReader X spell Fits read → IsReader (Option X) (optional spell) (λ o. IfSome o Fits) (optional_at read)
+pub optional_reads : (X : Type 0) (spell : X → List ℕ) (Fits : X → Type 0) (read : Reader X)
+    → IsReader X spell Fits read → IsReader (Option X) (optional spell) (λ o. IfSome o Fits) (optional_at read)
 optional_reads X spell Fits read law = record {
   takes = λ bytes x fits e.
       let a = bind_some (flag_at bytes) (λ f. cond f.0 (mapped (λ x. Some x) read f.1) (Some (None, f.1))) x e in
@@ -175,7 +178,8 @@ op_again (Update key value) rest fits = mapped_again (Bytes × Bytes) Op row_tex
 op_again (Upsert key value) rest fits = mapped_again (Bytes × Bytes) Op row_text IsRow row_at row_reads (λ p. Upsert p.0 p.1) (key, value) rest fits
 op_again (Delete key) rest fits = mapped_again Bytes Op text IsKey key_at key_reads (λ k. Delete k) key rest fits
 
-row_choice : (kind : ℕ) (make : Bytes × Bytes → Op) → ((r : Bytes × Bytes) → op_bytes (make r) ≡ kind ∷ row_text r) → ((r : Bytes × Bytes) → IsRow r → IsOp (make r)) → IsChoice Op op_bytes IsOp (kind, mapped make row_at)
+row_choice : (kind : ℕ) (make : Bytes × Bytes → Op) → ((r : Bytes × Bytes) → op_bytes (make r) ≡ kind ∷ row_text r)
+    → ((r : Bytes × Bytes) → IsRow r → IsOp (make r)) → IsChoice Op op_bytes IsOp (kind, mapped make row_at)
 row_choice kind make is_spelled has = mapped_choice (Bytes × Bytes) Op row_text IsRow row_at op_bytes IsOp row_reads kind make is_spelled has
 
 pub op_reads : IsReader Op op_bytes IsOp op_at
@@ -200,7 +204,8 @@ op_reads = record {
 
 -- ---- answers
 
-value_again : (make : Bytes → Answer) (value : Bytes) (rest : List ℕ) → IsValue value → mapped make value_at (text value ++ rest) ≡ Some (make value, rest)
+value_again : (make : Bytes → Answer) (value : Bytes) (rest : List ℕ) → IsValue value
+    → mapped make value_at (text value ++ rest) ≡ Some (make value, rest)
 value_again make value rest fits = mapped_again Bytes Answer text IsValue value_at value_reads make value rest fits
 
 answer_again : (a : Answer) (rest : List ℕ) → IsAnswer a → answer_at (answer_bytes a ++ rest) ≡ Some (a, rest)
@@ -213,10 +218,12 @@ answer_again (Deleted value) rest fits = value_again (λ v. Deleted v) value res
 answer_again Exists rest fits = refl
 answer_again NoRecord rest fits = refl
 
-value_choice : (kind : ℕ) (make : Bytes → Answer) → ((v : Bytes) → answer_bytes (make v) ≡ kind ∷ text v) → ((v : Bytes) → IsValue v → IsAnswer (make v)) → IsChoice Answer answer_bytes IsAnswer (kind, mapped make value_at)
+value_choice : (kind : ℕ) (make : Bytes → Answer) → ((v : Bytes) → answer_bytes (make v) ≡ kind ∷ text v)
+    → ((v : Bytes) → IsValue v → IsAnswer (make v)) → IsChoice Answer answer_bytes IsAnswer (kind, mapped make value_at)
 value_choice kind make is_spelled has = mapped_choice Bytes Answer text IsValue value_at answer_bytes IsAnswer value_reads kind make is_spelled has
 
-plain_choice : (kind : ℕ) (a : Answer) → answer_bytes a ≡ kind ∷ [] → IsAnswer a → IsChoice Answer answer_bytes IsAnswer (kind, fixed a)
+plain_choice : (kind : ℕ) (a : Answer) → answer_bytes a ≡ kind ∷ [] → IsAnswer a
+    → IsChoice Answer answer_bytes IsAnswer (kind, fixed a)
 plain_choice kind a is_spelled has = fixed_choice Answer answer_bytes IsAnswer kind a is_spelled has
 
 pub answer_reads : IsReader Answer answer_bytes IsAnswer answer_at

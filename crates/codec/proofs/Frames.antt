@@ -40,9 +40,11 @@ pub data Why (limit place : ℕ) (left : List ℕ) (taken : Taken Bytes) : Type 
   few : length left < 8 → taken ≡ took.Short → Why limit place left taken
   empty : 8 ≤ length left → first_number left ≡ 0 → taken ≡ took.Bad place → Why limit place left taken
   above : 8 ≤ length left → limit < first_number left → taken ≡ took.Bad place → Why limit place left taken
-  cut : 8 ≤ length left → 0 < first_number left → first_number left ≤ limit → length left < 8 + first_number left → taken ≡ took.Short → Why limit place left taken
+  cut : 8 ≤ length left → 0 < first_number left → first_number left ≤ limit → length left < 8 + first_number left
+      → taken ≡ took.Short → Why limit place left taken
   whole : 8 ≤ length left → 0 < first_number left → first_number left ≤ limit → 8 + first_number left ≤ length left
-      → taken ≡ took.Record (take (first_number left) (drop 8 left)) (place + (8 + first_number left)) → Why limit place left taken
+      → taken ≡ took.Record (take (first_number left) (drop 8 left)) (place + (8 + first_number left))
+      → Why limit place left taken
 
 eqb-no : (n : ℕ) → eqb n 0 ≡ false → 0 < n
 eqb-no zero e = absurd cc
@@ -70,13 +72,16 @@ why limit place left =
 length-frame : (body : List ℕ) → length (frame body) ≡ 8 + length body
 length-frame body = omega (arith, length-append (number (length body)) body, length-number (length body))
 
-value_is : (X : Type 0) (place next : ℕ) (o : Option X) (x : X) (m : ℕ) → value_or_bad place next o ≡ took.Record x m → (o ≡ Some x) × (next ≡ m)
+value_is : (X : Type 0) (place next : ℕ) (o : Option X) (x : X) (m : ℕ) → value_or_bad place next o ≡ took.Record x m
+    → (o ≡ Some x) × (next ≡ m)
 value_is X place next (Some y) x m e = (cc, cc)
 value_is X place next None x m e = absurd cc
 
 whole_is_there : (X : Type 0) (spell : X → List ℕ) (Fits : X → Type 0) (read : Reader X) → IsReader X spell Fits read →
-    (place : ℕ) (left : List ℕ) (x : X) (next : ℕ) → IsBytes left → 8 ≤ length left → 8 + first_number left ≤ length left
-    → value_or_bad place (place + (8 + first_number left)) (all_of read (take (first_number left) (drop 8 left))) ≡ took.Record x next → IsThere X spell Fits place left x next
+    (place : ℕ) (left : List ℕ) (x : X) (next : ℕ) → IsBytes left → 8 ≤ length left
+    → 8 + first_number left ≤ length left
+    → value_or_bad place (place + (8 + first_number left)) (all_of read (take (first_number left) (drop 8 left))) ≡ took.Record x next
+    → IsThere X spell Fits place left x next
 whole_is_there X spell Fits read law place left x next fits long there e =
     let n = first_number left in
     let body = take n (drop 8 left) in
@@ -111,18 +116,21 @@ found X spell Fits read law limit place left (took.Bad at) fits e = tt
 -- ---- what stands there is taken
 
 -- the length in front of a body, and the body
-length_there : (body left rest : List ℕ) → length body < 2 ^ 64 → left ≡ frame body ++ rest → first_number left ≡ length body
+length_there : (body left rest : List ℕ) → length body < 2 ^ 64 → left ≡ frame body ++ rest
+    → first_number left ≡ length body
 length_there body left rest short e =
     ap first_number (e ∙ append_assoc (number (length body)) body rest) ∙ first_number-number (length body) (body ++ rest) short
 
-pub body_there : (body left rest : List ℕ) → length body < 2 ^ 64 → left ≡ frame body ++ rest → take (first_number left) (drop 8 left) ≡ body
+pub body_there : (body left rest : List ℕ) → length body < 2 ^ 64 → left ≡ frame body ++ rest
+    → take (first_number left) (drop 8 left) ≡ body
 body_there body left rest short e =
     let after : drop 8 left ≡ body ++ rest = ap (drop 8) (e ∙ append_assoc (number (length body)) body rest) ∙ drop_at (number (length body)) (body ++ rest) 8 (length-number (length body)) in
     rw (length_there body left rest short e, after) (take_at body rest (length body) refl)
 
 pub only : (X : Type 0) (spell : X → List ℕ) (Fits : X → Type 0) (read : Reader X) → IsReader X spell Fits read →
     (limit place : ℕ) (left : List ℕ) (x : X) (rest : List ℕ) → Fits x → 0 < length (spell x) → length (spell x) ≤ limit → limit < 2 ^ 64
-    → left ≡ frame (spell x) ++ rest → within place read (frame_at limit place left) ≡ took.Record x (place + length (frame (spell x)))
+    → left ≡ frame (spell x) ++ rest
+    → within place read (frame_at limit place left) ≡ took.Record x (place + length (frame (spell x)))
 only X spell Fits read law limit place left x rest fits some low small e =
     let body = spell x in
     let len : length left ≡ 8 + length body + length rest = ap length e ∙ omega (arith, length-append (frame body) rest, length-frame body) in
@@ -143,7 +151,8 @@ only X spell Fits read law limit place left x rest fits some low small e =
 -- the same where only the bytes that are there bound a body
 pub only_any : (X : Type 0) (spell : X → List ℕ) (Fits : X → Type 0) (read : Reader X) → IsReader X spell Fits read →
     (place : ℕ) (left : List ℕ) (x : X) (rest : List ℕ) → Fits x → 0 < length (spell x) → length left < 2 ^ 64
-    → left ≡ frame (spell x) ++ rest → within place read (frame_at any_length place left) ≡ took.Record x (place + length (frame (spell x)))
+    → left ≡ frame (spell x) ++ rest
+    → within place read (frame_at any_length place left) ≡ took.Record x (place + length (frame (spell x)))
 only_any X spell Fits read law place left x rest fits some there e =
     let len : length left ≡ 8 + length (spell x) + length rest = ap length e ∙ omega (arith, length-append (frame (spell x)) rest, length-frame (spell x)) in
     only X spell Fits read law any_length place left x rest fits some (omega arith) (omega arith) e
@@ -154,7 +163,8 @@ never_short : (X : Type 0) (place next : ℕ) (o : Option X) → value_or_bad pl
 never_short X place next (Some x) e = cc
 never_short X place next None e = cc
 
-cut_is_short : (X : Type 0) (read : Reader X) (limit place : ℕ) (left : List ℕ) → IsCut limit left → within place read (frame_at limit place left) ≡ took.Short
+cut_is_short : (X : Type 0) (read : Reader X) (limit place : ℕ) (left : List ℕ) → IsCut limit left
+    → within place read (frame_at limit place left) ≡ took.Short
 cut_is_short X read limit place left (inl lt) =
     elim (why limit place left) [
       | few low is ↦ ap (within place read) is
@@ -172,7 +182,8 @@ cut_is_short X read limit place left (inr h) =
       | whole long one low there is ↦ absurd (omega (arith, h.3))
     ]
 
-short_is_cut : (X : Type 0) (read : Reader X) (limit place : ℕ) (left : List ℕ) → within place read (frame_at limit place left) ≡ took.Short → IsCut limit left
+short_is_cut : (X : Type 0) (read : Reader X) (limit place : ℕ) (left : List ℕ)
+    → within place read (frame_at limit place left) ≡ took.Short → IsCut limit left
 short_is_cut X read limit place left e =
     elim (why limit place left) [
       | few low is ↦ inl low
@@ -182,14 +193,16 @@ short_is_cut X read limit place left e =
       | whole long one low there is ↦ absurd (never_short X place (place + (8 + first_number left)) (all_of read (take (first_number left) (drop 8 left))) (sym (ap (within place read) is) ∙ e))
     ]
 
-pub short : (X : Type 0) (read : Reader X) (limit place : ℕ) (left : List ℕ) (result : Taken X) → result ≡ within place read (frame_at limit place left) → (result ≡ took.Short) ↔ IsCut limit left
+pub short : (X : Type 0) (read : Reader X) (limit place : ℕ) (left : List ℕ) (result : Taken X)
+    → result ≡ within place read (frame_at limit place left) → (result ≡ took.Short) ↔ IsCut limit left
 short X read limit place left result e = (λ s. short_is_cut X read limit place left (sym e ∙ s), λ c. e ∙ cut_is_short X read limit place left c)
 
 bad_value : (X : Type 0) (place next : ℕ) (o : Option X) (at : ℕ) → value_or_bad place next o ≡ took.Bad at → at ≡ place
 bad_value X place next (Some x) at e = absurd cc
 bad_value X place next None at e = cc
 
-bad_place : (X : Type 0) (read : Reader X) (limit place : ℕ) (left : List ℕ) (at : ℕ) → within place read (frame_at limit place left) ≡ took.Bad at → at ≡ place
+bad_place : (X : Type 0) (read : Reader X) (limit place : ℕ) (left : List ℕ) (at : ℕ)
+    → within place read (frame_at limit place left) ≡ took.Bad at → at ≡ place
 bad_place X read limit place left at e =
     elim (why limit place left) [
       | few low is ↦ absurd (let h : within place read took.Short ≡ took.Bad at = sym (ap (within place read) is) ∙ e in cc)
@@ -199,7 +212,8 @@ bad_place X read limit place left at e =
       | whole long one low there is ↦ bad_value X place (place + (8 + first_number left)) (all_of read (take (first_number left) (drop 8 left))) at (sym (ap (within place read) is) ∙ e)
     ]
 
-pub bad : (X : Type 0) (read : Reader X) (limit place : ℕ) (left : List ℕ) (result : Taken X) → result ≡ within place read (frame_at limit place left) → IfBad result (λ at. at ≡ place)
+pub bad : (X : Type 0) (read : Reader X) (limit place : ℕ) (left : List ℕ) (result : Taken X)
+    → result ≡ within place read (frame_at limit place left) → IfBad result (λ at. at ≡ place)
 bad X read limit place left (took.Record x next) e = tt
 bad X read limit place left took.Short e = tt
 bad X read limit place left (took.Bad at) e = bad_place X read limit place left at (sym e)
@@ -207,7 +221,8 @@ bad X read limit place left (took.Bad at) e = bad_place X read limit place left 
 -- ---- a whole page
 
 pub whole_found : (X : Type 0) (spell : X → List ℕ) (Fits : X → Type 0) (read : Reader X) → IsReader X spell Fits read →
-    (bytes : List ℕ) (result : Taken X) → IsBytes bytes → result ≡ value_or_bad 0 (length bytes) (all_of read bytes) → IfTaken result (IsWhole X spell Fits bytes)
+    (bytes : List ℕ) (result : Taken X) → IsBytes bytes → result ≡ value_or_bad 0 (length bytes) (all_of read bytes)
+    → IfTaken result (IsWhole X spell Fits bytes)
 whole_found X spell Fits read law bytes (took.Record x next) fits e =
     let v = value_is X 0 (length bytes) (all_of read bytes) x next (sym e) in
     let a = all_takes X spell Fits read law bytes x fits v.0 in
@@ -216,15 +231,18 @@ whole_found X spell Fits read law bytes took.Short fits e = tt
 whole_found X spell Fits read law bytes (took.Bad at) fits e = tt
 
 pub whole_only : (X : Type 0) (spell : X → List ℕ) (Fits : X → Type 0) (read : Reader X) → IsReader X spell Fits read →
-    (bytes : List ℕ) (x : X) → Fits x → bytes ≡ spell x → value_or_bad 0 (length bytes) (all_of read bytes) ≡ took.Record x (length bytes)
+    (bytes : List ℕ) (x : X) → Fits x → bytes ≡ spell x
+    → value_or_bad 0 (length bytes) (all_of read bytes) ≡ took.Record x (length bytes)
 whole_only X spell Fits read law bytes x fits e =
     let all : all_of read bytes ≡ Some x = ap (all_of read) e ∙ all_again X spell Fits read law x fits in
     ap (value_or_bad 0 (length bytes)) all
 
-pub whole_never_short : (X : Type 0) (bytes : List ℕ) (o : Option X) (result : Taken X) → result ≡ value_or_bad 0 (length bytes) o → result ≡ took.Short → ⊥
+pub whole_never_short : (X : Type 0) (bytes : List ℕ) (o : Option X) (result : Taken X)
+    → result ≡ value_or_bad 0 (length bytes) o → result ≡ took.Short → ⊥
 whole_never_short X bytes o result e s = never_short X 0 (length bytes) o (sym e ∙ s)
 
-pub whole_bad : (X : Type 0) (bytes : List ℕ) (o : Option X) (result : Taken X) → result ≡ value_or_bad 0 (length bytes) o → IfBad result (λ at. at ≡ 0)
+pub whole_bad : (X : Type 0) (bytes : List ℕ) (o : Option X) (result : Taken X)
+    → result ≡ value_or_bad 0 (length bytes) o → IfBad result (λ at. at ≡ 0)
 whole_bad X bytes o (took.Record x next) e = tt
 whole_bad X bytes o took.Short e = tt
 whole_bad X bytes o (took.Bad at) e = bad_value X 0 (length bytes) o at (sym e)
@@ -232,7 +250,8 @@ whole_bad X bytes o (took.Bad at) e = bad_value X 0 (length bytes) o at (sym e)
 -- ---- one frame
 
 -- no frame begins another
-pub one_frame_of : (X : Type 0) (spell : X → List ℕ) (Fits : X → Type 0) (read : Reader X) → IsReader X spell Fits read →
+pub one_frame_of : (X : Type 0) (spell : X → List ℕ) (Fits : X → Type 0) (read : Reader X)
+    → IsReader X spell Fits read →
     (limit : ℕ) → limit < 2 ^ 64 → (a b : X) (x y : List ℕ) → Fits a → Fits b
     → (0 < length (spell a)) × (length (spell a) ≤ limit) → (0 < length (spell b)) × (length (spell b) ≤ limit)
     → frame (spell a) ++ x ≡ frame (spell b) ++ y → (a ≡ b) × (x ≡ y)

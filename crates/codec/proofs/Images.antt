@@ -35,7 +35,8 @@ parts_read = mapped_reads _ LeafImage _ _ _ image_bytes AreParts (both (both num
     image_of parts_of (λ p. refl) (λ p has. has) (λ image. refl) (λ image has. has)
 
 -- a test that all pass
-all_pass : {X : Type 0} (test : X → Bool) (xs : List X) → list_all test xs ≡ true → AllByRecursion (λ x. test x ≡ true) xs
+all_pass : {X : Type 0} (test : X → Bool) (xs : List X) → list_all test xs ≡ true
+    → AllByRecursion (λ x. test x ≡ true) xs
 all_pass test [] h = tt
 all_pass test (x ∷ xs) h = let both = and_parts (test x) (list_all test xs) h in (both.0, all_pass test xs both.1)
 

@@ -13,19 +13,25 @@ use Rattle.codec.proofs.Fields.{count_reads}
 abbrev pub with_front : {X : Type 0} → List X → Option (List X × List ℕ) → Option (List X × List ℕ)
 with_front front read = read >>= λ x. Some (front ++ x.0, x.1)
 
-regroup : {X : Type 0} (front : List X) (n : X) (read : Option (List X × List ℕ)) → with_front front (read >>= λ x. Some (n ∷ x.0, x.1)) ≡ with_front (front ++ n ∷ []) read
+regroup : {X : Type 0} (front : List X) (n : X) (read : Option (List X × List ℕ))
+    → with_front front (read >>= λ x. Some (n ∷ x.0, x.1)) ≡ with_front (front ++ n ∷ []) read
 regroup {X = X} front n (Some x) = ap (λ (ns : List X). Some (ns, x.1)) (simp append_assoc)
 regroup front n None = refl
 
-pub goes_on : {X : Type 0} (part : Reader X) (front : List X) (count i : ℕ) (bytes : List ℕ) (n : X) (after : List ℕ) (total : Option (List X × List ℕ)) → i < count → part bytes ≡ Some (n, after)
-    → with_front front (items_at part (count - i) bytes) ≡ total → with_front (front ++ n ∷ []) (items_at part (count - (i + 1)) after) ≡ total
+pub goes_on : {X : Type 0} (part : Reader X) (front : List X) (count i : ℕ) (bytes : List ℕ) (n : X) (after : List ℕ)
+    (total : Option (List X × List ℕ))
+    → i < count → part bytes ≡ Some (n, after)
+    → with_front front (items_at part (count - i) bytes) ≡ total
+    → with_front (front ++ n ∷ []) (items_at part (count - (i + 1)) after) ≡ total
 unfolding items_at
 goes_on part front count i bytes n after total lt h so_far =
     let k : count - i ≡ suc (count - (i + 1)) = omega arith in
     let one : with_front front (items_at part (count - i) bytes) ≡ with_front (front ++ n ∷ []) (items_at part (count - (i + 1)) after) = rw (k, h) (regroup front n (items_at part (count - (i + 1)) after)) in
     sym one ∙ so_far
 
-pub ends : {X : Type 0} (part : Reader X) (front : List X) (count i : ℕ) (bytes : List ℕ) (total : Option (List X × List ℕ)) → i < count → part bytes ≡ None
+pub ends : {X : Type 0} (part : Reader X) (front : List X) (count i : ℕ) (bytes : List ℕ)
+    (total : Option (List X × List ℕ))
+    → i < count → part bytes ≡ None
     → with_front front (items_at part (count - i) bytes) ≡ total → total ≡ None
 unfolding items_at
 ends part front count i bytes total lt h so_far =
@@ -33,7 +39,9 @@ ends part front count i bytes total lt h so_far =
     let one : with_front front (items_at part (count - i) bytes) ≡ None = rw (k, h) refl in
     sym so_far ∙ one
 
-pub is_done : {X : Type 0} (part : Reader X) (front : List X) (count i : ℕ) (bytes : List ℕ) (total : Option (List X × List ℕ)) → count ≤ i → with_front front (items_at part (count - i) bytes) ≡ total → total ≡ Some (front, bytes)
+pub is_done : {X : Type 0} (part : Reader X) (front : List X) (count i : ℕ) (bytes : List ℕ)
+    (total : Option (List X × List ℕ))
+    → count ≤ i → with_front front (items_at part (count - i) bytes) ≡ total → total ≡ Some (front, bytes)
 unfolding items_at
 is_done {X = X} part front count i bytes total le so_far =
     let k : count - i ≡ 0 = omega arith in
@@ -43,7 +51,8 @@ is_done {X = X} part front count i bytes total le so_far =
 -- ---- the laws
 
 pub items_take : (X : Type 0) (spell : X → List ℕ) (Fits : X → Type 0) (part : Reader X) → IsReader X spell Fits part →
-    (n : ℕ) (bytes : List ℕ) (x : List X × List ℕ) → IsBytes bytes → items_at part n bytes ≡ Some x → Takes bytes (flat_map spell x.0) x.1 × (length x.0 ≡ n) × AllByRecursion Fits x.0
+    (n : ℕ) (bytes : List ℕ) (x : List X × List ℕ) → IsBytes bytes → items_at part n bytes ≡ Some x
+    → Takes bytes (flat_map spell x.0) x.1 × (length x.0 ≡ n) × AllByRecursion Fits x.0
 unfolding items_at
 items_take X spell Fits part law zero bytes x fits e =
     let made : List X × List ℕ = ([], bytes) in
@@ -58,7 +67,8 @@ items_take X spell Fits part law (suc n) bytes x fits e =
     subst (λ (y : List X × List ℕ). Takes bytes (flat_map spell y.0) y.1 × (length y.0 ≡ suc n) × AllByRecursion Fits y.0) (same_Some made x b.2) (rw flat_map-cons both, ap suc second.1, (first.1, second.2))
 
 pub items_again : (X : Type 0) (spell : X → List ℕ) (Fits : X → Type 0) (part : Reader X) → IsReader X spell Fits part →
-    (xs : List X) (rest : List ℕ) → AllByRecursion Fits xs → items_at part (length xs) (flat_map spell xs ++ rest) ≡ Some (xs, rest)
+    (xs : List X) (rest : List ℕ) → AllByRecursion Fits xs
+    → items_at part (length xs) (flat_map spell xs ++ rest) ≡ Some (xs, rest)
 unfolding items_at
 items_again X spell Fits part law [] rest fits = refl
 items_again X spell Fits part law (x ∷ xs) rest fits =
@@ -67,7 +77,8 @@ items_again X spell Fits part law (x ∷ xs) rest fits =
 
 -- ---- behind their count
 
-pub counted_reads : (X : Type 0) (spell : X → List ℕ) (Fits : X → Type 0) (part : Reader X) → IsReader X spell Fits part →
+pub counted_reads : (X : Type 0) (spell : X → List ℕ) (Fits : X → Type 0) (part : Reader X)
+    → IsReader X spell Fits part →
     IsReader (List X) (counted spell) (λ xs. (length xs < 2 ^ 64) × AllByRecursion Fits xs) (counted_at part)
 counted_reads X spell Fits part law = record {
   takes = λ bytes x fits e.

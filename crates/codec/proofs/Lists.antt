@@ -32,5 +32,6 @@ pub entry_numbers : (entries : List Entry) → AllByRecursion IsEntry entries �
 entry_numbers [] fits = tt
 entry_numbers (entry ∷ entries) fits = (fits.0.0, entry_numbers entries fits.1)
 
-pub entry_length : (entry : Entry) → length (entry_bytes entry) ≡ 8 + (length (text entry.key) + length (answer_bytes entry.answer))
+pub entry_length : (entry : Entry)
+    → length (entry_bytes entry) ≡ 8 + (length (text entry.key) + length (answer_bytes entry.answer))
 entry_length entry = omega (arith, numbers_length entry.number (text entry.key ++ answer_bytes entry.answer), length-append (text entry.key) (answer_bytes entry.answer))

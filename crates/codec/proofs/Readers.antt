@@ -33,11 +33,13 @@ Takes-then a x b y c p q = record { parts = p.parts ∙ ap (λ (t : List ℕ). x
 
 -- What is read is spelled so and has a spelling; what has a spelling is read, whatever follows it.
 pub record IsReader (X : Type 0) (spell : X → List ℕ) (Fits : X → Type 0) (read : Reader X) : Type 0 where
-  pub takes : (bytes : List ℕ) (x : X × List ℕ) → IsBytes bytes → read bytes ≡ Some x → Takes bytes (spell x.0) x.1 × Fits x.0
+  pub takes : (bytes : List ℕ) (x : X × List ℕ) → IsBytes bytes → read bytes ≡ Some x
+      → Takes bytes (spell x.0) x.1 × Fits x.0
   pub again : (x : X) (rest : List ℕ) → Fits x → read (spell x ++ rest) ≡ Some (x, rest)
 
 -- so no spelling begins another
-pub one_spelling : (X : Type 0) (spell : X → List ℕ) (Fits : X → Type 0) (read : Reader X) → IsReader X spell Fits read →
+pub one_spelling : (X : Type 0) (spell : X → List ℕ) (Fits : X → Type 0) (read : Reader X)
+    → IsReader X spell Fits read →
     (a b : X) (x y : List ℕ) → Fits a → Fits b → spell a ++ x ≡ spell b ++ y → (a ≡ b) × (x ≡ y)
 one_spelling X spell Fits read law a b x y p q e =
     let same : Some (a, x) ≡ Some (b, y) = sym (law.again a x p) ∙ ap read e ∙ law.again b y q in
@@ -45,7 +47,8 @@ one_spelling X spell Fits read law a b x y p q e =
     (ap (λ (p : X × List ℕ). p.0) pairs, ap (λ (p : X × List ℕ). p.1) pairs)
 
 -- the value of a step that gave one
-pub bind_some : {A B : Type 0} (r : Option A) (f : A → Option B) (y : B) → (r >>= f) ≡ Some y → (x : A) × (r ≡ Some x) × (f x ≡ Some y)
+pub bind_some : {A B : Type 0} (r : Option A) (f : A → Option B) (y : B) → (r >>= f) ≡ Some y
+    → (x : A) × (r ≡ Some x) × (f x ≡ Some y)
 bind_some (Some x) f y e = (x, refl, e)
 bind_some None f y e = absurd cc
 
@@ -72,8 +75,11 @@ pub mapped_again : (X Y : Type 0) (s : X → List ℕ) (F : X → Type 0) (r : R
     (make : X → Y) (x : X) (rest : List ℕ) → F x → mapped make r (s x ++ rest) ≡ Some (make x, rest)
 mapped_again X Y s F r law make x rest fits = rw (law.again x rest fits) refl
 
-pub mapped_reads : (X Y : Type 0) (s : X → List ℕ) (F : X → Type 0) (r : Reader X) (spell : Y → List ℕ) (Fits : Y → Type 0) → IsReader X s F r →
-    (make : X → Y) (parts : Y → X) → ((x : X) → spell (make x) ≡ s x) → ((x : X) → F x → Fits (make x)) → ((y : Y) → make (parts y) ≡ y) → ((y : Y) → Fits y → F (parts y))
+pub mapped_reads : (X Y : Type 0) (s : X → List ℕ) (F : X → Type 0) (r : Reader X) (spell : Y → List ℕ)
+    (Fits : Y → Type 0)
+    → IsReader X s F r →
+    (make : X → Y) (parts : Y → X) → ((x : X) → spell (make x) ≡ s x) → ((x : X) → F x → Fits (make x))
+    → ((y : Y) → make (parts y) ≡ y) → ((y : Y) → Fits y → F (parts y))
     → IsReader Y spell Fits (mapped make r)
 mapped_reads X Y s F r spell Fits law make parts is_spelled has made had = record {
   takes = λ bytes y fits e.
@@ -89,7 +95,8 @@ mapped_reads X Y s F r spell Fits law make parts is_spelled has made had = recor
 }
 
 -- the same in other words for what has a spelling
-pub fits_as : {X : Type 0} {s : X → List ℕ} {F : X → Type 0} {r : Reader X} → IsReader X s F r → (G : X → Type 0) → ((x : X) → F x → G x) → ((x : X) → G x → F x) → IsReader X s G r
+pub fits_as : {X : Type 0} {s : X → List ℕ} {F : X → Type 0} {r : Reader X} → IsReader X s F r → (G : X → Type 0)
+    → ((x : X) → F x → G x) → ((x : X) → G x → F x) → IsReader X s G r
 fits_as law G to from = record {
   takes = λ bytes x fits e. let t = law.takes bytes x fits e in (t.0, to x.0 t.1);
   again = λ x rest fits. law.again x rest (from x fits);
@@ -109,9 +116,11 @@ where_reads X spell Fits read law test = record {
 
 -- behind its kind, what a choice reads is spelled so
 pub record IsChoice (Y : Type 0) (spell : Y → List ℕ) (Fits : Y → Type 0) (choice : ℕ × Reader Y) : Type 0 where
-  pub takes : (bytes : List ℕ) (y : Y × List ℕ) → IsBytes bytes → choice.1 bytes ≡ Some y → Takes (choice.0 ∷ bytes) (spell y.0) y.1 × Fits y.0
+  pub takes : (bytes : List ℕ) (y : Y × List ℕ) → IsBytes bytes → choice.1 bytes ≡ Some y
+      → Takes (choice.0 ∷ bytes) (spell y.0) y.1 × Fits y.0
 
-pub fixed_choice : (Y : Type 0) (spell : Y → List ℕ) (Fits : Y → Type 0) (kind : ℕ) (y : Y) → spell y ≡ kind ∷ [] → Fits y → IsChoice Y spell Fits (kind, fixed y)
+pub fixed_choice : (Y : Type 0) (spell : Y → List ℕ) (Fits : Y → Type 0) (kind : ℕ) (y : Y) → spell y ≡ kind ∷ []
+    → Fits y → IsChoice Y spell Fits (kind, fixed y)
 fixed_choice Y spell Fits kind y is_spelled has = record {
   takes = λ bytes x fits e.
       let made : Y × List ℕ = (y, bytes) in
@@ -119,8 +128,11 @@ fixed_choice Y spell Fits kind y is_spelled has = record {
       (record { parts = rw is_spelled refl; rest_fits = fits }, has);
 }
 
-pub mapped_choice : (X Y : Type 0) (s : X → List ℕ) (F : X → Type 0) (r : Reader X) (spell : Y → List ℕ) (Fits : Y → Type 0) → IsReader X s F r →
-    (kind : ℕ) (make : X → Y) → ((x : X) → spell (make x) ≡ kind ∷ s x) → ((x : X) → F x → Fits (make x)) → IsChoice Y spell Fits (kind, mapped make r)
+pub mapped_choice : (X Y : Type 0) (s : X → List ℕ) (F : X → Type 0) (r : Reader X) (spell : Y → List ℕ)
+    (Fits : Y → Type 0)
+    → IsReader X s F r →
+    (kind : ℕ) (make : X → Y) → ((x : X) → spell (make x) ≡ kind ∷ s x) → ((x : X) → F x → Fits (make x))
+    → IsChoice Y spell Fits (kind, mapped make r)
 mapped_choice X Y s F r spell Fits law kind make is_spelled has = record {
   takes = λ bytes y fits e.
       let a = bind_some (r bytes) (λ x. Some (make x.0, x.1)) y e in
@@ -140,15 +152,20 @@ pub made_again : {X Y : Type 0} {s : X → List ℕ} {F : X → Type 0} {r : Rea
 made_again law make x rest fits = mapped_again _ _ _ _ _ law make x rest fits
 
 pub choice : {X : Type 0} {s : X → List ℕ} {F : X → Type 0} {r : Reader X} → IsReader X s F r →
-    (Y : Type 0) (spell : Y → List ℕ) (Fits : Y → Type 0) (kind : ℕ) (make : X → Y) → ((x : X) → spell (make x) ≡ kind ∷ s x) → ((x : X) → F x → Fits (make x)) → IsChoice Y spell Fits (kind, mapped make r)
+    (Y : Type 0) (spell : Y → List ℕ) (Fits : Y → Type 0) (kind : ℕ) (make : X → Y)
+    → ((x : X) → spell (make x) ≡ kind ∷ s x) → ((x : X) → F x → Fits (make x))
+    → IsChoice Y spell Fits (kind, mapped make r)
 choice law Y spell Fits kind make is_spelled has = mapped_choice _ Y _ _ _ spell Fits law kind make is_spelled has
 
-choose_cases : {A : Type 0} (b : Bool) (x y z : Option A) → cond b x y ≡ z → ((b ≡ true) × (x ≡ z)) ⊎ ((b ≡ false) × (y ≡ z))
+choose_cases : {A : Type 0} (b : Bool) (x y z : Option A) → cond b x y ≡ z
+    → ((b ≡ true) × (x ≡ z)) ⊎ ((b ≡ false) × (y ≡ z))
 choose_cases true x y z e = inl (refl, e)
 choose_cases false x y z e = inr (refl, e)
 
-choose_takes : (Y : Type 0) (spell : Y → List ℕ) (Fits : Y → Type 0) (choices : List (ℕ × Reader Y)) → AllByRecursion (IsChoice Y spell Fits) choices →
-    (kind : ℕ) (bytes : List ℕ) (y : Y × List ℕ) → IsBytes bytes → choose choices kind bytes ≡ Some y → Takes (kind ∷ bytes) (spell y.0) y.1 × Fits y.0
+choose_takes : (Y : Type 0) (spell : Y → List ℕ) (Fits : Y → Type 0) (choices : List (ℕ × Reader Y))
+    → AllByRecursion (IsChoice Y spell Fits) choices →
+    (kind : ℕ) (bytes : List ℕ) (y : Y × List ℕ) → IsBytes bytes → choose choices kind bytes ≡ Some y
+    → Takes (kind ∷ bytes) (spell y.0) y.1 × Fits y.0
 choose_takes Y spell Fits [] laws kind bytes y fits e = absurd cc
 choose_takes Y spell Fits (c ∷ cs) laws kind bytes y fits e =
     elim (choose_cases (eqb kind c.0) (c.1 bytes) (choose cs kind bytes) (Some y) e) [
@@ -157,7 +174,9 @@ choose_takes Y spell Fits (c ∷ cs) laws kind bytes y fits e =
       | inr h ↦ choose_takes Y spell Fits cs laws.1 kind bytes y fits h.1
     ]
 
-pub one_of_takes : (Y : Type 0) (spell : Y → List ℕ) (Fits : Y → Type 0) (choices : List (ℕ × Reader Y)) → AllByRecursion (IsChoice Y spell Fits) choices →
-    (bytes : List ℕ) (y : Y × List ℕ) → IsBytes bytes → one_of choices bytes ≡ Some y → Takes bytes (spell y.0) y.1 × Fits y.0
+pub one_of_takes : (Y : Type 0) (spell : Y → List ℕ) (Fits : Y → Type 0) (choices : List (ℕ × Reader Y))
+    → AllByRecursion (IsChoice Y spell Fits) choices →
+    (bytes : List ℕ) (y : Y × List ℕ) → IsBytes bytes → one_of choices bytes ≡ Some y
+    → Takes bytes (spell y.0) y.1 × Fits y.0
 one_of_takes Y spell Fits choices laws [] y fits e = absurd cc
 one_of_takes Y spell Fits choices laws (kind ∷ bytes) y fits e = choose_takes Y spell Fits choices laws kind bytes y (IsBytes-rest kind bytes fits) e

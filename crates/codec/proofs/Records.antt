@@ -61,7 +61,8 @@ comp_fields_read =
 
 -- ---- records
 
-number_again : (make : ℕ → Record) (n : ℕ) (rest : List ℕ) → IsNumber n → mapped make number_at (number n ++ rest) ≡ Some (make n, rest)
+number_again : (make : ℕ → Record) (n : ℕ) (rest : List ℕ) → IsNumber n
+    → mapped make number_at (number n ++ rest) ≡ Some (make n, rest)
 number_again make n rest fits = mapped_again ℕ Record number IsNumber number_at number_reads make n rest fits
 
 record_again : (r : Record) (rest : List ℕ) → IsRecord r → record_at (record_bytes r ++ rest) ≡ Some (r, rest)
@@ -75,7 +76,8 @@ record_again (is.Commit txn) rest fits = number_again (λ n. is.Commit n) txn re
 record_again (is.End txn) rest fits = number_again (λ n. is.End n) txn rest fits
 record_again (is.Checkpoint low) rest fits = number_again (λ n. is.Checkpoint n) low rest fits
 
-number_choice : (kind : ℕ) (make : ℕ → Record) → ((n : ℕ) → record_bytes (make n) ≡ kind ∷ number n) → ((n : ℕ) → IsNumber n → IsRecord (make n)) → IsChoice Record record_bytes IsRecord (kind, mapped make number_at)
+number_choice : (kind : ℕ) (make : ℕ → Record) → ((n : ℕ) → record_bytes (make n) ≡ kind ∷ number n)
+    → ((n : ℕ) → IsNumber n → IsRecord (make n)) → IsChoice Record record_bytes IsRecord (kind, mapped make number_at)
 number_choice kind make is_spelled has = mapped_choice ℕ Record number IsNumber number_at record_bytes IsRecord number_reads kind make is_spelled has
 
 pub record_reads : IsReader Record record_bytes IsRecord record_at

@@ -80,7 +80,8 @@ is_ordered (is.Checkpointed session low) fits = fits
 is_ordered (is.RedoEnded session) fits = fits
 
 -- a reply's frame is taken, whatever follows it
-pub reply_taken : (place : ℕ) (left : List ℕ) (r : Reply) (rest : List ℕ) → IsReply r → length (reply_bytes r) < 2 ^ 64 → left ≡ frame (reply_bytes r) ++ rest
+pub reply_taken : (place : ℕ) (left : List ℕ) (r : Reply) (rest : List ℕ) → IsReply r → length (reply_bytes r) < 2 ^ 64
+    → left ≡ frame (reply_bytes r) ++ rest
     → within place reply_at (frame_at any_length place left) ≡ took.Record r (place + length (frame (reply_bytes r)))
 reply_taken place left r rest fits short e =
     frames.only Reply reply_bytes IsReply reply_at reply_reads any_length place left r rest fits (reply_not_empty r) (omega (arith, short)) (omega arith) e
@@ -96,6 +97,7 @@ kind_of_rows (is.Checkpointed s l) h = absurd (omega (arith, h))
 kind_of_rows (is.RedoEnded s) h = absurd (omega (arith, h))
 
 -- a reply whose frame has that kind has rows
-pub rows_framed : (left : List ℕ) (r : Reply) (rest : List ℕ) → length (reply_bytes r) < 2 ^ 64 → left ≡ frame (reply_bytes r) ++ rest
+pub rows_framed : (left : List ℕ) (r : Reply) (rest : List ℕ) → length (reply_bytes r) < 2 ^ 64
+    → left ≡ frame (reply_bytes r) ++ rest
     → IsFrameOf any_length (HasKind 20) left → has_rows r ≡ true
 rows_framed left r rest short e h = kind_of_rows r (subst (HasKind 20) (body_there (reply_bytes r) left rest short e) h.body)

@@ -98,11 +98,13 @@ request_length (is.LowWater session low) fits = let len = numbers_length session
 request_length (is.Checkpoint session low) fits = let len = numbers_length session (number low) in let len2 = length-number low in (omega arith, omega arith)
 request_length (is.RedoEnd session) fits = let len = length-number session in (omega arith, omega arith)
 
-pub request_fits : (r : Request) → IsRequest r → (0 < length (request_bytes r)) × (length (request_bytes r) ≤ any_length)
+pub request_fits : (r : Request) → IsRequest r
+    → (0 < length (request_bytes r)) × (length (request_bytes r) ≤ any_length)
 request_fits r fits = let h = request_length r fits in (h.0, omega (arith, h.1))
 
 -- a request's frame is taken, whatever follows it
-pub request_taken : (place : ℕ) (left : List ℕ) (r : Request) (rest : List ℕ) → IsRequest r → left ≡ frame (request_bytes r) ++ rest
+pub request_taken : (place : ℕ) (left : List ℕ) (r : Request) (rest : List ℕ) → IsRequest r
+    → left ≡ frame (request_bytes r) ++ rest
     → within place request_at (frame_at any_length place left) ≡ took.Record r (place + length (frame (request_bytes r)))
 request_taken place left r rest fits e =
     let bounds = request_fits r fits in

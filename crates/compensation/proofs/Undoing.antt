@@ -5,7 +5,7 @@ use Rattle.record_key.specs.declared.op.Answer.{Answer}
 use Rattle.history.specs.declared.record.Record.{Record}
 use Rattle.history.specs.Log.{record_at, answer_of, request_in}
 use Rattle.history.specs.Legal.{FitsComp, Inverts, IsLatest, IsLatestOrNone, Stands}
-use Rattle.log_laws.specs.Laws.{undo_from, prev_in}
+use Rattle.history.specs.Chains.{undo_from, prev_in}
 use Rattle.log_laws.proofs.LegalLogs.{stands_step}
 use Rattle.log_laws.proofs.Undo.{latest_found, earlier_found, op_record}
 use Rattle.compensation.specs.declared.undo_chain.Chain.{Chain}

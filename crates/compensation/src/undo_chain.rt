@@ -2,7 +2,7 @@
 ghost use Rattle.std.specs.Prelude.{◌≡◌};
 ghost use Rattle.history.specs.Log.{record_at};
 ghost use Rattle.history.specs.Legal.{Inverts};
-ghost use Rattle.log_laws.specs.Laws.{undo_from, prev_in};
+ghost use Rattle.history.specs.Chains.{undo_from, prev_in};
 ghost use Rattle.compensation.specs.NextUndo.{MayUndo, IsNextUndo, IsUndoable};
 
 use history::Record;

@@ -1,6 +1,6 @@
 -- What restart and rollback rest on: compensations take the operations of a transaction latest first, each
 -- once (ARIES), and nobody else touches a key while its transaction is open (strict two-phase locking).
-use Rattle.std.specs.Prelude.{◌≡◌, ◌≢◌, ◌⊎◌, ℕ, ◌<◌, List, [], ◌∷◌, Some, IsSome}
+use Rattle.std.specs.Prelude.{◌≡◌, ◌≢◌, ◌⊎◌, ℕ, ◌<◌, List, [], ◌∷◌, Option, Some, IsSome}
 use Rattle.record_key.specs.declared.op.Op.{Op}
 use Rattle.record_key.specs.Table.{key_of}
 use Rattle.history.specs.declared.record.Record.{Record}
@@ -14,6 +14,17 @@ abbrev pub IsWellChained : List Record → Type 0
 IsWellChained [] = Unit {0}
 IsWellChained (is.Comp t u x i ∷ log) = IsLatest (Stands log t) u × IsLatestOrNone (λ n. Stands log t n × (n < u)) x × IsWellChained log
 IsWellChained (r ∷ log) = IsWellChained log
+
+-- what is left to undo from a step on: the step itself where it is an operation, else its undo-next
+abbrev pub undo_from : Option Record → ℕ → ℕ
+undo_from (Some (is.Comp t u x i)) n = x
+undo_from (Some (is.Op t p o)) n = n
+undo_from _ n = 0
+
+-- the transaction's step before an operation
+abbrev pub prev_in : Option Record → ℕ
+prev_in (Some (is.Op t p o)) = p
+prev_in _ = 0
 
 -- a Commit or End of the transaction stands at this number
 abbrev pub IsEndOf : List Record → ℕ → ℕ → Type 0

@@ -8,34 +8,34 @@ use Rattle.history.specs.declared.record.Record.{Record}
 use Rattle.history.specs.Log.{request_of}
 use Rattle.history.specs.Values.{is_on}
 
--- a number with what it has done
-pub record Done : Type 0 where
+-- an operation with its number
+pub record Numbered : Type 0 where
   pub number : ℕ
   pub op : Op
 
-abbrev pub done_with : Bytes → ℕ → Option Op → List Done → List Done
-done_with k n None rest = rest
-done_with k n (Some o) rest = if is_on k o then record { number = n; op = o } ∷ rest else rest
+abbrev pub numbered_with : Bytes → ℕ → Option Op → List Numbered → List Numbered
+numbered_with k n None rest = rest
+numbered_with k n (Some o) rest = if is_on k o then record { number = n; op = o } ∷ rest else rest
 
 -- a log's numbers on a key, the newest first
-abbrev pub done_on : Bytes → List Record → List Done
-done_on k [] = []
-done_on k (r ∷ log) = done_with k (length log + 1) (request_of r) (done_on k log)
+abbrev pub numbered_on : Bytes → List Record → List Numbered
+numbered_on k [] = []
+numbered_on k (r ∷ log) = numbered_with k (length log + 1) (request_of r) (numbered_on k log)
 
-abbrev pub AreCaptured : (ℕ → Bool) → List Done → Type 0
+abbrev pub AreCaptured : (ℕ → Bool) → List Numbered → Type 0
 AreCaptured cap done = AllByRecursion (λ d. cap d.number ≡ true) done
 
 -- the captured ones are a beginning
-abbrev pub IsBeginning : (ℕ → Bool) → List Done → Type 0
+abbrev pub IsBeginning : (ℕ → Bool) → List Numbered → Type 0
 IsBeginning cap [] = Unit {0}
 IsBeginning cap (d ∷ done) = MatchBool (cap d.number) (AreCaptured cap done) (IsBeginning cap done)
 
 -- the value, or its absence, that the captured ones give
-abbrev pub value_of : (ℕ → Bool) → List Done → Option Bytes
+abbrev pub value_of : (ℕ → Bool) → List Numbered → Option Bytes
 value_of cap [] = None
 value_of cap (d ∷ done) = if cap d.number then value_after d.op (value_of cap done) else value_of cap done
 
 -- honest at one key, where the leaf has this value
 pub record IsHonestAt (log : List Record) (cap : ℕ → Bool) (k : Bytes) (value : Option Bytes) : Type 0 where
-  pub beginning : IsBeginning cap (done_on k log)
-  pub right : value ≡ value_of cap (done_on k log)
+  pub beginning : IsBeginning cap (numbered_on k log)
+  pub right : value ≡ value_of cap (numbered_on k log)

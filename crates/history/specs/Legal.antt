@@ -67,9 +67,13 @@ pub record FitsEnd (log : List Record) (t : ℕ) : Type 0 where
   pub idle : IsIdle log t
   pub undone : (n : ℕ) → Stands log t n → ⊥
 
+-- every request up to this number has its answer
+abbrev pub AreAnswered : List Record → ℕ → Type 0
+AreAnswered log low = (n : ℕ) (o : Op) → n ≤ low → Requests log n o → IsSome (answer_of log n)
+
 pub record FitsCheckpoint (log : List Record) (low : ℕ) : Type 0 where
   pub within : low ≤ length log
-  pub answered : (n : ℕ) (o : Op) → n ≤ low → Requests log n o → IsSome (answer_of log n)
+  pub answered : AreAnswered log low
 
 -- the record may follow the log
 abbrev pub Fits : List Record → Record → Type 0

@@ -87,13 +87,13 @@ IsOpBy log n t o = op_in (record_at log n) ≡ Some (t, o)
 
 -- the history of a log: its answered operations, crossed where a compensation names them. The first
 -- argument is the whole log, the second what is left to read of it.
-abbrev pub answered : List Record → ℕ → ℕ → Op → Option Answer → List Entry → List Entry
-answered log n t o None h = h
-answered log n t o (Some a) h = record { number = n; txn = t; op = o; answer = a; crossed = is_crossed log n } ∷ h
+abbrev pub entry_with : List Record → ℕ → ℕ → Op → Option Answer → List Entry → List Entry
+entry_with log n t o None h = h
+entry_with log n t o (Some a) h = record { number = n; txn = t; op = o; answer = a; crossed = is_crossed log n } ∷ h
 
 abbrev pub hist_in : List Record → List Record → List Entry
 hist_in log [] = []
-hist_in log (is.Op txn prev op ∷ before) = answered log (length before + 1) txn op (answer_of log (length before + 1)) (hist_in log before)
+hist_in log (is.Op txn prev op ∷ before) = entry_with log (length before + 1) txn op (answer_of log (length before + 1)) (hist_in log before)
 hist_in log (r ∷ before) = hist_in log before
 
 abbrev pub hist : List Record → List Entry

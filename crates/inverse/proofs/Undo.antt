@@ -39,19 +39,23 @@ without_effect m o h =
     with_record-there m (key_of o) _ (subst P h (outcome o (get m (key_of o))))
 
 -- an operation elsewhere doesn't see a write at the key, and stands on either side of it
-pub after-elsewhere : (m : Table) (k : Bytes) (s : Option Bytes) (p : Op) → key_of p ≢ k → after (with_record m k s) p ≡ with_record (after m p) k s
+pub after-elsewhere : (m : Table) (k : Bytes) (s : Option Bytes) (p : Op) → key_of p ≢ k
+    → after (with_record m k s) p ≡ with_record (after m p) k s
 after-elsewhere m k s p apart =
     ap (λ r. with_record (with_record m k s) (key_of p) (value_after p r)) (get-with_record_other m k (key_of p) s apart)
     ∙ with_record-swap m k (key_of p) s _ (λ e. apart (sym e))
 
-answer-elsewhere : (m : Table) (k : Bytes) (s : Option Bytes) (p : Op) → key_of p ≢ k → answer_in (with_record m k s) p ≡ answer_in m p
+answer-elsewhere : (m : Table) (k : Bytes) (s : Option Bytes) (p : Op) → key_of p ≢ k
+    → answer_in (with_record m k s) p ≡ answer_in m p
 answer-elsewhere m k s p apart = ap (answer_at p) (get-with_record_other m k (key_of p) s apart)
 
-after_all-elsewhere : (m : Table) (k : Bytes) (s : Option Bytes) (w : List Op) → AreElsewhere k w → after_all (with_record m k s) w ≡ with_record (after_all m w) k s
+after_all-elsewhere : (m : Table) (k : Bytes) (s : Option Bytes) (w : List Op) → AreElsewhere k w
+    → after_all (with_record m k s) w ≡ with_record (after_all m w) k s
 after_all-elsewhere m k s [] h = refl
 after_all-elsewhere m k s (p ∷ w) h = ap (λ t. after_all t w) (after-elsewhere m k s p h.0) ∙ after_all-elsewhere (after m p) k s w h.1
 
-answers_in-elsewhere : (m : Table) (k : Bytes) (s : Option Bytes) (w : List Op) → AreElsewhere k w → answers_in (with_record m k s) w ≡ answers_in m w
+answers_in-elsewhere : (m : Table) (k : Bytes) (s : Option Bytes) (w : List Op) → AreElsewhere k w
+    → answers_in (with_record m k s) w ≡ answers_in m w
 answers_in-elsewhere m k s [] h = refl
 answers_in-elsewhere m k s (p ∷ w) h =
     ap (λ a. a ∷ answers_in (after (with_record m k s) p) w) (answer-elsewhere m k s p h.0)
@@ -64,7 +68,8 @@ get-after_all_elsewhere m k (p ∷ w) h =
     get-after_all_elsewhere (after m p) k w h.1 ∙ get-with_record_other m (key_of p) k _ (λ e. h.0 (sym e))
 
 -- the inverse at the table that it finds
-undone_at : (t : Table) (o i : Op) (r : Option Bytes) → PutsBack o i r → r ≡ get t (key_of o) → after (with_record t (key_of o) (value_after o r)) i ≡ t
+undone_at : (t : Table) (o i : Op) (r : Option Bytes) → PutsBack o i r → r ≡ get t (key_of o)
+    → after (with_record t (key_of o) (value_after o r)) i ≡ t
 undone_at t o i r back there =
     ap (λ k. with_record (with_record t (key_of o) (value_after o r)) k (value_after i (get (with_record t (key_of o) (value_after o r)) k))) back.key
     ∙ ap (λ x. with_record (with_record t (key_of o) (value_after o r)) (key_of o) (value_after i x)) (get-with_record_same t (key_of o) (value_after o r))
@@ -72,7 +77,8 @@ undone_at t o i r back there =
     ∙ with_record-again t (key_of o) (value_after o r) r
     ∙ with_record-there t (key_of o) r there
 
-effective_at : (t : Table) (o i : Op) (r : Option Bytes) → PutsBack o i r → IsEffective (answer_in (with_record t (key_of o) (value_after o r)) i)
+effective_at : (t : Table) (o i : Op) (r : Option Bytes) → PutsBack o i r
+    → IsEffective (answer_in (with_record t (key_of o) (value_after o r)) i)
 effective_at t o i r back =
     let P : Option Bytes → Type 0 = λ x. IsEffective (answer_at i x) in
     let found : value_after o r ≡ get (with_record t (key_of o) (value_after o r)) (key_of i) =

@@ -27,7 +27,8 @@ given_back o r (Some i) h =
     ∙ ap (λ b. if b then value_after i (value_after o r) else value_after o r) (is_same-refl (key_of i)) ∙ h.value
 
 -- and at another key it does nothing
-elsewhere : (k : Bytes) (o : Op) (a : Answer) (i : Option Op) (r : Option Bytes) → is_on k o ≡ false → i ≡ inverse_of o a → value_with k i r ≡ r
+elsewhere : (k : Bytes) (o : Op) (a : Answer) (i : Option Op) (r : Option Bytes) → is_on k o ≡ false
+    → i ≡ inverse_of o a → value_with k i r ≡ r
 elsewhere k o a None r off e = refl
 elsewhere k o a (Some i) r off e =
     ap (λ b. if b then value_after i r else r) (ap (is_same k) (inverse_key o i a (sym e)) ∙ off)
@@ -80,7 +81,8 @@ module _ (log : List Record) (t u x : ℕ) (i : Option Op) (legal : IsLegal log)
       ∙ cancels (before log u) (all_cancel-before log u all) (key_of o) ∙ sym (standing_without log t u x i legal fits)
 
   -- at another key nothing changes
-  cancelled_elsewhere : (k : Bytes) → is_on k o ≡ false → value_with k i (value_on k log) ≡ value_where k (λ n. not ((n == u) || is_crossed log n)) log
+  cancelled_elsewhere : (k : Bytes) → is_on k o ≡ false
+      → value_with k i (value_on k log) ≡ value_where k (λ n. not ((n == u) || is_crossed log n)) log
   cancelled_elsewhere k off =
       elsewhere k o fits.inverse.answer i (value_on k log) off fits.inverse.inverse ∙ cancels log all k
       ∙ values_alike k (λ n. not (is_crossed log n)) (λ n. not ((n == u) || is_crossed log n)) log (λ n v q is_op on.
@@ -100,7 +102,8 @@ module _ (log : List Record) (t u x : ℕ) (i : Option Op) (legal : IsLegal log)
       ]
 
 -- and with any record that fits
-cancels_next : (r : Record) (log : List Record) → Fits log r → IsLegal log → HasRightAnswers log → AllCancel log → Cancels (r ∷ log)
+cancels_next : (r : Record) (log : List Record) → Fits log r → IsLegal log → HasRightAnswers log → AllCancel log
+    → Cancels (r ∷ log)
 cancels_next (is.Op t p o) log fits legal right all k =
     ap (λ v. if is_on k o then value_after o v else v) (cancels log all k)
     ∙ ap (λ b. if not b && is_on k o then value_after o (value_standing k log) else value_standing k log) (sym (uncrossed_next log legal))
@@ -119,7 +122,8 @@ pub cancel : CompensationsCancel
 cancel log legal right = cancels log (all_cancel log legal right)
 
 -- what the compensation finds and gives back, for the operation that it names
-bracket_there : (log : List Record) (t u x : ℕ) (i : Op) (legal : IsLegal log) (fits : FitsComp log t u x (Some i)) → HasRightAnswers log → AllCancel log
+bracket_there : (log : List Record) (t u x : ℕ) (i : Op) (legal : IsLegal log) (fits : FitsComp log t u x (Some i))
+    → HasRightAnswers log → AllCancel log
     → Brackets log u fits.inverse.op i
 bracket_there log t u x i legal fits right all =
     let o : Op = fits.inverse.op in

@@ -4,8 +4,8 @@ use Rattle.std.proofs.lemmas.Bool.{cases_eq, cases_Bool}
 use Rattle.record_key.specs.Table.{Bytes}
 use Rattle.history.specs.declared.record.Record.{Record}
 use Rattle.history.specs.Log.{answer_of, request_in}
-use Rattle.history.specs.Legal.{IsIdle, IsKeyFree, IsLatest, IsLatestOrNone}
-use Rattle.log_laws.specs.Reading.{Waits, Blocks, LacksAnswer, AreAnswered}
+use Rattle.history.specs.Legal.{IsIdle, IsKeyFree, IsLatest, IsLatestOrNone, AreAnswered}
+use Rattle.log_laws.specs.Reading.{Waits, Blocks, LacksAnswer}
 use Rattle.log_laws.proofs.Records.{IsNumber, within}
 use Rattle.log_laws.proofs.LegalLogs.{op_number, request_number, step_number}
 use Rattle.log_laws.proofs.Undo.{latest_as}
@@ -29,7 +29,8 @@ idle_from log t none n o step asks =
     ]
 
 -- where none blocks, the key is free
-pub free_from : (log : List Record) (t : ℕ) (k : Bytes) → ((n : ℕ) → n ≤ length log → Blocks log t k n → ⊥) → IsKeyFree log t k
+pub free_from : (log : List Record) (t : ℕ) (k : Bytes) → ((n : ℕ) → n ≤ length log → Blocks log t k n → ⊥)
+    → IsKeyFree log t k
 free_from log t k none n u o is_op same goes_on =
     elim (cases_eq u t) [
       | inl e ↦ e
@@ -38,7 +39,8 @@ free_from log t k none n u o is_op same goes_on =
     ]
 
 -- where none lacks its answer, all are answered
-pub answered_from : (log : List Record) (low : ℕ) → ((n : ℕ) → n ≤ length log → LacksAnswer log low n → ⊥) → AreAnswered log low
+pub answered_from : (log : List Record) (low : ℕ) → ((n : ℕ) → n ≤ length log → LacksAnswer log low n → ⊥)
+    → AreAnswered log low
 answered_from log low none n o below asks =
     elim (cases_Bool (is_some (answer_of log n))) [
       | inl answered ↦ answered
@@ -50,11 +52,13 @@ pub latest_none : (P : ℕ → Type 0) → (P 0 → ⊥) → IsLatestOrNone (λ 
 latest_none P zero_is_none = inr (refl, λ m h. let e : m ≡ 0 = omega (arith, h.1) in zero_is_none (subst P e h.0))
 
 -- the greatest of all, where none is above the size
-pub latest_all : (P : ℕ → Type 0) (size x : ℕ) → ((n : ℕ) → P n → n ≤ size) → IsLatestOrNone (λ n. P n × (n ≤ size)) x → IsLatestOrNone P x
+pub latest_all : (P : ℕ → Type 0) (size x : ℕ) → ((n : ℕ) → P n → n ≤ size) → IsLatestOrNone (λ n. P n × (n ≤ size)) x
+    → IsLatestOrNone P x
 latest_all P size x bounded found = latest_as (λ n. P n × (n ≤ size)) P (λ n h. h.0) (λ n h. (h, bounded n h)) x found
 
 -- and of one number more, which is one of them or isn't
-pub latest_more : (P : ℕ → Type 0) (i x y : ℕ) (b : Bool) → IsLatestOrNone (λ n. P n × (n ≤ i)) x → ((b ≡ true → P (i + 1)) × (P (i + 1) → b ≡ true))
+pub latest_more : (P : ℕ → Type 0) (i x y : ℕ) (b : Bool) → IsLatestOrNone (λ n. P n × (n ≤ i)) x
+    → ((b ≡ true → P (i + 1)) × (P (i + 1) → b ≡ true))
     → ((b ≡ true) × (y ≡ i + 1)) ⊎ ((b ≡ false) × (y ≡ x)) → IsLatestOrNone (λ n. P n × (n ≤ i + 1)) y
 latest_more P i x y b found decides (inl h) =
     inl (record { is = (subst P (sym h.1) (decides.0 h.0), omega (arith, h.1)); greatest = λ m l. omega (arith, l.1, h.1) })

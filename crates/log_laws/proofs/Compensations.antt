@@ -18,7 +18,8 @@ use Rattle.log_laws.proofs.Undo.{stands_since, number_before}
 use Rattle.log_laws.proofs.Values.{values_alike, value_split}
 
 -- a transaction that has ended is crossed no further
-pub ended_crosses_none : (r : Record) (log : List Record) (n v : ℕ) (q : Op) → Fits log r → IsOpBy log n v q → has_ended log v ≡ true → is_crossed (r ∷ log) n ≡ is_crossed log n
+pub ended_crosses_none : (r : Record) (log : List Record) (n v : ℕ) (q : Op) → Fits log r → IsOpBy log n v q
+    → has_ended log v ≡ true → is_crossed (r ∷ log) n ≡ is_crossed log n
 ended_crosses_none (is.Comp t w x i) log n v q fits is_op ended =
     elim (cases_eq n w) [
       | inl e ↦
@@ -31,7 +32,8 @@ ended_crosses_none (is.Comp t w x i) log n v q fits is_op ended =
 ended_crosses_none _ log n v q fits is_op ended = refl
 
 -- so it stays as it was since a number before which its transaction ended
-pub frozen : (log : List Record) (u n v : ℕ) (q : Op) → IsLegal log → IsNumber log u → n < u → IsOpBy (before log u) n v q → has_ended (before log u) v ≡ true
+pub frozen : (log : List Record) (u n v : ℕ) (q : Op) → IsLegal log → IsNumber log u → n < u
+    → IsOpBy (before log u) n v q → has_ended (before log u) v ≡ true
     → is_crossed log n ≡ is_crossed (before log u) n
 frozen [] u n v q legal number below is_op ended = refl
 frozen (r ∷ log) u n v q legal number below is_op ended =
@@ -49,7 +51,8 @@ frozen (r ∷ log) u n v q legal number below is_op ended =
     ]
 
 -- who ended between two numbers had ended before the later one
-pub ended_before : (log : List Record) (t n m : ℕ) → IsNumber log m → EndsBetween log t n m → has_ended (before log m) t ≡ true
+pub ended_before : (log : List Record) (t n m : ℕ) → IsNumber log m → EndsBetween log t n m
+    → has_ended (before log m) t ≡ true
 ended_before log t n m number h = end_ends (before log m) t h.end (subst (AnEnd t) (sym (record_before log h.end m number h.before)) h.is)
 
 -- at a compensation: what stands at its key
@@ -68,7 +71,8 @@ module _ (log : List Record) (t u x : ℕ) (i : Option Op) (legal : IsLegal log)
   number = op_number log u t undone undone_is
 
   -- nothing on the key stands above it
-  crossed_above : (n v : ℕ) (q : Op) → u < n → IsOpBy log n v q → is_on (key_of undone) q ≡ true → is_crossed log n ≡ true
+  crossed_above : (n v : ℕ) (q : Op) → u < n → IsOpBy log n v q → is_on (key_of undone) q ≡ true
+      → is_crossed log n ≡ true
   crossed_above n v q above is_op on =
       elim (cases_Bool (is_crossed log n)) [
         | inl c ↦ c
@@ -83,7 +87,8 @@ module _ (log : List Record) (t u x : ℕ) (i : Option Op) (legal : IsLegal log)
       ]
 
   -- what stood on the key below it stands
-  crossed_below : (n v : ℕ) (q : Op) → IsOpBy (before log u) n v q → is_on (key_of undone) q ≡ true → is_crossed log n ≡ is_crossed (before log u) n
+  crossed_below : (n v : ℕ) (q : Op) → IsOpBy (before log u) n v q → is_on (key_of undone) q ≡ true
+      → is_crossed log n ≡ is_crossed (before log u) n
   crossed_below n v q was_op on =
       let below : n < u = number_before log u n number (op_number (before log u) n v q was_op) in
       let is_op : IsOpBy log n v q = subst (AnOp v q) (record_before log n u number below) was_op in

@@ -85,7 +85,8 @@ step_idle log (is.Op u p o) t h s = let e : u ≡ t = cc in subst (IsIdle log) e
 step_idle log (is.Comp u w x i) t h s = let e : u ≡ t = cc in subst (IsIdle log) e h.idle
 step_idle log _ t h s = absurd (cc)
 
-pub step_ends_none : (log : List Record) (r : Record) (t u : ℕ) → AStep t (Some r) → has_ended (r ∷ log) u ≡ has_ended log u
+pub step_ends_none : (log : List Record) (r : Record) (t u : ℕ) → AStep t (Some r)
+    → has_ended (r ∷ log) u ≡ has_ended log u
 step_ends_none log (is.Op v p o) t u s = refl
 step_ends_none log (is.Comp v w x i) t u s = refl
 step_ends_none log _ t u s = absurd (cc)
@@ -99,7 +100,8 @@ pub begun_number : (log : List Record) (t : ℕ) → record_at log t ≡ Some is
 begun_number log t h = within ABegin (λ e. cc) log t h
 
 -- and has begun for good
-pub kept_begun : (r : Record) (log : List Record) (t : ℕ) → record_at log t ≡ Some is.Begin → record_at (r ∷ log) t ≡ Some is.Begin
+pub kept_begun : (r : Record) (log : List Record) (t : ℕ) → record_at log t ≡ Some is.Begin
+    → record_at (r ∷ log) t ≡ Some is.Begin
 kept_begun r log t h = kept_at ABegin r log t (begun_number log t h) h
 
 -- the transaction of a step has begun
@@ -112,7 +114,8 @@ begun (r ∷ log) t n h s =
     ]
 
 -- a transaction that has ended had, or does by the newest record
-pub ended_cases : (t : ℕ) (r : Record) (log : List Record) → has_ended (r ∷ log) t ≡ true → (has_ended log t ≡ true) ⊎ ((r ≡ is.Commit t) ⊎ (r ≡ is.End t))
+pub ended_cases : (t : ℕ) (r : Record) (log : List Record) → has_ended (r ∷ log) t ≡ true
+    → (has_ended log t ≡ true) ⊎ ((r ≡ is.Commit t) ⊎ (r ≡ is.End t))
 ended_cases t (is.Commit u) log h =
     elim (or_cases (t == u) (has_ended log t) h) [ inl e ↦ inr (inl (ap is.Commit (sym (eqb-true t u e)))) | inr e ↦ inl e ]
 ended_cases t (is.End u) log h =
@@ -143,7 +146,8 @@ kept_request : (r : Record) (log : List Record) (n : ℕ) → HasRequest log n �
 kept_request r log n h = record { op = h.op; requested = kept_at (ARequest h.op) r log n (request_number log n h.op h.requested) h.requested }
 
 -- what a compensation names is an operation of its transaction
-crossed_now : (r : Record) (log : List Record) (n : ℕ) → Fits log r → is_crossed (r ∷ log) n ≡ true → (is_crossed log n ≡ true → SomeOp log n) → SomeOp log n
+crossed_now : (r : Record) (log : List Record) (n : ℕ) → Fits log r → is_crossed (r ∷ log) n ≡ true
+    → (is_crossed log n ≡ true → SomeOp log n) → SomeOp log n
 crossed_now (is.Comp t u x i) log n h c before =
     elim (or_cases (n == u) (is_crossed log n) c) [
       | inl e ↦ subst (SomeOp log) (sym (eqb-true n u e)) (record { txn = t; op = h.latest.is.op; is_op = h.latest.is.is })
@@ -157,7 +161,8 @@ crossed_is_op [] n h c = absurd (cc)
 crossed_is_op (r ∷ log) n h c = kept_op r log n (crossed_now r log n h.0 c (crossed_is_op log n h.1))
 
 -- what is answered is a request
-answered_now : (r : Record) (log : List Record) (n : ℕ) → Fits log r → IsSome (answer_of (r ∷ log) n) → (IsSome (answer_of log n) → HasRequest log n) → HasRequest log n
+answered_now : (r : Record) (log : List Record) (n : ℕ) → Fits log r → IsSome (answer_of (r ∷ log) n)
+    → (IsSome (answer_of log n) → HasRequest log n) → HasRequest log n
 answered_now (is.Answer m a) log n h c before =
     elim (cases_eq n m) [
       | inl e ↦ subst (HasRequest log) (sym e) (record { op = h.op; requested = h.requested })
@@ -194,7 +199,8 @@ stands_step log t n h = op_step t h.op (record_at log n) h.is
 pub stands_number : (log : List Record) (t n : ℕ) → Stands log t n → IsNumber log n
 stands_number log t n h = op_number log n t h.op h.is
 
-pub stands_kept : (r : Record) (log : List Record) (t n : ℕ) → Stands log t n → is_crossed (r ∷ log) n ≡ false → Stands (r ∷ log) t n
+pub stands_kept : (r : Record) (log : List Record) (t n : ℕ) → Stands log t n → is_crossed (r ∷ log) n ≡ false
+    → Stands (r ∷ log) t n
 stands_kept r log t n h c = record { op = h.op; is = kept_at (AnOp t h.op) r log n (stands_number log t n h) h.is; uncrossed = c }
 
 -- and it stood before the newest record

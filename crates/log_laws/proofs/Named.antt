@@ -19,7 +19,8 @@ txn_below (r ∷ log) t n legal step =
     ]
 
 -- what is undone was answered
-crossed_answered_now : (r : Record) (log : List Record) (n : ℕ) → Fits log r → is_crossed (r ∷ log) n ≡ true → (is_crossed log n ≡ true → IsSome (answer_of log n)) → IsSome (answer_of log n)
+crossed_answered_now : (r : Record) (log : List Record) (n : ℕ) → Fits log r → is_crossed (r ∷ log) n ≡ true
+    → (is_crossed log n ≡ true → IsSome (answer_of log n)) → IsSome (answer_of log n)
 crossed_answered_now (is.Comp t u x i) log n fits c before =
     elim (or_cases (n == u) (is_crossed log n) c) [
       | inl e ↦ ap (λ m. is_some (answer_of log m)) (eqb-true n u e) ∙ ap is_some fits.inverse.answered
@@ -31,7 +32,8 @@ pub crossed_answered : (log : List Record) (n : ℕ) → IsLegal log → is_cros
 crossed_answered [] n legal c = absurd (cc)
 crossed_answered (r ∷ log) n legal c = answered_push n r log (crossed_answered_now r log n legal.0 c (crossed_answered log n legal.1))
 
-pub unanswered_uncrossed : (log : List Record) (n : ℕ) → IsLegal log → is_some (answer_of log n) ≡ false → is_crossed log n ≡ false
+pub unanswered_uncrossed : (log : List Record) (n : ℕ) → IsLegal log → is_some (answer_of log n) ≡ false
+    → is_crossed log n ≡ false
 unanswered_uncrossed log n legal h = falls (is_crossed log n) (is_some (answer_of log n)) (crossed_answered log n legal) h
 
 -- who has ended had begun
@@ -55,7 +57,8 @@ open_begun log legal = record {
 }
 
 -- an open transaction stays open until it ends, and was open since it began
-pub open_kept : (r : Record) (log : List Record) (t : ℕ) → IsOpen log t → has_ended (r ∷ log) t ≡ false → IsOpen (r ∷ log) t
+pub open_kept : (r : Record) (log : List Record) (t : ℕ) → IsOpen log t → has_ended (r ∷ log) t ≡ false
+    → IsOpen (r ∷ log) t
 open_kept r log t h goes_on = record { begun = kept_begun r log t h.begun; goes_on = goes_on }
 
 pub open_had : (r : Record) (log : List Record) (t : ℕ) → IsNumber log t → IsOpen (r ∷ log) t → IsOpen log t

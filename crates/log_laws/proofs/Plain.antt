@@ -10,9 +10,9 @@ use Rattle.record_key.proofs.Tables.{is_same-true, get-with_record}
 use Rattle.history.specs.declared.record.Record.{Record}
 use Rattle.history.specs.declared.record.Record.TheVariants as is
 use Rattle.history.specs.History.{Entry, plain}
-use Rattle.history.specs.Log.{answer_of, is_crossed, answered, hist_in, request_of}
+use Rattle.history.specs.Log.{answer_of, is_crossed, entry_with, hist_in, request_of}
 use Rattle.history.specs.Values.{is_on, value_with, value_on, value_where}
-use Rattle.history.specs.Honest.{Done, done_with, done_on, AreCaptured, value_of}
+use Rattle.history.specs.Honest.{Numbered, numbered_with, numbered_on, AreCaptured, value_of}
 use Rattle.log_laws.specs.Laws.{PlainOfHistory, SettledIsPlain}
 use Rattle.log_laws.proofs.Values.{values_alike}
 use Rattle.log_laws.proofs.Cancel.{cancel}
@@ -24,7 +24,8 @@ on_or_off true k m o v same e = ap (value_after o) (ap (get m) (sym (same refl))
 on_or_off false k m o v same e = e
 
 -- the value at a key after an operation on it or on another
-get-after : (k : Bytes) (m : Table) (o : Op) (v : Option Bytes) → get m k ≡ v → get (after m o) k ≡ (if is_on k o then value_after o v else v)
+get-after : (k : Bytes) (m : Table) (o : Op) (v : Option Bytes) → get m k ≡ v
+    → get (after m o) k ≡ (if is_on k o then value_after o v else v)
 get-after k m o v e = get-with_record m (key_of o) (value_after o (get m (key_of o))) k ∙ on_or_off (is_on k o) k m o v (is_same-true k (key_of o)) e
 
 -- an entry leaves its operation's value unless it is crossed
@@ -34,13 +35,16 @@ entry_leaves true k m o v e = e
 entry_leaves false k m o v e = get-after k m o v e
 
 -- an operation leaves its value where it is answered and not crossed
-answered_leaves : (whole : List Record) (n t : ℕ) (o : Op) (a : Option Answer) (h : List Entry) (k : Bytes) (v : Option Bytes) → get (plain h) k ≡ v
-    → get (plain (answered whole n t o a h)) k ≡ (if (is_some a && not (is_crossed whole n)) && is_on k o then value_after o v else v)
+answered_leaves : (whole : List Record) (n t : ℕ) (o : Op) (a : Option Answer) (h : List Entry) (k : Bytes)
+    (v : Option Bytes)
+    → get (plain h) k ≡ v
+    → get (plain (entry_with whole n t o a h)) k ≡ (if (is_some a && not (is_crossed whole n)) && is_on k o then value_after o v else v)
 answered_leaves whole n t o None h k v e = e
 answered_leaves whole n t o (Some a) h k v e = entry_leaves (is_crossed whole n) k (plain h) o v e
 
 -- so does what is left to read of the log
-plain_in : (whole log : List Record) (k : Bytes) → get (plain (hist_in whole log)) k ≡ value_where k (λ n. is_some (answer_of whole n) && not (is_crossed whole n)) log
+plain_in : (whole log : List Record) (k : Bytes)
+    → get (plain (hist_in whole log)) k ≡ value_where k (λ n. is_some (answer_of whole n) && not (is_crossed whole n)) log
 plain_in whole [] k = get-empty key_cmp k
 plain_in whole (is.Op t p o ∷ log) k =
     answered_leaves whole (length log + 1) t o (answer_of whole (length log + 1)) (hist_in whole log) k
@@ -52,32 +56,37 @@ pub plain_of_history : PlainOfHistory
 plain_of_history log k = plain_in log log k
 
 -- what is done at a key, all of it captured, is what the log leaves there
-rest_captured : (cap : ℕ → Bool) (on : Bool) (d : Done) (rest : List Done) → AreCaptured cap (if on then d ∷ rest else rest) → AreCaptured cap rest
+rest_captured : (cap : ℕ → Bool) (on : Bool) (d : Numbered) (rest : List Numbered)
+    → AreCaptured cap (if on then d ∷ rest else rest) → AreCaptured cap rest
 rest_captured cap true d rest h = h.1
 rest_captured cap false d rest h = h
 
 -- one number more, captured and on the key or elsewhere
-captured_leaves : (cap : ℕ → Bool) (on : Bool) (d : Done) (rest : List Done) (v : Option Bytes) → value_of cap rest ≡ v → AreCaptured cap (if on then d ∷ rest else rest)
+captured_leaves : (cap : ℕ → Bool) (on : Bool) (d : Numbered) (rest : List Numbered) (v : Option Bytes)
+    → value_of cap rest ≡ v → AreCaptured cap (if on then d ∷ rest else rest)
     → value_of cap (if on then d ∷ rest else rest) ≡ (if on then value_after d.op v else v)
 captured_leaves cap true d rest v e h = ap (λ b. if b then value_after d.op (value_of cap rest) else value_of cap rest) h.0 ∙ ap (value_after d.op) e
 captured_leaves cap false d rest v e h = e
 
 -- the same, of what a record has done
-done_rest : (cap : ℕ → Bool) (k : Bytes) (n : ℕ) (o : Option Op) (rest : List Done) → AreCaptured cap (done_with k n o rest) → AreCaptured cap rest
+done_rest : (cap : ℕ → Bool) (k : Bytes) (n : ℕ) (o : Option Op) (rest : List Numbered)
+    → AreCaptured cap (numbered_with k n o rest) → AreCaptured cap rest
 done_rest cap k n None rest h = h
 done_rest cap k n (Some o) rest h = rest_captured cap (is_on k o) (record { number = n; op = o }) rest h
 
-done_leaves : (cap : ℕ → Bool) (k : Bytes) (n : ℕ) (o : Option Op) (rest : List Done) (v : Option Bytes) → value_of cap rest ≡ v → AreCaptured cap (done_with k n o rest)
-    → value_of cap (done_with k n o rest) ≡ value_with k o v
+done_leaves : (cap : ℕ → Bool) (k : Bytes) (n : ℕ) (o : Option Op) (rest : List Numbered) (v : Option Bytes)
+    → value_of cap rest ≡ v → AreCaptured cap (numbered_with k n o rest)
+    → value_of cap (numbered_with k n o rest) ≡ value_with k o v
 done_leaves cap k n None rest v e h = e
 done_leaves cap k n (Some o) rest v e h = captured_leaves cap (is_on k o) (record { number = n; op = o }) rest v e h
 
 -- where all is captured, the captured ones give what the log leaves
-pub value_of-captured : (log : List Record) (k : Bytes) (cap : ℕ → Bool) → AreCaptured cap (done_on k log) → value_of cap (done_on k log) ≡ value_on k log
+pub value_of-captured : (log : List Record) (k : Bytes) (cap : ℕ → Bool) → AreCaptured cap (numbered_on k log)
+    → value_of cap (numbered_on k log) ≡ value_on k log
 value_of-captured [] k cap h = refl
 value_of-captured (r ∷ log) k cap h =
-    done_leaves cap k (length log + 1) (request_of r) (done_on k log) (value_on k log)
-    (value_of-captured log k cap (done_rest cap k (length log + 1) (request_of r) (done_on k log) h)) h
+    done_leaves cap k (length log + 1) (request_of r) (numbered_on k log) (value_on k log)
+    (value_of-captured log k cap (done_rest cap k (length log + 1) (request_of r) (numbered_on k log) h)) h
 
 -- and where all is answered, that is the plain map of the history
 pub settled_is_plain : SettledIsPlain

@@ -10,7 +10,8 @@ use Rattle.log_laws.proofs.Records.{at_newest, record_old, beyond}
 use Rattle.log_laws.proofs.LegalLogs.{legal_end}
 
 -- one more of the slice is the newest of the list
-pub reverse-take_suc : (xs : List Record) (i : ℕ) (d : Record) → i < length xs → reverse (take (suc i) xs) ≡ get_or xs i d ∷ reverse (take i xs)
+pub reverse-take_suc : (xs : List Record) (i : ℕ) (d : Record) → i < length xs
+    → reverse (take (suc i) xs) ≡ get_or xs i d ∷ reverse (take i xs)
 reverse-take_suc xs i d h = ap reverse (take-suc xs i d h) ∙ reverse-append (take i xs) (get_or xs i d ∷ [])
 
 -- all of the slice is the list
@@ -22,7 +23,8 @@ pub length-taken : (xs : List Record) (i : ℕ) → i ≤ length xs → length (
 length-taken xs i h = length-reverse (take i xs) ∙ omega (arith, length-take i xs)
 
 -- the record of a number stands at the place one below it
-at_taken : (xs : List Record) (m i : ℕ) (d : Record) → i < m → m ≤ length xs → record_at (reverse (take m xs)) (i + 1) ≡ Some (get_or xs i d)
+at_taken : (xs : List Record) (m i : ℕ) (d : Record) → i < m → m ≤ length xs
+    → record_at (reverse (take m xs)) (i + 1) ≡ Some (get_or xs i d)
 at_taken xs zero i d below within = absurd (omega arith)
 at_taken xs (suc m) i d below within =
     let more = reverse-take_suc xs m d (omega arith) in
@@ -33,11 +35,13 @@ at_taken xs (suc m) i d below within =
     ]
 
 -- in the whole slice
-pub at_reversed : (xs : List Record) (i : ℕ) (d : Record) → i < length xs → record_at (reverse xs) (i + 1) ≡ Some (get_or xs i d)
+pub at_reversed : (xs : List Record) (i : ℕ) (d : Record) → i < length xs
+    → record_at (reverse xs) (i + 1) ≡ Some (get_or xs i d)
 at_reversed xs i d h = ap (λ x. record_at x (i + 1)) (sym (reverse-take_all xs)) ∙ at_taken xs (length xs) i d h (omega arith)
 
 -- what is read at the place is the record of the number
-pub read_at : (xs : List Record) (n : ℕ) (r : Option (Bor Record)) → (n ≡ 0 → ⊥) → is_some r ≡ ltb (n - 1) (length xs) → IfSome r (λ x. x.now ≡ get_or xs (n - 1) x.now)
+pub read_at : (xs : List Record) (n : ℕ) (r : Option (Bor Record)) → (n ≡ 0 → ⊥) → is_some r ≡ ltb (n - 1) (length xs)
+    → IfSome r (λ x. x.now ≡ get_or xs (n - 1) x.now)
     → option_copied r ≡ record_at (reverse xs) n
 read_at xs n None positive is_in there =
     let out : length xs ≤ n - 1 = ltb-false (n - 1) (length xs) (sym is_in) in
@@ -47,7 +51,8 @@ read_at xs n (Some x) positive is_in there =
     ap Some there ∙ sym (at_reversed xs (n - 1) x.now (ltb-true (n - 1) (length xs) (sym is_in))) ∙ ap (record_at (reverse xs)) e
 
 -- a legal log's record fits those before its place
-pub fits_taken : (xs : List Record) (i : ℕ) (d : Record) → i < length xs → IsLegal (reverse xs) → Fits (reverse (take i xs)) (get_or xs i d)
+pub fits_taken : (xs : List Record) (i : ℕ) (d : Record) → i < length xs → IsLegal (reverse xs)
+    → Fits (reverse (take i xs)) (get_or xs i d)
 fits_taken xs i d h legal =
     let parts : reverse (drop (suc i) xs) ++ reverse (take (suc i) xs) ≡ reverse xs =
     sym (reverse-append (take (suc i) xs) (drop (suc i) xs)) ∙ ap reverse (take-append-drop (suc i) xs) in

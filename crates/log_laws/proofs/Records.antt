@@ -61,17 +61,21 @@ pub no_request : (o : Op) → ARequest o None → ⊥
 no_request o h = cc
 
 -- the newest number has the newest record
-pub at_newest : (P : Option Record → Type 0) (r : Record) (log : List Record) (n : ℕ) → n ≡ length log + 1 → P (Some r) → P (record_at (r ∷ log) n)
+pub at_newest : (P : Option Record → Type 0) (r : Record) (log : List Record) (n : ℕ) → n ≡ length log + 1 → P (Some r)
+    → P (record_at (r ∷ log) n)
 at_newest P r log n e h = subst (λ (b : Bool). P (cond b (Some r) (record_at log n))) (sym (eq-eqb n (length log + 1) e)) h
 
-pub newest_at : (P : Option Record → Type 0) (r : Record) (log : List Record) (n : ℕ) → n ≡ length log + 1 → P (record_at (r ∷ log) n) → P (Some r)
+pub newest_at : (P : Option Record → Type 0) (r : Record) (log : List Record) (n : ℕ) → n ≡ length log + 1
+    → P (record_at (r ∷ log) n) → P (Some r)
 newest_at P r log n e h = subst (λ (b : Bool). P (cond b (Some r) (record_at log n))) (eq-eqb n (length log + 1) e) h
 
 -- any other has the record that it had
-pub at_older : (P : Option Record → Type 0) (r : Record) (log : List Record) (n : ℕ) → n ≢ length log + 1 → P (record_at log n) → P (record_at (r ∷ log) n)
+pub at_older : (P : Option Record → Type 0) (r : Record) (log : List Record) (n : ℕ) → n ≢ length log + 1
+    → P (record_at log n) → P (record_at (r ∷ log) n)
 at_older P r log n e h = subst (λ (b : Bool). P (cond b (Some r) (record_at log n))) (sym (ne_eqb n (length log + 1) e)) h
 
-pub older_at : (P : Option Record → Type 0) (r : Record) (log : List Record) (n : ℕ) → n ≢ length log + 1 → P (record_at (r ∷ log) n) → P (record_at log n)
+pub older_at : (P : Option Record → Type 0) (r : Record) (log : List Record) (n : ℕ) → n ≢ length log + 1
+    → P (record_at (r ∷ log) n) → P (record_at log n)
 older_at P r log n e h = subst (λ (b : Bool). P (cond b (Some r) (record_at log n))) (ne_eqb n (length log + 1) e) h
 
 -- the same as equations
@@ -107,7 +111,8 @@ pub not_newest : (log : List Record) (n : ℕ) → IsNumber log n → n ≢ leng
 not_newest log n h e = omega (arith, h.bounded, e)
 
 -- only numbers of the log have a record
-pub within : (P : Option Record → Type 0) → (P None → ⊥) → (log : List Record) (n : ℕ) → P (record_at log n) → IsNumber log n
+pub within : (P : Option Record → Type 0) → (P None → ⊥) → (log : List Record) (n : ℕ) → P (record_at log n)
+    → IsNumber log n
 within P nothing [] n h = absurd (nothing h)
 within P nothing (r ∷ log) n h =
     elim (cases_eq n (length log + 1)) [ inl e ↦ newest_number r log n e | inr e ↦ longer r log n (within P nothing log n (older_at P r log n e h)) ]
@@ -121,17 +126,21 @@ beyond log n out = by (record_at log n) refl
     by (Some r) e = let number = within (λ x. x ≡ Some r) (λ f. cc) log n e in absurd (out number.bounded number.positive)
 
 -- what a number has it has in a longer log
-pub kept_at : (P : Option Record → Type 0) (r : Record) (log : List Record) (n : ℕ) → IsNumber log n → P (record_at log n) → P (record_at (r ∷ log) n)
+pub kept_at : (P : Option Record → Type 0) (r : Record) (log : List Record) (n : ℕ) → IsNumber log n
+    → P (record_at log n) → P (record_at (r ∷ log) n)
 kept_at P r log n is h = at_older P r log n (not_newest log n is) h
 
-pub had_at : (P : Option Record → Type 0) (r : Record) (log : List Record) (n : ℕ) → IsNumber log n → P (record_at (r ∷ log) n) → P (record_at log n)
+pub had_at : (P : Option Record → Type 0) (r : Record) (log : List Record) (n : ℕ) → IsNumber log n
+    → P (record_at (r ∷ log) n) → P (record_at log n)
 had_at P r log n is h = older_at P r log n (not_newest log n is) h
 
 -- the log before the newest number, and before another
-pub before_newest : (P : List Record → Type 0) (r : Record) (log : List Record) (n : ℕ) → n ≡ length log + 1 → P log → P (before (r ∷ log) n)
+pub before_newest : (P : List Record → Type 0) (r : Record) (log : List Record) (n : ℕ) → n ≡ length log + 1 → P log
+    → P (before (r ∷ log) n)
 before_newest P r log n e h = subst (λ (b : Bool). P (cond b log (before log n))) (sym (eq-eqb n (length log + 1) e)) h
 
-pub before_older : (P : List Record → Type 0) (r : Record) (log : List Record) (n : ℕ) → n ≢ length log + 1 → P (before log n) → P (before (r ∷ log) n)
+pub before_older : (P : List Record → Type 0) (r : Record) (log : List Record) (n : ℕ) → n ≢ length log + 1
+    → P (before log n) → P (before (r ∷ log) n)
 before_older P r log n e h = subst (λ (b : Bool). P (cond b log (before log n))) (sym (ne_eqb n (length log + 1) e)) h
 
 -- the same as equations
@@ -142,7 +151,8 @@ pub before_old : (r : Record) (log : List Record) (n : ℕ) → n ≢ length log
 before_old r log n e = before_older (λ x. x ≡ before log n) r log n e refl
 
 -- what each record more keeps holds since then
-pub since : (P : List Record → Type 0) → ((r : Record) (log : List Record) → P log → P (r ∷ log)) → (log : List Record) (n : ℕ) → P (before log n) → P log
+pub since : (P : List Record → Type 0) → ((r : Record) (log : List Record) → P log → P (r ∷ log))
+    → (log : List Record) (n : ℕ) → P (before log n) → P log
 since P push [] n h = h
 since P push (r ∷ log) n h =
     elim (cases_eq n (length log + 1)) [
@@ -151,7 +161,8 @@ since P push (r ∷ log) n h =
     ]
 
 -- what each beginning keeps held before
-pub until : (P : List Record → Type 0) → P [] → ((r : Record) (log : List Record) → P (r ∷ log) → P log) → (log : List Record) (n : ℕ) → P log → P (before log n)
+pub until : (P : List Record → Type 0) → P [] → ((r : Record) (log : List Record) → P (r ∷ log) → P log)
+    → (log : List Record) (n : ℕ) → P log → P (before log n)
 until P none pop [] n h = none
 until P none pop (r ∷ log) n h =
     elim (cases_eq n (length log + 1)) [
@@ -169,7 +180,8 @@ length_before (r ∷ log) n h =
     ]
 
 -- a number before another has there the record that it has
-pub record_before : (log : List Record) (m n : ℕ) → IsNumber log n → m < n → record_at (before log n) m ≡ record_at log m
+pub record_before : (log : List Record) (m n : ℕ) → IsNumber log n → m < n
+    → record_at (before log n) m ≡ record_at log m
 record_before [] m n h less = refl
 record_before (r ∷ log) m n h less =
     elim (which r log n h) [

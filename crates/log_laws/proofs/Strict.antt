@@ -48,7 +48,8 @@ kept_end : (r : Record) (log : List Record) (t n : ℕ) → EndsAfter log t n �
 kept_end r log t n h = record { end = h.end; is_end = kept_at (AnEnd t) r log h.end (end_number log t h.end h.is_end) h.is_end; after = h.after }
 
 -- a transaction that has a step and has ended did so after the step
-pub ended_after : (log : List Record) (t n : ℕ) → IsLegal log → IsStepOf log t n → has_ended log t ≡ true → EndsAfter log t n
+pub ended_after : (log : List Record) (t n : ℕ) → IsLegal log → IsStepOf log t n → has_ended log t ≡ true
+    → EndsAfter log t n
 ended_after [] t n h s ended = absurd (cc)
 ended_after (r ∷ log) t n h s ended =
     elim (which r log n (step_number (r ∷ log) n t s)) [
@@ -90,7 +91,8 @@ open_or_ended log t n h s =
     ]
 
 -- what lies after a number lies between it and the newest
-between_newest : (r : Record) (log : List Record) (t n m : ℕ) → m ≡ length log + 1 → EndsAfter log t n → EndsBetween (r ∷ log) t n m
+between_newest : (r : Record) (log : List Record) (t n m : ℕ) → m ≡ length log + 1 → EndsAfter log t n
+    → EndsBetween (r ∷ log) t n m
 between_newest r log t n m e h =
     let is_number : IsNumber log h.end = end_number log t h.end h.is_end in
     record { end = h.end; is = kept_at (AnEnd t) r log h.end is_number h.is_end; after = h.after; before = omega (arith, is_number.bounded) }
@@ -170,7 +172,8 @@ kept_key r log t o h = record {
 }
 
 -- at the newest record
-on_key_newest : (r : Record) (log : List Record) (t : ℕ) (o : Op) → Fits log r → AStep t (Some r) → ARequest o (Some r) → OnKey (r ∷ log) t o
+on_key_newest : (r : Record) (log : List Record) (t : ℕ) (o : Op) → Fits log r → AStep t (Some r) → ARequest o (Some r)
+    → OnKey (r ∷ log) t o
 on_key_newest (is.Op u p q) log t o fits s asks =
     let one : u ≡ t = cc in
     let ask : q ≡ o = cc in
@@ -202,7 +205,8 @@ on_key (r ∷ log) h n t o s asks =
     ]
 
 -- a request of a transaction that has ended is answered
-pub ended_answered : (log : List Record) (t n : ℕ) (o : Op) → IsLegal log → has_ended log t ≡ true → IsStepOf log t n → Requests log n o → IsSome (answer_of log n)
+pub ended_answered : (log : List Record) (t n : ℕ) (o : Op) → IsLegal log → has_ended log t ≡ true → IsStepOf log t n
+    → Requests log n o → IsSome (answer_of log n)
 ended_answered [] t n o h ended s asks = absurd (cc)
 ended_answered (r ∷ log) t n o h ended s asks =
     elim (which r log n (step_number (r ∷ log) n t s)) [
@@ -220,7 +224,8 @@ ended_answered (r ∷ log) t n o h ended s asks =
 
 -- the older of two requests on a key is answered where the newer one fits
 answered_at : (r : Record) (log : List Record) → Fits log r → IsLegal log → (n t u : ℕ) (o q : Op)
-    → IsStepOf log t n → Requests log n o → AStep u (Some r) → ARequest q (Some r) → key_of q ≡ key_of o → IsSome (answer_of log n)
+    → IsStepOf log t n → Requests log n o → AStep u (Some r) → ARequest q (Some r) → key_of q ≡ key_of o
+    → IsSome (answer_of log n)
 answered_at r log fits legal n t u o q s asks step ask same =
     elim (cases_eq u t) [
       | inl e ↦ step_idle log r u fits step n o (subst (λ (z : ℕ). IsStepOf log z n) (sym e) s) asks

@@ -7,12 +7,14 @@ use Rattle.history.specs.declared.record.Record.{Record}
 use Rattle.history.specs.declared.record.Record.TheVariants as is
 use Rattle.history.specs.Log.{record_at, before, is_crossed, IsStepOf, IsOpBy}
 use Rattle.history.specs.Legal.{Fits, FitsOp, IsLegal, Stands, IsLatest, IsLatestOrNone}
-use Rattle.log_laws.specs.Laws.{undo_from, prev_in, UndoIsFound}
+use Rattle.history.specs.Chains.{undo_from, prev_in}
+use Rattle.log_laws.specs.Laws.{UndoIsFound}
 use Rattle.log_laws.proofs.Records.{AStep, AnOp, op_same, at_newest, newest_at, older_at, kept_at, IsNumber, which, not_newest, before_new, before_old, since, length_before, record_before, record_old}
 use Rattle.log_laws.proofs.LegalLogs.{legal_before, fits_at, falls, crossed_push, uncrossed_next, step_number, stands_step, stands_number, stands_kept, stands_had}
 
 -- the greatest number of one kind is that of another that has the same numbers
-pub latest_as : (P Q : ℕ → Type 0) → ((n : ℕ) → P n → Q n) → ((n : ℕ) → Q n → P n) → (x : ℕ) → IsLatestOrNone P x → IsLatestOrNone Q x
+pub latest_as : (P Q : ℕ → Type 0) → ((n : ℕ) → P n → Q n) → ((n : ℕ) → Q n → P n) → (x : ℕ) → IsLatestOrNone P x
+    → IsLatestOrNone Q x
 latest_as P Q there back x (inl h) = inl (record { is = there x h.is; greatest = λ m q. h.greatest m (back m q) })
 latest_as P Q there back x (inr h) = inr (h.0, λ m q. h.1 m (back m q))
 
@@ -22,7 +24,8 @@ pub record CrossesNow (r : Record) (log : List Record) (t n : ℕ) : Type 0 wher
   pub step : AStep t (Some r)
 
 -- so it is, where the record fits
-pub crosses_now : (r : Record) (log : List Record) (t n : ℕ) → Fits log r → Stands log t n → is_crossed (r ∷ log) n ≡ true → CrossesNow r log t n
+pub crosses_now : (r : Record) (log : List Record) (t n : ℕ) → Fits log r → Stands log t n
+    → is_crossed (r ∷ log) n ≡ true → CrossesNow r log t n
 crosses_now (is.Comp v w x i) log t n fits h c =
     elim (or_cases (n == w) (is_crossed log n) c) [
       | inl e ↦
@@ -38,12 +41,14 @@ crosses_now (is.Comp v w x i) log t n fits h c =
 crosses_now _ log t n fits h c = absurd (true≢false (sym c ∙ h.uncrossed))
 
 -- an operation names none
-op_crosses_none : (r : Record) (log : List Record) (t n : ℕ) (o : Op) → AnOp t o (Some r) → is_crossed (r ∷ log) n ≡ is_crossed log n
+op_crosses_none : (r : Record) (log : List Record) (t n : ℕ) (o : Op) → AnOp t o (Some r)
+    → is_crossed (r ∷ log) n ≡ is_crossed log n
 op_crosses_none (is.Op u p q) log t n o h = refl
 op_crosses_none _ log t n o h = absurd (cc)
 
 -- what stood before a standing operation of its transaction stands still
-pub stands_since : (log : List Record) (t u n : ℕ) → IsLegal log → Stands log t u → n < u → Stands (before log u) t n → Stands log t n
+pub stands_since : (log : List Record) (t u n : ℕ) → IsLegal log → Stands log t u → n < u → Stands (before log u) t n
+    → Stands log t n
 stands_since [] t u n legal h below stood = absurd (omega (arith, (stands_number [] t u h).positive, (stands_number [] t u h).bounded))
 stands_since (r ∷ log) t u n legal h below stood =
     elim (which r log u (stands_number (r ∷ log) t u h)) [
@@ -106,7 +111,8 @@ module _ (r : Record) (log : List Record) (t : ℕ) (other : AStep t (Some r) �
       (latest_as (Stands log t) (Stands (r ∷ log) t) stands_there stands_back (undo_from (record_at log s) s) (found s was))
 
 -- the newest step is the newest record
-newest_latest : (r : Record) (log : List Record) (t s : ℕ) → AStep t (Some r) → IsLatestOrNone (IsStepOf (r ∷ log) t) s → s ≡ length log + 1
+newest_latest : (r : Record) (log : List Record) (t s : ℕ) → AStep t (Some r) → IsLatestOrNone (IsStepOf (r ∷ log) t) s
+    → s ≡ length log + 1
 newest_latest r log t s step (inl h) =
     omega (arith, (step_number (r ∷ log) s t h.is).bounded, h.greatest (length log + 1) (at_newest (AStep t) r log (length log + 1) refl step))
 newest_latest r log t s step (inr h) = absurd (h.1 (length log + 1) (at_newest (AStep t) r log (length log + 1) refl step))
@@ -122,10 +128,12 @@ found_op log t p o legal s h =
     }))
 
 -- after a compensation, what stood below the operation that it names
-left_there : (log : List Record) (t w x : ℕ) (i : Option Op) (n : ℕ) → Stands log t n × (n < w) → Stands (is.Comp t w x i ∷ log) t n
+left_there : (log : List Record) (t w x : ℕ) (i : Option Op) (n : ℕ) → Stands log t n × (n < w)
+    → Stands (is.Comp t w x i ∷ log) t n
 left_there log t w x i n h = stands_kept (is.Comp t w x i) log t n h.0 (ap (λ b. b || is_crossed log n) (ne_eqb n w (λ e. omega (arith, e, h.1))) ∙ h.0.uncrossed)
 
-left_back : (log : List Record) (t w x : ℕ) (i : Option Op) → IsLatest (Stands log t) w → (n : ℕ) → Stands (is.Comp t w x i ∷ log) t n → Stands log t n × (n < w)
+left_back : (log : List Record) (t w x : ℕ) (i : Option Op) → IsLatest (Stands log t) w → (n : ℕ)
+    → Stands (is.Comp t w x i ∷ log) t n → Stands log t n × (n < w)
 left_back log t w x i latest n h =
     let r : Record = is.Comp t w x i in
     elim (which r log n (stands_number (r ∷ log) t n h)) [
@@ -137,7 +145,8 @@ left_back log t w x i latest n h =
     ]
 
 -- so its undo-next is what is left
-found_comp : (log : List Record) (t w x : ℕ) (i : Option Op) → Fits log (is.Comp t w x i) → LatestIsFound (is.Comp t w x i ∷ log) t
+found_comp : (log : List Record) (t w x : ℕ) (i : Option Op) → Fits log (is.Comp t w x i)
+    → LatestIsFound (is.Comp t w x i ∷ log) t
 found_comp log t w x i fits s h =
     let r : Record = is.Comp t w x i in
     let e : s ≡ length log + 1 = newest_latest r log t s refl h in
@@ -145,7 +154,8 @@ found_comp log t w x i fits s h =
     (latest_as (λ n. Stands log t n × (n < w)) (Stands (r ∷ log) t) (left_there log t w x i) (left_back log t w x i fits.latest) x fits.next)
 
 -- so one look finds it after any record that fits
-found_next : (r : Record) (log : List Record) (t : ℕ) → Fits log r → IsLegal log → LatestIsFound log t → LatestIsFound (r ∷ log) t
+found_next : (r : Record) (log : List Record) (t : ℕ) → Fits log r → IsLegal log → LatestIsFound log t
+    → LatestIsFound (r ∷ log) t
 found_next (is.Op u p o) log t fits legal found =
     elim (cases_eq u t) [
       | inl e ↦ subst (λ (z : ℕ). LatestIsFound (is.Op u p o ∷ log) z) e (found_op log u p o legal)

@@ -14,7 +14,8 @@ use Rattle.log_laws.proofs.Records.{AnOp, ARequest, at_newest, newest_at, kept_a
 use Rattle.log_laws.proofs.LegalLogs.{op_number, request_number, unanswered_next, right_rest}
 
 -- an operation that both tests let through, or neither
-chosen : (on p q : Bool) (o : Op) (v w : Option Bytes) → (on ≡ true → p ≡ q) → v ≡ w → (if p && on then value_after o v else v) ≡ (if q && on then value_after o w else w)
+chosen : (on p q : Bool) (o : Op) (v w : Option Bytes) → (on ≡ true → p ≡ q) → v ≡ w
+    → (if p && on then value_after o v else v) ≡ (if q && on then value_after o w else w)
 chosen true p q o v w same e = ap (λ b. if b && true then value_after o v else v) (same refl) ∙ ap (λ x. if q && true then value_after o x else x) e
 chosen false true true o v w same e = e
 chosen false true false o v w same e = e
@@ -23,7 +24,8 @@ chosen false false false o v w same e = e
 
 -- of what a record has kept
 kept_alike : (k : Bytes) (n : ℕ) (p q : ℕ → Bool) (by : Option (ℕ × Op)) (v w : Option Bytes)
-    → ((t : ℕ) (o : Op) → by ≡ Some (t, o) → is_on k o ≡ true → p n ≡ q n) → v ≡ w → value_kept k n p by v ≡ value_kept k n q by w
+    → ((t : ℕ) (o : Op) → by ≡ Some (t, o) → is_on k o ≡ true → p n ≡ q n) → v ≡ w
+    → value_kept k n p by v ≡ value_kept k n q by w
 kept_alike k n p q None v w same e = e
 kept_alike k n p q (Some by) v w same e = chosen (is_on k by.1) (p n) (q n) by.1 v w (same by.0 by.1 refl) e
 
@@ -37,7 +39,8 @@ values_alike k p q (r ∷ log) same =
     (values_alike k p q log (λ n t o is on. same n t o (kept_at (AnOp t o) r log n (op_number log n t o is) is) on))
 
 -- an operation that the test leaves out
-left_out : (on p : Bool) (o : Op) (v : Option Bytes) → (on ≡ true → p ≡ false) → (if p && on then value_after o v else v) ≡ v
+left_out : (on p : Bool) (o : Op) (v : Option Bytes) → (on ≡ true → p ≡ false)
+    → (if p && on then value_after o v else v) ≡ v
 left_out on false o v none = refl
 left_out false true o v none = refl
 left_out true true o v none = absurd (true≢false (none refl))
@@ -52,7 +55,8 @@ abbrev pub NoneAbove : Bytes → (ℕ → Bool) → List Record → ℕ → Type
 NoneAbove k p log u = (n t : ℕ) (o : Op) → u < n → IsOpBy log n t o → is_on k o ≡ true → p n ≡ false
 
 -- where no operation above this one passes, it comes last
-pub value_split : (k : Bytes) (p : ℕ → Bool) (log : List Record) (u t : ℕ) (o : Op) → IsOpBy log u t o → NoneAbove k p log u
+pub value_split : (k : Bytes) (p : ℕ → Bool) (log : List Record) (u t : ℕ) (o : Op) → IsOpBy log u t o
+    → NoneAbove k p log u
     → value_where k p log ≡ value_kept k u p (Some (t, o)) (value_where k p (before log u))
 value_split k p [] u t o is none = absurd (cc)
 value_split k p (r ∷ log) u t o is none =
@@ -70,13 +74,15 @@ value_split k p (r ∷ log) u t o is none =
     ]
 
 -- a request is no answer
-request_answers_none : (o : Op) (r : Record) (log : List Record) (n : ℕ) → ARequest o (Some r) → answer_of (r ∷ log) n ≡ answer_of log n
+request_answers_none : (o : Op) (r : Record) (log : List Record) (n : ℕ) → ARequest o (Some r)
+    → answer_of (r ∷ log) n ≡ answer_of log n
 request_answers_none o (is.Op t p q) log n h = refl
 request_answers_none o (is.Comp t u x i) log n h = refl
 request_answers_none o _ log n h = absurd (cc)
 
 -- an answer that is the newest record, or was there
-right_now : (r : Record) (log : List Record) (n : ℕ) (a : Answer) → HasRightAnswers (r ∷ log) → answer_of (r ∷ log) n ≡ Some a
+right_now : (r : Record) (log : List Record) (n : ℕ) (a : Answer) → HasRightAnswers (r ∷ log)
+    → answer_of (r ∷ log) n ≡ Some a
     → (answer_of log n ≡ Some a → IsRight log n a) → IsRight log n a
 right_now (is.Answer m b) log n a right answered before =
     elim (cases_eq n m) [
@@ -89,7 +95,8 @@ right_now (is.Answer m b) log n a right answered before =
 right_now _ log n a right answered before = before answered
 
 -- where the answers of a legal log are right, so is each answer that it has
-pub right_at : (log : List Record) (n : ℕ) (a : Answer) → IsLegal log → HasRightAnswers log → answer_of log n ≡ Some a → IsRight log n a
+pub right_at : (log : List Record) (n : ℕ) (a : Answer) → IsLegal log → HasRightAnswers log → answer_of log n ≡ Some a
+    → IsRight log n a
 right_at [] n a legal right answered o asks = absurd (cc)
 right_at (r ∷ log) n a legal right answered o asks =
     elim (which r log n (request_number (r ∷ log) n o asks)) [

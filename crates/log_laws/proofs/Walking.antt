@@ -74,7 +74,8 @@ alone_inserted o = alone_with (acted (begun fresh 2) 2 o 3) 2 _ (alone_acted o 3
 pub alone_free : (m : Machine) (t : ℕ) (s : Span) → IsAlone m t → IsFree m t s
 alone_free m t s alone u apart h = subst (λ x. AnyConflict s x.spans) (alone u apart) h
 
-pub alone_above : (m : Machine) (t k : ℕ) → IsAlone m t → IsAbove k (m.txns t).status → (u : ℕ) → IsAbove k (m.txns u).status
+pub alone_above : (m : Machine) (t k : ℕ) → IsAlone m t → IsAbove k (m.txns t).status → (u : ℕ)
+    → IsAbove k (m.txns u).status
 alone_above m t k alone own u =
     elim (cases_eq u t) [
       | inl e ↦ subst (λ (n : ℕ). IsAbove k (m.txns n).status) (sym e) own

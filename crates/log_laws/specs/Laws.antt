@@ -10,9 +10,9 @@ use Rattle.history.specs.declared.record.Record.TheVariants as is
 use Rattle.history.specs.History.{plain}
 use Rattle.history.specs.Log.{record_at, before, answer_of, is_crossed, Requests, IsStepOf, IsOpBy, hist}
 use Rattle.history.specs.Legal.{IsLatestOrNone, Stands, IsLegal}
-use Rattle.history.specs.Chains.{IsWellChained, IsStrict, IsOneAtATime}
+use Rattle.history.specs.Chains.{IsWellChained, IsStrict, IsOneAtATime, undo_from, prev_in}
 use Rattle.history.specs.Values.{value_on, value_where, value_standing, IsRight, HasRightAnswers}
-use Rattle.history.specs.Honest.{done_on, value_of, AreCaptured}
+use Rattle.history.specs.Honest.{numbered_on, value_of, AreCaptured}
 
 -- a beginning of a legal log is legal, and has right answers where the log has them
 pub record BeginningsAreLegal : Type 0 where
@@ -37,19 +37,10 @@ LegalIsCompensatedOnce = (log : List Record) (n m undoes : ℕ) → IsLegal log 
 abbrev pub LegalIsOneAtATime : Type 0
 LegalIsOneAtATime = (log : List Record) → IsLegal log → IsOneAtATime log
 
--- what is left to undo from a step on: the step itself where it is an operation, else its undo-next
-abbrev pub undo_from : Option Record → ℕ → ℕ
-undo_from (Some (is.Comp t u x i)) n = x
-undo_from (Some (is.Op t p o)) n = n
-undo_from _ n = 0
-
-abbrev pub prev_in : Option Record → ℕ
-prev_in (Some (is.Op t p o)) = p
-prev_in _ = 0
-
 -- two looks find what a transaction has left to undo, and what is left after that
 pub record FindsUndo (log : List Record) (t : ℕ) : Type 0 where
-  pub latest : (s : ℕ) → IsLatestOrNone (IsStepOf log t) s → IsLatestOrNone (Stands log t) (undo_from (record_at log s) s)
+  pub latest : (s : ℕ) → IsLatestOrNone (IsStepOf log t) s
+      → IsLatestOrNone (Stands log t) (undo_from (record_at log s) s)
   pub earlier : (u : ℕ) → Stands log t u
       → IsLatestOrNone (λ n. Stands log t n × (n < u)) (undo_from (record_at log (prev_in (record_at log u))) (prev_in (record_at log u)))
 
@@ -69,7 +60,8 @@ pub record Brackets (log : List Record) (u : ℕ) (o i : Op) : Type 0 where
 
 abbrev pub CompensationsBracket : Type 0
 CompensationsBracket =
-    (log : List Record) (t u x : ℕ) (o i : Op) → IsLegal (is.Comp t u x (Some i) ∷ log) → HasRightAnswers log → IsOpBy log u t o
+    (log : List Record) (t u x : ℕ) (o i : Op) → IsLegal (is.Comp t u x (Some i) ∷ log) → HasRightAnswers log
+    → IsOpBy log u t o
     → Brackets log u o i
 
 -- operations and inverses together leave what the operations that stand leave alone
@@ -80,7 +72,8 @@ CompensationsCancel =
 -- the plain map of a log's history holds what its answered operations leave that no compensation names
 abbrev pub PlainOfHistory : Type 0
 PlainOfHistory =
-    (log : List Record) (k : Bytes) → get (plain (hist log)) k ≡ value_where k (λ n. is_some (answer_of log n) && not (is_crossed log n)) log
+    (log : List Record) (k : Bytes)
+    → get (plain (hist log)) k ≡ value_where k (λ n. is_some (answer_of log n) && not (is_crossed log n)) log
 
 -- every operation has its answer
 abbrev pub IsAllAnswered : List Record → Type 0
@@ -90,4 +83,5 @@ IsAllAnswered log = (n t : ℕ) (o : Op) → IsOpBy log n t o → IsSome (answer
 abbrev pub SettledIsPlain : Type 0
 SettledIsPlain =
     (log : List Record) → IsLegal log → HasRightAnswers log → IsAllAnswered log
-    → (k : Bytes) (cap : ℕ → Bool) → AreCaptured cap (done_on k log) → value_of cap (done_on k log) ≡ get (plain (hist log)) k
+    → (k : Bytes) (cap : ℕ → Bool) → AreCaptured cap (numbered_on k log)
+    → value_of cap (numbered_on k log) ≡ get (plain (hist log)) k

@@ -25,7 +25,3 @@ pub record LacksAnswer (log : List Record) (low n : ℕ) : Type 0 where
   pub below : n ≤ low
   pub requested : IsSome (request_in (record_at log n))
   pub unanswered : IsNone (answer_of log n)
-
--- every request up to this number has its answer
-abbrev pub AreAnswered : List Record → ℕ → Type 0
-AreAnswered log low = (n : ℕ) (o : Op) → n ≤ low → Requests log n o → IsSome (answer_of log n)

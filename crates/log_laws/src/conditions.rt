@@ -1,8 +1,8 @@
 //! What the rules of a legal log ask of a transaction, a key or a number, each read off the whole log.
 ghost use Rattle.std.specs.Prelude.{◌≡◌, ℕ, ◌<◌, ◌↔◌, IsTrue, reverse};
 ghost use Rattle.history.specs.Log.{IsOpen, IsStepOf};
-ghost use Rattle.history.specs.Legal.{IsIdle, IsKeyFree, Stands, IsLatest, IsLatestOrNone, Inverts};
-ghost use Rattle.log_laws.specs.Reading.{Waits, Blocks, LacksAnswer, AreAnswered};
+ghost use Rattle.history.specs.Legal.{IsIdle, IsKeyFree, Stands, IsLatest, IsLatestOrNone, Inverts, AreAnswered};
+ghost use Rattle.log_laws.specs.Reading.{Waits, Blocks, LacksAnswer};
 
 use crate::reader::{answer, is_over, is_undone, numbered, operation_at, request_at, step};
 use history::Record;

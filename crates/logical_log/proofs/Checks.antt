@@ -9,7 +9,7 @@ use Rattle.history.specs.Log.{record_at, before, answer_of, request_in, request_
 use Rattle.history.specs.Legal.{IsLegal, IsIdle, IsKeyFree, IsLatest, IsLatestOrNone, Stands, Inverts, FitsAnswer, FitsComp, FitsEnd, FitsCheckpoint}
 use Rattle.log_laws.proofs.Records.{AStep, ARequest, IsNumber, no_step, record_before, since}
 use Rattle.log_laws.proofs.LegalLogs.{answered_push, fits_at, step_idle, step_number, request_number, stands_number}
-use Rattle.log_laws.specs.Laws.{undo_from, prev_in}
+use Rattle.history.specs.Chains.{undo_from, prev_in}
 use Rattle.log_laws.proofs.Checking.{is_none, latest_some, latest_unique}
 use Rattle.log_laws.proofs.Undo.{latest_found, earlier_found}
 use Rattle.logical_log.specs.Index.{is_answered}

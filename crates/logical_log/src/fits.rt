@@ -2,7 +2,7 @@
 ghost use Rattle.std.specs.Prelude.{◌≡◌, ◌↔◌, IsTrue};
 ghost use Rattle.history.specs.Log.{record_at};
 ghost use Rattle.history.specs.Legal.{Fits, FitsOp, FitsAnswer, FitsComp, FitsCommit, FitsEnd, FitsCheckpoint, Inverts};
-ghost use Rattle.log_laws.specs.Laws.{undo_from, prev_in};
+ghost use Rattle.history.specs.Chains.{undo_from, prev_in};
 ghost use Rattle.logical_log.specs.Replay.{IsIndex};
 
 use crate::frames::Frames;

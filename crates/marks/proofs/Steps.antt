@@ -13,12 +13,14 @@ abbrev pair_of : List ℕ → Pair
 pair_of words = pair (get_or words 0 0) (get_or words 1 0)
 
 -- setting stable leaves low
-stable_set : (words : List ℕ) (n : ℕ) → length words ≡ 2 → (length (set words 0 n) ≡ 2) × (pair_of (set words 0 n) ≡ pair n (get_or words 1 0))
+stable_set : (words : List ℕ) (n : ℕ) → length words ≡ 2
+    → (length (set words 0 n) ≡ 2) × (pair_of (set words 0 n) ≡ pair n (get_or words 1 0))
 stable_set [] n two = absurd (omega arith)
 stable_set (a ∷ l) n two = (two, refl)
 
 -- setting low leaves stable
-low_set : (words : List ℕ) (n : ℕ) → length words ≡ 2 → (length (set words 1 n) ≡ 2) × (pair_of (set words 1 n) ≡ pair (get_or words 0 0) n)
+low_set : (words : List ℕ) (n : ℕ) → length words ≡ 2
+    → (length (set words 1 n) ≡ 2) × (pair_of (set words 1 n) ≡ pair (get_or words 0 0) n)
 low_set [] n two = absurd (omega arith)
 low_set (a ∷ []) n two = absurd (omega arith)
 low_set (a ∷ b ∷ l) n two = (two, refl)
@@ -37,7 +39,8 @@ abbrev moved : Marked → List ℕ → ℕ → View → Marked
 moved s words number w = record { words = words; homes = s.homes; views = set s.views number w }
 
 -- the seat's new view fits words that are no less, and any other raiser finds them as they were
-moves : (s : Marked) (words : List ℕ) (number : ℕ) (w : View) → Holds s → length words ≡ 2 → get_or words 1 0 ≤ get_or words 0 0
+moves : (s : Marked) (words : List ℕ) (number : ℕ) (w : View) → Holds s → length words ≡ 2
+    → get_or words 1 0 ≤ get_or words 0 0
     → UpTo (words_of s) (pair_of words) → Fits (pair_of words) number w
     → ((other : ℕ) → other ≢ number → other ≡ 0 → pair_of words ≡ words_of s)
     → Holds (moved s words number w)
@@ -56,7 +59,8 @@ moves s words number w h two ordered up fits others = record {
 }
 
 -- a raiser's words and what it has seen rise together
-raises_to : (s : Marked) (words : List ℕ) (number : ℕ) (v : View) → Holds s → get_elem? s.views number ≡ some v → IsTrue v.raises
+raises_to : (s : Marked) (words : List ℕ) (number : ℕ) (v : View) → Holds s → get_elem? s.views number ≡ some v
+    → IsTrue v.raises
     → length words ≡ 2 → get_or words 1 0 ≤ get_or words 0 0 → UpTo (words_of s) (pair_of words)
     → Holds (moved s words number (sees v (pair_of words)))
 raises_to s words number v h at raises two ordered up = let was = h.each_fits number v at in
@@ -81,7 +85,8 @@ knows s words number w h two same fits = moves s words number w h two
 max_within : (a b c : ℕ) → a ≤ c → b ≤ c → max a b ≤ c
 max_within a b c = omega arith
 
-pub reads_low : (slots number : ℕ) (me : Mine) → Allows Holds slots number me 1 (λ n. n) (low_read (step slots 1 0 0 none) me)
+pub reads_low : (slots number : ℕ) (me : Mine)
+    → Allows Holds slots number me 1 (λ n. n) (low_read (step slots 1 0 0 none) me)
 reads_low slots number me s h _ at _ = let v = me.0 in let n : ℕ = get_or s.words 1 0 in let is = low_set s.words n h.two_words in let was = h.each_fits number v at in
     let up_to_seen = λ (r : IsTrue v.raises). subst (λ (p : Pair). p.low ≤ p.stable) (sym (was.raiser_exact r)) h.ordered in
     let low_is = λ (r : IsTrue v.raises). ap (λ (p : Pair). p.low) (was.raiser_exact r) in
@@ -99,7 +104,8 @@ reads_low slots number me s h _ at _ = let v = me.0 in let n : ℕ = get_or s.wo
       (was.reached.1, (λ r. (sym (low_is r), above r)), refl),
     )
 
-pub reads_stable : (slots number : ℕ) (me : Mine) → Allows Holds slots number me 0 (λ n. n) (stable_read (step slots 0 0 0 none) me)
+pub reads_stable : (slots number : ℕ) (me : Mine)
+    → Allows Holds slots number me 0 (λ n. n) (stable_read (step slots 0 0 0 none) me)
 reads_stable slots number me s h _ at _ = let v = me.0 in let n : ℕ = get_or s.words 0 0 in let is = stable_set s.words n h.two_words in let was = h.each_fits number v at in
     let low_is = λ (r : IsTrue v.raises). ap (λ (p : Pair). p.low) (was.raiser_exact r) in
     let stable_is = λ (r : IsTrue v.raises). ap (λ (p : Pair). p.stable) (was.raiser_exact r) in (
@@ -116,7 +122,8 @@ reads_stable slots number me s h _ at _ = let v = me.0 in let n : ℕ = get_or s
     )
 
 -- a raiser's step that sets the words to the pair that it then has seen
-raised_to : (s : Marked) (words : List ℕ) (number : ℕ) (v : View) (p : Pair) → Holds s → get_elem? s.views number ≡ some v → IsTrue v.raises
+raised_to : (s : Marked) (words : List ℕ) (number : ℕ) (v : View) (p : Pair) → Holds s
+    → get_elem? s.views number ≡ some v → IsTrue v.raises
     → length words ≡ 2 → pair_of words ≡ p → p.low ≤ p.stable → UpTo (words_of s) p
     → Holds (moved s words number (sees v p))
 raised_to s words number v p h at raises two is ordered up =
@@ -150,7 +157,8 @@ raises_low slots number n me raises below s h _ at _ = let v = me.0 in let k : �
       refl,
     )
 
-pub compares : (slots number : ℕ) (me : Mine) → Allows Holds slots number me 0 (λ n. n) (compared (step slots 0 0 0 none) me)
+pub compares : (slots number : ℕ) (me : Mine)
+    → Allows Holds slots number me 0 (λ n. n) (compared (step slots 0 0 0 none) me)
 compares slots number me s h _ at _ = let v = me.0 in let n : ℕ = get_or s.words 0 0 in let is = stable_set s.words n h.two_words in let was = h.each_fits number v at in
     (v, keeps, tt, knows s (set s.words 0 n) number v h is.0 is.1 was, (was.met_reached, refl))
 

@@ -7,25 +7,26 @@ use Rattle.record_key.specs.Table.{Bytes, key_of}
 use Rattle.history.specs.declared.record.Record.{Record}
 use Rattle.history.specs.Log.{before, request_of, Requests}
 use Rattle.history.specs.Values.{is_on}
-use Rattle.history.specs.Honest.{Done, done_with, done_on, AreCaptured, IsBeginning, value_of}
+use Rattle.history.specs.Honest.{Numbered, numbered_with, numbered_on, AreCaptured, IsBeginning, value_of}
 use Rattle.log_laws.proofs.Records.{ARequest, no_request, at_newest, newest_at, kept_at, had_at, within, which, not_newest, before_new, before_old}
 use Rattle.page.proofs.OnKey.{on_key, key_on}
 
 -- numbers fall, the first from below this one
-abbrev pub Fall : ℕ → List Done → Type 0
+abbrev pub Fall : ℕ → List Numbered → Type 0
 Fall l [] = Unit {0}
 Fall l (d ∷ done) = (d.number < l) × Fall d.number done
 
 -- the number stands there, with this operation
-abbrev pub Stands : ℕ → Op → List Done → Type 0
+abbrev pub Stands : ℕ → Op → List Numbered → Type 0
 Stands n o [] = ⊥
 Stands n o (d ∷ done) = MatchBool (d.number == n) (d.op ≡ o) (Stands n o done)
 
-fall_from : (l m : ℕ) (done : List Done) → l ≤ m → Fall l done → Fall m done
+fall_from : (l m : ℕ) (done : List Numbered) → l ≤ m → Fall l done → Fall m done
 fall_from l m [] le h = tt
 fall_from l m (d ∷ done) le h = (omega (arith, le, h.0), h.1)
 
-falls_with : (k : Bytes) (n : ℕ) (q : Option Op) (rest : List Done) → Fall n rest → Fall (n + 1) (done_with k n q rest)
+falls_with : (k : Bytes) (n : ℕ) (q : Option Op) (rest : List Numbered) → Fall n rest
+    → Fall (n + 1) (numbered_with k n q rest)
 falls_with k n None rest h = fall_from n (n + 1) rest (omega arith) h
 falls_with k n (Some o) rest h =
     pick (is_on k o)
@@ -34,14 +35,15 @@ falls_with k n (Some o) rest h =
     pick true = (omega arith, h)
     pick false = fall_from n (n + 1) rest (omega arith) h
 
-pub falls : (k : Bytes) (log : List Record) → Fall (length log + 1) (done_on k log)
+pub falls : (k : Bytes) (log : List Record) → Fall (length log + 1) (numbered_on k log)
 falls k [] = tt
 falls k (r ∷ log) =
-    let more : Fall (length log + 1 + 1) (done_on k (r ∷ log)) = falls_with k (length log + 1) (request_of r) (done_on k log) (falls k log) in
-    fall_from (length log + 1 + 1) (length (r ∷ log) + 1) (done_on k (r ∷ log)) (omega arith) more
+    let more : Fall (length log + 1 + 1) (numbered_on k (r ∷ log)) = falls_with k (length log + 1) (request_of r) (numbered_on k log) (falls k log) in
+    fall_from (length log + 1 + 1) (length (r ∷ log) + 1) (numbered_on k (r ∷ log)) (omega arith) more
 
 -- a request on the key stands there
-stands_later : (k : Bytes) (n m : ℕ) (o : Op) (q : Option Op) (rest : List Done) → m ≢ n → Stands n o rest → Stands n o (done_with k m q rest)
+stands_later : (k : Bytes) (n m : ℕ) (o : Op) (q : Option Op) (rest : List Numbered) → m ≢ n → Stands n o rest
+    → Stands n o (numbered_with k m q rest)
 stands_later k n m o None rest apart h = h
 stands_later k n m o (Some p) rest apart h =
     pick (is_on k p)
@@ -50,23 +52,26 @@ stands_later k n m o (Some p) rest apart h =
     pick true = rw (ne_eqb m n apart) h
     pick false = h
 
-stands_first : (k : Bytes) (n m : ℕ) (o : Op) (rest : List Done) → m ≡ n → key_of o ≡ k → Stands n o (done_with k m (Some o) rest)
+stands_first : (k : Bytes) (n m : ℕ) (o : Op) (rest : List Numbered) → m ≡ n → key_of o ≡ k
+    → Stands n o (numbered_with k m (Some o) rest)
 stands_first k n m o rest same on = rw (on_key k o on, eq-eqb m n same) refl
 
-pub stands_on : (k : Bytes) (log : List Record) (n : ℕ) (o : Op) → Requests log n o → key_of o ≡ k → Stands n o (done_on k log)
+pub stands_on : (k : Bytes) (log : List Record) (n : ℕ) (o : Op) → Requests log n o → key_of o ≡ k
+    → Stands n o (numbered_on k log)
 stands_on k [] n o requests on = absurd (no_request o requests)
 stands_on k (r ∷ log) n o requests on =
     elim (which r log n (within (ARequest o) (no_request o) (r ∷ log) n requests)) [
       | inl e ↦
           let asks : ARequest o (Some r) = newest_at (ARequest o) r log n e requests in
-          subst (λ q. Stands n o (done_with k (length log + 1) q (done_on k log))) (sym asks) (stands_first k n (length log + 1) o (done_on k log) (sym e) on)
+          subst (λ q. Stands n o (numbered_with k (length log + 1) q (numbered_on k log))) (sym asks) (stands_first k n (length log + 1) o (numbered_on k log) (sym e) on)
       | inr was ↦
-          stands_later k n (length log + 1) o (request_of r) (done_on k log) (λ same. not_newest log n was (sym same))
+          stands_later k n (length log + 1) o (request_of r) (numbered_on k log) (λ same. not_newest log n was (sym same))
           (stands_on k log n o (had_at (ARequest o) r log n was requests) on)
     ]
 
 -- where all are captured, one that stands there is, and all are a beginning
-pub captured_there : (cap : ℕ → Bool) (n : ℕ) (o : Op) (done : List Done) → AreCaptured cap done → Stands n o done → cap n ≡ true
+pub captured_there : (cap : ℕ → Bool) (n : ℕ) (o : Op) (done : List Numbered) → AreCaptured cap done → Stands n o done
+    → cap n ≡ true
 captured_there cap n o [] all h = absurd h
 captured_there cap n o (d ∷ done) all h =
     elim (cases_eq d.number n) [
@@ -74,11 +79,12 @@ captured_there cap n o (d ∷ done) all h =
       | inr apart ↦ captured_there cap n o done all.1 (rw (ne_eqb d.number n apart) at h)
     ]
 
-all_beginning : (cap : ℕ → Bool) (done : List Done) → AreCaptured cap done → IsBeginning cap done
+all_beginning : (cap : ℕ → Bool) (done : List Numbered) → AreCaptured cap done → IsBeginning cap done
 all_beginning cap [] all = tt
 all_beginning cap (d ∷ done) all = rw (all.0) all.1
 
-pub rest_beginning : (cap : ℕ → Bool) (d : Done) (done : List Done) → IsBeginning cap (d ∷ done) → IsBeginning cap done
+pub rest_beginning : (cap : ℕ → Bool) (d : Numbered) (done : List Numbered) → IsBeginning cap (d ∷ done)
+    → IsBeginning cap done
 rest_beginning cap d done h =
     pick (cap d.number) h
   where
@@ -86,7 +92,7 @@ rest_beginning cap d done h =
     pick true all = all_beginning cap done all
     pick false h = h
 
-below_first : (l n : ℕ) (o : Op) (done : List Done) → Fall l done → Stands n o done → n < l
+below_first : (l n : ℕ) (o : Op) (done : List Numbered) → Fall l done → Stands n o done → n < l
 below_first l n o [] falls h = absurd h
 below_first l n o (d ∷ done) falls h =
     elim (cases_eq d.number n) [
@@ -95,7 +101,8 @@ below_first l n o (d ∷ done) falls h =
     ]
 
 -- what comes before a captured one is captured
-pub earlier_captured : (cap : ℕ → Bool) (l m n : ℕ) (q o : Op) (done : List Done) → Fall l done → IsBeginning cap done → Stands m q done → Stands n o done → n < m → cap m ≡ true → cap n ≡ true
+pub earlier_captured : (cap : ℕ → Bool) (l m n : ℕ) (q o : Op) (done : List Numbered) → Fall l done
+    → IsBeginning cap done → Stands m q done → Stands n o done → n < m → cap m ≡ true → cap n ≡ true
 earlier_captured cap l m n q o [] falls h at_m at_n less got = absurd at_m
 earlier_captured cap l m n q o (d ∷ done) falls h at_m at_n less got =
     elim (cases_eq d.number m) [
@@ -109,37 +116,42 @@ earlier_captured cap l m n q o (d ∷ done) falls h at_m at_n less got =
     ]
 
 -- later ones on the key than one that isn't captured aren't either
-pub later_uncaptured : (cap : ℕ → Bool) (k : Bytes) (log : List Record) (n m : ℕ) (o q : Op) → IsBeginning cap (done_on k log) → Requests log n o → key_of o ≡ k → cap n ≡ false
+pub later_uncaptured : (cap : ℕ → Bool) (k : Bytes) (log : List Record) (n m : ℕ) (o q : Op)
+    → IsBeginning cap (numbered_on k log) → Requests log n o → key_of o ≡ k → cap n ≡ false
     → Requests log m q → key_of q ≡ k → n < m → cap m ≡ false
 later_uncaptured cap k log n m o q h asks_n on_n out asks_m on_m less =
     elim (cases_Bool (cap m)) [
       | inl got ↦
           absurd (true≢false
-          (sym (earlier_captured cap (length log + 1) m n q o (done_on k log) (falls k log) h (stands_on k log m q asks_m on_m) (stands_on k log n o asks_n on_n) less got) ∙ out))
+          (sym (earlier_captured cap (length log + 1) m n q o (numbered_on k log) (falls k log) h (stands_on k log m q asks_m on_m) (stands_on k log n o asks_n on_n) less got) ∙ out))
       | inr out ↦ out
     ]
 
 -- what the captured ones give is what those before it give
-skipped : (cap : ℕ → Bool) (k : Bytes) (n : ℕ) (q : Option Op) (rest : List Done) → ((p : Op) → q ≡ Some p → key_of p ≡ k → cap n ≡ false) → value_of cap (done_with k n q rest) ≡ value_of cap rest
+skipped : (cap : ℕ → Bool) (k : Bytes) (n : ℕ) (q : Option Op) (rest : List Numbered)
+    → ((p : Op) → q ≡ Some p → key_of p ≡ k → cap n ≡ false)
+    → value_of cap (numbered_with k n q rest) ≡ value_of cap rest
 skipped cap k n None rest out = refl
 skipped cap k n (Some p) rest out =
     pick (is_on k p) refl
   where
-    pick : (b : Bool) → is_on k p ≡ b → value_of cap (if b then record { number = n; op = p } ∷ rest else rest) ≡ value_of cap rest
+    pick : (b : Bool) → is_on k p ≡ b
+        → value_of cap (if b then record { number = n; op = p } ∷ rest else rest) ≡ value_of cap rest
     pick true on = rw (out p refl (key_on k p on)) refl
     pick false on = refl
 
 pub value_before : (cap : ℕ → Bool) (k : Bytes) (log : List Record) (n : ℕ) (o : Op) → Requests log n o → cap n ≡ false
-    → ((m : ℕ) (q : Op) → n < m → Requests log m q → key_of q ≡ k → cap m ≡ false) → value_of cap (done_on k log) ≡ value_of cap (done_on k (before log n))
+    → ((m : ℕ) (q : Op) → n < m → Requests log m q → key_of q ≡ k → cap m ≡ false)
+    → value_of cap (numbered_on k log) ≡ value_of cap (numbered_on k (before log n))
 value_before cap k [] n o requests out later = absurd (no_request o requests)
 value_before cap k (r ∷ log) n o requests out later =
     elim (which r log n (within (ARequest o) (no_request o) (r ∷ log) n requests)) [
       | inl e ↦
-          skipped cap k (length log + 1) (request_of r) (done_on k log) (λ p asks on. subst (λ (m : ℕ). cap m ≡ false) e out)
-          ∙ ap (λ x. value_of cap (done_on k x)) (sym (before_new r log n e))
+          skipped cap k (length log + 1) (request_of r) (numbered_on k log) (λ p asks on. subst (λ (m : ℕ). cap m ≡ false) e out)
+          ∙ ap (λ x. value_of cap (numbered_on k x)) (sym (before_new r log n e))
       | inr was ↦
-          skipped cap k (length log + 1) (request_of r) (done_on k log) (λ p asks on. later (length log + 1) p (omega (arith, was.bounded)) (at_newest (ARequest p) r log (length log + 1) refl asks) on)
+          skipped cap k (length log + 1) (request_of r) (numbered_on k log) (λ p asks on. later (length log + 1) p (omega (arith, was.bounded)) (at_newest (ARequest p) r log (length log + 1) refl asks) on)
           ∙ value_before cap k log n o (had_at (ARequest o) r log n was requests) out
           (λ m q above asks on. later m q above (kept_at (ARequest q) r log m (within (ARequest q) (no_request q) log m asks) asks) on)
-          ∙ ap (λ x. value_of cap (done_on k x)) (sym (before_old r log n (not_newest log n was)))
+          ∙ ap (λ x. value_of cap (numbered_on k x)) (sym (before_old r log n (not_newest log n was)))
     ]

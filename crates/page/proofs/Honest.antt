@@ -8,7 +8,7 @@ use Rattle.record_key.specs.Table.{Bytes, key_of, answer_at}
 use Rattle.history.specs.declared.record.Record.{Record}
 use Rattle.history.specs.Log.{request_of, Requests}
 use Rattle.history.specs.Values.{is_on, value_on, IsRight}
-use Rattle.history.specs.Honest.{Done, done_with, done_on, IsBeginning, value_of}
+use Rattle.history.specs.Honest.{Numbered, numbered_with, numbered_on, IsBeginning, value_of}
 use Rattle.log_laws.proofs.Records.{ARequest, kept_at, had_at, before_old, not_newest}
 use Rattle.log_laws.proofs.LegalLogs.{request_number}
 use Rattle.record_key.specs.declared.entry.Entry.{Entry}
@@ -17,12 +17,14 @@ use Rattle.page.specs.Leaf.{LeafView}
 use Rattle.page.specs.Honest.{IsSavedRight, IsHonestLeaf}
 
 -- a right answer stays right
-pub right_longer : (r : Record) (log : List Record) (n : ℕ) (o : Op) (a : Answer) → Requests log n o → IsRight log n a → IsRight (r ∷ log) n a
+pub right_longer : (r : Record) (log : List Record) (n : ℕ) (o : Op) (a : Answer) → Requests log n o → IsRight log n a
+    → IsRight (r ∷ log) n a
 right_longer r log n o a requests right q asks =
     let number = request_number log n o requests in
     right q (had_at (ARequest q) r log n number asks) ∙ ap (λ x. answer_at q (value_on (key_of q) x)) (sym (before_old r log n (not_newest log n number)))
 
-saved_longer : (r : Record) (log : List Record) (es : List Entry) → AllByRecursion (IsSavedRight log) es → AllByRecursion (IsSavedRight (r ∷ log)) es
+saved_longer : (r : Record) (log : List Record) (es : List Entry) → AllByRecursion (IsSavedRight log) es
+    → AllByRecursion (IsSavedRight (r ∷ log)) es
 saved_longer r log [] all = tt
 saved_longer r log (e ∷ es) all = (
   record {
@@ -35,26 +37,30 @@ saved_longer r log (e ∷ es) all = (
 )
 
 -- one number more on the key that isn't captured
-more_at : (cap : ℕ → Bool) (k : Bytes) (n : ℕ) (q : Option Op) (rest : List Done) → ((o : Op) → q ≡ Some o → cap n ≡ false)
-    → (IsBeginning cap rest → IsBeginning cap (done_with k n q rest)) × (value_of cap (done_with k n q rest) ≡ value_of cap rest)
+more_at : (cap : ℕ → Bool) (k : Bytes) (n : ℕ) (q : Option Op) (rest : List Numbered)
+    → ((o : Op) → q ≡ Some o → cap n ≡ false)
+    → (IsBeginning cap rest → IsBeginning cap (numbered_with k n q rest)) × (value_of cap (numbered_with k n q rest) ≡ value_of cap rest)
 more_at cap k n None rest out = (λ h. h, refl)
 more_at cap k n (Some o) rest out =
     pick (is_on k o)
   where
-    pick : (b : Bool) → (IsBeginning cap rest → IsBeginning cap (if b then record { number = n; op = o } ∷ rest else rest))
+    pick : (b : Bool)
+        → (IsBeginning cap rest → IsBeginning cap (if b then record { number = n; op = o } ∷ rest else rest))
         × (value_of cap (if b then record { number = n; op = o } ∷ rest else rest) ≡ value_of cap rest)
     pick true = rw (out o refl) (λ h. h, refl)
     pick false = (λ h. h, refl)
 
-pub honest_longer : (r : Record) (log : List Record) (leaf : LeafView) → ((o : Op) → request_of r ≡ Some o → captures leaf.ab (length log + 1) ≡ false)
+pub honest_longer : (r : Record) (log : List Record) (leaf : LeafView)
+    → ((o : Op) → request_of r ≡ Some o → captures leaf.ab (length log + 1) ≡ false)
     → IsHonestLeaf log leaf → IsHonestLeaf (r ∷ log) leaf
 honest_longer r log leaf out h = record {
   at = λ k within.
-      let more = more_at (λ (m : ℕ). captures leaf.ab m) k (length log + 1) (request_of r) (done_on k log) out in
+      let more = more_at (λ (m : ℕ). captures leaf.ab m) k (length log + 1) (request_of r) (numbered_on k log) out in
       record { beginning = more.0 (h.at k within).beginning; right = (h.at k within).right ∙ sym more.1 };
   saved = saved_longer r log leaf.ab.entries h.saved;
 }
 
 -- a record whose number isn't captured
-pub honest_uncaptured : (r : Record) (log : List Record) (leaf : LeafView) → captures leaf.ab (length log + 1) ≡ false → IsHonestLeaf log leaf → IsHonestLeaf (r ∷ log) leaf
+pub honest_uncaptured : (r : Record) (log : List Record) (leaf : LeafView) → captures leaf.ab (length log + 1) ≡ false
+    → IsHonestLeaf log leaf → IsHonestLeaf (r ∷ log) leaf
 honest_uncaptured r log leaf out h = honest_longer r log leaf (λ o asks. out) h

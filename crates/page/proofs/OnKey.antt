@@ -8,7 +8,7 @@ use Rattle.record_key.proofs.Tables.{is_same-refl, is_same-true}
 use Rattle.history.specs.declared.record.Record.{Record}
 use Rattle.history.specs.Log.{before, request_of, Requests}
 use Rattle.history.specs.Values.{is_on}
-use Rattle.history.specs.Honest.{Done, done_with, done_on, AreCaptured, IsBeginning, value_of}
+use Rattle.history.specs.Honest.{Numbered, numbered_with, numbered_on, AreCaptured, IsBeginning, value_of}
 use Rattle.log_laws.proofs.Records.{ARequest, no_request, at_newest, newest_at, kept_at, had_at, within, which, not_newest, before_new, before_old}
 
 -- the operation stands on the key
@@ -19,66 +19,77 @@ pub key_on : (k : Bytes) (o : Op) → is_on k o ≡ true → key_of o ≡ k
 key_on k o on = sym (is_same-true k (key_of o) on)
 
 -- all of what is done on a key, where it holds of each request there
-all_with : (P : ℕ → Type 0) (k : Bytes) (n : ℕ) (q : Option Op) (rest : List Done) → ((o : Op) → q ≡ Some o → key_of o ≡ k → P n)
-    → AllByRecursion (λ d. P d.number) rest → AllByRecursion (λ d. P d.number) (done_with k n q rest)
+all_with : (P : ℕ → Type 0) (k : Bytes) (n : ℕ) (q : Option Op) (rest : List Numbered)
+    → ((o : Op) → q ≡ Some o → key_of o ≡ k → P n)
+    → AllByRecursion (λ d. P d.number) rest → AllByRecursion (λ d. P d.number) (numbered_with k n q rest)
 all_with P k n None rest new all = all
 all_with P k n (Some o) rest new all =
     pick (is_on k o) refl
   where
-    pick : (b : Bool) → is_on k o ≡ b → AllByRecursion (λ d. P d.number) (if b then record { number = n; op = o } ∷ rest else rest)
+    pick : (b : Bool) → is_on k o ≡ b
+        → AllByRecursion (λ d. P d.number) (if b then record { number = n; op = o } ∷ rest else rest)
     pick true on = (new o refl (key_on k o on), all)
     pick false on = all
 
-pub all_done : (P : ℕ → Type 0) (k : Bytes) (log : List Record) → ((n : ℕ) (o : Op) → Requests log n o → key_of o ≡ k → P n)
-    → AllByRecursion (λ d. P d.number) (done_on k log)
+pub all_done : (P : ℕ → Type 0) (k : Bytes) (log : List Record)
+    → ((n : ℕ) (o : Op) → Requests log n o → key_of o ≡ k → P n)
+    → AllByRecursion (λ d. P d.number) (numbered_on k log)
 all_done P k [] each = tt
 all_done P k (r ∷ log) each =
-    all_with P k (length log + 1) (request_of r) (done_on k log)
+    all_with P k (length log + 1) (request_of r) (numbered_on k log)
     (λ o q on. each (length log + 1) o (at_newest (ARequest o) r log (length log + 1) refl q) on)
     (all_done P k log (λ n o requests on. each n o (kept_at (ARequest o) r log n (within (ARequest o) (no_request o) log n requests) requests) on))
 
 -- a request that no later one on its key follows is the newest there
-pub newest_done : (log : List Record) (n : ℕ) (o : Op) → Requests log n o → ((m : ℕ) (q : Op) → n < m → Requests log m q → key_of q ≡ key_of o → ⊥)
-    → done_on (key_of o) log ≡ record { number = n; op = o } ∷ done_on (key_of o) (before log n)
+pub newest_done : (log : List Record) (n : ℕ) (o : Op) → Requests log n o
+    → ((m : ℕ) (q : Op) → n < m → Requests log m q → key_of q ≡ key_of o → ⊥)
+    → numbered_on (key_of o) log ≡ record { number = n; op = o } ∷ numbered_on (key_of o) (before log n)
 newest_done [] n o requests last = absurd (no_request o requests)
 newest_done (r ∷ log) n o requests last =
     elim (which r log n (within (ARequest o) (no_request o) (r ∷ log) n requests)) [
       | inl e ↦
           let asks : ARequest o (Some r) = newest_at (ARequest o) r log n e requests in
-          ap (λ q. done_with (key_of o) (length log + 1) q (done_on (key_of o) log)) asks
-          ∙ ap (λ b. if b then record { number = length log + 1; op = o } ∷ done_on (key_of o) log else done_on (key_of o) log) (on_key (key_of o) o refl)
-          ∙ ap (λ (m : ℕ). record { number = m; op = o } ∷ done_on (key_of o) log) (sym e)
-          ∙ ap (λ x. record { number = n; op = o } ∷ done_on (key_of o) x) (sym (before_new r log n e))
+          ap (λ q. numbered_with (key_of o) (length log + 1) q (numbered_on (key_of o) log)) asks
+          ∙ ap (λ b. if b then record { number = length log + 1; op = o } ∷ numbered_on (key_of o) log else numbered_on (key_of o) log) (on_key (key_of o) o refl)
+          ∙ ap (λ (m : ℕ). record { number = m; op = o } ∷ numbered_on (key_of o) log) (sym e)
+          ∙ ap (λ x. record { number = n; op = o } ∷ numbered_on (key_of o) x) (sym (before_new r log n e))
       | inr was ↦
           let older : Requests log n o = had_at (ARequest o) r log n was requests in
           passed (request_of r) (λ q asks on. last (length log + 1) q (omega (arith, was.bounded)) (at_newest (ARequest q) r log (length log + 1) refl asks) on)
           ∙ newest_done log n o older (λ m q above asks on. last m q above (kept_at (ARequest q) r log m (within (ARequest q) (no_request q) log m asks) asks) on)
-          ∙ ap (λ x. record { number = n; op = o } ∷ done_on (key_of o) x) (sym (before_old r log n (not_newest log n was)))
+          ∙ ap (λ x. record { number = n; op = o } ∷ numbered_on (key_of o) x) (sym (before_old r log n (not_newest log n was)))
     ]
   where
-    passed : (q : Option Op) → ((p : Op) → q ≡ Some p → key_of p ≡ key_of o → ⊥) → done_with (key_of o) (length log + 1) q (done_on (key_of o) log) ≡ done_on (key_of o) log
+    passed : (q : Option Op) → ((p : Op) → q ≡ Some p → key_of p ≡ key_of o → ⊥)
+        → numbered_with (key_of o) (length log + 1) q (numbered_on (key_of o) log) ≡ numbered_on (key_of o) log
     passed None none = refl
     passed (Some p) none = skip (is_on (key_of o) p) refl
       where
-        skip : (b : Bool) → is_on (key_of o) p ≡ b → (if b then record { number = length log + 1; op = p } ∷ done_on (key_of o) log else done_on (key_of o) log) ≡ done_on (key_of o) log
+        skip : (b : Bool) → is_on (key_of o) p ≡ b
+            → (if b then record { number = length log + 1; op = p } ∷ numbered_on (key_of o) log else numbered_on (key_of o) log) ≡ numbered_on (key_of o) log
         skip true on = absurd (none p refl (key_on (key_of o) p on))
         skip false on = refl
 
-pub captured_alike : (p q : ℕ → Bool) (done : List Done) → AllByRecursion (λ d. p d.number ≡ q d.number) done → AreCaptured p done → AreCaptured q done
+pub captured_alike : (p q : ℕ → Bool) (done : List Numbered) → AllByRecursion (λ d. p d.number ≡ q d.number) done
+    → AreCaptured p done → AreCaptured q done
 captured_alike p q [] same all = tt
 captured_alike p q (d ∷ done) same all = (sym same.0 ∙ all.0, captured_alike p q done same.1 all.1)
 
-beginning_at : (b c : Bool) (p q : ℕ → Bool) (done : List Done) → b ≡ c → AllByRecursion (λ d. p d.number ≡ q d.number) done
-    → (IsBeginning p done → IsBeginning q done) → MatchBool b (AreCaptured p done) (IsBeginning p done) → MatchBool c (AreCaptured q done) (IsBeginning q done)
+beginning_at : (b c : Bool) (p q : ℕ → Bool) (done : List Numbered) → b ≡ c
+    → AllByRecursion (λ d. p d.number ≡ q d.number) done
+    → (IsBeginning p done → IsBeginning q done) → MatchBool b (AreCaptured p done) (IsBeginning p done)
+    → MatchBool c (AreCaptured q done) (IsBeginning q done)
 beginning_at true true p q done e same rest h = captured_alike p q done same h
 beginning_at false false p q done e same rest h = rest h
 beginning_at true false p q done e same rest h = absurd (true≢false e)
 beginning_at false true p q done e same rest h = absurd (true≢false (sym e))
 
-pub beginning_alike : (p q : ℕ → Bool) (done : List Done) → AllByRecursion (λ d. p d.number ≡ q d.number) done → IsBeginning p done → IsBeginning q done
+pub beginning_alike : (p q : ℕ → Bool) (done : List Numbered) → AllByRecursion (λ d. p d.number ≡ q d.number) done
+    → IsBeginning p done → IsBeginning q done
 beginning_alike p q [] same h = tt
 beginning_alike p q (d ∷ done) same h = beginning_at (p d.number) (q d.number) p q done same.0 same.1 (beginning_alike p q done same.1) h
 
-pub value_alike : (p q : ℕ → Bool) (done : List Done) → AllByRecursion (λ d. p d.number ≡ q d.number) done → value_of p done ≡ value_of q done
+pub value_alike : (p q : ℕ → Bool) (done : List Numbered) → AllByRecursion (λ d. p d.number ≡ q d.number) done
+    → value_of p done ≡ value_of q done
 value_alike p q [] same = refl
 value_alike p q (d ∷ done) same = rw (same.0, value_alike p q done same.1) refl

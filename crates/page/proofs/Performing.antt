@@ -11,7 +11,7 @@ use Rattle.record_key.proofs.Tables.{get-with_record_same, get-with_record_other
 use Rattle.history.specs.declared.record.Record.{Record}
 use Rattle.history.specs.Log.{before, Requests, request_in}
 use Rattle.history.specs.Values.{is_on, value_on, IsRight}
-use Rattle.history.specs.Honest.{done_on, AreCaptured, IsHonestAt}
+use Rattle.history.specs.Honest.{numbered_on, AreCaptured, IsHonestAt}
 use Rattle.log_laws.proofs.Records.{record_before, length_before}
 use Rattle.log_laws.proofs.LegalLogs.{request_number}
 use Rattle.log_laws.proofs.Plain.{value_of-captured}
@@ -29,11 +29,13 @@ pub one_request : (log : List Record) (n : ℕ) (o q : Op) → Requests log n o 
 one_request log n o q h k = let e : Some q ≡ Some o = sym k ∙ h in cc
 
 -- what holds of all entries and of one more holds of all with it
-kept_pair : (P : Entry → Type 0) (b : Bool) (e f : Entry) (es fs : List Entry) → P e → P f → AllByRecursion P es → AllByRecursion P fs → AllByRecursion P (cond b (e ∷ fs) (f ∷ e ∷ es))
+kept_pair : (P : Entry → Type 0) (b : Bool) (e f : Entry) (es fs : List Entry) → P e → P f → AllByRecursion P es
+    → AllByRecursion P fs → AllByRecursion P (cond b (e ∷ fs) (f ∷ e ∷ es))
 kept_pair P true e f es fs here new all more = (here, more)
 kept_pair P false e f es fs here new all more = (new, (here, all))
 
-pub all_placed : (P : Entry → Type 0) (f : Entry) (es : List Entry) → P f → AllByRecursion P es → AllByRecursion P (placed f es)
+pub all_placed : (P : Entry → Type 0) (f : Entry) (es : List Entry) → P f → AllByRecursion P es
+    → AllByRecursion P (placed f es)
 all_placed P f [] new all = (new, tt)
 all_placed P f (e ∷ es) new all = kept_pair P (nat_lt e.number f.number) e f es (placed f es) all.0 new all.1 (all_placed P f es new all.1)
 
@@ -60,13 +62,13 @@ module _ (log : List Record) (leaf : LeafView) (n : ℕ) (o : Op) (honest : IsHo
   here = honest.at key next.within
 
   -- those before it on its key are captured, those after it aren't
-  older : AllByRecursion (λ d. d.number < n → old d.number ≡ true) (done_on key log)
+  older : AllByRecursion (λ d. d.number < n → old d.number ≡ true) (numbered_on key log)
   older = all_done (λ m. m < n → old m ≡ true) key log (λ m q asks on less. next.others m q asks on less)
 
   later : (m : ℕ) (q : Op) → n < m → Requests log m q → key_of q ≡ key → old m ≡ false
   later m q less asks on = later_uncaptured old key log n m o q here.beginning next.requests refl next.uncaptured asks on less
 
-  before_captured : AreCaptured old (done_on key (before log n))
+  before_captured : AreCaptured old (numbered_on key (before log n))
   before_captured = all_done (λ m. old m ≡ true) key (before log n) (λ m q asks on.
       let below : m < n = omega (arith, (request_number (before log n) m q asks).bounded, length_before log n (request_number log n o next.requests)) in
       next.others m q (subst (λ r. request_in r ≡ Some q) (record_before log m n (request_number log n o next.requests) below) asks) on below)
@@ -78,8 +80,8 @@ module _ (log : List Record) (leaf : LeafView) (n : ℕ) (o : Op) (honest : IsHo
   pub right_answer : IsRight log n (answer_in leaf.rows o)
   right_answer q asks = let same : q ≡ o = one_request log n o q next.requests asks in rw same (ap (answer_at o) was)
 
-  grows : Grows old new o (done_on key log)
-  grows = one_more old new n o next.uncaptured captured_itself captured_other (length log + 1) (done_on key log) (falls key log) (stands_on key log n o next.requests refl) older here.beginning
+  grows : Grows old new o (numbered_on key log)
+  grows = one_more old new n o next.uncaptured captured_itself captured_other (length log + 1) (numbered_on key log) (falls key log) (stands_on key log n o next.requests refl) older here.beginning
 
   honest_here : IsHonestAt log new key (get (performed leaf n o).rows key)
   honest_here = record {
@@ -87,14 +89,15 @@ module _ (log : List Record) (leaf : LeafView) (n : ℕ) (o : Op) (honest : IsHo
     right = get-with_record_same leaf.rows key (value_after o (get leaf.rows key)) ∙ ap (value_after o) here.right ∙ sym grows.value;
   }
 
-  honest_elsewhere : (q : Bytes) → q ≢ key → IsHonestAt log old q (get leaf.rows q) → IsHonestAt log new q (get (performed leaf n o).rows q)
+  honest_elsewhere : (q : Bytes) → q ≢ key → IsHonestAt log old q (get leaf.rows q)
+      → IsHonestAt log new q (get (performed leaf n o).rows q)
   honest_elsewhere q apart h =
-      let alike : AllByRecursion (λ d. old d.number ≡ new d.number) (done_on q log) =
+      let alike : AllByRecursion (λ d. old d.number ≡ new d.number) (numbered_on q log) =
       all_done (λ m. old m ≡ new m) q log (λ m p asks on.
       sym (captured_other m (λ e. apart (sym on ∙ ap key_of (one_request log n o p next.requests (subst (λ (z : ℕ). Requests log z p) e asks)))))) in
       record {
-        beginning = beginning_alike old new (done_on q log) alike h.beginning;
-        right = get-with_record_other leaf.rows key q (value_after o (get leaf.rows key)) apart ∙ h.right ∙ value_alike old new (done_on q log) alike;
+        beginning = beginning_alike old new (numbered_on q log) alike h.beginning;
+        right = get-with_record_other leaf.rows key q (value_after o (get leaf.rows key)) apart ∙ h.right ∙ value_alike old new (numbered_on q log) alike;
       }
 
   pub honest_performed : IsHonestLeaf log (performed leaf n o)

@@ -65,7 +65,8 @@ all_from k x (row ∷ rows) above ordered =
     let rest = all_from k x rows above (and_second _ _ ordered) in
     record { under = rw (here) rest.under; from = rw (here) (ap (λ (r : List Row). row ∷ r) rest.from) }
 
-pub parted : (k : Bytes) (rows : List Row) (p : ℕ) → T (is_sorted key_cmp rows) → IsStartFor k rows p → Parts k rows (take p rows) (drop p rows)
+pub parted : (k : Bytes) (rows : List Row) (p : ℕ) → T (is_sorted key_cmp rows) → IsStartFor k rows p
+    → Parts k rows (take p rows) (drop p rows)
 parted k [] zero ordered start = record { under = refl; from = refl }
 parted k [] (suc p) ordered start = record { under = refl; from = refl }
 parted k (row ∷ rows) zero ordered start =
@@ -85,11 +86,13 @@ sorted_drop (row ∷ rows) (suc p) h = sorted_drop rows p (and_second _ _ h)
 pub ordered_drop : (rows : List Row) (p : ℕ) → AreInOrder rows → AreInOrder (drop p rows)
 ordered_drop rows p h = from_T _ (sorted_drop rows p (as_T _ h))
 
-pub parts_of : (k : Bytes) (rows : List Row) (p : ℕ) → AreInOrder rows → IsStartFor k rows p → Parts k rows (take p rows) (drop p rows)
+pub parts_of : (k : Bytes) (rows : List Row) (p : ℕ) → AreInOrder rows → IsStartFor k rows p
+    → Parts k rows (take p rows) (drop p rows)
 parts_of k rows p h start = parted k rows p (as_T _ h) start
 
 -- one test after another, and a test that nothing fails
-one_then : (a b : Bool) (row : Row) (rows : List Row) (q : Row → Bool) → q row ≡ b → filter q (cond a (row ∷ rows) rows) ≡ cond (a && b) (row ∷ filter q rows) (filter q rows)
+one_then : (a b : Bool) (row : Row) (rows : List Row) (q : Row → Bool) → q row ≡ b
+    → filter q (cond a (row ∷ rows) rows) ≡ cond (a && b) (row ∷ filter q rows) (filter q rows)
 one_then true true row rows q is = rw (is) refl
 one_then true false row rows q is = rw (is) refl
 one_then false b row rows q is = refl
@@ -110,11 +113,13 @@ alone p (row ∷ rows) = (λ i. cond (is_same i) (row ∷ alone p rows i) (alone
     is_same = and_true (p row)
 
 -- the rows of a range
-pub ranged : (s : Span) (rows part : List Row) (hi : Bytes) → AreInOrder rows → s.hi ≡ Some hi → part ≡ filter (λ row. is_below row.0 hi) (filter (λ row. not (is_below row.0 s.lo)) rows)
+pub ranged : (s : Span) (rows part : List Row) (hi : Bytes) → AreInOrder rows → s.hi ≡ Some hi
+    → part ≡ filter (λ row. is_below row.0 hi) (filter (λ row. not (is_below row.0 s.lo)) rows)
     → part ≡ rows_in s (table_of rows)
 ranged s rows part hi ordered is h =
     h ∙ both (is_from s.lo) (is_under hi) rows
     ∙ rw (entries-table_of rows ordered, is) refl
 
-pub ranged_on : (s : Span) (rows part : List Row) → AreInOrder rows → s.hi ≡ None → part ≡ filter (λ row. not (is_below row.0 s.lo)) rows → part ≡ rows_in s (table_of rows)
+pub ranged_on : (s : Span) (rows part : List Row) → AreInOrder rows → s.hi ≡ None
+    → part ≡ filter (λ row. not (is_below row.0 s.lo)) rows → part ≡ rows_in s (table_of rows)
 ranged_on s rows part ordered is h = h ∙ alone (is_from s.lo) rows ∙ rw (entries-table_of rows ordered, is) refl

@@ -12,7 +12,7 @@ use Rattle.record_key.specs.Rows.{LieBetween}
 use Rattle.record_key.specs.declared.entry.Entry.{Entry}
 use Rattle.history.specs.declared.record.Record.{Record}
 use Rattle.history.specs.Log.{Requests}
-use Rattle.history.specs.Honest.{Done, done_on, IsHonestAt}
+use Rattle.history.specs.Honest.{Numbered, numbered_on, IsHonestAt}
 use Rattle.ab_lsn.specs.AbLsn.{stands_in, captures}
 use Rattle.ab_lsn.specs.Parting.{is_under, is_from, entries_with, stands_with}
 use Rattle.ab_lsn.proofs.Capturing.{parted_captures, joined_captures}
@@ -25,13 +25,14 @@ use Rattle.page.proofs.Raising.{or_there}
 use Rattle.page.proofs.Halves.{all_kept, all_joined, lower_between, upper_between, get_retained, Apart, apart_of, first_again, second_again}
 
 -- what captures the same of a log's numbers on a key, and holds the same there, is honest there too
-pub honest_alike : (log : List Record) (old new : ℕ → Bool) (k : Bytes) (m n : Table) → ((l : ℕ) (o : Op) → Requests log l o → key_of o ≡ k → old l ≡ new l)
+pub honest_alike : (log : List Record) (old new : ℕ → Bool) (k : Bytes) (m n : Table)
+    → ((l : ℕ) (o : Op) → Requests log l o → key_of o ≡ k → old l ≡ new l)
     → map.get n k ≡ map.get m k → IsHonestAt log old k (map.get m k) → IsHonestAt log new k (map.get n k)
 honest_alike log old new k m n same value h =
-    let alike : AllByRecursion (λ (d : Done). old d.number ≡ new d.number) (done_on k log) = all_done (λ (l : ℕ). old l ≡ new l) k log same in
+    let alike : AllByRecursion (λ (d : Numbered). old d.number ≡ new d.number) (numbered_on k log) = all_done (λ (l : ℕ). old l ≡ new l) k log same in
     record {
-      beginning = beginning_alike old new (done_on k log) alike h.beginning;
-      right = value ∙ h.right ∙ value_alike old new (done_on k log) alike;
+      beginning = beginning_alike old new (numbered_on k log) alike h.beginning;
+      right = value ∙ h.right ∙ value_alike old new (numbered_on k log) alike;
     }
 
 -- ---- a cut
@@ -44,7 +45,8 @@ one_entry n e b passes =
       | inr apart ↦ rw apart refl
     ]
 
-stands_left : (log : List Record) (test : Bytes → Bool) (n : ℕ) (o : Op) (es : List Entry) → Requests log n o → test (key_of o) ≡ true
+stands_left : (log : List Record) (test : Bytes → Bool) (n : ℕ) (o : Op) (es : List Entry) → Requests log n o
+    → test (key_of o) ≡ true
     → AllByRecursion (IsSavedRight log) es → stands_in es n ≡ stands_with test es n
 stands_left log test n o [] requests passes all = refl
 stands_left log test n o (e ∷ es) requests passes all =
@@ -53,13 +55,16 @@ stands_left log test n o (e ∷ es) requests passes all =
     ap test (sym all.0.on_key ∙ ap key_of same) ∙ passes in
     λ i. one_entry n e (test e.key) here i || stands_left log test n o es requests passes all.1 i
 
-pub captured_left : (log : List Record) (leaf : LeafView) (test : Bytes → Bool) (k : Bytes) → IsHonestLeaf log leaf → test k ≡ true
-    → (n : ℕ) (o : Op) → Requests log n o → key_of o ≡ k → captures leaf.ab n ≡ captures (record { low = leaf.ab.low; entries = entries_with test leaf.ab.entries }) n
+pub captured_left : (log : List Record) (leaf : LeafView) (test : Bytes → Bool) (k : Bytes) → IsHonestLeaf log leaf
+    → test k ≡ true
+    → (n : ℕ) (o : Op) → Requests log n o → key_of o ≡ k
+    → captures leaf.ab n ≡ captures (record { low = leaf.ab.low; entries = entries_with test leaf.ab.entries }) n
 captured_left log leaf test k honest passes n o requests on =
     ap (λ (b : Bool). nat_le n leaf.ab.low || b) (stands_left log test n o leaf.ab.entries requests (ap test on ∙ passes) honest.saved)
     ∙ sym (parted_captures leaf.ab.low leaf.ab.entries test n)
 
-pub honest_lower : (log : List Record) (leaf : LeafView) (k : Bytes) (d : ℕ) → IsHonestLeaf log leaf → is_in_fences leaf k ≡ true
+pub honest_lower : (log : List Record) (leaf : LeafView) (k : Bytes) (d : ℕ) → IsHonestLeaf log leaf
+    → is_in_fences leaf k ≡ true
     → IsHonestLeaf log (lower_of leaf k d)
 honest_lower log leaf k d honest inside = record {
   at = λ q within.
@@ -71,7 +76,8 @@ honest_lower log leaf k d honest inside = record {
   saved = all_kept (IsSavedRight log) (IsSavedRight log) (λ (e : Entry). is_under k e.key) (λ e right passes. right) leaf.ab.entries honest.saved;
 }
 
-pub honest_upper : (log : List Record) (leaf : LeafView) (k : Bytes) (id d : ℕ) → IsHonestLeaf log leaf → is_in_fences leaf k ≡ true
+pub honest_upper : (log : List Record) (leaf : LeafView) (k : Bytes) (id d : ℕ) → IsHonestLeaf log leaf
+    → is_in_fences leaf k ≡ true
     → IsHonestLeaf log (upper_of leaf k id d)
 honest_upper log leaf k id d honest inside = record {
   at = λ q within.
@@ -87,7 +93,8 @@ honest_upper log leaf k id d honest inside = record {
 
 -- an entry of this number has the key of its request, which lies where all entries' do
 entry_key : (log : List Record) (low high : Bytes → Bool) (n : ℕ) (o : Op) (es : List Entry) → Requests log n o
-    → AllByRecursion (λ (e : Entry). (low e.key && high e.key) ≡ true) es → AllByRecursion (IsSavedRight log) es → stands_in es n ≡ true
+    → AllByRecursion (λ (e : Entry). (low e.key && high e.key) ≡ true) es → AllByRecursion (IsSavedRight log) es
+    → stands_in es n ≡ true
     → (low (key_of o) && high (key_of o)) ≡ true
 entry_key log low high n o [] requests inside all there = absurd (true≢false (sym there))
 entry_key log low high n o (e ∷ es) requests inside all there =
@@ -100,7 +107,8 @@ entry_key log low high n o (e ∷ es) requests inside all there =
     ]
 
 -- a number on a key of one leaf, that another leaf with other keys captures, is at most the other's low number
-only_low : (log : List Record) (other : LeafView) (n : ℕ) (o : Op) → IsLeaf other → IsHonestLeaf log other → Requests log n o
+only_low : (log : List Record) (other : LeafView) (n : ℕ) (o : Op) → IsLeaf other → IsHonestLeaf log other
+    → Requests log n o
     → is_in_fences other (key_of o) ≡ false → captures other.ab n ≡ true → n ≤ other.ab.low
 only_low log other n o kept honest requests outside captured =
     elim (cases_lt other.ab.low n) [
@@ -111,9 +119,11 @@ only_low log other n o kept honest requests outside captured =
     ]
 
 -- so what both capture of the numbers on a leaf's keys, that leaf captures
-pub captured_both : (log : List Record) (leaf other : LeafView) (k : Bytes) → IsLeaf other → IsHonestLeaf log other → IsCapturedTo log leaf other.ab.low
+pub captured_both : (log : List Record) (leaf other : LeafView) (k : Bytes) → IsLeaf other → IsHonestLeaf log other
+    → IsCapturedTo log leaf other.ab.low
     → is_in_fences leaf k ≡ true → is_in_fences other k ≡ false
-    → (n : ℕ) (o : Op) → Requests log n o → key_of o ≡ k → captures leaf.ab n ≡ (captures leaf.ab n || captures other.ab n)
+    → (n : ℕ) (o : Op) → Requests log n o → key_of o ≡ k
+    → captures leaf.ab n ≡ (captures leaf.ab n || captures other.ab n)
 captured_both log leaf other k kept honest to inside outside n o requests on =
     or_there (captures leaf.ab n) (captures other.ab n) (λ captured.
     to.all n o requests (ap (is_in_fences leaf) on ∙ inside)
@@ -130,7 +140,8 @@ module _ (log : List Record) (left right : LeafView) (d : ℕ) (left_kept : IsLe
   abbrev new : ℕ → Bool
   new m = captures (joined_of left right d).ab m
 
-  on_left : (k : Bytes) → is_in_fences (joined_of left right d) k ≡ true → is_below k next.fence ≡ true → IsHonestAt log new k (map.get (joined_of left right d).rows k)
+  on_left : (k : Bytes) → is_in_fences (joined_of left right d) k ≡ true → is_below k next.fence ≡ true
+      → IsHonestAt log new k (map.get (joined_of left right d).rows k)
   on_left k within under =
       let inside : is_in_fences left k ≡ true = rw (next.ends, (and_parts (starts_at_most left.low_fence k) _ within).0, under) refl in
       let outside : is_in_fences right k ≡ false = rw (next.begins, under) refl in
@@ -139,7 +150,8 @@ module _ (log : List Record) (left right : LeafView) (d : ℕ) (left_kept : IsLe
       (sym (get_retained (joined_of left right d).rows (is_under next.fence) k under) ∙ ap (λ (m : Table). map.get m k) (first_again next.fence left.rows right.rows apart))
       (left_honest.at k inside)
 
-  on_right : (k : Bytes) → is_in_fences (joined_of left right d) k ≡ true → is_below k next.fence ≡ false → IsHonestAt log new k (map.get (joined_of left right d).rows k)
+  on_right : (k : Bytes) → is_in_fences (joined_of left right d) k ≡ true → is_below k next.fence ≡ false
+      → IsHonestAt log new k (map.get (joined_of left right d).rows k)
   on_right k within free =
       let inside : is_in_fences right k ≡ true = rw (next.begins, free, (and_parts _ (ends_above right.high_fence k) within).1) refl in
       let outside : is_in_fences left k ≡ false = rw (next.ends, free) (no_end (starts_at_most left.low_fence k)) in

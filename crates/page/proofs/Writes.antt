@@ -11,12 +11,14 @@ use Rattle.record_key.proofs.Rows.{inserted, replaced, removed, found, absent}
 use Rattle.page.specs.Places.{rows_after}
 
 -- what all rows have and a new one too, all have where it came to them, or where one went
-all_inserted : (P : Row → Type 0) (rows : List Row) (p : ℕ) (row : Row) → AllByRecursion P rows → P row → AllByRecursion P (insert rows p row)
+all_inserted : (P : Row → Type 0) (rows : List Row) (p : ℕ) (row : Row) → AllByRecursion P rows → P row
+    → AllByRecursion P (insert rows p row)
 all_inserted P rows zero row all new = (new, all)
 all_inserted P [] (suc p) row all new = (new, tt)
 all_inserted P (r ∷ rows) (suc p) row all new = (all.0, all_inserted P rows p row all.1 new)
 
-all_set : (P : Row → Type 0) (rows : List Row) (p : ℕ) (row : Row) → AllByRecursion P rows → P row → AllByRecursion P (set rows p row)
+all_set : (P : Row → Type 0) (rows : List Row) (p : ℕ) (row : Row) → AllByRecursion P rows → P row
+    → AllByRecursion P (set rows p row)
 all_set P [] p row all new = tt
 all_set P (r ∷ rows) zero row all new = (new, all.1)
 all_set P (r ∷ rows) (suc p) row all new = (all.0, all_set P rows p row all.1 new)
@@ -28,7 +30,8 @@ all_removed P (r ∷ rows) zero all = all.1
 all_removed P (r ∷ rows) (suc p) all = (all.0, all_removed P rows p all.1)
 
 -- what all keys have and the operation's too, all have afterwards
-pub all_written : (P : Bytes → Type 0) (rows : List Row) (o : Op) (place : Result ℕ ℕ) → AllByRecursion (λ (row : Row). P row.0) rows
+pub all_written : (P : Bytes → Type 0) (rows : List Row) (o : Op) (place : Result ℕ ℕ)
+    → AllByRecursion (λ (row : Row). P row.0) rows
     → P (key_of o) → AllByRecursion (λ (row : Row). P row.0) (rows_after o place rows)
 all_written P rows (Insert k v) (Ok at) all new = all
 all_written P rows (Insert k v) (Err gap) all new = all_inserted (λ (row : Row). P row.0) rows gap (k, v) all new
@@ -52,10 +55,12 @@ written rows new o r is done = record {
   table = done.1 ∙ ap (λ x. with_record (table_of rows) (key_of o) (value_after o x)) (sym is);
 }
 
-idle : (rows : List Row) (o : Op) (r : Option Bytes) → AreInOrder rows → map.get (table_of rows) (key_of o) ≡ r → value_after o r ≡ r → Writes rows rows o
+idle : (rows : List Row) (o : Op) (r : Option Bytes) → AreInOrder rows → map.get (table_of rows) (key_of o) ≡ r
+    → value_after o r ≡ r → Writes rows rows o
 idle rows o r ordered is same = record { ordered = ordered; table = after-idle (table_of rows) o r (sym is) same }
 
-pub writes : (rows : List Row) (o : Op) (place : Result ℕ ℕ) → AreInOrder rows → IsPlaceOf (key_of o) rows place → Writes rows (rows_after o place rows) o
+pub writes : (rows : List Row) (o : Op) (place : Result ℕ ℕ) → AreInOrder rows → IsPlaceOf (key_of o) rows place
+    → Writes rows (rows_after o place rows) o
 writes rows (Insert k v) (Ok at) ordered is = idle rows (Insert k v) _ ordered (found rows ordered k at ([], []) is) refl
 writes rows (Insert k v) (Err gap) ordered is = written rows _ (Insert k v) None (absent rows ordered k gap is) (inserted rows ordered k gap v is)
 writes rows (Update k v) (Ok at) ordered is = written rows _ (Update k v) (Some _) (found rows ordered k at ([], []) is) (replaced rows ordered k at v is)

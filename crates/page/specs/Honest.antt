@@ -34,7 +34,8 @@ pub record IsNextOn (log : List Record) (leaf : LeafView) (n : ℕ) (o : Op) : T
 
 -- the log's numbers up to this one on the leaf's keys are captured
 pub record IsCapturedTo (log : List Record) (leaf : LeafView) (l : ℕ) : Type 0 where
-  pub all : (n : ℕ) (o : Op) → Requests log n o → is_in_fences leaf (key_of o) ≡ true → n ≤ l → captures leaf.ab n ≡ true
+  pub all : (n : ℕ) (o : Op) → Requests log n o → is_in_fences leaf (key_of o) ≡ true → n ≤ l
+      → captures leaf.ab n ≡ true
 
 -- a leaf stays honest where it performs the log's next number on a key, where the low number rises over captured
 -- ones, and on both sides of a cut in its fences; and so is the leaf of two neighbours, each of which has captured
@@ -42,11 +43,16 @@ pub record IsCapturedTo (log : List Record) (leaf : LeafView) (l : ℕ) : Type 0
 pub record LeafLaw : Type 0 where
   pub performs : (log : List Record) (leaf : LeafView) (n : ℕ) (o : Op) → IsHonestLeaf log leaf → IsNextOn log leaf n o
       → IsHonestLeaf log (performed leaf n o)
-  pub raises : (log : List Record) (leaf : LeafView) (l : ℕ) → IsHonestLeaf log leaf → IsCapturedTo log leaf l → IsHonestLeaf log (raised_to leaf l)
-  pub lower : (log : List Record) (leaf : LeafView) (k : Bytes) (d : ℕ) → IsHonestLeaf log leaf → is_in_fences leaf k ≡ true
+  pub raises : (log : List Record) (leaf : LeafView) (l : ℕ) → IsHonestLeaf log leaf → IsCapturedTo log leaf l
+      → IsHonestLeaf log (raised_to leaf l)
+  pub lower : (log : List Record) (leaf : LeafView) (k : Bytes) (d : ℕ) → IsHonestLeaf log leaf
+      → is_in_fences leaf k ≡ true
       → IsHonestLeaf log (lower_of leaf k d)
-  pub upper : (log : List Record) (leaf : LeafView) (k : Bytes) (id d : ℕ) → IsHonestLeaf log leaf → is_in_fences leaf k ≡ true
+  pub upper : (log : List Record) (leaf : LeafView) (k : Bytes) (id d : ℕ) → IsHonestLeaf log leaf
+      → is_in_fences leaf k ≡ true
       → IsHonestLeaf log (upper_of leaf k id d)
-  pub joins : (log : List Record) (left right : LeafView) (d : ℕ) → IsLeaf left → IsLeaf right → AreNeighbours left right
-      → IsHonestLeaf log left → IsHonestLeaf log right → IsCapturedTo log left right.ab.low → IsCapturedTo log right left.ab.low
+  pub joins : (log : List Record) (left right : LeafView) (d : ℕ) → IsLeaf left → IsLeaf right
+      → AreNeighbours left right
+      → IsHonestLeaf log left → IsHonestLeaf log right → IsCapturedTo log left right.ab.low
+      → IsCapturedTo log right left.ab.low
       → IsHonestLeaf log (joined_of left right d)

@@ -31,22 +31,26 @@ any_reversed p (x ∷ xs) =
     ap (list_any p) (reverse-append (x ∷ []) xs) ∙ list_any-append p (reverse xs) (x ∷ [])
     ∙ ap (λ b. b || (p x || false)) (any_reversed p xs) ∙ last_first (list_any p xs) (p x)
 
-any_mapped : (s : Span) (locks : List Lock) → list_any (clash s) (map span_of locks) ≡ list_any (λ (l : Lock). clash s (span_of l)) locks
+any_mapped : (s : Span) (locks : List Lock)
+    → list_any (clash s) (map span_of locks) ≡ list_any (λ (l : Lock). clash s (span_of l)) locks
 any_mapped s [] = refl
 any_mapped s (l ∷ ls) = ap (λ b. clash s (span_of l) || b) (any_mapped s ls)
 
-any_newest : (lock : Lock) (locks : List Lock) → list_any (clash (span_of lock)) (newest_first locks) ≡ list_any (clashes_with lock) locks
+any_newest : (lock : Lock) (locks : List Lock)
+    → list_any (clash (span_of lock)) (newest_first locks) ≡ list_any (clashes_with lock) locks
 any_newest lock locks = any_mapped (span_of lock) (reverse locks) ∙ any_reversed (clashes_with lock) locks
 
 -- another transaction that holds a conflicting span
 abbrev pub StandsInWay : Held → ℕ → Lock → ℕ → Type 0
 StandsInWay h t lock u = (u ≢ t) × AnyConflict (span_of lock) (spans_of (seen h) u)
 
-pub way_from_locks : (h : Held) (t : ℕ) (lock : Lock) (u : ℕ) → u ≢ t → list_any (clashes_with lock) (locks_in h u) ≡ true → StandsInWay h t lock u
+pub way_from_locks : (h : Held) (t : ℕ) (lock : Lock) (u : ℕ) → u ≢ t
+    → list_any (clashes_with lock) (locks_in h u) ≡ true → StandsInWay h t lock u
 way_from_locks h t lock u other any =
     (other, subst (AnyConflict (span_of lock)) (sym (read h u)) (conflicts_from_clashes (span_of lock) _ (any_newest lock (locks_in h u) ∙ any)))
 
-pub locks_from_way : (h : Held) (t : ℕ) (lock : Lock) (u : ℕ) → StandsInWay h t lock u → list_any (clashes_with lock) (locks_in h u) ≡ true
+pub locks_from_way : (h : Held) (t : ℕ) (lock : Lock) (u : ℕ) → StandsInWay h t lock u
+    → list_any (clashes_with lock) (locks_in h u) ≡ true
 locks_from_way h t lock u way =
     sym (any_newest lock (locks_in h u)) ∙ clashes_from_conflicts (span_of lock) _ (subst (AnyConflict (span_of lock)) (read h u) way.1)
 
@@ -65,7 +69,8 @@ all_listed P [] h = tt
 all_listed P (x ∷ xs) h = (h 0 x (omega arith), all_listed P xs (λ k d lt. h (suc k) d (omega (arith, lt))))
 
 module _ (h : Held) (t : ℕ) (lock : Lock) where
-  passes_way : (u : ℕ) (es : List (ℕ × Vec Lock)) → AllByRecursion (λ (e : ℕ × Vec Lock). get nat_cmp h.by_txn e.0 ≡ Some e.1) es
+  passes_way : (u : ℕ) (es : List (ℕ × Vec Lock))
+      → AllByRecursion (λ (e : ℕ × Vec Lock). get nat_cmp h.by_txn e.0 ≡ Some e.1) es
       → Passes (λ (e : ℕ × Vec Lock). e.0) (blocks t lock) es u → StandsInWay h t lock u
   passes_way u [] all never = absurd never
   passes_way u (e ∷ es) all passes =
@@ -77,7 +82,8 @@ module _ (h : Held) (t : ℕ) (lock : Lock) where
         | inr later ↦ passes_way u es all.1 later
       ]
 
-  way_first : (b : Bool) (e : ℕ × Vec Lock) (o : Option (Vec Lock)) (u : ℕ) (es : List (ℕ × Vec Lock)) → u ≢ t → (b ≡ true → u ≡ e.0)
+  way_first : (b : Bool) (e : ℕ × Vec Lock) (o : Option (Vec Lock)) (u : ℕ) (es : List (ℕ × Vec Lock)) → u ≢ t
+      → (b ≡ true → u ≡ e.0)
       → list_any (clashes_with lock) (items_of (cond b (Some e.1) o)) ≡ true
       → (list_any (clashes_with lock) (items_of o) ≡ true → Passes (λ (e : ℕ × Vec Lock). e.0) (blocks t lock) es u)
       → Passes (λ (e : ℕ × Vec Lock). e.0) (blocks t lock) (e ∷ es) u
@@ -86,18 +92,21 @@ module _ (h : Held) (t : ℕ) (lock : Lock) where
       inl (rw apart any, sym (is refl))
   way_first false e o u es other is any later = inr (later any)
 
-  way_passes : (u : ℕ) (es : List (ℕ × Vec Lock)) → u ≢ t → list_any (clashes_with lock) (items_of (lookup (is_at (nat_cmp u)) es)) ≡ true
+  way_passes : (u : ℕ) (es : List (ℕ × Vec Lock)) → u ≢ t
+      → list_any (clashes_with lock) (items_of (lookup (is_at (nat_cmp u)) es)) ≡ true
       → Passes (λ (e : ℕ × Vec Lock). e.0) (blocks t lock) es u
   way_passes u [] other any = absurd (true≢false (sym any))
   way_passes u (e ∷ es) other any =
       way_first (is_eq (nat_cmp u e.0)) e (lookup (is_at (nat_cmp u)) es) u es other (same_number u e.0) any (λ later. way_passes u es other later)
 
   -- what a search for the least says of a take
-  pub free_where_none : (least : Option ℕ) → IsLeast (StandsInWay h t lock) least → IfNone least (IsFree (seen h) t (span_of lock))
+  pub free_where_none : (least : Option ℕ) → IsLeast (StandsInWay h t lock) least
+      → IfNone least (IsFree (seen h) t (span_of lock))
   free_where_none None l = λ u other conflict. l u (other, conflict)
   free_where_none (Some n) l = tt
 
-  pub least_where_some : (least : Option ℕ) → IsLeast (StandsInWay h t lock) least → IfSome least (IsLeastHolder (seen h) t (span_of lock))
+  pub least_where_some : (least : Option ℕ) → IsLeast (StandsInWay h t lock) least
+      → IfSome least (IsLeastHolder (seen h) t (span_of lock))
   least_where_some None l = tt
   least_where_some (Some n) l = record { other = l.0.0; conflict = l.0.1; least = λ u other conflict. l.1 u (other, conflict) }
 

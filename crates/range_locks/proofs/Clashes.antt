@@ -38,7 +38,8 @@ late_second a b true e = not_below_itself b
 late_second a b false e = not_below _ e
 
 -- what an upper end is above, it is above what comes before
-at_most : (l k h : Bytes) (o : Ordering) → key_cmp l k ≡ o → T (not (is_below k l)) → key_cmp k h ≡ Less → T (is_below l h)
+at_most : (l k h : Bytes) (o : Ordering) → key_cmp l k ≡ o → T (not (is_below k l)) → key_cmp k h ≡ Less
+    → T (is_below l h)
 at_most l k h Less e not_under above = rw (nat_list_cmp_total.trans l k h e above) tt
 at_most l k h Equal e not_under above = rw (nat_list_cmp_total.congr l k h e ∙ above) tt
 at_most l k h Greater e not_under above =
@@ -49,7 +50,8 @@ pub ends_lower : (h : Option Bytes) (l k : Bytes) → T (not (is_below k l)) →
 ends_lower None l k not_under above = tt
 ends_lower (Some h) l k not_under above = at_most l k h (key_cmp l k) refl not_under (is_lt-Less _ above)
 
-late_at_most : (a b k : Bytes) (t : Bool) → T (not (is_below k a)) → T (not (is_below k b)) → T (not (is_below k (cond t b a)))
+late_at_most : (a b k : Bytes) (t : Bool) → T (not (is_below k a)) → T (not (is_below k b))
+    → T (not (is_below k (cond t b a)))
 late_at_most a b k true x y = y
 late_at_most a b k false x y = x
 

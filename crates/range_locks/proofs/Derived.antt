@@ -15,7 +15,8 @@ use Rattle.range_locks.specs.Order.{entry_cmp}
 abbrev entry : Span → Mode → ℕ → Entry
 entry s m t = record { lock = record { span = s; mode = m }; txn = t }
 
-by_parts : (s r : Span) (m n : Mode) (t u : ℕ) → derived.cmp-value.it (entry s m t) (entry r n u) ≡ entry_cmp (entry s m t) (entry r n u)
+by_parts : (s r : Span) (m n : Mode) (t u : ℕ)
+    → derived.cmp-value.it (entry s m t) (entry r n u) ≡ entry_cmp (entry s m t) (entry r n u)
 by_parts (Range low None) (Range lo None) Shared Shared t u = refl
 by_parts (Range low None) (Range lo (Some f)) Shared Shared t u = refl
 by_parts (Range low (Some e)) (Range lo None) Shared Shared t u = refl
@@ -64,6 +65,7 @@ not_true : (b : Bool) → not b ≡ true → b ≡ false
 not_true true h = absurd (true≢false (sym h))
 not_true false h = refl
 
-pub absent : (s : BTreeSet Entry) (d e : Entry) (b : Bool) → b ≡ not (contains derived.cmp-value.it s d) → b ≡ true → d ≡ e → contains entry_cmp s e ≡ false
+pub absent : (s : BTreeSet Entry) (d e : Entry) (b : Bool) → b ≡ not (contains derived.cmp-value.it s d) → b ≡ true
+    → d ≡ e → contains entry_cmp s e ≡ false
 absent s d e b is true_b same =
     by_order (λ R. contains R s e ≡ false) (subst (λ (x : Entry). contains derived.cmp-value.it s x ≡ false) same (not_true _ (sym is ∙ true_b)))

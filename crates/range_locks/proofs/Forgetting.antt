@@ -19,7 +19,8 @@ one_out false true false = refl
 one_out false false true = refl
 one_out false false false = refl
 
-pub one_forgotten : (t : ℕ) (q : Entry) (locks : List Lock) (i : ℕ) (item copy : Lock) (was now new : Bool) → i < length locks → copy ≡ item → item ≡ get_or locks i item
+pub one_forgotten : (t : ℕ) (q : Entry) (locks : List Lock) (i : ℕ) (item copy : Lock) (was now new : Bool)
+    → i < length locks → copy ≡ item → item ≡ get_or locks i item
     → now ≡ (was && not (list_any (is_entry_of t q) (take i locks))) → new ≡ cond (is_entry_of t q copy) false now
     → new ≡ (was && not (list_any (is_entry_of t q) (take (i + 1) locks)))
 one_forgotten t q locks i item copy was now new within same at before went =

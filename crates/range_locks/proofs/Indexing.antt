@@ -70,19 +70,23 @@ any_none p [] h = refl
 any_none p (x ∷ xs) h = ap (λ b. b || list_any p xs) (h x) ∙ any_none p xs h
 
 -- a lock more, or one less
-with_last : (q : Entry) (locks all : List Lock) (lock : Lock) → all ≡ locks ++ lock ∷ [] → list_any (is_lock_of q) all ≡ (list_any (is_lock_of q) locks || (is_lock_of q lock || false))
+with_last : (q : Entry) (locks all : List Lock) (lock : Lock) → all ≡ locks ++ lock ∷ []
+    → list_any (is_lock_of q) all ≡ (list_any (is_lock_of q) locks || (is_lock_of q lock || false))
 with_last q locks all lock is = ap (list_any (is_lock_of q)) is ∙ list_any-append (is_lock_of q) locks (lock ∷ [])
 
 module _ (old new : Held) (t : ℕ) (s z : BTreeSet Entry) (indexed : IsIndexed old s) where
   -- another's entry stands as it stood
-  others_stand : (q : Entry) → ((u : ℕ) → u ≢ t → locks_in new u ≡ locks_in old u) → t ≢ q.txn → stands new q ≡ stands old q
+  others_stand : (q : Entry) → ((u : ℕ) → u ≢ t → locks_in new u ≡ locks_in old u) → t ≢ q.txn
+      → stands new q ≡ stands old q
   others_stand q others other = ap (list_any (is_lock_of q)) (others q.txn (λ same. other (sym same)))
 
-  still_fits : ((u : ℕ) → u ≢ t → locks_in new u ≡ locks_in old u) → t < 2 ^ 64 → (u : ℕ) → 2 ^ 64 ≤ u → locks_in new u ≡ []
+  still_fits : ((u : ℕ) → u ≢ t → locks_in new u ≡ locks_in old u) → t < 2 ^ 64 → (u : ℕ) → 2 ^ 64 ≤ u
+      → locks_in new u ≡ []
   still_fits others small u large = others u (λ same. omega (arith, same, small, large)) ∙ indexed.fits u large
 
   pub added_index : (lock : Lock) → t < 2 ^ 64 → Lists old t (locks_in old t ++ lock ∷ []) new
-      → ((q : Entry) → contains entry_cmp z q ≡ cond (is_entry_of t q lock) true (contains entry_cmp s q)) → IsIndexed new z
+      → ((q : Entry) → contains entry_cmp z q ≡ cond (is_entry_of t q lock) true (contains entry_cmp s q))
+      → IsIndexed new z
   added_index lock small lists has = record {
     each = λ q. elim (cases_eq t q.txn) [
       | inl same ↦
@@ -96,14 +100,17 @@ module _ (old new : Held) (t : ℕ) (s z : BTreeSet Entry) (indexed : IsIndexed 
   }
 
   -- the newest lock went, and stays indexed only where the transaction has it once more
-  at_lock : (lock : Lock) (q : Entry) → t ≡ q.txn → is_lock_of q lock ≡ true → stands new q ≡ stands new (record { lock = lock; txn = t })
+  at_lock : (lock : Lock) (q : Entry) → t ≡ q.txn → is_lock_of q lock ≡ true
+      → stands new q ≡ stands new (record { lock = lock; txn = t })
   at_lock lock q same is =
       let locks : lock ≡ q.lock = lock_exact lock q.lock is in
       λ i. stands new (record { lock = sym locks i; txn = sym same i })
 
-  pub removed_index : (lock : Lock) → t < 2 ^ 64 → locks_in old t ≡ locks_in new t ++ lock ∷ [] → ((u : ℕ) → u ≢ t → locks_in new u ≡ locks_in old u)
+  pub removed_index : (lock : Lock) → t < 2 ^ 64 → locks_in old t ≡ locks_in new t ++ lock ∷ []
+      → ((u : ℕ) → u ≢ t → locks_in new u ≡ locks_in old u)
       → stands new (record { lock = lock; txn = t }) ≡ false
-      → ((q : Entry) → contains entry_cmp z q ≡ cond (is_entry_of t q lock) false (contains entry_cmp s q)) → IsIndexed new z
+      → ((q : Entry) → contains entry_cmp z q ≡ cond (is_entry_of t q lock) false (contains entry_cmp s q))
+      → IsIndexed new z
   removed_index lock small was others gone has = record {
     each = λ q. elim (cases_eq t q.txn) [
       | inl same ↦
@@ -116,7 +123,8 @@ module _ (old new : Held) (t : ℕ) (s z : BTreeSet Entry) (indexed : IsIndexed 
     fits = still_fits others small;
   }
 
-  pub kept_index : (lock : Lock) → t < 2 ^ 64 → locks_in old t ≡ locks_in new t ++ lock ∷ [] → ((u : ℕ) → u ≢ t → locks_in new u ≡ locks_in old u)
+  pub kept_index : (lock : Lock) → t < 2 ^ 64 → locks_in old t ≡ locks_in new t ++ lock ∷ []
+      → ((u : ℕ) → u ≢ t → locks_in new u ≡ locks_in old u)
       → stands new (record { lock = lock; txn = t }) ≡ true → IsIndexed new s
   kept_index lock small was others there = record {
     each = λ q. elim (cases_eq t q.txn) [
@@ -130,7 +138,8 @@ module _ (old new : Held) (t : ℕ) (s z : BTreeSet Entry) (indexed : IsIndexed 
 
   -- all of a transaction's went
   pub released_index : t < 2 ^ 64 → Lists old t [] new
-      → ((q : Entry) → contains entry_cmp z q ≡ (contains entry_cmp s q && not (list_any (is_entry_of t q) (locks_in old t)))) → IsIndexed new z
+      → ((q : Entry) → contains entry_cmp z q ≡ (contains entry_cmp s q && not (list_any (is_entry_of t q) (locks_in old t))))
+      → IsIndexed new z
   released_index small lists has = record {
     each = λ q. elim (cases_eq t q.txn) [
       | inl same ↦

@@ -20,7 +20,8 @@ read_first : (b : Bool) (locks : Vec Lock) (o : Option (Vec Lock)) (rest : List 
 read_first true locks o rest h = refl
 read_first false locks o rest h = h
 
-read_entries : (es : List (ℕ × Vec Lock)) (t : ℕ) → spans_of (map (λ (e : ℕ × Vec Lock). (e.0, newest_first e.1.items)) es) t ≡ newest_first (items_of (lookup (is_at (nat_cmp t)) es))
+read_entries : (es : List (ℕ × Vec Lock)) (t : ℕ)
+    → spans_of (map (λ (e : ℕ × Vec Lock). (e.0, newest_first e.1.items)) es) t ≡ newest_first (items_of (lookup (is_at (nat_cmp t)) es))
 read_entries [] t = refl
 read_entries (e ∷ es) t = read_first (is_eq (nat_cmp t e.0)) e.1 (lookup (is_at (nat_cmp t)) es) _ (read_entries es t)
 
@@ -61,7 +62,8 @@ newest locks lock = ap (map span_of) (reverse-append locks (lock ∷ []))
 pub has_one : (h : Held) (t : ℕ) → spans_of (seen h) t ≢ [] → locks_in h t ≢ []
 has_one h t some none = some (read h t ∙ ap newest_first none)
 
-pub pushed : (old new : BTreeMap ℕ (Vec Lock)) (t : ℕ) (locks : Vec Lock) (was : List Lock) (lock : Lock) → Updates nat_cmp old new t (Some locks)
+pub pushed : (old new : BTreeMap ℕ (Vec Lock)) (t : ℕ) (locks : Vec Lock) (was : List Lock) (lock : Lock)
+    → Updates nat_cmp old new t (Some locks)
     → locks.items ≡ was ++ lock ∷ [] → was ≡ locks_in (record { by_txn = old }) t
     → Lists (record { by_txn = old }) t (locks_in (record { by_txn = old }) t ++ lock ∷ []) (record { by_txn = new })
 pushed old new t locks was lock updates items had =
@@ -71,22 +73,26 @@ pushed old new t locks was lock updates items had =
 seen_entries : List (ℕ × Vec Lock) → LocksView
 seen_entries es = map (λ (e : ℕ × Vec Lock). (e.0, newest_first e.1.items)) es
 
-kept_first : (b : Bool) (e : ℕ × Vec Lock) (o : Option (Vec Lock)) (v w : Vec Lock) (es fs : List (ℕ × Vec Lock)) → cond b (Some e.1) o ≡ Some v → w.items ≡ v.items
-    → (o ≡ Some v → seen_entries fs ≡ seen_entries es) → seen_entries (cond b ((e.0, w) ∷ es) (e ∷ fs)) ≡ seen_entries (e ∷ es)
+kept_first : (b : Bool) (e : ℕ × Vec Lock) (o : Option (Vec Lock)) (v w : Vec Lock) (es fs : List (ℕ × Vec Lock))
+    → cond b (Some e.1) o ≡ Some v → w.items ≡ v.items
+    → (o ≡ Some v → seen_entries fs ≡ seen_entries es)
+    → seen_entries (cond b ((e.0, w) ∷ es) (e ∷ fs)) ≡ seen_entries (e ∷ es)
 unfolding seen_entries
 kept_first true e o v w es fs found items later =
     let one : e.1 ≡ v = same_Some e.1 v found in
     ap (λ (locks : List Lock). (e.0, newest_first locks) ∷ seen_entries es) (items ∙ ap (λ (x : Vec Lock). x.items) (sym one))
 kept_first false e o v w es fs found items later = ap (λ rest. (e.0, newest_first e.1.items) ∷ rest) (later found)
 
-kept_entries : (es : List (ℕ × Vec Lock)) (t : ℕ) (v w : Vec Lock) → lookup (is_at (nat_cmp t)) es ≡ Some v → w.items ≡ v.items
+kept_entries : (es : List (ℕ × Vec Lock)) (t : ℕ) (v w : Vec Lock) → lookup (is_at (nat_cmp t)) es ≡ Some v
+    → w.items ≡ v.items
     → seen_entries (set_value (is_at (nat_cmp t)) es w) ≡ seen_entries es
 unfolding seen_entries
 kept_entries [] t v w found items = refl
 kept_entries (e ∷ es) t v w found items =
     kept_first (is_eq (nat_cmp t e.0)) e (lookup (is_at (nat_cmp t)) es) v w es (set_value (is_at (nat_cmp t)) es w) found items (λ there. kept_entries es t v w there items)
 
-pub kept : (old new : BTreeMap ℕ (Vec Lock)) (t : ℕ) (v w : Vec Lock) → new.entries ≡ set_value (is_at (nat_cmp t)) old.entries w → Some v ≡ get nat_cmp old t → w.items ≡ v.items
+pub kept : (old new : BTreeMap ℕ (Vec Lock)) (t : ℕ) (v w : Vec Lock)
+    → new.entries ≡ set_value (is_at (nat_cmp t)) old.entries w → Some v ≡ get nat_cmp old t → w.items ≡ v.items
     → seen (record { by_txn = new }) ≡ seen (record { by_txn = old })
 unfolding seen_entries
 kept old new t v w is found items = ap seen_entries is ∙ kept_entries old.entries t v w (sym found) items
@@ -100,7 +106,8 @@ nonempty [] some = absurd (some refl)
 nonempty (lock ∷ locks) some = omega arith
 
 -- whether there is a lock
-pub any_held : (h : Held) (t : ℕ) (locks : List Lock) (empty : Bool) → locks ≡ locks_in h t → (empty ≡ true → length locks ≡ 0) → (length locks ≡ 0 → empty ≡ true)
+pub any_held : (h : Held) (t : ℕ) (locks : List Lock) (empty : Bool) → locks ≡ locks_in h t
+    → (empty ≡ true → length locks ≡ 0) → (length locks ≡ 0 → empty ≡ true)
     → MatchBool (not empty) (spans_of (seen h) t ≢ []) (spans_of (seen h) t ≡ [])
 any_held h t [] true is none empty = read h t ∙ ap newest_first (sym is)
 any_held h t (lock ∷ locks) true is none empty = absurd (omega (arith, none refl))

@@ -17,7 +17,8 @@ back false x h = refl
 
 pub taken_back : (h : Held) (s y z : BTreeSet Entry) (e : Entry) → IsIndexed h s → contains entry_cmp s e ≡ false
     → ((q : Entry) → contains entry_cmp y q ≡ cond (is_eq (entry_cmp e q)) true (contains entry_cmp s q))
-    → ((q : Entry) → contains entry_cmp z q ≡ cond (is_eq (entry_cmp e q)) false (contains entry_cmp y q)) → IsIndexed h z
+    → ((q : Entry) → contains entry_cmp z q ≡ cond (is_eq (entry_cmp e q)) false (contains entry_cmp y q))
+    → IsIndexed h z
 taken_back h s y z e indexed absent came went = record {
   each = λ q.
       went q ∙ ap (cond (is_eq (entry_cmp e q)) false) (came q)
@@ -27,7 +28,8 @@ taken_back h s y z e indexed absent came went = record {
 }
 
 -- the same locks and the same entries
-pub same_index : (old new : Held) (s z : BTreeSet Entry) → ((u : ℕ) → locks_in new u ≡ locks_in old u) → z.keys ≡ s.keys → IsIndexed old s → IsIndexed new z
+pub same_index : (old new : Held) (s z : BTreeSet Entry) → ((u : ℕ) → locks_in new u ≡ locks_in old u) → z.keys ≡ s.keys
+    → IsIndexed old s → IsIndexed new z
 same_index old new s z lists keys indexed = record {
   each = λ q. ap (list_any (λ k. is_eq (entry_cmp q k))) keys ∙ indexed.each q ∙ sym (ap (list_any (is_lock_of q)) (lists q.txn));
   fits = λ u large. lists u ∙ indexed.fits u large;

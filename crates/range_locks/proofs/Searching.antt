@@ -47,26 +47,31 @@ any_has p (x ∷ xs) h = first_or (p x) p x xs refl h (any_has p xs)
 
 -- what passes among the filtered
 module _ {X : Type 0} (holder : X → ℕ) (test p : X → Bool) where
-  passes_first : (b : Bool) (x : X) (xs : List X) (u : ℕ) → Passes holder test (cond b (x ∷ filter p xs) (filter p xs)) u
+  passes_first : (b : Bool) (x : X) (xs : List X) (u : ℕ)
+      → Passes holder test (cond b (x ∷ filter p xs) (filter p xs)) u
       → (Passes holder test (filter p xs) u → (y : X) × Has y xs × (test y ≡ true) × (holder y ≡ u))
       → (y : X) × Has y (x ∷ xs) × (test y ≡ true) × (holder y ≡ u)
   passes_first true x xs u passes later =
       elim passes [ inl here ↦ (x, inl refl, here.0, here.1) | inr more ↦ let found = later more in (found.0, inr found.1, found.2, found.3) ]
   passes_first false x xs u passes later = let found = later passes in (found.0, inr found.1, found.2, found.3)
 
-  pub passes_has : (xs : List X) (u : ℕ) → Passes holder test (filter p xs) u → (y : X) × Has y xs × (test y ≡ true) × (holder y ≡ u)
+  pub passes_has : (xs : List X) (u : ℕ) → Passes holder test (filter p xs) u
+      → (y : X) × Has y xs × (test y ≡ true) × (holder y ≡ u)
   passes_has [] u passes = absurd passes
   passes_has (x ∷ xs) u passes = passes_first (p x) x xs u passes (passes_has xs u)
 
-  here_passes : (b : Bool) (x y : X) (xs : List X) → b ≡ true → x ≡ y → test y ≡ true → Passes holder test (cond b (x ∷ xs) xs) (holder y)
+  here_passes : (b : Bool) (x y : X) (xs : List X) → b ≡ true → x ≡ y → test y ≡ true
+      → Passes holder test (cond b (x ∷ xs) xs) (holder y)
   here_passes true x y xs is same tests = inl (ap test same ∙ tests, ap holder same)
   here_passes false x y xs is same tests = absurd (true≢false (sym is))
 
-  later_passes : (b : Bool) (x : X) (xs : List X) (u : ℕ) → Passes holder test xs u → Passes holder test (cond b (x ∷ xs) xs) u
+  later_passes : (b : Bool) (x : X) (xs : List X) (u : ℕ) → Passes holder test xs u
+      → Passes holder test (cond b (x ∷ xs) xs) u
   later_passes true x xs u passes = inr passes
   later_passes false x xs u passes = passes
 
-  pub has_passes : (y : X) (xs : List X) → Has y xs → p y ≡ true → test y ≡ true → Passes holder test (filter p xs) (holder y)
+  pub has_passes : (y : X) (xs : List X) → Has y xs → p y ≡ true → test y ≡ true
+      → Passes holder test (filter p xs) (holder y)
   has_passes y [] never is tests = absurd never
   has_passes y (x ∷ xs) has is tests =
       elim has [
@@ -86,7 +91,8 @@ module _ (h : Held) (s : BTreeSet Entry) (t : ℕ) (lock : Lock) (indexed : IsIn
       way_from_locks h t lock e.txn (other_number e.txn t tests.0)
       (has_any (clashes_with lock) found.0 (locks_in h e.txn) found.1 (ap (clashes_with lock) (lock_exact found.0 e.lock found.2) ∙ tests.1))
 
-  pub passes_in_way : (p : Entry → Bool) (u : ℕ) → Passes txn_of (stops t lock) (filter p s.keys) u → StandsInWay h t lock u
+  pub passes_in_way : (p : Entry → Bool) (u : ℕ) → Passes txn_of (stops t lock) (filter p s.keys) u
+      → StandsInWay h t lock u
   passes_in_way p u passes =
       let found = passes_has txn_of (stops t lock) p s.keys u passes in
       subst (StandsInWay h t lock) found.3 (entry_way found.0 found.1 found.2)
@@ -99,7 +105,8 @@ module _ (h : Held) (s : BTreeSet Entry) (t : ℕ) (lock : Lock) (indexed : IsIn
       ]
 
   -- what is held and conflicts is an entry
-  way_entry : (u : ℕ) → StandsInWay h t lock u → (e : Entry) × Has e s.keys × (stops t lock e ≡ true) × (e.txn ≡ u) × (e.txn < 2 ^ 64)
+  way_entry : (u : ℕ) → StandsInWay h t lock u
+      → (e : Entry) × Has e s.keys × (stops t lock e ≡ true) × (e.txn ≡ u) × (e.txn < 2 ^ 64)
   way_entry u way =
       let found = any_has (clashes_with lock) (locks_in h u) (locks_from_way h t lock u way) in
       let e : Entry = record { lock = found.0; txn = u } in
@@ -109,7 +116,8 @@ module _ (h : Held) (s : BTreeSet Entry) (t : ℕ) (lock : Lock) (indexed : IsIn
       (e, subst (λ (k : Entry). Has k s.keys) (sym (entry_exact e there.0 there.2)) there.1, ap (λ b. not b && clashes_with lock found.0) apart ∙ found.2, refl, small u found.0 found.1)
 
   -- two searches that together look wherever a conflict can be
-  pub both_searched : (p r : Entry → Bool) → ((e : Entry) → e.txn < 2 ^ 64 → clashes_with lock e.lock ≡ true → (p e ≡ true) ⊎ (r e ≡ true))
+  pub both_searched : (p r : Entry → Bool)
+      → ((e : Entry) → e.txn < 2 ^ 64 → clashes_with lock e.lock ≡ true → (p e ≡ true) ⊎ (r e ≡ true))
       → IsLeast (StandsInWay h t lock) (least_of txn_of (stops t lock) (least_of txn_of (stops t lock) None (filter p s.keys)) (filter r s.keys))
   both_searched p r somewhere =
       least_of_two txn_of (stops t lock) (StandsInWay h t lock) (filter p s.keys) (filter r s.keys) (passes_in_way p) (passes_in_way r)
@@ -122,7 +130,8 @@ module _ (h : Held) (s : BTreeSet Entry) (t : ℕ) (lock : Lock) (indexed : IsIn
       ])
 
   -- the search of the ranges and then of the keys
-  pub places_searched : (low : Bytes) (end to : Bound Entry) (from : Entry) (first least : Option ℕ) → HasRangesBelow lock.span end → from ≡ first_at low → low ≡ low_of lock.span → to ≡ keys_to lock.span
+  pub places_searched : (low : Bytes) (end to : Bound Entry) (from : Entry) (first least : Option ℕ)
+      → HasRangesBelow lock.span end → from ≡ first_at low → low ≡ low_of lock.span → to ≡ keys_to lock.span
       → first ≡ least_of txn_of (stops t lock) None (filter (range_contains entry_cmp Unbounded end) s.keys)
       → least ≡ least_of txn_of (stops t lock) first (filter (range_contains entry_cmp (Included from) to) s.keys)
       → IsLeast (StandsInWay h t lock) least

@@ -27,7 +27,8 @@ here t e es same = rw (one_number t e.0 same) refl
 there : (t : ℕ) (e : ℕ × List Span) (es : LocksView) → t ≢ e.0 → spans_of (e ∷ es) t ≡ spans_of es t
 there t e es other = rw (two_numbers t e.0 other) refl
 
-same_rest : (u : ℕ) (e : ℕ × List Span) (es fs : LocksView) → spans_of es u ≡ spans_of fs u → spans_of (e ∷ es) u ≡ spans_of (e ∷ fs) u
+same_rest : (u : ℕ) (e : ℕ × List Span) (es fs : LocksView) → spans_of es u ≡ spans_of fs u
+    → spans_of (e ∷ es) u ≡ spans_of (e ∷ fs) u
 same_rest u e es fs h = ap (λ rest. cond (is_eq (nat_cmp u e.0)) e.1 rest) h
 
 -- below the first number nobody is listed
@@ -42,7 +43,8 @@ rises_lower low high [] lower h = tt
 rises_lower low high (e ∷ es) lower h = (omega (arith, lower, h.0), h.1, h.2)
 
 -- tables that give each transaction the same spans are the same
-same_from : (low : ℕ) (v w : LocksView) → RisesFrom low v → RisesFrom low w → ((u : ℕ) → spans_of v u ≡ spans_of w u) → v ≡ w
+same_from : (low : ℕ) (v w : LocksView) → RisesFrom low v → RisesFrom low w → ((u : ℕ) → spans_of v u ≡ spans_of w u)
+    → v ≡ w
 same_from low [] [] g h same = refl
 same_from low [] (f ∷ fs) g h same = absurd (h.1 (sym (same f.0 ∙ here f.0 f fs refl)))
 same_from low (e ∷ es) [] g h same = absurd (g.1 (sym (here e.0 e es refl) ∙ same e.0))
@@ -65,7 +67,8 @@ same_from low (e ∷ es) (f ∷ fs) g h same =
 
 -- a transaction's spans are listed
 module _ (t : ℕ) (ss : List Span) where
-  first_own : (o : Ordering) (e : ℕ × List Span) (es rest : LocksView) → MatchOrdering o (t < e.0) (t ≡ e.0) (e.0 < t) → spans_of rest t ≡ ss
+  first_own : (o : Ordering) (e : ℕ × List Span) (es rest : LocksView) → MatchOrdering o (t < e.0) (t ≡ e.0) (e.0 < t)
+      → spans_of rest t ≡ ss
       → spans_of (match_ordering o ((t, ss) ∷ e ∷ es) ((e.0, ss) ∷ es) (e ∷ rest)) t ≡ ss
   first_own Less e es rest r later = here t (t, ss) (e ∷ es) refl
   first_own Equal e es rest r later = here t (e.0, ss) es r
@@ -75,7 +78,8 @@ module _ (t : ℕ) (ss : List Span) where
   listed_own [] = here t (t, ss) [] refl
   listed_own (e ∷ es) = first_own (nat_cmp t e.0) e es (insert_entry nat_cmp es t ss) (ranks t e.0) (listed_own es)
 
-  first_other : (o : Ordering) (e : ℕ × List Span) (es rest : LocksView) (u : ℕ) → u ≢ t → MatchOrdering o (t < e.0) (t ≡ e.0) (e.0 < t) → spans_of rest u ≡ spans_of es u
+  first_other : (o : Ordering) (e : ℕ × List Span) (es rest : LocksView) (u : ℕ) → u ≢ t
+      → MatchOrdering o (t < e.0) (t ≡ e.0) (e.0 < t) → spans_of rest u ≡ spans_of es u
       → spans_of (match_ordering o ((t, ss) ∷ e ∷ es) ((e.0, ss) ∷ es) (e ∷ rest)) u ≡ spans_of (e ∷ es) u
   first_other Less e es rest u other r later = there u (t, ss) (e ∷ es) other
   first_other Equal e es rest u other r later =
@@ -87,13 +91,16 @@ module _ (t : ℕ) (ss : List Span) where
   listed_other [] u other = there u (t, ss) [] other
   listed_other (e ∷ es) u other = first_other (nat_cmp t e.0) e es (insert_entry nat_cmp es t ss) u other (ranks t e.0) (listed_other es u other)
 
-  first_rises : (o : Ordering) (low : ℕ) (e : ℕ × List Span) (es rest : LocksView) → MatchOrdering o (t < e.0) (t ≡ e.0) (e.0 < t) → ss ≢ [] → low ≤ t → RisesFrom low (e ∷ es)
-      → (e.0 < t → RisesFrom (suc e.0) rest) → RisesFrom low (match_ordering o ((t, ss) ∷ e ∷ es) ((e.0, ss) ∷ es) (e ∷ rest))
+  first_rises : (o : Ordering) (low : ℕ) (e : ℕ × List Span) (es rest : LocksView)
+      → MatchOrdering o (t < e.0) (t ≡ e.0) (e.0 < t) → ss ≢ [] → low ≤ t → RisesFrom low (e ∷ es)
+      → (e.0 < t → RisesFrom (suc e.0) rest)
+      → RisesFrom low (match_ordering o ((t, ss) ∷ e ∷ es) ((e.0, ss) ∷ es) (e ∷ rest))
   first_rises Less low e es rest r some from h later = (from, some, (omega (arith, r), h.1, h.2))
   first_rises Equal low e es rest r some from h later = (h.0, some, h.2)
   first_rises Greater low e es rest r some from h later = (h.0, h.1, later r)
 
-  listed_rises : (low : ℕ) (v : LocksView) → ss ≢ [] → low ≤ t → RisesFrom low v → RisesFrom low (insert_entry nat_cmp v t ss)
+  listed_rises : (low : ℕ) (v : LocksView) → ss ≢ [] → low ≤ t → RisesFrom low v
+      → RisesFrom low (insert_entry nat_cmp v t ss)
   listed_rises low [] some from h = (from, some, tt)
   listed_rises low (e ∷ es) some from h =
       first_rises (nat_cmp t e.0) low e es (insert_entry nat_cmp es t ss) (ranks t e.0) some from h (λ above. listed_rises (suc e.0) es some above h.2)
@@ -132,12 +139,14 @@ pub set_own : (t : ℕ) (ss : List Span) (v : LocksView) → IsTable v → spans
 set_own t [] v h = unlisted_own t 0 v h
 set_own t (s ∷ ss) v h = listed_own t (s ∷ ss) v
 
-pub set_other : (t : ℕ) (ss : List Span) (v : LocksView) (u : ℕ) → IsTable v → u ≢ t → spans_of (set_spans t ss v) u ≡ spans_of v u
+pub set_other : (t : ℕ) (ss : List Span) (v : LocksView) (u : ℕ) → IsTable v → u ≢ t
+    → spans_of (set_spans t ss v) u ≡ spans_of v u
 set_other t [] v u h other = unlisted_other t v u other
 set_other t (s ∷ ss) v u h other = listed_other t (s ∷ ss) v u other
 
 -- what was set before is forgotten
-pub set_again : (t : ℕ) (ss before : List Span) (v : LocksView) → IsTable v → set_spans t ss (set_spans t before v) ≡ set_spans t ss v
+pub set_again : (t : ℕ) (ss before : List Span) (v : LocksView) → IsTable v
+    → set_spans t ss (set_spans t before v) ≡ set_spans t ss v
 set_again t ss before v h =
     let set : IsTable (set_spans t before v) = set_table t before v h in
     same_from 0 _ _ (set_table t ss _ set) (set_table t ss v h) (λ u. elim (cases_eq u t) [

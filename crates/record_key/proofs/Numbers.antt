@@ -28,7 +28,8 @@ above x y = is_greater x y (nat_cmp x y) (ranked x y _ refl)
 pub shifted : (c x y : ℕ) → nat_cmp (c + x) (c + y) ≡ nat_cmp x y
 shifted c x y = by (nat_cmp x y) refl (ranked x y _ refl)
   where
-    by : (o : Ordering) → nat_cmp x y ≡ o → MatchOrdering o (x < y) (x ≡ y) (y < x) → nat_cmp (c + x) (c + y) ≡ nat_cmp x y
+    by : (o : Ordering) → nat_cmp x y ≡ o → MatchOrdering o (x < y) (x ≡ y) (y < x)
+        → nat_cmp (c + x) (c + y) ≡ nat_cmp x y
     by Less e l = let m : x < y = l in below (c + x) (c + y) (omega arith) ∙ sym e
     by Greater e l = let m : y < x = l in above (c + x) (c + y) (omega arith) ∙ sym e
     by Equal e l =
@@ -101,7 +102,8 @@ order_parts (suc n) (x ∷ xs) (y ∷ ys) p q = ap (ordering_then (nat_cmp x y))
 
 -- where the first bytes differ they decide
 pub unequal_first : (n : ℕ) (xs ys : List ℕ) → n ≤ length xs → n ≤ length ys
-    → is_ne (slice_cmp nat_cmp (take n xs) (take n ys)) ≡ true → slice_cmp nat_cmp xs ys ≡ slice_cmp nat_cmp (take n xs) (take n ys)
+    → is_ne (slice_cmp nat_cmp (take n xs) (take n ys)) ≡ true
+    → slice_cmp nat_cmp xs ys ≡ slice_cmp nat_cmp (take n xs) (take n ys)
 unequal_first n xs ys p q h = order_parts n xs ys p q ∙ stops _ _ h
   where
     stops : (a b : Ordering) → is_ne a ≡ true → ordering_then a b ≡ a
@@ -111,7 +113,8 @@ unequal_first n xs ys p q h = order_parts n xs ys p q ∙ stops _ _ h
 
 -- where they don't the others do
 pub equal_first : (n : ℕ) (xs ys : List ℕ) → n ≤ length xs → n ≤ length ys
-    → is_ne (slice_cmp nat_cmp (take n xs) (take n ys)) ≡ false → slice_cmp nat_cmp xs ys ≡ slice_cmp nat_cmp (drop n xs) (drop n ys)
+    → is_ne (slice_cmp nat_cmp (take n xs) (take n ys)) ≡ false
+    → slice_cmp nat_cmp xs ys ≡ slice_cmp nat_cmp (drop n xs) (drop n ys)
 equal_first n xs ys p q h = order_parts n xs ys p q ∙ passes _ _ h
   where
     passes : (a b : Ordering) → is_ne a ≡ false → ordering_then a b ≡ b

@@ -30,7 +30,8 @@ pub own_rows : (m : Table) → AreInOrder (map.entries m)
 own_rows m = from_T _ (map.entries_sorted m)
 
 -- rows in order, by the first two of them
-below_further : (x y : Bytes) (rows : List Row) → key_cmp x y ≡ Less → T (below_all key_cmp y rows) → T (below_all key_cmp x rows)
+below_further : (x y : Bytes) (rows : List Row) → key_cmp x y ≡ Less → T (below_all key_cmp y rows)
+    → T (below_all key_cmp x rows)
 below_further x y [] less above = tt
 below_further x y (row ∷ rows) less above =
     let here : key_cmp x row.0 ≡ Less = nat_list_cmp_total.trans x y row.0 less (is_lt-Less _ (and_first _ _ above)) in
@@ -47,26 +48,30 @@ rises_next first second rows below =
       | inr mixed ↦ and_right _ (rises (second ∷ rows)) mixed ∙ sym mixed
     ]
 
-pub falls_next : (first second : Row) (rows : List Row) → is_below first.0 second.0 ≡ false → rises (first ∷ second ∷ rows) ≡ false
+pub falls_next : (first second : Row) (rows : List Row) → is_below first.0 second.0 ≡ false
+    → rises (first ∷ second ∷ rows) ≡ false
 falls_next first second rows above = rw above refl
 
 -- what stands at the key
 pub get-table_of : (rows : List Row) (k : Bytes) → AreInOrder rows → map.get (table_of rows) k ≡ find key_cmp k rows
 get-table_of rows k ordered = map.get-entries (table_of rows) k ∙ ap (find key_cmp k) (entries-table_of rows ordered)
 
-find-at : (k : Bytes) (rows : List Row) (p : ℕ) (d : Row) → IsAt k rows p → find key_cmp k rows ≡ Some (get_or rows p d).1
+find-at : (k : Bytes) (rows : List Row) (p : ℕ) (d : Row) → IsAt k rows p
+    → find key_cmp k rows ≡ Some (get_or rows p d).1
 find-at k [] p d at = absurd at
 find-at k (row ∷ rows) zero d at = rw at refl
 find-at k (row ∷ rows) (suc p) d at = rw at.0 (find-at k rows p d at.1)
 
 -- below the first key there is nothing
-find-below : (k x : Bytes) (rows : List Row) → key_cmp k x ≡ Less → T (below_all key_cmp x rows) → find key_cmp k rows ≡ None
+find-below : (k x : Bytes) (rows : List Row) → key_cmp k x ≡ Less → T (below_all key_cmp x rows)
+    → find key_cmp k rows ≡ None
 find-below k x [] below above = refl
 find-below k x (row ∷ rows) below above =
     let here : key_cmp k row.0 ≡ Less = nat_list_cmp_total.trans k x row.0 below (is_lt-Less _ (and_first _ _ above)) in
     rw here (find-below k x rows below (and_second _ _ above))
 
-find-gap : (k : Bytes) (rows : List Row) (p : ℕ) → T (map.is_sorted key_cmp rows) → IsGapFor k rows p → find key_cmp k rows ≡ None
+find-gap : (k : Bytes) (rows : List Row) (p : ℕ) → T (map.is_sorted key_cmp rows) → IsGapFor k rows p
+    → find key_cmp k rows ≡ None
 find-gap k [] p ordered gap = refl
 find-gap k (row ∷ rows) zero ordered gap = rw gap (find-below k row.0 rows gap (and_first _ _ ordered))
 find-gap k (row ∷ rows) (suc p) ordered gap = rw gap.0 (find-gap k rows p (and_second _ _ ordered) gap.1)
@@ -86,13 +91,15 @@ turned : {A : Type 0} (b : Bool) (x y : A) → cond (not b) x y ≡ cond b y x
 turned true x y = refl
 turned false x y = refl
 
-where_key-below : (k x : Bytes) (rows : List Row) → key_cmp k x ≡ Equal → T (below_all key_cmp x rows) → where_key key_cmp (λ y. not (eq_by_cmp key_cmp k y)) rows ≡ rows
+where_key-below : (k x : Bytes) (rows : List Row) → key_cmp k x ≡ Equal → T (below_all key_cmp x rows)
+    → where_key key_cmp (λ y. not (eq_by_cmp key_cmp k y)) rows ≡ rows
 where_key-below k x [] same above = refl
 where_key-below k x (row ∷ rows) same above =
     let here : key_cmp k row.0 ≡ Less = nat_list_cmp_total.congr k x row.0 same ∙ is_lt-Less _ (and_first _ _ above) in
     rw here (ap (λ rest. row ∷ rest) (where_key-below k x rows same (and_second _ _ above)))
 
-where_key-at : (k : Bytes) (rows : List Row) (p : ℕ) → T (map.is_sorted key_cmp rows) → IsAt k rows p → where_key key_cmp (λ y. not (eq_by_cmp key_cmp k y)) rows ≡ remove rows p
+where_key-at : (k : Bytes) (rows : List Row) (p : ℕ) → T (map.is_sorted key_cmp rows) → IsAt k rows p
+    → where_key key_cmp (λ y. not (eq_by_cmp key_cmp k y)) rows ≡ remove rows p
 where_key-at k [] p ordered at = absurd at
 where_key-at k (row ∷ rows) zero ordered at = rw at (where_key-below k row.0 rows at (and_first _ _ ordered))
 where_key-at k (row ∷ rows) (suc p) ordered at = rw at.0 (ap (λ rest. row ∷ rest) (where_key-at k rows p (and_second _ _ ordered) at.1))
@@ -109,13 +116,15 @@ module _ (rows : List Row) (ordered : AreInOrder rows) (k : Bytes) (p : ℕ) whe
   put_table v = table_of_entries (map.insert (table_of rows) k v) (put key_cmp k v rows) (put_ordered v)
       (map.entries-insert nat_list_cmp_total (table_of rows) k v ∙ ap (put key_cmp k v) (entries-table_of rows ordered))
 
-  pub inserted : (v : Bytes) → IsGapFor k rows p → AreInOrder (insert rows p (k, v)) × (table_of (insert rows p (k, v)) ≡ map.insert (table_of rows) k v)
+  pub inserted : (v : Bytes) → IsGapFor k rows p
+      → AreInOrder (insert rows p (k, v)) × (table_of (insert rows p (k, v)) ≡ map.insert (table_of rows) k v)
   inserted v gap =
       let is = put-gap k v rows p gap in
       let P : List Row → Type 0 = λ new. AreInOrder new × (table_of new ≡ map.insert (table_of rows) k v) in
       subst P is (put_ordered v, put_table v)
 
-  pub replaced : (v : Bytes) → IsAt k rows p → AreInOrder (set rows p (k, v)) × (table_of (set rows p (k, v)) ≡ map.insert (table_of rows) k v)
+  pub replaced : (v : Bytes) → IsAt k rows p
+      → AreInOrder (set rows p (k, v)) × (table_of (set rows p (k, v)) ≡ map.insert (table_of rows) k v)
   replaced v at =
       let is = put-at k v rows p at in
       let P : List Row → Type 0 = λ new. AreInOrder new × (table_of new ≡ map.insert (table_of rows) k v) in

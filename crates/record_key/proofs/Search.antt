@@ -32,7 +32,8 @@ module _ {X : Type 0} (order : X → Ordering) where
   )
 
   pub belongs_from : (xs : List X) (p : ℕ) (d : X) → p ≤ length xs
-      → ((j : ℕ) → j < p → order (get_or xs j d) ≡ Greater) → (p < length xs → order (get_or xs p d) ≡ Less) → BelongsAt order xs p
+      → ((j : ℕ) → j < p → order (get_or xs j d) ≡ Greater) → (p < length xs → order (get_or xs p d) ≡ Less)
+      → BelongsAt order xs p
   belongs_from [] p d within below above = omega (arith, within)
   belongs_from (x ∷ xs) zero d within below above = above (omega arith)
   belongs_from (x ∷ xs) (suc p) d within below above = (
@@ -70,7 +71,8 @@ module _ {X : Type 0} (items order : X → Ordering) (turned : (x : X) → order
   turn : (x : X) (o : Ordering) → items x ≡ o → order x ≡ ordering_reverse o
   turn x o is = turned x ∙ ap ordering_reverse is
 
-  pub searched : (d : X) (r : Result ℕ ℕ) → IsSearchInRange r (length xs) → IsBinarySearchResult items xs r → IsPlace order xs r
+  pub searched : (d : X) (r : Result ℕ ℕ) → IsSearchInRange r (length xs) → IsBinarySearchResult items xs r
+      → IsPlace order xs r
   searched d (Ok at) within equal =
       stands_from order xs at d within
       (λ j lt. turn (get_or xs j d) Less (part_less _ _ (parts j at d lt within) (equal d)))
@@ -83,7 +85,8 @@ module _ {X : Type 0} (items order : X → Ordering) (turned : (x : X) → order
 -- ---- rows
 
 -- the rows after the first are above it
-above_first : (x : Bytes) (rows : List Row) (j : ℕ) (d : Row) → T (below_all key_cmp x rows) → j < length rows → key_cmp x (get_or rows j d).0 ≡ Less
+above_first : (x : Bytes) (rows : List Row) (j : ℕ) (d : Row) → T (below_all key_cmp x rows) → j < length rows
+    → key_cmp x (get_or rows j d).0 ≡ Less
 above_first x [] j d below within = absurd (omega arith)
 above_first x (row ∷ rows) zero d below within = is_lt-Less _ (and_first _ _ below)
 above_first x (row ∷ rows) (suc j) d below within = above_first x rows j d (and_second _ _ below) (omega (arith, within))
@@ -114,7 +117,8 @@ rows_searched rows ordered k r within found =
 
 -- ---- entries
 
-numbers_above : (l : ℕ) (es : List Entry) (j : ℕ) (d : Entry) → RiseAbove l es → j < length es → l < (get_or es j d).number
+numbers_above : (l : ℕ) (es : List Entry) (j : ℕ) (d : Entry) → RiseAbove l es → j < length es
+    → l < (get_or es j d).number
 numbers_above l [] j d h within = absurd (omega (arith, within))
 numbers_above l (e ∷ es) zero d h within = h.0
 numbers_above l (e ∷ es) (suc j) d h within =
@@ -132,7 +136,8 @@ numbers_part : (m n k : ℕ) → m < n → Part (nat_cmp m k) (nat_cmp n k)
 numbers_part m n k less =
     elim (cases_lt m k) [ inl lt ↦ inl (below m k lt) | inr ge ↦ inr (above n k (omega (arith, less, ge))) ]
 
-pub entries_searched : (es : List Entry) (l : ℕ) → RiseAbove l es → (n : ℕ) (d : Entry) (r : Result ℕ ℕ) → IsSearchInRange r (length es)
+pub entries_searched : (es : List Entry) (l : ℕ) → RiseAbove l es → (n : ℕ) (d : Entry) (r : Result ℕ ℕ)
+    → IsSearchInRange r (length es)
     → IsBinarySearchResult (λ (e : Entry). nat_cmp e.number n) es r → IsPlaceOfNumber n es r
 entries_searched es l h n d r within found =
     searched (λ (e : Entry). nat_cmp e.number n) (λ (e : Entry). nat_cmp n e.number) (λ e. nat_cmp_total.antisymm n e.number) es

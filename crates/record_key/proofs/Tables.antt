@@ -20,7 +20,8 @@ pub is_same-true : (a b : Bytes) → is_same a b ≡ true → a ≡ b
 is_same-true a b h = exact_bytes a b ((Equal-is (slice_cmp nat_cmp a b)).0 h)
 
 -- what a written table has at a key
-pub get-with_record : (m : Table) (k : Bytes) (r : Option Bytes) (q : Bytes) → get (with_record m k r) q ≡ cond (is_same q k) r (get m q)
+pub get-with_record : (m : Table) (k : Bytes) (r : Option Bytes) (q : Bytes)
+    → get (with_record m k r) q ≡ cond (is_same q k) r (get m q)
 get-with_record m k None q = get-remove nat_list_cmp_total m k q
 get-with_record m k (Some v) q = get-insert nat_list_cmp_total m k v q
 
@@ -36,14 +37,16 @@ cond-there : {X : Type 0} (b : Bool) (r x : X) → (b ≡ true → r ≡ x) → 
 cond-there true r x h = h refl
 cond-there false r x h = refl
 
-cond-swap : {X : Type 0} (a b : Bool) (r s x : X) → (a ≡ true → b ≡ true → ⊥) → cond b s (cond a r x) ≡ cond a r (cond b s x)
+cond-swap : {X : Type 0} (a b : Bool) (r s x : X) → (a ≡ true → b ≡ true → ⊥)
+    → cond b s (cond a r x) ≡ cond a r (cond b s x)
 cond-swap true true r s x h = absurd (h refl refl)
 cond-swap true false r s x h = refl
 cond-swap false true r s x h = refl
 cond-swap false false r s x h = refl
 
 -- a second write at the key is the only one
-pub with_record-again : (m : Table) (k : Bytes) (r s : Option Bytes) → with_record (with_record m k r) k s ≡ with_record m k s
+pub with_record-again : (m : Table) (k : Bytes) (r s : Option Bytes)
+    → with_record (with_record m k r) k s ≡ with_record m k s
 with_record-again m k r s = same_table _ _ (λ q.
     get-with_record (with_record m k r) k s q ∙ ap (cond (is_same q k) s) (get-with_record m k r q)
     ∙ cond-again (is_same q k) s r (get m q) ∙ sym (get-with_record m k s q))
@@ -54,7 +57,8 @@ with_record-there m k r there = same_table _ _ (λ q.
     get-with_record m k r q ∙ cond-there (is_same q k) r (get m q) (λ h. there ∙ ap (get m) (sym (is_same-true q k h))))
 
 -- writes at two keys come in either order
-pub with_record-swap : (m : Table) (k l : Bytes) (r s : Option Bytes) → k ≢ l → with_record (with_record m k r) l s ≡ with_record (with_record m l s) k r
+pub with_record-swap : (m : Table) (k l : Bytes) (r s : Option Bytes) → k ≢ l
+    → with_record (with_record m k r) l s ≡ with_record (with_record m l s) k r
 with_record-swap m k l r s apart = same_table _ _ (λ q.
     get-with_record (with_record m k r) l s q ∙ ap (cond (is_same q l) s) (get-with_record m k r q)
     ∙ cond-swap (is_same q k) (is_same q l) r s (get m q) (λ a b. apart (sym (is_same-true q k a) ∙ is_same-true q l b))

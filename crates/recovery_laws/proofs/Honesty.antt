@@ -30,7 +30,8 @@ stands_fewer test (e ∷ es) n h =
       | inr later ↦ or_right (n == e.number) (stands_in es n) (stands_fewer test es n later)
     ]
 
-pub captures_fewer : (v : AbLsnView) (test : Bytes → Bool) (n : ℕ) → captures (record v { entries = entries_with test v.entries }) n ≡ true
+pub captures_fewer : (v : AbLsnView) (test : Bytes → Bool) (n : ℕ)
+    → captures (record v { entries = entries_with test v.entries }) n ≡ true
     → captures v n ≡ true
 captures_fewer v test n h =
     elim (or_cases (nat_le n v.low) (stands_with test v.entries n) (sym (parted_captures v.low v.entries test n) ∙ h)) [

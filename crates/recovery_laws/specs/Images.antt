@@ -53,7 +53,8 @@ pub record ImagesKeepLeaves : Type 0 where
 -- the numbers have spellings still where a leaf performs, is raised, is cut or joined, if the new ones do
 pub record NumbersStay : Type 0 where
   pub first : HasLeafNumbers first
-  pub perform : (leaf : LeafView) (n : ℕ) (o : Op) → HasLeafNumbers leaf → IsNumber n → HasLeafNumbers (performed leaf n o)
+  pub perform : (leaf : LeafView) (n : ℕ) (o : Op) → HasLeafNumbers leaf → IsNumber n
+      → HasLeafNumbers (performed leaf n o)
   pub raise : (leaf : LeafView) (l : ℕ) → HasLeafNumbers leaf → IsNumber l → HasLeafNumbers (raised_to leaf l)
   pub lower : (leaf : LeafView) (cut : Bytes) (d : ℕ) → HasLeafNumbers leaf → IsNumber d
       → HasLeafNumbers (lower_of leaf cut d)

@@ -18,7 +18,7 @@ use Rattle.std.proofs.lemmas.Map.Views.{btree_map_contains_key_iff}
 use Rattle.history.specs.declared.record.Record.{Record}
 use Rattle.history.specs.Log.{record_at, IsOpen}
 use Rattle.history.specs.Legal.{IsLegal, Stands, IsLatestOrNone}
-use Rattle.log_laws.specs.Laws.{undo_from}
+use Rattle.history.specs.Chains.{undo_from}
 use Rattle.log_laws.proofs.LegalLogs.{begun_number}
 use Rattle.log_laws.proofs.Undo.{latest_found}
 use Rattle.logical_log.specs.Replay.{KeptOf, OpenAt}

@@ -14,7 +14,7 @@ use Rattle.log_laws.proofs.Records.{AStep, op_same, at_newest, newest_at}
 use Rattle.log_laws.proofs.LegalLogs.{step_number, stands_number}
 use Rattle.log_laws.proofs.Undo.{latest_found}
 use Rattle.log_laws.proofs.Checking.{latest_some}
-use Rattle.log_laws.specs.Laws.{undo_from}
+use Rattle.history.specs.Chains.{undo_from}
 use Rattle.restart.specs.declared.loser.Loser.{Loser}
 use Rattle.restart.specs.Heaps.{Adds}
 use Rattle.restart.specs.Laws.{SparesBelow, OthersSpareLosers}

@@ -10,7 +10,7 @@ use Rattle.history.specs.declared.record.Record.{Record}
 use Rattle.history.specs.declared.record.Record.TheVariants as is
 use Rattle.history.specs.History.{Entry}
 use Rattle.history.specs.Spans.{Exclusive, at_key}
-use Rattle.history.specs.Log.{record_at, answer_of, is_crossed, IsOpen, IsOpBy, hist_in, answered}
+use Rattle.history.specs.Log.{record_at, answer_of, is_crossed, IsOpen, IsOpBy, hist_in, entry_with}
 use Rattle.history.specs.Legal.{IsLegal}
 use Rattle.history.specs.ListMachine.{Machine, Txn, Status, Open, Waiting, Begins, Acts, IsFree, IsAbove, IsAboveAll, with_txn, blank}
 use Rattle.log_laws.proofs.Records.{AnOp, at_newest, kept_at, op_step, op_same, which, newest_at, had_at}
@@ -169,7 +169,7 @@ module _ (v : View) (m : Machine) (t p : ℕ) (o : Op) (legal : IsLegal (is.Op t
           ),
           record {
             entries = stands.entries ∙ alike v.log (act_record ∷ v.log) (counts v) (counts act_view) v.log act_agrees
-                ∙ sym (ap (λ a. filter (counts act_view) (answered (act_record ∷ v.log) act_number t o a (hist_in (act_record ∷ v.log) v.log))) act_next);
+                ∙ sym (ap (λ a. filter (counts act_view) (entry_with (act_record ∷ v.log) act_number t o a (hist_in (act_record ∷ v.log) v.log))) act_next);
             falling = stands.falling;
             recorded = recorded_push v act_view act_record m.h refl refl stands.recorded;
             each = one_changed m act_view m.h t new

@@ -7,7 +7,7 @@ use Rattle.record_key.specs.declared.op.Answer.{Answer}
 use Rattle.history.specs.declared.record.Record.{Record}
 use Rattle.history.specs.declared.record.Record.TheVariants as is
 use Rattle.history.specs.History.{Entry}
-use Rattle.history.specs.Log.{answer_of, is_crossed, op_of, IsOpBy, hist_in, answered}
+use Rattle.history.specs.Log.{answer_of, is_crossed, op_of, IsOpBy, hist_in, entry_with}
 use Rattle.history.specs.ListMachine.{fallen}
 use Rattle.log_laws.proofs.Records.{AnOp, at_newest, kept_at}
 use Rattle.log_laws.proofs.LegalLogs.{op_number}
@@ -21,7 +21,7 @@ as_entry log n t o a = record { number = n; txn = t; op = o; answer = a; crossed
 -- one record's part of the history
 abbrev pub entry_of : List Record → ℕ → Option (ℕ × Op) → List Entry → List Entry
 entry_of log n None h = h
-entry_of log n (Some by) h = answered log n by.0 by.1 (answer_of log n) h
+entry_of log n (Some by) h = entry_with log n by.0 by.1 (answer_of log n) h
 
 pub hist_step : (log : List Record) (r : Record) (rest : List Record)
     → hist_in log (r ∷ rest) ≡ entry_of log (length rest + 1) (op_of r) (hist_in log rest)
@@ -58,14 +58,14 @@ pass p e h out = ap (λ (b : Bool). cond b (e ∷ filter p h) (filter p h)) out
 
 pass_answered : (x : List Record) (p : Entry → Bool) (n t : ℕ) (o : Op) (a : Option Answer) (h : List Entry)
     → ((b : Answer) → p (as_entry x n t o b) ≡ false)
-    → filter p (answered x n t o a h) ≡ filter p h
+    → filter p (entry_with x n t o a h) ≡ filter p h
 pass_answered x p n t o None h out = refl
 pass_answered x p n t o (Some a) h out = pass p (as_entry x n t o a) h (out a)
 
 both_answered : (x y : List Record) (p q : Entry → Bool) (n t : ℕ) (o : Op) (a b : Option Answer) (g h : List Entry)
     → a ≡ b → is_crossed x n ≡ is_crossed y n
     → ((a : Answer) → p (as_entry x n t o a) ≡ q (as_entry y n t o a)) → filter p g ≡ filter q h
-    → filter p (answered x n t o a g) ≡ filter q (answered y n t o b h)
+    → filter p (entry_with x n t o a g) ≡ filter q (entry_with y n t o b h)
 both_answered x y p q n t o None None g h e c same below = below
 both_answered x y p q n t o (Some a) (Some b) g h e c same below =
     let one : a ≡ b = cc in
@@ -76,7 +76,7 @@ both_answered x y p q n t o (Some a) None g h e c same below = absurd (cc)
 
 alike_answered : (x y : List Record) (p q : Entry → Bool) (n t : ℕ) (o : Op) (g h : List Entry) → Agrees x y p q n t o
     → filter p g ≡ filter q h
-    → filter p (answered x n t o (answer_of x n) g) ≡ filter q (answered y n t o (answer_of y n) h)
+    → filter p (entry_with x n t o (answer_of x n) g) ≡ filter q (entry_with y n t o (answer_of y n) h)
 alike_answered x y p q n t o g h (Both e c same) below = both_answered x y p q n t o (answer_of x n) (answer_of y n) g h e c same below
 alike_answered x y p q n t o g h (Neither first second) below =
     pass_answered x p n t o (answer_of x n) g first ∙ below ∙ sym (pass_answered y q n t o (answer_of y n) h second)
@@ -109,8 +109,8 @@ drop_one p k e h true above all = absurd (omega (arith, above, all.0))
 drop_one p k e h false above all = (refl, all)
 
 drop_answered : (x : List Record) (p : Entry → Bool) (k n t : ℕ) (o : Op) (a : Option Answer) (h : List Entry) → k < n
-    → AreWithin k (filter p (answered x n t o a h))
-    → (filter p (answered x n t o a h) ≡ filter p h) × AreWithin k (filter p h)
+    → AreWithin k (filter p (entry_with x n t o a h))
+    → (filter p (entry_with x n t o a h) ≡ filter p h) × AreWithin k (filter p h)
 drop_answered x p k n t o None h above all = (refl, all)
 drop_answered x p k n t o (Some a) h above all = drop_one p k (as_entry x n t o a) h (p (as_entry x n t o a)) above all
 

@@ -29,7 +29,8 @@ pub over_uncommitting : (v : View) (t : ℕ) → IsLegal v.log → IsOver v.log 
 over_uncommitting v t legal over n at = absurd (over_uncommitted v.log t n legal over at)
 
 -- no Commit of one that is committed or gone waits for a force
-pub uncommitting : (v : View) (t : ℕ) (s : Status) → IsLegal v.log → HasStatusOf v t s → (s ≡ Committed) ⊎ (s ≡ Gone) → IsUncommitting v t
+pub uncommitting : (v : View) (t : ℕ) (s : Status) → IsLegal v.log → HasStatusOf v t s → (s ≡ Committed) ⊎ (s ≡ Gone)
+    → IsUncommitting v t
 uncommitting v t s legal so (inl e) n at =
     let c : HasStatusOf v t Committed = subst (HasStatusOf v t) e so in
     omega (arith, c.3, one_end v.log t n c.1 legal (inl at) (inl c.2))
@@ -71,7 +72,8 @@ module _ (v : View) (m : Machine) (saves : ℕ → List ℕ) (spans : ℕ → Li
       waiting_spans : HasStatusOf v t Committing → v.spans t ≡ spans t
       waiting_spans so = elim same_spans [ inl e ↦ sym e | inr over ↦ absurd (omega (arith, over.1 so.1 so.2, so.3)) ]
 
-      saves_left : (s : Status) (xs : List (List ℕ)) → HasStatusOf v t s → HasSavesOf v m.h t s xs → HasSavesOf other m.h t s xs
+      saves_left : (s : Status) (xs : List (List ℕ)) → HasStatusOf v t s → HasSavesOf v m.h t s xs
+          → HasSavesOf other m.h t s xs
       saves_left Open xs so has = subst (HasSaves m.h t _ xs) (own_saves _ so) has
       saves_left (Waiting n o) xs so has = subst (HasSaves m.h t _ xs) (own_saves _ so.0) has
       saves_left (Reading q) xs so has = subst (HasSaves m.h t _ xs) (own_saves _ so) has

@@ -8,7 +8,7 @@ use Rattle.record_key.specs.declared.op.Answer.{Answer}
 use Rattle.history.specs.declared.record.Record.{Record}
 use Rattle.history.specs.declared.record.Record.TheVariants as is
 use Rattle.history.specs.History.{Entry, placed}
-use Rattle.history.specs.Log.{answer_of, is_crossed, op_of, IsOpBy, hist_in, hist, answered}
+use Rattle.history.specs.Log.{answer_of, is_crossed, op_of, IsOpBy, hist_in, hist, entry_with}
 use Rattle.log_laws.proofs.Records.{AnOp, newest_at, had_at, which}
 use Rattle.log_laws.proofs.LegalLogs.{op_number}
 use Rattle.simulation.specs.View.{IsFalling, HasEntry}
@@ -22,7 +22,7 @@ ge_nat_lt m n h = grind (arith, nat_tests)
 
 same_entry : (x y : List Record) (n t : ℕ) (o : Op) (a b : Option Answer) (g h : List Entry) → a ≡ b
     → is_crossed x n ≡ is_crossed y n → g ≡ h
-    → answered x n t o a g ≡ answered y n t o b h
+    → entry_with x n t o a g ≡ entry_with y n t o b h
 same_entry x y n t o None None g h e c below = below
 same_entry x y n t o (Some a) (Some b) g h e c below = let same : a ≡ b = cc in rw (same, c, below) refl
 same_entry x y n t o None (Some b) g h e c below = absurd (cc)
@@ -54,7 +54,7 @@ all_entry : (P : Entry → Type 0) (log : List Record) (n : ℕ) (by : Option (�
 all_entry P log n None h each all = all
 all_entry P log n (Some by) h each all = with_answer (answer_of log n)
   where
-    with_answer : (a : Option Answer) → AllByRecursion P (answered log n by.0 by.1 a h)
+    with_answer : (a : Option Answer) → AllByRecursion P (entry_with log n by.0 by.1 a h)
     with_answer None = all
     with_answer (Some a) = (each by.0 by.1 a refl, all)
 
@@ -78,7 +78,7 @@ placed_front e (f ∷ h) all = ap (λ b. if b then e ∷ f ∷ h else f ∷ plac
 
 -- one below passes
 pub placed_past : (log : List Record) (m t : ℕ) (o : Op) (a : Option Answer) (e : Entry) (h : List Entry) → e.number < m
-    → answered log m t o a (placed e h) ≡ placed e (answered log m t o a h)
+    → entry_with log m t o a (placed e h) ≡ placed e (entry_with log m t o a h)
 placed_past log m t o None e h lt = refl
 placed_past log m t o (Some a) e h lt = ap (λ b. if b then e ∷ record { number = m; txn = t; op = o; answer = a; crossed = is_crossed log m } ∷ h else record { number = m; txn = t; op = o; answer = a; crossed = is_crossed log m } ∷ placed e h) (sym (ge_nat_lt m e.number (omega arith)))
 
@@ -103,7 +103,7 @@ module _ (log : List Record) (n t : ℕ) (o : Op) (a : Answer) (none : answer_of
       → entry_of longer m by (placed entry h) ≡ placed entry (entry_of log m by h)
   past_step m None h lt = refl
   past_step m (Some by) h lt =
-      ap (λ x. answered longer m by.0 by.1 x (placed entry h)) (same_answer m (λ e. omega (arith, e, lt)))
+      ap (λ x. entry_with longer m by.0 by.1 x (placed entry h)) (same_answer m (λ e. omega (arith, e, lt)))
       ∙ placed_past log m by.0 by.1 (answer_of log m) entry h lt
 
   placed_in : (rest : List Record) → IsOpBy rest n t o → hist_in longer rest ≡ placed entry (hist_in log rest)
@@ -114,14 +114,14 @@ module _ (log : List Record) (n t : ℕ) (o : Op) (a : Answer) (none : answer_of
             let is_op : op_of r ≡ Some (t, o) = newest_at (AnOp t o) r rest n e by in
             hist_step longer r rest
             ∙ ap (λ x. entry_of longer (length rest + 1) x (hist_in longer rest)) is_op
-            ∙ ap (λ (m : ℕ). answered longer m t o (answer_of longer m) (hist_in longer rest)) (sym e)
-            ∙ ap (λ x. answered longer n t o x (hist_in longer rest)) answer_now
+            ∙ ap (λ (m : ℕ). entry_with longer m t o (answer_of longer m) (hist_in longer rest)) (sym e)
+            ∙ ap (λ x. entry_with longer n t o x (hist_in longer rest)) answer_now
             ∙ ap (λ h. entry ∷ h) (below_alike rest (omega (arith, e)))
             ∙ sym (placed_front entry (hist_in log rest) (let P : ℕ → Type 0 = λ m. AllByRecursion (λ f. f.number < m) (hist_in log rest) in subst P (sym e) (hist_below log rest)))
             ∙ ap (placed entry) (sym (hist_step log r rest
             ∙ ap (λ x. entry_of log (length rest + 1) x (hist_in log rest)) is_op
-            ∙ ap (λ (m : ℕ). answered log m t o (answer_of log m) (hist_in log rest)) (sym e)
-            ∙ ap (λ x. answered log n t o x (hist_in log rest)) none))
+            ∙ ap (λ (m : ℕ). entry_with log m t o (answer_of log m) (hist_in log rest)) (sym e)
+            ∙ ap (λ x. entry_with log n t o x (hist_in log rest)) none))
         | inr was ↦
             hist_step longer r rest
             ∙ ap (entry_of longer (length rest + 1) (op_of r)) (placed_in rest (had_at (AnOp t o) r rest n was by))
@@ -214,7 +214,7 @@ placed_itself e (f ∷ h) = pick (nat_lt f.number e.number) (placed_itself e h)
 
 -- a log's history falls
 falling_answered : (log : List Record) (n t : ℕ) (o : Op) (a : Option Answer) (h : List Entry)
-    → AllByRecursion (λ e. e.number < n) h → IsFalling h → IsFalling (answered log n t o a h)
+    → AllByRecursion (λ e. e.number < n) h → IsFalling h → IsFalling (entry_with log n t o a h)
 falling_answered log n t o None h below falls = falls
 falling_answered log n t o (Some a) h below falls = (below, falls)
 

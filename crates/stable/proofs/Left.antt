@@ -7,7 +7,8 @@ use Rattle.stable.specs.Crash.{MayLeave}
 use Rattle.stable.specs.LogState.{LogState, with_bytes}
 
 -- bytes that are cut off `kept` past the forced ones, or past the end
-pub kept_bytes : (forced kept end : ℕ) (bytes : List ℕ) → min end (length bytes) ≡ min (forced + kept) (length bytes) → take end bytes ≡ take forced bytes ++ take kept (drop forced bytes)
+pub kept_bytes : (forced kept end : ℕ) (bytes : List ℕ) → min end (length bytes) ≡ min (forced + kept) (length bytes)
+    → take end bytes ≡ take forced bytes ++ take kept (drop forced bytes)
 kept_bytes forced kept end bytes e =
     sym (take_min end bytes) ∙ ap (λ n. take n bytes) e ∙ take_min (forced + kept) bytes ∙ take-add forced kept bytes
 
@@ -18,7 +19,8 @@ crash_leaves forced pending kept = record {
 }
 
 -- whatever a crash may leave is left where it keeps the right number of pending bytes
-pub crash_reaches : (forced pending left : List ℕ) → MayLeave forced pending left → (kept : ℕ) × (left ≡ forced ++ take kept pending)
+pub crash_reaches : (forced pending left : List ℕ) → MayLeave forced pending left
+    → (kept : ℕ) × (left ≡ forced ++ take kept pending)
 crash_reaches forced pending left may =
     let more = may.has_forced.0 in let rest = may.beginning.0 in
     let whole : forced ++ pending ≡ forced ++ (more ++ rest) = may.beginning.1 ∙ ap (λ l. l ++ rest) may.has_forced.1 ∙ append_assoc forced more rest in
@@ -26,7 +28,8 @@ crash_reaches forced pending left may =
     (length more, may.has_forced.1 ∙ ap (λ m. forced ++ m) (sym (ap (take (length more)) same ∙ take-append_seam more rest)))
 
 -- the state of a log whose bytes were cut so, all of them forced
-pub crash_state : (bytes left : List ℕ) (forced kept end : ℕ) (countdown : Option ℕ) (failures : ℕ) → left ≡ take end bytes → end ≡ length left
+pub crash_state : (bytes left : List ℕ) (forced kept end : ℕ) (countdown : Option ℕ) (failures : ℕ)
+    → left ≡ take end bytes → end ≡ length left
     → min end (length bytes) ≡ min (forced + kept) (length bytes)
     → let old : LogState = record { forced = take forced bytes; pending = drop forced bytes; countdown = countdown; failures = failures } in
     let new : LogState = record { forced = take end left; pending = drop end left; countdown = countdown; failures = failures } in

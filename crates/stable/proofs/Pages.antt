@@ -33,7 +33,8 @@ find-images (e ∷ es) q =
 pub get-pages_of : (es : Entries) (q : ℕ) → get (pages_of es) q ≡ image (lookup (is_at (nat_cmp q)) es)
 get-pages_of es q = get-from_entries nat_cmp_total (images es) q ∙ find-images es q
 
-image-cond : (a b : Bool) → a ≡ b → (v : Vec ℕ Global) (o : Option (Vec ℕ Global)) → image (cond a (Some v) o) ≡ cond b (Some v.items) (image o)
+image-cond : (a b : Bool) → a ≡ b → (v : Vec ℕ Global) (o : Option (Vec ℕ Global))
+    → image (cond a (Some v) o) ≡ cond b (Some v.items) (image o)
 image-cond a b e v o = ap (λ c. image (cond c (Some v) o)) e ∙ elim b as (λ c. image (cond c (Some v) o) ≡ cond c (Some v.items) (image o)) [ true ↦ refl | false ↦ refl ]
 
 -- entries that have v at k, and elsewhere what was there
@@ -46,7 +47,8 @@ pages_of-updates old new k v updates = same_map nat_cmp_total nat_cmp-IsAntisymm
     ∙ sym (get-insert nat_cmp_total (pages_of old) k v.items q ∙ ap (cond (eq_by_cmp nat_cmp q k) (Some v.items)) (get-pages_of old q)))
 
 -- a first entry stays first
-put-first : (e : ℕ × Vec ℕ Global) (es : Entries) → IsStrictlySortedBy nat_cmp (keys_of (e ∷ es)) → put nat_cmp e.0 e.1.items (images es) ≡ images (e ∷ es)
+put-first : (e : ℕ × Vec ℕ Global) (es : Entries) → IsStrictlySortedBy nat_cmp (keys_of (e ∷ es))
+    → put nat_cmp e.0 e.1.items (images es) ≡ images (e ∷ es)
 put-first e [] sorted = refl
 put-first e (e' ∷ es) sorted = let less = (sorted_head nat_cmp e.0 (keys_of (e' ∷ es)) sorted).0 in rw less refl
 

@@ -11,7 +11,8 @@ use borrow.Fn.Refines.{Turns}
 use denote.Follow.{such_by, follows_by}
 use Rattle.stable.specs.Device.{Rests}
 
-pub rests_weaker : {M : Type 1} {𝓤 : Ura M} (𝓛 : Logic 𝓤) (R : RattleType) (device : MutBor R.Denot) (P Q : R.Denot → Type 0)
+pub rests_weaker : {M : Type 1} {𝓤 : Ura M} (𝓛 : Logic 𝓤) (R : RattleType) (device : MutBor R.Denot)
+    (P Q : R.Denot → Type 0)
     → ((v : R.Denot) → P v → Q v) → ent 𝓤 (sem 𝓛 (Rests R device P)) (sem 𝓛 (Rests R device Q))
 unfolding such_by
 rests_weaker {𝓤 = 𝓤} 𝓛 R device P Q weaker =
@@ -20,7 +21,9 @@ rests_weaker {𝓤 = 𝓤} 𝓛 R device P Q weaker =
     qed 𝓛 (‵ (Rests R device P) ∷ []) ∵ fpick ! (λ (s : Last P). fpack ! (Last Q) (λ s. follows_by D D R.coded.code R.coded.code device.ghost_name none s.0.0 s.0.1) (s.0, s.1, weaker s.0.1 s.2) $ done !)
 
 -- A method that lends a part of the device tells what its trait does, where its last clause is stronger and it has one clause more, its first.
-pub reading_meets : {M : Type 1} (𝓤 : Ura M) (R X : Type 0) (own value error : R → X → Type 0) (Last Last' : R → X → SProp 𝓤) → ((r : R) (e : X) → ent 𝓤 (Last r e) (Last' r e))
+pub reading_meets : {M : Type 1} (𝓤 : Ura M) (R X : Type 0) (own value error : R → X → Type 0)
+    (Last Last' : R → X → SProp 𝓤)
+    → ((r : R) (e : X) → ent 𝓤 (Last r e) (Last' r e))
     → ent 𝓤 (emp 𝓤) (ex 𝓤 (λ (_ : Unit {0}). sep 𝓤 (emp 𝓤) (Turns 𝓤 R X (λ r e. sep 𝓤 (fact 𝓤 (own r e)) (sep 𝓤 (fact 𝓤 (value r e)) (sep 𝓤 (fact 𝓤 (error r e)) (Last r e)))) (λ r e. sep 𝓤 (fact 𝓤 (value r e)) (sep 𝓤 (fact 𝓤 (error r e)) (Last' r e))))))
 reading_meets 𝓤 R X own value error Last Last' weaker =
     let Own : R → X → SProp 𝓤 = λ r e. fact 𝓤 (own r e) in

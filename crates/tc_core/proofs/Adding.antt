@@ -20,13 +20,15 @@ all_back P [] ys all = all
 all_back P (x ∷ xs) ys all = all_back P xs ys all.1
 
 -- the new number's entry comes last
-comes_last : (t s : ℕ) (es : List (ℕ × ℕ)) → AllByRecursion (λ (e : ℕ × ℕ). e.0 < t) es → insert_entry nat_cmp es t s ≡ es ++ (t, s) ∷ []
+comes_last : (t s : ℕ) (es : List (ℕ × ℕ)) → AllByRecursion (λ (e : ℕ × ℕ). e.0 < t) es
+    → insert_entry nat_cmp es t s ≡ es ++ (t, s) ∷ []
 comes_last t s [] below = refl
 comes_last t s (e ∷ es) below =
     let after : nat_cmp t e.0 ≡ Greater = grind (arith, nat_tests, below.0) in
     rw after (ap (λ rest. e ∷ rest) (comes_last t s es below.1))
 
-entries_below : (t : ℕ) (slab : Slab OpenTxn) (es : List (ℕ × ℕ)) → AreSlots slab es → AreBelow t (in_slots slab es) → AllByRecursion (λ (e : ℕ × ℕ). e.0 < t) es
+entries_below : (t : ℕ) (slab : Slab OpenTxn) (es : List (ℕ × ℕ)) → AreSlots slab es → AreBelow t (in_slots slab es)
+    → AllByRecursion (λ (e : ℕ × ℕ). e.0 < t) es
 entries_below t slab [] are below = tt
 entries_below t slab (e ∷ es) are below =
     let own : AreBelow t (are.0.open_txn ∷ []) = rw are.0.held at (all_back _ (in_slots slab es) (listed (get slab e.1)) below) in

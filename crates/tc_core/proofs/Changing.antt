@@ -22,7 +22,8 @@ replace_in_both : (new : OpenTxn) (xs ys : List OpenTxn) → replace new (xs ++ 
 replace_in_both new [] ys = refl
 replace_in_both new (x ∷ xs) ys = ap (λ rest. (if x.txn == new.txn then new else x) ∷ rest) (replace_in_both new xs ys)
 
-none_replaced : (new : OpenTxn) (os : List OpenTxn) → AllByRecursion (λ (o : OpenTxn). new.txn < o.txn) os → replace new os ≡ os
+none_replaced : (new : OpenTxn) (os : List OpenTxn) → AllByRecursion (λ (o : OpenTxn). new.txn < o.txn) os
+    → replace new os ≡ os
 none_replaced new [] above = refl
 none_replaced new (o ∷ os) above =
     let apart : (o.txn == new.txn) ≡ false = grind (arith, nat_tests, above.0) in
@@ -44,7 +45,8 @@ all_without t (o ∷ os) above =
     rw (apart, all_without t os above.1) refl
 
 -- what holds of all slots holds of that which is found
-all_found : (P : ℕ → Type 0) (t s : ℕ) (es : List (ℕ × ℕ)) → AllByRecursion (λ (d : ℕ × ℕ). P d.1) es → slot_of t es ≡ Some s → P s
+all_found : (P : ℕ → Type 0) (t s : ℕ) (es : List (ℕ × ℕ)) → AllByRecursion (λ (d : ℕ × ℕ). P d.1) es
+    → slot_of t es ≡ Some s → P s
 all_found P t s [] all found = absurd (cc)
 all_found P t s (e ∷ es) all found = pick (is_eq (nat_cmp t e.0)) found (all_found P t s es all.1)
   where
@@ -180,7 +182,8 @@ changes what t s o slab es os are view slot held =
     record { are = h.are; view = h.view ∙ sym (ap (λ x. happens_to x what os) found) }
 
 -- nothing happens where there is none
-pub changes_none : (what : Change) (t : ℕ) (slot : Option ℕ) (slab : Slab OpenTxn) (es : List (ℕ × ℕ)) (os : List OpenTxn)
+pub changes_none : (what : Change) (t : ℕ) (slot : Option ℕ) (slab : Slab OpenTxn) (es : List (ℕ × ℕ))
+    (os : List OpenTxn)
     → AreSlots slab es → in_slots slab es ≡ os
     → slot ≡ slot_of t es → held_at slab slot ≡ None → os ≡ happens t what os
 changes_none what t slot slab es os are view is none =

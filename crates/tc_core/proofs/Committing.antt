@@ -75,7 +75,8 @@ holder_committed os cs t o at u =
     ]
 
 -- the same with more who hold
-pub holder_more : (os : List OpenTxn) (cs ls : List ℕ) (u : ℕ) → is_holder os (cs ++ ls) u ≡ (is_holder os cs u || is_listed ls u)
+pub holder_more : (os : List OpenTxn) (cs ls : List ℕ) (u : ℕ)
+    → is_holder os (cs ++ ls) u ≡ (is_holder os cs u || is_listed ls u)
 holder_more os cs ls u = pick (is_some (find u os)) (is_listed cs u) (is_listed (cs ++ ls) u) (list_any-append (λ v. v == u) cs ls)
   where
     pick : (a b c : Bool) → c ≡ (b || is_listed ls u) → (a || c) ≡ ((a || b) || is_listed ls u)

@@ -7,7 +7,7 @@ use Rattle.history.specs.declared.record.Record.{Record}
 use Rattle.history.specs.declared.record.Record.TheVariants as is
 use Rattle.history.specs.Log.{has_ended, IsOpen, IsStepOf, Requests}
 use Rattle.history.specs.Legal.{IsLegal, IsLatestOrNone}
-use Rattle.log_laws.specs.Laws.{undo_from}
+use Rattle.history.specs.Chains.{undo_from}
 use Rattle.log_laws.proofs.Records.{AStep, ARequest, newest_at, older_at, kept_at, record_old, not_newest}
 use Rattle.log_laws.proofs.LegalLogs.{ABegin, begun_number, ended_push, falls, step_number}
 use Rattle.log_laws.proofs.Named.{ended_begun}
@@ -57,7 +57,8 @@ module _ (r : Record) (log : List Record) (t : ℕ) (neutral : IsNeutral r log t
   request_was m o step h = older_at (ARequest o) r log m (not_newest log m (step_number log m t (steps_there r log t neutral.no_step m step))) h
 
 -- what lies within a log lies within a longer one
-saves_longer : (m n : ℕ) (saves : List ℕ) → m ≤ n → AllByRecursion (λ end. end ≤ m) saves → AllByRecursion (λ end. end ≤ n) saves
+saves_longer : (m n : ℕ) (saves : List ℕ) → m ≤ n → AllByRecursion (λ end. end ≤ m) saves
+    → AllByRecursion (λ end. end ≤ n) saves
 saves_longer m n [] more all = tt
 saves_longer m n (s ∷ saves) more all = (omega (arith, all.0, more), saves_longer m n saves more all.1)
 

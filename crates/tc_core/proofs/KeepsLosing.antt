@@ -70,7 +70,8 @@ module _ (w : TcView) (k : IsTc w) (undoing : w.phase ≡ phase.Undoing None) wh
       let P : Phase → Type 0 = IsPhaseOf w.losers in
       pick w.losers.undoing refl w.losers.done refl (subst P undoing k.lost.phase_of)
     where
-      pick : (xs : List Loser) → w.losers.undoing ≡ xs → (ts : List ℕ) → w.losers.done ≡ ts → is_none_lost w.losers ≡ false → ⊥
+      pick : (xs : List Loser) → w.losers.undoing ≡ xs → (ts : List ℕ) → w.losers.done ≡ ts
+          → is_none_lost w.losers ≡ false → ⊥
       pick (x ∷ xs) is ts done some =
           let P : List Loser → Type 0 = λ ys. Contains ys x in
           let there : Contains w.losers.undoing x = subst P (sym is) (Contains-append_left (x ∷ []) xs x (Contains-push [] x)) in
@@ -161,7 +162,8 @@ module _ (w : TcView) (k : IsTc w) (undoing : w.phase ≡ phase.Undoing None) wh
     }
 
   -- the compensation that is due is that of the latest operation
-  pub lost_is : (x : Loser) (r : Record) → LosesNext w.log w.losers.below x → Compensates w.log x.txn 0 r → r ≡ lost_comp w.log x
+  pub lost_is : (x : Loser) (r : Record) → LosesNext w.log w.losers.below x → Compensates w.log x.txn 0 r
+      → r ≡ lost_comp w.log x
   lost_is x r next h = (comp_is w.log x.txn x.left 0 r k.legal (inl next.at.left) h).0
 
   module _ (x : Loser) (l : LosersView) (next : LosesNext w.log w.losers.below x) (fits : Fits w.log (lost_comp w.log x))
@@ -205,7 +207,8 @@ module _ (w : TcView) (k : IsTc w) (undoing : w.phase ≡ phase.Undoing None) wh
           | inr e ↦ absurd (none_due n (due_was comp w.log w.losers.below legal_comp n k.lost.losers.bound e due))
         ]
 
-    due_comp : (n : ℕ) → phase.Undoing (waits_for (length w.log + 1) inverse) ≡ phase.Undoing (Some n) → IsDue (comp ∷ w.log) l.below n
+    due_comp : (n : ℕ) → phase.Undoing (waits_for (length w.log + 1) inverse) ≡ phase.Undoing (Some n)
+        → IsDue (comp ∷ w.log) l.below n
     due_comp n e =
         let waits : waits_for (length w.log + 1) inverse ≡ Some n = cc in
         let is = waited inverse (length w.log + 1) n waits in

@@ -40,17 +40,20 @@ not_lacking w n none o asks = pick (is_some (answer_of w.log n)) (sym (ap (λ q.
 pub fits_lacking : (w : TcView) (n : ℕ) → lacks w n ≡ true → FitsAnswer w.log n
 fits_lacking w n lacking = asked (request_in (record_at w.log n)) refl (answer_of w.log n) refl
   where
-    test : (q : Option Op) (a : Option Answer) → (is_some q && not (is_some a)) ≡ true → request_in (record_at w.log n) ≡ q
+    test : (q : Option Op) (a : Option Answer) → (is_some q && not (is_some a)) ≡ true
+        → request_in (record_at w.log n) ≡ q
         → answer_of w.log n ≡ a → FitsAnswer w.log n
     test None a h is none = absurd (cc)
     test (Some o) (Some a) h is none = absurd (cc)
     test (Some o) None h is none = record { op = o; requested = is; unanswered = none }
 
-    asked : (q : Option Op) → request_in (record_at w.log n) ≡ q → (a : Option Answer) → answer_of w.log n ≡ a → FitsAnswer w.log n
+    asked : (q : Option Op) → request_in (record_at w.log n) ≡ q → (a : Option Answer) → answer_of w.log n ≡ a
+        → FitsAnswer w.log n
     asked q is a none = test q a (rw (← is, ← none) lacking) is none
 
 module _ (w : TcView) (k : IsTc w) where
-  pub keeps_lost_answer : (n : ℕ) (a : Answer) → lacks w n ≡ true → awaiting w n ≡ None → takes w.session w.phase n ≡ true
+  pub keeps_lost_answer : (n : ℕ) (a : Answer) → lacks w n ≡ true → awaiting w n ≡ None
+      → takes w.session w.phase n ≡ true
       → is_spent w.log ≡ false → IsTc (passed (answered_lost w n a) n)
   keeps_lost_answer n a lacking nobody taken unspent =
       let r : Record = is.Answer n a in
@@ -79,7 +82,8 @@ module _ (w : TcView) (k : IsTc w) where
           let clash : None ≡ Some o = sym nobody ∙ awaits w o n k at mine in cc))) h
 
   -- the session runs
-  pub keeps_connected : w.phase ≡ phase.Connecting → IsTc (record w { phase = phase.Redoing (w.checkpointed + 1) false })
+  pub keeps_connected : w.phase ≡ phase.Connecting
+      → IsTc (record w { phase = phase.Redoing (w.checkpointed + 1) false })
   keeps_connected connecting = record {
     legal = k.legal;
     within = k.within;
@@ -115,7 +119,8 @@ module _ (w : TcView) (k : IsTc w) where
       ]
 
   -- redo goes on to this number
-  pub keeps_redoing : (next : ℕ) (was : Bool) (n : ℕ) (ending : Bool) → w.phase ≡ phase.Redoing next was → next ≤ n → n ≤ w.session
+  pub keeps_redoing : (next : ℕ) (was : Bool) (n : ℕ) (ending : Bool) → w.phase ≡ phase.Redoing next was → next ≤ n
+      → n ≤ w.session
       → (ending ≡ true → n ≡ w.session) → AsksNothing w.log next n → IsTc (redoing w n ending)
   keeps_redoing next was n ending at from up_to at_end none = record {
     legal = k.legal;

@@ -11,7 +11,8 @@ use Rattle.tc_core.proofs.Finding.{found_number, found_own, find_here, find_ther
 use Rattle.tc_core.proofs.HeldSpans.{is_some_replaced}
 
 -- an open transaction has a number of the log
-open_number : (log : List Record) (below : ℕ) (os : List OpenTxn) → AreOpen log below os → (t : ℕ) (o : OpenTxn) → find t os ≡ Some o
+open_number : (log : List Record) (below : ℕ) (os : List OpenTxn) → AreOpen log below os → (t : ℕ) (o : OpenTxn)
+    → find t os ≡ Some o
     → t ≤ length log
 open_number log below os k t o at = omega (arith, (begun_number log o.txn (k.each t o at).is.begun).bounded, found_number t os o at)
 
@@ -27,12 +28,14 @@ below_next log (o ∷ os) bounded falls =
     let bound : o.txn ≤ length log = bounded o.txn o (find_here o os o.txn refl) in
     (omega (arith, bound), below_more os o.txn (length log + 1) (omega (arith, bound)) falls.0)
 
-pub open_below : (log : List Record) (below : ℕ) (os : List OpenTxn) → AreOpen log below os → AreBelow (length log + 1) os
+pub open_below : (log : List Record) (below : ℕ) (os : List OpenTxn) → AreOpen log below os
+    → AreBelow (length log + 1) os
 open_below log below os k = below_next log os (open_number log below os k) k.order
 
 module _ (log log2 : List Record) (below : ℕ) (os : List OpenTxn) (k : AreOpen log below os) where
   -- nobody begins, and nobody ends
-  pub same_open : ((o : OpenTxn) → find o.txn os ≡ Some o → IsOpenTxn log o → IsOpenTxn log2 o) → ((t : ℕ) → IsOpen log2 t → IsOpen log t)
+  pub same_open : ((o : OpenTxn) → find o.txn os ≡ Some o → IsOpenTxn log o → IsOpenTxn log2 o)
+      → ((t : ℕ) → IsOpen log2 t → IsOpen log t)
       → AreOpen log2 below os
   same_open kept was = record {
     each = λ t o at. kept o (found_own t os o at) (k.each t o at);
@@ -66,7 +69,8 @@ module _ (log log2 : List Record) (below : ℕ) (os : List OpenTxn) (k : AreOpen
   }
 
   -- one begins
-  pub added_open : (new : OpenTxn) → new.txn ≡ length log + 1 → below ≤ length log + 1 → length os < 64 → IsOpenTxn log2 new
+  pub added_open : (new : OpenTxn) → new.txn ≡ length log + 1 → below ≤ length log + 1 → length os < 64
+      → IsOpenTxn log2 new
       → ((p : OpenTxn) → IsOpenTxn log p → IsOpenTxn log2 p)
       → ((t : ℕ) → IsOpen log2 t → (t ≡ new.txn) ⊎ IsOpen log t) → AreOpen log2 below (new ∷ os)
   added_open new number bound less is_new kept was = record {

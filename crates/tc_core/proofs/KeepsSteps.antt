@@ -8,7 +8,7 @@ use Rattle.history.specs.declared.record.Record.{Record}
 use Rattle.history.specs.declared.record.Record.TheVariants as is
 use Rattle.history.specs.Log.{answer_of, has_ended, IsOpen, IsStepOf}
 use Rattle.history.specs.Legal.{IsLegal, IsIdle, IsLatestOrNone}
-use Rattle.log_laws.specs.Laws.{undo_from}
+use Rattle.history.specs.Chains.{undo_from}
 use Rattle.log_laws.proofs.Records.{AStep, at_newest, newest_at, older_at, record_new, not_newest}
 use Rattle.log_laws.proofs.LegalLogs.{begun_number, begun, step_number, step_ends_none}
 use Rattle.tc_core.specs.declared.open_txn.OpenTxn.{OpenTxn}
@@ -23,7 +23,8 @@ use Rattle.tc_core.proofs.KeepsIdle.{own_request, leaves_open, idle_now, waits_n
 pub session_leaves : (log : List Record) (o : OpenTxn) → IsOpenTxn log o → IsOpenTxn (is.Session ∷ log) o
 session_leaves log o h = leaves_open is.Session log o (record { no_step = λ s. cc; ends_not = refl }) (λ n e. refl) h
 
-pub checkpoint_leaves : (log : List Record) (l : ℕ) (o : OpenTxn) → IsOpenTxn log o → IsOpenTxn (is.Checkpoint l ∷ log) o
+pub checkpoint_leaves : (log : List Record) (l : ℕ) (o : OpenTxn) → IsOpenTxn log o
+    → IsOpenTxn (is.Checkpoint l ∷ log) o
 checkpoint_leaves log l o h = leaves_open (is.Checkpoint l) log o (record { no_step = λ s. cc; ends_not = refl }) (λ n e. refl) h
 
 pub begin_leaves : (log : List Record) (o : OpenTxn) → IsOpenTxn log o → IsOpenTxn (is.Begin ∷ log) o

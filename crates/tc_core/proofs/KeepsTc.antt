@@ -125,16 +125,19 @@ keeps_logged w k unspent = record {
 pub not_committing : (w : TcView) (t : ℕ) → IsTc w → has_ended w.log t ≡ false → is_listed w.committing t ≡ false
 not_committing w t k goes_on = ap (λ ts. is_listed ts t) k.committing ∙ open_unlisted w.log w.stable t goes_on
 
-not_closing : (w : TcView) (t : ℕ) → IsTc w → has_ended w.log t ≡ false → w.losers.below ≤ t → is_listed (closing w) t ≡ false
+not_closing : (w : TcView) (t : ℕ) → IsTc w → has_ended w.log t ≡ false → w.losers.below ≤ t
+    → is_listed (closing w) t ≡ false
 not_closing w t k goes_on late =
     list_any-append (λ u. u == t) w.committing (txns w.losers)
     ∙ rw (not_committing w t k goes_on, unlisted_late w.log w.losers k.lost.losers t late) refl
 
-pub unlisted : (w : TcView) (o : OpenTxn) → IsTc w → find o.txn w.open_txns ≡ Some o → is_listed (closing w) o.txn ≡ false
+pub unlisted : (w : TcView) (o : OpenTxn) → IsTc w → find o.txn w.open_txns ≡ Some o
+    → is_listed (closing w) o.txn ≡ false
 unlisted w o k at = not_closing w o.txn k (k.open_txns.each o.txn o at).is.goes_on (late_at w o k at)
 
 -- who is committing is neither open nor a loser
-closed : (w : TcView) (t : ℕ) → IsTc w → is_listed w.committing t ≡ true → is_holder w.open_txns (txns w.losers) t ≡ false
+closed : (w : TcView) (t : ℕ) → IsTc w → is_listed w.committing t ≡ true
+    → is_holder w.open_txns (txns w.losers) t ≡ false
 closed w t k listed = rw (not_open, not_lost) refl
   where
     clash : IsOpen w.log t → ⊥
@@ -328,16 +331,19 @@ module _ (w : TcView) (o new : OpenTxn) (k : IsTc w) (at : find o.txn w.open_txn
       }
 
 -- within the log stay what was
-taken_within : (log : List Record) (s : ℕ) (saves : List ℕ) → AllByRecursion (λ end. end ≤ length log) saves → AllByRecursion (λ end. end ≤ length log) (take s saves)
+taken_within : (log : List Record) (s : ℕ) (saves : List ℕ) → AllByRecursion (λ end. end ≤ length log) saves
+    → AllByRecursion (λ end. end ≤ length log) (take s saves)
 taken_within log zero saves all = tt
 taken_within log (suc s) [] all = tt
 taken_within log (suc s) (e ∷ saves) all = (all.0, taken_within log s saves all.1)
 
-more_within : (log : List Record) (saves : List ℕ) → AllByRecursion (λ end. end ≤ length log) saves → AllByRecursion (λ end. end ≤ length log) (saves ++ length log ∷ [])
+more_within : (log : List Record) (saves : List ℕ) → AllByRecursion (λ end. end ≤ length log) saves
+    → AllByRecursion (λ end. end ≤ length log) (saves ++ length log ∷ [])
 more_within log [] all = (omega arith, tt)
 more_within log (e ∷ saves) all = (all.0, more_within log saves all.1)
 
-one_within : (log : List Record) (saves : List ℕ) (n end : ℕ) → AllByRecursion (λ end. end ≤ length log) saves → slice_get saves n ≡ Some end → end ≤ length log
+one_within : (log : List Record) (saves : List ℕ) (n end : ℕ) → AllByRecursion (λ end. end ≤ length log) saves
+    → slice_get saves n ≡ Some end → end ≤ length log
 one_within log [] n end all at = absurd (cc)
 one_within log (e ∷ saves) zero end all at = let same : e ≡ end = cc in omega (arith, same, all.0)
 one_within log (e ∷ saves) (suc n) end all at = one_within log saves n end all.1 at

@@ -31,19 +31,22 @@ let_go_other (t ∷ ts) locks u table unlisted =
     ]
 
 -- nor more than the keys of operations
-pub early_taken : (below t : ℕ) (spans : List Span) (locks : LocksView) → IsTable locks → below ≤ t → HoldOperations below locks
+pub early_taken : (below t : ℕ) (spans : List Span) (locks : LocksView) → IsTable locks → below ≤ t
+    → HoldOperations below locks
     → HoldOperations below (set_spans t spans locks)
 early_taken below t spans locks table late h u early =
     let same : spans_of (set_spans t spans locks) u ≡ spans_of locks u = set_other t spans locks u table (λ e. omega (arith, e, late, early)) in
     rw same (h u early)
 
-pub early_freed : (below t : ℕ) (locks : LocksView) → IsTable locks → HoldOperations below locks → HoldOperations below (set_spans t [] locks)
+pub early_freed : (below t : ℕ) (locks : LocksView) → IsTable locks → HoldOperations below locks
+    → HoldOperations below (set_spans t [] locks)
 early_freed below t locks table h u early = elim (cases_eq u t) [
   | inl e ↦ let none : spans_of (set_spans t [] locks) u ≡ [] = ap (spans_of (set_spans t [] locks)) e ∙ set_own t [] locks table in rw none refl
   | inr apart ↦ let same : spans_of (set_spans t [] locks) u ≡ spans_of locks u = set_other t [] locks u table apart in rw same (h u early)
 ]
 
-pub early_let_go : (below : ℕ) (ts : List ℕ) (locks : LocksView) → IsTable locks → HoldOperations below locks → HoldOperations below (let_go ts locks)
+pub early_let_go : (below : ℕ) (ts : List ℕ) (locks : LocksView) → IsTable locks → HoldOperations below locks
+    → HoldOperations below (let_go ts locks)
 early_let_go below [] locks table h = h
 early_let_go below (t ∷ ts) locks table h =
     early_let_go below ts (set_spans t [] locks) (set_table t [] locks table) (early_freed below t locks table h)

@@ -167,7 +167,8 @@ module _ (log : List Record) (os : List OpenTxn) (cs : List ℕ) (locks : LocksV
       (λ u other. same_holder os (without t os) cs u (without_other t os u other)) (λ u other. tt)
 
   -- so does that of one that isn't open
-  pub loses : (t : ℕ) (cs2 : List ℕ) → is_holder os cs2 t ≡ false → ((u : ℕ) → u ≢ t → is_holder os cs2 u ≡ is_holder os cs u)
+  pub loses : (t : ℕ) (cs2 : List ℕ) → is_holder os cs2 t ≡ false
+      → ((u : ℕ) → u ≢ t → is_holder os cs2 u ≡ is_holder os cs u)
       → AreHeld (is.End t ∷ log) os cs2 (set_spans t [] locks)
   loses t cs2 none same =
       change t [] (is.End t ∷ log) os cs2

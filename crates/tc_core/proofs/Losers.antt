@@ -140,7 +140,8 @@ lost_started log s p l legal h =
     }
 
 -- a number that has its answer isn't awaited any more
-not_due : (log : List Record) (below n m : ℕ) → IsDue log below m → ((o : Op) → Requests log n o → IsSome (answer_of log n)) → m ≢ n
+not_due : (log : List Record) (below n m : ℕ) → IsDue log below m
+    → ((o : Op) → Requests log n o → IsSome (answer_of log n)) → m ≢ n
 not_due log below n m due answered same =
     let P : ℕ → Type 0 = λ x. Requests log x due.op in
     let some : IsSome (answer_of log n) = answered due.op (subst P same due.requests) in
@@ -188,7 +189,8 @@ phase_of_passed l (phase.Redoing next ending) n h = h
 phase_of_passed l (phase.Undoing waiting) n h = h
 phase_of_passed l phase.Running n h = h
 
-pub lost_passed : (log : List Record) (s : ℕ) (p : Phase) (l : LosersView) (n : ℕ) → AreLost log s p l → takes s p n ≡ true
+pub lost_passed : (log : List Record) (s : ℕ) (p : Phase) (l : LosersView) (n : ℕ) → AreLost log s p l
+    → takes s p n ≡ true
     → ((o : Op) → Requests log n o → IsSome (answer_of log n)) → AreLost log s (next_phase p n) l
 lost_passed log s p l n h test answered = record {
   losers = h.losers;
@@ -229,7 +231,8 @@ pub late_at : (w : TcView) (o : OpenTxn) → IsTc w → find o.txn w.open_txns �
 late_at w o k at = k.open_txns.late o.txn o at
 
 -- where there is a loser not all have ended
-pub some_lost : (log : List Record) (l : LosersView) (t : ℕ) → AreLosers log l → IsLoser log l.below t → is_none_lost l ≡ false
+pub some_lost : (log : List Record) (l : LosersView) (t : ℕ) → AreLosers log l → IsLoser log l.below t
+    → is_none_lost l ≡ false
 some_lost log l t h is = pick (txns l) (loser_listed log l h t is)
   where
     pick : (ts : List ℕ) → is_listed ts t ≡ true → is_nil ts ≡ false

@@ -24,7 +24,8 @@ of_greater P c l at_c at_l = pick (nat_lt c l)
     pick false = at_c
 
 -- what may be announced may be announced later too
-pub may_longer : (r : Record) (log : List Record) (stable l : ℕ) → stable ≤ length log → FitsCheckpoint (stable_part log stable) l
+pub may_longer : (r : Record) (log : List Record) (stable l : ℕ) → stable ≤ length log
+    → FitsCheckpoint (stable_part log stable) l
     → FitsCheckpoint (stable_part (r ∷ log) stable) l
 may_longer r log stable l within h =
     let P : List Record → Type 0 = λ x. FitsCheckpoint x l in subst P (sym (part_longer r log stable within)) h
@@ -79,7 +80,8 @@ module _ (w : TcView) (k : IsTc w) where
     checked = k.low.checked;
   }
 
-  pub low_announced : (l : ℕ) → MayAnnounce w l → AreLow w.log w.stable (greater w.announced l) w.checkpointing w.checkpointed
+  pub low_announced : (l : ℕ) → MayAnnounce w l
+      → AreLow w.log w.stable (greater w.announced l) w.checkpointing w.checkpointed
   low_announced l may = record {
     announced = of_greater (MayAnnounce w) w.announced l k.low.announced may;
     asked = k.low.asked;

@@ -7,7 +7,8 @@ use Rattle.codec.specs.Records.{HasNumbers}
 use Rattle.log_laws.proofs.LegalLogs.{begun_number, request_number, stands_number}
 use Rattle.log_laws.proofs.Undo.{latest_number}
 
-next_number : (log : List Record) (t u x : ℕ) → u ≤ length log → IsLatestOrNone (λ n. Stands log t n × (n < u)) x → x ≤ length log
+next_number : (log : List Record) (t u x : ℕ) → u ≤ length log → IsLatestOrNone (λ n. Stands log t n × (n < u)) x
+    → x ≤ length log
 next_number log t u x within (inl h) = omega (arith, h.is.1, within)
 next_number log t u x within (inr h) = omega (arith, h.0)
 

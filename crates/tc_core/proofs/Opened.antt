@@ -43,7 +43,8 @@ only_key (b ∷ bs) [] h = absurd (cc)
 only_key (b ∷ bs) (a ∷ xs) h = pick (only_key bs xs) (nat_cmp a b) refl h
   where
     pick : (is_within (at_key Exclusive bs) xs ≡ true → xs ≡ bs) → (o : Ordering) → nat_cmp a b ≡ o
-        → (not (is_lt (ordering_then o (key_cmp xs bs))) && is_lt (ordering_then o (key_cmp xs (bs ++ 0 ∷ [])))) ≡ true → (a ∷ xs) ≡ (b ∷ bs)
+        → (not (is_lt (ordering_then o (key_cmp xs bs))) && is_lt (ordering_then o (key_cmp xs (bs ++ 0 ∷ [])))) ≡ true
+        → (a ∷ xs) ≡ (b ∷ bs)
     pick rest Less is test = absurd (cc)
     pick rest Greater is test = absurd (cc)
     pick rest Equal is test =
@@ -51,13 +52,15 @@ only_key (b ∷ bs) (a ∷ xs) h = pick (only_key bs xs) (nat_cmp a b) refl h
         let first : a ≡ b = exact_unsigned a b is in cc
 
 -- two open transactions have no operations on one key
-one_holder : (log : List Record) (n m t u : ℕ) (o q : Op) → IsLegal log → IsOpen log t → IsOpBy log n t o → IsOpBy log m u q
+one_holder : (log : List Record) (n m t u : ℕ) (o q : Op) → IsLegal log → IsOpen log t → IsOpBy log n t o
+    → IsOpBy log m u q
     → key_of q ≡ key_of o → u ≢ t → n < m → ⊥
 one_holder log n m t u o q legal open_t by other same apart later =
     let ends = strict log legal n m t u o q by later (op_step u q (record_at log m) other) (op_request u q (record_at log m) other) same apart in
     true≢false (sym (end_ends log t ends.end ends.is) ∙ open_t.goes_on)
 
-never_both : (log : List Record) (n m t u : ℕ) (o q : Op) → IsLegal log → IsOpen log t → IsOpen log u → IsOpBy log n t o → IsOpBy log m u q
+never_both : (log : List Record) (n m t u : ℕ) (o q : Op) → IsLegal log → IsOpen log t → IsOpen log u → IsOpBy log n t o
+    → IsOpBy log m u q
     → key_of q ≡ key_of o → u ≢ t → ⊥
 never_both log n m t u o q legal open_t open_u by other same apart =
     elim (cases_lt n m) [
@@ -84,7 +87,8 @@ any_op : (log : List Record) (t : ℕ) (k : Bytes) → AnyConflict (at_key Exclu
 any_op [] t k any = absurd (any)
 any_op (is.Op v p q ∷ log) t k any = pick (any_op log t k) (t == v) refl any
   where
-    pick : (AnyConflict (at_key Exclusive k) (op_spans log t) → HasOp log t k) → (b : Bool) → (t == v) ≡ b → AnyConflict (at_key Exclusive k) (if b then at_key Exclusive (key_of q) ∷ op_spans log t else op_spans log t)
+    pick : (AnyConflict (at_key Exclusive k) (op_spans log t) → HasOp log t k) → (b : Bool) → (t == v) ≡ b
+        → AnyConflict (at_key Exclusive k) (if b then at_key Exclusive (key_of q) ∷ op_spans log t else op_spans log t)
         → HasOp (is.Op v p q ∷ log) t k
     pick before true same any = elim any [
       | inl clash ↦ (
@@ -100,7 +104,8 @@ any_op (r ∷ log) t k any = has_longer r log t k (any_op log t k any)
 
 -- so what two open transactions hold by the log is apart
 module _ (log : List Record) (t u : ℕ) (legal : IsLegal log) (open_t : IsOpen log t) (open_u : IsOpen log u) (differ : t ≢ u) where
-  apart_in : (part : List Record) → ((n : ℕ) (o : Op) → IsOpBy part n t o → IsOpBy log n t o) → AreApart (op_spans part t) (op_spans log u)
+  apart_in : (part : List Record) → ((n : ℕ) (o : Op) → IsOpBy part n t o → IsOpBy log n t o)
+      → AreApart (op_spans part t) (op_spans log u)
   apart_in [] up = tt
   apart_in (is.Op v p o ∷ part) up =
       pick (t == v) refl (apart_in part (λ n q by. up n q (op_longer (is.Op v p o) part n t q by)))
@@ -174,8 +179,10 @@ checked_in log c legal (inl h) =
     since (λ p. FitsCheckpoint p c) (λ r p fits. answered_longer r p c fits) log h.is.0 (fits_at log h.is.0 (is.Checkpoint c) legal h.is.1)
 checked_in log c legal (inr none) = let P : ℕ → Type 0 = FitsCheckpoint log in subst P (sym none.0) (may_none log)
 
-pub opened_tc : (log : List Record) (failures start : ℕ) (l : LosersView) (locks : LocksView) → IsLegal log → length log ≤ 281474976710655
-    → AreLosers log l → l.below ≡ length log + 1 → IsRedoStart log start → HoldsOpen log locks → IsTc (opened log failures (start - 1) l locks)
+pub opened_tc : (log : List Record) (failures start : ℕ) (l : LosersView) (locks : LocksView) → IsLegal log
+    → length log ≤ 281474976710655
+    → AreLosers log l → l.below ≡ length log + 1 → IsRedoStart log start → HoldsOpen log locks
+    → IsTc (opened log failures (start - 1) l locks)
 opened_tc log failures start l locks legal few losers all redo holds =
     let c : ℕ = start - 1 in
     let is_low : redo.low ≡ start - 1 = omega (arith, redo.start_is) in

@@ -43,7 +43,8 @@ noted_next : (r : Record) (part : List Record) (keys : List (ℕ × Bytes)) (not
     → (t : ℕ) → listed_spans (keys ++ key_noted r noted) t ≡ spans_if (noted t) (op_spans (r ∷ part) t)
 noted_next (is.Op u p o) part keys noted h t = pick (noted u) refl
   where
-    same_if : (b : Bool) → (u ≡ t → ⊥) → (t == u) ≡ b → spans_if (noted t) (if b then at_key Exclusive (key_of o) ∷ op_spans part t else op_spans part t)
+    same_if : (b : Bool) → (u ≡ t → ⊥) → (t == u) ≡ b
+        → spans_if (noted t) (if b then at_key Exclusive (key_of o) ∷ op_spans part t else op_spans part t)
         ≡ spans_if (noted t) (op_spans part t)
     same_if true apart test = absurd (apart (sym (eqb-true t u test)))
     same_if false apart test = refl
@@ -65,7 +66,8 @@ noted_next (is.Op u p o) part keys noted h t = pick (noted u) refl
 noted_next r part keys noted h t = ap (λ ks. listed_spans ks t) (append-nil keys) ∙ h t
 
 pub noted_more : (log : List Record) (end : ℕ) (r : Record) (keys new : List (ℕ × Bytes)) (noted : ℕ → Option ℕ)
-    → record_at log (end + 1) ≡ Some r → new ≡ keys ++ key_noted r noted → AreNoted log end keys noted → AreNoted log (end + 1) new noted
+    → record_at log (end + 1) ≡ Some r → new ≡ keys ++ key_noted r noted → AreNoted log end keys noted
+    → AreNoted log (end + 1) new noted
 noted_more log end r keys new noted stands is h t =
     ap (λ ks. listed_spans ks t) is ∙ noted_next r (first_part log end) keys noted h t
     ∙ ap (λ p. spans_if (noted t) (op_spans p t)) (sym (part_more log end r stands))

@@ -13,7 +13,8 @@ pub record Holds (slab : Slab OpenTxn) (es : List (ℕ × ℕ)) (os : List OpenT
   pub view : in_slots slab es ≡ os
 
 -- the transactions have the entries' numbers
-pub numbers : (P : ℕ → Type 0) (slab : Slab OpenTxn) (es : List (ℕ × ℕ)) → AreSlots slab es → AllByRecursion (λ (e : ℕ × ℕ). P e.0) es
+pub numbers : (P : ℕ → Type 0) (slab : Slab OpenTxn) (es : List (ℕ × ℕ)) → AreSlots slab es
+    → AllByRecursion (λ (e : ℕ × ℕ). P e.0) es
     → AllByRecursion (λ (o : OpenTxn). P o.txn) (in_slots slab es)
 numbers P slab [] are all = tt
 numbers P slab (e ∷ es) are all =
@@ -27,7 +28,8 @@ as_many slab (e ∷ es) are =
     omega (arith, length-append (in_slots slab es) (listed (get slab e.1)), as_many slab es are.1, one)
 
 module _ (old new : Slab OpenTxn) (Keeps : ℕ → Type 0) (same : (k : ℕ) → Keeps k → get new k ≡ get old k) where
-  pub kept : (es : List (ℕ × ℕ)) → AllByRecursion (λ (d : ℕ × ℕ). Keeps d.1) es → AreSlots old es → Holds new es (in_slots old es)
+  pub kept : (es : List (ℕ × ℕ)) → AllByRecursion (λ (d : ℕ × ℕ). Keeps d.1) es → AreSlots old es
+      → Holds new es (in_slots old es)
   kept [] keeps are = record { are = tt; view = refl }
   kept (e ∷ es) keeps are =
       let rest = kept es keeps.1 are.1 in

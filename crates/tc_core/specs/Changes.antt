@@ -9,7 +9,7 @@ use Rattle.history.specs.declared.record.Record.TheVariants as is
 use Rattle.history.specs.Log.{record_at, answer_of, op_in}
 use Rattle.history.specs.Spans.{Exclusive, at_key}
 use Rattle.history.specs.Spans as law
-use Rattle.log_laws.specs.Laws.{undo_from, prev_in}
+use Rattle.history.specs.Chains.{undo_from, prev_in}
 use Rattle.range_locks.specs.declared.span.Mode.TheVariants.{Shared}
 use Rattle.range_locks.specs.declared.span.Span.{Span}
 use Rattle.range_locks.specs.Locks.{LocksView, spans_of, set_spans}

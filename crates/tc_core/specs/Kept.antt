@@ -7,7 +7,7 @@ use Rattle.history.specs.declared.record.Record.{Record}
 use Rattle.history.specs.declared.record.Record.TheVariants as is
 use Rattle.history.specs.Log.{record_at, answer_of, IsOpen, Requests, IsStepOf}
 use Rattle.history.specs.Legal.{IsLatestOrNone, IsIdle, IsLegal, FitsCheckpoint}
-use Rattle.log_laws.specs.Laws.{undo_from}
+use Rattle.history.specs.Chains.{undo_from}
 use Rattle.history.specs.Spans.{Span, IsRange}
 use Rattle.range_locks.specs.Locks.{LocksView, spans_of}
 use Rattle.tc_core.specs.declared.open_txn.OpenTxn.{OpenTxn}
@@ -75,7 +75,8 @@ pub record IsReading (reads : ℕ) (locks : LocksView) (o : OpenTxn) (r : Read) 
 -- each reader waits for its own read, whose span it holds
 pub record AreReading (reads : ℕ) (os : List OpenTxn) (locks : LocksView) : Type 0 where
   pub each : (t : ℕ) (o : OpenTxn) (r : Read) → find t os ≡ Some o → o.reading ≡ Some r → IsReading reads locks o r
-  pub apart : (t u : ℕ) (o p : OpenTxn) (r q : Read) → find t os ≡ Some o → find u os ≡ Some p → o.reading ≡ Some r → p.reading ≡ Some q
+  pub apart : (t u : ℕ) (o p : OpenTxn) (r q : Read) → find t os ≡ Some o → find u os ≡ Some p → o.reading ≡ Some r
+      → p.reading ≡ Some q
       → r.number ≡ q.number → t ≡ u
 
 -- a session runs from its start on, and redo begins above what was checkpointed and never passes the session's record

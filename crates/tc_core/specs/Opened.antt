@@ -4,7 +4,7 @@ use Rattle.history.specs.declared.record.Record.{Record}
 use Rattle.history.specs.declared.record.Record.TheVariants as is
 use Rattle.history.specs.Log.{record_at, has_ended, step_of}
 use Rattle.history.specs.Legal.{IsLegal}
-use Rattle.log_laws.specs.Laws.{undo_from}
+use Rattle.history.specs.Chains.{undo_from}
 use Rattle.logical_log.specs.Low.{stable_part}
 use Rattle.logical_log.specs.Opening.{IsLogOf}
 use Rattle.range_locks.specs.Locks.{LocksView, set_spans}
@@ -69,7 +69,8 @@ OpenedIsKept =
 
 abbrev pub OpenedIsOpened : Type 0
 OpenedIsOpened =
-    (bytes : List ℕ) (log : List Record) (failures : ℕ) → IsLogOf bytes log → IsOpened bytes failures (opens_as log failures)
+    (bytes : List ℕ) (log : List Record) (failures : ℕ) → IsLogOf bytes log
+    → IsOpened bytes failures (opens_as log failures)
 
 -- what is left of the component where a crash keeps the first records, so many
 abbrev pub crashed : TcView → ℕ → TcView

@@ -15,7 +15,9 @@ lines_grow log n (suc k) (suc m) e =
     (before.0 ++ line_at (suc m) (record_at log (suc m)), ap (λ v. v ++ line_at (suc m) (record_at log (suc m))) before.1 ∙ append_assoc (lines_to log n) before.0 (line_at (suc m) (record_at log (suc m))))
 
 -- the lines up to a record, and a beginning of that record's
-pub cut_in_records : (log : List Record) (a b c : Option (List ℕ)) (n count : ℕ) → n < count → Appends a b (lines_to log n) → IsCut b c (line_at (n + 1) (record_at log (n + 1))) → IsCut a c (lines_to log count)
+pub cut_in_records : (log : List Record) (a b c : Option (List ℕ)) (n count : ℕ) → n < count
+    → Appends a b (lines_to log n) → IsCut b c (line_at (n + 1) (record_at log (n + 1)))
+    → IsCut a c (lines_to log count)
 cut_in_records log a b c n count lt before cut =
     let P : List ℕ → Type 0 = λ v. IsCut a c v in
     let Q : ℕ → Type 0 = λ m. IsCut b c (line_at m (record_at log m)) in

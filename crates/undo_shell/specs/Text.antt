@@ -19,8 +19,8 @@ use Rattle.undo_shell.specs.declared.line.Call.{Call}
 use Rattle.undo_shell.specs.declared.line.Call.TheVariants as call
 use Rattle.undo_shell.specs.declared.line.LeafCall.{LeafCall}
 use Rattle.undo_shell.specs.declared.line.LeafCall.TheVariants as leaf_call
-use Rattle.undo_shell.specs.declared.reply.Reply.{Reply}
-use Rattle.undo_shell.specs.declared.reply.Reply.TheVariants as reply
+use Rattle.undo_shell.specs.declared.line_result.LineResult.{LineResult}
+use Rattle.undo_shell.specs.declared.line_result.LineResult.TheVariants as came
 use Rattle.undo_shell.specs.Script.{Command, begins, writes, gets, scans, calls, treats, steps, settles, tables, shows, lines_of, first_fault, commands_of, onto}
 use Rattle.undo_shell.specs.Ending.{is_failure, settled_text}
 use Rattle.undo_shell.specs.Stored.{table_text}
@@ -96,40 +96,40 @@ event_of call.Commit txn = event.Commit txn
 event_of call.Send txn = event.Send txn
 event_of call.Undo txn = event.Undo txn
 
--- a reply that is one event's output of which this holds
-abbrev pub IsEvent : (Out → Type 0) → Reply → Type 0
-IsEvent P (reply.Event output) = P output
+-- a result that is one event's output of which this holds
+abbrev pub IsEvent : (Out → Type 0) → LineResult → Type 0
+IsEvent P (came.Event output) = P output
 IsEvent P _ = ⊥
 
-abbrev pub IsSettling : Option ℕ → NodeView → Reply → NodeView → Type 0
-IsSettling most before (reply.Settled outs end) after = Settles before most [] outs.items end after
+abbrev pub IsSettling : Option ℕ → NodeView → LineResult → NodeView → Type 0
+IsSettling most before (came.Settled outs end) after = Settles before most [] outs.items end after
 IsSettling most before _ after = ⊥
 
 -- the records as they are, or memory for them was refused, or the data component is down
-abbrev pub IsTable : NodeView → Reply → Type 0
-IsTable view (reply.Table rows) = (view.dc_up ≡ true) × (rows ≡ records_of view)
-IsTable view (reply.Event output) = output ≡ out.Refused (if view.dc_up then refusal.NoMemory else refusal.NotConnected)
+abbrev pub IsTable : NodeView → LineResult → Type 0
+IsTable view (came.Table rows) = (view.dc_up ≡ true) × (rows ≡ records_of view)
+IsTable view (came.Event output) = output ≡ out.Refused (if view.dc_up then refusal.NoMemory else refusal.NotConnected)
 IsTable view _ = ⊥
 
 -- what a line may come to, from a node and labels, and what it leaves
-abbrev pub Replies : Command → NodeView → Bindings → Reply → NodeView → Bindings → Type 0
-Replies (begins label) before old r after new = IsEvent (λ output. Begins label before old output after new) r
-Replies (writes label k key value) before old r after new = IsEvent (λ output. Writes label k key value before old output after) r × AreSame old new
-Replies (gets label key) before old r after new = IsEvent (λ output. Gets label key before old output after) r × AreSame old new
-Replies (scans label low high) before old r after new = IsEvent (λ output. Scans label low high before old output after) r × AreSame old new
-Replies (calls label c) before old r after new = IsEvent (λ output. StepsTo before (event_of c (old label)) output after) r × AreSame old new
-Replies (treats c key) before old r after new = IsEvent (λ output. Treats c key before output after) r × AreSame old new
-Replies (steps e) before old r after new = IsEvent (λ output. StepsTo before e output after) r × AreSame old new
-Replies (settles most) before old r after new = IsSettling most before r after × AreSame old new
-Replies tables before old r after new = IsTable before r × (after ≡ before) × AreSame old new
-Replies (shows p) before old r after new = (r ≡ reply.Shown p) × (after ≡ before) × AreSame old new
+abbrev pub ComesTo : Command → NodeView → Bindings → LineResult → NodeView → Bindings → Type 0
+ComesTo (begins label) before old r after new = IsEvent (λ output. Begins label before old output after new) r
+ComesTo (writes label k key value) before old r after new = IsEvent (λ output. Writes label k key value before old output after) r × AreSame old new
+ComesTo (gets label key) before old r after new = IsEvent (λ output. Gets label key before old output after) r × AreSame old new
+ComesTo (scans label low high) before old r after new = IsEvent (λ output. Scans label low high before old output after) r × AreSame old new
+ComesTo (calls label c) before old r after new = IsEvent (λ output. StepsTo before (event_of c (old label)) output after) r × AreSame old new
+ComesTo (treats c key) before old r after new = IsEvent (λ output. Treats c key before output after) r × AreSame old new
+ComesTo (steps e) before old r after new = IsEvent (λ output. StepsTo before e output after) r × AreSame old new
+ComesTo (settles most) before old r after new = IsSettling most before r after × AreSame old new
+ComesTo tables before old r after new = IsTable before r × (after ≡ before) × AreSame old new
+ComesTo (shows p) before old r after new = (r ≡ came.Shown p) × (after ≡ before) × AreSame old new
 
--- what is printed of a reply, where this is the node after it
-abbrev pub reply_text : Reply → NodeView → List ℕ
-reply_text (reply.Event output) view = out_text output
-reply_text (reply.Settled outs end) view = settled_text outs.items end
-reply_text (reply.Table rows) view = table_text rows
-reply_text (reply.Shown p) view = part_text p view
+-- what is printed of a line's result, where this is the node after it
+abbrev pub result_text : LineResult → NodeView → List ℕ
+result_text (came.Event output) view = out_text output
+result_text (came.Settled outs end) view = settled_text outs.items end
+result_text (came.Table rows) view = table_text rows
+result_text (came.Shown p) view = part_text p view
 
 abbrev pub out_ends : Out → Bool
 out_ends (out.Refused r) = is_failure r
@@ -139,15 +139,15 @@ abbrev pub settling_ends : Result Bool Refusal → Bool
 settling_ends (Ok done) = false
 settling_ends (Err r) = is_failure r
 
-abbrev pub ends_run : Reply → Bool
-ends_run (reply.Event output) = out_ends output
-ends_run (reply.Settled outs end) = settling_ends end
+abbrev pub ends_run : LineResult → Bool
+ends_run (came.Event output) = out_ends output
+ends_run (came.Settled outs end) = settling_ends end
 ends_run _ = false
 
--- the reply's text is written and the run goes on, or it ends: by the reply, or where a write failed
-abbrev pub Shows : Bool → Reply → NodeView → Option (List ℕ) → Option (List ℕ) → Type 0
-Shows true r view old new = Appends old new (reply_text r view) × (ends_run r ≡ false)
-Shows false r view old new = (Appends old new (reply_text r view) × (ends_run r ≡ true)) ⊎ IsCut old new (reply_text r view)
+-- the text of the result is written and the run goes on, or it ends: by the result, or where a write failed
+abbrev pub Shows : Bool → LineResult → NodeView → Option (List ℕ) → Option (List ℕ) → Type 0
+Shows true r view old new = Appends old new (result_text r view) × (ends_run r ≡ false)
+Shows false r view old new = (Appends old new (result_text r view) × (ends_run r ≡ true)) ⊎ IsCut old new (result_text r view)
 
 -- these bytes are a beginning of the text
 abbrev pub IsBeginning : List ℕ → List ℕ → Type 0
@@ -158,11 +158,18 @@ pub data Runs : List Command → NodeView → Bindings → List ℕ → ℕ → 
   -- no line is left
   done : (view : NodeView) (labels : Bindings) → Runs [] view labels [] 0
   -- the text of a line, and then of those behind it
-  goes_on : (c : Command) (cs : List Command) (view : NodeView) (labels : Bindings) (r : Reply) (after : NodeView) (next : Bindings) (text : List ℕ) (status : ℕ) → Replies c view labels r after next → ends_run r ≡ false → Runs cs after next text status → Runs (c ∷ cs) view labels (reply_text r after ++ text) status
+  goes_on : (c : Command) (cs : List Command) (view : NodeView) (labels : Bindings) (r : LineResult) (after : NodeView)
+      (next : Bindings) (text : List ℕ) (status : ℕ)
+      → ComesTo c view labels r after next → ends_run r ≡ false → Runs cs after next text status
+      → Runs (c ∷ cs) view labels (result_text r after ++ text) status
   -- memory or a device failed: the text of that line is the last
-  fails : (c : Command) (cs : List Command) (view : NodeView) (labels : Bindings) (r : Reply) (after : NodeView) (next : Bindings) → Replies c view labels r after next → ends_run r ≡ true → Runs (c ∷ cs) view labels (reply_text r after) 3
+  fails : (c : Command) (cs : List Command) (view : NodeView) (labels : Bindings) (r : LineResult) (after : NodeView)
+      (next : Bindings)
+      → ComesTo c view labels r after next → ends_run r ≡ true → Runs (c ∷ cs) view labels (result_text r after) 3
   -- a write failed: a beginning of that line's text is the last
-  is_cut : (c : Command) (cs : List Command) (view : NodeView) (labels : Bindings) (r : Reply) (after : NodeView) (next : Bindings) (text : List ℕ) → Replies c view labels r after next → IsBeginning text (reply_text r after) → Runs (c ∷ cs) view labels text 3
+  is_cut : (c : Command) (cs : List Command) (view : NodeView) (labels : Bindings) (r : LineResult) (after : NodeView)
+      (next : Bindings) (text : List ℕ)
+      → ComesTo c view labels r after next → IsBeginning text (result_text r after) → Runs (c ∷ cs) view labels text 3
 
 -- the text of these lines is written
 pub record WritesRun (commands : List Command) (view : NodeView) (labels : Bindings) (old new : Option (List ℕ)) (status : ℕ) : Type 0 where

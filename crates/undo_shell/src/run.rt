@@ -85,6 +85,6 @@ fn run_line<W: io::Write>(shell: &mut Shell, line: &[u8], writer: &mut W) -> boo
     let Some(line) = request(line) else {
         return true;
     };
-    let reply = shell.perform(&line);
-    reply.show(&shell.world, writer)
+    let came = shell.perform(&line);
+    came.show(&shell.world, writer)
 }

@@ -9,11 +9,11 @@ ghost use Rattle.tc_core.specs.Causes.{begin_refusal};
 ghost use Rattle.world.specs.Node.{fresh_node, if_up};
 ghost use Rattle.undo_shell.specs.Labels.{number_in, unbound, AreSame};
 ghost use Rattle.undo_shell.specs.Script.{meaning};
-ghost use Rattle.undo_shell.specs.Text.{Replies, Begins, Writes, Gets, Scans, Treats, IsTable, IsSettling, event_of, leaf_event, op_of, length_fault, keys_fault};
+ghost use Rattle.undo_shell.specs.Text.{ComesTo, Begins, Writes, Gets, Scans, Treats, IsTable, IsSettling, event_of, leaf_event, op_of, length_fault, keys_fault};
 
 use crate::label::{Label, Labels};
 use crate::line::{Call, Kind, LeafCall, Line};
-use crate::reply::Reply;
+use crate::line_result::LineResult;
 use codec::Rows;
 use record_key::{Key, Op, Refusal, Value};
 use std::alloc::Global;
@@ -42,28 +42,28 @@ impl Shell {
     }
 
     /// Runs the line.
-    pub fn perform(&mut self, line: &Line<'_>) -> Reply
-        ensures { Replies (meaning line.now) self.old.world (number_in self.old.labels) result self.new.world (number_in self.new.labels) }
+    pub fn perform(&mut self, line: &Line<'_>) -> LineResult
+        ensures { ComesTo (meaning line.now) self.old.world (number_in self.old.labels) result self.new.world (number_in self.new.labels) }
     {
         match line {
-            Line::Begin(label) => Reply::Event(self.begin(label)),
+            Line::Begin(label) => LineResult::Event(self.begin(label)),
             Line::Write {
                 label,
                 kind,
                 key,
                 value,
-            } => Reply::Event(self.write(label, *kind, key, value)),
-            Line::Get { label, key } => Reply::Event(self.get(label, key)),
-            Line::Scan { label, low, high } => Reply::Event(self.scan(label, low, *high)),
+            } => LineResult::Event(self.write(label, *kind, key, value)),
+            Line::Get { label, key } => LineResult::Event(self.get(label, key)),
+            Line::Scan { label, low, high } => LineResult::Event(self.scan(label, low, *high)),
             Line::Call { label, call } => {
                 let event = event_of(*call, self.labels.number(label));
-                Reply::Event(self.world.step(&event))
+                LineResult::Event(self.world.step(&event))
             }
-            Line::Leaf { call, key } => Reply::Event(self.treat(*call, key)),
-            Line::Step(event) => Reply::Event(self.world.step(event)),
+            Line::Leaf { call, key } => LineResult::Event(self.treat(*call, key)),
+            Line::Step(event) => LineResult::Event(self.world.step(event)),
             Line::Settle(most) => settled(self.alloc, &mut self.world, *most),
             Line::Table => self.table(),
-            Line::Show(part) => Reply::Shown(*part),
+            Line::Show(part) => LineResult::Shown(*part),
         }
     }
 
@@ -119,12 +119,12 @@ impl Shell {
     }
 
     /// The records as they are.
-    fn table(&self) -> Reply
+    fn table(&self) -> LineResult
         ensures { IsTable self.now.world result }
     {
         match self.world.rows() {
-            Ok(rows) => Reply::Table(Rows::new(rows)),
-            Err(refusal) => Reply::Event(Out::Refused(refusal)),
+            Ok(rows) => LineResult::Table(Rows::new(rows)),
+            Err(refusal) => LineResult::Event(Out::Refused(refusal)),
         }
     }
 
@@ -211,10 +211,10 @@ fn event_of(call: Call, txn: u64) -> Event
 }
 
 /// Lets the node work until nothing is left to do, or for so many rounds at most.
-fn settled(alloc: Global, world: &mut World, most: Option<u64>) -> Reply
+fn settled(alloc: Global, world: &mut World, most: Option<u64>) -> LineResult
     ensures { IsSettling most world.old result world.new }
 {
     let mut outs = Vec::new(alloc);
     let end = settle(world, most, &mut outs);
-    Reply::Settled { outs, end }
+    LineResult::Settled { outs, end }
 }

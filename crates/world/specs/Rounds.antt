@@ -49,7 +49,7 @@ pub record IsUndoing (w : NodeView) (waiting : Option ℕ) : Type 0 where
   pub session : w.dc.session ≡ w.tc.session
 
 -- both components run, in one session, and nothing is left to recover
-pub record IsServing (w : NodeView) : Type 0 where
+pub record AreRunning (w : NodeView) : Type 0 where
   pub running : w.tc.phase ≡ phase.Running
   pub up : AreUp w
   pub session : w.dc.session ≡ w.tc.session
@@ -92,9 +92,9 @@ IsNext w round.RestartTc = (w.dc_up ≡ true) × (w.tc_up ≡ false)
 IsNext w round.Connect = AreUp w × IsApart w
 IsNext w round.Recover = AreUp w × IsRecovering w.tc.stable w.tc.phase × (w.dc.session ≡ w.tc.session)
 IsNext w round.Lose = IsUndoing w None
-IsNext w (round.Exchange t) = IsServing w × (((n : ℕ) × IsDue w.tc t n × (n ≤ w.tc.stable)) ⊎ IsReader w.tc t)
-IsNext w (round.Undo t) = IsServing w × IsRolling w.tc t
-IsNext w round.Force = (IsServing w × IsForced w.tc) ⊎ ((n : ℕ) × IsUndoing w (Some n) × (w.tc.stable < n))
+IsNext w (round.Exchange t) = AreRunning w × (((n : ℕ) × IsDue w.tc t n × (n ≤ w.tc.stable)) ⊎ IsReader w.tc t)
+IsNext w (round.Undo t) = AreRunning w × IsRolling w.tc t
+IsNext w round.Force = (AreRunning w × IsForced w.tc) ⊎ ((n : ℕ) × IsUndoing w (Some n) × (w.tc.stable < n))
 
 -- the round of a transaction that waits for this record's answer, or for a read
 abbrev pub round_for : ℕ → ℕ → Option ℕ → Round
@@ -160,7 +160,8 @@ Does old events before after (Err r) new = Stopped old events before after r new
 -- the event sends a request, and the request is replied to
 pub record IsExchange (w : NodeView) (e : Event) : Type 0 where
   pub sent : (o : Out) (mid : NodeView) → StepsTo w e o mid → IsDone o → length mid.requests ≡ length w.requests + 1
-  pub replied : (o p : Out) (mid after : NodeView) → StepsTo w e o mid → IsDone o → StepsTo mid (event.Request (length w.requests + 1)) p after → IsDone p
+  pub replied : (o p : Out) (mid after : NodeView) → StepsTo w e o mid → IsDone o
+      → StepsTo mid (event.Request (length w.requests + 1)) p after → IsDone p
       → length after.replies ≡ length w.replies + 1
 
 -- only want of memory or of numbers, or a device that failed, stops a round

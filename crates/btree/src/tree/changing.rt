@@ -1,8 +1,9 @@
 //! Leaves changed in their place, by the nodes above them.
-ghost use Rattle.std.specs.Prelude.{◌≡◌, ◌<◌, ◌^◌, length, get_or, IsOkUnless};
+ghost use Rattle.std.specs.Prelude.{◌≡◌, ◌<◌, ◌^◌, false, length, get_or, IsOkUnless};
 ghost use Rattle.record_key.specs.Table.{key_of};
 ghost use Rattle.page.specs.Leaf.{first};
 ghost use Rattle.page.specs.Parting.{lower_of};
+ghost use Rattle.btree.specs.Choosing.{summary_of};
 ghost use Rattle.btree.specs.Finding.{IsInside};
 ghost use Rattle.btree.specs.Nodes.{IsChangedAt, IsWhole, raised_node};
 ghost use Rattle.btree.specs.Performs.{IsAskedBelow};
@@ -21,17 +22,31 @@ impl Node {
         ensures asked { IsAskedBelow self.old number op.now result self.new }
         ensures memory { IsOkUnless result Refusal.NoMemory }
     {
+        let mut done = Err(Refusal::NoMemory);
+        self.perform_into(number, op, &mut done);
+        done
+    }
+
+    /// The same, with what came of it written where the caller has a place for it, since each level that handed it up
+    /// would copy it. Whether the node's summary is another now: if not, those above it stay.
+    fn perform_into(&mut self, number: u64, op: &Op, done: &mut Result<Done, Refusal>) -> bool
+        requires whole { IsWhole self.old }
+        requires inside { IsInside self.old.leaves (key_of op.now) }
+        ensures asked { IsAskedBelow self.old number op.now done.new self.new }
+        ensures memory { IsOkUnless done.new Refusal.NoMemory }
+        ensures same { result ≡ false → summary_of self.new.leaves ≡ summary_of self.old.leaves }
+    {
         match &mut self.below {
             Below::Leaf(leaf) => {
-                let done = leaf.perform(number, op);
-                self.summary = Summary::of_leaf(leaf);
-                done
+                *done = leaf.perform(number, op);
+                self.summary.renew(Summary::of_leaf(leaf))
             }
             Below::Inner(children) => {
-                let (i, _before) = node_of(children.as_slice(), op.key());
-                let done = children[i].perform(number, op);
-                self.summary = summary_in(children.as_slice());
-                done
+                let i = node_of(children.as_slice(), op.key());
+                if !children[i].perform_into(number, op, done) {
+                    return false;
+                }
+                self.summary.renew(summary_in(children.as_slice()))
             }
         }
     }

@@ -1,5 +1,5 @@
 //! Nodes beside one another, at one depth.
-ghost use Rattle.std.specs.Prelude.{◌≡◌, ◌+◌, ◌<◌, ◌^◌, length, take};
+ghost use Rattle.std.specs.Prelude.{◌≡◌, ◌<◌, ◌^◌, length};
 ghost use Rattle.btree.specs.Choosing.{summary_of};
 ghost use Rattle.btree.specs.Nodes.{AreChildren, height_in, low_of, under};
 ghost use Rattle.btree.specs.Finding.{IsIn, IsNodeOf};
@@ -61,18 +61,20 @@ pub fn node_at(nodes: &[Node], place: usize) -> (usize, usize)
     (i, rest)
 }
 
-/// The node below which the key's leaf lies, and how many leaves lie before it.
-pub fn node_of(nodes: &[Node], key: &Key) -> (usize, usize)
-    requires some { 0 < length nodes.now }
-    requires counted { length (under nodes.now) < 2 ^ 64 }
-    ensures node { IsNodeOf nodes.now key.now result.0 }
-    ensures before { result.1 ≡ length (under (take result.0 nodes.now)) }
+/// The node below which the key's leaf lies, found by halves.
+pub fn node_of(nodes: &[Node], key: &Key) -> usize
+    requires { 0 < length nodes.now }
+    ensures { IsNodeOf nodes.now key.now result }
 {
     let mut i = 0;
-    let mut before = 0;
-    while i + 1 < nodes.len() && nodes[i + 1].begins_at_most(key) {
-        before += nodes[i].count();
-        i += 1;
+    let mut end = nodes.len();
+    while end - i > 1 {
+        let middle = i + (end - i) / 2;
+        if nodes[middle].begins_at_most(key) {
+            i = middle;
+        } else {
+            end = middle;
+        }
     }
-    (i, before)
+    i
 }

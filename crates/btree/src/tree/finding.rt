@@ -4,7 +4,7 @@ ghost use Rattle.page.specs.Leaf.{first};
 ghost use Rattle.btree.specs.Nodes.{IsWhole};
 ghost use Rattle.btree.specs.Finding.{IsLeafOf, IsPlaceOf};
 
-use super::children::{node_at, node_of};
+use super::children::{count_in, node_at, node_of};
 use super::node::{Below, Node};
 use page::Leaf;
 use record_key::Key;
@@ -32,7 +32,7 @@ impl Node {
         match &self.below {
             Below::Leaf(leaf) => leaf,
             Below::Inner(children) => {
-                let (i, _before) = node_of(children.as_slice(), key);
+                let i = node_of(children.as_slice(), key);
                 children[i].leaf_of(key)
             }
         }
@@ -46,7 +46,8 @@ impl Node {
         match &self.below {
             Below::Leaf(_) => 0,
             Below::Inner(children) => {
-                let (i, before) = node_of(children.as_slice(), key);
+                let i = node_of(children.as_slice(), key);
+                let before = count_in(&children[..i]);
                 before + children[i].place_of(key)
             }
         }

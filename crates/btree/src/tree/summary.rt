@@ -1,12 +1,12 @@
 //! What a node keeps of the leaves below it, so that the leaf that is tended first is found by one descent.
-ghost use Rattle.std.specs.Prelude.{◌≡◌, [], ◌∷◌};
+ghost use Rattle.std.specs.Prelude.{◌≡◌, false, [], ◌∷◌};
 ghost use Rattle.btree.specs.Choosing.{both_of, summary_of};
 
 use crate::choosing::{is_large, may_join};
 use page::Leaf;
 
 /// Whether leaves are to be tended, and what decides it where others stand beside them.
-#[derive(Clone, Copy)]
+#[derive(Clone, Copy, PartialEq, Eq)]
 pub struct Summary {
     /// Whether a leaf is large.
     pub large: bool,
@@ -55,5 +55,15 @@ impl Summary {
             first_count: self.first_count,
             last_count: after.last_count,
         }
+    }
+
+    /// Puts another in its place. Whether it is not the same.
+    pub fn renew(&mut self, other: Summary) -> bool
+        ensures other { self.new ≡ other }
+        ensures same { result ≡ false → other ≡ self.old }
+    {
+        let differs = *self != other;
+        *self = other;
+        differs
     }
 }

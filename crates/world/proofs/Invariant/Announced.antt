@@ -3,8 +3,7 @@ use Rattle.std.proofs.Common.{◌≡◌, ℕ, ◌+◌, ◌-◌, ◌≤◌, List,
 use Rattle.std.specs.Prelude.{drop}
 use Rattle.std.proofs.lemmas.List.{length-drop, drop-drop}
 use Rattle.history.specs.declared.record.Record.{Record}
-use Rattle.history.specs.Legal.{FitsCheckpoint}
-use Rattle.log_laws.specs.Reading.{AreAnswered}
+use Rattle.history.specs.Legal.{FitsCheckpoint, AreAnswered}
 use Rattle.logical_log.specs.Low.{stable_part}
 use Rattle.logical_log.proofs.Answered.{answered_whole}
 use Rattle.tc_core.specs.TcView.{TcView}

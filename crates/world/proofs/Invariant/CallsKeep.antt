@@ -87,7 +87,9 @@ begin_keeps old new (Ok t) k h =
     subst IsTc (sym h.2) (keeps_begin old k (grind (arith, nat_tests, two.0)) two.1)
 begin_keeps old new (Err r) k h = refused_keeps (begin_refusal old) true true old new r k h
 
-taking_keeps : (cause spent : Option Refusal) (device : Bool) (old new : TcView) (t : ℕ) (s : Rattle.history.specs.Spans.Span) (r : Refusal) → IsTc old → RefusesTaking cause spent device old t s r new → IsTc new
+taking_keeps : (cause spent : Option Refusal) (device : Bool) (old new : TcView) (t : ℕ)
+    (s : Rattle.history.specs.Spans.Span) (r : Refusal)
+    → IsTc old → RefusesTaking cause spent device old t s r new → IsTc new
 taking_keeps (Some c) spent device old new t s r k h = subst IsTc (sym h.1) k
 taking_keeps None spent device old new t s r k (inl h) = subst IsTc (sym h.3) k
 taking_keeps None spent device old new t s r k (inr h) = refused_keeps spent true device old new r k h.1

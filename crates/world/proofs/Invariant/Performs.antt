@@ -31,7 +31,7 @@ use Rattle.world.proofs.Invariant.AtKeys.{own_leaf}
 use Rattle.world.proofs.Invariant.Carries.{Carries, keeps_dc}
 
 -- what came of a request
-pub record IsServing (w : NodeView) (reply : Option Reply) (dc : DcView) : Type 0 where
+pub record KeepsServing (w : NodeView) (reply : Option Reply) (dc : DcView) : Type 0 where
   pub kept : IsKept (with_dc w dc)
   pub given : IfSome reply (IsGiven w.tc dc)
 
@@ -96,7 +96,7 @@ module _ (w : NodeView) (s n : ℕ) (o : Op) (k : IsKept w) (is : IsDc (performs
     written_low = k.true_to.written_low;
   }
 
-  pub performs_next : IsServing w (Some (says.Answered s n (Some (answer_in old.rows o)))) (performs w.dc n o)
+  pub performs_next : KeepsServing w (Some (says.Answered s n (Some (answer_in old.rows o)))) (performs w.dc n o)
   performs_next = record {
     kept = keeps_dc w (performs w.dc n o) k is carries recoverable true_to (sent.1, k.performed) k.answered
         (record { begun = k.sessions.begun; served = served_alike w.tc.phase w.tc.session w.tc.log w.dc (performs w.dc n o) refl refl refl captures_more k.sessions.served });

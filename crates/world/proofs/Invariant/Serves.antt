@@ -41,7 +41,7 @@ use Rattle.world.specs.Node.{NodeView, with_dc}
 use Rattle.world.specs.Kept.{IsKept, IsBegun, IsAnsweredTo, IsReadTrue, IsSent, IsValue, AreRows, IsGiven, IsServed, IsTrueTo}
 use Rattle.world.proofs.Invariant.Repeats.{repeated}
 use Rattle.world.proofs.Invariant.Carries.{keeps_dc}
-use Rattle.world.proofs.Invariant.Performs.{IsServing, performs_next}
+use Rattle.world.proofs.Invariant.Performs.{KeepsServing, performs_next}
 use Rattle.world.proofs.Machine.Reading.{read_logged}
 use Rattle.world.proofs.Invariant.Running.{run_is, run_stored, let_runs, let_past, redo_goes_on}
 use Rattle.world.proofs.Invariant.Systems.{LeavesCarry, same_leaves, keeps_system}
@@ -122,11 +122,11 @@ redo_ends w s k is running sent =
 
 -- nothing changes at the data component
 stays : (w : NodeView) (dc : DcView) (reply r : Option Reply) → IsKept w → reply ≡ r → dc ≡ w.dc
-    → IfSome r (IsGiven w.tc w.dc) → IsServing w reply dc
+    → IfSome r (IsGiven w.tc w.dc) → KeepsServing w reply dc
 stays w dc reply r k same dc_same given = rw (same, dc_same) (record { kept = k; given = given })
 
-goes : (w : NodeView) (dc new : DcView) (reply r : Option Reply) → reply ≡ r → dc ≡ new → IsServing w r new
-    → IsServing w reply dc
+goes : (w : NodeView) (dc new : DcView) (reply r : Option Reply) → reply ≡ r → dc ≡ new → KeepsServing w r new
+    → KeepsServing w reply dc
 goes w dc new reply r same dc_same h = rw (same, dc_same) h
 
 -- all leaves are raised
@@ -188,10 +188,10 @@ reads_rows w s n low high k past sent = record {
 
 pub serves : (w : NodeView) (q : Request) (reply : Option Reply) (dc : DcView) → IsKept w → IsDc dc
     → IsRecoverable dc.system → Checks w.dc.system dc.system → IsSent w.tc w.dc q → serve_refusal w.dc q ≡ None
-    → Serves w.dc q reply dc → IsServing w reply dc
+    → Serves w.dc q reply dc → KeepsServing w reply dc
 serves w (asks.Connect s) reply dc k is rec checks sent allowed h = pick (runs w.dc s) refl h.1
   where
-    pick : (b : Bool) → runs w.dc s ≡ b → MatchBool b (dc ≡ w.dc) (dc ≡ connected w.dc s) → IsServing w reply dc
+    pick : (b : Bool) → runs w.dc s ≡ b → MatchBool b (dc ≡ w.dc) (dc ≡ connected w.dc s) → KeepsServing w reply dc
     pick true running same = stays w dc reply (Some (says.Connected s)) k h.0 same (omega (arith, run_stored w.dc s k.dc running))
     pick false isnt same =
         let flag : nat_lt w.dc.stored s ≡ true = connect_allowed (runs w.dc s) (nat_lt w.dc.stored s) _ _ allowed isnt in
@@ -202,7 +202,7 @@ serves w (asks.Perform s n o) reply dc k is rec checks sent allowed h = pick (ca
   where
     pick : (b : Bool) → captures_at w.dc (key_of o) n ≡ b
         → MatchBool b ((reply ≡ Some (says.Answered s n (saved_in (leaf_at (leaves w.dc) (key_of o)).ab.entries n))) × (dc ≡ w.dc))
-        ((reply ≡ Some (says.Answered s n (Some (answer_in (leaf_at (leaves w.dc) (key_of o)).rows o)))) × (dc ≡ performs w.dc n o)) → IsServing w reply dc
+        ((reply ≡ Some (says.Answered s n (Some (answer_in (leaf_at (leaves w.dc) (key_of o)).rows o)))) × (dc ≡ performs w.dc n o)) → KeepsServing w reply dc
     pick true captured h =
         stays w dc reply (Some (says.Answered s n (saved_in (leaf_at (leaves w.dc) (key_of o)).ab.entries n))) k h.0 h.1 (repeated w s n o k sent captured)
     pick false isnt h =

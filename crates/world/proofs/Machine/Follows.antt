@@ -98,7 +98,9 @@ left_refused (Some c) memory device old r new h = inl h.1
 left_refused None memory device old r new (inl h) = inl h.2
 left_refused None memory device old r new (inr h) = inr h.2
 
-left_taking : (cause spent : Option Refusal) (device : Bool) (old : TcView) (t : ℕ) (s : Span) (r : Refusal) (new : TcView) → RefusesTaking cause spent device old t s r new → IsLeft old new
+left_taking : (cause spent : Option Refusal) (device : Bool) (old : TcView) (t : ℕ) (s : Span) (r : Refusal)
+    (new : TcView)
+    → RefusesTaking cause spent device old t s r new → IsLeft old new
 left_taking (Some c) spent device old t s r new h = inl h.1
 left_taking None spent device old t s r new (inl h) = inl h.3
 left_taking None spent device old t s r new (inr h) = left_refused spent true device old r new h.1

@@ -42,7 +42,7 @@ use Rattle.world.specs.Simulation.{StepsIf, lines_of, Happens, Run, Leads, Leads
 use Rattle.world.proofs.Invariant.CallsKeep.{fresh_tc}
 use Rattle.simulation.proofs.Told.{fresh_stands}
 use Rattle.world.proofs.Invariant.ByNumber.{all_at}
-use Rattle.world.proofs.Invariant.Performs.{IsServing}
+use Rattle.world.proofs.Invariant.Performs.{KeepsServing}
 use Rattle.world.proofs.Invariant.Serves.{serves, stops_serving}
 use Rattle.world.proofs.Invariant.Tends.{splits_keep, merges_keep, tends_keep, flushes_keep}
 use Rattle.world.proofs.Invariant.Keeps.{with_reply, keeps_given}
@@ -57,7 +57,7 @@ sent_there : (old : NodeView) (i : ℕ) (given : Result (Option Reply) Refusal) 
 sent_there old i given dc k h = all_at (IsSent old.tc old.dc) old.requests i h.request k.sent h.found
 
 served : (old : NodeView) (i : ℕ) (reply : Option Reply) (dc : DcView) → IsKept old → IsDc dc
-    → Served old i (Ok reply) dc → IsServing old reply dc
+    → Served old i (Ok reply) dc → KeepsServing old reply dc
 served old i reply dc k is h =
     serves old h.request reply dc k is (recoverable_served old.dc h.request (Ok reply) dc k.dc k.recoverable h.gives)
     (checked_served old.dc h.request (Ok reply) dc k.dc k.recoverable h.gives) (sent_there old i (Ok reply) dc k h) h.gives.0 h.gives.1
@@ -270,14 +270,16 @@ run_push m [] (p ∷ os) n e o k run happens = absurd run
 run_push m (d ∷ es) [] n e o k run happens = absurd run
 run_push m (d ∷ es) (p ∷ os) n e o k run happens = (run.0, run.1, run_push run.0 es os n e o k run.2 happens)
 
-leads_push : (old : NodeView) (es : List Event) (os : List Out) (mid : NodeView) (e : Event) (o : Out) (new : NodeView) → LeadsAll old es os mid → Leads mid e o new
+leads_push : (old : NodeView) (es : List Event) (os : List Out) (mid : NodeView) (e : Event) (o : Out) (new : NodeView)
+    → LeadsAll old es os mid → Leads mid e o new
     → LeadsAll old (es ++ e ∷ []) (os ++ o ∷ []) new
 leads_push old es os mid e o new all one m stands =
     let first = all m stands in
     let last = one first.0 first.2 in
     (last.0, run_push m es os first.0 e o last.0 first.1 last.1, last.2)
 
-pub leads_more : (old : NodeView) (es : List Event) (i : ℕ) (os : List Out) (mid : NodeView) (e : Event) (o : Out) (new : NodeView)
+pub leads_more : (old : NodeView) (es : List Event) (i : ℕ) (os : List Out) (mid : NodeView) (e : Event) (o : Out)
+    (new : NodeView)
     → i < length es → e ≡ get_or es i e → LeadsAll old (take i es) os mid → Leads mid e o new
     → LeadsAll old (take (i + 1) es) (os ++ o ∷ []) new
 leads_more old es i os mid e o new lt at all one = rw (take_more es i e lt, ← at) (leads_push old (take i es) os mid e o new all one)
@@ -291,7 +293,8 @@ chain_push w [] (p ∷ os) mid e o new chain step = absurd chain
 chain_push w (d ∷ es) [] mid e o new chain step = absurd chain
 chain_push w (d ∷ es) (p ∷ os) mid e o new chain step = (chain.0, chain.1, chain_push chain.0 es os mid e o new chain.2 step)
 
-pub chain_more : (w : NodeView) (es : List Event) (i : ℕ) (os : List Out) (mid : NodeView) (e : Event) (o : Out) (new : NodeView)
+pub chain_more : (w : NodeView) (es : List Event) (i : ℕ) (os : List Out) (mid : NodeView) (e : Event) (o : Out)
+    (new : NodeView)
     → i < length es → e ≡ get_or es i e → Chain w (take i es) os mid → StepsTo mid e o new
     → Chain w (take (i + 1) es) (os ++ o ∷ []) new
 chain_more w es i os mid e o new lt at chain step = rw (take_more es i e lt, ← at) (chain_push w (take i es) os mid e o new chain step)

@@ -9,7 +9,7 @@ use Rattle.history.specs.History.{plain}
 use Rattle.history.specs.Log.{record_at, answer_of, is_crossed, Requests, hist}
 use Rattle.history.specs.Legal.{IsLegal}
 use Rattle.history.specs.Values.{HasRightAnswers}
-use Rattle.history.specs.Honest.{done_on, value_of}
+use Rattle.history.specs.Honest.{numbered_on, value_of}
 use Rattle.log_laws.proofs.Records.{op_request}
 use Rattle.log_laws.proofs.Values.{values_alike}
 use Rattle.log_laws.proofs.Cancel.{cancel}
@@ -20,7 +20,7 @@ use Rattle.page.proofs.OnKey.{all_done, key_on}
 pub plain_at : (log : List Record) (key : Bytes) (cap : ℕ → Bool) → IsLegal log → HasRightAnswers log
     → ((n : ℕ) (o : Op) → Requests log n o → key_of o ≡ key → IsSome (answer_of log n))
     → ((n : ℕ) (o : Op) → Requests log n o → key_of o ≡ key → cap n ≡ true)
-    → value_of cap (done_on key log) ≡ get (plain (hist log)) key
+    → value_of cap (numbered_on key log) ≡ get (plain (hist log)) key
 plain_at log key cap legal right answered captured =
     value_of-captured log key cap (all_done (λ n. cap n ≡ true) key log captured) ∙ cancel log legal right key
     ∙ values_alike key (λ n. not (is_crossed log n)) (λ n. is_some (answer_of log n) && not (is_crossed log n)) log

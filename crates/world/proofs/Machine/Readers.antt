@@ -17,7 +17,8 @@ pub record IsAsked (os : List OpenTxn) (n : ℕ) (s : Span) : Type 0 where
 -- of the reads up to this number only those are waited for that were before
 abbrev pub NoneAnew : ℕ → List OpenTxn → List OpenTxn → Type 0
 NoneAnew reads os news =
-    (t : ℕ) (o : OpenTxn) (n : ℕ) (s : Span) → find t news ≡ Some o → o.reading ≡ Some (record { number = n; span = s }) → n ≤ reads → IsAsked os n s
+    (t : ℕ) (o : OpenTxn) (n : ℕ) (s : Span) → find t news ≡ Some o → o.reading ≡ Some (record { number = n; span = s })
+    → n ≤ reads → IsAsked os n s
 
 pub some_txn : (x : Option OpenTxn) (o p : OpenTxn) → x ≡ Some o → x ≡ Some p → o ≡ p
 some_txn x o p a b = let e : Some o ≡ Some p = sym a ∙ b in cc

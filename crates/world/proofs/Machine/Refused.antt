@@ -137,7 +137,8 @@ rests_there w t h =
     not_not false h = absurd (true≢false h)
 
 -- a call that is refused as its causes say
-refused_as : (w new : TcView) (m : Machine) (call : Call) (cause : Option Refusal) (memory device : Bool) (r : Refusal) → StandsFor (clients w) m
+refused_as : (w new : TcView) (m : Machine) (call : Call) (cause : Option Refusal) (memory device : Bool) (r : Refusal)
+    → StandsFor (clients w) m
     → ((c : Refusal) → cause ≡ Some c → IsRefusal m call c) → Refuses cause memory device w r new
     → RefusesSo m call r new
 refused_as w new m call (Some c) memory device r stands line h =
@@ -191,7 +192,9 @@ pub begin_refused : (w new : TcView) (m : Machine) (r : Refusal) → IsTc w → 
 begin_refused w new m r k stands h = refused_as w new m ToBegin (begin_refusal w) true true r stands (λ c. begin_cause w m c k stands) h
 
 -- a call that takes a span
-taking_refused : (w new : TcView) (m : Machine) (call : Call) (t : ℕ) (s : Span) (spent : Bool) (device : Bool) (r : Refusal) → IsTc w → StandsFor (clients w) m
+taking_refused : (w new : TcView) (m : Machine) (call : Call) (t : ℕ) (s : Span) (spent : Bool) (device : Bool)
+    (r : Refusal)
+    → IsTc w → StandsFor (clients w) m
     → caller call ≡ Some t → wanted call ≡ Some (t, s)
     → RefusesTaking (idle_refusal w t) (first_of ((spent, no.NumbersSpent) ∷ [])) device w t s r new
     → RefusesSo m call r new
@@ -226,7 +229,8 @@ pub read_refused : (w new : TcView) (m : Machine) (t : ℕ) (s : Keys) (r : Refu
 read_refused w new m t s r k stands h = by (ends_above (shared s).hi (shared s).lo) refl h
   where
     by : (b : Bool) → ends_above (shared s).hi (shared s).lo ≡ b
-        → RefusesTaking (or_else (first_of ((not b, no.BadRange) ∷ [])) (idle_refusal w t)) (reads_spent w.reads) false w t (shared s) r new → RefusesSo m (ToRead t (query_of s)) r new
+        → RefusesTaking (or_else (first_of ((not b, no.BadRange) ∷ [])) (idle_refusal w t)) (reads_spent w.reads) false w t (shared s) r new
+        → RefusesSo m (ToRead t (query_of s)) r new
     by true range g =
         taking_refused w new m (ToRead t (query_of s)) t (shared s) (nat_le 281474976710655 w.reads) false r k stands refl (ap (λ x. Some (t, x)) (same_span s)) g
     by false none g =

@@ -15,7 +15,7 @@ use Rattle.simulation.specs.Views.{IsCalm}
 use Rattle.simulation.proofs.Viewing.{calm_entries}
 use Rattle.history.specs.Log.{record_at, before, answer_of, request_of, request_in, Requests, IsOpBy, hist}
 use Rattle.history.specs.Values.{is_on}
-use Rattle.history.specs.Honest.{Done, done_on, AreCaptured, value_of}
+use Rattle.history.specs.Honest.{Numbered, numbered_on, AreCaptured, value_of}
 use Rattle.log_laws.proofs.Records.{ARequest, op_request, newest_at, older_at, at_newest, kept_at, since, record_before, length_before, IsNumber}
 use Rattle.log_laws.proofs.LegalLogs.{answered_push, request_number}
 use Rattle.log_laws.proofs.Named.{unanswered_uncrossed}
@@ -37,7 +37,7 @@ use Rattle.world.proofs.Invariant.Running.{past_is}
 use Rattle.tc_core.specs.Kept.{IsPhase, IsPhaseOf, IsTc}
 use Rattle.dc_core.specs.Tends.{may_merge}
 use Rattle.world.specs.Simulation.{Stands, IsSettled, AreUnrolled, clients, doing_in}
-use Rattle.world.specs.Rounds.{AreIdle, IsAtRest, IsApart, IsServing}
+use Rattle.world.specs.Rounds.{AreIdle, IsAtRest, IsApart, AreRunning}
 use Rattle.simulation.proofs.RightAnswers.{plain_there}
 use Rattle.simulation.proofs.Answering.{plain_uncrossed}
 use Rattle.world.proofs.Machine.Awaited.{IsOpOf, op_waited}
@@ -108,8 +108,8 @@ module _ (w : NodeView) (k : IsKept w) (past : may_merge w.dc ≡ true) (x : Ope
   abbrev cap : ℕ → Bool
   cap = captures_at w.dc (key_of o)
 
-  abbrev older : List Done
-  older = done_on (key_of o) (before log n)
+  abbrev older : List Numbered
+  older = numbered_on (key_of o) (before log n)
 
   requests : Requests log n o
   requests = op_request x.txn o (record_at log n) by
@@ -126,7 +126,7 @@ module _ (w : NodeView) (k : IsKept w) (past : may_merge w.dc ≡ true) (x : Ope
   answered_since : (m : ℕ) → IsSome (answer_of (before log n) m) → IsSome (answer_of log m)
   answered_since m h = since (λ z. IsSome (answer_of z m)) (answered_push m) log n h
 
-  splits : done_on (key_of o) log ≡ record { number = n; op = o } ∷ older
+  splits : numbered_on (key_of o) log ≡ record { number = n; op = o } ∷ older
   splits = newest_done log n o requests (λ m q above asks same.
       true≢false (sym (since (λ z. IsSome (answer_of z n)) (answered_push n) log m (one_at_a_time log k.tc.legal n m o q requests above asks same)) ∙ ap is_some unanswered))
 
@@ -137,7 +137,7 @@ module _ (w : NodeView) (k : IsKept w) (past : may_merge w.dc ≡ true) (x : Ope
       let there : Requests log m q = subst (λ r. request_in r ≡ Some q) (record_before log m n number below) asks in
       subst (λ (key : Bytes). captures_at w.dc key m ≡ true) same (k.answered past m q there (answered_since m (one_at_a_time log k.tc.legal m n q o there below requests (sym same)))))
 
-  pub waiting_value : value_of cap (done_on (key_of o) log) ≡ get (plain (hist log)) (key_of o)
+  pub waiting_value : value_of cap (numbered_on (key_of o) log) ≡ get (plain (hist log)) (key_of o)
   waiting_value =
       ap (value_of cap) splits ∙ ap (λ b. if b then value_after o (value_of cap older) else value_of cap older) uncaptured
       ∙ value_of-captured (before log n) (key_of o) cap older_captured
@@ -158,7 +158,7 @@ none_left w k running = subst (IsPhaseOf w.tc.losers) running k.tc.lost.phase_of
 
 -- so at each key
 settled_value : (w : NodeView) → IsKept w → IsSettled w → (key : Bytes)
-    → value_of (captures_at w.dc key) (done_on key w.tc.log) ≡ get (plain (hist w.tc.log)) key
+    → value_of (captures_at w.dc key) (numbered_on key w.tc.log) ≡ get (plain (hist w.tc.log)) key
 settled_value w k settled key = elim (answered_all w.tc.log w.tc.log key) [
   | inl each ↦ plain_at w.tc.log key (captures_at w.dc key) k.tc.legal k.right each
       (λ n o asks on. subst (λ (q : Bytes). captures_at w.dc q n ≡ true) on (k.answered (settled_past w k settled) n o asks (each n o asks on)))
@@ -175,7 +175,7 @@ settled_value w k settled key = elim (answered_all w.tc.log w.tc.log key) [
           | inl less ↦ less
           | inr most ↦ absurd (true≢false (sym (settled.answered u.number u.op most u.requests) ∙ ap is_some u.unanswered))
         ] in
-        subst (λ q. value_of (captures_at w.dc q) (done_on q w.tc.log) ≡ get (plain (hist w.tc.log)) q) (ap key_of same ∙ u.on)
+        subst (λ q. value_of (captures_at w.dc q) (numbered_on q w.tc.log) ≡ get (plain (hist w.tc.log)) q) (ap key_of same ∙ u.on)
         (waiting_value w k (settled_past w k settled) x u.number found.op a.is found.is a.waiting unstable)
   ]
 ]
@@ -223,5 +223,5 @@ at_rest w k running up session unrolled idle stable = record {
 same_session : (w : NodeView) → (IsApart w → ⊥) → w.dc.session ≡ w.tc.session
 same_session w together = elim (cases_eq w.dc.session w.tc.session) [ inl e ↦ e | inr apart ↦ absurd (together (inr (inr apart))) ]
 
-pub serving : (w : NodeView) → AreUp w → (IsApart w → ⊥) → w.tc.phase ≡ phase.Running → IsServing w
+pub serving : (w : NodeView) → AreUp w → (IsApart w → ⊥) → w.tc.phase ≡ phase.Running → AreRunning w
 serving w up together running = record { running = running; up = up; session = same_session w together }

@@ -203,7 +203,8 @@ crash_leaves v more kept log log' pages is rec c =
 
 pub crash_is : (v : SystemView) (more kept : ℕ) (log log' : LogState) (pages : PagesState) (later : List DcRecord)
     → IsSystem v → IsRecoverable v → IsCrash v more kept log log' pages
-    → HoldsFrames log'.forced later → (n : ℕ) × MayKeep v.stable (length v.log) more n × (found_on log' pages later ≡ restarted (crashed v n))
+    → HoldsFrames log'.forced later
+    → (n : ℕ) × MayKeep v.stable (length v.log) more n × (found_on log' pages later ≡ restarted (crashed v n))
 crash_is v more kept log log' pages later is rec c again =
     let l = crash_leaves v more kept log log' pages is rec c in
     (l.count, l.keeps, crash_seen v more log log' pages later c.stopped (ap (λ (l : LogState). l.failures) c.left) l again)

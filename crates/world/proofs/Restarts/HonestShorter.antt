@@ -9,7 +9,7 @@ use Rattle.record_key.specs.Table.{Bytes}
 use Rattle.history.specs.declared.record.Record.{Record}
 use Rattle.history.specs.Log.{request_of}
 use Rattle.history.specs.Values.{is_on}
-use Rattle.history.specs.Honest.{Done, done_with, done_on, IsBeginning, value_of}
+use Rattle.history.specs.Honest.{Numbered, numbered_with, numbered_on, IsBeginning, value_of}
 use Rattle.log_laws.proofs.LegalLogs.{or_right}
 use Rattle.ab_lsn.specs.AbLsn.{captures, stands_in}
 use Rattle.page.specs.Leaf.{LeafView}
@@ -18,9 +18,9 @@ use Rattle.recovery_laws.specs.Ready.{IsHonestTo}
 use Rattle.world.proofs.Restarts.Beginnings.{StaysTo, request_less, right_less}
 
 -- one number less on the key that isn't captured
-less_at : (cap : ℕ → Bool) (k : Bytes) (n : ℕ) (q : Option Op) (rest : List Done) → cap n ≡ false
-    → (IsBeginning cap (done_with k n q rest) → IsBeginning cap rest)
-    × (value_of cap (done_with k n q rest) ≡ value_of cap rest)
+less_at : (cap : ℕ → Bool) (k : Bytes) (n : ℕ) (q : Option Op) (rest : List Numbered) → cap n ≡ false
+    → (IsBeginning cap (numbered_with k n q rest) → IsBeginning cap rest)
+    × (value_of cap (numbered_with k n q rest) ≡ value_of cap rest)
 less_at cap k n None rest out = (λ h. h, refl)
 less_at cap k n (Some o) rest out = pick (is_on k o)
   where
@@ -51,7 +51,7 @@ pub honest_less : (end : ℕ) (leaf : LeafView) → StaysTo end (λ log. IsHones
 honest_less end leaf r log within h = record {
   honest = record {
     at = λ k inside.
-        let less = less_at (captures leaf.ab) k (length log + 1) (request_of r) (done_on k log) newest in
+        let less = less_at (captures leaf.ab) k (length log + 1) (request_of r) (numbered_on k log) newest in
         record {
           beginning = less.0 (h.honest.at k inside).beginning;
           right = (h.honest.at k inside).right ∙ less.1;

@@ -193,7 +193,8 @@ unserved w tc q r new (inr h) = inr (inr (inl (new.dc, served_last w tc q (Err r
 
 stops_of : (w : NodeView) (tc : TcView) (q : Request) (os : List Out) (r : Refusal) (new : NodeView) → AreUp w
     → HasReply q
-    → StopsAt (asked w tc q) (event.Request (length w.requests + 1) ∷ event.Reply (length w.replies + 1) ∷ []) os r new → Stops w tc q r
+    → StopsAt (asked w tc q) (event.Request (length w.requests + 1) ∷ event.Reply (length w.replies + 1) ∷ []) os r new
+    → Stops w tc q r
 stops_of w tc q [] r new up has (inl h) = inl h.0
 stops_of w tc q [] r new up has (inr refused) = unserved w tc q r new (MatchBool-at_true _ _ up.dc refused)
 stops_of w tc q (o ∷ p ∷ os) r new up has h = absurd h.3.3

@@ -46,7 +46,7 @@ use Rattle.world.specs.Node.{NodeView, AreUp, with_tc, ReconnectsTo, RecoversTo,
 use Rattle.log_laws.proofs.LegalLogs.{request_number}
 use Rattle.tc_core.specs.Kept.{IsDue as IsDueLost}
 use Rattle.world.specs.Kept.{IsKept}
-use Rattle.world.specs.Rounds.{IsDone, IsApart, IsRecovering, IsUndoing, IsDue, IsReader, IsServing, IsNext, Plays, events_of}
+use Rattle.world.specs.Rounds.{IsDone, IsApart, IsRecovering, IsUndoing, IsDue, IsReader, AreRunning, IsNext, Plays, events_of}
 use Rattle.world.specs.Bound.{requests_in, txn_rounds, phase_rounds, is_busy, is_apart, force_rounds, tc_rounds, without_session, down_rounds, session_rounds, lost_rounds, rounds_left}
 use Rattle.world.proofs.Settles.Totals.{total_most, total_share}
 use Rattle.world.proofs.Settles.Counting.{fewer_later, none_above}
@@ -182,7 +182,7 @@ pub record IsTogether (w : NodeView) : Type 0 where
   pub on : is_apart w.tc.phase ≡ false
   pub session : w.dc.session ≡ w.tc.session
 
-serving_together : (w : NodeView) → IsServing w → IsTogether w
+serving_together : (w : NodeView) → AreRunning w → IsTogether w
 serving_together w s = record { up = s.up; on = ap is_apart s.running; session = s.session }
 
 undoing_together : (w : NodeView) (waiting : Option ℕ) → IsUndoing w waiting → IsTogether w
@@ -327,7 +327,7 @@ falls_resend_round old new mid (out.Lost u) os n k t at h d rest = let no : phas
 falls_resend_round old new mid (out.Refused r) os n k t at h d rest = absurd d
 falls_resend_round old new mid _ os n k t at h d rest = absurd h
 
-falls_exchange_round : (old new mid : NodeView) (o : Out) (os : List Out) (t : ℕ) → IsKept old → IsServing old
+falls_exchange_round : (old new mid : NodeView) (o : Out) (os : List Out) (t : ℕ) → IsKept old → AreRunning old
     → SendsTo old t o mid → IsDone o
     → Plays mid (event.Request (length old.requests + 1) ∷ event.Reply (length old.replies + 1) ∷ []) os new
     → rounds_left new < rounds_left old

@@ -70,7 +70,9 @@ then_done old mid new e es before between after first rest =
           steps = (steps.0, steps.1, steps.2, subst P steps.3 rest.steps);
         }
 
-pub then_stopped : (old mid new : NodeView) (e : Event) (es : List Event) (before between after : List Out) (r : Refusal) → Performed old (e ∷ []) before between mid
+pub then_stopped : (old mid new : NodeView) (e : Event) (es : List Event) (before between after : List Out)
+    (r : Refusal)
+    → Performed old (e ∷ []) before between mid
     → Stopped mid es between after r new → Stopped old (e ∷ es) before after r new
 then_stopped old mid new e es before between after r first rest =
     by first.outs first.steps first.appended
@@ -208,7 +210,9 @@ one_allowed (Some m) left n h some = elim (cases_eq n m) [
 ]
 
 -- a round stopped
-pub broken : (old now new : NodeView) (most left : Option ℕ) (before after grown : List Out) (r : Round) (refusal : Refusal) → SoFar old most before left after now → (left ≡ Some 0 → ⊥) → IsKept now
+pub broken : (old now new : NodeView) (most left : Option ℕ) (before after grown : List Out) (r : Round)
+    (refusal : Refusal)
+    → SoFar old most before left after now → (left ≡ Some 0 → ⊥) → IsKept now
     → IsNext now r → Stopped now (events_of now r) after grown refusal new → rounds_left old < most_rounds old.tc.log
     → (b : Broken old before grown refusal new) × IsAllowed most (length b.rounds.rounds + 1) × (length b.rounds.rounds < most_rounds old.tc.log)
 broken old now new most left before after grown r refusal far some kept next h bound = (

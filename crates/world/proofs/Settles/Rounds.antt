@@ -11,7 +11,7 @@ use Rattle.tc_core.specs.Kept.{IsTc}
 use Rattle.tc_core.proofs.Finding.{IsOldest, oldest_none, oldest_found}
 use Rattle.world.specs.declared.round.Round.TheVariants as round
 use Rattle.world.specs.Node.{NodeView}
-use Rattle.world.specs.Rounds.{AreIdle, IsDue, IsReader, IsRolling, IsServing, IsNext, round_for}
+use Rattle.world.specs.Rounds.{AreIdle, IsDue, IsReader, IsRolling, AreRunning, IsNext, round_for}
 use Rattle.world.specs.Simulation.{AreUnrolled}
 
 -- nobody waits, or is being rolled back, where none is found
@@ -84,7 +84,7 @@ rolling_first w o k none h =
     by first u (Some p) at rolls = first.least u p at (sym (ap is_rolling at) ∙ rolls)
 
 -- the round of the one that waits: a force, or an exchange
-pub next_for : (w : NodeView) (o : OpenTxn) → IsServing w → IsTc w.tc
+pub next_for : (w : NodeView) (o : OpenTxn) → AreRunning w → IsTc w.tc
     → oldest (wants Unanswered) w.tc.open_txns ≡ Some o → IsNext w (round_for o.txn w.tc.stable o.waiting)
 next_for w o serves k at = by o.waiting refl
   where

@@ -193,7 +193,8 @@ falls_lost w p n a goes_on less =
 
 -- nobody's, which has been answered before
 falls_passed : (w : TcView) (p : Phase) → is_running w.phase ≡ false
-    → phase_rounds w.log w.session p + undo_rounds w.stable p < phase_rounds w.log w.session w.phase + undo_rounds w.stable w.phase → tc_rounds (record w { phase = p }) < tc_rounds w
+    → phase_rounds w.log w.session p + undo_rounds w.stable p < phase_rounds w.log w.session w.phase + undo_rounds w.stable w.phase
+    → tc_rounds (record w { phase = p }) < tc_rounds w
 falls_passed w p goes_on less =
     let flag = worth (not (is_running p) || (list_any is_busy w.open_txns || nat_lt w.stable (length w.log))) in rw (goes_on) (omega (arith, less, flag))
 

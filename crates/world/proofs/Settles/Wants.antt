@@ -44,7 +44,7 @@ use Rattle.world.specs.declared.round.Round.{Round}
 use Rattle.world.specs.declared.round.Round.TheVariants as round
 use Rattle.world.specs.Node.{NodeView, AreUp, LacksRoom, is_replied_to, ReconnectsTo, RecoversTo, SendsTo, sends_at}
 use Rattle.world.specs.Kept.{IsKept, IsServed}
-use Rattle.world.specs.Rounds.{IsDone, IsServing, IsRecovering, IsDue, IsReader, IsRolling, IsNext, IsWant, StopsAt, events_of}
+use Rattle.world.specs.Rounds.{IsDone, AreRunning, IsRecovering, IsDue, IsReader, IsRolling, IsNext, IsWant, StopsAt, events_of}
 use Rattle.world.proofs.Invariant.Sends.{redoing_phase}
 use Rattle.world.proofs.Settles.Exchanges.{HasReply, Stops, stops}
 use Rattle.world.proofs.Invariant.Running.{stored_recorded}
@@ -78,7 +78,8 @@ reply_want w reply r new same some h =
     fresh (w.session == 0) (session_of reply == w.session) (logs w reply && log_is_spent w.log) a b h
   where
     fresh : (a b c : Bool) → a ≡ false → b ≡ true
-        → Refuses (first_of ((a || not b, Stale) ∷ (c, NumbersSpent) ∷ [])) (takes_memory w reply) (logs w reply) w r new → IsWant r
+        → Refuses (first_of ((a || not b, Stale) ∷ (c, NumbersSpent) ∷ [])) (takes_memory w reply) (logs w reply) w r new
+        → IsWant r
     fresh true b c e f h = absurd (true≢false e)
     fresh false false c e f h = absurd (true≢false (sym f))
     fresh false true true e f h = inr (inl h.0)
@@ -181,14 +182,14 @@ serves_read dc s n q same some done = by q
     by (Key k) = either
     by (Range low high) = either
 
-read_allowed : (w : NodeView) (n : ℕ) (q : Span) → IsKept w → IsServing w → 0 < w.tc.session
+read_allowed : (w : NodeView) (n : ℕ) (q : Span) → IsKept w → AreRunning w → 0 < w.tc.session
     → serve_refusal w.dc (read_request w.tc.session n q) ≡ None
 read_allowed w n q k serving some =
     let P : Phase → Type 0 = λ p. IsServed p w.tc.session w.tc.log w.dc in
     let served = subst P serving.running k.sessions.served in
     serves_read w.dc w.tc.session n q serving.session some (served.1 serving.session)
 
-stops_read : (w : NodeView) (n : ℕ) (q : Span) (r : Refusal) → IsKept w → IsServing w → 0 < w.tc.session
+stops_read : (w : NodeView) (n : ℕ) (q : Span) (r : Refusal) → IsKept w → AreRunning w → 0 < w.tc.session
     → Stops w w.tc (read_request w.tc.session n q) r → IsWant r
 stops_read w n q r k serving some (inl h) = inl h
 stops_read w n q r k serving some (inr (inl h)) =
@@ -263,7 +264,7 @@ want_resend old new mid _ os r n k up at same h d rest = absurd h
 running_some : (w : NodeView) → IsKept w → w.tc.phase ≡ phase.Running → 0 < w.tc.session
 running_some w k running = let P : Phase → Type 0 = IsPhase w.tc.checkpointed w.tc.session in subst P running k.tc.phase
 
-want_exchange : (old new mid : NodeView) (o : Out) (os : List Out) (r : Refusal) (t : ℕ) → IsKept old → IsServing old
+want_exchange : (old new mid : NodeView) (o : Out) (os : List Out) (r : Refusal) (t : ℕ) → IsKept old → AreRunning old
     → SendsTo old t o mid → IsDone o
     → StopsAt mid (event.Request (length old.requests + 1) ∷ event.Reply (length old.replies + 1) ∷ []) os r new
     → IsWant r

@@ -6,7 +6,8 @@ use Rattle.ab_lsn.proofs.Placing.{IsPlacing, placed_one}
 use Rattle.ab_lsn.proofs.entries.place_all.Goals as goal
 
 -- the entry of this turn is the first of those that are left
-turn : (low : ℕ) (end es : List Entry) (i : ℕ) (e : Entry) (now : SmallVec Entry) → i < length es → e ≡ get_or es i e → IsPlacing low end (drop i es) now
+turn : (low : ℕ) (end es : List Entry) (i : ℕ) (e : Entry) (now : SmallVec Entry) → i < length es → e ≡ get_or es i e
+    → IsPlacing low end (drop i es) now
     → IsPlacing low end (e ∷ drop (i + 1) es) now
 turn low end es i e now lt is h =
     let left : drop i es ≡ e ∷ drop (i + 1) es = rw (add-one) (drop-cons es i e lt ∙ ap (λ (x : Entry). x ∷ drop (suc i) es) (sym is)) in

@@ -7,7 +7,8 @@ use Rattle.btree.specs.Lists.{leaf_of, leaves_in}
 use Rattle.btree.proofs.Searching.{lies_under, ends_rise, place_parted, there_in}
 use Rattle.btree.proofs.boxes.place_in.Goals as goal
 
-place : (c : goal.After-partition_point) → c.partition_point.result ≡ place_at (leaves_in c.args.leaves.now) c.args.key.now
+place : (c : goal.After-partition_point)
+    → c.partition_point.result ≡ place_at (leaves_in c.args.leaves.now) c.args.key.now
 place c =
     let leaves = c.args.leaves.now in
     place_parted leaf_of None leaves c.args.key.now c.partition_point.result c.requires.tile refl

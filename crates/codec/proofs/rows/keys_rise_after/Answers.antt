@@ -5,7 +5,8 @@ use Rattle.record_key.proofs.Rows.{rises_next}
 use Rattle.codec.proofs.rows.keys_rise_after.Goals as goal
 
 -- the row of this turn is the first of those that are left, and above the one before it
-turn : (rows : List Row) (i : ℕ) (before row : Row) → i < length rows → row ≡ get_or rows i row → is_below before.0 row.0 ≡ true
+turn : (rows : List Row) (i : ℕ) (before row : Row) → i < length rows → row ≡ get_or rows i row
+    → is_below before.0 row.0 ≡ true
     → rises (row ∷ drop (i + 1) rows) ≡ rises (before ∷ drop i rows)
 turn rows i before row lt is below =
     let left : drop i rows ≡ row ∷ drop (i + 1) rows =

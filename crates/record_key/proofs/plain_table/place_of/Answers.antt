@@ -16,7 +16,8 @@ order k row = key_cmp k row.0
 turned : (k x : Bytes) (o : Ordering) → key_cmp x k ≡ o → key_cmp k x ≡ ordering_reverse o
 turned k x o is = nat_list_cmp_total.antisymm k x ∙ ap ordering_reverse is
 
-passed : (k : Bytes) (rows : List Row) (place : ℕ) (d : Row) → ((j : ℕ) (d : Row) → j < place → key_cmp (get_or rows j d).0 k ≡ Less)
+passed : (k : Bytes) (rows : List Row) (place : ℕ) (d : Row)
+    → ((j : ℕ) (d : Row) → j < place → key_cmp (get_or rows j d).0 k ≡ Less)
     → (j : ℕ) → j < place → key_cmp k (get_or rows j d).0 ≡ Greater
 passed k rows place d below j lt = turned k (get_or rows j d).0 Less (below j d lt)
 

@@ -4,7 +4,8 @@ use Rattle.undo_shell.proofs.Printing.{stops_first, prints_both}
 use Rattle.undo_shell.specs.Stored.{set_line, more_line}
 use Rattle.undo_shell.proofs.leaves.print_set.Goals as goal
 
-from_first : (entries : List Entry) (first : Entry) (rest : List Entry) → entries ≡ first ∷ rest → set_line entries ≡ (decimal first.number ++ []) ++ more_line rest
+from_first : (entries : List Entry) (first : Entry) (rest : List Entry) → entries ≡ first ∷ rest
+    → set_line entries ≡ (decimal first.number ++ []) ++ more_line rest
 from_first entries first rest e = ap set_line e ∙ ap (λ v. v ++ more_line rest) (sym (append-nil (decimal first.number)))
 
 pub returns-in_err-print : goal.returns-in_err-print

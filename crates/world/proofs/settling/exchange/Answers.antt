@@ -20,7 +20,9 @@ second_stopped w mid new e i a b c r asks first number h =
     (first_stopped mid new (event.Request (length w.requests + 1)) (event.Reply (length w.replies + 1) ∷ []) b c r (subst P same h))
 
 -- the refusal is handed on
-second_failed : (w mid new : NodeView) (e : Event) (i : ℕ) (a b c : List Out) (r : Refusal) (result : Result (Unit {0}) Refusal) → IsExchange w e → Performed w (e ∷ []) a b mid → i ≡ length mid.requests
+second_failed : (w mid new : NodeView) (e : Event) (i : ℕ) (a b c : List Out) (r : Refusal)
+    (result : Result (Unit {0}) Refusal)
+    → IsExchange w e → Performed w (e ∷ []) a b mid → i ≡ length mid.requests
     → Stopped mid (event.Request i ∷ []) b c r new → IsErrAnd result (λ q. q ≡ r) → Does w (exchange w e) a c result new
 second_failed w mid new e i a b c r (Ok u) asks first number h same = absurd same
 second_failed w mid new e i a b c r (Err q) asks first number h same =

@@ -33,7 +33,8 @@ returns-then-eq c =
     )
 
 -- the refusal of a round is handed on
-refused : (old new : NodeView) (most : Option ℕ) (before after : List Out) (r : Refusal) (result : Result Bool Refusal) → Settles old most before after (Err r) new → IsErrAnd result (λ q. q ≡ r)
+refused : (old new : NodeView) (most : Option ℕ) (before after : List Out) (r : Refusal) (result : Result Bool Refusal)
+    → Settles old most before after (Err r) new → IsErrAnd result (λ q. q ≡ r)
     → Settles old most before after result new
 refused old new most before after r (Ok b) h same = absurd same
 refused old new most before after r (Err q) h same = let P : Refusal → Type 0 = λ x. Settles old most before after (Err x) new in subst P (sym same) h

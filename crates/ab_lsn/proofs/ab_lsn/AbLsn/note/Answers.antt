@@ -26,8 +26,10 @@ invariant_of-self c =
     (noted_rises v (record { number = c.args.number; key = c.copied.result; answer = c.copied-2.result }) c.in-Err.gap c.self.invariant out
     (rw c.as_slice.ensures at c.in-Err.ensures.place))
 
-put : (v : AbLsnView) (n : ℕ) (k : Bytes) (a : Answer) (p : ℕ) (es : List Entry) → es ≡ insert v.entries p (record { number = n; key = k; answer = a })
-    → insert v.entries p (record { number = n; key = k; answer = a }) ≡ (noted v n k a).entries → ◌≡◌ {A = AbLsnView} (record { low = v.low; entries = es }) (noted v n k a)
+put : (v : AbLsnView) (n : ℕ) (k : Bytes) (a : Answer) (p : ℕ) (es : List Entry)
+    → es ≡ insert v.entries p (record { number = n; key = k; answer = a })
+    → insert v.entries p (record { number = n; key = k; answer = a }) ≡ (noted v n k a).entries
+    → ◌≡◌ {A = AbLsnView} (record { low = v.low; entries = es }) (noted v n k a)
 put v n k a p es is placed = λ i. record { low = v.low; entries = (is ∙ placed) i }
 
 pub returns-clause-noted : goal.returns-clause-noted

@@ -28,7 +28,8 @@ remove_in-requires-clause-inner c =
 pub remove_in-requires-clause-there : goal.remove_in-requires-clause-there
 remove_in-requires-clause-there c = there c
 
-after : (c : goal.After-remove_in) → c.remove_in.new.root.leaves ≡ merged_at c.args.place c.args.merge.merged.value.last c.self.inside.root.leaves
+after : (c : goal.After-remove_in)
+    → c.remove_in.new.root.leaves ≡ merged_at c.args.place c.args.merge.merged.value.last c.self.inside.root.leaves
 after c =
     let old = c.self.inside.root.leaves in
     let p = c.args.place in

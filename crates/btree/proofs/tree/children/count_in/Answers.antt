@@ -3,7 +3,8 @@ use Rattle.btree.specs.Nodes.{under}
 use Rattle.btree.proofs.Under.{count_more, count_parts}
 use Rattle.btree.proofs.tree.children.count_in.Goals as goal
 
-so_far : (c : goal.After-count-count) → c.loop-node.count + c.count-count.result ≡ length (under (take (c.loop-node.node-index + 1) c.args.nodes.now))
+so_far : (c : goal.After-count-count)
+    → c.loop-node.count + c.count-count.result ≡ length (under (take (c.loop-node.node-index + 1) c.args.nodes.now))
 so_far c =
     rw (c.loop-node.invariant, c.count-count.ensures, c.node-item.is, add-one)
     (sym (count_more c.args.nodes.now c.loop-node.node-index c.node-item.result c.loop-node-test.true))

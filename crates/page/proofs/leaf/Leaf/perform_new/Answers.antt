@@ -32,7 +32,8 @@ invariant_of-self-2 c =
     )
 
 -- a new number
-anew : (old : LeafView) (n : ℕ) (o : Op) (a : Answer) (rows : Table) (ab : AbLsnView) → a ≡ answer_in old.rows o → rows ≡ after old.rows o
+anew : (old : LeafView) (n : ℕ) (o : Op) (a : Answer) (rows : Table) (ab : AbLsnView) → a ≡ answer_in old.rows o
+    → rows ≡ after old.rows o
     → ab ≡ noted old.ab n (key_of o) a → ◌≡◌ {A = LeafView} (record old { rows = rows; ab = ab }) (performed old n o)
 anew old n o a rows ab right table more = λ i. record old { rows = table i; ab = (more ∙ ap (noted old.ab n (key_of o)) right) i }
 

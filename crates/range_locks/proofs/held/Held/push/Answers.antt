@@ -15,7 +15,8 @@ returns-in_err-push-in-Some-clause-unchanged c =
     on_err c.from_residual.result
     (kept c.args.self.now.by_txn (c.get_mut.follows.lender now) c.args.txn c.in-Some.locks.now now (c.get_mut.follows.holds now).0 c.in-Some.ensures.value c.in_err-push-in-Some.ensures.items)
 
-there : (c : goal.In_ok-push-in-Some) → Lists c.args.self.now c.args.txn (locks_in c.args.self.now c.args.txn ++ c.args.lock ∷ []) (record { by_txn = c.get_mut.follows.lender c.push.new.self })
+there : (c : goal.In_ok-push-in-Some)
+    → Lists c.args.self.now c.args.txn (locks_in c.args.self.now c.args.txn ++ c.args.lock ∷ []) (record { by_txn = c.get_mut.follows.lender c.push.new.self })
 there c =
     let now = c.push.new.self in
     let found = c.in-Some.ensures.value in
@@ -34,7 +35,8 @@ returns-in_ok-push-in-Some-clause-taken c =
     taken_over c.args.self.now (record { by_txn = c.get_mut.follows.lender now }) c.args.txn c.in-Some.locks.now now c.args.lock c.get_mut.ensures.ordered (sym found)
     (c.get_mut.follows.holds now).0 items
 
-first : (c : goal.Joined-branch-4) → Lists c.args.self.now c.args.txn (locks_in c.args.self.now c.args.txn ++ c.args.lock ∷ []) (record { by_txn = c.insert.new.self })
+first : (c : goal.Joined-branch-4)
+    → Lists c.args.self.now c.args.txn (locks_in c.args.self.now c.args.txn ++ c.args.lock ∷ []) (record { by_txn = c.insert.new.self })
 first c =
     let now = c.push-in-None.new.self in
     let updates : Updates nat_cmp c.args.self.now.by_txn c.insert.new.self c.args.txn (Some now) =

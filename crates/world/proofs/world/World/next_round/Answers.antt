@@ -8,7 +8,7 @@ use Rattle.tc_core.specs.OpenTxns.{oldest, wants}
 use Rattle.tc_core.specs.TcView.{TcView}
 use Rattle.dc_core.specs.DcView.{DcView}
 use Rattle.world.specs.Node.{NodeView, AreUp}
-use Rattle.world.specs.Rounds.{AreApart, IsApart, IsServing, IsNext, round_for}
+use Rattle.world.specs.Rounds.{AreApart, IsApart, AreRunning, IsNext, round_for}
 use Rattle.world.specs.Seen.{seen, tc_of, dc_of}
 use Rattle.world.specs.declared.node.Node.{Node}
 use Rattle.world.specs.declared.transaction_component.TransactionComponent.{TransactionComponent}
@@ -36,7 +36,7 @@ these n tc dc one two = record {
 }
 
 serves : (w : NodeView) (tc : TcView) (dc : DcView) (apart : Bool) (p : Phase) → AreThese w tc dc
-    → (IsTrue apart ↔ AreApart tc dc) → apart ≡ false → p ≡ tc.phase → p ≡ phase.Running → IsServing w
+    → (IsTrue apart ↔ AreApart tc dc) → apart ≡ false → p ≡ tc.phase → p ≡ phase.Running → AreRunning w
 serves w tc dc apart p t test isnt at running =
     serving w t.up together (ap (λ (x : TcView). x.phase) t.tc_same ∙ sym at ∙ running)
   where

@@ -9,9 +9,9 @@ use Rattle.btree.proofs.tree.node.Node.+leaf_of.Goals as goal
 pub returns-in-Inner : goal.returns-in-Inner
 returns-in-Inner t c =
     let ns = c.in-Inner.children.items in
-    let i = c.node_of-i.result.0 in
+    let i = c.node_of-i.result in
     let kept = subst (IsNode c.self.inside.low c.self.inside.count c.self.inside.summary) c.in-Inner.is c.self.invariant in
-    let node : IsNodeOf ns c.args.key.now i = rw c.as_slice.ensures.value at c.node_of-i.ensures.node in
+    let node : IsNodeOf ns c.args.key.now i = rw c.as_slice.ensures.value at c.node_of-i.ensures in
     let child = c.index.ensures ∙ get_or_default ns i c.index.result.now nothing node.there in
     let found : IsLeafOf (get_or ns i nothing).leaves c.args.key.now c.leaf_of.result.now =
     subst (λ (n : NodeView). IsLeafOf n.leaves c.args.key.now c.leaf_of.result.now) child c.leaf_of.ensures in

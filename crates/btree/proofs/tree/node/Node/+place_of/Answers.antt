@@ -1,43 +1,44 @@
-use Rattle.std.proofs.Common.{◌≡◌, ◌<◌, ◌^◌, ℕ, length, get_or, sym, ap, ◌∙◌, subst, arith, rules}
+use Rattle.std.proofs.Common.{◌≡◌, ◌<◌, ◌^◌, ℕ, length, get_or, take, sym, ap, ◌∙◌, subst, arith, rules}
 use Rattle.std.proofs.lemmas.List.{get_or_default}
 use Rattle.btree.specs.Nodes.{NodeView, nothing, under}
 use Rattle.btree.specs.Finding.{IsNodeOf, IsPlaceOf}
 use Rattle.btree.specs.declared.tree.node.Below.TheVariants.{Inner}
 use Rattle.btree.specs.Below.{seen, IsNode}
 use Rattle.btree.proofs.PlaceOf.{place_within, place_of_nodes}
+use Rattle.btree.proofs.Under.{count_halves}
 use Rattle.btree.proofs.tree.node.Node.+place_of.Goals as goal
+use Rattle.btree.proofs.tree.node.Node.+place_of.Goals.{After-place_of}
 
-few : (t : ℕ) (c : goal.After-as_slice t) → length (under c.in-Inner.children.items) < 2 ^ 64
-few t c =
-    let kept = subst (IsNode c.self.inside.low c.self.inside.count c.self.inside.summary) c.in-Inner.is c.self.invariant in
-    subst (λ (n : ℕ). n < 2 ^ 64) kept.counted kept.fits
-
-pub node_of-i-requires-clause-counted : goal.node_of-i-requires-clause-counted
-node_of-i-requires-clause-counted t c = rw c.as_slice.ensures.value (few t c)
-
-module _ (t : ℕ) (c : goal.After-place_of t) where
+module _ (t : ℕ) (c : After-place_of t) where
   abbrev ns : Rattle.std.proofs.Common.List NodeView
   ns = c.in-Inner.children.items
 
   kept : IsNode c.self.inside.low c.self.inside.count c.self.inside.summary (Inner c.in-Inner.children)
   kept = subst (IsNode c.self.inside.low c.self.inside.count c.self.inside.summary) c.in-Inner.is c.self.invariant
 
-  node : IsNodeOf ns c.args.key.now c.node_of-i.result.0
-  node = rw c.as_slice.ensures.value at c.node_of-i.ensures.node
+  node : IsNodeOf ns c.args.key.now c.node_of-i.result
+  node = rw c.as_slice.ensures.value at c.node_of-i.ensures
 
-  at : IsPlaceOf (get_or ns c.node_of-i.result.0 nothing).leaves c.args.key.now c.place_of.result
+  at : IsPlaceOf (get_or ns c.node_of-i.result nothing).leaves c.args.key.now c.place_of.result
   at =
-      let child = c.index.ensures ∙ get_or_default ns c.node_of-i.result.0 c.index.result.now nothing node.there in
+      let child = c.index.ensures ∙ get_or_default ns c.node_of-i.result c.index.result.now nothing node.there in
       subst (λ (n : NodeView). IsPlaceOf n.leaves c.args.key.now c.place_of.result) child c.place_of.ensures
+
+pub count_in-before-requires : goal.count_in-before-requires
+count_in-before-requires t c =
+    let kept = subst (IsNode c.self.inside.low c.self.inside.count c.self.inside.summary) c.in-Inner.is c.self.invariant in
+    let counted : length (under (take c.node_of-i.result c.in-Inner.children.items)) < 2 ^ 64 =
+    omega (arith, count_halves c.in-Inner.children.items c.node_of-i.result, kept.counted, kept.fits) in
+    rw c.deref.ensures.value counted
 
 pub overflow_add-result : goal.overflow_add-result
 overflow_add-result t c =
-    let before = rw c.as_slice.ensures.value at c.node_of-i.ensures.before in
-    let within = place_within _ (ns t c) c.args.key.now c.node_of-i.result.0 c.place_of.result (kept t c).under_it.children (node t c) (at t c) in
+    let before = rw c.deref.ensures.value at c.count_in-before.ensures in
+    let within = place_within _ (ns t c) c.args.key.now c.node_of-i.result c.place_of.result (kept t c).under_it.children (node t c) (at t c) in
     omega (arith, before, within, (kept t c).counted, (kept t c).fits)
 
 pub returns-in-Inner : goal.returns-in-Inner
 returns-in-Inner t c =
-    let before = rw c.as_slice.ensures.value at c.node_of-i.ensures.before in
+    let before = rw c.deref.ensures.value at c.count_in-before.ensures in
     let is : seen (Inner c.in-Inner.children) ≡ c.args.self.now = ap seen (sym c.in-Inner.is) ∙ c.self.view_is in
-    rw (before, ← is) (place_of_nodes _ (ns t c) c.args.key.now c.node_of-i.result.0 c.place_of.result (kept t c).under_it.children (node t c) (at t c))
+    rw (before, ← is) (place_of_nodes _ (ns t c) c.args.key.now c.node_of-i.result c.place_of.result (kept t c).under_it.children (node t c) (at t c))

@@ -34,7 +34,8 @@ loop-i-preserved t c =
     )
 
 -- what the call leaves
-after : (t : ℕ) (c : goal.Joined-self t) → IsRaised c.args.low c.match-self.self-inside.low c.match-self.self-inside.count c.match-self.self-inside.summary c.self.inside.below c.match-self.self-inside.below
+after : (t : ℕ) (c : goal.Joined-self t)
+    → IsRaised c.args.low c.match-self.self-inside.low c.match-self.self-inside.count c.match-self.self-inside.summary c.self.inside.below c.match-self.self-inside.below
 after t c =
     let low = c.self.inside.low in
     let count = c.self.inside.count in

@@ -19,7 +19,8 @@ put_reduced-requires-clause-counted t c =
     let left = count_reduced xs c.args.place c.node_at-i.result.0 c.node_at-i.result.1 at c.remove-child.result c.remove-child.ensures.value c.remove.new.self c.remove.ensures.leaves in
     rw c.remove-child.ensures.items (omega (arith, left, kept.counted, kept.fits))
 
-are_reduced : (t : ℕ) (c : goal.After-as_slice-in-Inner-2 t) → AreReduced c.in-Inner.children.items c.args.place c.if-not-is_leaf.children.items
+are_reduced : (t : ℕ) (c : goal.After-as_slice-in-Inner-2 t)
+    → AreReduced c.in-Inner.children.items c.args.place c.if-not-is_leaf.children.items
 are_reduced t c =
     let xs = c.in-Inner.children.items in
     let h = height_in xs in

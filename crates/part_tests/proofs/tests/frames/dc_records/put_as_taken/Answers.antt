@@ -8,7 +8,8 @@ use Rattle.codec.proofs.DcRecords.{dc_record_is_ordered}
 use Rattle.part_tests.proofs.tests.frames.dc_records.put_as_taken.Goals as goal
 use Rattle.part_tests.proofs.tests.frames.dc_records.put_as_taken.Goals.{in-Ok, in-Err+else-assert_eq+in_ok-taken-in-Err}
 
-may_put : (left : List ℕ) (t : Taken DcRecord) (r : DcRecord) (next : ℕ) → t ≡ took.Record r next → IfTaken t (IsThere DcRecord dc_record_bytes IsDcRecord 0 left) → IsOrderedDcRecord r
+may_put : (left : List ℕ) (t : Taken DcRecord) (r : DcRecord) (next : ℕ) → t ≡ took.Record r next
+    → IfTaken t (IsThere DcRecord dc_record_bytes IsDcRecord 0 left) → IsOrderedDcRecord r
 may_put left (took.Record x n) r next e found = let same : x ≡ r = cc in subst IsOrderedDcRecord same (dc_record_is_ordered x found.fits)
 may_put left took.Short r next e found = absurd cc
 may_put left (took.Bad place) r next e found = absurd cc

@@ -1,7 +1,7 @@
 use Rattle.std.proofs.Common.{take, flat_map}
 use Rattle.std.specs.Io.KnownBytes.{Appends}
 use Rattle.undo_shell.specs.Told.{told_text}
-use Rattle.undo_shell.proofs.reply.print_all_told.Given as goal
+use Rattle.undo_shell.proofs.line_result.print_all_told.Given as goal
 
 -- those so far are written
 abbrev pub invariant-loop-out : goal.invariant-loop-out

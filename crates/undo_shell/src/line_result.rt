@@ -18,7 +18,7 @@ use world::{Out, World};
 
 /// What a line came to.
 #[derive(Debug, Drop)]
-pub enum Reply {
+pub enum LineResult {
     /// One event, or a refusal before any.
     Event(Out),
     /// The outputs of settling, and how it ended.
@@ -32,16 +32,16 @@ pub enum Reply {
     Shown(Part),
 }
 
-impl Reply {
-    ghost use Rattle.undo_shell.specs.Text.{ends_run, reply_text, Shows};
+impl LineResult {
+    ghost use Rattle.undo_shell.specs.Text.{ends_run, result_text, Shows};
 
     /// Whether the run ends with this line: memory or a device failed.
     fn ends_run(&self) -> bool
         ensures { result ≡ ends_run self.now }
     {
         match self {
-            Reply::Event(Out::Refused(refusal)) => is_failure(*refusal),
-            Reply::Settled {
+            LineResult::Event(Out::Refused(refusal)) => is_failure(*refusal),
+            LineResult::Settled {
                 end: Err(refusal),
                 ..
             } => is_failure(*refusal),
@@ -49,7 +49,7 @@ impl Reply {
         }
     }
 
-    /// Writes the lines of the reply. Gives whether the run goes on: not where a write, memory or a device failed.
+    /// Writes its lines. Gives whether the run goes on: not where a write, memory or a device failed.
     pub fn show<W: io::Write>(&self, world: &World, writer: &mut W) -> bool
         ensures { Shows result self.now world.now (W.contents writer.old) (W.contents writer.new) }
     {
@@ -59,15 +59,15 @@ impl Reply {
         }
     }
 
-    /// Writes the lines of the reply. A part that is shown is one of the world as it is.
+    /// Writes its lines. A part that is shown is one of the world as it is.
     fn print<W: io::Write>(&self, world: &World, writer: &mut W) -> io::Result<()>
-        ensures { Prints (W.contents writer.old) (W.contents writer.new) result (reply_text self.now world.now) }
+        ensures { Prints (W.contents writer.old) (W.contents writer.new) result (result_text self.now world.now) }
     {
         match self {
-            Reply::Event(out) => print_out(writer, out),
-            Reply::Settled { outs, end } => print_settled(writer, outs.as_slice(), end),
-            Reply::Table(rows) => print_table(writer, rows.as_slice()),
-            Reply::Shown(part) => print_part(writer, *part, world),
+            LineResult::Event(out) => print_out(writer, out),
+            LineResult::Settled { outs, end } => print_settled(writer, outs.as_slice(), end),
+            LineResult::Table(rows) => print_table(writer, rows.as_slice()),
+            LineResult::Shown(part) => print_part(writer, *part, world),
         }
     }
 }

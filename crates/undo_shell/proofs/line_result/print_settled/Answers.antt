@@ -1,7 +1,7 @@
 use Rattle.std.proofs.Common.{refl}
 use Rattle.undo_shell.proofs.Printing.{stops_first, prints_both}
 use Rattle.undo_shell.specs.Ending.{end_line}
-use Rattle.undo_shell.proofs.reply.print_settled.Goals as goal
+use Rattle.undo_shell.proofs.line_result.print_settled.Goals as goal
 
 pub returns-in_err-print_all_told : goal.returns-in_err-print_all_told
 returns-in_err-print_all_told g c =

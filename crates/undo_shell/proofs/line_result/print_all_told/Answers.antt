@@ -1,6 +1,6 @@
 use Rattle.undo_shell.proofs.Printing.{prints_err, cut_at_item}
 use Rattle.undo_shell.specs.Told.{told_text}
-use Rattle.undo_shell.proofs.reply.print_all_told.Goals as goal
+use Rattle.undo_shell.proofs.line_result.print_all_told.Goals as goal
 
 pub returns-in_err-print_told : goal.returns-in_err-print_told
 returns-in_err-print_told g c =

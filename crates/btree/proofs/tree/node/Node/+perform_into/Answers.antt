@@ -1,0 +1,117 @@
+use Rattle.std.proofs.Common.{◌≡◌, ◌<◌, ℕ, [], ◌∷◌, get_or, set, refl, sym, ap, ◌∙◌, subst, arith, rules}
+use Rattle.std.specs.Vec.{with_item}
+use Rattle.std.proofs.lemmas.List.{get_or_default}
+use Rattle.record_key.specs.Table.{key_of}
+use Rattle.page.specs.Leaf.{LeafView, first, is_in_fences}
+use Rattle.btree.specs.Choosing.{summary_of}
+use Rattle.btree.specs.Nodes.{NodeView, nothing, height_in, over_nodes, under, IsChild, IsWhole}
+use Rattle.btree.specs.Finding.{IsInside, IsNodeOf, IsPlaceOf}
+use Rattle.btree.specs.Performs.{IsAskedBelow}
+use Rattle.btree.specs.declared.tree.node.Below.TheVariants.{Inner}
+use Rattle.btree.specs.Below.{seen, IsNode}
+use Rattle.btree.proofs.Asking.{IsAfter, inner_asked, same_asked}
+use Rattle.btree.proofs.PlaceOf.{inside_of_nodes}
+use Rattle.btree.proofs.Whole.{all_get}
+use Rattle.btree.proofs.tree.node.Node.+perform_into.Goals as goal
+use Rattle.btree.proofs.tree.node.Node.+perform_into.Goals.{After-index_mut, Then-not-perform_into, After-renew-in-Inner}
+
+pub perform-requires : goal.perform-requires
+perform-requires t c =
+    let same = ap seen (sym c.in-Leaf.is) ∙ c.self.view_is in
+    let alone : IsPlaceOf (c.in-Leaf.leaf.value ∷ []) (key_of c.args.op.now) 0 =
+    record {
+      there = omega arith;
+      starts = λ some. absurd (omega (arith, some));
+      ends = λ more. absurd
+          (omega (arith, more));
+    } in
+    let inside : IsInside (c.in-Leaf.leaf.value ∷ []) (key_of c.args.op.now) =
+    subst (λ (n : NodeView). IsInside n.leaves (key_of c.args.op.now)) (sym same) c.requires.inside in
+    ap (λ (leaf : LeafView). is_in_fences leaf (key_of c.args.op.now)) c.deref_mut.ensures.value ∙ inside 0 alone
+
+module _ (t : ℕ) (c : After-index_mut t) where
+  abbrev i : ℕ
+  i = c.node_of-i.result
+
+  kept : IsNode c.self.inside.low c.self.inside.count c.self.inside.summary (Inner c.in-Inner.children)
+  kept = subst (IsNode c.self.inside.low c.self.inside.count c.self.inside.summary) c.in-Inner.is c.self.invariant
+
+  same : over_nodes c.in-Inner.children.items ≡ c.args.self.now
+  same = ap seen (sym c.in-Inner.is) ∙ c.self.view_is
+
+  node : IsNodeOf c.in-Inner.children.items (key_of c.args.op.now) i
+  node = rw (c.as_slice.ensures.value, c.key.ensures) at c.node_of-i.ensures
+
+  child : c.index_mut.result.now ≡ get_or c.in-Inner.children.items i nothing
+  child = c.index_mut.ensures.value
+      ∙ get_or_default c.in-Inner.children.items i c.index_mut.result.now nothing node.there
+
+  one : IsChild (height_in c.in-Inner.children.items) c.index_mut.result.now
+  one = subst (IsChild (height_in c.in-Inner.children.items)) (sym child)
+      (all_get _ c.in-Inner.children.items i nothing node.there kept.under_it.children)
+
+  at_child : (q : ℕ) → IsPlaceOf c.index_mut.result.now.leaves (key_of c.args.op.now) q
+      → IsPlaceOf (get_or c.in-Inner.children.items i nothing).leaves (key_of c.args.op.now) q
+  at_child q at = subst (λ (n : NodeView). IsPlaceOf n.leaves (key_of c.args.op.now) q) child at
+
+  inside : IsInside c.index_mut.result.now.leaves (key_of c.args.op.now)
+  inside = λ q at.
+      ap (λ (n : NodeView). is_in_fences (get_or n.leaves q first) (key_of c.args.op.now)) child
+      ∙ inside_of_nodes _ c.in-Inner.children.items (key_of c.args.op.now) i q kept.under_it.children node
+      (at_child q at)
+      (subst (λ (n : NodeView). IsInside n.leaves (key_of c.args.op.now)) (sym same) c.requires.inside)
+
+pub perform_into-requires : goal.perform_into-requires
+perform_into-requires t c =
+    let lower : c.index_mut.result.now.height < c.args.self.now.height =
+    omega (arith, (one t c.before).level, ap (λ (n : NodeView). n.height) (same t c.before)) in
+    let whole : IsWhole c.index_mut.result.now = (one t c.before).whole in
+    let there : IsInside c.index_mut.result.now.leaves (key_of c.args.op.now) = inside t c.before in
+    search rules
+
+-- what the call leaves where the child's summary is as it was
+after_same : (t : ℕ) (c : Then-not-perform_into t)
+    → IsAfter c.self.inside.low c.self.inside.count c.self.inside.summary c.in-Inner.children
+    (with_item c.in-Inner.children c.node_of-i.result c.perform_into.new.self) c.args.number c.args.op.now c.perform_into.new.done
+    × (summary_of (under (set c.in-Inner.children.items c.node_of-i.result c.perform_into.new.self))
+    ≡ summary_of (under c.in-Inner.children.items))
+after_same t c =
+    same_asked _ _ _ c.in-Inner.children _ c.node_of-i.result c.index_mut.result.now c.perform_into.new.self c.args.number c.args.op.now c.perform_into.new.done
+    (subst (IsNode c.self.inside.low c.self.inside.count c.self.inside.summary) c.in-Inner.is c.self.invariant)
+    (rw (c.as_slice.ensures.value, c.key.ensures) at c.node_of-i.ensures)
+    c.index_mut.ensures.value c.perform_into.ensures.asked refl refl
+    (c.perform_into.ensures.same c.if-not-perform_into.true)
+
+-- and where it is another
+after_renewed : (t : ℕ) (c : After-renew-in-Inner t)
+    → IsAfter c.self.inside.low c.self.inside.count c.renew-in-Inner.new.self c.in-Inner.children
+    (with_item c.in-Inner.children c.node_of-i.result c.perform_into.new.self) c.args.number c.args.op.now c.perform_into.new.done
+after_renewed t c =
+    inner_asked _ _ _ _ c.in-Inner.children _ c.node_of-i.result c.index_mut.result.now c.perform_into.new.self c.args.number c.args.op.now c.perform_into.new.done
+    (subst (IsNode c.self.inside.low c.self.inside.count c.self.inside.summary) c.in-Inner.is c.self.invariant)
+    (rw (c.as_slice.ensures.value, c.key.ensures) at c.node_of-i.ensures)
+    c.index_mut.ensures.value c.perform_into.ensures.asked refl refl
+    (c.renew-in-Inner.ensures.other
+    ∙ (c.summary_in.ensures ∙ ap (λ ns. summary_of (under ns)) c.as_slice-in-Inner.ensures.value))
+
+pub invariant_of-self-then-not-perform_into : goal.invariant_of-self-then-not-perform_into
+invariant_of-self-then-not-perform_into t c = (after_same t c).0.kept
+
+pub invariant_of-self-in-Inner : goal.invariant_of-self-in-Inner
+invariant_of-self-in-Inner t c = (after_renewed t c).kept
+
+pub returns-then-not-perform_into-clause-asked : goal.returns-then-not-perform_into-clause-asked
+returns-then-not-perform_into-clause-asked t c =
+    subst (λ (n : NodeView). IsAskedBelow n c.args.number c.args.op.now c.perform_into.new.done
+    (over_nodes (set c.in-Inner.children.items c.node_of-i.result c.perform_into.new.self)))
+    (ap seen (sym c.in-Inner.is) ∙ c.self.view_is) (after_same t c).0.asked
+
+pub returns-then-not-perform_into-clause-same : goal.returns-then-not-perform_into-clause-same
+returns-then-not-perform_into-clause-same t c =
+    λ kept. (after_same t c).1 ∙ ap (λ (n : NodeView). summary_of n.leaves) (ap seen (sym c.in-Inner.is) ∙ c.self.view_is)
+
+pub returns-else-not-perform_into-clause-asked : goal.returns-else-not-perform_into-clause-asked
+returns-else-not-perform_into-clause-asked t c =
+    subst (λ (n : NodeView). IsAskedBelow n c.args.number c.args.op.now c.perform_into.new.done
+    (over_nodes (set c.in-Inner.children.items c.node_of-i.result c.perform_into.new.self)))
+    (ap seen (sym c.in-Inner.is) ∙ c.self.view_is) (after_renewed t c).asked
