@@ -13,3 +13,10 @@ pub record PutsSoFar (X : Type 0) (spell : X → List ℕ) (first now : Vec ℕ)
   pub items : now.items ++ flat_map spell (drop i xs) ≡ first.items ++ flat_map spell xs
   pub len : vec_len now + length (flat_map spell (drop i xs)) ≡ vec_len first + length (flat_map spell xs)
   pub capacity : vec_capacity first ≤ vec_capacity now
+
+-- the same of bytes
+pub record PutsFew (first now : Vec ℕ) (bytes : List ℕ) (i : ℕ) : Type 0 where
+  pub room : HasRoom now (drop i bytes)
+  pub items : now.items ++ drop i bytes ≡ first.items ++ bytes
+  pub len : vec_len now + length (drop i bytes) ≡ vec_len first + length bytes
+  pub capacity : vec_capacity first ≤ vec_capacity now

@@ -5,6 +5,7 @@ use Rattle.std.proofs.lemmas.Option.{none-some, same_Some}
 use Rattle.history.specs.declared.record.Record.{Record}
 use Rattle.history.specs.declared.record.Record.TheVariants as is
 use Rattle.history.specs.Log.{request_of, step_of}
+use Rattle.history.specs.Chains.{undo_from}
 use Rattle.record_key.specs.declared.op.Op.{Op}
 use Rattle.codec.specs.Fields.{number, optional, op_bytes, answer_bytes}
 use Rattle.codec.specs.Frames.{frame}
@@ -103,6 +104,49 @@ no_step (is.Commit txn) op comp = refl
 no_step (is.End txn) op comp = refl
 no_step (is.Checkpoint low) op comp = refl
 
+-- behind a Comp record's two numbers stands what is left to undo
+next_read : (r : Record) (rest : List ℕ) (n : ℕ) → IsRecord r → kind r ≡ 5
+    → first (number_at (drop 16 (fields r ++ rest))) ≡ Some (undo_from (Some r) n)
+next_read (is.Comp txn undoes next inverse) rest n fits comp =
+    let numbers : List ℕ = number txn ++ number undoes in
+    let more : List ℕ = optional op_bytes inverse in
+    let tail : List ℕ = number next ++ more in
+    let parts : fields (is.Comp txn undoes next inverse) ++ rest ≡ numbers ++ (tail ++ rest) =
+    ap (λ (b : List ℕ). b ++ rest) (sym (append_assoc (number txn) (number undoes) tail))
+    ∙ append_assoc numbers tail rest in
+    let two : length numbers ≡ 16 = omega (arith, numbers_length txn (number undoes), length-number undoes) in
+    ap (λ (b : List ℕ). first (number_at b))
+    (ap (drop 16) parts ∙ drop_at numbers (tail ++ rest) 16 two ∙ append_assoc (number next) more rest)
+    ∙ ap first (number_reads.again next (more ++ rest) fits.1.1.0)
+next_read is.Session rest n fits comp = absurd (cc)
+next_read is.Begin rest n fits comp = absurd (cc)
+next_read (is.Op txn prev o) rest n fits comp = absurd (cc)
+next_read (is.Answer of a) rest n fits comp = absurd (cc)
+next_read (is.Commit txn) rest n fits comp = absurd (cc)
+next_read (is.End txn) rest n fits comp = absurd (cc)
+next_read (is.Checkpoint low) rest n fits comp = absurd (cc)
+
+-- which from an Op record is the record, and from no other one anything
+itself_left : (r : Record) (n : ℕ) → kind r ≡ 3 → n ≡ undo_from (Some r) n
+itself_left (is.Op txn prev o) n op = refl
+itself_left is.Session n op = absurd (cc)
+itself_left is.Begin n op = absurd (cc)
+itself_left (is.Answer of a) n op = absurd (cc)
+itself_left (is.Comp txn undoes next inverse) n op = absurd (cc)
+itself_left (is.Commit txn) n op = absurd (cc)
+itself_left (is.End txn) n op = absurd (cc)
+itself_left (is.Checkpoint low) n op = absurd (cc)
+
+nothing_left : (r : Record) (n : ℕ) → kind r ≢ 3 → kind r ≢ 5 → 0 ≡ undo_from (Some r) n
+nothing_left (is.Op txn prev o) n op comp = absurd (op refl)
+nothing_left (is.Comp txn undoes next inverse) n op comp = absurd (comp refl)
+nothing_left is.Session n op comp = refl
+nothing_left is.Begin n op comp = refl
+nothing_left (is.Answer of a) n op comp = refl
+nothing_left (is.Commit txn) n op comp = refl
+nothing_left (is.End txn) n op comp = refl
+nothing_left (is.Checkpoint low) n op comp = refl
+
 -- behind an Op record's two numbers stands what it asks for
 op_read : (r : Record) (rest : List ℕ) → IsRecord r → kind r ≡ 3
     → first (op_at (drop 16 (fields r ++ rest))) ≡ request_of r
@@ -172,6 +216,23 @@ module _ (r : Record) (left rest : List ℕ) (k : ℕ) (tail : List ℕ) where
   no_step_told e read op comp =
       let own = stands r left rest k tail e read in
       sym (no_step r (λ is. op (own.kind_is ∙ is)) (λ is. comp (own.kind_is ∙ is)))
+
+  pub itself_told : left ≡ frame (record_bytes r) ++ rest → byte_at (drop 8 left) ≡ Some (k, tail)
+      → k ≡ 3 → (n : ℕ) → n ≡ undo_from (Some r) n
+  itself_told e read op n = itself_left r n (sym (stands r left rest k tail e read).kind_is ∙ op)
+
+  pub next_told : IsRecord r → left ≡ frame (record_bytes r) ++ rest → byte_at (drop 8 left) ≡ Some (k, tail)
+      → k ≡ 5 → (n : ℕ) → first (number_at (drop 16 tail)) ≡ Some (undo_from (Some r) n)
+  next_told fits e read comp n =
+      let own = stands r left rest k tail e read in
+      ap (λ (b : List ℕ). first (number_at (drop 16 b))) own.tail_is
+      ∙ next_read r rest n fits (sym own.kind_is ∙ comp)
+
+  pub nothing_left_told : left ≡ frame (record_bytes r) ++ rest → byte_at (drop 8 left) ≡ Some (k, tail)
+      → k ≢ 3 → k ≢ 5 → (n : ℕ) → 0 ≡ undo_from (Some r) n
+  nothing_left_told e read op comp n =
+      let own = stands r left rest k tail e read in
+      nothing_left r n (λ is. op (own.kind_is ∙ is)) (λ is. comp (own.kind_is ∙ is))
 
   pub op_told : IsRecord r → left ≡ frame (record_bytes r) ++ rest → byte_at (drop 8 left) ≡ Some (k, tail)
       → k ≡ 3 → first (op_at (drop 16 tail)) ≡ request_of r

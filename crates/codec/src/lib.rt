@@ -29,7 +29,7 @@ pub use image::{
     LeafImage, LeafImageRef, leaf_image_len, leaf_image_spelling_law, put_leaf_image,
     take_leaf_image,
 };
-pub use record::{asked_op, put_record, record_spelling_law, step_txn, take_record};
+pub use record::{asked_op, left_to_undo, put_record, record_spelling_law, step_txn, take_record};
 pub use reply::{Reply, put_reply, reply_spelling_law, take_reply};
 pub use request::{Request, put_request, request_spelling_law, take_request};
 pub use rows::Rows;

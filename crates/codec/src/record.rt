@@ -1,11 +1,12 @@
 //! Records of the transaction log.
-ghost use Rattle.std.specs.Prelude.{◌≡◌, ◌↔◌, ◌+◌, ◌<◌, ◌≤◌, ◌++◌, ℕ, List, length, drop, vec_len, vec_capacity, OnOk, OnErr, IfErr};
+ghost use Rattle.std.specs.Prelude.{◌≡◌, ◌↔◌, ◌+◌, ◌<◌, ◌≤◌, ◌++◌, ℕ, List, length, drop, Some, vec_len, vec_capacity, OnOk, OnErr, IfErr};
 ghost use Rattle.history.specs.declared.record.Record.{Record};
 ghost use Rattle.codec.specs.Records.{record_bytes, HasNumbers, IsRecord};
 ghost use Rattle.codec.specs.Frames.{frame, IfTaken, IfBad, IsThere, IsCut};
 ghost use Rattle.std.specs.List.{flat_map, AllByRecursion};
 ghost use Rattle.codec.specs.Writing.{HasRoom, Puts};
 ghost use Rattle.history.specs.Log.{request_of, step_of};
+ghost use Rattle.history.specs.Chains.{undo_from};
 ghost use Rattle.codec.specs.Reading.{Gives, pair, mapped, optional_at, byte_at, number_at, op_at, record_at};
 
 use crate::frame::{HEADER_LEN, left_at, take_framed};
@@ -73,6 +74,26 @@ pub fn asked_op(bytes: &[u8], at: usize) -> Option<Op>
         3 => Some(take_op(left_at(rest, 16))?.0),
         5 => take_optional_op(left_at(rest, 24))?.0,
         _ => None,
+    }
+}
+
+/// What is left to undo from the record whose frame begins at a place, where it has this number: the number of an Op,
+/// a Comp's undo-next, 0 for another record. Reads no more than the kind and one number, and takes no memory.
+pub fn left_to_undo(bytes: &[u8], at: usize, number: u64) -> u64
+    ensures { (r : Record) (rest : List ℕ) → IsRecord r → drop at bytes.now ≡ frame (record_bytes r) ++ rest
+        → result ≡ undo_from (Some r) number }
+{
+    let Some((kind, rest)) = kind_at(bytes, at) else {
+        return 0;
+    };
+    match kind {
+        3 => number,
+        // Two numbers stand before a Comp's undo-next.
+        5 => match take_number(left_at(rest, 16)) {
+            Some((next, _)) => next,
+            None => 0,
+        },
+        _ => 0,
     }
 }
 

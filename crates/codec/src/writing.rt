@@ -17,6 +17,16 @@ pub(crate) fn put_bytes(out: &mut Vec<u8>, bytes: &[u8])
     }
 }
 
+/// The same for a few bytes, one by one: a call that copies them costs more.
+fn put_few(out: &mut Vec<u8>, bytes: &[u8])
+    requires { HasRoom out.old bytes.now }
+    ensures { Puts out.old out.new bytes.now }
+{
+    for byte in bytes {
+        put_byte(out, *byte);
+    }
+}
+
 /// A kind, a flag or a length.
 pub(crate) fn put_byte(out: &mut Vec<u8>, byte: u8)
     requires { HasRoom out.old (byte ∷ []) }
@@ -32,7 +42,7 @@ pub(crate) fn put_number(out: &mut Vec<u8>, n: u64)
 {
     let mut bytes = [0; 8];
     BigEndian::write_u64(&mut bytes, n);
-    put_bytes(out, &bytes);
+    put_few(out, &bytes);
 }
 
 /// The text of a key or a value, behind its length.

@@ -11,4 +11,4 @@ mod saves;
 mod undo_chain;
 
 pub use saves::Saves;
-pub use undo_chain::{Chain, Next, left_from, next_undo};
+pub use undo_chain::{Chain, Next, next_undo};

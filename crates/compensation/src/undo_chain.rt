@@ -35,7 +35,7 @@ pub fn next_undo<D: LogDevice>(log: &Log<D>, chain: Chain, above: u64) -> Next
     requires { MayUndo log.now.records chain }
     ensures { IsNextUndo log.now.records chain.txn above result }
 {
-    let undoes = left_from(log, chain.last);
+    let undoes = log.left_to_undo(chain.last);
     if undoes <= above {
         return Next::Done;
     }
@@ -57,19 +57,8 @@ fn undoing<D: LogDevice>(log: &Log<D>, undoes: u64) -> (u64, Option<Op>)
 {
     match (log.record(undoes), log.answer_of(undoes)) {
         (Some(Record::Op { prev, op, .. }), Some(answer)) => {
-            (left_from(log, prev), inverse(&op, &answer))
+            (log.left_to_undo(prev), inverse(&op, &answer))
         }
         _ => unreachable!(),
-    }
-}
-
-/// What is left to undo from a step on: the step where it is an operation, else its undo-next.
-pub fn left_from<D: LogDevice>(log: &Log<D>, step: u64) -> u64
-    ensures { result ≡ undo_from (record_at log.now.records step) step }
-{
-    match log.record(step) {
-        Some(Record::Op { .. }) => step,
-        Some(Record::Comp { next, .. }) => next,
-        _ => 0,
     }
 }

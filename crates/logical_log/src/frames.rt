@@ -2,6 +2,7 @@
 ghost use Rattle.std.specs.Prelude.{◌≡◌, ◌+◌, ◌≤◌, ◌<◌, ◌^◌, ◌↔◌, ◌++◌, ◌∷◌, [], ℕ, List, length, ◌⊎◌, None, IsTrue, IfSome, IfNone, OnOk, OnErr, IfErr};
 ghost use Rattle.history.specs.Log.{record_at, answer_of, request_in, step_in};
 ghost use Rattle.history.specs.Legal.{Fits, IsLegal};
+ghost use Rattle.history.specs.Chains.{undo_from};
 ghost use Rattle.history.specs.declared.record.Record.{Record};
 ghost use Rattle.codec.specs.Frames.{frame, IfTaken, IfBad, IsThere, IsCut};
 ghost use Rattle.codec.specs.Records.{record_bytes, HasNumbers, IsRecord};
@@ -12,7 +13,7 @@ ghost use Rattle.logical_log.specs.Spelled.{spelled, AreRecords, IsNext, IsPlace
 
 use crate::note::{answer_held, answer_place, note};
 use crate::write::write;
-use codec::{Taken, asked_op, step_txn, take_record};
+use codec::{Taken, asked_op, left_to_undo, step_txn, take_record};
 use history::Record;
 use record_key::{Answer, Op, Refusal};
 use stable::LogDevice;
@@ -94,6 +95,16 @@ impl Frames {
     {
         let place = place_of(self.places.as_slice(), number)?;
         asked_op(&self.bytes, place)
+    }
+
+    /// What is left to undo from the record of this number, told without reading the whole record.
+    pub(crate) fn left_to_undo(&self, number: u64) -> u64
+        ensures { result ≡ undo_from (record_at self.now.records number) number }
+    {
+        match place_of(self.places.as_slice(), number) {
+            Some(place) => left_to_undo(&self.bytes, place, number),
+            None => 0,
+        }
     }
 
     pub(crate) fn answer_of(&self, number: u64) -> Option<Answer>

@@ -2,6 +2,7 @@
 ghost use Rattle.std.specs.Prelude.{◌≡◌, ◌≤◌, ◌<◌, ◌^◌, ◌++◌, [], length};
 ghost use Rattle.history.specs.Log.{record_at, answer_of, request_in, step_in};
 ghost use Rattle.history.specs.Legal.{IsLegal, FitsCheckpoint, IsLatest};
+ghost use Rattle.history.specs.Chains.{undo_from};
 ghost use Rattle.stable.specs.Crash.{BeginsWith};
 ghost use Rattle.logical_log.specs.Low.{stable_part, IsGreatestLow};
 ghost use Rattle.logical_log.specs.Spelled.{spelled, AreRecords};
@@ -114,6 +115,14 @@ impl<D: LogDevice> Log<D> {
         ensures { result ≡ request_in (record_at self.now.records number) }
     {
         self.frames.asked_op(number)
+    }
+
+    /// What is left to undo from the record of this number on: the record where it is an operation, a compensation's
+    /// undo-next, else 0. Takes no memory and makes no device call.
+    pub fn left_to_undo(&self, number: u64) -> u64
+        ensures { result ≡ undo_from (record_at self.now.records number) number }
+    {
+        self.frames.left_to_undo(number)
     }
 
     /// The answer of this number's operation, if its Answer record stands.

@@ -11,7 +11,6 @@ use crate::findings;
 use crate::heaps::Heaps;
 use crate::loser::Loser;
 use crate::losers::Losers;
-use compensation::left_from;
 use logical_log::Log;
 use record_key::Refusal;
 use stable::LogDevice;
@@ -67,7 +66,7 @@ fn losers_of<D: LogDevice>(
     let mut heaps = Heaps::with_room(alloc, log.len() + 1, open_txns.len())?;
     for (txn, last) in open_txns {
         heaps.add(Loser {
-            left: left_from(log, *last),
+            left: log.left_to_undo(*last),
             txn: *txn,
             last: *last,
         });

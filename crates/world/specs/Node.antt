@@ -58,10 +58,6 @@ pub record AreUp (w : NodeView) : Type 0 where
 abbrev pub fresh_node : NodeView
 fresh_node = record { tc_up = true; tc = fresh 0; dc_up = true; dc = fresh_dc 0; requests = []; replies = [] }
 
-abbrev pub out_of : Result Out Refusal → Out
-out_of (Ok o) = o
-out_of (Err r) = out.Refused r
-
 -- the transaction component is in this state; the rest stays
 abbrev pub with_tc : NodeView → TcView → NodeView
 with_tc w tc = record w { tc = tc }

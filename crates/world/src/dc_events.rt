@@ -1,10 +1,11 @@
 //! The calls of the data component, and the requests that reach it.
 ghost use Rattle.std.specs.Prelude.{◌≡◌};
 ghost use Rattle.world.specs.Kept.{IsKept};
-ghost use Rattle.world.specs.Node.{out_of, ServesTo, IfDcUp, PartsTo, JoinsTo, KeepsUpTo, WritesTo, is_replied_to};
+ghost use Rattle.world.specs.Node.{ServesTo, IfDcUp, PartsTo, JoinsTo, KeepsUpTo, WritesTo, is_replied_to};
 ghost use Rattle.world.specs.Seen.{seen};
 
 use crate::data_component::DataComponent;
+use crate::attempt::attempt;
 use crate::event::Out;
 use crate::node::Node;
 use codec::Request;
@@ -12,69 +13,74 @@ use dc_core::Tended;
 use record_key::{Key, Refusal};
 
 impl Node {
-    pub fn split(&mut self, key: &Key) -> Result<Out, Refusal>
-        ensures done { IfDcUp (seen self.old) (out_of result) (seen self.new)
-            (PartsTo (seen self.old) key.now (out_of result) (seen self.new)) }
+    #[inline(never)]
+    pub fn split(&mut self, key: &Key) -> Out
+        ensures done { IfDcUp (seen self.old) result (seen self.new)
+            (PartsTo (seen self.old) key.now result (seen self.new)) }
     {
         match &mut self.dc {
-            DataComponent::Up(dc) => Ok(Out::Split(dc.split(key)?)),
-            DataComponent::Down(_) => Err(Refusal::NotConnected),
+            DataComponent::Up(dc) => Out::Split(attempt!(dc.split(key))),
+            DataComponent::Down(_) => Out::Refused(Refusal::NotConnected),
         }
     }
 
-    pub fn merge(&mut self, key: &Key) -> Result<Out, Refusal>
-        ensures done { IfDcUp (seen self.old) (out_of result) (seen self.new)
-            (JoinsTo (seen self.old) key.now (out_of result) (seen self.new)) }
+    #[inline(never)]
+    pub fn merge(&mut self, key: &Key) -> Out
+        ensures done { IfDcUp (seen self.old) result (seen self.new)
+            (JoinsTo (seen self.old) key.now result (seen self.new)) }
     {
         match &mut self.dc {
-            DataComponent::Up(dc) => Ok(Out::Merged(dc.merge(key)?)),
-            DataComponent::Down(_) => Err(Refusal::NotConnected),
+            DataComponent::Up(dc) => Out::Merged(attempt!(dc.merge(key))),
+            DataComponent::Down(_) => Out::Refused(Refusal::NotConnected),
         }
     }
 
-    pub fn tend(&mut self) -> Result<Out, Refusal>
-        ensures done { IfDcUp (seen self.old) (out_of result) (seen self.new)
-            (KeepsUpTo (seen self.old) (out_of result) (seen self.new)) }
+    #[inline(never)]
+    pub fn tend(&mut self) -> Out
+        ensures done { IfDcUp (seen self.old) result (seen self.new)
+            (KeepsUpTo (seen self.old) result (seen self.new)) }
     {
         let DataComponent::Up(dc) = &mut self.dc else {
-            return Err(Refusal::NotConnected);
+            return Out::Refused(Refusal::NotConnected);
         };
-        Ok(match dc.tend()? {
+        match attempt!(dc.tend()) {
             Tended::Split(pair) => Out::Split(pair),
             Tended::Merged(pair) => Out::Merged(pair),
             Tended::Nothing => Out::Nothing,
-        })
+        }
     }
 
-    pub fn flush(&mut self, key: &Key) -> Result<Out, Refusal>
-        ensures done { IfDcUp (seen self.old) (out_of result) (seen self.new)
-            (WritesTo (seen self.old) key.now (out_of result) (seen self.new)) }
+    #[inline(never)]
+    pub fn flush(&mut self, key: &Key) -> Out
+        ensures done { IfDcUp (seen self.old) result (seen self.new)
+            (WritesTo (seen self.old) key.now result (seen self.new)) }
     {
         match &mut self.dc {
-            DataComponent::Up(dc) => Ok(Out::Flushed(dc.flush(key)?)),
-            DataComponent::Down(_) => Err(Refusal::NotConnected),
+            DataComponent::Up(dc) => Out::Flushed(attempt!(dc.flush(key))),
+            DataComponent::Down(_) => Out::Refused(Refusal::NotConnected),
         }
     }
 
-    pub fn request(&mut self, number: u64) -> Result<Out, Refusal>
+    #[inline(never)]
+    pub fn request(&mut self, number: u64) -> Out
         requires { IsKept (seen self.old) }
-        ensures done { IfDcUp (seen self.old) (out_of result) (seen self.new)
-            (ServesTo (seen self.old) number (out_of result) (seen self.new)) }
+        ensures done { IfDcUp (seen self.old) result (seen self.new)
+            (ServesTo (seen self.old) number result (seen self.new)) }
     {
         let DataComponent::Up(dc) = &mut self.dc else {
-            return Err(Refusal::NotConnected);
+            return Out::Refused(Refusal::NotConnected);
         };
-        let request = self.requests.message(number)?;
-        dc.allows(&request)?;
+        let request = attempt!(self.requests.message(number));
+        attempt!(dc.allows(&request));
         if has_reply(&request) {
-            self.replies.make_room()?;
+            attempt!(self.replies.make_room());
         }
-        match dc.serve(&request)? {
-            None => Ok(Out::Noted),
+        match attempt!(dc.serve(&request)) {
+            None => Out::Noted,
             Some(reply) => {
                 // Only rows may lack room, and whoever reads them changes nothing.
-                self.replies.push(&reply)?;
-                Ok(Out::Replied(self.replies.len()))
+                attempt!(self.replies.push(&reply));
+                Out::Replied(self.replies.len())
             }
         }
     }

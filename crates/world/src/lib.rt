@@ -7,6 +7,7 @@
 //! holds what a plain map holds.
 #![tactic(auto)]
 
+mod attempt;
 mod crashing;
 mod data_component;
 mod dc_events;

@@ -1,11 +1,12 @@
 //! The two components, and the messages between them.
 ghost use Rattle.std.specs.Prelude.{◌≡◌, IfOk, IfErr};
-ghost use Rattle.world.specs.Node.{fresh_node, StepsTo, out_of, CrashesTcTo, RestartsTcTo, CrashesDcTo, RestartsDcTo};
+ghost use Rattle.world.specs.Node.{fresh_node, StepsTo, CrashesTcTo, RestartsTcTo, CrashesDcTo, RestartsDcTo};
 ghost use Rattle.dc_core.specs.Kept.{IsDc};
 ghost use Rattle.tc_core.specs.Kept.{IsTc};
 ghost use Rattle.world.specs.Kept.{IsKept};
 ghost use Rattle.world.specs.Seen.{seen};
 
+use crate::attempt::attempt;
 use crate::data_component::DataComponent;
 use crate::event::{Event, Out};
 use crate::sent::Sent;
@@ -48,18 +49,15 @@ impl Node {
         ensures tc { IsTc (seen self.new).tc }
         ensures dc { IsDc (seen self.new).dc }
     {
-        let out = match self.happen(event) {
-            Ok(out) => out,
-            Err(refusal) => Out::Refused(refusal),
-        };
+        let out = self.happen(event);
         self.tc.kept();
         self.dc.kept();
         out
     }
 
-    fn happen(&mut self, event: &Event) -> Result<Out, Refusal>
+    fn happen(&mut self, event: &Event) -> Out
         requires { IsKept (seen self.old) }
-        ensures done { StepsTo (seen self.old) event.now (out_of result) (seen self.new) }
+        ensures done { StepsTo (seen self.old) event.now result (seen self.new) }
     {
         match event {
             Event::Reconnect => self.reconnect(),
@@ -83,9 +81,9 @@ impl Node {
             Event::Flush { key } => self.flush(key),
             Event::Request { number } => self.request(*number),
             Event::Reply { number } => self.reply(*number),
-            Event::CrashTc { frames, bytes } => Ok(self.crash_tc(*frames, *bytes)),
+            Event::CrashTc { frames, bytes } => self.crash_tc(*frames, *bytes),
             Event::RestartTc => self.restart_tc(),
-            Event::CrashDc { frames, bytes } => Ok(self.crash_dc(*frames, *bytes)),
+            Event::CrashDc { frames, bytes } => self.crash_dc(*frames, *bytes),
             Event::RestartDc => self.restart_dc(),
         }
     }
@@ -100,13 +98,13 @@ impl Node {
         }
     }
 
-    fn restart_tc(&mut self) -> Result<Out, Refusal>
-        ensures done { RestartsTcTo (seen self.old) (out_of result) (seen self.new) }
+    fn restart_tc(&mut self) -> Out
+        ensures done { RestartsTcTo (seen self.old) result (seen self.new) }
     {
-        Ok(match self.tc.restart(self.alloc)? {
+        match attempt!(self.tc.restart(self.alloc)) {
             Some(records) => Out::Up(records),
             None => Out::Nothing,
-        })
+        }
     }
 
     fn crash_dc(&mut self, frames: u64, bytes: u64) -> Out
@@ -120,13 +118,13 @@ impl Node {
         }
     }
 
-    fn restart_dc(&mut self) -> Result<Out, Refusal>
+    fn restart_dc(&mut self) -> Out
         requires { IsKept (seen self.old) }
-        ensures done { RestartsDcTo (seen self.old) (out_of result) (seen self.new) }
+        ensures done { RestartsDcTo (seen self.old) result (seen self.new) }
     {
-        Ok(match self.dc.restart(self.alloc)? {
+        match attempt!(self.dc.restart(self.alloc)) {
             Some(leaves) => Out::Up(leaves as u64),
             None => Out::Nothing,
-        })
+        }
     }
 }

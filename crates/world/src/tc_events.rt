@@ -1,9 +1,10 @@
 //! The calls of the transaction component, and the messages that they send and take.
 ghost use Rattle.std.specs.Prelude.{◌≡◌, ◌&&◌, not};
 ghost use Rattle.tc_core.specs.Recovery.{undo_unstable};
-ghost use Rattle.world.specs.Node.{out_of, ReconnectsTo, RecoversTo, BeginsTo, ActsTo, ReadsTo, SavesTo, GoesBackTo, RollsBackTo, CommitsTo, UndoesTo, ForcesTo, SendsTo, LowersTo, AsksCheckpoint, TakesTo, IfUp, IfTcUp, down_refusal, as_out, sends_at};
+ghost use Rattle.world.specs.Node.{ReconnectsTo, RecoversTo, BeginsTo, ActsTo, ReadsTo, SavesTo, GoesBackTo, RollsBackTo, CommitsTo, UndoesTo, ForcesTo, SendsTo, LowersTo, AsksCheckpoint, TakesTo, IfUp, IfTcUp, down_refusal, as_out, sends_at};
 ghost use Rattle.world.specs.Seen.{seen};
 
+use crate::attempt::attempt;
 use crate::event::Out;
 use crate::node::Node;
 use crate::transaction_component::TransactionComponent;
@@ -12,205 +13,221 @@ use record_key::{Key, Op, Refusal};
 use tc_core::{Connecting, Forced, Phase, RecoverStep, Told, UndoStep};
 
 impl Node {
-    pub fn reconnect(&mut self) -> Result<Out, Refusal>
-        ensures done { IfTcUp (seen self.old) (out_of result) (seen self.new)
-            (ReconnectsTo (seen self.old) (out_of result) (seen self.new)) }
+    #[inline(never)]
+    pub fn reconnect(&mut self) -> Out
+        ensures done { IfTcUp (seen self.old) result (seen self.new)
+            (ReconnectsTo (seen self.old) result (seen self.new)) }
     {
         let TransactionComponent::Up(tc) = &mut self.tc else {
-            return Err(Refusal::NotConnected);
+            return Out::Refused(Refusal::NotConnected);
         };
-        tc.can_log()?;
-        self.requests.make_room()?;
-        let Connecting { request, committed } = tc.reconnect()?;
+        attempt!(tc.can_log());
+        attempt!(self.requests.make_room());
+        let Connecting { request, committed } = attempt!(tc.reconnect());
         self.requests.push_reserved(&request);
-        Ok(Out::Connects {
+        Out::Connects {
             request: self.requests.len(),
             committed,
-        })
+        }
     }
 
-    pub fn recover(&mut self) -> Result<Out, Refusal>
-        ensures done { IfTcUp (seen self.old) (out_of result) (seen self.new)
-            (RecoversTo (seen self.old) (out_of result) (seen self.new)) }
+    #[inline(never)]
+    pub fn recover(&mut self) -> Out
+        ensures done { IfTcUp (seen self.old) result (seen self.new)
+            (RecoversTo (seen self.old) result (seen self.new)) }
     {
         let TransactionComponent::Up(tc) = &mut self.tc else {
-            return Err(Refusal::NotConnected);
+            return Out::Refused(Refusal::NotConnected);
         };
         tc.kept();
         if sends(tc.phase(), tc.stable_end()) {
-            self.requests.make_room()?;
+            attempt!(self.requests.make_room());
         }
-        match tc.recover_step()? {
-            RecoverStep::Nothing => Ok(Out::Nothing),
+        match attempt!(tc.recover_step()) {
+            RecoverStep::Nothing => Out::Nothing,
             RecoverStep::Sends(request) => {
                 self.requests.push_reserved(&request);
-                Ok(Out::Sent(self.requests.len()))
+                Out::Sent(self.requests.len())
             }
-            RecoverStep::Compensated(number) => Ok(Out::Compensated(number)),
-            RecoverStep::Lost(txn) => Ok(Out::Lost(txn)),
+            RecoverStep::Compensated(number) => Out::Compensated(number),
+            RecoverStep::Lost(txn) => Out::Lost(txn),
         }
     }
 
-    pub fn begin(&mut self) -> Result<Out, Refusal>
-        ensures done { IfTcUp (seen self.old) (out_of result) (seen self.new)
-            (BeginsTo (seen self.old) (out_of result) (seen self.new)) }
+    #[inline(never)]
+    pub fn begin(&mut self) -> Out
+        ensures done { IfTcUp (seen self.old) result (seen self.new)
+            (BeginsTo (seen self.old) result (seen self.new)) }
     {
         let TransactionComponent::Up(tc) = &mut self.tc else {
-            return Err(Refusal::NotConnected);
+            return Out::Refused(Refusal::NotConnected);
         };
-        Ok(Out::Begun(tc.begin()?))
+        Out::Begun(attempt!(tc.begin()))
     }
 
-    pub fn act(&mut self, txn: u64, op: &Op) -> Result<Out, Refusal>
-        ensures done { IfTcUp (seen self.old) (out_of result) (seen self.new)
-            (ActsTo (seen self.old) txn op.now (out_of result) (seen self.new)) }
+    #[inline(never)]
+    pub fn act(&mut self, txn: u64, op: &Op) -> Out
+        ensures done { IfTcUp (seen self.old) result (seen self.new)
+            (ActsTo (seen self.old) txn op.now result (seen self.new)) }
     {
         let TransactionComponent::Up(tc) = &mut self.tc else {
-            return Err(Refusal::NotConnected);
+            return Out::Refused(Refusal::NotConnected);
         };
-        Ok(Out::Logged(tc.act(txn, op)?))
+        Out::Logged(attempt!(tc.act(txn, op)))
     }
 
-    pub fn get(&mut self, txn: u64, key: &Key) -> Result<Out, Refusal>
-        ensures done { IfTcUp (seen self.old) (out_of result) (seen self.new)
-            (ReadsTo (seen self.old) txn (Span.Key key.now) (out_of result) (seen self.new)) }
+    #[inline(never)]
+    pub fn get(&mut self, txn: u64, key: &Key) -> Out
+        ensures done { IfTcUp (seen self.old) result (seen self.new)
+            (ReadsTo (seen self.old) txn (Span.Key key.now) result (seen self.new)) }
     {
         let TransactionComponent::Up(tc) = &mut self.tc else {
-            return Err(Refusal::NotConnected);
+            return Out::Refused(Refusal::NotConnected);
         };
-        Ok(Out::Asked(tc.get(txn, key)?))
+        Out::Asked(attempt!(tc.get(txn, key)))
     }
 
-    pub fn scan(&mut self, txn: u64, low: &Key, high: &Option<Key>) -> Result<Out, Refusal>
-        ensures done { IfUp (seen self.old).tc_up (down_refusal low.now high.now) (seen self.old) (out_of result) (seen self.new)
-            (ReadsTo (seen self.old) txn (Span.Range low.now high.now) (out_of result) (seen self.new)) }
+    #[inline(never)]
+    pub fn scan(&mut self, txn: u64, low: &Key, high: &Option<Key>) -> Out
+        ensures done { IfUp (seen self.old).tc_up (down_refusal low.now high.now) (seen self.old) result (seen self.new)
+            (ReadsTo (seen self.old) txn (Span.Range low.now high.now) result (seen self.new)) }
     {
         let TransactionComponent::Up(tc) = &mut self.tc else {
-            return Err(refused_down(low, high));
+            return Out::Refused(refused_down(low, high));
         };
-        Ok(Out::Asked(tc.scan(txn, low, high)?))
+        Out::Asked(attempt!(tc.scan(txn, low, high)))
     }
 
-    pub fn save(&mut self, txn: u64) -> Result<Out, Refusal>
-        ensures done { IfTcUp (seen self.old) (out_of result) (seen self.new)
-            (SavesTo (seen self.old) txn (out_of result) (seen self.new)) }
+    #[inline(never)]
+    pub fn save(&mut self, txn: u64) -> Out
+        ensures done { IfTcUp (seen self.old) result (seen self.new)
+            (SavesTo (seen self.old) txn result (seen self.new)) }
     {
         let TransactionComponent::Up(tc) = &mut self.tc else {
-            return Err(Refusal::NotConnected);
+            return Out::Refused(Refusal::NotConnected);
         };
-        Ok(Out::Saved(tc.save(txn)?))
+        Out::Saved(attempt!(tc.save(txn)))
     }
 
-    pub fn go_back(&mut self, txn: u64, savepoint: u64) -> Result<Out, Refusal>
-        ensures done { IfTcUp (seen self.old) (out_of result) (seen self.new)
-            (GoesBackTo (seen self.old) txn savepoint (out_of result) (seen self.new)) }
+    #[inline(never)]
+    pub fn go_back(&mut self, txn: u64, savepoint: u64) -> Out
+        ensures done { IfTcUp (seen self.old) result (seen self.new)
+            (GoesBackTo (seen self.old) txn savepoint result (seen self.new)) }
     {
         let TransactionComponent::Up(tc) = &mut self.tc else {
-            return Err(Refusal::NotConnected);
+            return Out::Refused(Refusal::NotConnected);
         };
-        tc.back(txn, savepoint)?;
-        Ok(Out::RollingBack)
+        attempt!(tc.back(txn, savepoint));
+        Out::RollingBack
     }
 
-    pub fn rollback(&mut self, txn: u64) -> Result<Out, Refusal>
-        ensures done { IfTcUp (seen self.old) (out_of result) (seen self.new)
-            (RollsBackTo (seen self.old) txn (out_of result) (seen self.new)) }
+    #[inline(never)]
+    pub fn rollback(&mut self, txn: u64) -> Out
+        ensures done { IfTcUp (seen self.old) result (seen self.new)
+            (RollsBackTo (seen self.old) txn result (seen self.new)) }
     {
         let TransactionComponent::Up(tc) = &mut self.tc else {
-            return Err(Refusal::NotConnected);
+            return Out::Refused(Refusal::NotConnected);
         };
-        tc.rollback(txn)?;
-        Ok(Out::RollingBack)
+        attempt!(tc.rollback(txn));
+        Out::RollingBack
     }
 
-    pub fn commit(&mut self, txn: u64) -> Result<Out, Refusal>
-        ensures done { IfTcUp (seen self.old) (out_of result) (seen self.new)
-            (CommitsTo (seen self.old) txn (out_of result) (seen self.new)) }
+    #[inline(never)]
+    pub fn commit(&mut self, txn: u64) -> Out
+        ensures done { IfTcUp (seen self.old) result (seen self.new)
+            (CommitsTo (seen self.old) txn result (seen self.new)) }
     {
         let TransactionComponent::Up(tc) = &mut self.tc else {
-            return Err(Refusal::NotConnected);
+            return Out::Refused(Refusal::NotConnected);
         };
-        Ok(Out::CommitLogged(tc.commit(txn)?))
+        Out::CommitLogged(attempt!(tc.commit(txn)))
     }
 
-    pub fn undo(&mut self, txn: u64) -> Result<Out, Refusal>
-        ensures done { IfTcUp (seen self.old) (out_of result) (seen self.new)
-            (UndoesTo (seen self.old) txn (out_of result) (seen self.new)) }
+    #[inline(never)]
+    pub fn undo(&mut self, txn: u64) -> Out
+        ensures done { IfTcUp (seen self.old) result (seen self.new)
+            (UndoesTo (seen self.old) txn result (seen self.new)) }
     {
         let TransactionComponent::Up(tc) = &mut self.tc else {
-            return Err(Refusal::NotConnected);
+            return Out::Refused(Refusal::NotConnected);
         };
-        Ok(match tc.undo_step(txn)? {
+        match attempt!(tc.undo_step(txn)) {
             UndoStep::Idle => Out::Nothing,
             UndoStep::Compensated(number) => Out::Compensated(number),
             UndoStep::RolledBack(txn) => Out::RolledBack(txn),
             UndoStep::Back { txn, savepoint } => Out::Back { txn, savepoint },
-        })
+        }
     }
 
-    pub fn force(&mut self) -> Result<Out, Refusal>
-        ensures done { IfTcUp (seen self.old) (out_of result) (seen self.new)
-            (ForcesTo (seen self.old) (out_of result) (seen self.new)) }
+    #[inline(never)]
+    pub fn force(&mut self) -> Out
+        ensures done { IfTcUp (seen self.old) result (seen self.new)
+            (ForcesTo (seen self.old) result (seen self.new)) }
     {
         let TransactionComponent::Up(tc) = &mut self.tc else {
-            return Err(Refusal::NotConnected);
+            return Out::Refused(Refusal::NotConnected);
         };
-        let Forced { end, committed } = tc.force()?;
-        Ok(Out::Stable { end, committed })
+        let Forced { end, committed } = attempt!(tc.force());
+        Out::Stable { end, committed }
     }
 
-    pub fn send(&mut self, txn: u64) -> Result<Out, Refusal>
-        ensures done { IfTcUp (seen self.old) (out_of result) (seen self.new)
-            (SendsTo (seen self.old) txn (out_of result) (seen self.new)) }
+    #[inline(never)]
+    pub fn send(&mut self, txn: u64) -> Out
+        ensures done { IfTcUp (seen self.old) result (seen self.new)
+            (SendsTo (seen self.old) txn result (seen self.new)) }
     {
         let TransactionComponent::Up(tc) = &mut self.tc else {
-            return Err(Refusal::NotConnected);
-        };
-        tc.kept();
-        let request = tc.resend(txn)?;
-        self.requests.push(&request)?;
-        Ok(Out::Sent(self.requests.len()))
-    }
-
-    pub fn low_water(&mut self, low: u64) -> Result<Out, Refusal>
-        ensures done { IfTcUp (seen self.old) (out_of result) (seen self.new)
-            (LowersTo (seen self.old) low (out_of result) (seen self.new)) }
-    {
-        let TransactionComponent::Up(tc) = &mut self.tc else {
-            return Err(Refusal::NotConnected);
+            return Out::Refused(Refusal::NotConnected);
         };
         tc.kept();
-        tc.can_announce(low)?;
-        self.requests.make_room()?;
-        let request = tc.low_water(low)?;
+        let request = attempt!(tc.resend(txn));
+        attempt!(self.requests.push(&request));
+        Out::Sent(self.requests.len())
+    }
+
+    #[inline(never)]
+    pub fn low_water(&mut self, low: u64) -> Out
+        ensures done { IfTcUp (seen self.old) result (seen self.new)
+            (LowersTo (seen self.old) low result (seen self.new)) }
+    {
+        let TransactionComponent::Up(tc) = &mut self.tc else {
+            return Out::Refused(Refusal::NotConnected);
+        };
+        tc.kept();
+        attempt!(tc.can_announce(low));
+        attempt!(self.requests.make_room());
+        let request = attempt!(tc.low_water(low));
         self.requests.push_reserved(&request);
-        Ok(Out::Sent(self.requests.len()))
+        Out::Sent(self.requests.len())
     }
 
-    pub fn checkpoint(&mut self) -> Result<Out, Refusal>
-        ensures done { IfTcUp (seen self.old) (out_of result) (seen self.new)
-            (AsksCheckpoint (seen self.old) (out_of result) (seen self.new)) }
+    #[inline(never)]
+    pub fn checkpoint(&mut self) -> Out
+        ensures done { IfTcUp (seen self.old) result (seen self.new)
+            (AsksCheckpoint (seen self.old) result (seen self.new)) }
     {
         let TransactionComponent::Up(tc) = &mut self.tc else {
-            return Err(Refusal::NotConnected);
+            return Out::Refused(Refusal::NotConnected);
         };
         tc.kept();
-        tc.can_checkpoint()?;
-        self.requests.make_room()?;
-        let request = tc.checkpoint()?;
+        attempt!(tc.can_checkpoint());
+        attempt!(self.requests.make_room());
+        let request = attempt!(tc.checkpoint());
         self.requests.push_reserved(&request);
-        Ok(Out::Sent(self.requests.len()))
+        Out::Sent(self.requests.len())
     }
 
-    pub fn reply(&mut self, number: u64) -> Result<Out, Refusal>
-        ensures done { IfTcUp (seen self.old) (out_of result) (seen self.new)
-            (TakesTo (seen self.old) number (out_of result) (seen self.new)) }
+    #[inline(never)]
+    pub fn reply(&mut self, number: u64) -> Out
+        ensures done { IfTcUp (seen self.old) result (seen self.new)
+            (TakesTo (seen self.old) number result (seen self.new)) }
     {
         let TransactionComponent::Up(tc) = &mut self.tc else {
-            return Err(Refusal::NotConnected);
+            return Out::Refused(Refusal::NotConnected);
         };
-        let reply = self.replies.message(number)?;
-        Ok(out_of_told(tc.on_reply(&reply)?))
+        let reply = attempt!(self.replies.message(number));
+        out_of_told(attempt!(tc.on_reply(&reply)))
     }
 }
 

@@ -45,6 +45,11 @@ fn compensated_on(
     Ok(number)
 }
 
+/// The number of the record that stands so many records after the session's.
+fn after(session: u64, count: u64) -> u64 {
+    session.wrapping_add(count)
+}
+
 /// An insert is rolled back.
 fn insert_rolled_back_on(rt: &impl Abort, tc: &mut Tc<MemLog>) -> Result<(), Fail> {
     let session = session_on(tc)?;
@@ -57,9 +62,10 @@ fn insert_rolled_back_on(rt: &impl Abort, tc: &mut Tc<MemLog>) -> Result<(), Fai
     force_again(tc)?;
     assert_eq!(rt;
         (txn, number, undone),
-        (session + 1, session + 2, session + 4)
+        (after(session, 1), after(session, 2), after(session, 4))
     );
-    assert_eq!(rt; (tc.records(), tc.stable_end()), (session + 6, session + 6));
+    let end = after(session, 6);
+    assert_eq!(rt; (tc.records(), tc.stable_end()), (end, end));
     Ok(())
 }
 
@@ -78,7 +84,10 @@ fn commit_then_upsert_rolled_back_on(rt: &impl Abort, tc: &mut Tc<MemLog>) -> Re
     let updated = Answer::Updated(Value::new(b"2")?);
     compensated_on(tc, session, second, &updated)?;
     assert_eq!(rt; undo_again(tc, second), Ok(UndoStep::RolledBack(second)));
-    assert_eq!(rt; (second, tc.records()), (session + 5, session + 10));
+    assert_eq!(rt;
+        (second, tc.records()),
+        (after(session, 5), after(session, 10))
+    );
     Ok(())
 }
 

@@ -40,9 +40,9 @@ loop-txn-preserved g c =
     record {
       kept = c.add.ensures.kept (length rest) (subst (IsHeaped c.loop-txn.heaps) count c.loop-txn.invariant.kept);
       below = c.add.ensures.added.0 ∙ c.loop-txn.invariant.below;
-      so_far = one_less log (keys_of rest) (seen c.loop-txn.heaps) (seen c.add.new.self) t last c.left_from.result
+      so_far = one_less log (keys_of rest) (seen c.loop-txn.heaps) (seen c.add.new.self) t last c.left_to_undo.result
           c.len.ensures.legal
-          (All-head (λ (e : ℕ × ℕ). OpenAt log e.0 e.1) (t, last) rest each) c.left_from.ensures
+          (All-head (λ (e : ℕ × ℕ). OpenAt log e.0 e.1) (t, last) rest each) c.left_to_undo.ensures
           (subst (λ (es : List (ℕ × ℕ)). AreWith log (length log + 1) (keys_of es) (seen c.loop-txn.heaps)) step
           c.loop-txn.invariant.so_far)
           c.add.ensures.added;

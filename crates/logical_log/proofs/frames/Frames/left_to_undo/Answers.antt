@@ -1,0 +1,17 @@
+use Rattle.std.proofs.Common.{◌∙◌, Option, Some, sym, ap}
+use Rattle.history.specs.declared.record.Record.{Record}
+use Rattle.history.specs.Chains.{undo_from}
+use Rattle.logical_log.proofs.Framed.{none_kept, tells_kept}
+use Rattle.logical_log.proofs.frames.Frames.left_to_undo.Goals as goal
+
+pub returns-in-Some : goal.returns-in-Some
+returns-in-Some c =
+    let t = tells_kept (λ (r : Record). undo_from (Some r) c.args.number) _ _ _ _ _ _ c.self.invariant c.args.number
+    c.in-Some.place c.deref.result.now c.left_to_undo.result c.deref.ensures.value
+    (rw c.as_slice.ensures.value at c.in-Some.ensures.some) c.left_to_undo.ensures in
+    rw (← c.self.view_is) (t.told_is ∙ ap (λ (o : Option Record). undo_from o c.args.number) (sym t.is))
+
+pub returns-in-None : goal.returns-in-None
+returns-in-None c =
+    rw (← c.self.view_is) (ap (λ (o : Option Record). undo_from o c.args.number) (sym (none_kept _ _ _ _ _ _ c.self.invariant
+    c.args.number (rw c.as_slice.ensures.value at c.in-None.ensures.none))))
