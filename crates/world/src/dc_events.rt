@@ -4,8 +4,8 @@ ghost use Rattle.world.specs.Kept.{IsKept};
 ghost use Rattle.world.specs.Node.{ServesTo, IfDcUp, PartsTo, JoinsTo, KeepsUpTo, WritesTo, is_replied_to};
 ghost use Rattle.world.specs.Seen.{seen};
 
-use crate::data_component::DataComponent;
 use crate::attempt::attempt;
+use crate::data_component::DataComponent;
 use crate::event::Out;
 use crate::node::Node;
 use codec::Request;
