@@ -72,20 +72,34 @@ fn a_cut_and_a_join_lose_nothing(rt: HostRuntime) -> Result<(), Fail> {
     let numbers = mixed(rt.alloc())?;
     let mut lower = noted(&rt, rt.alloc(), &numbers)?;
     lower.raise(9);
+    cut_and_joined(&rt, &mut lower, &numbers)
+}
+
+fn cut_and_joined(rt: &impl Abort, lower: &mut AbLsn, numbers: &[u64]) -> Result<(), Fail> {
     let five = key(&[5])?;
-    let upper = match lower.cut(&five) {
-        Ok(upper) => upper,
+    let upper = cut_at(rt, lower, &five, numbers)?;
+    expect_sides(rt, lower, &upper, &five);
+    lower.join(&upper)?;
+    expect(rt, lower, 9, numbers)
+}
+
+/// The upper part, cut once more where memory was refused.
+fn cut_at(rt: &impl Abort, lower: &mut AbLsn, at: &Key, numbers: &[u64]) -> Result<AbLsn, Fail> {
+    match lower.cut(at) {
+        Ok(upper) => Ok(upper),
         Err(refusal) => {
             assert_eq!(rt; refusal, Refusal::NoMemory);
-            expect(&rt, &lower, 9, &numbers)?;
-            lower.cut(&five)?
+            expect(rt, lower, 9, numbers)?;
+            Ok(lower.cut(at)?)
         }
-    };
-    assert!(rt; lower.entries().iter().all(|entry| entry.key < five));
-    assert!(rt; upper.entries().iter().all(|entry| entry.key >= five));
+    }
+}
+
+/// Each side has the entries of its keys, and the low number.
+fn expect_sides(rt: &impl Abort, lower: &AbLsn, upper: &AbLsn, at: &Key) {
+    assert!(rt; lower.entries().iter().all(|entry| entry.key < *at));
+    assert!(rt; upper.entries().iter().all(|entry| entry.key >= *at));
     assert_eq!(rt; upper.low(), 9);
-    lower.join(&upper)?;
-    expect(&rt, &lower, 9, &numbers)
 }
 
 /// One number, on a key of its own in each of two.
@@ -100,8 +114,12 @@ fn one(alloc: Global, number: u64, place: &[u8]) -> Result<AbLsn, Fail> {
 #[test]
 fn of_two_with_one_number_one_stays(rt: HostRuntime) -> Result<(), Fail> {
     let mut lower = one(rt.alloc(), 7, &[1])?;
-    let upper = one(rt.alloc(), 7, &[2])?;
-    lower.join(&upper)?;
+    lower.join(&one(rt.alloc(), 7, &[2])?)?;
+    expect_own(&rt, &lower)
+}
+
+/// The one entry is the first one's own.
+fn expect_own(rt: &impl Abort, lower: &AbLsn) -> Result<(), Fail> {
     assert_eq!(rt; lower.entries().len(), 1);
     assert_eq!(rt; lower.entries()[0].key, key(&[1])?);
     assert!(rt; lower.captures(7));

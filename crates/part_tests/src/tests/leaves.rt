@@ -122,7 +122,10 @@ fn five(alloc: Global) -> Result<Leaf, Fail> {
 
 #[test]
 fn ranges(rt: HostRuntime) -> Result<(), Fail> {
-    let leaf = five(rt.alloc())?;
+    ranges_of(&rt, &five(rt.alloc())?)
+}
+
+fn ranges_of(rt: &impl Abort, leaf: &Leaf) -> Result<(), Fail> {
     for (low, high, first, past) in [
         (&b"a"[..], None, 0, 5),
         (b"c", None, 1, 5),
@@ -130,7 +133,7 @@ fn ranges(rt: HostRuntime) -> Result<(), Fail> {
         (b"b", Some(b"m"), 1, 2),
         (b"m", Some(b"c"), 0, 0),
     ] {
-        expect_rows(&rt, &leaf, scanned(&leaf, low, high)?, first, past);
+        expect_rows(rt, leaf, scanned(leaf, low, high)?, first, past);
     }
     assert_eq!(rt; leaf.get(&key(b"ma")?), Some(&value(b"ma")?));
     assert_eq!(rt; leaf.get(&key(b"b")?), None);
@@ -179,14 +182,19 @@ fn a_cut_parts_records_and_entries(rt: HostRuntime) -> Result<(), Fail> {
     let mut leaf = five(rt.alloc())?;
     let c = key(b"c")?;
     let upper = cut_at(&rt, &mut leaf, &c)?;
-    assert_eq!(rt; counts(&leaf), (1, 1));
-    assert_eq!(rt; counts(&upper), (4, 4));
+    expect_parts(&rt, &leaf, &upper, &c);
+    Ok(())
+}
+
+/// The two parts of the five names that a cut at c leaves.
+fn expect_parts(rt: &impl Abort, leaf: &Leaf, upper: &Leaf, c: &Key) {
+    assert_eq!(rt; counts(leaf), (1, 1));
+    assert_eq!(rt; counts(upper), (4, 4));
     assert_eq!(rt; (upper.id(), upper.last(), leaf.last()), (2, 9, 9));
-    assert_eq!(rt; leaf.high_fence(), Some(&c));
-    assert_eq!(rt; upper.low_fence(), Some(&c));
+    assert_eq!(rt; leaf.high_fence(), Some(c));
+    assert_eq!(rt; upper.low_fence(), Some(c));
     assert!(rt; leaf.captures(3) && !upper.captures(3));
     assert!(rt; upper.captures(5) && !leaf.captures(5));
-    Ok(())
 }
 
 /// The two leaves that a cut of the five names at c leaves.
@@ -203,12 +211,15 @@ fn halves(alloc: Global) -> Result<(Leaf, Leaf), Fail>
 
 #[test]
 fn a_join_gives_the_whole_again(rt: HostRuntime) -> Result<(), Fail> {
-    let whole = five(rt.alloc())?;
     let (lower, upper) = halves(rt.alloc())?;
     let joined = lower.join(&upper, 10)?;
+    expect_whole(&rt, &joined, &five(rt.alloc())?);
+    Ok(())
+}
+
+fn expect_whole(rt: &impl Abort, joined: &Leaf, whole: &Leaf) {
     assert_eq!(rt; joined.rows(), whole.rows());
     assert_eq!(rt; joined.entries(), whole.entries());
     assert_eq!(rt; (joined.id(), joined.last()), (1, 10));
     joined.kept();
-    Ok(())
 }

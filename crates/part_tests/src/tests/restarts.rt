@@ -173,13 +173,17 @@ fn expect_after(rt: &impl Abort, alloc: Global, records: &[Record]) -> Result<()
     expect_plan(rt, records, &plan);
     expect_redo(rt, &log, records);
     let mut undone = slow::all_answered(alloc, records)?;
+    undone_wholly(rt, &mut undone, &mut plan.losers)
+}
+
+fn undone_wholly(rt: &impl Abort, log: &mut Vec<Record>, losers: &mut Losers) -> Result<(), Fail> {
     for _ in 0..64 {
-        if !undo_step(rt, &mut undone, &mut plan.losers)? {
+        if !undo_step(rt, log, losers)? {
             break;
         }
     }
-    assert!(rt; plan.losers.is_empty());
-    assert!(rt; is_legal(&undone));
+    assert!(rt; losers.is_empty());
+    assert!(rt; is_legal(log));
     Ok(())
 }
 
@@ -205,7 +209,11 @@ fn crashes_in_turns(rt: HostRuntime) -> Result<(), Fail> {
 #[test]
 fn the_order_of_undo(rt: HostRuntime) -> Result<(), Fail> {
     let log = opened(rt.alloc(), &in_turns())?;
-    let mut losers = analyse(rt.alloc(), &log)?.losers;
+    undone_in_turns(&rt, &mut analyse(rt.alloc(), &log)?.losers);
+    Ok(())
+}
+
+fn undone_in_turns(rt: &impl Abort, losers: &mut Losers) {
     assert_eq!(rt;
         losers.lose_next().map(|next| (next.txn, next.left)),
         Some((2, 8))
@@ -226,7 +234,6 @@ fn the_order_of_undo(rt: HostRuntime) -> Result<(), Fail> {
     assert_eq!(rt; losers.ended_next(), Some(2));
     losers.ended();
     assert!(rt; losers.is_empty());
-    Ok(())
 }
 
 /// Run with each allocation refused in turn: analysis answers NoMemory, or the whole plan.
