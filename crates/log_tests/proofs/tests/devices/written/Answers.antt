@@ -4,7 +4,7 @@ use Rattle.std.specs.Cmp.{nat_cmp_total, eq_by_cmp_equiv}
 use Rattle.std.specs.FinMap.{get, insert, get-insert}
 use Rattle.std.specs.Option.{option_map}
 use Rattle.stable.specs.PagesState.{Pages}
-use Rattle.part_tests.proofs.tests.devices.written.Goals as goal
+use Rattle.log_tests.proofs.tests.devices.written.Goals as goal
 
 get-insert_same : (m : Pages) (k : ℕ) (bytes : List ℕ) → get (insert m k bytes) k ≡ Some bytes
 get-insert_same m k bytes =
