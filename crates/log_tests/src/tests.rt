@@ -1,8 +1,6 @@
 //! A module for each crate.
 mod devices;
-mod frames;
 mod legality;
 mod logs;
 mod restarts;
 mod savepoints;
-mod values;

@@ -1,6 +1,6 @@
-//! Tests of the two components and of the data component's system transactions, each by itself, over its public calls.
+//! Tests of the data component and of its system transactions, each by itself, over their public calls.
 //!
-//! Knows: the public calls of both components and of system transactions, and what their devices do.
+//! Knows: the public calls of the data component and of system transactions, and what their devices do.
 //! Must not know: anything that these crates keep to themselves, or how messages come and go.
 //! Promises nothing to other crates: it is run. Its tests say what no clause says: that a call succeeds, what a run of
 //! calls comes to, which device call fails, and what a crash leaves.

@@ -1,5 +1,5 @@
 use Rattle.codec.proofs.Replies.{is_ordered}
-use Rattle.log_tests.proofs.tests.frames.replies.reply_of.Goals as goal
+use Rattle.codec_tests.proofs.tests.frames.replies.reply_of.Goals as goal
 
 pub put_reply-requires : goal.put_reply-requires
 put_reply-requires g c =

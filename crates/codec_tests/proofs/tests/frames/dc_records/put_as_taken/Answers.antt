@@ -5,8 +5,8 @@ use Rattle.codec.specs.declared.taken.Taken.TheVariants as took
 use Rattle.codec.specs.DcRecords.{dc_record_bytes, IsDcRecord, IsOrderedDcRecord}
 use Rattle.codec.specs.Frames.{IfTaken, IsThere}
 use Rattle.codec.proofs.DcRecords.{dc_record_is_ordered}
-use Rattle.log_tests.proofs.tests.frames.dc_records.put_as_taken.Goals as goal
-use Rattle.log_tests.proofs.tests.frames.dc_records.put_as_taken.Goals.{in-Ok, in-Err+else-assert_eq+in_ok-taken-in-Err}
+use Rattle.codec_tests.proofs.tests.frames.dc_records.put_as_taken.Goals as goal
+use Rattle.codec_tests.proofs.tests.frames.dc_records.put_as_taken.Goals.{in-Ok, in-Err+else-assert_eq+in_ok-taken-in-Err}
 
 may_put : (left : List ℕ) (t : Taken DcRecord) (r : DcRecord) (next : ℕ) → t ≡ took.Record r next
     → IfTaken t (IsThere DcRecord dc_record_bytes IsDcRecord 0 left) → IsOrderedDcRecord r

@@ -1,4 +1,3 @@
 //! A module for each crate.
 mod data;
 mod system_transactions;
-mod transactions;
