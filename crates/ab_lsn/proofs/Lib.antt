@@ -1,5 +1,4 @@
 pub mod Rising
 pub mod Capturing
 pub mod Noting
-pub mod Kept
 pub mod Placing

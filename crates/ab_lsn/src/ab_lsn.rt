@@ -1,13 +1,11 @@
 //! The abstract page LSN.
 ghost use Rattle.std.specs.Prelude.{◌≡◌, ℕ, ◌==◌, ◌||◌, false, nat_le, OnOk, OnErr, IfOk, IfErr};
-ghost use Rattle.std.specs.Option.{option_copied};
 ghost use Rattle.record_key.specs.Entries.{RiseAbove};
 ghost use Rattle.ab_lsn.specs.AbLsn.{blank, captures, saved_in, noted, raised};
 ghost use Rattle.ab_lsn.specs.Parting.{is_under, is_from, stands_with, cut_under, cut_from, joined};
 
-use crate::entries::{copied_all, copied_from, keep_above, keep_under, place_all, place_of};
-use record_key::{Answer, Entry, Key, Refusal};
-use smallvec::SmallVec;
+use crate::entries::{copied_from, keep_above, place_all};
+use record_key::{Answer, Entries, Key, Refusal};
 use std::alloc::Global;
 use std::marker::Model;
 
@@ -15,7 +13,7 @@ use std::marker::Model;
 #[derive(Debug, Drop)]
 pub struct AbLsn {
     low: u64,
-    entries: SmallVec<Entry, 4>,
+    entries: Entries,
 }
 
 impl Model for AbLsn {
@@ -24,9 +22,9 @@ impl Model for AbLsn {
 
     ghost Value = { AbLsnView };
 
-    ghost view = { λ a. record { low = a.low; entries = a.entries.items } };
+    ghost view = { λ a. record { low = a.low; entries = a.entries } };
 
-    ghost invariant = { λ a. RiseAbove a.low a.entries.items };
+    ghost invariant = { λ a. RiseAbove a.low a.entries };
 }
 
 impl AbLsn {
@@ -36,19 +34,16 @@ impl AbLsn {
     {
         AbLsn {
             low: 0,
-            entries: SmallVec::new(alloc),
+            entries: Entries::new(alloc),
         }
     }
 
     /// Captures every number up to a low one, and those of these entries. Takes no memory.
-    pub fn from_parts(low: u64, entries: Vec<Entry>) -> AbLsn
-        requires { RiseAbove low entries.items }
-        ensures { result ≡ record { low = low; entries = entries.items } }
+    pub fn from_parts(low: u64, entries: Entries) -> AbLsn
+        requires { RiseAbove low entries }
+        ensures { result ≡ record { low = low; entries = entries } }
     {
-        AbLsn {
-            low,
-            entries: SmallVec::from_vec(entries),
-        }
+        AbLsn { low, entries }
     }
 
     /// The low number: every number up to it is captured, and their answers are gone.
@@ -59,26 +54,26 @@ impl AbLsn {
     }
 
     /// The captured numbers above the low one, rising, with their answers.
-    pub fn entries(&self) -> &[Entry]
+    pub fn entries(&self) -> &Entries
         ensures entries { result.now ≡ self.now.entries }
         ensures rising { RiseAbove self.now.low self.now.entries }
     {
-        self.entries.as_slice()
+        &self.entries
     }
 
     /// Whether the number's effect is there. Takes no memory.
     pub fn captures(&self, number: u64) -> bool
         ensures { result ≡ captures self.now number }
     {
-        number <= self.low || place_of(self.entries.as_slice(), number).is_ok()
+        number <= self.low || self.entries.place_of(number).is_ok()
     }
 
     /// The answer saved under the number. Takes no memory.
-    pub fn answer_of(&self, number: u64) -> Option<&Answer>
-        ensures { option_copied result ≡ saved_in self.now.entries number }
+    pub fn answer_of(&self, number: u64) -> Option<Answer>
+        ensures { result ≡ saved_in self.now.entries number }
     {
-        match place_of(self.entries.as_slice(), number) {
-            Ok(at) => Some(&self.entries.as_slice()[at].answer),
+        match self.entries.place_of(number) {
+            Ok(at) => Some(self.entries.entry(at).answer),
             Err(_) => None,
         }
     }
@@ -91,14 +86,9 @@ impl AbLsn {
         ensures unchanged { OnErr result (self.new ≡ self.old) }
         ensures refused { IfErr result (λ refusal. refusal ≡ Refusal.NoMemory) }
     {
-        let entry = Entry {
-            number,
-            key: key.copied(),
-            answer: answer.copied(),
-        };
-        match place_of(self.entries.as_slice(), number) {
+        match self.entries.place_of(number) {
             Ok(_) => unreachable!(),
-            Err(gap) => self.entries.insert(gap, entry)?,
+            Err(gap) => self.entries.insert(gap, number, key, answer)?,
         }
         Ok(())
     }
@@ -116,7 +106,7 @@ impl AbLsn {
         ensures copied { IfOk result (λ copied. copied ≡ self.now) }
         ensures refused { IfErr result (λ refusal. refusal ≡ Refusal.NoMemory) }
     {
-        let entries = copied_all(*self.entries.allocator(), self.entries.as_slice())?;
+        let entries = self.entries.copied()?;
         Ok(AbLsn {
             low: self.low,
             entries,
@@ -131,7 +121,7 @@ impl AbLsn {
             captures upper m ≡ (nat_le m self.now.low || stands_with (is_from key.now) self.now.entries m)) }
         ensures refused { IfErr result (λ refusal. refusal ≡ Refusal.NoMemory) }
     {
-        let upper = copied_from(*self.entries.allocator(), self.entries.as_slice(), key)?;
+        let upper = copied_from(self.entries.allocator(), &self.entries, key)?;
         Ok(AbLsn {
             low: self.low,
             entries: upper,
@@ -144,7 +134,7 @@ impl AbLsn {
         ensures captured { (m : ℕ) →
             captures self.new m ≡ (nat_le m self.old.low || stands_with (is_under key.now) self.old.entries m) }
     {
-        keep_under(&mut self.entries, key);
+        self.entries.drop_from(key);
     }
 
     /// Gives away the entries whose keys are at or above this one; both sides keep the low number. Refused
@@ -174,10 +164,11 @@ impl AbLsn {
         ensures unchanged { OnErr result (self.new ≡ self.old) }
         ensures refused { IfErr result (λ refusal. refusal ≡ Refusal.NoMemory) }
     {
-        let more = other.entries.as_slice();
-        self.entries.reserve(more.len())?;
-        self.low = keep_above(&mut self.entries, self.low, other.low);
-        place_all(&mut self.entries, self.low, more);
+        let mut entries = self.entries.copied()?;
+        let low = keep_above(&mut entries, self.low, other.low);
+        place_all(&mut entries, low, &other.entries)?;
+        self.low = low;
+        self.entries = entries;
         Ok(())
     }
 }

@@ -69,7 +69,7 @@ why limit place left =
 
 -- ---- what is taken
 
-length-frame : (body : List ℕ) → length (frame body) ≡ 8 + length body
+pub length-frame : (body : List ℕ) → length (frame body) ≡ 8 + length body
 length-frame body = omega (arith, length-append (number (length body)) body, length-number (length body))
 
 value_is : (X : Type 0) (place next : ℕ) (o : Option X) (x : X) (m : ℕ) → value_or_bad place next o ≡ took.Record x m
@@ -116,7 +116,7 @@ found X spell Fits read law limit place left (took.Bad at) fits e = tt
 -- ---- what stands there is taken
 
 -- the length in front of a body, and the body
-length_there : (body left rest : List ℕ) → length body < 2 ^ 64 → left ≡ frame body ++ rest
+pub length_there : (body left rest : List ℕ) → length body < 2 ^ 64 → left ≡ frame body ++ rest
     → first_number left ≡ length body
 length_there body left rest short e =
     ap first_number (e ∙ append_assoc (number (length body)) body rest) ∙ first_number-number (length body) (body ++ rest) short

@@ -10,6 +10,7 @@ pub mod Replies
 pub mod Images
 pub mod DcRecords
 pub mod Frames
+pub mod Indexed
 pub mod Ends
 pub mod Results
 pub mod Numbered

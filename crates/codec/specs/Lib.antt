@@ -7,5 +7,7 @@ pub mod Entries
 pub mod Images
 pub mod DcRecords
 pub mod Frames
+pub mod FrameIndex
 pub mod Reading
 pub mod Writing
+pub mod Performances

@@ -10,57 +10,20 @@ use crate::frame::HEADER_LEN;
 use crate::lengths::{answer_len, key_len};
 use crate::reading::{take_answer, take_count, take_key, take_number};
 use crate::writing::{put_answer, put_number, put_text};
-use record_key::Entry;
+use record_key::{Entries, Entry};
 use std::alloc::Global;
-use std::marker::Model;
-
-/// Entries, as a leaf's image lists them.
-#[derive(Debug, Drop)]
-pub struct Entries {
-    entries: Vec<Entry>,
-}
-
-impl Model for Entries {
-    ghost use Rattle.std.specs.Prelude.{List};
-    ghost use Rattle.record_key.specs.declared.entry.Entry.{Entry};
-
-    ghost Value = { List Entry };
-
-    ghost view = { λ e. e.entries.items };
-}
-
-impl Entries {
-    pub fn new(entries: Vec<Entry>) -> Entries
-        ensures { result ≡ entries.items }
-    {
-        Entries { entries }
-    }
-
-    pub fn as_slice(&self) -> &[Entry]
-        ensures { result.now ≡ self.now }
-    {
-        self.entries.as_slice()
-    }
-
-    /// The entries as a plain list.
-    pub fn into_entries(self) -> Vec<Entry>
-        ensures { result.items ≡ self }
-    {
-        let Entries { entries } = self;
-        entries
-    }
-}
 
 /// Whether each entry's number is above the one before it, the first entry's above `low`.
-pub(crate) fn entries_rise(low: u64, entries: &[Entry]) -> bool
+pub(crate) fn entries_rise(low: u64, entries: &Entries) -> bool
     ensures { result ≡ numbers_rise low entries.now }
 {
     let mut before = low;
-    for entry in entries {
-        if entry.number <= before {
+    for at in 0..entries.len() {
+        let number = entries.entry(at).number;
+        if number <= before {
             return false;
         }
-        before = entry.number;
+        before = number;
     }
     true
 }
@@ -82,16 +45,19 @@ fn take_entry(bytes: &[u8]) -> Option<(Entry, &[u8])>
     ))
 }
 
-fn take_each(alloc: Global, count: u64, bytes: &[u8]) -> Result<(Vec<Entry>, &[u8]), Fault>
-    ensures { Finds (λ x. (x.0.items, x.1.now)) result (items_at entry_at count bytes.now) }
+fn take_each(alloc: Global, count: u64, bytes: &[u8]) -> Result<(Entries, &[u8]), Fault>
+    ensures { Finds (λ x. (x.0, x.1.now)) result (items_at entry_at count bytes.now) }
 {
-    let mut entries = Vec::new(alloc);
+    let mut entries = Entries::new(alloc);
     let mut rest = bytes;
     for _ in 0..count {
         let Some(part) = take_entry(rest) else {
             return Err(Fault::Outside);
         };
-        entries.push(part.0)?;
+        match entries.push(&part.0) {
+            Ok(()) => {}
+            Err(_) => return Err(Fault::Memory),
+        }
         rest = part.1;
     }
     Ok((entries, rest))
@@ -105,8 +71,7 @@ pub(crate) fn take_entries(alloc: Global, bytes: &[u8]) -> Result<(Entries, &[u8
     let Some((count, rest)) = take_count(bytes) else {
         return Err(Fault::Outside);
     };
-    let (entries, rest) = take_each(alloc, count, rest)?;
-    Ok((Entries::new(entries), rest))
+    take_each(alloc, count, rest)
 }
 
 #[tactic(auto, using(crate::proofs::Lists::entry_length))]
@@ -120,15 +85,15 @@ fn entry_len(entry: &Entry) -> usize
 }
 
 /// How many bytes each entry takes, together. None where that is 2 to the power of 64 or more.
-fn each_len(entries: &[Entry]) -> Option<usize>
+fn each_len(entries: &Entries) -> Option<usize>
     requires { AllByRecursion HasEntryNumber entries.now }
     ensures some { IfSome result (λ len. len ≡ length (flat_map entry_bytes entries.now)) }
     ensures spelled { OnSome result (AllByRecursion IsEntry entries.now) }
     ensures none { IfNone result (2 ^ 64 ≤ length (flat_map entry_bytes entries.now)) }
 {
     let mut len: usize = 0;
-    for entry in entries {
-        let Some(sum) = len.checked_add(entry_len(entry)) else {
+    for at in 0..entries.len() {
+        let Some(sum) = len.checked_add(entry_len(&entries.entry(at))) else {
             return None;
         };
         len = sum;
@@ -145,18 +110,18 @@ fn put_entry(out: &mut Vec<u8>, entry: &Entry)
     put_answer(out, &entry.answer);
 }
 
-fn put_each(out: &mut Vec<u8>, entries: &[Entry])
+fn put_each(out: &mut Vec<u8>, entries: &Entries)
     requires { HasRoom out.old (flat_map entry_bytes entries.now) }
     ensures { Puts out.old out.new (flat_map entry_bytes entries.now) }
 {
-    for entry in entries {
-        put_entry(out, entry);
+    for at in 0..entries.len() {
+        put_entry(out, &entries.entry(at));
     }
 }
 
 /// How many bytes the entries take, with their count. None where that is 2 to the power of 64 or more.
 #[tactic(auto, unfolding(crate::specs::Entries::entries_bytes), using(crate::proofs::Numbered::number_lengths))]
-pub(crate) fn entries_len(entries: &[Entry]) -> Option<usize>
+pub(crate) fn entries_len(entries: &Entries) -> Option<usize>
     requires { AllByRecursion HasEntryNumber entries.now }
     ensures some { IfSome result (λ len. len ≡ length (entries_bytes entries.now)) }
     ensures few { length entries.now < 2 ^ 64 }
@@ -171,7 +136,7 @@ pub(crate) fn entries_len(entries: &[Entry]) -> Option<usize>
 }
 
 #[tactic(auto, unfolding(crate::specs::Entries::entries_bytes), using(crate::proofs::Numbered::number_lengths))]
-pub(crate) fn put_entries(out: &mut Vec<u8>, entries: &[Entry])
+pub(crate) fn put_entries(out: &mut Vec<u8>, entries: &Entries)
     requires { HasRoom out.old (entries_bytes entries.now) }
     ensures { Puts out.old out.new (entries_bytes entries.now) }
 {

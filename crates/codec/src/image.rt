@@ -9,7 +9,7 @@ ghost use Rattle.codec.specs.Writing.{HasRoom, Puts};
 ghost use Rattle.std.specs.Option.{option_copied};
 ghost use Rattle.codec.specs.Reading.{Gives, Finds, IfRefused, image_numbers_at, fences_at, image_of, image_parts_at, image_at, BeginsAsImage, mapped, all_of, value_or_bad, rows_lie, entries_stand, keeps_bounds};
 
-use crate::entries::{Entries, entries_len, entries_rise, put_entries, take_entries};
+use crate::entries::{entries_len, entries_rise, put_entries, take_entries};
 use crate::fault::Fault;
 use crate::frame::HEADER_LEN;
 use crate::lengths::optional_key_len;
@@ -17,7 +17,7 @@ use crate::reading::{take_number, take_optional_key};
 use crate::rows::{Rows, key_is_below, put_rows, rows_len, take_rows};
 use crate::taken::Taken;
 use crate::writing::{put_number, put_optional_key};
-use record_key::{Entry, Key, Refusal, Value};
+use record_key::{Entries, Key, Refusal, Value};
 use std::alloc::Global;
 
 /// A leaf, as its page keeps it.
@@ -47,7 +47,7 @@ pub struct LeafImageRef<'a> {
     pub low_fence: Option<&'a Key>,
     pub high_fence: Option<&'a Key>,
     pub rows: &'a [(Key, Value)],
-    pub entries: &'a [Entry],
+    pub entries: &'a Entries,
 }
 
 impl LeafImage {
@@ -64,7 +64,7 @@ impl LeafImage {
             low_fence: self.low_fence.as_ref(),
             high_fence: self.high_fence.as_ref(),
             rows: self.rows.as_slice(),
-            entries: self.entries.as_slice(),
+            entries: &self.entries,
         }
     }
 }
@@ -155,11 +155,11 @@ fn rows_lie(low: &Option<Key>, high: &Option<Key>, rows: &[(Key, Value)]) -> boo
     true
 }
 
-fn entries_stand(low: &Option<Key>, high: &Option<Key>, entries: &[Entry]) -> bool
+fn entries_stand(low: &Option<Key>, high: &Option<Key>, entries: &Entries) -> bool
     ensures { result ≡ entries_stand low.now high.now entries.now }
 {
-    for entry in entries {
-        if !key_is_between(low, high, &entry.key) {
+    for at in 0..entries.len() {
+        if !key_is_between(low, high, &entries.entry(at).key) {
             return false;
         }
     }
@@ -172,8 +172,8 @@ fn bounds_are_kept(image: &LeafImage) -> bool
 {
     let (low, high) = (&image.low_fence, &image.high_fence);
     rows_lie(low, high, image.rows.as_slice())
-        && entries_stand(low, high, image.entries.as_slice())
-        && entries_rise(image.low, image.entries.as_slice())
+        && entries_stand(low, high, &image.entries)
+        && entries_rise(image.low, &image.entries)
 }
 
 #[tactic(auto, unfolding(crate::specs::Images::image_bytes))]

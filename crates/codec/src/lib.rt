@@ -11,9 +11,11 @@ mod dc_record;
 mod entries;
 mod fault;
 mod frame;
+mod frame_index;
 mod framed;
 mod image;
 mod lengths;
+mod performed;
 mod reading;
 mod record;
 mod reply;
@@ -23,12 +25,13 @@ mod taken;
 mod writing;
 
 pub use dc_record::{DcRecord, DcRecordRef, dc_record_spelling_law, put_dc_record, take_dc_record};
-pub use entries::Entries;
 pub use frame::{FrameEnd, frame_end};
+pub use frame_index::FrameIndex;
 pub use image::{
     LeafImage, LeafImageRef, leaf_image_len, leaf_image_spelling_law, put_leaf_image,
     take_leaf_image,
 };
+pub use performed::{PERFORMED_LIMIT, put_performed, take_performed};
 pub use record::{asked_op, left_to_undo, put_record, record_spelling_law, step_txn, take_record};
 pub use reply::{Reply, put_reply, reply_spelling_law, take_reply};
 pub use request::{Request, put_request, request_spelling_law, take_request};

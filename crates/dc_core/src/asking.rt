@@ -11,7 +11,7 @@ ghost use Rattle.dc_core.specs.Seen.{seen};
 
 use crate::parts::Parts;
 use codec::Request;
-use record_key::{Entry, Key};
+use record_key::{Entries, Key};
 
 impl Parts {
     /// Whether each number of the request is below its bound, and an operation's number is on the key that it has where
@@ -85,11 +85,11 @@ fn is_on(known: u64, its_key: &Key, number: u64, key: &Key) -> bool
 }
 
 /// Whether no entry has the number on another key.
-fn are_on(entries: &[Entry], number: u64, key: &Key) -> bool
+fn are_on(entries: &Entries, number: u64, key: &Key) -> bool
     ensures { IsTrue result ↔ AllByRecursion (λ (e : EntryValue). e.number ≡ number → e.key ≡ key.now) entries.now }
 {
     for place in 0..entries.len() {
-        let entry = &entries[place];
+        let entry = entries.entry(place);
         if !is_on(entry.number, &entry.key, number, key) {
             return false;
         }

@@ -15,11 +15,9 @@ mod parts;
 mod performance;
 mod performances;
 mod performing;
-mod place;
 mod reading;
 mod serving;
 mod sessions;
-mod spelling;
 mod system;
 mod tending;
 

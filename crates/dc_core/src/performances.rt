@@ -4,9 +4,8 @@ ghost use Rattle.btree.specs.Performs.{PerformsAt};
 ghost use Rattle.dc_core.specs.DcView.{noted};
 
 use crate::performance::Performance;
-use crate::place::Place;
-use crate::spelling::{FRAME_LIMIT, answer_at, answer_record, op_at, op_record, put};
 use crate::system::System;
+use codec::{PERFORMED_LIMIT, put_performed, take_performed};
 use page::Done;
 use record_key::{Op, Refusal};
 use std::alloc::Global;
@@ -15,12 +14,10 @@ use std::marker::Model;
 /// A clause sees a list of performances, the newest first.
 #[derive(Debug, Drop)]
 pub struct Performances {
-    // The frames of the operations, as records of a log. Those of the answers stand apart, so that room for both
-    // is made before the leaf changes.
-    ops: Vec<u8>,
-    answers: Vec<u8>,
-    // Where the frames of each performance begin, the oldest first.
-    places: Vec<Place>,
+    // Of each performance the number, the operation and the answer, the oldest first.
+    bytes: Vec<u8>,
+    // Where each begins.
+    places: Vec<usize>,
 }
 
 impl Model for Performances {
@@ -30,9 +27,9 @@ impl Model for Performances {
 
     ghost Value = { List Performance };
 
-    ghost view = { λ p. performances_at p.ops.items p.answers.items p.places.items };
+    ghost view = { λ p. performances_at p.bytes.items p.places.items };
 
-    ghost invariant = { λ p. AreSpelled p.ops.items p.answers.items p.places.items };
+    ghost invariant = { λ p. AreSpelled p.bytes.items p.places.items };
 }
 
 impl Performances {
@@ -41,15 +38,14 @@ impl Performances {
         ensures { result ≡ [] }
     {
         Performances {
-            ops: Vec::new(alloc),
-            answers: Vec::new(alloc),
+            bytes: Vec::new(alloc),
             places: Vec::new(alloc),
         }
     }
 
     /// What serves its memory.
     pub fn allocator(&self) -> Global {
-        *self.ops.allocator()
+        *self.bytes.allocator()
     }
 
     /// How many there are.
@@ -66,12 +62,10 @@ impl Performances {
         if self.len() <= place {
             return None;
         }
-        let at = self.places[place as usize];
-        Some(Performance {
-            number: at.number,
-            op: op_at(&self.ops, at.op),
-            answer: answer_at(&self.answers, at.answer),
-        })
+        match take_performed(&self.bytes, self.places[place as usize]) {
+            Some(((number, op, answer), _)) => Some(Performance { number, op, answer }),
+            None => unreachable!(),
+        }
     }
 
     /// Performs a new number at the leaf of its key and notes it, or gives what a repeated one was answered. Room for
@@ -85,18 +79,12 @@ impl Performances {
         ensures unnoted { OnErr result (self.new ≡ self.old) }
         ensures unchanged { OnErr result (system.new ≡ system.old) }
     {
-        self.ops.reserve(FRAME_LIMIT)?;
-        self.answers.reserve(FRAME_LIMIT)?;
+        self.bytes.reserve(PERFORMED_LIMIT)?;
         self.places.reserve(1)?;
         match system.perform(number, op)? {
             Done::Performed(answer) => {
-                self.places.push_reserved(Place {
-                    number,
-                    op: self.ops.len(),
-                    answer: self.answers.len(),
-                });
-                put(&mut self.ops, &op_record(op));
-                put(&mut self.answers, &answer_record(&answer));
+                self.places.push_reserved(self.bytes.len());
+                put_performed(&mut self.bytes, number, op, &answer);
                 Ok(Done::Performed(answer))
             }
             repeated => Ok(repeated),

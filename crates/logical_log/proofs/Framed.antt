@@ -3,6 +3,9 @@ use Rattle.std.proofs.Common.{◌≡◌, ℕ, ◌+◌, ◌-◌, ◌<◌, List, [
 use Rattle.std.proofs.lemmas.List.{append-nil, length-append, drop_at, take_at}
 use Rattle.std.proofs.lemmas.Grind.{get_or_default_zero}
 use Rattle.codec.specs.Frames.{frame}
+use Rattle.codec.specs.FrameIndex.{place_at, places_of, marked}
+use Rattle.codec.proofs.Indexed.{GoesOn, goes_on, cut_same, places_same, place_same, indexes_same, indexes_none, length-places_of}
+use Rattle.codec.proofs.Records.{record_length}
 use Rattle.codec.specs.declared.taken.Taken.{Taken}
 use Rattle.codec.specs.declared.taken.Taken.TheVariants as took
 use Rattle.codec.specs.Records.{record_bytes, IsRecord}
@@ -10,7 +13,7 @@ use Rattle.history.specs.declared.record.Record.{Record}
 use Rattle.history.specs.Log.{record_at}
 use Rattle.history.specs.Legal.{Fits}
 use Rattle.logical_log.specs.Index.{noted}
-use Rattle.logical_log.specs.Kept.{AreFrames}
+use Rattle.logical_log.specs.Kept.{AreFrames, AreIndexed}
 use Rattle.logical_log.specs.Spelled.{spelled, places, records_at, IsPlaceOf}
 use Rattle.logical_log.proofs.Index.{record_at-zero, record_at-past}
 use Rattle.logical_log.proofs.Spelled.{read_back, length-places, tells, Tells}
@@ -83,6 +86,69 @@ kept_longer log bytes left begins answers end r bytes' rest h fits spells room i
   begins_are = ap (λ (b : List ℕ). b ++ end ∷ []) h.begins_are ∙ ap (λ (n : ℕ). places log ++ n ∷ []) h.end_is;
   indexed = ap (noted r (length log + 1)) h.indexed;
 }
+
+-- ---- and so do the marks of their places
+
+pub indexed_so : (log : List Record) (bytes left marks : List ℕ) (count : ℕ) (answers : List ℕ) (end : ℕ)
+    → AreIndexed log bytes left marks count answers end
+    → AreIndexed (records_at bytes (places_of bytes count)) bytes (drop end bytes) marks count answers end
+indexed_so log bytes left marks count answers end h = record {
+  frames = kept_so log bytes left (places_of bytes count) answers end h.frames;
+  indexes = h.indexes;
+  ends = h.ends;
+}
+
+pub indexed_unread : (bytes : List ℕ) → AreIndexed [] bytes bytes [] 0 [] 0
+unfolding place_at places_of
+indexed_unread bytes = record { frames = kept_unread bytes; indexes = indexes_none bytes; ends = refl }
+
+-- the records' frames are all that the index tells of
+read_up_to : (log : List Record) (bytes left marks : List ℕ) (count : ℕ) (answers : List ℕ) (end : ℕ)
+    → AreIndexed log bytes left marks count answers end → length (spelled log) ≡ place_at bytes count
+read_up_to log bytes left marks count answers end h = sym h.frames.end_is ∙ h.ends
+
+pub indexed_cut : (log : List Record) (bytes left marks : List ℕ) (count : ℕ) (answers : List ℕ) (end : ℕ)
+    (bytes' : List ℕ) → AreIndexed log bytes left marks count answers end → bytes' ≡ take end bytes
+    → AreIndexed log bytes' [] marks count answers end
+indexed_cut log bytes left marks count answers end bytes' h is =
+    let cut : bytes' ≡ spelled log = is ∙ ap (take end) h.frames.bytes_are
+    ∙ take_at (spelled log) left end (sym h.frames.end_is) in
+    let same : take (place_at bytes count) bytes' ≡ take (place_at bytes count) bytes =
+    ap (take (place_at bytes count)) cut
+    ∙ cut_same (spelled log) left bytes count (read_up_to _ _ _ _ _ _ _ h) h.frames.bytes_are in
+    let Placed : List ℕ → Type 0 = λ b. AreFrames log bytes' [] b answers end in
+    record {
+      frames = subst Placed (sym (places_same bytes bytes' count same count (omega arith)))
+          (kept_cut log bytes left (places_of bytes count) answers end bytes' h.frames is);
+      indexes = indexes_same bytes bytes' marks count h.indexes same;
+      ends = h.ends ∙ sym (place_same bytes bytes' count same count (omega arith));
+    }
+
+pub indexed_longer : (log : List Record) (bytes left marks : List ℕ) (count : ℕ) (answers : List ℕ) (end : ℕ)
+    (r : Record) (bytes' rest : List ℕ) → AreIndexed log bytes left marks count answers end
+    → Fits log r → IsRecord r → length log < 281474976710655 → bytes' ≡ spelled log ++ (frame (record_bytes r) ++ rest)
+    → AreIndexed (r ∷ log) bytes' rest (marked marks count end) (count + 1) (noted r (length log + 1) answers)
+    (end + length (frame (record_bytes r)))
+indexed_longer log bytes left marks count answers end r bytes' rest h fits spells room is =
+    let on : GoesOn bytes bytes' marks count (length (spelled log)) (length (spelled log) + length (frame (record_bytes r))) =
+    goes_on (spelled log) left bytes bytes' marks count (record_bytes r) rest h.indexes
+    (read_up_to _ _ _ _ _ _ _ h) h.frames.bytes_are is (omega (arith, (record_length r spells).1)) in
+    let from : GoesOn bytes bytes' marks count end (end + length (frame (record_bytes r))) =
+    subst (λ (n : ℕ). GoesOn bytes bytes' marks count n (n + length (frame (record_bytes r)))) (sym h.frames.end_is) on in
+    let Placed : List ℕ → Type 0 = λ b. AreFrames (r ∷ log) bytes' rest b (noted r (length log + 1) answers)
+    (end + length (frame (record_bytes r))) in
+    record {
+      frames = subst Placed (sym from.places)
+          (kept_longer log bytes left (places_of bytes count) answers end r bytes' rest h.frames fits spells room is);
+      indexes = from.indexes;
+      ends = from.ends;
+    }
+
+-- as many frames are counted as there are records
+pub indexed_count : (log : List Record) (bytes left marks : List ℕ) (count : ℕ) (answers : List ℕ) (end : ℕ)
+    → AreIndexed log bytes left marks count answers end → count ≡ length log
+indexed_count log bytes left marks count answers end h =
+    sym (length-places_of bytes count) ∙ ap length h.frames.begins_are ∙ length-places log
 
 -- what a reading at its place tells of a number
 pub tells_kept : {X : Type 0} (of : Record → X) (log : List Record) (bytes left begins answers : List ℕ) (end : ℕ)

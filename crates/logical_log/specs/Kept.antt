@@ -1,5 +1,6 @@
 -- What holds of frames, and of a log, as they are kept.
 use Rattle.std.specs.Prelude.{◌≡◌, ℕ, ◌≤◌, ◌<◌, ◌^◌, List, [], ◌++◌, length}
+use Rattle.codec.specs.FrameIndex.{place_at, places_of, Indexes}
 use Rattle.history.specs.declared.record.Record.{Record}
 use Rattle.history.specs.Legal.{IsLegal}
 use Rattle.stable.specs.Crash.{BeginsWith}
@@ -21,6 +22,12 @@ pub record AreFrames (log : List Record) (bytes left begins answers : List ℕ) 
   pub end_is : end ≡ length (spelled log)
   pub begins_are : begins ≡ places log
   pub indexed : answers ≡ index log
+
+-- and the places of their frames are those that an index tells
+pub record AreIndexed (log : List Record) (bytes left marks : List ℕ) (count : ℕ) (answers : List ℕ) (end : ℕ) : Type 0 where
+  pub frames : AreFrames log bytes left (places_of bytes count) answers end
+  pub indexes : Indexes bytes marks count
+  pub ends : end ≡ place_at bytes count
 
 -- all bytes are frames, the device holds just these, and the stable records are among what every crash leaves
 pub record IsKept (frames : FramesView) (stable answered : ℕ) (forced pending : List ℕ) : Type 0 where

@@ -1,9 +1,10 @@
-//! The frames of records, one after another, with an index of places and of answers.
+//! The frames of records, one after another, with an index of their places and of answers.
 ghost use Rattle.std.specs.Prelude.{◌≡◌, ◌+◌, ◌≤◌, ◌<◌, ◌^◌, ◌↔◌, ◌++◌, ◌∷◌, [], ℕ, List, length, ◌⊎◌, None, IsTrue, IfSome, IfNone, OnOk, OnErr, IfErr};
 ghost use Rattle.history.specs.Log.{record_at, answer_of, request_in, step_in};
 ghost use Rattle.history.specs.Legal.{Fits, IsLegal};
 ghost use Rattle.history.specs.Chains.{undo_from};
 ghost use Rattle.history.specs.declared.record.Record.{Record};
+ghost use Rattle.codec.specs.FrameIndex.{places_of, Indexes};
 ghost use Rattle.codec.specs.Frames.{frame, IfTaken, IfBad, IsThere, IsCut};
 ghost use Rattle.codec.specs.Records.{record_bytes, HasNumbers, IsRecord};
 ghost use Rattle.logical_log.specs.Index.{is_answered};
@@ -13,7 +14,7 @@ ghost use Rattle.logical_log.specs.Spelled.{spelled, AreRecords, IsNext, IsPlace
 
 use crate::note::{answer_held, answer_place, note};
 use crate::write::write;
-use codec::{Taken, asked_op, left_to_undo, step_txn, take_record};
+use codec::{FrameIndex, Taken, asked_op, left_to_undo, step_txn, take_record};
 use history::Record;
 use record_key::{Answer, Op, Refusal};
 use stable::LogDevice;
@@ -26,8 +27,8 @@ pub(crate) struct Frames {
     bytes: Vec<u8>,
     // Where the frames that were read end.
     end: usize,
-    // Where the frame of each record begins.
-    places: Vec<usize>,
+    // Where the frame of each record begins, of the frames up to the end.
+    index: FrameIndex,
     // For each record the number of its Answer record, 0 while there is none, and no record's number where it asks for
     // nothing: so whether it is answered is told without reading it.
     answers: Vec<u64>,
@@ -35,18 +36,19 @@ pub(crate) struct Frames {
 
 impl Model for Frames {
     ghost use Rattle.std.specs.Prelude.{drop};
-    ghost use Rattle.logical_log.specs.Kept.{FramesView, AreFrames};
+    ghost use Rattle.codec.specs.FrameIndex.{places_of};
+    ghost use Rattle.logical_log.specs.Kept.{FramesView, AreIndexed};
     ghost use Rattle.logical_log.specs.Spelled.{records_at};
 
     ghost Value = { FramesView };
 
     ghost view = { λ f. record {
-      records = records_at f.bytes.items f.places.items;
+      records = records_at f.bytes.items (places_of f.bytes.items f.index.count);
       left = drop f.end f.bytes.items;
     } };
 
-    ghost invariant = { λ f. AreFrames (records_at f.bytes.items f.places.items) f.bytes.items
-        (drop f.end f.bytes.items) f.places.items f.answers.items f.end };
+    ghost invariant = { λ f. AreIndexed (records_at f.bytes.items (places_of f.bytes.items f.index.count)) f.bytes.items
+        (drop f.end f.bytes.items) f.index.marks f.index.count f.answers.items f.end };
 }
 
 impl Frames {
@@ -57,7 +59,7 @@ impl Frames {
         Frames {
             bytes,
             end: 0,
-            places: Vec::new(alloc),
+            index: FrameIndex::new(alloc),
             answers: Vec::new(alloc),
         }
     }
@@ -68,13 +70,13 @@ impl Frames {
         ensures legal { IsLegal self.now.records }
         ensures spellable { AreRecords self.now.records }
     {
-        self.places.len() as u64
+        self.index.len() as u64
     }
 
     pub(crate) fn record(&self, number: u64) -> Option<Record>
         ensures { result ≡ record_at self.now.records number }
     {
-        let place = place_of(self.places.as_slice(), number)?;
+        let place = place_of(&self.index, &self.bytes, number)?;
         match take_record(&self.bytes, place) {
             Taken::Record(found, _) => Some(found),
             _ => None,
@@ -85,7 +87,7 @@ impl Frames {
     pub(crate) fn step_txn(&self, number: u64) -> Option<u64>
         ensures { result ≡ step_in (record_at self.now.records number) }
     {
-        let place = place_of(self.places.as_slice(), number)?;
+        let place = place_of(&self.index, &self.bytes, number)?;
         step_txn(&self.bytes, place)
     }
 
@@ -93,7 +95,7 @@ impl Frames {
     pub(crate) fn asked_op(&self, number: u64) -> Option<Op>
         ensures { result ≡ request_in (record_at self.now.records number) }
     {
-        let place = place_of(self.places.as_slice(), number)?;
+        let place = place_of(&self.index, &self.bytes, number)?;
         asked_op(&self.bytes, place)
     }
 
@@ -101,7 +103,7 @@ impl Frames {
     pub(crate) fn left_to_undo(&self, number: u64) -> u64
         ensures { result ≡ undo_from (record_at self.now.records number) number }
     {
-        match place_of(self.places.as_slice(), number) {
+        match place_of(&self.index, &self.bytes, number) {
             Some(place) => left_to_undo(&self.bytes, place, number),
             None => 0,
         }
@@ -139,8 +141,8 @@ impl Frames {
         requires { count ≤ length self.now.records }
         ensures { result ≡ length (spelled (stable_part self.now.records count)) }
     {
-        if count < self.places.len() as u64 {
-            self.places[count as usize]
+        if count < self.index.len() as u64 {
+            self.index.place(&self.bytes, count as usize)
         } else {
             self.end
         }
@@ -173,11 +175,11 @@ impl Frames {
         ensures left { OnOk result (self.old.left ≡ frame (record_bytes accepted.now) ++ self.new.left) }
         ensures unchanged { OnErr result (self.new ≡ self.old) }
     {
-        self.places.reserve(1)?;
+        self.index.reserve()?;
         self.answers.reserve(1)?;
-        let number = self.places.len() as u64 + 1;
+        let number = self.index.len() as u64 + 1;
         note(&mut self.answers, accepted, number);
-        self.places.push_reserved(self.end);
+        self.index.push_reserved(self.end);
         self.end = next;
         Ok(())
     }
@@ -201,12 +203,12 @@ impl Frames {
         ensures cause { IfErr result (MayRefuse None) }
         ensures failures { D.failures device.new ≡ D.failures device.old + failures_in result }
     {
-        self.places.reserve(1)?;
+        self.index.reserve()?;
         self.answers.reserve(1)?;
         write(device, &mut self.bytes, appended)?;
-        let number = self.places.len() as u64 + 1;
+        let number = self.index.len() as u64 + 1;
         note(&mut self.answers, appended, number);
-        self.places.push_reserved(self.end);
+        self.index.push_reserved(self.end);
         self.end = self.bytes.len();
         Ok(())
     }
@@ -220,12 +222,13 @@ impl Frames {
 }
 
 /// Where the frame of the record of this number begins, if there is one.
-fn place_of(places: &[usize], number: u64) -> Option<usize>
-    ensures some { IfSome result (IsPlaceOf places.now number) }
-    ensures none { IfNone result ((number ≡ 0) ⊎ (length places.now < number)) }
+fn place_of(index: &FrameIndex, bytes: &[u8], number: u64) -> Option<usize>
+    requires { Indexes bytes.now index.now.marks index.now.count }
+    ensures some { IfSome result (IsPlaceOf (places_of bytes.now index.now.count) number) }
+    ensures none { IfNone result ((number ≡ 0) ⊎ (length (places_of bytes.now index.now.count) < number)) }
 {
-    if number == 0 {
+    if number == 0 || (index.len() as u64) < number {
         return None;
     }
-    places.get(number as usize - 1).copied()
+    Some(index.place(bytes, number as usize - 1))
 }

@@ -10,7 +10,7 @@ ghost use Rattle.page.specs.Leaf.{first, IsLeaf};
 
 use crate::rows::{place_of, rows_below, rows_from};
 use ab_lsn::AbLsn;
-use record_key::{Answer, Entry, Key, Value};
+use record_key::{Answer, Entries, Key, Value};
 use std::alloc::Global;
 use std::marker::Model;
 
@@ -149,7 +149,7 @@ impl Leaf {
     }
 
     /// The numbers above the low one that were performed, rising, with their answers.
-    pub fn entries(&self) -> &[Entry]
+    pub fn entries(&self) -> &Entries
         ensures { result.now ≡ self.now.ab.entries }
     {
         self.ab.entries()

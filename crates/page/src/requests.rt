@@ -6,7 +6,7 @@ ghost use Rattle.page.specs.Leaf.{is_in_fences, performed, raised_to};
 ghost use Rattle.page.specs.Performs.{Performs};
 
 use crate::leaf::{Done, Leaf};
-use crate::rows::{answer_at, copy_of, place_of, value_at, write_at};
+use crate::rows::{answer_at, place_of, value_at, write_at};
 use record_key::{Op, Refusal};
 
 impl Leaf {
@@ -21,7 +21,7 @@ impl Leaf {
         ensures memory { IsOkUnless result Refusal.NoMemory }
     {
         if self.ab.captures(number) {
-            return Ok(Done::Repeated(copy_of(self.ab.answer_of(number))));
+            return Ok(Done::Repeated(self.ab.answer_of(number)));
         }
         self.perform_new(number, op)
     }

@@ -97,16 +97,6 @@ fn start_of(rows: &[(Key, Value)], key: &Key) -> usize
     }
 }
 
-/// A copy of the answer. Takes no memory.
-pub fn copy_of(answer: Option<&Answer>) -> Option<Answer>
-    ensures { result ≡ option_copied answer.entry }
-{
-    match answer {
-        Some(answer) => Some(answer.copied()),
-        None => None,
-    }
-}
-
 /// Does the operation, where its key's place is known and there is room for a row. Takes no memory.
 pub fn write_at(rows: &mut Vec<(Key, Value)>, op: &Op, place: Result<usize, usize>)
     requires within { IfOk place (λ at. at < vec_len rows.old) }

@@ -1,5 +1,6 @@
 //! A module for each crate.
 mod abstract_lsns;
+mod entries;
 mod inverses;
 mod leaves;
 mod locks;

@@ -7,3 +7,5 @@ pub mod Rows
 pub mod Numbers
 pub mod Steps
 pub mod Padding
+pub mod Kept
+pub mod Packing

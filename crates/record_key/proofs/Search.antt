@@ -1,6 +1,6 @@
 -- A binary search ends at the value's place: among rows by their keys, and among entries by their numbers.
 use Rattle.std.proofs.Common.{◌≡◌, ◌⊎◌, ℕ, zero, suc, ◌<◌, ◌≤◌, List, [], ◌∷◌, length, get_or, Result, Ok, Err, refl, sym, ap, ◌∙◌, arith, inl, inr}
-use Rattle.std.specs.Prelude.{T}
+use Rattle.std.specs.Prelude.{T, map}
 use Rattle.std.specs.List.Sorted.{IsSearchInRange, IsBinarySearchResult, IsNonDecreasingBy}
 use Rattle.std.specs.Ordering.{nat_cmp, ordering_index, ordering_reverse}
 use Rattle.std.specs.declared.cmp.Ordering.{Ordering}
@@ -9,6 +9,7 @@ use Rattle.std.specs.Cmp.{nat_cmp_total}
 use Rattle.std.specs.FinMap.{is_sorted}
 use Rattle.std.specs.FinMap.Entries.{below_all}
 use Rattle.std.proofs.lemmas.Bool.{cases_lt}
+use Rattle.std.proofs.lemmas.List.{length-map, get_or-map}
 use Rattle.std.proofs.lemmas.Cmp.{nat_list_cmp_total}
 use Rattle.std.proofs.Math.Nat.{eq-or-lt_of_le}
 use Rattle.record_key.proofs.Numbers.{below, above}
@@ -136,10 +137,36 @@ numbers_part : (m n k : ℕ) → m < n → Part (nat_cmp m k) (nat_cmp n k)
 numbers_part m n k less =
     elim (cases_lt m k) [ inl lt ↦ inl (below m k lt) | inr ge ↦ inr (above n k (omega (arith, less, ge))) ]
 
-pub entries_searched : (es : List Entry) (l : ℕ) → RiseAbove l es → (n : ℕ) (d : Entry) (r : Result ℕ ℕ)
-    → IsSearchInRange r (length es)
-    → IsBinarySearchResult (λ (e : Entry). nat_cmp e.number n) es r → IsPlaceOfNumber n es r
-entries_searched es l h n d r within found =
-    searched (λ (e : Entry). nat_cmp e.number n) (λ (e : Entry). nat_cmp n e.number) (λ e. nat_cmp_total.antisymm n e.number) es
-    (λ i j some lt le. numbers_part (get_or es i some).number (get_or es j some).number n (numbers_rise l es i j some h lt le))
-    d r within found
+stands_mapped : {X Y : Type 0} (f : X → Y) (order : Y → Ordering) (xs : List X) (p : ℕ)
+    → StandsAt (λ x. order (f x)) xs p → StandsAt order (map f xs) p
+stands_mapped f order [] p h = h
+stands_mapped f order (x ∷ xs) zero h = h
+stands_mapped f order (x ∷ xs) (suc p) h = (h.0, stands_mapped f order xs p h.1)
+
+belongs_mapped : {X Y : Type 0} (f : X → Y) (order : Y → Ordering) (xs : List X) (p : ℕ)
+    → BelongsAt (λ x. order (f x)) xs p → BelongsAt order (map f xs) p
+belongs_mapped f order [] p h = h
+belongs_mapped f order (x ∷ xs) zero h = h
+belongs_mapped f order (x ∷ xs) (suc p) h = (h.0, belongs_mapped f order xs p h.1)
+
+place_mapped : {X Y : Type 0} (f : X → Y) (order : Y → Ordering) (xs : List X) (r : Result ℕ ℕ)
+    → IsPlace (λ x. order (f x)) xs r → IsPlace order (map f xs) r
+place_mapped f order xs (Ok at) h = stands_mapped f order xs at h
+place_mapped f order xs (Err gap) h = belongs_mapped f order xs gap h
+
+-- what is searched stands for entries
+module _ {X : Type 0} (f : X → Entry) (xs : List X) (l : ℕ) (h : RiseAbove l (map f xs)) where
+  risen : (i j : ℕ) (d : X) → i < j → j < length xs → (f (get_or xs i d)).number < (f (get_or xs j d)).number
+  risen i j d lt within =
+      let all : length (map f xs) ≡ length xs = length-map xs f in
+      let less = numbers_rise l (map f xs) i j (f d) h lt (omega (arith, within, all)) in
+      rw (get_or-map f xs i d (f d) (omega (arith, lt, within)), get_or-map f xs j d (f d) within) at less
+
+  pub entries_searched : (n : ℕ) (d : X) (r : Result ℕ ℕ) → IsSearchInRange r (length xs)
+      → IsBinarySearchResult (λ x. nat_cmp (f x).number n) xs r → IsPlaceOfNumber n (map f xs) r
+  entries_searched n d r within found =
+      place_mapped f (λ (e : Entry). nat_cmp n e.number) xs r
+      (searched (λ x. nat_cmp (f x).number n) (λ x. nat_cmp n (f x).number)
+      (λ x. nat_cmp_total.antisymm n (f x).number) xs
+      (λ i j some lt le. numbers_part (f (get_or xs i some)).number (f (get_or xs j some)).number n (risen i j some lt le))
+      d r within found)

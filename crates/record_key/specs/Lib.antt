@@ -6,4 +6,5 @@ pub mod Order
 pub mod Places
 pub mod Rows
 pub mod Entries
+pub mod Packed
 pub mod Inline

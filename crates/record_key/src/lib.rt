@@ -6,16 +6,20 @@
 //! 0 to 120 bytes; both lie inline, so none of them ever takes memory.
 #![tactic(auto)]
 
+mod entries;
 mod entry;
 mod inline;
 mod key;
 mod laws;
 mod op;
+mod packed;
 mod plain_table;
 mod refusal;
+mod slot;
 mod value;
 mod words;
 
+pub use entries::Entries;
 pub use entry::Entry;
 pub use key::Key;
 pub use laws::{key_order_law, table_law};

@@ -32,6 +32,6 @@ pub fn leaf_of(image: LeafImage) -> Leaf
         image.last,
         (image.low_fence, image.high_fence),
         image.rows.into_rows(),
-        AbLsn::from_parts(image.low, image.entries.into_entries()),
+        AbLsn::from_parts(image.low, image.entries),
     )
 }

@@ -1,12 +1,12 @@
 //! The text of a leaf: its number, its fences, how much it has, and which requests it has captured.
-ghost use Rattle.std.specs.Prelude.{◌≡◌, ◌++◌, flat_map};
+ghost use Rattle.std.specs.Prelude.{◌≡◌, ◌++◌, drop, flat_map};
 ghost use Rattle.std.specs.Option.{option_copied};
 ghost use Rattle.undo_shell.specs.Printed.{Prints, piece_text, shown_if};
 ghost use Rattle.undo_shell.specs.Stored.{leaf_line, fences_text, counts_text, set_line, more_line, next_number};
 
 use crate::pieces::{Piece, print};
 use page::Leaf;
-use record_key::{Entry, Key};
+use record_key::{Entries, Entry, Key};
 use std::io;
 
 /// The line of a leaf.
@@ -70,29 +70,29 @@ fn print_counts<W: io::Write>(writer: &mut W, leaf: &Leaf) -> io::Result<()>
 }
 
 /// The numbers of the entries, joined by commas, or a dash where there is none.
-fn print_set<W: io::Write>(writer: &mut W, entries: &[Entry]) -> io::Result<()>
+fn print_set<W: io::Write>(writer: &mut W, entries: &Entries) -> io::Result<()>
     ensures { Prints (W.contents writer.old) (W.contents writer.new) result (set_line entries.now) }
 {
-    let Some((first, rest)) = entries.split_first() else {
+    if entries.len() == 0 {
         return print(writer, &[Piece::Text("-\n")]);
-    };
-    print(writer, &[Piece::Number(first.number)])?;
-    print_more(writer, rest)
+    }
+    print(writer, &[Piece::Number(entries.entry(0).number)])?;
+    print_more(writer, entries)
 }
 
 /// The numbers behind the first, and the end of the line.
-fn print_more<W: io::Write>(writer: &mut W, entries: &[Entry]) -> io::Result<()>
-    ensures { Prints (W.contents writer.old) (W.contents writer.new) result (more_line entries.now) }
+fn print_more<W: io::Write>(writer: &mut W, entries: &Entries) -> io::Result<()>
+    ensures { Prints (W.contents writer.old) (W.contents writer.new) result (more_line (drop 1 entries.now)) }
 {
     print_numbers(writer, entries)?;
     print(writer, &[Piece::Text("\n")])
 }
 
-fn print_numbers<W: io::Write>(writer: &mut W, entries: &[Entry]) -> io::Result<()>
-    ensures { Prints (W.contents writer.old) (W.contents writer.new) result (flat_map next_number entries.now) }
+fn print_numbers<W: io::Write>(writer: &mut W, entries: &Entries) -> io::Result<()>
+    ensures { Prints (W.contents writer.old) (W.contents writer.new) result (flat_map next_number (drop 1 entries.now)) }
 {
-    for entry in entries {
-        print_next(writer, entry)?;
+    for at in 1..entries.len() {
+        print_next(writer, &entries.entry(at))?;
     }
     Ok(())
 }

@@ -97,8 +97,12 @@ fn cut_at(rt: &impl Abort, lower: &mut AbLsn, at: &Key, numbers: &[u64]) -> Resu
 
 /// Each side has the entries of its keys, and the low number.
 fn expect_sides(rt: &impl Abort, lower: &AbLsn, upper: &AbLsn, at: &Key) {
-    assert!(rt; lower.entries().iter().all(|entry| entry.key < *at));
-    assert!(rt; upper.entries().iter().all(|entry| entry.key >= *at));
+    for place in 0..lower.entries().len() {
+        assert!(rt; lower.entries().entry(place).key < *at);
+    }
+    for place in 0..upper.entries().len() {
+        assert!(rt; upper.entries().entry(place).key >= *at);
+    }
     assert_eq!(rt; upper.low(), 9);
 }
 
@@ -121,7 +125,7 @@ fn of_two_with_one_number_one_stays(rt: HostRuntime) -> Result<(), Fail> {
 /// The one entry is the first one's own.
 fn expect_own(rt: &impl Abort, lower: &AbLsn) -> Result<(), Fail> {
     assert_eq!(rt; lower.entries().len(), 1);
-    assert_eq!(rt; lower.entries()[0].key, key(&[1])?);
+    assert_eq!(rt; lower.entries().entry(0).key, key(&[1])?);
     assert!(rt; lower.captures(7));
     Ok(())
 }

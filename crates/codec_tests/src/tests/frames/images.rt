@@ -1,10 +1,8 @@
 //! Images of leaf 7.
 use super::hex::{bytes_of, joined, joined_again};
 use crate::tests::values::{key, value};
-use codec::{
-    Entries, LeafImage, Rows, Taken, leaf_image_spelling_law, put_leaf_image, take_leaf_image,
-};
-use record_key::{Answer, Entry, Refusal};
+use codec::{LeafImage, Rows, Taken, leaf_image_spelling_law, put_leaf_image, take_leaf_image};
+use record_key::{Answer, Entries, Entry, Refusal};
 use std::alloc::Global;
 use std::process::Abort;
 use std::test::Fail;
@@ -53,7 +51,7 @@ fn without_fences(rt: HostRuntime) -> Result<(), Fail> {
     assert_eq!(rt; image.low_fence, None);
     assert_eq!(rt; image.high_fence, None);
     assert!(rt; image.rows.as_slice().is_empty());
-    assert!(rt; image.entries.as_slice().is_empty());
+    assert!(rt; image.entries.len() == 0);
     leaf_image_spelling_law();
     Ok(())
 }
@@ -80,8 +78,15 @@ fn with_fences(rt: HostRuntime) -> Result<(), Fail> {
             answer: Answer::Was(Some(value(b"x")?)),
         },
     ];
-    assert_eq!(rt; image.entries.as_slice(), entries.as_slice());
+    expect_entries(&rt, &image.entries, &entries);
     Ok(())
+}
+
+fn expect_entries(rt: &impl Abort, entries: &Entries, expected: &[Entry]) {
+    assert_eq!(rt; entries.len(), expected.len());
+    for at in 0..entries.len() {
+        assert_eq!(rt; &entries.entry(at), &expected[at]);
+    }
 }
 
 /// An image that was made and not taken.
@@ -95,7 +100,7 @@ fn made(rt: HostRuntime) -> Result<(), Fail> {
         low_fence: None,
         high_fence: None,
         rows: Rows::new(Vec::new(alloc)),
-        entries: Entries::new(Vec::new(alloc)),
+        entries: Entries::new(alloc),
     };
     let mut out = Vec::new(alloc);
     put_leaf_image(&mut out, &image.borrowed())?;

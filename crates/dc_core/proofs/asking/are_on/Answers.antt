@@ -1,4 +1,4 @@
-use Rattle.std.proofs.Common.{◌≡◌, Some, length, refl}
+use Rattle.std.proofs.Common.{◌≡◌, Some, length, refl, arith}
 use Rattle.std.specs.Prelude.{slice_get}
 use Rattle.std.proofs.lemmas.Option.{slice_get_read}
 use Rattle.record_key.specs.declared.entry.Entry.{Entry}
@@ -8,10 +8,10 @@ use Rattle.dc_core.proofs.asking.are_on.Goals as goal
 pub returns-then-not-is_on : goal.returns-then-not-is_on
 returns-then-not-is_on c =
     let entries = c.args.entries.now in
-    let entry = c.index-entries-place.result in
+    let entry = c.entry-entry.result in
     let there : slice_get entries c.loop-place.place ≡ Some entry =
-    slice_get_read entries (length entries) c.loop-place.place entry refl c.loop-place-test.true
-    c.index-entries-place.is in (
+    slice_get_read entries (length entries) c.loop-place.place entry refl (omega (arith, c.loop-place-test.true, c.len-place-end.ensures))
+    c.entry-entry.ensures in (
       λ wrong. absurd (cc),
       λ all.
           let IsOn : Entry → Type 0 = λ e. e.number ≡ c.args.number → e.key ≡ c.args.key.now in
@@ -22,14 +22,14 @@ returns-then-not-is_on c =
 pub loop-place-preserved : goal.loop-place-preserved
 loop-place-preserved c =
     let entries = c.args.entries.now in
-    let entry = c.index-entries-place.result in
+    let entry = c.entry-entry.result in
     all_more (λ (e : Entry). e.number ≡ c.args.number → e.key ≡ c.args.key.now) entries c.loop-place.place entry
-    (slice_get_read entries (length entries) c.loop-place.place entry refl c.loop-place-test.true
-    c.index-entries-place.is) c.loop-place.invariant (c.is_on.ensures.0 c.if-not-is_on.false)
+    (slice_get_read entries (length entries) c.loop-place.place entry refl (omega (arith, c.loop-place-test.true, c.len-place-end.ensures))
+    c.entry-entry.ensures) c.loop-place.invariant (c.is_on.ensures.0 c.if-not-is_on.false)
 
 pub returns : goal.returns
 returns c =
     let IsOn : Entry → Type 0 = λ e. e.number ≡ c.args.number → e.key ≡ c.args.key.now in (
-      λ _. all_through IsOn c.args.entries.now c.loop-place.place c.loop-place-test.false c.loop-place.invariant,
+      λ _. all_through IsOn c.args.entries.now c.loop-place.place (omega (arith, c.loop-place-test.false, c.len-place-end.ensures)) c.loop-place.invariant,
       λ all. refl,
     )

@@ -1,4 +1,5 @@
 //! The list and the tree beside one another: the same calls leave the same leaves.
+use crate::tests::entries::expect_same_entries;
 use crate::tests::values::next;
 use btree::{LeafList, LeafSet, Tree, merge_at, split_at};
 use page::Leaf;
@@ -18,7 +19,7 @@ fn expect_leaf<R: Abort>(rt: &R, one: &Leaf, other: &Leaf) {
     assert_eq!(rt; one.high_fence(), other.high_fence());
     assert_eq!(rt; one.rows(), other.rows());
     assert_eq!(rt; one.low(), other.low());
-    assert_eq!(rt; one.entries(), other.entries());
+    expect_same_entries(rt, one.entries(), other.entries());
 }
 
 /// The leaves of both are the same, and so are those that are tended first.

@@ -5,11 +5,11 @@ use Rattle.ab_lsn.proofs.Noting.{found_captured}
 use Rattle.ab_lsn.proofs.ab_lsn.AbLsn.captures.Goals as goal
 
 pub place_of-requires : goal.place_of-requires
-place_of-requires c = rw (c.as_slice.ensures) (rises c.self.inside.low c.self.inside.entries.items c.self.invariant)
+place_of-requires c = rises c.self.inside.low c.self.inside.entries c.self.invariant
 
 pub returns-else-number-self : goal.returns-else-number-self
 returns-else-number-self c =
-    let v : AbLsnView = record { low = c.self.inside.low; entries = c.self.inside.entries.items } in
+    let v : AbLsnView = record { low = c.self.inside.low; entries = c.self.inside.entries } in
     rw (← c.self.view_is)
     (c.is_ok.ensures.value
-    ∙ found_captured v c.args.number c.place_of.result c.if-number-self.false c.self.invariant (rw c.as_slice.ensures at c.place_of.ensures.place))
+    ∙ found_captured v c.args.number c.place_of.result c.if-number-self.false c.self.invariant c.place_of.ensures.place)

@@ -3,15 +3,15 @@ use Rattle.ab_lsn.specs.AbLsn.{AbLsnView, captures}
 use Rattle.ab_lsn.proofs.Capturing.{raised_rises, joined_captures}
 use Rattle.ab_lsn.proofs.ab_lsn.AbLsn.join.Goals as goal
 
-pub place_all-requires-clause-rising : goal.place_all-requires-clause-rising
-place_all-requires-clause-rising c =
-    let kept = c.keep_above-self-inside.ensures in
-    rw (kept.low, kept.kept, c.in_ok-reserve.ensures.items) (raised_rises (record { low = c.self.inside.low; entries = c.self.inside.entries.items }) c.other.inside.low c.self.invariant)
+pub place_all-requires : goal.place_all-requires
+place_all-requires c =
+    let kept = c.keep_above-low.ensures in
+    rw (kept.low, kept.kept, c.in_ok-entries.ensures.copied) (raised_rises (record { low = c.self.inside.low; entries = c.self.inside.entries }) c.other.inside.low c.self.invariant)
 
 pub returns-clause-joined : goal.returns-clause-joined
 returns-clause-joined c =
-    let kept = c.keep_above-self-inside.ensures in
-    rw (← c.self.view_is, ← c.other.view_is, c.place_all.ensures.placed, kept.low, kept.kept, c.in_ok-reserve.ensures.items, c.as_slice-more.ensures) refl
+    let kept = c.keep_above-low.ensures in
+    rw (← c.self.view_is, ← c.other.view_is, c.in_ok-place_all.ensures.placed, kept.low, kept.kept, c.in_ok-entries.ensures.copied) refl
 
 pub returns-clause-captured : goal.returns-clause-captured
 returns-clause-captured c = λ m.

@@ -6,10 +6,10 @@ use Rattle.ab_lsn.proofs.ab_lsn.AbLsn.upper.Goals as goal
 
 pub invariant_of-result : goal.invariant_of-result
 invariant_of-result c =
-    rw (c.in_ok-upper.ensures.copied, c.as_slice.ensures)
-    (filtered_rises (λ (e : Entry). is_from c.args.key.now e.key) c.self.inside.low c.self.inside.entries.items c.self.invariant)
+    rw c.in_ok-upper.ensures.copied
+    (filtered_rises (λ (e : Entry). is_from c.args.key.now e.key) c.self.inside.low c.self.inside.entries c.self.invariant)
 
 pub returns-clause-captured : goal.returns-clause-captured
 returns-clause-captured c =
-    rw (← c.self.view_is, c.in_ok-upper.ensures.copied, c.as_slice.ensures)
-    (parted_captures c.self.inside.low c.self.inside.entries.items (is_from c.args.key.now))
+    rw (← c.self.view_is, c.in_ok-upper.ensures.copied)
+    (parted_captures c.self.inside.low c.self.inside.entries (is_from c.args.key.now))

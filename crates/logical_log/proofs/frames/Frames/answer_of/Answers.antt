@@ -3,7 +3,7 @@ use Rattle.logical_log.proofs.Index.{answer_found, answer_of-zero}
 use Rattle.logical_log.proofs.frames.Frames.answer_of.Goals as goal
 
 pub returns-then-number-eq0 : goal.returns-then-number-eq0
-returns-then-number-eq0 c = rw (← c.self.view_is, c.if-number-eq0.true) (sym (answer_of-zero _ c.self.invariant.legal))
+returns-then-number-eq0 c = rw (← c.self.view_is, c.if-number-eq0.true) (sym (answer_of-zero _ c.self.invariant.frames.legal))
 
 pub returns : goal.returns
 returns c =
@@ -15,6 +15,6 @@ returns c =
       c.as_slice-answers.ensures.value,
       ←
           c.self.view_is,
-      c.self.invariant.indexed,
+      c.self.invariant.frames.indexed,
     )
-    (sym (answer_found _ c.args.number c.self.invariant.legal c.self.invariant.numbered some))
+    (sym (answer_found _ c.args.number c.self.invariant.frames.legal c.self.invariant.frames.numbered some))

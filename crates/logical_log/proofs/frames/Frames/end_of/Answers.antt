@@ -1,39 +1,40 @@
 use Rattle.std.proofs.Common.{◌≡◌, ℕ, ◌∙◌, ◌<◌, ◌≤◌, List, sym, ap, arith, length, get_or}
-use Rattle.std.proofs.lemmas.Grind.{common_steps}
 use Rattle.history.specs.declared.record.Record.{Record}
-use Rattle.logical_log.specs.Kept.{FramesView}
+use Rattle.codec.specs.FrameIndex.{place_at, places_of}
+use Rattle.codec.proofs.Indexed.{place_of}
+use Rattle.logical_log.specs.Kept.{AreIndexed}
 use Rattle.logical_log.specs.Low.{stable_part}
-use Rattle.logical_log.specs.Spelled.{spelled, places, records_at}
+use Rattle.logical_log.specs.Spelled.{spelled, records_at}
 use Rattle.logical_log.proofs.Answered.{part_whole}
-use Rattle.logical_log.proofs.Spelled.{length-places, place_at}
+use Rattle.logical_log.proofs.Framed.{indexed_count}
+use Rattle.logical_log.proofs.Spelled.{place_at as begins_at}
 use Rattle.logical_log.proofs.frames.Frames.end_of.Goals as goal
 
 -- before the last record its frame's place is the end, and after that the log's
-at_place : (log : List Record) (items : List ℕ) (n len x : ℕ) → items ≡ places log → len ≡ length items → n < len
-    → get_or items n x ≡ length (spelled (stable_part log n))
-at_place log items n len x are count less =
-    ap (λ (xs : List ℕ). get_or xs n x) are
-    ∙ place_at log n x (omega (arith, less, count, ap length are, length-places log))
+at_place : (log : List Record) (bytes left marks : List ℕ) (count : ℕ) (answers : List ℕ) (end n : ℕ)
+    → AreIndexed log bytes left marks count answers end → n < count
+    → place_at bytes n ≡ length (spelled (stable_part log n))
+at_place log bytes left marks count answers end n h less =
+    sym (place_of bytes count n 0 less) ∙ ap (λ (xs : List ℕ). get_or xs n 0) h.frames.begins_are
+    ∙ begins_at log n 0 (omega (arith, less, indexed_count log bytes left marks count answers end h))
 
-at_end : (log : List Record) (items : List ℕ) (n len end : ℕ) → items ≡ places log → len ≡ length items → len ≤ n
+at_end : (log : List Record) (n end : ℕ) → length log ≤ n
     → n ≤ length log → end ≡ length (spelled log) → end ≡ length (spelled (stable_part log n))
-at_end log items n len end are count all within is =
-    let last : n ≡ length log = omega (arith, all, within, count, ap length are, length-places log) in
+at_end log n end all within is =
+    let last : n ≡ length log = omega (arith, all, within) in
     is ∙ ap (λ (l : List Record). length (spelled l)) (sym (ap (stable_part log) last ∙ part_whole log))
 
 pub returns-then-count-len : goal.returns-then-count-len
 returns-then-count-len c =
-    let count : c.len.result ≡ length c.self.inside.places.items = grind (arith, common_steps) in
     rw (← c.self.view_is)
-    (c.index.ensures
-    ∙ at_place _ c.self.inside.places.items c.args.count c.len.result c.index.result.now c.self.invariant.begins_are
-    count c.if-count-len.true)
+    (c.place.ensures ∙ ap (λ (b : List ℕ). place_at b c.args.count) c.deref.ensures.value
+    ∙ at_place _ _ _ _ _ _ _ c.args.count c.self.invariant (omega (arith, c.if-count-len.true, c.len.ensures)))
 
 pub returns-else-count-len : goal.returns-else-count-len
 returns-else-count-len c =
-    let count : c.len.result ≡ length c.self.inside.places.items = grind (arith, common_steps) in
-    let within : c.args.count ≤ length (records_at c.self.inside.bytes.items c.self.inside.places.items) =
-    omega (arith, c.requires, ap (λ (v : FramesView). length v.records) c.self.view_is) in
-    rw (← c.self.view_is)
-    (at_end _ c.self.inside.places.items c.args.count c.len.result c.self.inside.end c.self.invariant.begins_are
-    count c.if-count-len.false within c.self.invariant.end_is)
+    let m = c.self.inside in
+    let log : List Record = records_at m.bytes.items (places_of m.bytes.items m.index.count) in
+    let within : c.args.count ≤ length log = rw (← c.self.view_is) at c.requires in
+    let all : length log ≤ c.args.count =
+    omega (arith, c.if-count-len.false, c.len.ensures, indexed_count _ _ _ _ _ _ _ c.self.invariant) in
+    rw (← c.self.view_is) (at_end log c.args.count m.end all within c.self.invariant.frames.end_is)

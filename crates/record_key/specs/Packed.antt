@@ -1,0 +1,79 @@
+-- A key and an answer as bytes: the key's length, the answer's kind, the length of its value, the key, the value.
+use Rattle.std.specs.Prelude.{ℕ, ◌<◌, ◌≤◌, ◌+◌, ◌==◌, List, [], ◌∷◌, ◌++◌, length, take, drop, get_or, Some, None, if◌then◌else◌}
+use Rattle.record_key.specs.Table.{Bytes}
+use Rattle.record_key.specs.declared.op.Answer.{Answer}
+use Rattle.record_key.specs.declared.op.Answer.TheVariants.{Inserted, Updated, Was, Deleted, Exists, NoRecord}
+use Rattle.record_key.specs.declared.entry.Entry.{Entry}
+use Rattle.record_key.specs.declared.slot.Slot.{Slot}
+
+abbrev pub kind_of : Answer → ℕ
+kind_of Inserted = 1
+kind_of (Updated value) = 2
+kind_of (Was None) = 3
+kind_of (Was (Some value)) = 4
+kind_of (Deleted value) = 5
+kind_of Exists = 6
+kind_of NoRecord = 7
+
+-- the value that an answer tells, no bytes where it tells none
+abbrev pub value_of : Answer → Bytes
+value_of Inserted = []
+value_of (Updated value) = value
+value_of (Was None) = []
+value_of (Was (Some value)) = value
+value_of (Deleted value) = value
+value_of Exists = []
+value_of NoRecord = []
+
+-- the answer of this kind
+abbrev pub answer_of : ℕ → Bytes → Answer
+answer_of kind value =
+    if kind == 1 then Inserted
+    else if kind == 2 then Updated value
+    else if kind == 3 then Was None
+    else if kind == 4 then Was (Some value)
+    else if kind == 5 then Deleted value
+    else if kind == 6 then Exists
+    else NoRecord
+
+unfoldable pub packed : Bytes → Answer → List ℕ
+packed key answer = length key ∷ kind_of answer ∷ length (value_of answer) ∷ (key ++ value_of answer)
+
+-- the lengths that the bytes at a place begin with
+abbrev pub key_len : List ℕ → ℕ → ℕ
+key_len bytes place = get_or (drop place bytes) 0 0
+
+abbrev pub value_len : List ℕ → ℕ → ℕ
+value_len bytes place = get_or (drop place bytes) 2 0
+
+-- the key at a place, and the answer
+unfoldable pub key_at : List ℕ → ℕ → Bytes
+key_at bytes place = take (key_len bytes place) (drop 3 (drop place bytes))
+
+unfoldable pub answer_at : List ℕ → ℕ → Answer
+answer_at bytes place = answer_of (get_or (drop place bytes) 1 0)
+    (take (value_len bytes place) (drop (3 + key_len bytes place) (drop place bytes)))
+
+-- a key and an answer that have lengths of their types stand at a place
+pub record IsPacked (bytes : List ℕ) (place : ℕ) : Type 0 where
+  pub some_key : 0 < key_len bytes place
+  pub short_key : key_len bytes place ≤ 32
+  pub short_value : value_len bytes place ≤ 120
+  pub within : 3 + (key_len bytes place + value_len bytes place) ≤ length (drop place bytes)
+
+-- what the types of a key and an answer ensure
+pub record HasLengths (key : Bytes) (answer : Answer) : Type 0 where
+  pub some_key : 0 < length key
+  pub short_key : length key ≤ 32
+  pub short_value : length (value_of answer) ≤ 120
+
+-- the entry whose key and answer stand at its place
+abbrev pub entry_in : List ℕ → Slot → Entry
+entry_in bytes slot = record {
+  number = slot.number;
+  key = key_at bytes slot.place;
+  answer = answer_at bytes slot.place;
+}
+
+abbrev pub IsFilled : List ℕ → Slot → Type 0
+IsFilled bytes slot = IsPacked bytes slot.place
