@@ -103,7 +103,8 @@ place_of bytes zero m x lt = absurd (omega (arith, lt))
 place_of bytes (suc n) m x lt =
     elim (cases_lt m n) [
       | inl older ↦
-          get_or_append_left (places_of bytes n) (place_at bytes n ∷ []) x m (omega (arith, older, length-places_of bytes n))
+          get_or_append_left (places_of bytes n) (place_at bytes n ∷ []) x m
+          (omega (arith, older, length-places_of bytes n))
           ∙ place_of bytes n m x older
       | inr last ↦
           let e : m ≡ n = omega (arith, last, lt) in
@@ -115,7 +116,12 @@ place_of bytes (suc n) m x lt =
 
 pub indexes_none : (bytes : List ℕ) → Indexes bytes [] 0
 unfolding place_at
-indexes_none bytes = record { enough = omega arith; no_more = omega arith; placed = λ i lt. absurd (omega (arith, lt)); whole = omega arith }
+indexes_none bytes = record {
+  enough = omega arith;
+  no_more = omega arith;
+  placed = λ i lt. absurd (omega (arith, lt));
+  whole = omega arith;
+}
 
 -- there are fewer frames than bytes
 pub indexed_few : (bytes marks : List ℕ) (count : ℕ) → Indexes bytes marks count → 8 * count ≤ length bytes

@@ -1,10 +1,10 @@
 -- What is read at the places of performances is what was performed, also when there is one more.
-use Rattle.std.proofs.Common.{◌≡◌, ℕ, ◌+◌, ◌≤◌, List, [], ◌∷◌, ◌++◌, length, drop, reverse, refl, sym, ap, ◌∙◌, subst, arith, append_assoc}
-use Rattle.std.specs.Prelude.{map, slice_get, option_map, Some}
+use Rattle.std.proofs.Common.{◌≡◌, ℕ, ◌+◌, ◌≤◌, ◌<◌, List, [], ◌∷◌, ◌++◌, length, drop, get_or, reverse, refl, sym, ap, ◌∙◌, subst, arith, append_assoc}
+use Rattle.std.specs.Prelude.{map, slice_get, option_map, Some, None}
 use Rattle.std.proofs.lemmas.List.{append-nil, length-append, length-drop, length-reverse, length-map, reverse-append, reverse-reverse, map-append, drop_at, drop-append-le}
-use Rattle.std.proofs.lemmas.Option.{slice_get-map}
+use Rattle.std.proofs.lemmas.Option.{slice_get-map, slice_get_read}
 use Rattle.codec.specs.Fields.{op_bytes, answer_bytes}
-use Rattle.codec.specs.Performances.{performed_bytes, IsPerformed, performed_at}
+use Rattle.codec.specs.Performances.{Performed, performed_bytes, IsPerformed, performed_at}
 use Rattle.codec.proofs.Fields.{numbers_length}
 use Rattle.codec.proofs.Lists.{performed_reads}
 use Rattle.record_key.proofs.Lists.{all_from, all_appended}
@@ -12,7 +12,7 @@ use Rattle.dc_core.specs.declared.performance.Performance.{Performance}
 use Rattle.dc_core.specs.Spelled.{parts_of, StandsAt, taken, read, performances_at, AreSpelled}
 
 -- where a performance stands something is read
-pub is_read : (bytes : List ℕ) (place : ℕ) (p : Performance) (h : StandsAt bytes place p)
+is_read : (bytes : List ℕ) (place : ℕ) (p : Performance) (h : StandsAt bytes place p)
     → performed_at (drop place bytes) ≡ Some (parts_of p, h.rest)
 is_read bytes place p h = ap performed_at h.is ∙ performed_reads.again (parts_of p) h.rest h.fits
 
@@ -20,9 +20,28 @@ pub read_is : (bytes : List ℕ) (place : ℕ) (p : Performance) → StandsAt by
 unfolding read
 read_is bytes place p h = ap taken (is_read bytes place p h)
 
+some_is_none : {X : Type 0} (x : X) → Some x ≡ None → ⊥
+some_is_none x clash = absurd cc
+
+pub not_unread : (bytes : List ℕ) (place : ℕ) (p : Performance) → StandsAt bytes place p
+    → performed_at (drop place bytes) ≡ None → ⊥
+not_unread bytes place p h none = some_is_none (parts_of p, h.rest) (sym (is_read bytes place p h) ∙ none)
+
+pub read_taken : (bytes : List ℕ) (place : ℕ) (x : Performed × List ℕ) → performed_at (drop place bytes) ≡ Some x
+    → read bytes place ≡ taken (Some x)
+unfolding read
+read_taken bytes place x is = ap taken is
+
 -- how many there are, and each by its place
 pub length-performances : (bytes places : List ℕ) → length (performances_at bytes places) ≡ length places
 length-performances bytes places = length-reverse (map (read bytes) places) ∙ length-map places (read bytes)
+
+-- a place that is read is one of them
+pub place_read : (bytes places : List ℕ) (performed : List Performance) (i place : ℕ) → performances_at bytes places ≡ performed
+    → i < length performed → place ≡ get_or places i place → slice_get places i ≡ Some place
+place_read bytes places performed i place are lt is =
+    let count : length performed ≡ length places = ap length (sym are) ∙ length-performances bytes places in
+    slice_get_read places (length places) i place refl (omega (arith, lt, count)) is
 
 pub read_back : (bytes places : List ℕ) (i place : ℕ) → slice_get places i ≡ Some place
     → slice_get (reverse (performances_at bytes places)) i ≡ Some (read bytes place)

@@ -14,7 +14,7 @@ use Rattle.history.specs.Log.{record_at}
 use Rattle.history.specs.Legal.{Fits}
 use Rattle.logical_log.specs.Index.{noted}
 use Rattle.logical_log.specs.Kept.{AreFrames, AreIndexed}
-use Rattle.logical_log.specs.Spelled.{spelled, places, records_at, IsPlaceOf}
+use Rattle.logical_log.specs.Spelled.{spelled, places, records_at, records_of, IsPlaceOf}
 use Rattle.logical_log.proofs.Index.{record_at-zero, record_at-past}
 use Rattle.logical_log.proofs.Spelled.{read_back, length-places, tells, Tells}
 
@@ -91,7 +91,7 @@ kept_longer log bytes left begins answers end r bytes' rest h fits spells room i
 
 pub indexed_so : (log : List Record) (bytes left marks : List ℕ) (count : ℕ) (answers : List ℕ) (end : ℕ)
     → AreIndexed log bytes left marks count answers end
-    → AreIndexed (records_at bytes (places_of bytes count)) bytes (drop end bytes) marks count answers end
+    → AreIndexed (records_of bytes count) bytes (drop end bytes) marks count answers end
 indexed_so log bytes left marks count answers end h = record {
   frames = kept_so log bytes left (places_of bytes count) answers end h.frames;
   indexes = h.indexes;
@@ -130,11 +130,11 @@ pub indexed_longer : (log : List Record) (bytes left marks : List ℕ) (count : 
     → AreIndexed (r ∷ log) bytes' rest (marked marks count end) (count + 1) (noted r (length log + 1) answers)
     (end + length (frame (record_bytes r)))
 indexed_longer log bytes left marks count answers end r bytes' rest h fits spells room is =
-    let on : GoesOn bytes bytes' marks count (length (spelled log)) (length (spelled log) + length (frame (record_bytes r))) =
+    let Goes : ℕ → Type 0 = λ n. GoesOn bytes bytes' marks count n (n + length (frame (record_bytes r))) in
+    let on : Goes (length (spelled log)) =
     goes_on (spelled log) left bytes bytes' marks count (record_bytes r) rest h.indexes
     (read_up_to _ _ _ _ _ _ _ h) h.frames.bytes_are is (omega (arith, (record_length r spells).1)) in
-    let from : GoesOn bytes bytes' marks count end (end + length (frame (record_bytes r))) =
-    subst (λ (n : ℕ). GoesOn bytes bytes' marks count n (n + length (frame (record_bytes r)))) (sym h.frames.end_is) on in
+    let from : Goes end = subst Goes (sym h.frames.end_is) on in
     let Placed : List ℕ → Type 0 = λ b. AreFrames (r ∷ log) bytes' rest b (noted r (length log + 1) answers)
     (end + length (frame (record_bytes r))) in
     record {

@@ -24,7 +24,8 @@ pub record AreFrames (log : List Record) (bytes left begins answers : List ℕ) 
   pub indexed : answers ≡ index log
 
 -- and the places of their frames are those that an index tells
-pub record AreIndexed (log : List Record) (bytes left marks : List ℕ) (count : ℕ) (answers : List ℕ) (end : ℕ) : Type 0 where
+pub record AreIndexed (log : List Record) (bytes left marks : List ℕ) (count : ℕ) (answers : List ℕ) (end : ℕ)
+    : Type 0 where
   pub frames : AreFrames log bytes left (places_of bytes count) answers end
   pub indexes : Indexes bytes marks count
   pub ends : end ≡ place_at bytes count

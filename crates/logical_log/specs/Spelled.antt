@@ -1,6 +1,7 @@
 -- A log as bytes: the frames of its records one after another.
 use Rattle.std.specs.Prelude.{◌≡◌, ℕ, ◌-◌, ◌<◌, ◌≤◌, get_or, List, [], ◌∷◌, ◌++◌, length, map, reverse, drop}
 use Rattle.std.specs.List.{AllByRecursion}
+use Rattle.codec.specs.FrameIndex.{places_of}
 use Rattle.codec.specs.Frames.{frame, IsThere}
 use Rattle.codec.specs.Records.{record_bytes, IsRecord}
 use Rattle.codec.specs.Reading.{record_at, frame_at, within}
@@ -41,6 +42,10 @@ read_at bytes place = taken_or_session (within place record_at (frame_at 181 pla
 -- the records whose frames begin at these places, the last one first
 unfoldable pub records_at : List ℕ → List ℕ → List Record
 records_at bytes begins = reverse (map (read_at bytes) begins)
+
+-- the records of the first frames of the bytes, so many, the last one first
+abbrev pub records_of : List ℕ → ℕ → List Record
+records_of bytes count = records_at bytes (places_of bytes count)
 
 -- of the bytes left after a log, the first are a record's frame, and the next place is after it
 abbrev pub IsNext : List Record → List ℕ → Record → ℕ → Type 0

@@ -27,7 +27,7 @@ pub(crate) struct Frames {
     bytes: Vec<u8>,
     // Where the frames that were read end.
     end: usize,
-    // Where the frame of each record begins, of the frames up to the end.
+    // Where the frame of each record begins.
     index: FrameIndex,
     // For each record the number of its Answer record, 0 while there is none, and no record's number where it asks for
     // nothing: so whether it is answered is told without reading it.
@@ -36,18 +36,17 @@ pub(crate) struct Frames {
 
 impl Model for Frames {
     ghost use Rattle.std.specs.Prelude.{drop};
-    ghost use Rattle.codec.specs.FrameIndex.{places_of};
     ghost use Rattle.logical_log.specs.Kept.{FramesView, AreIndexed};
-    ghost use Rattle.logical_log.specs.Spelled.{records_at};
+    ghost use Rattle.logical_log.specs.Spelled.{records_of};
 
     ghost Value = { FramesView };
 
     ghost view = { λ f. record {
-      records = records_at f.bytes.items (places_of f.bytes.items f.index.count);
+      records = records_of f.bytes.items f.index.count;
       left = drop f.end f.bytes.items;
     } };
 
-    ghost invariant = { λ f. AreIndexed (records_at f.bytes.items (places_of f.bytes.items f.index.count)) f.bytes.items
+    ghost invariant = { λ f. AreIndexed (records_of f.bytes.items f.index.count) f.bytes.items
         (drop f.end f.bytes.items) f.index.marks f.index.count f.answers.items f.end };
 }
 

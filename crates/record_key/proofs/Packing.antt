@@ -168,8 +168,7 @@ pub dropped : {F : Type 0} (bytes : List ℕ) (test : Entry → Bool) (R : F →
     → AllByRecursion (IsFilled bytes) left × (map (entry_in bytes) left ≡ filter test (map (entry_in bytes) slots))
 dropped bytes test R f says slots left all kept =
     let on_slots : Slot → Bool = λ s. test (entry_in bytes s) in
-    let are : left ≡ filter on_slots slots = retained R (IsFilled bytes) on_slots f says slots left all kept in
-    (
+    let are : left ≡ filter on_slots slots = retained R (IsFilled bytes) on_slots f says slots left all kept in (
       subst (AllByRecursion (IsFilled bytes)) (sym are) (all_filtered (IsFilled bytes) on_slots slots all),
       ap (map (entry_in bytes)) are ∙ map-filtered (entry_in bytes) test slots,
     )

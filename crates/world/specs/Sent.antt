@@ -1,7 +1,9 @@
--- Messages kept as their frames, one after another in a buffer, with the place of each.
+-- Messages kept as their frames, one after another in a buffer, with an index of the places of these.
 use Rattle.std.specs.Prelude.{◌≡◌, ℕ, ◌<◌, ◌^◌, Bool, true, List, Some, ◌++◌, length, drop}
 use Rattle.record_key.specs.declared.refusal.Refusal.{Refusal}
 use Rattle.record_key.specs.declared.refusal.Refusal.TheVariants.{NoMemory}
+use Rattle.std.specs.List.{AllByRecursion}
+use Rattle.codec.specs.FrameIndex.{place_at, places_of, Indexes}
 use Rattle.codec.specs.Frames.{frame, any_length}
 use Rattle.codec.specs.Reading.{Reader, frame_at, within, request_at, reply_at}
 use Rattle.codec.specs.Replies.{reply_bytes, IsReply}
@@ -33,6 +35,13 @@ pub record StandsAt (X : Type 0) (spell : X → List ℕ) (Fits : X → Type 0) 
   pub fits : Fits message
   pub rest : List ℕ
   pub parts : drop place bytes ≡ frame (spell message) ++ rest
+
+-- such a frame stands at each place that an index tells of the bytes, and these are all of the bytes
+pub record AllStand (X : Type 0) (spell : X → List ℕ) (Fits : X → Type 0) (bytes marks : List ℕ) (count : ℕ)
+    : Type 0 where
+  pub stand : AllByRecursion (StandsAt X spell Fits bytes) (places_of bytes count)
+  pub indexes : Indexes bytes marks count
+  pub ends : length bytes ≡ place_at bytes count
 
 abbrev pub request_there : List ℕ → ℕ → Request
 request_there bytes place = read_there request_at (asks.RedoEnd 0) bytes place

@@ -17,7 +17,6 @@ mod found;
 mod found_log;
 mod laws;
 mod message;
-mod messages;
 mod node;
 mod round;
 mod sent;

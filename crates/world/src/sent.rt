@@ -1,11 +1,13 @@
-//! Messages as they were sent: their frames one after another in one buffer, and an index of places.
+//! Messages as they were sent: their frames one after another in one buffer, and an index of places. What was sent
+//! stays: a message may be delivered any number of times, late, or never.
 ghost use Rattle.std.specs.Prelude.{◌≡◌, ◌++◌, ◌∷◌, ◌⊎◌, [], true, false, length, None, Some, IfOk, IfErr, OnOk, OnErr};
+ghost use Rattle.codec.specs.FrameIndex.{places_of, Indexes};
 ghost use Rattle.world.specs.Messages.{message_at};
 ghost use Rattle.world.specs.Node.{IsUnsent};
 ghost use Rattle.world.specs.Sent.{IsUnread};
 
 use crate::message::Message;
-use crate::messages::message;
+use codec::FrameIndex;
 use record_key::Refusal;
 use std::alloc::Global;
 use std::marker::{Model, PhantomData};
@@ -18,23 +20,23 @@ const SHORT_LEN: usize = 264;
 pub(crate) struct Sent<M: Message> {
     bytes: Vec<u8>,
     // Where the frame of each message begins.
-    places: Vec<usize>,
+    index: FrameIndex,
     of: PhantomData<M>,
 }
 
 impl<M: Message> Model for Sent<M> {
-    ghost use Rattle.std.specs.Prelude.{map, nat_le, nat_lt, ◌+◌, ◌&&◌, vec_len, vec_capacity};
-    ghost use Rattle.std.specs.List.{AllByRecursion};
-    ghost use Rattle.world.specs.Sent.{SentView, StandsAt};
+    ghost use Rattle.std.specs.Prelude.{map, nat_le, ◌+◌, ◌&&◌, vec_len, vec_capacity};
+    ghost use Rattle.codec.specs.FrameIndex.{places_of};
+    ghost use Rattle.world.specs.Sent.{SentView, AllStand};
 
     ghost Value = { SentView M };
 
     ghost view = { λ s. record {
-      messages = map (M.read_at s.bytes.items) s.places.items;
-      has_room = nat_le (vec_len s.bytes + 264) (vec_capacity s.bytes) && nat_lt (vec_len s.places) (vec_capacity s.places);
+      messages = map (M.read_at s.bytes.items) (places_of s.bytes.items s.index.count);
+      has_room = nat_le (vec_len s.bytes + 264) (vec_capacity s.bytes) && s.index.has_room;
     } };
 
-    ghost invariant = { λ s. AllByRecursion (StandsAt M M.spell M.is_spelled s.bytes.items) s.places.items };
+    ghost invariant = { λ s. AllStand M M.spell M.is_spelled s.bytes.items s.index.marks s.index.count };
 }
 
 impl<M: Message> Sent<M> {
@@ -43,7 +45,7 @@ impl<M: Message> Sent<M> {
     {
         Sent {
             bytes: Vec::new(alloc),
-            places: Vec::new(alloc),
+            index: FrameIndex::new(alloc),
             of: PhantomData,
         }
     }
@@ -52,7 +54,7 @@ impl<M: Message> Sent<M> {
     pub(crate) fn len(&self) -> u64
         ensures { result ≡ length self.now.messages }
     {
-        self.places.len() as u64
+        self.index.len() as u64
     }
 
     /// Makes room for one more message that has no rows.
@@ -62,7 +64,7 @@ impl<M: Message> Sent<M> {
         ensures cause { IfErr result (λ refusal. refusal ≡ Refusal.NoMemory) }
     {
         self.bytes.reserve(SHORT_LEN)?;
-        self.places.reserve(1)?;
+        self.index.reserve()?;
         Ok(())
     }
 
@@ -74,10 +76,10 @@ impl<M: Message> Sent<M> {
         ensures cause { IfErr result (λ refusal. refusal ≡ Refusal.NoMemory) }
         ensures long { OnErr result (self.old.has_room ≡ true → M.is_long message.now ≡ true) }
     {
-        self.places.reserve(1)?;
+        self.index.reserve()?;
         let place = self.bytes.len();
         M::put(&mut self.bytes, message)?;
-        self.places.push_reserved(place);
+        self.index.push_reserved(place);
         Ok(())
     }
 
@@ -101,7 +103,19 @@ impl<M: Message> Sent<M> {
         ensures refused { IfErr result (λ refusal. IsUnsent self.now.messages number refusal
             ⊎ IsUnread M M.is_long self.now.messages number refusal) }
     {
-        let place = message(self.places.as_slice(), number)?;
-        M::take(*self.places.allocator(), &self.bytes, *place)
+        let place = place_of(&self.index, &self.bytes, number)?;
+        M::take(*self.bytes.allocator(), &self.bytes, place)
     }
+}
+
+/// Where the frame of the message of this number begins, from 1. Refused Unsent where there is none.
+fn place_of(index: &FrameIndex, bytes: &[u8], number: u64) -> Result<usize, Refusal>
+    requires { Indexes bytes.now index.now.marks index.now.count }
+    ensures found { IfOk result (λ place. message_at (places_of bytes.now index.now.count) number ≡ Some place) }
+    ensures refused { IfErr result (λ refusal. IsUnsent (places_of bytes.now index.now.count) number refusal) }
+{
+    if number == 0 || number > index.len() as u64 {
+        return Err(Refusal::Unsent);
+    }
+    Ok(index.place(bytes, number as usize - 1))
 }

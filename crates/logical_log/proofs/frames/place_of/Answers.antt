@@ -18,7 +18,12 @@ returns-then-number-eq0-clause-none c =
     elim c.then-number-eq0.branch [
       | then-number-eq0-via-then-number-eq0 w ↦ inl w.if-number-eq0.true
       | then-number-eq0-via-else-number-eq0+then-len-number w ↦
-          inr (omega (arith, w.if-len-number.true, w.len.ensures, length-places_of c.args.bytes.now c.args.index.now.count))
+          inr (omega (
+            arith,
+            w.if-len-number.true,
+            w.len.ensures,
+            length-places_of c.args.bytes.now c.args.index.now.count,
+          ))
     ]
 
 pub returns-clause-some : goal.returns-clause-some

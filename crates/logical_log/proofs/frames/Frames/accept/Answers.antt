@@ -1,12 +1,12 @@
 use Rattle.std.proofs.Common.{◌≡◌, ◌∙◌, ◌<◌, ℕ, ◌+◌, List, ◌∷◌, ◌++◌, sym, ap, arith, length, vec_len, drop}
 use Rattle.std.proofs.lemmas.Grind.{common_steps}
 use Rattle.codec.specs.Frames.{frame}
-use Rattle.codec.specs.FrameIndex.{places_of, marked}
+use Rattle.codec.specs.FrameIndex.{marked}
 use Rattle.codec.specs.Records.{record_bytes}
 use Rattle.history.specs.declared.record.Record.{Record}
 use Rattle.logical_log.specs.Index.{noted}
 use Rattle.logical_log.specs.Kept.{AreIndexed}
-use Rattle.logical_log.specs.Spelled.{spelled, records_at, IsNext}
+use Rattle.logical_log.specs.Spelled.{spelled, records_of, IsNext}
 use Rattle.logical_log.proofs.Index.{names_within, length-index}
 use Rattle.logical_log.proofs.Framed.{indexed_longer, indexed_so, indexed_count, same_log}
 use Rattle.logical_log.proofs.frames.Frames.accept.Goals as goal
@@ -14,38 +14,38 @@ use Rattle.logical_log.proofs.frames.Frames.accept.Goals as goal
 pub note-requires-clause-names : goal.note-requires-clause-names
 note-requires-clause-names c =
     let counted : vec_len c.self.inside.answers ≡ length c.self.inside.answers.items = grind (arith, common_steps) in
-    names_within (records_at c.self.inside.bytes.items (places_of c.self.inside.bytes.items c.self.inside.index.count)) c.args.accepted.now _
+    names_within (records_of c.self.inside.bytes.items c.self.inside.index.count) c.args.accepted.now _
     (rw (← c.self.view_is) at c.requires.fits)
     (c.in_ok-reserve-2.ensures.len ∙ counted ∙ ap length c.self.invariant.frames.indexed ∙ length-index _)
 
 pub overflow_add-number : goal.overflow_add-number
 overflow_add-number c =
     let m = c.self.inside in
-    let room : length (records_at m.bytes.items (places_of m.bytes.items m.index.count)) < 281474976710655 =
+    let room : length (records_of m.bytes.items m.index.count) < 281474976710655 =
     rw (← c.self.view_is) at c.requires.room in
     omega (arith, c.len.ensures, c.in_ok-reserve.ensures.count, indexed_count _ _ _ _ _ _ _ c.self.invariant, room)
 
 pub push_reserved-requires-clause-few : goal.push_reserved-requires-clause-few
 push_reserved-requires-clause-few c =
     let m = c.self.inside in
-    let room : length (records_at m.bytes.items (places_of m.bytes.items m.index.count)) < 281474976710655 =
+    let room : length (records_of m.bytes.items m.index.count) < 281474976710655 =
     rw (← c.self.view_is) at c.requires.room in
     omega (arith, c.in_ok-reserve.ensures.count, indexed_count _ _ _ _ _ _ _ c.self.invariant, room)
 
 number_of : (c : goal.After-self-1)
-    → c.len.result + 1 ≡ length (records_at c.self.inside.bytes.items (places_of c.self.inside.bytes.items c.self.inside.index.count)) + 1
+    → c.len.result + 1 ≡ length (records_of c.self.inside.bytes.items c.self.inside.index.count) + 1
 number_of c =
     omega (arith, c.len.ensures, c.in_ok-reserve.ensures.count, indexed_count _ _ _ _ _ _ _ c.self.invariant)
 
 -- one record more
 now : (c : goal.After-self-1)
-    → AreIndexed (c.args.accepted.now ∷ records_at c.self.inside.bytes.items (places_of c.self.inside.bytes.items c.self.inside.index.count))
+    → AreIndexed (c.args.accepted.now ∷ records_of c.self.inside.bytes.items c.self.inside.index.count)
     c.self.inside.bytes.items
     (drop (length (frame (record_bytes c.args.accepted.now))) (drop c.self.inside.end c.self.inside.bytes.items))
     c.push_reserved.new.self.marks c.push_reserved.new.self.count c.note.new.answers.items c.args.next
 now c =
     let m = c.self.inside in
-    let log : List Record = records_at m.bytes.items (places_of m.bytes.items m.index.count) in
+    let log : List Record = records_of m.bytes.items m.index.count in
     let left : List ℕ = drop m.end m.bytes.items in
     let r : Record = c.args.accepted.now in
     let f : List ℕ = frame (record_bytes r) in
@@ -53,8 +53,8 @@ now c =
     let room : length log < 281474976710655 = rw (← c.self.view_is) at c.requires.room in
     let bytes : m.bytes.items ≡ spelled log ++ (f ++ drop (length f) left) = c.self.invariant.frames.bytes_are
     ∙ ap (λ (l : List ℕ). spelled log ++ l) stands.parts in
-    let marks : c.push_reserved.new.self.marks ≡ marked m.index.marks m.index.count m.end = c.push_reserved.ensures.marks
-    ∙ λ i. marked (c.in_ok-reserve.ensures.marks i) (c.in_ok-reserve.ensures.count i) m.end in
+    let marks : c.push_reserved.new.self.marks ≡ marked m.index.marks m.index.count m.end =
+    c.push_reserved.ensures.marks ∙ λ i. marked (c.in_ok-reserve.ensures.marks i) (c.in_ok-reserve.ensures.count i) m.end in
     let count : c.push_reserved.new.self.count ≡ m.index.count + 1 = c.push_reserved.ensures.count
     ∙ ap (λ (n : ℕ). n + 1) c.in_ok-reserve.ensures.count in
     let answers : c.note.new.answers.items ≡ noted r (length log + 1) m.answers.items =

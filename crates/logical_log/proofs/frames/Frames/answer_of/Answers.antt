@@ -3,7 +3,8 @@ use Rattle.logical_log.proofs.Index.{answer_found, answer_of-zero}
 use Rattle.logical_log.proofs.frames.Frames.answer_of.Goals as goal
 
 pub returns-then-number-eq0 : goal.returns-then-number-eq0
-returns-then-number-eq0 c = rw (← c.self.view_is, c.if-number-eq0.true) (sym (answer_of-zero _ c.self.invariant.frames.legal))
+returns-then-number-eq0 c =
+    rw (← c.self.view_is, c.if-number-eq0.true) (sym (answer_of-zero _ c.self.invariant.frames.legal))
 
 pub returns : goal.returns
 returns c =

@@ -1,10 +1,10 @@
 use Rattle.std.proofs.Common.{◌≡◌, ℕ, ◌∙◌, ◌<◌, ◌≤◌, List, sym, ap, arith, length, get_or}
 use Rattle.history.specs.declared.record.Record.{Record}
-use Rattle.codec.specs.FrameIndex.{place_at, places_of}
+use Rattle.codec.specs.FrameIndex.{place_at}
 use Rattle.codec.proofs.Indexed.{place_of}
 use Rattle.logical_log.specs.Kept.{AreIndexed}
 use Rattle.logical_log.specs.Low.{stable_part}
-use Rattle.logical_log.specs.Spelled.{spelled, records_at}
+use Rattle.logical_log.specs.Spelled.{spelled, records_of}
 use Rattle.logical_log.proofs.Answered.{part_whole}
 use Rattle.logical_log.proofs.Framed.{indexed_count}
 use Rattle.logical_log.proofs.Spelled.{place_at as begins_at}
@@ -33,7 +33,7 @@ returns-then-count-len c =
 pub returns-else-count-len : goal.returns-else-count-len
 returns-else-count-len c =
     let m = c.self.inside in
-    let log : List Record = records_at m.bytes.items (places_of m.bytes.items m.index.count) in
+    let log : List Record = records_of m.bytes.items m.index.count in
     let within : c.args.count ≤ length log = rw (← c.self.view_is) at c.requires in
     let all : length log ≤ c.args.count =
     omega (arith, c.if-count-len.false, c.len.ensures, indexed_count _ _ _ _ _ _ _ c.self.invariant) in

@@ -1,7 +1,6 @@
 use Rattle.std.proofs.Common.{◌≡◌, ℕ, not, refl, sym, ap, ◌∙◌, arith}
 use Rattle.std.specs.Prelude.{◌==◌}
-use Rattle.codec.specs.FrameIndex.{places_of}
-use Rattle.logical_log.specs.Spelled.{records_at}
+use Rattle.logical_log.specs.Spelled.{records_of}
 use Rattle.logical_log.proofs.Index.{index_at, index_tells, is_answered-zero}
 use Rattle.logical_log.proofs.frames.Frames.is_answered.Goals as goal
 
@@ -10,7 +9,7 @@ returns-then-number-eq0 c = rw (c.if-number-eq0.true) (sym (is_answered-zero c.a
 
 pub returns : goal.returns
 returns c =
-    let records = records_at c.self.inside.bytes.items (places_of c.self.inside.bytes.items c.self.inside.index.count) in
+    let records = records_of c.self.inside.bytes.items c.self.inside.index.count in
     let place : c.answer_place.result ≡ index_at records c.args.number =
     rw (c.answer_place.ensures, c.as_slice.ensures.value, c.self.invariant.frames.indexed) refl in
     ap (λ (p : ℕ). not (p == 0)) place

@@ -1,15 +1,16 @@
 use Rattle.std.proofs.Common.{◌≡◌, List, ℕ, [], refl}
 use Rattle.codec.specs.FrameIndex.{places_of}
-use Rattle.logical_log.specs.Spelled.{records_at}
+use Rattle.logical_log.specs.Spelled.{records_at, records_of}
 use Rattle.logical_log.proofs.Framed.{indexed_unread}
 use Rattle.logical_log.proofs.frames.Frames.new.Goals as goal
 
-none_read : (bytes : List ℕ) → records_at bytes (places_of bytes 0) ≡ []
+none_read : (bytes : List ℕ) → records_of bytes 0 ≡ []
 unfolding records_at places_of
 none_read bytes = refl
 
 pub invariant_of-result : goal.invariant_of-result
-invariant_of-result c = rw (c.new.ensures.marks, c.new.ensures.count, c.new-2.ensures.items, none_read c.args.bytes.items)
+invariant_of-result c =
+    rw (c.new.ensures.marks, c.new.ensures.count, c.new-2.ensures.items, none_read c.args.bytes.items)
     (indexed_unread c.args.bytes.items)
 
 pub returns : goal.returns

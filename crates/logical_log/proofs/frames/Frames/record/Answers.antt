@@ -11,14 +11,14 @@ pub returns-in-Record : goal.returns-in-Record
 returns-in-Record c =
     rw (← c.self.view_is) (taken_is _ c.args.number c.in_ok-place.place c.take_record.result c.in-Record.found
     c.in-Record.field-1
-    (tells_kept (taken_from c.in_ok-place.place) _ _ _ _ _ _ c.self.invariant.frames c.args.number c.in_ok-place.place
-    c.deref-2.result.now c.take_record.result c.deref-2.ensures.value
+    (tells_kept (taken_from c.in_ok-place.place) _ _ _ _ _ _ c.self.invariant.frames c.args.number
+    c.in_ok-place.place c.deref-2.result.now c.take_record.result c.deref-2.ensures.value
     (rw c.deref.ensures.value at c.in_ok-place.ensures.some) c.take_record.ensures.only)
     c.in-Record.is)
 
 pub returns-in_default : goal.returns-in_default
 returns-in_default c =
-    let t = tells_kept (taken_from c.in_ok-place.place) _ _ _ _ _ _ c.self.invariant.frames c.args.number c.in_ok-place.place
-    c.deref-2.result.now c.take_record.result c.deref-2.ensures.value
+    let t = tells_kept (taken_from c.in_ok-place.place) _ _ _ _ _ _ c.self.invariant.frames c.args.number
+    c.in_ok-place.place c.deref-2.result.now c.take_record.result c.deref-2.ensures.value
     (rw c.deref.ensures.value at c.in_ok-place.ensures.some) c.take_record.ensures.only in
     absurd (c.in_default.not-Record t.found _ t.told_is)
