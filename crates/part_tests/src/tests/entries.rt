@@ -22,7 +22,7 @@ fn expect_listed(rt: &impl Abort, entries: &Entries, list: &[Entry]) {
 /// Each kind of answer in turn, with values of 0 to 120 bytes.
 fn answer(n: u64) -> Result<Answer, Fail> {
     let bytes = [(n % 256) as u8; 120];
-    let value = value(&bytes[..(n * 17 % 121) as usize])?;
+    let value = value(&bytes[..(n % 1000 * 17 % 121) as usize])?;
     Ok(match n % 7 {
         0 => Answer::Inserted,
         1 => Answer::Updated(value),
@@ -36,13 +36,13 @@ fn answer(n: u64) -> Result<Answer, Fail> {
 
 /// A key of 1 to 32 bytes.
 fn nth_key(n: u64) -> Result<Key, Fail> {
-    let bytes = [(n * 31 % 256) as u8; 32];
-    key(&bytes[..1 + (n * 13 % 32) as usize])
+    let bytes = [(n % 1000 * 31 % 256) as u8; 32];
+    key(&bytes[..1 + (n % 1000 * 13 % 32) as usize])
 }
 
 fn nth(n: u64) -> Result<Entry, Fail> {
     Ok(Entry {
-        number: n * 7 % 400,
+        number: n % 1000 * 7 % 400,
         key: nth_key(n)?,
         answer: answer(n)?,
     })
@@ -51,7 +51,7 @@ fn nth(n: u64) -> Result<Entry, Fail> {
 /// Puts the entry at a place of both.
 fn put(entries: &mut Entries, list: &mut Vec<Entry>, n: u64) -> Result<(), Fail> {
     let entry = nth(n)?;
-    let at = (n * 11) as usize % (list.len() + 1);
+    let at = (n % 1000 * 11) as usize % (list.len() + 1);
     if at <= entries.len() {
         entries.insert(at, entry.number, &entry.key, &entry.answer)?;
     }
