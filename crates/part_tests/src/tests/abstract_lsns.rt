@@ -34,7 +34,7 @@ fn expect<R: Abort>(rt: &R, ab: &AbLsn, low: u64, numbers: &[u64]) -> Result<(),
         let saved = low < number && numbers.contains(&number);
         assert_eq!(rt; ab.captures(number), number <= low || saved, "{number}");
         let want = if saved { Some(answer(number)?) } else { None };
-        assert_eq!(rt; ab.answer_of(number), want.as_ref(), "{number}");
+        assert_eq!(rt; ab.answer_of(number), want, "{number}");
     }
     Ok(())
 }
