@@ -73,7 +73,7 @@ fn merge(rt: HostRuntime) -> Result<(), Fail> {
             merged,
         } => {
             assert_eq!(rt; merged.rows.as_slice().len(), 2);
-            assert_eq!(rt; merged.entries.as_slice().len(), 2);
+            assert_eq!(rt; merged.entries.len(), 2);
         }
         _ => assert!(rt; false),
     }
