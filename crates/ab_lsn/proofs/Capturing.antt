@@ -20,7 +20,8 @@ or_swap false b c = refl
 either_side : (b : Bool) (f e : Entry) (es fs : List Entry) (m : ℕ)
     → stands_in fs m ≡ ((m == f.number) || stands_in es m)
     → stands_in (cond b (e ∷ fs) (f ∷ e ∷ es)) m ≡ ((m == f.number) || stands_in (e ∷ es) m)
-either_side true f e es fs m h = ap (λ b. (m == e.number) || b) h ∙ or_swap (m == e.number) (m == f.number) (stands_in es m)
+either_side true f e es fs m h =
+    ap (λ b. (m == e.number) || b) h ∙ or_swap (m == e.number) (m == f.number) (stands_in es m)
 either_side false f e es fs m h = refl
 
 pub placed_stands : (f : Entry) (es : List Entry) (m : ℕ)
@@ -31,7 +32,9 @@ placed_stands f (e ∷ es) m = either_side (nat_lt e.number f.number) f e es (pl
 pub noted_captures : (v : AbLsnView) (n : ℕ) (k : Bytes) (a : Answer) (m : ℕ)
     → captures (noted v n k a) m ≡ (captures v m || m == n)
 noted_captures v n k a m =
-    ap (λ b. nat_le m v.low || b) (placed_stands (record { number = n; key = k; answer = a }) v.entries m ∙ or_comm (m == n) (stands_in v.entries m))
+    ap (λ b. nat_le m v.low || b)
+    (placed_stands (record { number = n; key = k; answer = a }) v.entries m
+    ∙ or_comm (m == n) (stands_in v.entries m))
     ∙ sym (or_assoc (nat_le m v.low) (stands_in v.entries m) (m == n))
 
 -- entries above a number are all that stand above it
@@ -40,7 +43,8 @@ above_stands l [] m lt = refl
 above_stands l (e ∷ es) m lt =
     elim (cases_lt l e.number) [
       | inl less ↦ rw (lt-ltb l e.number less) (ap (λ b. (m == e.number) || b) (above_stands l es m lt))
-      | inr ge ↦ rw (le-ltb l e.number ge, ne_eqb m e.number (λ same. omega (arith, same, ge, lt))) (above_stands l es m lt)
+      | inr ge ↦ rw (le-ltb l e.number ge, ne_eqb m e.number (λ same. omega (arith, same, ge, lt)))
+          (above_stands l es m lt)
     ]
 
 pub above_rises : (l k : ℕ) (es : List Entry) → RiseAbove k es → RiseAbove l (above l es)
@@ -121,7 +125,8 @@ joined_captures v w m =
           let low : nat_le m u.low ≡ true = le-leb m u.low ge in
           let all : captures u m ≡ true = ap (λ b. b || stands_in u.entries m) low in
           ap (λ b. b || stands_in (placed_all u.low w.entries u.entries) m) low
-          ∙ sym (sym (or_assoc (captures v m) (nat_le m w.low) (stands_in w.entries m)) ∙ or_left _ (stands_in w.entries m) (sym was ∙ all))
+          ∙ sym (sym (or_assoc (captures v m) (nat_le m w.low) (stands_in w.entries m))
+          ∙ or_left _ (stands_in w.entries m) (sym was ∙ all))
     ]
 
 -- the invariant stays where the low number rises
@@ -135,7 +140,8 @@ raised_rises v l h =
 -- what stands in the entries whose keys pass a test
 either_with : (m : ℕ) (e : Entry) (es fs : List Entry) (b : Bool) (rest : Bool) → stands_in fs m ≡ rest
     → stands_in (cond b (e ∷ fs) fs) m ≡ (((m == e.number) && b) || rest)
-either_with m e es fs true rest is = ap (λ (r : Bool). (m == e.number) || r) is ∙ ap (λ (r : Bool). r || rest) (sym (and-true (m == e.number)))
+either_with m e es fs true rest is =
+    ap (λ (r : Bool). (m == e.number) || r) is ∙ ap (λ (r : Bool). r || rest) (sym (and-true (m == e.number)))
 either_with m e es fs false rest is = is ∙ ap (λ (r : Bool). r || rest) (sym (and-false (m == e.number)))
 
 pub parted_stands : (test : Bytes → Bool) (es : List Entry) (m : ℕ)

@@ -13,7 +13,8 @@ use Rattle.ab_lsn.proofs.Rising.{at_stands, gap_stands, gap_placed, placed_rises
 pub found_captured : (v : AbLsnView) (n : ℕ) (r : Result ℕ ℕ) → v.low < n → RiseAbove v.low v.entries
     → IsPlaceOfNumber n v.entries r
     → is_ok r ≡ captures v n
-found_captured v n (Ok p) lt h at = sym (ap (λ b. b || stands_in v.entries n) (lt-leb n v.low lt) ∙ at_stands n v.entries p at)
+found_captured v n (Ok p) lt h at =
+    sym (ap (λ b. b || stands_in v.entries n) (lt-leb n v.low lt) ∙ at_stands n v.entries p at)
 found_captured v n (Err p) lt h gap =
     sym (ap (λ b. b || stands_in v.entries n) (lt-leb n v.low lt) ∙ gap_stands n v.low v.entries p h gap)
 

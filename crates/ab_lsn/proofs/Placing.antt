@@ -15,6 +15,8 @@ pub placed_one : (low : ℕ) (end es : List Entry) (i : ℕ) (e : Entry) (now ne
     → e ≡ get_or es i e → IsPlacing low end (drop i es) now
     → new ≡ placed_above low e now → IsPlacing low end (drop (i + 1) es) new
 placed_one low end es i e now new lt is h placed =
-    let left : drop i es ≡ e ∷ drop (i + 1) es = rw (add-one) (drop-cons es i e lt ∙ ap (λ (x : Entry). x ∷ drop (suc i) es) (sym is)) in
-    let turn : IsPlacing low end (e ∷ drop (i + 1) es) now = subst (λ (rest : List Entry). IsPlacing low end rest now) left h in
+    let left : drop i es ≡ e ∷ drop (i + 1) es =
+    rw (add-one) (drop-cons es i e lt ∙ ap (λ (x : Entry). x ∷ drop (suc i) es) (sym is)) in
+    let turn : IsPlacing low end (e ∷ drop (i + 1) es) now =
+    subst (λ (rest : List Entry). IsPlacing low end rest now) left h in
     record { done = rw placed turn.done; rising = rw placed (above_rises_too low e now turn.rising) }

@@ -47,7 +47,8 @@ at_stands n (e ∷ es) (suc p) at =
 pub below_stands : (n l : ℕ) (es : List Entry) → n ≤ l → RiseAbove l es → stands_in es n ≡ false
 below_stands n l [] le h = refl
 below_stands n l (e ∷ es) le h =
-    rw (ne_eqb n e.number (λ same. omega (arith, same, le, h.0))) (below_stands n e.number es (omega (arith, le, h.0)) h.1)
+    rw (ne_eqb n e.number (λ same. omega (arith, same, le, h.0)))
+    (below_stands n e.number es (omega (arith, le, h.0)) h.1)
 
 pub gap_stands : (n l : ℕ) (es : List Entry) (p : ℕ) → RiseAbove l es → IsGapForNumber n es p → stands_in es n ≡ false
 gap_stands n l [] p h gap = refl

@@ -1,4 +1,5 @@
-//! Prints how many megabytes a second of a log's records are written and read, and how many records a second are opened.
+//! Prints how many megabytes a second of a log's records are written and read, and how many records a second are
+//! opened.
 #![tactic(auto)]
 
 mod measure;

@@ -35,9 +35,11 @@ performs_at : (leaves : List LeafView) (n : ℕ) (o : Op) (done : Done) (x : Lea
     → PerformsAt leaves n o done (set leaves (place_at leaves (key_of o)) x)
 performs_at leaves n o done x there performs =
     let P : List LeafView → Type 0 = λ (ls : List LeafView).
-    place_at ls (key_of o) < length leaves → Performs (leaf_at ls (key_of o)) n o done x → PerformsAt ls n o done (set leaves (place_at ls (key_of o)) x) in
+    place_at ls (key_of o) < length leaves → Performs (leaf_at ls (key_of o)) n o done x
+    → PerformsAt ls n o done (set leaves (place_at ls (key_of o)) x) in
     let all : P (map itself leaves) = λ there performs.
-    subst (λ (ls : List LeafView). PerformsAt (map itself leaves) n o done ls) (map-id (set leaves (place_at (map itself leaves) (key_of o)) x))
+    subst (λ (ls : List LeafView). PerformsAt (map itself leaves) n o done ls)
+    (map-id (set leaves (place_at (map itself leaves) (key_of o)) x))
     (performs_there itself leaves n o done x there performs) in
     subst P (map-id leaves) all there performs
 
@@ -48,9 +50,11 @@ pub performs_among : (p : ℕ) (old new : NodeView) (n : ℕ) (o : Op) (result :
     → IfOk result (λ done. PerformsAt old.leaves n o done new.leaves)
 performs_among p old new n o (Ok done) kept at change performs =
     let is = place_found old.leaves (key_of o) p kept at in
-    let there : place_at old.leaves (key_of o) < length old.leaves = subst (λ (q : ℕ). q < length old.leaves) is at.there in
+    let there : place_at old.leaves (key_of o) < length old.leaves =
+    subst (λ (q : ℕ). q < length old.leaves) is at.there in
     let at_leaf : Performs (leaf_at old.leaves (key_of o)) n o done (get_or new.leaves p first) =
-    subst (λ (leaf : LeafView). Performs leaf n o done (get_or new.leaves p first)) (leaf_found old.leaves (key_of o) p kept at) performs in
+    subst (λ (leaf : LeafView). Performs leaf n o done (get_or new.leaves p first))
+    (leaf_found old.leaves (key_of o) p kept at) performs in
     subst (λ (ls : List LeafView). PerformsAt old.leaves n o done ls)
     (ap (λ (q : ℕ). set old.leaves q (get_or new.leaves p first)) (sym is) ∙ sym change.leaves)
     (performs_at old.leaves n o done (get_or new.leaves p first) there at_leaf)
@@ -62,7 +66,8 @@ pub split_among : (leaves : List LeafView) (p id d : ℕ) (x y leaf : LeafView) 
     → insert (set leaves p x) (suc p) y ≡ split_at p id d leaves
 split_among leaves p id d x y leaf may at lower upper =
     let P : List LeafView → Type 0 = λ (ls : List LeafView).
-    may_split_at ls p ≡ true → leaf ≡ get_or ls p first → map itself (insert (set leaves p x) (suc p) y) ≡ split_at p id d ls in
+    may_split_at ls p ≡ true → leaf ≡ get_or ls p first → map itself (insert (set leaves p x) (suc p) y)
+    ≡ split_at p id d ls in
     let all : P (map itself leaves) = λ may at. split_there itself leaves p id d x y leaf may at lower upper in
     sym (map-id (insert (set leaves p x) (suc p) y)) ∙ subst P (map-id leaves) all may at
 
@@ -71,7 +76,8 @@ pub merge_among : (leaves : List LeafView) (p d : ℕ) (x : LeafView) → may_me
     → remove (set leaves p x) (suc p) ≡ merged_at p d leaves
 merge_among leaves p d x may is =
     let P : List LeafView → Type 0 = λ (ls : List LeafView).
-    may_merge_at ls p ≡ true → x ≡ joined_of (get_or ls p first) (get_or ls (suc p) first) d → map itself (remove (set leaves p x) (suc p)) ≡ merged_at p d ls in
+    may_merge_at ls p ≡ true → x ≡ joined_of (get_or ls p first) (get_or ls (suc p) first) d
+    → map itself (remove (set leaves p x) (suc p)) ≡ merged_at p d ls in
     let all : P (map itself leaves) = λ may is. merge_there itself leaves p d x may is in
     sym (map-id (remove (set leaves p x) (suc p))) ∙ subst P (map-id leaves) all may is
 

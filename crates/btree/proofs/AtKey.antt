@@ -58,10 +58,12 @@ same_leaf leaves k q kept inside = same_from None leaves k q kept.tile refl insi
 
 -- ---- the leaf of a key changed
 
-module _ (change : LeafView → LeafView) (part_kept : (leaf : LeafView) → part_of (change leaf) ≡ part_of leaf) (leaves : List LeafView) (kept : AreLeaves leaves) (k : Bytes) where
+module _ (change : LeafView → LeafView) (part_kept : (leaf : LeafView) → part_of (change leaf) ≡ part_of leaf)
+    (leaves : List LeafView) (kept : AreLeaves leaves) (k : Bytes) where
   pub leaf_changed : (q : Bytes) → is_in_fences (leaf_at leaves k) q ≡ true
       → leaf_at (changed_at k change leaves) q ≡ change (leaf_at leaves q)
-  leaf_changed q inside = changed_same change part_kept None leaves k q kept.tile refl inside ∙ ap change (sym (same_leaf leaves k q kept inside))
+  leaf_changed q inside = changed_same change part_kept None leaves k q kept.tile refl inside
+      ∙ ap change (sym (same_leaf leaves k q kept inside))
 
   pub leaf_unchanged : (q : Bytes) → is_in_fences (leaf_at leaves k) q ≡ false
       → leaf_at (changed_at k change leaves) q ≡ leaf_at leaves q
@@ -77,12 +79,16 @@ module _ (leaves : List LeafView) (kept : AreLeaves leaves) (n : ℕ) (o : Op) w
 
   pub leaf_not_performed : (k : Bytes) → is_in_fences (leaf_at leaves (key_of o)) k ≡ false
       → leaf_at (performed_at leaves n o) k ≡ leaf_at leaves k
-  leaf_not_performed k outside = leaf_unchanged (λ leaf. performed leaf n o) (λ leaf. refl) leaves kept (key_of o) k outside
+  leaf_not_performed k outside =
+      leaf_unchanged (λ leaf. performed leaf n o) (λ leaf. refl) leaves kept (key_of o) k outside
 
-  pub value_performed : table.get (leaf_at (performed_at leaves n o) (key_of o)).rows (key_of o) ≡ value_after o (table.get (leaf_at leaves (key_of o)).rows (key_of o))
+  pub value_performed : table.get (leaf_at (performed_at leaves n o) (key_of o)).rows (key_of o)
+      ≡ value_after o (table.get (leaf_at leaves (key_of o)).rows (key_of o))
   value_performed =
-      ap (λ (leaf : LeafView). table.get leaf.rows (key_of o)) (leaf_performed (key_of o) (within_at leaves (key_of o) kept))
-      ∙ get-with_record_same (leaf_at leaves (key_of o)).rows (key_of o) (value_after o (table.get (leaf_at leaves (key_of o)).rows (key_of o)))
+      ap (λ (leaf : LeafView). table.get leaf.rows (key_of o))
+      (leaf_performed (key_of o) (within_at leaves (key_of o) kept))
+      ∙ get-with_record_same (leaf_at leaves (key_of o)).rows (key_of o)
+      (value_after o (table.get (leaf_at leaves (key_of o)).rows (key_of o)))
 
   pub value_not_performed : (k : Bytes) → k ≢ key_of o
       → table.get (leaf_at (performed_at leaves n o) k).rows k ≡ table.get (leaf_at leaves k).rows k
@@ -90,7 +96,8 @@ module _ (leaves : List LeafView) (kept : AreLeaves leaves) (n : ℕ) (o : Op) w
       elim (cases_Bool (is_in_fences (leaf_at leaves (key_of o)) k)) [
         | inl inside ↦
             ap (λ (leaf : LeafView). table.get leaf.rows k) (leaf_performed k inside)
-            ∙ get-with_record_other (leaf_at leaves k).rows (key_of o) k (value_after o (table.get (leaf_at leaves k).rows (key_of o))) apart
+            ∙ get-with_record_other (leaf_at leaves k).rows (key_of o) k
+            (value_after o (table.get (leaf_at leaves k).rows (key_of o))) apart
         | inr outside ↦ ap (λ (leaf : LeafView). table.get leaf.rows k) (leaf_not_performed k outside)
       ]
 
@@ -123,16 +130,20 @@ module _ (leaves : List LeafView) (kept : AreLeaves leaves) (l : ℕ) (k : Bytes
   pub leaf_raised : leaf_at (map (λ leaf. raised_to leaf l) leaves) k ≡ raised_to (leaf_at leaves k) l
   leaf_raised = leaf_mapped (λ leaf. raised_to leaf l) (λ leaf. refl) leaves k (there_from None leaves k kept.tile refl)
 
-  pub value_raised : table.get (leaf_at (map (λ leaf. raised_to leaf l) leaves) k).rows k ≡ table.get (leaf_at leaves k).rows k
+  pub value_raised : table.get (leaf_at (map (λ leaf. raised_to leaf l) leaves) k).rows k
+      ≡ table.get (leaf_at leaves k).rows k
   value_raised = ap (λ (leaf : LeafView). table.get leaf.rows k) leaf_raised
 
   pub captured_raised : (n : ℕ)
-      → captures (leaf_at (map (λ leaf. raised_to leaf l) leaves) k).ab n ≡ (captures (leaf_at leaves k).ab n || nat_le n l)
-  captured_raised n = ap (λ (leaf : LeafView). captures leaf.ab n) leaf_raised ∙ raised_captures (leaf_at leaves k).ab l n
+      → captures (leaf_at (map (λ leaf. raised_to leaf l) leaves) k).ab n
+      ≡ (captures (leaf_at leaves k).ab n || nat_le n l)
+  captured_raised n = ap (λ (leaf : LeafView). captures leaf.ab n) leaf_raised
+      ∙ raised_captures (leaf_at leaves k).ab l n
 
 -- ---- a leaf parted
 
-module _ (leaves : List LeafView) (kept : AreLeaves leaves) (p id d : ℕ) (may : may_split_at leaves p ≡ true) (k : Bytes) where
+module _ (leaves : List LeafView) (kept : AreLeaves leaves) (p id d : ℕ) (may : may_split_at leaves p ≡ true)
+    (k : Bytes) where
   pub value_split : table.get (leaf_at (split_at p id d leaves) k).rows k ≡ table.get (leaf_at leaves k).rows k
   value_split =
       elim (leaf_split leaves p id d k kept.each may) [
@@ -156,8 +167,10 @@ module _ (leaves : List LeafView) (kept : AreLeaves leaves) (p id d : ℕ) (may 
       elim (leaf_split leaves p id d k kept.each may) [
         | inl same ↦ ap (λ (leaf : LeafView). captures leaf.ab n) same
         | inr half ↦ elim half [
-          | inl lower ↦ ap (λ (leaf : LeafView). captures leaf.ab n) lower.is ∙ sym (captured_left log leaf (is_under (middle leaf)) k right lower.under n o requests on)
-          | inr upper ↦ ap (λ (leaf : LeafView). captures leaf.ab n) upper.is ∙ sym (captured_left log leaf (is_from (middle leaf)) k right upper.from n o requests on)
+          | inl lower ↦ ap (λ (leaf : LeafView). captures leaf.ab n) lower.is
+              ∙ sym (captured_left log leaf (is_under (middle leaf)) k right lower.under n o requests on)
+          | inr upper ↦ ap (λ (leaf : LeafView). captures leaf.ab n) upper.is
+              ∙ sym (captured_left log leaf (is_from (middle leaf)) k right upper.from n o requests on)
         ]
       ]
 
@@ -171,14 +184,19 @@ value_in_left : (left right : LeafView) (d : ℕ) (k : Bytes) → AreJoinable le
 value_in_left left right d k pair held =
     let under : is_below k pair.next.fence ≡ true = under_next left right pair.next k held in
     sym (get_retained (joined_of left right d).rows (is_under pair.next.fence) k under)
-    ∙ ap (λ (m : Table). table.get m k) (first_again pair.next.fence left.rows right.rows (neighbours_apart left right d pair.left_kept pair.right_kept pair.next))
+    ∙ ap (λ (m : Table). table.get m k)
+    (first_again pair.next.fence left.rows right.rows
+    (neighbours_apart left right d pair.left_kept pair.right_kept pair.next))
 
 value_in_right : (left right : LeafView) (d : ℕ) (k : Bytes) → AreJoinable left right → is_in_fences right k ≡ true
     → table.get (joined_of left right d).rows k ≡ table.get right.rows k
 value_in_right left right d k pair held =
-    let from : is_from pair.next.fence k ≡ true = not_from_false (is_below k pair.next.fence) (past_next left right pair.next k held) in
+    let from : is_from pair.next.fence k ≡ true =
+    not_from_false (is_below k pair.next.fence) (past_next left right pair.next k held) in
     sym (get_retained (joined_of left right d).rows (is_from pair.next.fence) k from)
-    ∙ ap (λ (m : Table). table.get m k) (second_again pair.next.fence left.rows right.rows (neighbours_apart left right d pair.left_kept pair.right_kept pair.next))
+    ∙ ap (λ (m : Table). table.get m k)
+    (second_again pair.next.fence left.rows right.rows
+    (neighbours_apart left right d pair.left_kept pair.right_kept pair.next))
 
 pub value_merged : (leaves : List LeafView) → AreLeaves leaves → (p d : ℕ) (k : Bytes)
     → table.get (leaf_at (merged_at p d leaves) k).rows k ≡ table.get (leaf_at leaves k).rows k
@@ -186,8 +204,10 @@ value_merged leaves kept p d k =
     elim (leaf_merged AreJoinable near d k leaves p (joinable leaves p kept)) [
       | inl same ↦ ap (λ (leaf : LeafView). table.get leaf.rows k) same
       | inr both ↦ elim both [
-        | inl left ↦ ap (λ (leaf : LeafView). table.get leaf.rows k) left.is ∙ value_in_left (leaf_at leaves k) left.right d k left.pair left.held
-        | inr right ↦ ap (λ (leaf : LeafView). table.get leaf.rows k) right.is ∙ value_in_right right.left (leaf_at leaves k) d k right.pair right.held
+        | inl left ↦ ap (λ (leaf : LeafView). table.get leaf.rows k) left.is
+            ∙ value_in_left (leaf_at leaves k) left.right d k left.pair left.held
+        | inr right ↦ ap (λ (leaf : LeafView). table.get leaf.rows k) right.is
+            ∙ value_in_right right.left (leaf_at leaves k) d k right.pair right.held
       ]
     ]
 
@@ -201,17 +221,22 @@ honest_pair : (log : List Record) (leaves : List LeafView) (p : ℕ) → AreLeav
     → AreCaptured log leaves
     → AtPair (AreHonestBoth log) leaves p
 honest_pair log leaves p kept honest captured =
-    let known : AtPair (λ left right. (IsHonestLeaf log left × IsHonestLeaf log right) × (IsCapturedTo log left right.ab.low × IsCapturedTo log right left.ab.low)) leaves p =
+    let known : AtPair (λ left right. (IsHonestLeaf log left × IsHonestLeaf log right)
+    × (IsCapturedTo log left right.ab.low × IsCapturedTo log right left.ab.low)) leaves p =
     pair_with _ _ _ (λ left right one two. (one, two)) leaves p
-    (pair_all (IsHonestLeaf log) leaves p honest) (pair_each (λ (leaf other : LeafView). IsCapturedTo log leaf other.ab.low) leaves p captured) in
-    pair_with _ _ (AreHonestBoth log) (λ left right pair both. record { pair = pair; honest = both.0; captured = both.1 }) leaves p (joinable leaves p kept) known
+    (pair_all (IsHonestLeaf log) leaves p honest)
+    (pair_each (λ (leaf other : LeafView). IsCapturedTo log leaf other.ab.low) leaves p captured) in
+    pair_with _ _ (AreHonestBoth log)
+    (λ left right pair both. record { pair = pair; honest = both.0; captured = both.1 }) leaves p
+    (joinable leaves p kept) known
 
 pub honest_merged_at : (log : List Record) (leaves : List LeafView) (p d : ℕ) → AreLeaves leaves → AreHonest log leaves
     → AreCaptured log leaves
     → AtPair (λ left right. IsHonestLeaf log (joined_of left right d)) leaves p
 honest_merged_at log leaves p d kept honest captured =
     pair_with (AreHonestBoth log) (AreHonestBoth log) _ (λ left right both again.
-    honest_joined log left right d both.pair.left_kept both.pair.right_kept both.pair.next both.honest.0 both.honest.1 both.captured.0 both.captured.1)
+    honest_joined log left right d both.pair.left_kept both.pair.right_kept both.pair.next both.honest.0 both.honest.1
+    both.captured.0 both.captured.1)
     leaves p (honest_pair log leaves p kept honest captured) (honest_pair log leaves p kept honest captured)
 
 captured_in_left : (log : List Record) (left right : LeafView) (d : ℕ) (k : Bytes) → AreHonestBoth log left right
@@ -221,17 +246,20 @@ captured_in_left log left right d k both held n o requests on =
     let next = both.pair.next in
     let outside : is_in_fences right k ≡ false = rw (next.begins, under_next left right next k held) refl in
     joined_captures left.ab right.ab n
-    ∙ sym (captured_both log left right k both.pair.right_kept both.honest.1 both.captured.0 held outside n o requests on)
+    ∙ sym (captured_both log left right k both.pair.right_kept both.honest.1 both.captured.0 held outside n o requests
+    on)
 
 captured_in_right : (log : List Record) (left right : LeafView) (d : ℕ) (k : Bytes) → AreHonestBoth log left right
     → is_in_fences right k ≡ true
     → (n : ℕ) (o : Op) → Requests log n o → key_of o ≡ k → captures (joined_of left right d).ab n ≡ captures right.ab n
 captured_in_right log left right d k both held n o requests on =
     let next = both.pair.next in
-    let outside : is_in_fences left k ≡ false = rw (next.ends, past_next left right next k held) (and_right (starts_at_most left.low_fence k) false refl) in
+    let outside : is_in_fences left k ≡ false =
+    rw (next.ends, past_next left right next k held) (and_right (starts_at_most left.low_fence k) false refl) in
     joined_captures left.ab right.ab n
     ∙ or_comm (captures left.ab n) (captures right.ab n)
-    ∙ sym (captured_both log right left k both.pair.left_kept both.honest.0 both.captured.1 held outside n o requests on)
+    ∙ sym (captured_both log right left k both.pair.left_kept both.honest.0 both.captured.1 held outside n o requests
+    on)
 
 -- of the log's numbers on the key
 pub captured_merged : (log : List Record) (leaves : List LeafView) → AreLeaves leaves → AreHonest log leaves
@@ -239,12 +267,15 @@ pub captured_merged : (log : List Record) (leaves : List LeafView) → AreLeaves
     → (n : ℕ) (o : Op) → Requests log n o → key_of o ≡ k
     → captures (leaf_at (merged_at p d leaves) k).ab n ≡ captures (leaf_at leaves k).ab n
 captured_merged log leaves kept honest captured p d k n o requests on =
-    elim (leaf_merged (AreHonestBoth log) (λ left right both. both.pair.next) d k leaves p (honest_pair log leaves p kept honest captured)) [
+    elim (leaf_merged (AreHonestBoth log) (λ left right both. both.pair.next) d k leaves p
+    (honest_pair log leaves p kept honest captured)) [
       | inl same ↦ ap (λ (leaf : LeafView). captures leaf.ab n) same
       | inr both ↦ elim both [
         | inl left ↦
-            ap (λ (leaf : LeafView). captures leaf.ab n) left.is ∙ captured_in_left log (leaf_at leaves k) left.right d k left.pair left.held n o requests on
+            ap (λ (leaf : LeafView). captures leaf.ab n) left.is
+            ∙ captured_in_left log (leaf_at leaves k) left.right d k left.pair left.held n o requests on
         | inr right ↦
-            ap (λ (leaf : LeafView). captures leaf.ab n) right.is ∙ captured_in_right log right.left (leaf_at leaves k) d k right.pair right.held n o requests on
+            ap (λ (leaf : LeafView). captures leaf.ab n) right.is
+            ∙ captured_in_right log right.left (leaf_at leaves k) d k right.pair right.held n o requests on
       ]
     ]

@@ -1,5 +1,5 @@
 -- A place among the leaves below nodes, in the node that has it.
-use Rattle.std.proofs.Common.{◌≡◌, ℕ, zero, suc, ◌+◌, ◌-◌, ◌<◌, ◌≤◌, List, [], ◌∷◌, ◌++◌, length, get_or, set, take, drop, refl, sym, ap, ◌∙◌, arith}
+use Rattle.std.proofs.Common.{◌≡◌, ℕ, zero, suc, ◌-◌, ◌<◌, ◌≤◌, List, [], ◌∷◌, ◌++◌, length, get_or, set, take, drop, refl, sym, ap, ◌∙◌, arith}
 use Rattle.std.specs.List.{insert, remove}
 use Rattle.std.proofs.lemmas.List.{get_or-append-add, get_or_append_left, set-append_left, set-append_right}
 use Rattle.std.proofs.lemmas.List.Edits.{insert-append_left, insert-append_right, remove-append_left, remove-append_right}
@@ -63,8 +63,16 @@ module _ (ns : List NodeView) (place i rest : ℕ) (at : IsIn ns place i rest) w
       ap (λ (leaves : List LeafView). insert leaves (suc place) x) parts
       ∙ insert-append_right before (inside ++ after) (length before) (suc place) x refl (omega (arith, past))
       ∙ ap (λ (p : ℕ). before ++ insert (inside ++ after) p x) later
-      ∙ ap (λ (leaves : List LeafView). before ++ leaves) (insert-append_left inside after (suc rest) x (omega (arith, at.within)))
+      ∙ ap (λ (leaves : List LeafView). before ++ leaves)
+      (insert-append_left inside after (suc rest) x (omega (arith, at.within)))
 
   pub place_there : place < length (under ns)
   place_there =
-      omega (arith, at.is, at.within, ap length parts, Rattle.std.proofs.Common.length-append before (inside ++ after), Rattle.std.proofs.Common.length-append inside after)
+      omega (
+        arith,
+        at.is,
+        at.within,
+        ap length parts,
+        Rattle.std.proofs.Common.length-append before (inside ++ after),
+        Rattle.std.proofs.Common.length-append inside after,
+      )

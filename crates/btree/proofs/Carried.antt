@@ -34,21 +34,26 @@ module _ (P : ℕ → Type 0) where
       ]
 
   pub lows_performed : (leaves : List LeafView) (n : ℕ) (o : Op) → AreLows leaves → AreLows (performed_at leaves n o)
-  lows_performed leaves n o all = all_changed (λ (leaf : LeafView). P leaf.ab.low) (key_of o) (λ leaf. performed leaf n o) leaves (λ low. low) all
+  lows_performed leaves n o all =
+      all_changed (λ (leaf : LeafView). P leaf.ab.low) (key_of o) (λ leaf. performed leaf n o) leaves (λ low. low) all
 
   pub lows_raised : (leaves : List LeafView) (l : ℕ) → P l → AreLows leaves
       → AreLows (map (λ leaf. raised_to leaf l) leaves)
   lows_raised leaves l here all =
-      all_mapped (λ (leaf : LeafView). P leaf.ab.low) (λ (leaf : LeafView). P leaf.ab.low) (λ leaf. raised_to leaf l) (λ leaf low. low_raised leaf.ab l low here) leaves all
+      all_mapped (λ (leaf : LeafView). P leaf.ab.low) (λ (leaf : LeafView). P leaf.ab.low) (λ leaf. raised_to leaf l)
+      (λ leaf low. low_raised leaf.ab l low here) leaves all
 
   pub lows_split : (leaves : List LeafView) (p id d : ℕ) → AreLeaves leaves → may_split_at leaves p ≡ true
       → AreLows leaves → AreLows (split_at p id d leaves)
-  lows_split leaves p id d kept may all = all_split (λ (leaf : LeafView). P leaf.ab.low) id d (λ leaf is may low. (low, low)) leaves p kept.each may all
+  lows_split leaves p id d kept may all =
+      all_split (λ (leaf : LeafView). P leaf.ab.low) id d (λ leaf is may low. (low, low)) leaves p kept.each may all
 
   pub lows_merged : (leaves : List LeafView) (p d : ℕ) → AreLows leaves → AreLows (merged_at p d leaves)
   lows_merged leaves p d all =
       let both = pair_all (λ (leaf : LeafView). P leaf.ab.low) leaves p all in
-      all_merged (λ (leaf : LeafView). P leaf.ab.low) d leaves p (pair_with _ _ _ (λ left right lows again. low_raised left.ab right.ab.low lows.0 lows.1) leaves p both both) all
+      all_merged (λ (leaf : LeafView). P leaf.ab.low) d leaves p
+      (pair_with _ _ _ (λ left right lows again. low_raised left.ab right.ab.low lows.0 lows.1) leaves p both both)
+      all
 
 -- ---- entries
 
@@ -67,7 +72,8 @@ module _ (P : Entry → Type 0) where
   pub entries_raised : (leaves : List LeafView) (l : ℕ) → AreEntries leaves
       → AreEntries (map (λ leaf. raised_to leaf l) leaves)
   entries_raised leaves l all =
-      all_mapped (λ (leaf : LeafView). AllByRecursion P leaf.ab.entries) (λ (leaf : LeafView). AllByRecursion P leaf.ab.entries) (λ leaf. raised_to leaf l)
+      all_mapped (λ (leaf : LeafView). AllByRecursion P leaf.ab.entries)
+      (λ (leaf : LeafView). AllByRecursion P leaf.ab.entries) (λ leaf. raised_to leaf l)
       (λ leaf entries. all_raised P leaf.ab l entries) leaves all
 
   pub entries_split : (leaves : List LeafView) (p id d : ℕ) → AreLeaves leaves → may_split_at leaves p ≡ true
@@ -82,4 +88,5 @@ module _ (P : Entry → Type 0) where
   entries_merged leaves p d all =
       let both = pair_all (λ (leaf : LeafView). AllByRecursion P leaf.ab.entries) leaves p all in
       all_merged (λ (leaf : LeafView). AllByRecursion P leaf.ab.entries) d leaves p
-      (pair_with _ _ _ (λ left right entries again. all_joined P left.ab right.ab entries.0 entries.1) leaves p both both) all
+      (pair_with _ _ _ (λ left right entries again. all_joined P left.ab right.ab entries.0 entries.1) leaves p both
+      both) all

@@ -32,7 +32,8 @@ module _ (place : ℕ) (old new : NodeView) (change : IsChangedAt place old new)
   still_whole whole = record {
     some = omega (arith, same_count, whole.some);
     one = λ level. same_count ∙ whole.one (sym change.height ∙ level);
-    two = λ inner. subst (λ (k : ℕ). 2 ≤ k) (sym change.kids) (whole.two (subst (λ (h : ℕ). 0 < h) change.height inner));
+    two = λ inner. subst (λ (k : ℕ). 2 ≤ k) (sym change.kids)
+        (whole.two (subst (λ (h : ℕ). 0 < h) change.height inner));
     eight = subst (λ (k : ℕ). k ≤ 8) (sym change.kids) whole.eight;
   }
 
@@ -40,7 +41,8 @@ module _ (place : ℕ) (old new : NodeView) (change : IsChangedAt place old new)
   still_child height child = record { level = change.height ∙ child.level; whole = still_whole child.whole }
 
 -- what a change at a place leaves
-pub record IsChanged (place : ℕ) (low : Option Bytes) (count : ℕ) (summary : Summary) (old new : Below) (x : LeafView) : Type 0 where
+pub record IsChanged (place : ℕ) (low : Option Bytes) (count : ℕ) (summary : Summary) (old new : Below) (x : LeafView) :
+    Type 0 where
   pub kept : IsNode low count summary new
   pub changed : IsChangedAt place (seen old) (seen new)
   pub leaf : get_or (seen new).leaves place first ≡ x
@@ -51,7 +53,8 @@ same_height [] i n same = refl
 same_height (m ∷ ns) zero n same = same
 same_height (m ∷ ns) (suc i) n same = refl
 
-module _ (place i rest : ℕ) (ns : List NodeView) (n : NodeView) (at : IsIn ns place i rest) (change : IsChangedAt rest (get_or ns i nothing) n) where
+module _ (place i rest : ℕ) (ns : List NodeView) (n : NodeView) (at : IsIn ns place i rest)
+    (change : IsChangedAt rest (get_or ns i nothing) n) where
   abbrev x : LeafView
   x = get_or n.leaves rest first
 
@@ -65,14 +68,16 @@ module _ (place i rest : ℕ) (ns : List NodeView) (n : NodeView) (at : IsIn ns 
   there = Rattle.btree.proofs.AtPlace.place_there ns place i rest at
 
   leaf_under : get_or (under (set ns i n)) place first ≡ x
-  leaf_under = ap (λ (leaves : List LeafView). get_or leaves place first) set_under ∙ get_or-set_same (under ns) place x first there
+  leaf_under = ap (λ (leaves : List LeafView). get_or leaves place first) set_under
+      ∙ get_or-set_same (under ns) place x first there
 
   nodes_changed : IsChangedAt place (over_nodes ns) (over_nodes (set ns i n))
   nodes_changed = record {
     leaves = set_under ∙ ap (λ (y : LeafView). set (under ns) place y) (sym leaf_under);
     height = ap suc (same_height ns i n change.height);
     kids = length-set ns i n;
-    begins = ap (λ (leaf : LeafView). leaf.low_fence) leaf_under ∙ change.begins ∙ ap (λ (leaf : LeafView). leaf.low_fence) (sym (leaf_in ns place i rest at));
+    begins = ap (λ (leaf : LeafView). leaf.low_fence) leaf_under ∙ change.begins
+        ∙ ap (λ (leaf : LeafView). leaf.low_fence) (sym (leaf_in ns place i rest at));
   }
 
 -- ---- what a change leaves where there are nodes below
@@ -85,11 +90,14 @@ pub inner_changed : (place i rest : ℕ) (low : Option Bytes) (count : ℕ) (sum
     → IsChanged place low count again (Inner xs) (Inner ys) (get_or n.leaves rest first)
 inner_changed place i rest low count summary again xs ys child n kept at of by items room summed =
     let there : child ≡ get_or xs.items i nothing = of ∙ get_or_default xs.items i child nothing at.there in
-    let change : IsChangedAt rest (get_or xs.items i nothing) n = subst (λ (m : NodeView). IsChangedAt rest m n) there by in
+    let change : IsChangedAt rest (get_or xs.items i nothing) n =
+    subst (λ (m : NodeView). IsChangedAt rest m n) there by in
     let changed : IsChangedAt place (over_nodes xs.items) (over_nodes ys.items) =
-    subst (λ (ms : List NodeView). IsChangedAt place (over_nodes xs.items) (over_nodes ms)) (sym items) (nodes_changed place i rest xs.items n at change) in
+    subst (λ (ms : List NodeView). IsChangedAt place (over_nodes xs.items) (over_nodes ms)) (sym items)
+    (nodes_changed place i rest xs.items n at change) in
     let same : IsChild (height_in xs.items) n =
-    still_child rest (get_or xs.items i nothing) n change (height_in xs.items) (all_get (IsChild (height_in xs.items)) xs.items i nothing at.there kept.under_it.children) in
+    still_child rest (get_or xs.items i nothing) n change (height_in xs.items)
+    (all_get (IsChild (height_in xs.items)) xs.items i nothing at.there kept.under_it.children) in
     let many : length ys.items ≡ length xs.items = ap length items ∙ length-set xs.items i n in
     record {
       kept = record {
@@ -99,13 +107,15 @@ inner_changed place i rest low count summary again xs ys child n kept at of by i
         summed = summed;
         under_it = record {
           children = subst (λ (ms : List NodeView). AreChildren (height_in ms) ms) (sym items)
-              (at_first (height_in xs.items) (set xs.items i n) (all_set (IsChild (height_in xs.items)) xs.items i n same kept.under_it.children));
+              (at_first (height_in xs.items) (set xs.items i n)
+              (all_set (IsChild (height_in xs.items)) xs.items i n same kept.under_it.children));
           most = subst (λ (k : ℕ). k ≤ 8) (sym many) kept.under_it.most;
           room = λ some. subst (λ (k : ℕ). 8 < k) (sym room) (kept.under_it.room (subst (λ (k : ℕ). 0 < k) many some));
         };
       };
       changed = changed;
-      leaf = ap (λ (ms : List NodeView). get_or (under ms) place first) items ∙ leaf_under place i rest xs.items n at change;
+      leaf = ap (λ (ms : List NodeView). get_or (under ms) place first) items
+          ∙ leaf_under place i rest xs.items n at change;
     }
 
 -- ---- one level down
@@ -125,12 +135,19 @@ pub goes_down : (self child : NodeView) (place i rest : ℕ) (low : Option Bytes
     → IsBelowAt self place child rest
 goes_down self child place i rest low count summary xs is kept at of =
     let there : get_or xs.items i nothing ≡ child = sym (of ∙ get_or_default xs.items i child nothing at.there) in
-    let one : IsChild (height_in xs.items) child = subst (IsChild (height_in xs.items)) there (all_get (IsChild (height_in xs.items)) xs.items i nothing at.there kept.under_it.children) in
+    let one : IsChild (height_in xs.items) child =
+    subst (IsChild (height_in xs.items)) there
+    (all_get (IsChild (height_in xs.items)) xs.items i nothing at.there kept.under_it.children) in
     record {
       lower = omega (arith, one.level, ap (λ (n : NodeView). n.height) is);
       whole = one.whole;
       within = subst (λ (n : NodeView). rest < length n.leaves) there at.within;
-      fewer = omega (arith, count_parts xs.items i nothing at.there, ap (λ (n : NodeView). length n.leaves) there, ap (λ (n : NodeView). length n.leaves) is);
+      fewer = omega (
+        arith,
+        count_parts xs.items i nothing at.there,
+        ap (λ (n : NodeView). length n.leaves) there,
+        ap (λ (n : NodeView). length n.leaves) is,
+      );
       leaf =
           ap (λ (n : NodeView). get_or n.leaves place first) (sym is)
           ∙ leaf_in xs.items place i rest at

@@ -45,7 +45,8 @@ module _ (change : LeafView → LeafView) (part_kept : (leaf : LeafView) → par
         | inr later ↦
             let held : is_in_fences (leaf_at leaves k) q ≡ true = rw later.outside at inside in
             rw (later.outside, held_out from leaf leaves k q later held)
-            (changed_same (Some later.on.fence) leaves k q later.on.later (starts_later k later.on.fence later.past) held)
+            (changed_same (Some later.on.fence) leaves k q later.on.later (starts_later k later.on.fence later.past)
+            held)
       ]
 
   next : (b : Bool) (leaf : LeafView) (one other : LeafView) → one ≡ other → cond b leaf one ≡ cond b leaf other

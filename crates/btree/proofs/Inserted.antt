@@ -23,7 +23,8 @@ module _ (ns : List NodeView) (place i rest : ℕ) (at : IsIn ns place i rest) (
   inserted_one n is =
       append-nil (under (set ns i n))
       ∙ under_set ns i n at.there
-      ∙ ap (λ (leaves : List LeafView). under (take i ns) ++ (leaves ++ under (drop (suc i) ns))) (sym (append-nil n.leaves) ∙ is)
+      ∙ ap (λ (leaves : List LeafView). under (take i ns) ++ (leaves ++ under (drop (suc i) ns)))
+      (sym (append-nil n.leaves) ∙ is)
       ∙ sym (inserted_in ns place i rest at x)
 
   pub inserted_two : (n m : NodeView) → n.leaves ++ (m.leaves ++ []) ≡ insert (get_or ns i nothing).leaves (suc rest) x

@@ -59,7 +59,8 @@ written_all : (P : Bytes → Type 0) (m : Table) (k : Bytes) (r : Option Bytes)
     → AllByRecursion (λ (row : Row). P row.0) (map.entries (with_record m k r))
 written_all P m k r all new =
     keys_all P (map.entries (with_record m k r)) (λ q v found.
-    let got : cond (eq_by_cmp key_cmp q k) r (map.get m q) ≡ Some v = sym (get-with_record m k r q) ∙ map.get-entries (with_record m k r) q ∙ found in
+    let got : cond (eq_by_cmp key_cmp q k) r (map.get m q) ≡ Some v =
+    sym (get-with_record m k r q) ∙ map.get-entries (with_record m k r) q ∙ found in
     elim (cases_Bool (eq_by_cmp key_cmp q k)) [
       | inl same ↦ subst P (sym (is_same-true q k same)) new
       | inr apart ↦ key_all P (map.entries m) q v all (sym (map.get-entries m q) ∙ (rw apart at got))
@@ -81,7 +82,8 @@ kept_performed leaf n o inside out kept =
     let fresh = uncaptured leaf.ab n out in
     let new : Entry = record { number = n; key = key_of o; answer = answer_in leaf.rows o } in
     record {
-      rows = written_all (λ (k : Bytes). is_in_fences leaf k ≡ true) leaf.rows (key_of o) (value_after o (map.get leaf.rows (key_of o))) kept.rows inside;
+      rows = written_all (λ (k : Bytes). is_in_fences leaf k ≡ true) leaf.rows (key_of o)
+          (value_after o (map.get leaf.rows (key_of o))) kept.rows inside;
       entries = all_placed (λ (e : Entry). is_in_fences leaf e.key ≡ true) new leaf.ab.entries inside kept.entries;
       rising = placed_rises new leaf.ab.low leaf.ab.entries fresh.0 kept.rising fresh.1;
     }
@@ -96,16 +98,23 @@ kept_raised leaf l kept = record {
 pub kept_lower : (leaf : LeafView) (k : Bytes) (d : ℕ) → IsLeaf leaf → IsLeaf (lower_of leaf k d)
 kept_lower leaf k d kept = record {
   rows = rw (entries_retained leaf.rows (is_under k))
-      (all_kept _ _ (λ (row : Row). is_under k row.0) (λ row inside under. between_lower leaf.low_fence leaf.high_fence k row.0 inside under) (map.entries leaf.rows) kept.rows);
-  entries = all_kept _ _ (λ (e : Entry). is_under k e.key) (λ e inside under. between_lower leaf.low_fence leaf.high_fence k e.key inside under) leaf.ab.entries kept.entries;
+      (all_kept _ _ (λ (row : Row). is_under k row.0)
+      (λ row inside under. between_lower leaf.low_fence leaf.high_fence k row.0 inside under)
+      (map.entries leaf.rows) kept.rows);
+  entries = all_kept _ _ (λ (e : Entry). is_under k e.key)
+      (λ e inside under. between_lower leaf.low_fence leaf.high_fence k e.key inside under) leaf.ab.entries
+      kept.entries;
   rising = filtered_rises (λ (e : Entry). is_under k e.key) leaf.ab.low leaf.ab.entries kept.rising;
 }
 
 pub kept_upper : (leaf : LeafView) (k : Bytes) (id d : ℕ) → IsLeaf leaf → IsLeaf (upper_of leaf k id d)
 kept_upper leaf k id d kept = record {
   rows = rw (entries_retained leaf.rows (is_from k))
-      (all_kept _ _ (λ (row : Row). is_from k row.0) (λ row inside from. between_upper leaf.low_fence leaf.high_fence k row.0 inside from) (map.entries leaf.rows) kept.rows);
-  entries = all_kept _ _ (λ (e : Entry). is_from k e.key) (λ e inside from. between_upper leaf.low_fence leaf.high_fence k e.key inside from) leaf.ab.entries kept.entries;
+      (all_kept _ _ (λ (row : Row). is_from k row.0)
+      (λ row inside from. between_upper leaf.low_fence leaf.high_fence k row.0 inside from) (map.entries leaf.rows)
+      kept.rows);
+  entries = all_kept _ _ (λ (e : Entry). is_from k e.key)
+      (λ e inside from. between_upper leaf.low_fence leaf.high_fence k e.key inside from) leaf.ab.entries kept.entries;
   rising = filtered_rises (λ (e : Entry). is_from k e.key) leaf.ab.low leaf.ab.entries kept.rising;
 }
 
@@ -113,7 +122,8 @@ all_rises : (low : ℕ) (fs es : List Entry) → RiseAbove low es → RiseAbove 
 all_rises low [] es rising = rising
 all_rises low (f ∷ fs) es rising = all_rises low fs _ (above_rises_too low f es rising)
 
-module _ (left right : LeafView) (d : ℕ) (left_kept : IsLeaf left) (right_kept : IsLeaf right) (next : AreNeighbours left right) where
+module _ (left right : LeafView) (d : ℕ) (left_kept : IsLeaf left) (right_kept : IsLeaf right)
+    (next : AreNeighbours left right) where
   abbrev low : Option Bytes
   low = left.low_fence
 
@@ -132,7 +142,8 @@ module _ (left right : LeafView) (d : ℕ) (left_kept : IsLeaf left) (right_kept
   joined_rows : map.entries (joined_of left right d).rows ≡ map.entries left.rows ++ map.entries right.rows
   joined_rows =
       entries-table_of (map.entries left.rows ++ map.entries right.rows)
-      (ordered_both next.fence (map.entries left.rows) (map.entries right.rows) (own_rows left.rows) (own_rows right.rows) neighbours_apart)
+      (ordered_both next.fence (map.entries left.rows) (map.entries right.rows) (own_rows left.rows)
+      (own_rows right.rows) neighbours_apart)
 
   entries_under : StandBetween low (Some next.fence) left.ab.entries
   entries_under = subst (λ (f : Option Bytes). StandBetween low f left.ab.entries) next.ends left_kept.entries
@@ -143,11 +154,15 @@ module _ (left right : LeafView) (d : ℕ) (left_kept : IsLeaf left) (right_kept
   pub kept_joined : IsLeaf (joined_of left right d)
   kept_joined = record {
     rows = rw joined_rows (all_appended _ (map.entries left.rows) (map.entries right.rows)
-        (all_from _ _ (λ (row : Row) inside. lower_between low high next.fence row.0 next.below inside) (map.entries left.rows) rows_under)
-        (all_from _ _ (λ (row : Row) inside. upper_between low high next.fence row.0 next.above inside) (map.entries right.rows) rows_from));
+        (all_from _ _ (λ (row : Row) inside. lower_between low high next.fence row.0 next.below inside)
+        (map.entries left.rows) rows_under)
+        (all_from _ _ (λ (row : Row) inside. upper_between low high next.fence row.0 next.above inside)
+        (map.entries right.rows) rows_from));
     entries = all_joined (λ (e : Entry). is_between low high e.key ≡ true) left.ab right.ab
-        (all_from _ _ (λ (e : Entry) inside. lower_between low high next.fence e.key next.below inside) left.ab.entries entries_under)
-        (all_from _ _ (λ (e : Entry) inside. upper_between low high next.fence e.key next.above inside) right.ab.entries entries_from);
+        (all_from _ _ (λ (e : Entry) inside. lower_between low high next.fence e.key next.below inside) left.ab.entries
+        entries_under)
+        (all_from _ _ (λ (e : Entry) inside. upper_between low high next.fence e.key next.above inside) right.ab.entries
+        entries_from);
     rising = all_rises _ right.ab.entries _ (raised_rises left.ab right.ab.low left_kept.rising);
   }
 
@@ -180,7 +195,8 @@ past_first : (low high : Option Bytes) (rows : List Row) (p : ℕ) → T (is_sor
 past_first low high [] p sorted between some within = absurd (omega (arith, within))
 past_first low high (row ∷ rows) zero sorted between some within = absurd (omega (arith, some))
 past_first low high (row ∷ rows) (suc p) sorted between some within =
-    starts_past low row.0 (key_in (slice_get rows p)) (and_parts (starts_at_most low row.0) (ends_above high row.0) between.0).0
+    starts_past low row.0 (key_in (slice_get rows p))
+    (and_parts (starts_at_most low row.0) (ends_above high row.0) between.0).0
     (row_above row.0 rows p (and_first _ _ sorted) (omega (arith, within)))
 
 halved : (n : ℕ) → nat_le 2 n ≡ true → (0 < n / 2) × (n / 2 < n)
@@ -192,6 +208,8 @@ cuts_inside leaf kept may =
     let half = halved (count leaf) may in
     let inside = row_between leaf.low_fence leaf.high_fence (map.entries leaf.rows) (count leaf / 2) kept.rows half.1 in
     record {
-      under = (and_parts (starts_at_most leaf.low_fence (middle leaf)) (ends_above leaf.high_fence (middle leaf)) inside).1;
-      above = past_first leaf.low_fence leaf.high_fence (map.entries leaf.rows) (count leaf / 2) (map.entries_sorted leaf.rows) kept.rows half.0 half.1;
+      under = (and_parts (starts_at_most leaf.low_fence (middle leaf)) (ends_above leaf.high_fence (middle leaf))
+          inside).1;
+      above = past_first leaf.low_fence leaf.high_fence (map.entries leaf.rows) (count leaf / 2)
+          (map.entries_sorted leaf.rows) kept.rows half.0 half.1;
     }

@@ -16,7 +16,8 @@ use Rattle.btree.proofs.Tiling.{GoesOn, cases_tile, tile_last, tile_on}
 
 -- ---- the keys of both
 
-module _ (from : Option Bytes) (left right : LeafView) (rest : List LeafView) (on : GoesOn from left (right ∷ rest)) where
+module _ (from : Option Bytes) (left right : LeafView) (rest : List LeafView)
+    (on : GoesOn from left (right ∷ rest)) where
   ends_later : ends_above right.high_fence on.fence ≡ true
   ends_later =
       elim (cases_tile (Some on.fence) right rest on.later) [
@@ -29,7 +30,8 @@ module _ (from : Option Bytes) (left right : LeafView) (rest : List LeafView) (o
     fence = on.fence;
     ends = on.ends;
     begins = on.later.0;
-    above = subst (λ (low : Option Bytes). starts_at_most low on.fence ≡ true) (sym on.begins) (starts_weaker from on.fence on.above);
+    above = subst (λ (low : Option Bytes). starts_at_most low on.fence ≡ true) (sym on.begins)
+        (starts_weaker from on.fence on.above);
     below = ends_later;
   }
 
@@ -84,7 +86,9 @@ pair_each R [] p all = tt
 pair_each R (leaf ∷ []) p all = tt
 pair_each R (left ∷ right ∷ rest) zero all = (all.0.1.0, all.1.0.0)
 pair_each R (left ∷ right ∷ rest) (suc p) all =
-    pair_each R (right ∷ rest) p (all_from (λ (leaf : LeafView). AllByRecursion (R leaf) (left ∷ right ∷ rest)) (λ (leaf : LeafView). AllByRecursion (R leaf) (right ∷ rest)) (λ leaf both. both.1) (right ∷ rest) all.1)
+    pair_each R (right ∷ rest) p
+    (all_from (λ (leaf : LeafView). AllByRecursion (R leaf) (left ∷ right ∷ rest))
+    (λ (leaf : LeafView). AllByRecursion (R leaf) (right ∷ rest)) (λ leaf both. both.1) (right ∷ rest) all.1)
 
 pair_next : (from : Option Bytes) (leaves : List LeafView) (p : ℕ) → TileFrom from (parts_of leaves)
     → AtPair AreNeighbours leaves p
@@ -109,7 +113,8 @@ pub record AreJoinable (left right : LeafView) : Type 0 where
 
 pub joinable : (leaves : List LeafView) (p : ℕ) → AreLeaves leaves → AtPair AreJoinable leaves p
 joinable leaves p kept =
-    pair_with AreNeighbours (λ left right. IsLeaf left × IsLeaf right) AreJoinable (λ left right next each. record { next = next; left_kept = each.0; right_kept = each.1 }) leaves p
+    pair_with AreNeighbours (λ left right. IsLeaf left × IsLeaf right) AreJoinable
+    (λ left right next each. record { next = next; left_kept = each.0; right_kept = each.1 }) leaves p
     (pair_next None leaves p kept.tile) (pair_all IsLeaf leaves p kept.each)
 
 -- what the leaf of both has and the others had, all have
@@ -137,7 +142,8 @@ tile_merged from (left ∷ right ∷ rest) (suc p) d tile may =
     elim (cases_tile from left (right ∷ rest) tile) [
       | inl last ↦ absurd (let no : right ∷ rest ≡ [] = last.alone in cc)
       | inr on ↦
-          tile_on from left (merged_at p d (right ∷ rest)) on.fence on.begins on.ends on.above (tile_merged (Some on.fence) (right ∷ rest) p d on.later may)
+          tile_on from left (merged_at p d (right ∷ rest)) on.fence on.begins on.ends on.above
+          (tile_merged (Some on.fence) (right ∷ rest) p d on.later may)
     ]
 
 -- ---- the leaf of a key
@@ -164,13 +170,15 @@ IsJoinedAt Q d old new k = (new ≡ old) ⊎ (HasLeft Q d old new k ⊎ HasRight
 pub under_next : (left right : LeafView) (next : AreNeighbours left right) (k : Bytes) → is_in_fences left k ≡ true
     → is_below k next.fence ≡ true
 under_next left right next k inside =
-    subst (λ (f : Option Bytes). ends_above f k ≡ true) next.ends (and_parts (starts_at_most left.low_fence k) (ends_above left.high_fence k) inside).1
+    subst (λ (f : Option Bytes). ends_above f k ≡ true) next.ends
+    (and_parts (starts_at_most left.low_fence k) (ends_above left.high_fence k) inside).1
 
 pub past_next : (left right : LeafView) (next : AreNeighbours left right) (k : Bytes) → is_in_fences right k ≡ true
     → is_below k next.fence ≡ false
 past_next left right next k inside =
     not-true (is_below k next.fence)
-    (subst (λ (f : Option Bytes). starts_at_most f k ≡ true) next.begins (and_parts (starts_at_most right.low_fence k) (ends_above right.high_fence k) inside).0)
+    (subst (λ (f : Option Bytes). starts_at_most f k ≡ true) next.begins
+    (and_parts (starts_at_most right.low_fence k) (ends_above right.high_fence k) inside).0)
 
 module _ (left right : LeafView) (d : ℕ) (next : AreNeighbours left right) (k : Bytes) where
   held_left : is_in_fences left k ≡ true → is_in_fences (joined_of left right d) k ≡ true
@@ -189,24 +197,29 @@ module _ (left right : LeafView) (d : ℕ) (next : AreNeighbours left right) (k 
       false_from_ne_true _ (λ inside. elim (cases_Bool (is_below k next.fence)) [
         | inl under ↦
             let there : is_in_fences left k ≡ true =
-            subst (λ (f : Option Bytes). is_between left.low_fence f k ≡ true) (sym next.ends) (between_lower left.low_fence right.high_fence next.fence k inside under) in
+            subst (λ (f : Option Bytes). is_between left.low_fence f k ≡ true) (sym next.ends)
+            (between_lower left.low_fence right.high_fence next.fence k inside under) in
             true≢false (sym there ∙ one)
         | inr past ↦
             let there : is_in_fences right k ≡ true =
             subst (λ (f : Option Bytes). is_between f right.high_fence k ≡ true) (sym next.begins)
-            (between_upper left.low_fence right.high_fence next.fence k inside (not_from_false (is_below k next.fence) past)) in
+            (between_upper left.low_fence right.high_fence next.fence k inside
+            (not_from_false (is_below k next.fence) past)) in
             true≢false (sym there ∙ two)
       ])
 
-module _ (Q : LeafView → LeafView → Type 0) (near : (left right : LeafView) → Q left right → AreNeighbours left right) (d : ℕ) (k : Bytes) where
+module _ (Q : LeafView → LeafView → Type 0) (near : (left right : LeafView) → Q left right → AreNeighbours left right)
+    (d : ℕ) (k : Bytes) where
   leaf_joined : (left right : LeafView) (rest : List LeafView) → Q left right
       → IsJoinedAt Q d (leaf_at (left ∷ right ∷ rest) k) (leaf_at (joined_of left right d ∷ rest) k) k
   leaf_joined left right rest pair =
       let next = near left right pair in
       elim (cases_Bool (is_in_fences left k)) [
-        | inl held ↦ rw (held, held_left left right d next k held) (inr (inl (record { right = right; pair = pair; held = held; is = refl })))
+        | inl held ↦ rw (held, held_left left right d next k held)
+            (inr (inl (record { right = right; pair = pair; held = held; is = refl })))
         | inr out ↦ elim (cases_Bool (is_in_fences right k)) [
-          | inl held ↦ rw (out, held, held_right left right d next k held) (inr (inr (record { left = left; pair = pair; held = held; is = refl })))
+          | inl held ↦ rw (out, held, held_right left right d next k held)
+              (inr (inr (record { left = left; pair = pair; held = held; is = refl })))
           | inr off ↦ rw (out, off, held_neither left right d next k out off) (inl refl)
         ]
       ]

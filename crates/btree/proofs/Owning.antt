@@ -16,20 +16,23 @@ use Rattle.btree.proofs.Tiling.{GoesOn, cases_tile}
 
 -- a key in the leaf's fences has this leaf, and lies where the leaves begin, or above
 abbrev Owns : Option Bytes → List LeafView → LeafView → Type 0
-Owns from leaves leaf = (k : Bytes) → is_in_fences leaf k ≡ true → (starts_at_most from k ≡ true) × (leaf_at leaves k ≡ leaf)
+Owns from leaves leaf = (k : Bytes) → is_in_fences leaf k ≡ true → (starts_at_most from k ≡ true)
+    × (leaf_at leaves k ≡ leaf)
 
 owns_later : (from : Option Bytes) (leaf : LeafView) (rest : List LeafView) (on : GoesOn from leaf rest)
     (other : LeafView)
     → Owns (Some on.fence) rest other → Owns from (leaf ∷ rest) other
 owns_later from leaf rest on other owns k inside =
     let past : is_below k on.fence ≡ false = not-true (is_below k on.fence) (owns k inside).0 in
-    let outside : is_in_fences leaf k ≡ false = rw (on.ends, past) (and_right (starts_at_most leaf.low_fence k) false refl) in
+    let outside : is_in_fences leaf k ≡ false =
+    rw (on.ends, past) (and_right (starts_at_most leaf.low_fence k) false refl) in
     (from_low from k on.fence past (starts_weaker from on.fence on.above), rw outside (owns k inside).1)
 
 owns_first : (from : Option Bytes) (leaf : LeafView) (rest : List LeafView) → leaf.low_fence ≡ from
     → Owns from (leaf ∷ rest) leaf
 owns_first from leaf rest begins k inside = (
-  subst (λ (low : Option Bytes). starts_at_most low k ≡ true) begins (and_parts (starts_at_most leaf.low_fence k) (ends_above leaf.high_fence k) inside).0,
+  subst (λ (low : Option Bytes). starts_at_most low k ≡ true) begins
+      (and_parts (starts_at_most leaf.low_fence k) (ends_above leaf.high_fence k) inside).0,
   rw inside refl,
 )
 
@@ -38,18 +41,23 @@ all_own : (from : Option Bytes) (leaves : List LeafView) → TileFrom from (part
 all_own from [] tile = absurd tile
 all_own from (leaf ∷ rest) tile =
     elim (cases_tile from leaf rest tile) [
-      | inl last ↦
-          (owns_first from leaf rest last.begins, subst (λ (ls : List LeafView). AllByRecursion (Owns from (leaf ∷ rest)) ls) (sym last.alone) tt)
+      | inl last ↦ (
+        owns_first from leaf rest last.begins,
+        subst (λ (ls : List LeafView). AllByRecursion (Owns from (leaf ∷ rest)) ls) (sym last.alone) tt,
+      )
       | inr on ↦ (
         owns_first from leaf rest on.begins,
-        all_from (Owns (Some on.fence) rest) (Owns from (leaf ∷ rest)) (λ other. owns_later from leaf rest on other) rest (all_own (Some on.fence) rest on.later),
+        all_from (Owns (Some on.fence) rest) (Owns from (leaf ∷ rest)) (λ other. owns_later from leaf rest on other)
+            rest (all_own (Some on.fence) rest on.later),
       )
     ]
 
 pub own_leaves : (leaves : List LeafView) → AreLeaves leaves
     → AllByRecursion (λ (leaf : LeafView). (k : Bytes) → is_in_fences leaf k ≡ true → leaf_at leaves k ≡ leaf) leaves
 own_leaves leaves kept =
-    all_from (Owns None leaves) (λ (leaf : LeafView). (k : Bytes) → is_in_fences leaf k ≡ true → leaf_at leaves k ≡ leaf) (λ leaf owns k inside. (owns k inside).1)
+    all_from (Owns None leaves)
+    (λ (leaf : LeafView). (k : Bytes) → is_in_fences leaf k ≡ true → leaf_at leaves k ≡ leaf)
+    (λ leaf owns k inside. (owns k inside).1)
     leaves (all_own None leaves kept.tile)
 
 -- the new leaf of a split, and the one leaf of a merge

@@ -18,7 +18,8 @@ low_first : (leaves : List LeafView) → 0 < length leaves → low_of leaves ≡
 low_first [] some = absurd (omega (arith, some))
 low_first (leaf ∷ leaves) some = refl
 
-module _ (height : ℕ) (ns : List NodeView) (k : Bytes) (i q : ℕ) (are : AreChildren height ns) (node : IsNodeOf ns k i) (at : IsPlaceOf (get_or ns i nothing).leaves k q) where
+module _ (height : ℕ) (ns : List NodeView) (k : Bytes) (i q : ℕ) (are : AreChildren height ns) (node : IsNodeOf ns k i)
+    (at : IsPlaceOf (get_or ns i nothing).leaves k q) where
   abbrev p : ℕ
   p = length (under (take i ns)) + q
 
@@ -45,13 +46,19 @@ module _ (height : ℕ) (ns : List NodeView) (k : Bytes) (i q : ℕ) (are : AreC
       elim (cases_lt (suc q) (length (get_or ns i nothing).leaves)) [
         | inl less ↦
             let later : IsIn ns (suc p) i (suc q) = record { there = node.there; within = less; is = omega arith } in
-            ap (λ (leaf : LeafView). starts_at_most leaf.low_fence k) (leaf_in ns (suc p) i (suc q) later) ∙ at.ends less
+            ap (λ (leaf : LeafView). starts_at_most leaf.low_fence k) (leaf_in ns (suc p) i (suc q) later)
+            ∙ at.ends less
         | inr last ↦
             let next : suc i < length ns = lies_later ns i (suc p) nothing node.there more (omega (arith, last)) in
             let later : IsIn ns (suc p) (suc i) 0 =
-            record { there = next; within = some_in (suc i) next; is = omega (arith, count_more ns i nothing node.there, last, at.there) } in
+            record {
+              there = next;
+              within = some_in (suc i) next;
+              is = omega (arith, count_more ns i nothing node.there, last, at.there);
+            } in
             ap (λ (leaf : LeafView). starts_at_most leaf.low_fence k) (leaf_in ns (suc p) (suc i) 0 later)
-            ∙ ap (λ low. starts_at_most low k) (sym (low_first (get_or ns (suc i) nothing).leaves (some_in (suc i) next)))
+            ∙ ap (λ low. starts_at_most low k)
+            (sym (low_first (get_or ns (suc i) nothing).leaves (some_in (suc i) next)))
             ∙ node.ends next
       ]
 
@@ -61,12 +68,14 @@ module _ (height : ℕ) (ns : List NodeView) (k : Bytes) (i q : ℕ) (are : AreC
   pub place_of_nodes : IsPlaceOf (under ns) k p
   place_of_nodes = record {
     there = place_within;
-    starts = λ some. ap (λ (leaf : LeafView). starts_at_most leaf.low_fence k) (leaf_in ns p i q here) ∙ starts_here q refl some;
+    starts = λ some. ap (λ (leaf : LeafView). starts_at_most leaf.low_fence k) (leaf_in ns p i q here)
+        ∙ starts_here q refl some;
     ends = ends_here;
   }
 
   pub inside_of_nodes : IsInside (under ns) k → is_in_fences (get_or (get_or ns i nothing).leaves q first) k ≡ true
-  inside_of_nodes inside = ap (λ (leaf : LeafView). is_in_fences leaf k) (sym (leaf_in ns p i q here)) ∙ inside p place_of_nodes
+  inside_of_nodes inside =
+      ap (λ (leaf : LeafView). is_in_fences leaf k) (sym (leaf_in ns p i q here)) ∙ inside p place_of_nodes
 
   pub leaf_of_nodes : (leaf : LeafView) → leaf ≡ get_or (get_or ns i nothing).leaves q first
       → IsLeafOf (under ns) k leaf
@@ -83,18 +92,23 @@ none_begins fence (leaf ∷ leaves) zero k tile within below = rw (tile.0, below
 none_begins fence (leaf ∷ leaves) (suc q) k tile within below =
     elim (cases_tile (Some fence) leaf leaves tile) [
       | inl last ↦ absurd (omega (arith, within, ap length last.alone))
-      | inr on ↦ none_begins on.fence leaves q k on.later (omega (arith, within)) (below_trans k fence on.fence below on.above)
+      | inr on ↦ none_begins on.fence leaves q k on.later (omega (arith, within))
+          (below_trans k fence on.fence below on.above)
     ]
 
-module _ (from : Option Bytes) (leaf : LeafView) (leaves : List LeafView) (k : Bytes) (tile : TileFrom from (parts_of (leaf ∷ leaves))) where
+module _ (from : Option Bytes) (leaf : LeafView) (leaves : List LeafView) (k : Bytes)
+    (tile : TileFrom from (parts_of (leaf ∷ leaves))) where
   in_first : (p : ℕ) → IsPlaceOf (leaf ∷ leaves) k p → is_in_fences leaf k ≡ true → p ≡ 0
   in_first zero at holds = refl
   in_first (suc q) at holds =
       elim (cases_tile from leaf leaves tile) [
         | inl last ↦ absurd (omega (arith, at.there, ap length last.alone))
         | inr on ↦
-            let below : is_below k on.fence ≡ true = subst (λ (high : Option Bytes). ends_above high k ≡ true) on.ends (and_parts (starts_at_most leaf.low_fence k) _ holds).1 in
-            absurd (true≢false (sym (at.starts (omega arith)) ∙ none_begins on.fence leaves q k on.later (omega (arith, at.there)) below))
+            let below : is_below k on.fence ≡ true =
+            subst (λ (high : Option Bytes). ends_above high k ≡ true) on.ends
+            (and_parts (starts_at_most leaf.low_fence k) _ holds).1 in
+            absurd (true≢false (sym (at.starts (omega arith))
+            ∙ none_begins on.fence leaves q k on.later (omega (arith, at.there)) below))
       ]
 
   next_begins : (rest : List LeafView) (fence : Bytes) → TileFrom (Some fence) (parts_of rest)
@@ -126,7 +140,8 @@ found_from from (leaf ∷ leaves) k p tile starts at =
       | inr later ↦
           rw later.outside
           (in_later from leaf leaves k tile p at later
-          (λ q found. found_from (Some later.on.fence) leaves k q later.on.later (starts_later k later.on.fence later.past) found))
+          (λ q found. found_from (Some later.on.fence) leaves k q later.on.later
+          (starts_later k later.on.fence later.past) found))
     ]
 
 pub place_found : (leaves : List LeafView) (k : Bytes) (p : ℕ) → AreLeaves leaves → IsPlaceOf leaves k p

@@ -23,7 +23,8 @@ module _ (l : ℕ) where
 
   under_raised : (ns : List NodeView) → under (map (raised_node l) ns) ≡ map raise (under ns)
   under_raised [] = refl
-  under_raised (n ∷ ns) = ap (λ (rest : List LeafView). map raise n.leaves ++ rest) (under_raised ns) ∙ sym (raised_append n.leaves (under ns))
+  under_raised (n ∷ ns) = ap (λ (rest : List LeafView). map raise n.leaves ++ rest) (under_raised ns)
+      ∙ sym (raised_append n.leaves (under ns))
 
   height_raised : (ns : List NodeView) → height_in (map (raised_node l) ns) ≡ height_in ns
   height_raised [] = refl
@@ -35,12 +36,15 @@ module _ (l : ℕ) where
 
   large_raised : (leaves : List LeafView) → first_large (map raise leaves) ≡ first_large leaves
   large_raised [] = refl
-  large_raised (leaf ∷ leaves) = ap (λ (o : Option ℕ). if is_large leaf then Some 0 else option_map (λ p. p + 1) o) (large_raised leaves)
+  large_raised (leaf ∷ leaves) =
+      ap (λ (o : Option ℕ). if is_large leaf then Some 0 else option_map (λ p. p + 1) o) (large_raised leaves)
 
   pair_raised : (leaves : List LeafView) → first_pair (map raise leaves) ≡ first_pair leaves
   pair_raised [] = refl
   pair_raised (leaf ∷ []) = refl
-  pair_raised (left ∷ right ∷ leaves) = ap (λ (o : Option ℕ). if may_join left right then Some 0 else option_map (λ p. p + 1) o) (pair_raised (right ∷ leaves))
+  pair_raised (left ∷ right ∷ leaves) =
+      ap (λ (o : Option ℕ). if may_join left right then Some 0 else option_map (λ p. p + 1) o)
+      (pair_raised (right ∷ leaves))
 
   first_raised : (leaves : List LeafView) → count_first (map raise leaves) ≡ count_first leaves
   first_raised [] = refl
@@ -73,10 +77,15 @@ module _ (l : ℕ) where
   children_raised : (height : ℕ) (ns : List NodeView) → AreChildren height ns
       → AreChildren height (map (raised_node l) ns)
   children_raised height [] are = tt
-  children_raised height (n ∷ ns) are = (record { level = are.0.level; whole = whole_raised n are.0.whole }, children_raised height ns are.1)
+  children_raised height (n ∷ ns) are =
+      (record { level = are.0.level; whole = whole_raised n are.0.whole }, children_raised height ns are.1)
 
   pub nodes_raised : (ns : List NodeView) → over_nodes (map (raised_node l) ns) ≡ raised_node l (over_nodes ns)
-  nodes_raised ns = λ i. record { leaves = under_raised ns i; height = suc (height_raised ns i); kids = length-map ns (raised_node l) i }
+  nodes_raised ns = λ i. record {
+    leaves = under_raised ns i;
+    height = suc (height_raised ns i);
+    kids = length-map ns (raised_node l) i;
+  }
 
 -- what a raise leaves
 pub record IsRaised (l : ℕ) (low : Option Bytes) (count : ℕ) (summary : Summary) (old new : Below) : Type 0 where
@@ -87,7 +96,13 @@ pub leaf_raised : (l : ℕ) (low : Option Bytes) (count : ℕ) (summary : Summar
     → IsNode low count summary (Leaf old)
     → new.value ≡ raised_to old.value l → IsRaised l low count summary (Leaf old) (Leaf new)
 leaf_raised l low count summary old new kept is = record {
-  kept = record { begins = kept.begins ∙ sym (ap (λ (leaf : LeafView). leaf.low_fence) is); counted = kept.counted; fits = kept.fits; summed = kept.summed ∙ sym (ap (λ (leaf : LeafView). summary_of (leaf ∷ [])) is); under_it = tt };
+  kept = record {
+    begins = kept.begins ∙ sym (ap (λ (leaf : LeafView). leaf.low_fence) is);
+    counted = kept.counted;
+    fits = kept.fits;
+    summed = kept.summed ∙ sym (ap (λ (leaf : LeafView). summary_of (leaf ∷ [])) is);
+    under_it = tt;
+  };
   raised = ap (λ (leaf : LeafView). record { leaves = leaf ∷ []; height = 0; kids = 0 }) is;
 }
 
@@ -96,8 +111,10 @@ pub inner_raised : (l : ℕ) (low : Option Bytes) (count : ℕ) (summary : Summa
     → ys.items ≡ map (raised_node l) xs.items → vec_capacity ys ≡ vec_capacity xs
     → IsRaised l low count summary (Inner xs) (Inner ys)
 inner_raised l low count summary xs ys kept items room =
-    let raised : over_nodes ys.items ≡ raised_node l (over_nodes xs.items) = ap over_nodes items ∙ nodes_raised l xs.items in
-    let leaves : under ys.items ≡ map (λ leaf. raised_to leaf l) (under xs.items) = ap (λ (n : NodeView). n.leaves) raised in
+    let raised : over_nodes ys.items ≡ raised_node l (over_nodes xs.items) =
+    ap over_nodes items ∙ nodes_raised l xs.items in
+    let leaves : under ys.items ≡ map (λ leaf. raised_to leaf l) (under xs.items) =
+    ap (λ (n : NodeView). n.leaves) raised in
     let many : length ys.items ≡ length xs.items = ap (λ (n : NodeView). n.kids) raised in
     let height : height_in ys.items ≡ height_in xs.items = ap height_in items ∙ height_raised l xs.items in
     record {
@@ -109,7 +126,8 @@ inner_raised l low count summary xs ys kept items room =
         under_it = record {
           children =
               subst (λ (h : ℕ). AreChildren h ys.items) (sym height)
-              (subst (λ (ns : List NodeView). AreChildren (height_in xs.items) ns) (sym items) (children_raised l (height_in xs.items) xs.items kept.under_it.children));
+              (subst (λ (ns : List NodeView). AreChildren (height_in xs.items) ns) (sym items)
+              (children_raised l (height_in xs.items) xs.items kept.under_it.children));
           most = subst (λ (k : ℕ). k ≤ 8) (sym many) kept.under_it.most;
           room = λ some. subst (λ (k : ℕ). 8 < k) (sym room) (kept.under_it.room (subst (λ (k : ℕ). 0 < k) many some));
         };

@@ -40,6 +40,14 @@ module _ {X : Type 0} (leaf_of : X → LeafView) where
   raised_next xs leaves l i x d are within is =
       map-set leaf_of xs i x
       ∙ ap (λ (leaf : LeafView). set (map leaf_of xs) i leaf)
-      (is ∙ ap (λ (leaf : LeafView). raised_to leaf l) (sym (get_or-map leaf_of xs i d (leaf_of d) (omega (arith, within, ap length are, length-map xs leaf_of, each_length (λ (leaf : LeafView). raised_to leaf l) i leaves)))))
+      (is ∙ ap (λ (leaf : LeafView). raised_to leaf l)
+      (sym (get_or-map leaf_of xs i d (leaf_of d)
+      (omega (
+        arith,
+        within,
+        ap length are,
+        length-map xs leaf_of,
+        each_length (λ (leaf : LeafView). raised_to leaf l) i leaves,
+      )))))
       ∙ ap (λ (all : List LeafView). set all i (raised_to (get_or all i (leaf_of d)) l)) are
       ∙ each_next (λ (leaf : LeafView). raised_to leaf l) i leaves (leaf_of d) within

@@ -14,24 +14,33 @@ use Rattle.btree.proofs.Under.{under_more, under_inserted, under_removed, count_
 pub count_removed : (ns : List NodeView) (i : ℕ) (d : NodeView) → i < length ns
     → length (under (remove ns i)) + length (get_or ns i d).leaves ≡ length (under ns)
 count_removed ns i d within =
-    omega (arith, ap length (under_removed ns i), length-append (under (take i ns)) (under (drop (suc i) ns)), count_parts ns i d within)
+    omega (
+      arith,
+      ap length (under_removed ns i),
+      length-append (under (take i ns)) (under (drop (suc i) ns)),
+      count_parts ns i d within,
+    )
 
 module _ (ns : List NodeView) (i : ℕ) (within : i < length ns) (n : NodeView) where
   -- joined with the node that stood there, before it or after it
   pub joined_after : (right : NodeView) → right ≡ get_or ns i right
-      → under (take i (remove ns i)) ++ ((n.leaves ++ right.leaves) ++ under (drop i (remove ns i))) ≡ under (insert ns i n)
+      → under (take i (remove ns i)) ++ ((n.leaves ++ right.leaves) ++ under (drop i (remove ns i)))
+      ≡ under (insert ns i n)
   joined_after right is =
       let rest : List LeafView = under (drop i (remove ns i)) in
-      let there : right.leaves ++ rest ≡ under (drop i ns) = ap (λ (m : NodeView). m.leaves ++ rest) is ∙ sym (ap under (drop_removed ns i right within)) in
+      let there : right.leaves ++ rest ≡ under (drop i ns) =
+      ap (λ (m : NodeView). m.leaves ++ rest) is ∙ sym (ap under (drop_removed ns i right within)) in
       (λ j. under (take_removed ns i j) ++ append_assoc n.leaves right.leaves rest j)
       ∙ ap (λ (leaves : List LeafView). under (take i ns) ++ (n.leaves ++ leaves)) there
       ∙ sym (under_inserted ns i n)
 
   pub joined_before : (left : NodeView) → left ≡ get_or ns i left
-      → under (take i (remove ns i)) ++ ((left.leaves ++ n.leaves) ++ under (drop i (remove ns i))) ≡ under (insert ns (suc i) n)
+      → under (take i (remove ns i)) ++ ((left.leaves ++ n.leaves) ++ under (drop i (remove ns i)))
+      ≡ under (insert ns (suc i) n)
   joined_before left is =
       let rest : List LeafView = under (drop (suc i) ns) in
-      let first : under (take (suc i) ns) ≡ under (take i ns) ++ left.leaves = under_more ns i left within ∙ ap (λ (m : NodeView). under (take i ns) ++ m.leaves) (sym is) in
+      let first : under (take (suc i) ns) ≡ under (take i ns) ++ left.leaves =
+      under_more ns i left within ∙ ap (λ (m : NodeView). under (take i ns) ++ m.leaves) (sym is) in
       (λ j. under (take_removed ns i j) ++ append_assoc left.leaves n.leaves (under (drop_past ns i within j)) j)
       ∙ sym (append_assoc (under (take i ns)) left.leaves (n.leaves ++ rest))
       ∙ ap (λ (leaves : List LeafView). leaves ++ (n.leaves ++ rest)) (sym first)
@@ -42,7 +51,8 @@ module _ (ns : List NodeView) (i : ℕ) (within : i < length ns) (n : NodeView) 
       under_inserted (remove ns i) i n
       ∙ (λ j. under (take_removed ns i j) ++ (n.leaves ++ under (drop_past ns i within j)))
 
-module _ (ns : List NodeView) (place i rest : ℕ) (at : IsIn ns place i rest) (child : NodeView) (is : child ≡ get_or ns i child) where
+module _ (ns : List NodeView) (place i rest : ℕ) (at : IsIn ns place i rest) (child : NodeView)
+    (is : child ≡ get_or ns i child) where
   there : child.leaves ≡ (get_or ns i nothing).leaves
   there = ap (λ (m : NodeView). m.leaves) (is ∙ get_or_default ns i child nothing at.there)
 
@@ -51,13 +61,15 @@ module _ (ns : List NodeView) (place i rest : ℕ) (at : IsIn ns place i rest) (
       → under (insert (remove ns i) i n) ≡ remove (under ns) place
   without_leaf n left =
       put_again ns i at.there n
-      ∙ ap (λ (leaves : List LeafView). under (take i ns) ++ (leaves ++ under (drop (suc i) ns))) (left ∙ ap (λ (leaves : List LeafView). remove leaves rest) there)
+      ∙ ap (λ (leaves : List LeafView). under (take i ns) ++ (leaves ++ under (drop (suc i) ns)))
+      (left ∙ ap (λ (leaves : List LeafView). remove leaves rest) there)
       ∙ sym (removed_in ns place i rest at)
 
   -- and a node taken out with the only leaf that it has
   pub without_node : length child.leaves ≡ 1 → under (remove ns i) ≡ remove (under ns) place
   without_node one =
-      let gone : remove (get_or ns i nothing).leaves rest ≡ [] = none_left (get_or ns i nothing).leaves rest (ap length (sym there) ∙ one) at.within in
+      let gone : remove (get_or ns i nothing).leaves rest ≡ [] =
+      none_left (get_or ns i nothing).leaves rest (ap length (sym there) ∙ one) at.within in
       under_removed ns i
       ∙ ap (λ (leaves : List LeafView). under (take i ns) ++ (leaves ++ under (drop (suc i) ns))) (sym gone)
       ∙ sym (removed_in ns place i rest at)

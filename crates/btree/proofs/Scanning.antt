@@ -34,7 +34,8 @@ found_rows s (leaf ∷ leaves) =
 
 pub found_all : (s : Span) (leaves : List LeafView) → AreLeaves leaves → rows_in s (rows_of leaves) ≡ found_in s leaves
 found_all s leaves kept =
-    ap (λ (rows : List Row). filter (λ (row : Row). is_within s row.0) rows) (entries-table_of (all_rows leaves) (in_order leaves kept)) ∙ found_rows s leaves
+    ap (λ (rows : List Row). filter (λ (row : Row). is_within s row.0) rows)
+    (entries-table_of (all_rows leaves) (in_order leaves kept)) ∙ found_rows s leaves
 
 -- ---- leaves that end at most where the range begins
 
@@ -44,7 +45,8 @@ none_before s from leaf rest kept later =
     none_pass (is_within s) (map.entries leaf.rows)
     (all_from _ _ (λ (row : Row) inside.
     let ends = (and_parts (starts_at_most leaf.low_fence row.0) (ends_above leaf.high_fence row.0) inside).1 in
-    let under : is_below row.0 later.on.fence ≡ true = subst (λ (f : Option Bytes). ends_above f row.0 ≡ true) later.on.ends ends in
+    let under : is_below row.0 later.on.fence ≡ true =
+    subst (λ (f : Option Bytes). ends_above f row.0 ≡ true) later.on.ends ends in
     rw (below_free row.0 later.on.fence s.lo under later.past) refl)
     (map.entries leaf.rows) kept.rows)
 
@@ -58,7 +60,8 @@ found_before s from (leaf ∷ leaves) tile each starts =
       | inr later ↦
           rw (later.outside, add-one)
           (ap (λ (rows : List Row). rows ++ found_in s leaves) (none_before s from leaf leaves each.0 later)
-          ∙ found_before s (Some later.on.fence) leaves later.on.later each.1 (starts_later s.lo later.on.fence later.past))
+          ∙ found_before s (Some later.on.fence) leaves later.on.later each.1
+          (starts_later s.lo later.on.fence later.past))
     ]
 
 -- ---- leaves that begin where the range ends, or above
@@ -69,7 +72,8 @@ past_end None high x past starts = absurd (true≢false (sym past))
 past_end (Some low) None x past starts = absurd (true≢false (sym past))
 past_end (Some low) (Some high) x past starts =
     false_from_ne_true (is_below x high) (λ under.
-    true≢false (sym (below_free x high low under (not-true (is_below low high) past)) ∙ not-true (is_below x low) starts))
+    true≢false (sym (below_free x high low under (not-true (is_below low high) past))
+    ∙ not-true (is_below x low) starts))
 
 found_after : (s : Span) (from : Option Bytes) (leaf : LeafView) (rest : List LeafView)
     → TileFrom from (parts_of (leaf ∷ rest)) → AllByRecursion IsLeaf (leaf ∷ rest)
@@ -80,17 +84,20 @@ found_after s from leaf rest tile each past =
     (all_from _ _ (λ (row : Row) inside.
     let starts = (and_parts (starts_at_most from row.0) true inside).0 in
     and_right (not (is_below row.0 s.lo)) (ends_above s.hi row.0)
-    (past_end leaf.low_fence s.hi row.0 past (subst (λ (low : Option Bytes). starts_at_most low row.0 ≡ true) (sym tile.0) starts)))
+    (past_end leaf.low_fence s.hi row.0 past
+    (subst (λ (low : Option Bytes). starts_at_most low row.0 ≡ true) (sym tile.0) starts)))
     (all_rows (leaf ∷ rest)) (ordered_from from (leaf ∷ rest) tile each).above)
 
 module _ {X : Type 0} (leaf_of : X → LeafView) (s : Span) where
   pub found_more : (xs : List X) (i : ℕ) (x d : X) → i < length xs → leaf_of x ≡ leaf_of (get_or xs i d)
       → found_in s (map leaf_of (take (suc i) xs)) ≡ found_in s (map leaf_of (take i xs)) ++ rows_in s (leaf_of x).rows
   found_more [] i x d within is = absurd (omega (arith, within))
-  found_more (y ∷ xs) zero x d within is = append-nil (rows_in s (leaf_of y).rows) ∙ ap (λ (leaf : LeafView). rows_in s leaf.rows) (sym is)
+  found_more (y ∷ xs) zero x d within is =
+      append-nil (rows_in s (leaf_of y).rows) ∙ ap (λ (leaf : LeafView). rows_in s leaf.rows) (sym is)
   found_more (y ∷ xs) (suc i) x d within is =
       ap (λ (more : List Row). rows_in s (leaf_of y).rows ++ more) (found_more xs i x d (omega (arith, within)) is)
-      ∙ sym (append_assoc (rows_in s (leaf_of y).rows) (found_in s (map leaf_of (take i xs))) (rows_in s (leaf_of x).rows))
+      ∙ sym (append_assoc (rows_in s (leaf_of y).rows) (found_in s (map leaf_of (take i xs)))
+      (rows_in s (leaf_of x).rows))
 
   -- where a leaf begins past the range, it and those after it have none of it
   found_past : (from : Option Bytes) (xs : List X) (i : ℕ) (d : X) → TileFrom from (parts_of (map leaf_of xs))
@@ -103,7 +110,8 @@ module _ {X : Type 0} (leaf_of : X → LeafView) (s : Span) where
       elim (cases_tile from (leaf_of x) (map leaf_of xs) tile) [
         | inl last ↦ absurd (none_there leaf_of xs i last.alone (omega (arith, within)))
         | inr on ↦
-            ap (λ (more : List Row). rows_in s (leaf_of x).rows ++ more) (found_past (Some on.fence) xs i d on.later each.1 (omega (arith, within)) past)
+            ap (λ (more : List Row). rows_in s (leaf_of x).rows ++ more)
+            (found_past (Some on.fence) xs i d on.later each.1 (omega (arith, within)) past)
       ]
 
   -- leaves from one of them on
@@ -129,21 +137,25 @@ module _ {X : Type 0} (leaf_of : X → LeafView) (s : Span) where
   drop_map (suc i) (x ∷ xs) = drop_map i xs
 
   -- those from the range's first leaf on have all of it
-  module _ (xs ys : List X) (p : ℕ) (kept : AreLeaves (map leaf_of xs)) (at : p ≡ place_at (map leaf_of xs) s.lo) (are : ys ≡ drop p xs) where
+  module _ (xs ys : List X) (p : ℕ) (kept : AreLeaves (map leaf_of xs)) (at : p ≡ place_at (map leaf_of xs) s.lo)
+      (are : ys ≡ drop p xs) where
     found_from : rows_in s (rows_of (map leaf_of xs)) ≡ found_in s (map leaf_of ys)
     found_from =
         found_all s (map leaf_of xs) kept
         ∙ found_before s None (map leaf_of xs) kept.tile kept.each refl
         ∙ ap (λ (leaves : List LeafView). found_in s leaves)
-        (ap (λ (q : ℕ). drop q (map leaf_of xs)) (sym at) ∙ drop_map p xs ∙ ap (λ (zs : List X). map leaf_of zs) (sym are))
+        (ap (λ (q : ℕ). drop q (map leaf_of xs)) (sym at) ∙ drop_map p xs
+        ∙ ap (λ (zs : List X). map leaf_of zs) (sym are))
 
     -- and so have those before one that begins past the range
     pub found_stopped : (i : ℕ) (x : X) → p < length xs → i < length ys → x ≡ get_or ys i x
         → is_past (leaf_of x).low_fence s.hi ≡ true
         → found_in s (map leaf_of (take i ys)) ≡ rows_in s (rows_of (map leaf_of xs))
     found_stopped i x within less is past =
-        let suffix : FromPlace ys = subst (λ (zs : List X). FromPlace zs) (sym are) (from_place None xs p kept.tile kept.each within) in
-        let there : is_past (leaf_of (get_or ys i x)).low_fence s.hi ≡ true = ap (λ (y : X). is_past (leaf_of y).low_fence s.hi) (sym is) ∙ past in
+        let suffix : FromPlace ys =
+        subst (λ (zs : List X). FromPlace zs) (sym are) (from_place None xs p kept.tile kept.each within) in
+        let there : is_past (leaf_of (get_or ys i x)).low_fence s.hi ≡ true =
+        ap (λ (y : X). is_past (leaf_of y).low_fence s.hi) (sym is) ∙ past in
         sym (found_from ∙ found_past suffix.from ys i x suffix.tile suffix.each less there)
 
     pub found_ended : (i : ℕ) → length ys ≤ i

@@ -39,19 +39,24 @@ module _ {X : Type 0} (leaf_of : X → LeafView) where
   past_fence fence (x ∷ xs) j d k tile within under =
       elim (cases_tile (Some fence) (leaf_of x) (map leaf_of xs) tile) [
         | inl last ↦ absurd (never j within under last)
-        | inr on ↦ false_from_ne_true _ (λ below. true≢false (sym (below_trans k fence on.fence below on.above) ∙ later j within under on (past_fence on.fence xs)))
+        | inr on ↦ false_from_ne_true
+            _ (λ below. true≢false (sym (below_trans k fence on.fence below on.above)
+            ∙ later j within under on (past_fence on.fence xs)))
       ]
     where
       never : (j : ℕ) → j < length (x ∷ xs) → lies_under k (get_or (x ∷ xs) j d) ≡ true
           → IsLast (Some fence) (leaf_of x) (map leaf_of xs) → ⊥
-      never zero within under last = true≢false (sym (subst (λ (f : Option Bytes). not (ends_above f k) ≡ true) last.ends under))
+      never zero within under last =
+          true≢false (sym (subst (λ (f : Option Bytes). not (ends_above f k) ≡ true) last.ends under))
       never (suc j) within under last = none_there xs j last.alone (omega (arith, within))
 
       later : (j : ℕ) → j < length (x ∷ xs) → lies_under k (get_or (x ∷ xs) j d) ≡ true
           → (on : GoesOn (Some fence) (leaf_of x) (map leaf_of xs))
-          → ((j : ℕ) (d : X) (k : Bytes) → TileFrom (Some on.fence) (parts_of (map leaf_of xs)) → j < length xs → lies_under k (get_or xs j d) ≡ true → is_below k on.fence ≡ false)
+          → ((j : ℕ) (d : X) (k : Bytes) → TileFrom (Some on.fence) (parts_of (map leaf_of xs)) → j < length xs
+          → lies_under k (get_or xs j d) ≡ true → is_below k on.fence ≡ false)
           → is_below k on.fence ≡ false
-      later zero within under on again = not-true (is_below k on.fence) (subst (λ (f : Option Bytes). not (ends_above f k) ≡ true) on.ends under)
+      later zero within under on again =
+          not-true (is_below k on.fence) (subst (λ (f : Option Bytes). not (ends_above f k) ≡ true) on.ends under)
       later (suc j) within under on again = again j d k on.later (omega (arith, within)) under
 
   -- no leaf that ends at most at a key comes after one that ends above it
@@ -64,7 +69,8 @@ module _ {X : Type 0} (leaf_of : X → LeafView) where
       elim (cases_tile from (leaf_of x) (map leaf_of xs) tile) [
         | inl last ↦ absurd (none_there xs j last.alone (omega (arith, within)))
         | inr on ↦
-            let past : is_below k on.fence ≡ false = past_fence on.fence xs j d k on.later (omega (arith, within)) under in
+            let past : is_below k on.fence ≡ false =
+            past_fence on.fence xs j d k on.later (omega (arith, within)) under in
             rw (on.ends, past) refl
       ]
   ends_rise from (x ∷ xs) k tile (suc i) (suc j) d le within under =
@@ -85,7 +91,9 @@ module _ {X : Type 0} (leaf_of : X → LeafView) where
         | inl here ↦ rw here (first p parted (and_parts (starts_at_most (leaf_of x).low_fence k) _ here).1)
         | inr later ↦
             rw later.outside
-            (after p parted within (rw (later.on.ends) later.past) (λ q parted within. place_parted (Some later.on.fence) xs k q later.on.later (starts_later k later.on.fence later.past) parted within))
+            (after p parted within (rw (later.on.ends) later.past)
+            (λ q parted within. place_parted (Some later.on.fence) xs k q later.on.later
+            (starts_later k later.on.fence later.past) parted within))
       ]
     where
       first : (p : ℕ)
@@ -98,19 +106,24 @@ module _ {X : Type 0} (leaf_of : X → LeafView) where
           → IsPartitionPoint (λ (x : X). lies_under k x ≡ true) (λ (x : X). lies_under k x ≡ false) (x ∷ xs) p
           → p ≤ length (x ∷ xs)
           → ends_above (leaf_of x).high_fence k ≡ false
-          → ((q : ℕ) → IsPartitionPoint (λ (x : X). lies_under k x ≡ true) (λ (x : X). lies_under k x ≡ false) xs q → q ≤ length xs → q ≡ place_at (map leaf_of xs) k)
+          → ((q : ℕ) → IsPartitionPoint (λ (x : X). lies_under k x ≡ true) (λ (x : X). lies_under k x ≡ false) xs q → q
+          ≤ length xs → q ≡ place_at (map leaf_of xs) k)
           → p ≡ place_at (map leaf_of xs) k + 1
-      after zero parted within ends again = absurd (true≢false (sym (ap not ends) ∙ parted.1 0 x (omega arith) (omega arith)))
+      after zero parted within ends again =
+          absurd (true≢false (sym (ap not ends) ∙ parted.1 0 x (omega arith) (omega arith)))
       after (suc p) parted within ends again =
-          let same : p ≡ place_at (map leaf_of xs) k = again p
-          ((λ j d le lt. parted.0 (suc j) d (omega arith) (omega (arith, lt))), (λ j d le lt. parted.1 (suc j) d (omega (arith, le)) (omega (arith, lt)))) (omega (arith, within)) in
+          let same : p ≡ place_at (map leaf_of xs) k = again p (
+            (λ j d le lt. parted.0 (suc j) d (omega arith) (omega (arith, lt))),
+            (λ j d le lt. parted.1 (suc j) d (omega (arith, le)) (omega (arith, lt))),
+          ) (omega (arith, within)) in
           omega (arith, same)
 
   -- ---- what stands at a key's place
 
   pub there_in : (xs : List X) (k : Bytes) → AreLeaves (map leaf_of xs) → place_at (map leaf_of xs) k < length xs
   there_in xs k kept =
-      let less : place_at (map leaf_of xs) k < length (map leaf_of xs) = there_from None (map leaf_of xs) k kept.tile refl in
+      let less : place_at (map leaf_of xs) k < length (map leaf_of xs) =
+      there_from None (map leaf_of xs) k kept.tile refl in
       omega (arith, less, length-map xs leaf_of)
 
   pub leaf_there : (xs : List X) (k : Bytes) (d : X) → place_at (map leaf_of xs) k < length xs
@@ -127,7 +140,8 @@ module _ {X : Type 0} (leaf_of : X → LeafView) where
   pub found : (xs : List X) (k : Bytes) (p : ℕ) (x : X) → AreLeaves (map leaf_of xs) → p ≡ place_at (map leaf_of xs) k
       → x ≡ get_or xs p x
       → leaf_of x ≡ leaf_at (map leaf_of xs) k
-  found xs k p x kept at is = ap leaf_of (is ∙ ap (λ (q : ℕ). get_or xs q x) at) ∙ leaf_there xs k x (there_in xs k kept)
+  found xs k p x kept at is =
+      ap leaf_of (is ∙ ap (λ (q : ℕ). get_or xs q x) at) ∙ leaf_there xs k x (there_in xs k kept)
 
   -- the leaf there changed
   pub changed_there : (change : LeafView → LeafView) (xs : List X) (k : Bytes) (x : X)
@@ -140,7 +154,8 @@ module _ {X : Type 0} (leaf_of : X → LeafView) where
         | inl here ↦ rw here (ap (λ (leaf : LeafView). leaf ∷ map leaf_of xs) (rw here at is))
         | inr later ↦
             let less : place_at (map leaf_of xs) k + 1 < length (y ∷ xs) = rw later at within in
-            rw (later, add-one) (ap (λ (leaves : List LeafView). leaf_of y ∷ leaves) (changed_there change xs k x (omega (arith, less)) (rw later at is)))
+            rw (later, add-one) (ap (λ (leaves : List LeafView). leaf_of y ∷ leaves)
+            (changed_there change xs k x (omega (arith, less)) (rw later at is)))
       ]
 
   -- and put back as it was
@@ -160,7 +175,11 @@ module _ {X : Type 0} (leaf_of : X → LeafView) where
       elim (cases_Bool (captures leaf.ab n)) [
         | inl captured ↦
             let repeated = rw captured at performs in
-            rw captured (repeated.0, same_there xs (place_at (map leaf_of xs) (key_of o)) x x (repeated.1 ∙ sym (leaf_there xs (key_of o) x within)))
+            rw captured (
+              repeated.0,
+              same_there xs (place_at (map leaf_of xs) (key_of o)) x x
+                  (repeated.1 ∙ sym (leaf_there xs (key_of o) x within)),
+            )
         | inr out ↦
             let new = rw out at performs in
             rw out (new.0, changed_there (λ leaf. performed leaf n o) xs (key_of o) x within new.1)
@@ -174,8 +193,10 @@ module _ {X : Type 0} (leaf_of : X → LeafView) where
       → map leaf_of (insert (set xs p x) (suc p) y) ≡ split_at p id d (map leaf_of xs)
   split_there [] p id d x y leaf may at under from = absurd (true≢false (sym may))
   split_there (z ∷ xs) zero id d x y leaf may at under from =
-      let lower : leaf_of x ≡ lower_of (leaf_of z) (middle (leaf_of z)) d = under ∙ ap (λ (l : LeafView). lower_of l (middle l) d) at in
-      let upper : leaf_of y ≡ upper_of (leaf_of z) (middle (leaf_of z)) id d = from ∙ ap (λ (l : LeafView). upper_of l (middle l) id d) at in
+      let lower : leaf_of x ≡ lower_of (leaf_of z) (middle (leaf_of z)) d =
+      under ∙ ap (λ (l : LeafView). lower_of l (middle l) d) at in
+      let upper : leaf_of y ≡ upper_of (leaf_of z) (middle (leaf_of z)) id d =
+      from ∙ ap (λ (l : LeafView). upper_of l (middle l) id d) at in
       λ i. lower i ∷ upper i ∷ map leaf_of xs
   split_there (z ∷ xs) (suc p) id d x y leaf may at under from =
       ap (λ (leaves : List LeafView). leaf_of z ∷ leaves) (split_there xs p id d x y leaf may at under from)
@@ -186,4 +207,5 @@ module _ {X : Type 0} (leaf_of : X → LeafView) where
   merge_there [] p d x may is = absurd (true≢false (sym may))
   merge_there (y ∷ []) p d x may is = absurd (true≢false (sym may))
   merge_there (y ∷ z ∷ xs) zero d x may is = ap (λ (leaf : LeafView). leaf ∷ map leaf_of xs) is
-  merge_there (y ∷ z ∷ xs) (suc p) d x may is = ap (λ (leaves : List LeafView). leaf_of y ∷ leaves) (merge_there (z ∷ xs) p d x may is)
+  merge_there (y ∷ z ∷ xs) (suc p) d x may is =
+      ap (λ (leaves : List LeafView). leaf_of y ∷ leaves) (merge_there (z ∷ xs) p d x may is)

@@ -20,12 +20,15 @@ none_to_split rest p alone may = true≢false (sym may ∙ ap (λ (r : List Leaf
 
 -- what both halves have and the others had, all have
 pub all_split : (P : LeafView → Type 0) (id d : ℕ)
-    → ((leaf : LeafView) → IsLeaf leaf → may_split leaf ≡ true → P leaf → P (lower_of leaf (middle leaf) d) × P (upper_of leaf (middle leaf) id d))
+    → ((leaf : LeafView) → IsLeaf leaf → may_split leaf ≡ true → P leaf → P (lower_of leaf (middle leaf) d)
+    × P (upper_of leaf (middle leaf) id d))
     → (leaves : List LeafView) (p : ℕ) → AllByRecursion IsLeaf leaves → may_split_at leaves p ≡ true
     → AllByRecursion P leaves → AllByRecursion P (split_at p id d leaves)
 all_split P id d halves [] p each may all = tt
-all_split P id d halves (leaf ∷ leaves) zero each may all = let both = halves leaf each.0 may all.0 in (both.0, (both.1, all.1))
-all_split P id d halves (leaf ∷ leaves) (suc p) each may all = (all.0, all_split P id d halves leaves p each.1 may all.1)
+all_split P id d halves (leaf ∷ leaves) zero each may all = let both = halves leaf each.0 may all.0 in
+    (both.0, (both.1, all.1))
+all_split P id d halves (leaf ∷ leaves) (suc p) each may all =
+    (all.0, all_split P id d halves leaves p each.1 may all.1)
 
 -- ---- the keys of both halves
 
@@ -36,8 +39,10 @@ split_first from leaf rest id d cut tile =
     let upper : LeafView = upper_of leaf (middle leaf) id d in
     let later : TileFrom (Some (middle leaf)) (parts_of (upper ∷ rest)) =
     elim (cases_tile from leaf rest tile) [
-      | inl last ↦ subst (λ (r : List LeafView). TileFrom (Some (middle leaf)) (parts_of (upper ∷ r))) (sym last.alone) (tile_last (Some (middle leaf)) upper refl last.ends)
-      | inr on ↦ tile_on (Some (middle leaf)) upper rest on.fence refl on.ends (subst (λ (high : Option Bytes). ends_above high (middle leaf) ≡ true) on.ends cut.under) on.later
+      | inl last ↦ subst (λ (r : List LeafView). TileFrom (Some (middle leaf)) (parts_of (upper ∷ r))) (sym last.alone)
+          (tile_last (Some (middle leaf)) upper refl last.ends)
+      | inr on ↦ tile_on (Some (middle leaf)) upper rest on.fence refl on.ends
+          (subst (λ (high : Option Bytes). ends_above high (middle leaf) ≡ true) on.ends cut.under) on.later
     ] in
     (tile.0, (cut.above, later))
 
@@ -45,11 +50,13 @@ pub tile_split : (from : Option Bytes) (leaves : List LeafView) (p id d : ℕ) �
     → AllByRecursion IsLeaf leaves → may_split_at leaves p ≡ true
     → TileFrom from (parts_of (split_at p id d leaves))
 tile_split from [] p id d tile each may = absurd tile
-tile_split from (leaf ∷ leaves) zero id d tile each may = split_first from leaf leaves id d (cuts_inside leaf each.0 may) tile
+tile_split from (leaf ∷ leaves) zero id d tile each may =
+    split_first from leaf leaves id d (cuts_inside leaf each.0 may) tile
 tile_split from (leaf ∷ leaves) (suc p) id d tile each may =
     elim (cases_tile from leaf leaves tile) [
       | inl last ↦ absurd (none_to_split leaves p last.alone may)
-      | inr on ↦ tile_on from leaf (split_at p id d leaves) on.fence on.begins on.ends on.above (tile_split (Some on.fence) leaves p id d on.later each.1 may)
+      | inr on ↦ tile_on from leaf (split_at p id d leaves) on.fence on.begins on.ends on.above
+          (tile_split (Some on.fence) leaves p id d on.later each.1 may)
     ]
 
 -- ---- the leaf of a key
@@ -75,25 +82,32 @@ IsHalfAt id d old new k = (new ≡ old) ⊎ (HasLower d old new k ⊎ HasUpper i
 not_in_lower : (leaf : LeafView) (k : Bytes) (d : ℕ) → IsInside (part_of leaf) (middle leaf)
     → is_in_fences leaf k ≡ false → is_in_fences (lower_of leaf (middle leaf) d) k ≡ false
 not_in_lower leaf k d cut outside =
-    false_from_ne_true _ (λ inside. true≢false (sym (lower_between leaf.low_fence leaf.high_fence (middle leaf) k cut.under inside) ∙ outside))
+    false_from_ne_true _ (λ inside. true≢false
+    (sym (lower_between leaf.low_fence leaf.high_fence (middle leaf) k cut.under inside) ∙ outside))
 
 not_in_upper : (leaf : LeafView) (k : Bytes) (id d : ℕ) → IsInside (part_of leaf) (middle leaf)
     → is_in_fences leaf k ≡ false → is_in_fences (upper_of leaf (middle leaf) id d) k ≡ false
 not_in_upper leaf k id d cut outside =
-    false_from_ne_true _ (λ inside. true≢false (sym (upper_between leaf.low_fence leaf.high_fence (middle leaf) k (starts_weaker leaf.low_fence (middle leaf) cut.above) inside) ∙ outside))
+    false_from_ne_true _ (λ inside. true≢false
+    (sym (upper_between leaf.low_fence leaf.high_fence (middle leaf) k
+    (starts_weaker leaf.low_fence (middle leaf) cut.above) inside) ∙ outside))
 
 leaf_halved : (leaf : LeafView) (rest : List LeafView) (id d : ℕ) (k : Bytes) → IsInside (part_of leaf) (middle leaf)
-    → IsHalfAt id d (leaf_at (leaf ∷ rest) k) (leaf_at (lower_of leaf (middle leaf) d ∷ upper_of leaf (middle leaf) id d ∷ rest) k) k
+    → IsHalfAt id d (leaf_at (leaf ∷ rest) k)
+    (leaf_at (lower_of leaf (middle leaf) d ∷ upper_of leaf (middle leaf) id d ∷ rest) k) k
 leaf_halved leaf rest id d k cut =
     elim (cases_Bool (is_in_fences leaf k)) [
       | inl held ↦ elim (cases_Bool (is_below k (middle leaf))) [
         | inl under ↦
-            let inside : is_in_fences (lower_of leaf (middle leaf) d) k ≡ true = between_lower leaf.low_fence leaf.high_fence (middle leaf) k held under in
+            let inside : is_in_fences (lower_of leaf (middle leaf) d) k ≡ true =
+            between_lower leaf.low_fence leaf.high_fence (middle leaf) k held under in
             rw (held, inside) (inr (inl (record { cut = cut; held = held; under = under; is = refl })))
         | inr free ↦
             let from : is_from (middle leaf) k ≡ true = not_from_false (is_below k (middle leaf)) free in
-            let out : is_in_fences (lower_of leaf (middle leaf) d) k ≡ false = rw free (and_right (starts_at_most leaf.low_fence k) false refl) in
-            let inside : is_in_fences (upper_of leaf (middle leaf) id d) k ≡ true = between_upper leaf.low_fence leaf.high_fence (middle leaf) k held from in
+            let out : is_in_fences (lower_of leaf (middle leaf) d) k ≡ false =
+            rw free (and_right (starts_at_most leaf.low_fence k) false refl) in
+            let inside : is_in_fences (upper_of leaf (middle leaf) id d) k ≡ true =
+            between_upper leaf.low_fence leaf.high_fence (middle leaf) k held from in
             rw (held, out, inside) (inr (inr (record { cut = cut; held = held; from = from; is = refl })))
       ]
       | inr outside ↦ rw (outside, not_in_lower leaf k d cut outside, not_in_upper leaf k id d cut outside) (inl refl)

@@ -37,11 +37,14 @@ value_in leaves k kept = value_from None leaves k kept.tile kept.each refl
 pub performed_leaves : (leaves : List LeafView) (n : ℕ) (o : Op) → AreLeaves leaves
     → captures (leaf_at leaves (key_of o)).ab n ≡ false → AreLeaves (performed_at leaves n o)
 performed_leaves leaves n o kept out = record {
-  each = all_changed IsLeaf (key_of o) (λ leaf. performed leaf n o) leaves (kept_performed (leaf_at leaves (key_of o)) n o (within_at leaves (key_of o) kept) out) kept.each;
-  tile = subst (λ (ps : List Part). TileFrom None ps) (sym (parts_changed (λ leaf. performed leaf n o) (λ leaf. refl) (key_of o) leaves)) kept.tile;
+  each = all_changed IsLeaf (key_of o) (λ leaf. performed leaf n o) leaves
+      (kept_performed (leaf_at leaves (key_of o)) n o (within_at leaves (key_of o) kept) out) kept.each;
+  tile = subst (λ (ps : List Part). TileFrom None ps)
+      (sym (parts_changed (λ leaf. performed leaf n o) (λ leaf. refl) (key_of o) leaves)) kept.tile;
 }
 
-module _ (leaves : List LeafView) (n : ℕ) (o : Op) (kept : AreLeaves leaves) (out : captures (leaf_at leaves (key_of o)).ab n ≡ false) where
+module _ (leaves : List LeafView) (n : ℕ) (o : Op) (kept : AreLeaves leaves)
+    (out : captures (leaf_at leaves (key_of o)).ab n ≡ false) where
   abbrev new : List LeafView
   new = performed_at leaves n o
 
@@ -63,7 +66,8 @@ module _ (leaves : List LeafView) (n : ℕ) (o : Op) (kept : AreLeaves leaves) (
       value_in new k new_kept
       ∙ value_not_performed leaves kept n o k apart
       ∙ sym (value_in leaves k kept)
-      ∙ sym (get-with_record_other (rows_of leaves) (key_of o) k (value_after o (table.get (rows_of leaves) (key_of o))) apart)
+      ∙ sym (get-with_record_other (rows_of leaves) (key_of o) k (value_after o (table.get (rows_of leaves) (key_of o)))
+      apart)
 
   same_value : (k : Bytes) → table.get (rows_of new) k ≡ table.get (after (rows_of leaves) o) k
   same_value k =
@@ -71,7 +75,8 @@ module _ (leaves : List LeafView) (n : ℕ) (o : Op) (kept : AreLeaves leaves) (
         | inl same ↦
             let P : Bytes → Type 0 = λ q. table.get (rows_of new) q ≡ table.get (after (rows_of leaves) o) q in
             subst P (sym (is_same-true k (key_of o) same)) value_there
-        | inr apart ↦ value_elsewhere k (λ e. true≢false (sym (ap (λ (q : Bytes). is_same q (key_of o)) e ∙ is_same-refl (key_of o)) ∙ apart))
+        | inr apart ↦ value_elsewhere k
+            (λ e. true≢false (sym (ap (λ (q : Bytes). is_same q (key_of o)) e ∙ is_same-refl (key_of o)) ∙ apart))
       ]
 
   pub performs_one : PerformsOne leaves n o
@@ -106,7 +111,8 @@ pub raised_stays : (leaves : List LeafView) (l : ℕ) → AreLeaves leaves
 raised_stays leaves l kept =
     let stays : AreLeaves (map (λ leaf. raised_to leaf l) leaves) = record {
       each = all_mapped IsLeaf IsLeaf (λ leaf. raised_to leaf l) (λ leaf is. kept_raised leaf l is) leaves kept.each;
-      tile = subst (λ (ps : List Part). TileFrom None ps) (sym (parts_mapped (λ leaf. raised_to leaf l) (λ leaf. refl) leaves)) kept.tile;
+      tile = subst (λ (ps : List Part). TileFrom None ps)
+          (sym (parts_mapped (λ leaf. raised_to leaf l) (λ leaf. refl) leaves)) kept.tile;
     } in
     same_rows leaves _ kept stays (λ k. value_raised leaves kept l k)
 
@@ -114,7 +120,9 @@ pub split_stays : (leaves : List LeafView) (p id d : ℕ) → AreLeaves leaves �
     → SameTable leaves (split_at p id d leaves)
 split_stays leaves p id d kept may =
     let stays : AreLeaves (split_at p id d leaves) = record {
-      each = all_split IsLeaf id d (λ leaf is may again. (kept_lower leaf (middle leaf) d is, kept_upper leaf (middle leaf) id d is)) leaves p kept.each may kept.each;
+      each = all_split IsLeaf id d
+          (λ leaf is may again. (kept_lower leaf (middle leaf) d is, kept_upper leaf (middle leaf) id d is)) leaves p
+          kept.each may kept.each;
       tile = tile_split None leaves p id d kept.tile kept.each may;
     } in
     same_rows leaves _ kept stays (λ k. value_split leaves kept p id d may k)
@@ -124,7 +132,9 @@ pub merged_stays : (leaves : List LeafView) (p d : ℕ) → AreLeaves leaves →
 merged_stays leaves p d kept may =
     let stays : AreLeaves (merged_at p d leaves) = record {
       each = all_merged IsLeaf d leaves p
-          (pair_with AreJoinable AreJoinable _ (λ left right pair again. kept_joined left right d pair.left_kept pair.right_kept pair.next) leaves p (joinable leaves p kept) (joinable leaves p kept))
+          (pair_with AreJoinable AreJoinable
+          _ (λ left right pair again. kept_joined left right d pair.left_kept pair.right_kept pair.next) leaves p
+          (joinable leaves p kept) (joinable leaves p kept))
           kept.each;
       tile = tile_merged None leaves p d kept.tile may;
     } in
@@ -141,13 +151,15 @@ pub performed_honest : (log : List Record) (leaves : List LeafView) (n : ℕ) (o
     → IsNextOn log (leaf_at leaves (key_of o)) n o
     → AreHonest log (performed_at leaves n o)
 performed_honest log leaves n o honest next =
-    all_changed (IsHonestLeaf log) (key_of o) (λ leaf. performed leaf n o) leaves (λ right. leaf_performed log (leaf_at leaves (key_of o)) n o right next) honest
+    all_changed (IsHonestLeaf log) (key_of o) (λ leaf. performed leaf n o) leaves
+    (λ right. leaf_performed log (leaf_at leaves (key_of o)) n o right next) honest
 
 pub raised_honest : (log : List Record) (leaves : List LeafView) (l : ℕ) → AreHonest log leaves
     → AllByRecursion (λ (leaf : LeafView). IsCapturedTo log leaf l) leaves
     → AreHonest log (map (λ leaf. raised_to leaf l) leaves)
 raised_honest log leaves l honest captured =
-    all_mapped (λ (leaf : LeafView). IsHonestLeaf log leaf × IsCapturedTo log leaf l) (IsHonestLeaf log) (λ leaf. raised_to leaf l)
+    all_mapped (λ (leaf : LeafView). IsHonestLeaf log leaf × IsCapturedTo log leaf l) (IsHonestLeaf log)
+    (λ leaf. raised_to leaf l)
     (λ leaf both. leaf_raised log leaf l both.0 both.1) leaves (all_both _ _ leaves honest captured)
 
 pub split_honest : (log : List Record) (leaves : List LeafView) (p id d : ℕ) → AreLeaves leaves
@@ -156,7 +168,8 @@ pub split_honest : (log : List Record) (leaves : List LeafView) (p id d : ℕ) �
 split_honest log leaves p id d kept may honest =
     all_split (IsHonestLeaf log) id d (λ leaf is may right.
     let cut = inside_fences leaf (middle leaf) (cuts_inside leaf is may) in
-    (honest_lower log leaf (middle leaf) d right cut, honest_upper log leaf (middle leaf) id d right cut)) leaves p kept.each may honest
+    (honest_lower log leaf (middle leaf) d right cut, honest_upper log leaf (middle leaf) id d right cut)) leaves p
+    kept.each may honest
 
 pub merged_honest : (log : List Record) (leaves : List LeafView) (p d : ℕ) → AreLeaves leaves → AreHonest log leaves
     → AreCaptured log leaves

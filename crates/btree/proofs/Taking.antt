@@ -42,7 +42,8 @@ pub undone_among : (leaves : List LeafView) (n m : ℕ) (o i : Op) (steps : List
 undone_among leaves n m o i steps kept may elsewhere inverse free =
     let new : List LeafView = after_steps (performed_at leaves n o) steps in
     let one : PerformsOne leaves n o = performs_one leaves n o kept may.0 in
-    let taken : HasTable new (after_all (after (rows_of leaves) o) (ops_of steps)) = all_taken leaves (Performs n o ∷ steps) kept may in
+    let taken : HasTable new (after_all (after (rows_of leaves) o) (ops_of steps)) =
+    all_taken leaves (Performs n o ∷ steps) kept may in
     let last : PerformsOne new m i = performs_one new m i taken.kept free in
     let back = undone (rows_of leaves) o i (ops_of steps) (ap (inverse_of o) (sym one.answer) ∙ inverse) elsewhere in
     record {

@@ -31,7 +31,8 @@ cases_tile from leaf rest tile =
     pick leaf.high_fence refl tile.1
   where
     pick : (high : Option Bytes) → leaf.high_fence ≡ high
-        → MatchOption high (parts_of rest ≡ []) (λ fence. (starts_below leaf.low_fence fence ≡ true) × TileFrom (Some fence) (parts_of rest))
+        → MatchOption high (parts_of rest ≡ [])
+        (λ fence. (starts_below leaf.low_fence fence ≡ true) × TileFrom (Some fence) (parts_of rest))
         → IsLast from leaf rest ⊎ GoesOn from leaf rest
     pick None is alone = inl (record { begins = tile.0; ends = is; alone = no_parts rest alone })
     pick (Some fence) is on =
@@ -91,7 +92,8 @@ within_from from [] k tile starts = absurd tile
 within_from from (leaf ∷ leaves) k tile starts =
     elim (where_lies from leaf leaves k tile starts) [
       | inl here ↦ rw here here
-      | inr later ↦ rw later.outside (within_from (Some later.on.fence) leaves k later.on.later (starts_later k later.on.fence later.past))
+      | inr later ↦ rw later.outside
+          (within_from (Some later.on.fence) leaves k later.on.later (starts_later k later.on.fence later.past))
     ]
 
 pub there_from : (from : Option Bytes) (leaves : List LeafView) (k : Bytes) → TileFrom from (parts_of leaves)
@@ -102,7 +104,8 @@ there_from from (leaf ∷ leaves) k tile starts =
     elim (where_lies from leaf leaves k tile starts) [
       | inl here ↦ rw here (omega arith)
       | inr later ↦
-          let less : place_at leaves k < length leaves = there_from (Some later.on.fence) leaves k later.on.later (starts_later k later.on.fence later.past) in
+          let less : place_at leaves k < length leaves =
+          there_from (Some later.on.fence) leaves k later.on.later (starts_later k later.on.fence later.past) in
           rw later.outside (omega (arith, less))
     ]
 
@@ -117,12 +120,14 @@ held_from from (leaf ∷ leaves) k q tile starts inside =
     elim (where_lies from leaf leaves k tile starts) [
       | inl here ↦
           let held : is_in_fences leaf q ≡ true = rw here at inside in
-          subst (λ (low : Option Bytes). starts_at_most low q ≡ true) tile.0 (and_parts (starts_at_most leaf.low_fence q) (ends_above leaf.high_fence q) held).0
+          subst (λ (low : Option Bytes). starts_at_most low q ≡ true) tile.0
+          (and_parts (starts_at_most leaf.low_fence q) (ends_above leaf.high_fence q) held).0
       | inr later ↦
           let held : is_in_fences (leaf_at leaves k) q ≡ true = rw later.outside at inside in
           let above : starts_at_most (Some later.on.fence) q ≡ true =
           held_from (Some later.on.fence) leaves k q later.on.later (starts_later k later.on.fence later.past) held in
-          from_low from q later.on.fence (not-true (is_below q later.on.fence) above) (starts_weaker from later.on.fence later.on.above)
+          from_low from q later.on.fence (not-true (is_below q later.on.fence) above)
+          (starts_weaker from later.on.fence later.on.above)
     ]
 
 -- so it doesn't lie in the leaf before these
@@ -131,7 +136,8 @@ pub held_out : (from : Option Bytes) (leaf : LeafView) (rest : List LeafView) (k
 held_out from leaf rest k q later inside =
     let above : starts_at_most (Some later.on.fence) q ≡ true =
     held_from (Some later.on.fence) rest k q later.on.later (starts_later k later.on.fence later.past) inside in
-    rw (later.on.ends, not-true (is_below q later.on.fence) above) (and_right (starts_at_most leaf.low_fence q) false refl)
+    rw (later.on.ends, not-true (is_below q later.on.fence) above)
+    (and_right (starts_at_most leaf.low_fence q) false refl)
 
 -- a key that lies in the leaf of another has that very leaf
 pub same_from : (from : Option Bytes) (leaves : List LeafView) (k q : Bytes) → TileFrom from (parts_of leaves)

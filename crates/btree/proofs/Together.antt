@@ -24,7 +24,8 @@ pub record Ordered (from : Option Bytes) (rows : List Row) : Type 0 where
 
 no_end : (low high : Option Bytes) (rows : List Row) → LieBetween low high rows → LieBetween low None rows
 no_end low high rows between =
-    all_from _ _ (λ (row : Row) inside. and_from (starts_at_most low row.0) true (and_parts (starts_at_most low row.0) (ends_above high row.0) inside).0 refl) rows between
+    all_from _ _ (λ (row : Row) inside. and_from (starts_at_most low row.0) true
+    (and_parts (starts_at_most low row.0) (ends_above high row.0) inside).0 refl) rows between
 
 only_rows : (from : Option Bytes) (leaf : LeafView) (rest : List LeafView) → IsLast from leaf rest → IsLeaf leaf
     → Ordered from (all_rows (leaf ∷ rest))
@@ -32,7 +33,8 @@ only_rows from leaf rest last kept =
     rw (last.alone, append-nil (map.entries leaf.rows))
     (record {
       rising = own_rows leaf.rows;
-      above = subst (λ (low : Option Bytes). LieBetween low None (map.entries leaf.rows)) last.begins (no_end leaf.low_fence leaf.high_fence (map.entries leaf.rows) kept.rows);
+      above = subst (λ (low : Option Bytes). LieBetween low None (map.entries leaf.rows)) last.begins
+          (no_end leaf.low_fence leaf.high_fence (map.entries leaf.rows) kept.rows);
     })
 
 pub rows_apart : (from : Option Bytes) (leaf : LeafView) (rest : List LeafView) (on : GoesOn from leaf rest)
@@ -50,8 +52,10 @@ more_rows from leaf rest on kept ordered = record {
   rising = ordered_both on.fence (map.entries leaf.rows) (all_rows rest) (own_rows leaf.rows) ordered.rising
       (rows_apart from leaf rest on (all_rows rest) kept ordered.above);
   above = all_appended _ (map.entries leaf.rows) (all_rows rest)
-      (subst (λ (low : Option Bytes). LieBetween low None (map.entries leaf.rows)) on.begins (no_end leaf.low_fence leaf.high_fence (map.entries leaf.rows) kept.rows))
-      (all_from _ _ (λ (row : Row) inside. upper_between from None on.fence row.0 (starts_weaker from on.fence on.above) inside) (all_rows rest) ordered.above);
+      (subst (λ (low : Option Bytes). LieBetween low None (map.entries leaf.rows)) on.begins
+      (no_end leaf.low_fence leaf.high_fence (map.entries leaf.rows) kept.rows))
+      (all_from _ _ (λ (row : Row) inside. upper_between from None on.fence row.0 (starts_weaker from on.fence on.above)
+      inside) (all_rows rest) ordered.above);
 }
 
 pub ordered_from : (from : Option Bytes) (leaves : List LeafView) → TileFrom from (parts_of leaves)
@@ -68,12 +72,15 @@ ordered_from from (leaf ∷ leaves) tile each =
 -- the first leaf's rows, and the table of the others
 two_tables : (leaf : LeafView) (rest : List LeafView) → AreInOrder (all_rows rest)
     → rows_of (leaf ∷ rest) ≡ table_of (map.entries leaf.rows ++ map.entries (rows_of rest))
-two_tables leaf rest ordered = ap (λ (more : List Row). table_of (map.entries leaf.rows ++ more)) (sym (entries-table_of (all_rows rest) ordered))
+two_tables leaf rest ordered =
+    ap (λ (more : List Row). table_of (map.entries leaf.rows ++ more)) (sym (entries-table_of (all_rows rest) ordered))
 
-module _ (from : Option Bytes) (leaf : LeafView) (rest : List LeafView) (on : GoesOn from leaf rest) (kept : IsLeaf leaf) (ordered : Ordered (Some on.fence) (all_rows rest)) where
+module _ (from : Option Bytes) (leaf : LeafView) (rest : List LeafView) (on : GoesOn from leaf rest)
+    (kept : IsLeaf leaf) (ordered : Ordered (Some on.fence) (all_rows rest)) where
   apart : Apart on.fence (map.entries leaf.rows) (map.entries (rows_of rest))
   apart = rows_apart from leaf rest on (map.entries (rows_of rest)) kept
-      (subst (λ (more : List Row). LieBetween (Some on.fence) None more) (sym (entries-table_of (all_rows rest) ordered.rising)) ordered.above)
+      (subst (λ (more : List Row). LieBetween (Some on.fence) None more)
+      (sym (entries-table_of (all_rows rest) ordered.rising)) ordered.above)
 
   value_under : (k : Bytes) → is_below k on.fence ≡ true → map.get (rows_of (leaf ∷ rest)) k ≡ map.get leaf.rows k
   value_under k under =
@@ -89,7 +96,8 @@ module _ (from : Option Bytes) (leaf : LeafView) (rest : List LeafView) (on : Go
 
   value_first : (k : Bytes) → is_in_fences leaf k ≡ true → map.get (rows_of (leaf ∷ rest)) k ≡ map.get leaf.rows k
   value_first k here =
-      value_under k (subst (λ (f : Option Bytes). ends_above f k ≡ true) on.ends (and_parts (starts_at_most leaf.low_fence k) (ends_above leaf.high_fence k) here).1)
+      value_under k (subst (λ (f : Option Bytes). ends_above f k ≡ true) on.ends
+      (and_parts (starts_at_most leaf.low_fence k) (ends_above leaf.high_fence k) here).1)
 
 value_alone : (from : Option Bytes) (leaf : LeafView) (rest : List LeafView) → IsLast from leaf rest
     → rows_of (leaf ∷ rest) ≡ leaf.rows
@@ -112,7 +120,8 @@ value_from from (leaf ∷ leaves) k tile each starts =
     elim (where_lies from leaf leaves k tile starts) [
       | inl here ↦ rw here (value_here from leaf leaves k tile each here)
       | inr later ↦
-          let ordered : Ordered (Some later.on.fence) (all_rows leaves) = ordered_from (Some later.on.fence) leaves later.on.later each.1 in
+          let ordered : Ordered (Some later.on.fence) (all_rows leaves) =
+          ordered_from (Some later.on.fence) leaves later.on.later each.1 in
           rw later.outside
           (value_past from leaf leaves later.on each.0 ordered k later.past
           ∙ value_from (Some later.on.fence) leaves k later.on.later each.1 (starts_later k later.on.fence later.past))

@@ -7,7 +7,9 @@ use Rattle.btree.specs.Nodes.{NodeView, under}
 
 pub under_append : (ns ms : List NodeView) → under (ns ++ ms) ≡ under ns ++ under ms
 under_append [] ms = refl
-under_append (n ∷ ns) ms = ap (λ (more : List LeafView). n.leaves ++ more) (under_append ns ms) ∙ sym (append_assoc n.leaves (under ns) (under ms))
+under_append (n ∷ ns) ms =
+    ap (λ (more : List LeafView). n.leaves ++ more) (under_append ns ms)
+    ∙ sym (append_assoc n.leaves (under ns) (under ms))
 
 -- one node more
 pub under_more : (ns : List NodeView) (i : ℕ) (d : NodeView) → i < length ns
@@ -29,10 +31,12 @@ under_parts (n ∷ ns) (suc i) d within =
 
 pub count_more : (ns : List NodeView) (i : ℕ) (d : NodeView) → i < length ns
     → length (under (take (suc i) ns)) ≡ length (under (take i ns)) + length (get_or ns i d).leaves
-count_more ns i d within = ap length (under_more ns i d within) ∙ length-append (under (take i ns)) (get_or ns i d).leaves
+count_more ns i d within =
+    ap length (under_more ns i d within) ∙ length-append (under (take i ns)) (get_or ns i d).leaves
 
 pub count_parts : (ns : List NodeView) (i : ℕ) (d : NodeView) → i < length ns
-    → length (under ns) ≡ length (under (take i ns)) + (length (get_or ns i d).leaves + length (under (drop (suc i) ns)))
+    → length (under ns) ≡ length (under (take i ns))
+    + (length (get_or ns i d).leaves + length (under (drop (suc i) ns)))
 count_parts ns i d within =
     ap length (under_parts ns i d within)
     ∙ length-append (under (take i ns)) ((get_or ns i d).leaves ++ under (drop (suc i) ns))
@@ -51,7 +55,13 @@ lies_later (n ∷ []) (suc i) place d there within past = absurd (omega (arith, 
 lies_later (n ∷ m ∷ ns) zero place d there within past = omega arith
 lies_later (n ∷ m ∷ ns) (suc i) place d there within past =
     let next : suc i < length (m ∷ ns) = lies_later (m ∷ ns) i (place - length n.leaves) d (omega (arith, there))
-    (omega (arith, within, past, length-append n.leaves (under (m ∷ ns)), length-append n.leaves (under (take i (m ∷ ns)))))
+    (omega (
+      arith,
+      within,
+      past,
+      length-append n.leaves (under (m ∷ ns)),
+      length-append n.leaves (under (take i (m ∷ ns))),
+    ))
     (omega (arith, past, length-append n.leaves (under (take i (m ∷ ns))))) in
     omega (arith, next)
 
@@ -69,7 +79,13 @@ under_inserted ns i n = under_append (take i ns) (n ∷ drop i ns)
 pub count_inserted : (ns : List NodeView) (i : ℕ) (n : NodeView)
     → length (under (insert ns i n)) ≡ length (under ns) + length n.leaves
 count_inserted ns i n =
-    omega (arith, ap length (under_inserted ns i n), length-append (under (take i ns)) (n.leaves ++ under (drop i ns)), length-append n.leaves (under (drop i ns)), count_halves ns i)
+    omega (
+      arith,
+      ap length (under_inserted ns i n),
+      length-append (under (take i ns)) (n.leaves ++ under (drop i ns)),
+      length-append n.leaves (under (drop i ns)),
+      count_halves ns i,
+    )
 
 pub under_removed : (ns : List NodeView) (i : ℕ) → under (remove ns i) ≡ under (take i ns) ++ under (drop (suc i) ns)
 under_removed ns i = under_append (take i ns) (drop (suc i) ns)

@@ -47,7 +47,8 @@ module _ (s : Span) (leaves : List LeafView) (p : ℕ) where
         let ys : List LeafView = drop p leaves in
         let same : x ≡ get_or ys (q - p) x = is ∙ get_or_default leaves q first x less ∙ sym (there q x le) in
         ap (found_in s) (sym (map-id (take (q - p) ys)))
-        ∙ found_stopped itself s leaves ys p kept_as at_as refl (q - p) x (omega (arith, le, less)) (within q le less) same past
+        ∙ found_stopped itself s leaves ys p kept_as at_as refl (q - p) x (omega (arith, le, less)) (within q le less)
+        same past
         ∙ all_as
 
     pub found_to_end : (q : ℕ) → length leaves ≤ q → found_to q ≡ rows_in s (rows_of leaves)

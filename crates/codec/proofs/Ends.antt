@@ -64,11 +64,13 @@ whole_or_bad limit left entire (long, inl none) = omega (arith, entire.some, non
 whole_or_bad limit left entire (long, inr much) = omega (arith, entire.allowed, much)
 
 told_short : (limit place : ℕ) (left : List ℕ) → IsCut limit left → IsEnd limit place left ends.Short
-told_short limit place left broken = short_end limit place left broken (cut_or_whole limit left broken) (cut_or_bad limit left broken)
+told_short limit place left broken =
+    short_end limit place left broken (cut_or_whole limit left broken) (cut_or_bad limit left broken)
 
 told_bad : (limit place : ℕ) (left : List ℕ) → IsNoLength limit left → IsEnd limit place left ends.Bad
 told_bad limit place left bad =
-    bad_end limit place left bad (λ entire. whole_or_bad limit left entire bad) (λ broken. cut_or_bad limit left broken bad)
+    bad_end limit place left bad (λ entire. whole_or_bad limit left entire bad)
+    (λ broken. cut_or_bad limit left broken bad)
 
 end_told : (limit place : ℕ) (left : List ℕ) → IsEnd limit place left (end_of (frame_at limit place left))
 end_told limit place left =
@@ -84,7 +86,8 @@ end_told limit place left =
 
 pub ends_so : (limit place : ℕ) (left : List ℕ) (t : Taken Bytes) → t ≡ frame_at limit place left
     → IsEnd limit place left (end_of t)
-ends_so limit place left t e = subst (λ (t : Taken Bytes). IsEnd limit place left (end_of t)) (sym e) (end_told limit place left)
+ends_so limit place left t e =
+    subst (λ (t : Taken Bytes). IsEnd limit place left (end_of t)) (sym e) (end_told limit place left)
 
 -- a body that was taken, of which this holds
 pub body_taken : (limit place : ℕ) (left : List ℕ) (Holds : List ℕ → Type 0) (body : Bytes) (next : ℕ)
@@ -96,7 +99,11 @@ body_taken limit place left Holds body next e holds =
       | above long much is ↦ absurd (let h : took.Record body next ≡ took.Bad place = e ∙ is in cc)
       | cut long some low lt is ↦ absurd (let h : took.Record body next ≡ took.Short = e ∙ is in cc)
       | whole long some low there is ↦
-          let h : took.Record body next ≡ took.Record (take (first_number left) (drop 8 left)) (place + (8 + first_number left)) = e ∙ is in
+          let h : took.Record body next
+          ≡ took.Record (take (first_number left) (drop 8 left)) (place + (8 + first_number left)) = e ∙ is in
           let same : body ≡ take (first_number left) (drop 8 left) = cc in
-          record { whole = record { header = long; some = some; allowed = low; there = there }; body = subst Holds same holds }
+          record {
+            whole = record { header = long; some = some; allowed = low; there = there };
+            body = subst Holds same holds;
+          }
     ]

@@ -33,8 +33,10 @@ same_reading bytes = omega arith
 pub number_in_front : (bytes : List ℕ) → IsBytes bytes → 8 ≤ length bytes → number (first_number bytes) ≡ take 8 bytes
 unfolding number first_number
 number_in_front bytes fits long =
-    let front : big_number 8 bytes ≡ from_be_bytes w64 (take 8 bytes) = sym (big_from-take 0 8 8 bytes (omega arith)) ∙ same_reading (take 8 bytes) in
-    be_bytes_8 (take 8 bytes) (big_number 8 bytes) (omega (arith, length-take 8 bytes)) (IsBytes-take 8 bytes fits) front
+    let front : big_number 8 bytes ≡ from_be_bytes w64 (take 8 bytes) =
+    sym (big_from-take 0 8 8 bytes (omega arith)) ∙ same_reading (take 8 bytes) in
+    be_bytes_8 (take 8 bytes) (big_number 8 bytes) (omega (arith, length-take 8 bytes)) (IsBytes-take 8 bytes fits)
+    front
 
 -- the number that was written in front, whatever follows
 pub first_number-number : (n : ℕ) (rest : List ℕ) → n < 2 ^ 64 → first_number (number n ++ rest) ≡ n
@@ -45,14 +47,21 @@ below_reads : (bound : ℕ) → bound ≤ 2 ^ 64 → IsReader ℕ number (λ n. 
 unfolding below_at
 below_reads bound small = record {
   takes = λ bytes x fits e.
-      let g = guard_none (ltb (length bytes) 8) (cond (ltb (first_number bytes) bound) (Some (first_number bytes, drop 8 bytes)) None) x e in
+      let g = guard_none (ltb (length bytes) 8)
+      (cond (ltb (first_number bytes) bound) (Some (first_number bytes, drop 8 bytes)) None) x e in
       let h = cond_some (ltb (first_number bytes) bound) (first_number bytes, drop 8 bytes) x g.1 in
       let long : 8 ≤ length bytes = ltb-false _ _ g.0 in
       let below : first_number bytes < bound = ltb-true _ _ h.0 in
-      subst (λ (z : ℕ × List ℕ). Takes bytes (number z.0) z.1 × (z.0 < bound)) h.1
-      (record { parts = rw (number_in_front bytes fits long) (sym (take-append-drop 8 bytes)); rest_fits = IsBytes-drop 8 bytes fits }, below);
+      subst (λ (z : ℕ × List ℕ). Takes bytes (number z.0) z.1 × (z.0 < bound)) h.1 (
+        record {
+          parts = rw (number_in_front bytes fits long) (sym (take-append-drop 8 bytes));
+          rest_fits = IsBytes-drop 8 bytes fits;
+        },
+        below,
+      );
   again = λ n rest lt.
-      let long : ltb (length (number n ++ rest)) 8 ≡ false = le-ltb _ _ (omega (arith, length-append (number n) rest, length-number n)) in
+      let long : ltb (length (number n ++ rest)) 8 ≡ false =
+      le-ltb _ _ (omega (arith, length-append (number n) rest, length-number n)) in
       let low : ltb n bound ≡ true = lt-ltb _ _ lt in
       let fits : n < 2 ^ 64 = omega arith in
       rw (long, first_number-number n rest fits, low, drop_at (number n) rest 8 (length-number n)) refl;
@@ -77,7 +86,10 @@ bytes_takes (n ∷ rest) x fits e =
     let rest_fits : IsBytes rest = λ i. fits (suc i) in
     let made : Bytes × List ℕ = (take n rest, drop n rest) in
     subst (λ (z : Bytes × List ℕ). Takes (n ∷ rest) (text z.0) z.1) (same_Some made x g.1)
-    (record { parts = rw len (ap (λ (w : List ℕ). n ∷ w) (sym (take-append-drop n rest))); rest_fits = IsBytes-drop n rest rest_fits })
+    (record {
+      parts = rw len (ap (λ (w : List ℕ). n ∷ w) (sym (take-append-drop n rest)));
+      rest_fits = IsBytes-drop n rest rest_fits;
+    })
 
 bytes_again : (t : Bytes) (rest : List ℕ) → bytes_at (text t ++ rest) ≡ Some (t, rest)
 unfolding bytes_at
@@ -88,7 +100,8 @@ bytes_again t rest =
 pub text_reads : (low high : ℕ) → IsReader Bytes text (HasLength low high) (text_at low high)
 text_reads low high = record {
   takes = λ bytes x fits e.
-      let a = bind_some (bytes_at bytes) (λ t. cond (ltb (length t.0) low) None (cond (ltb high (length t.0)) None (Some t))) x e in
+      let a = bind_some (bytes_at bytes)
+      (λ t. cond (ltb (length t.0) low) None (cond (ltb high (length t.0)) None (Some t))) x e in
       let g = guard_none (ltb (length a.0.0) low) (cond (ltb high (length a.0.0)) None (Some a.0)) x a.2 in
       let h = guard_none (ltb high (length a.0.0)) (Some a.0) x g.1 in
       let above : low ≤ length a.0.0 = ltb-false _ _ g.0 in
@@ -136,7 +149,8 @@ optional_again : (X : Type 0) (spell : X → List ℕ) (Fits : X → Type 0) (re
     (o : Option X) (rest : List ℕ) → IfSome o Fits → optional_at read (optional spell o ++ rest) ≡ Some (o, rest)
 unfolding flag_at
 optional_again X spell Fits read law None rest fits = refl
-optional_again X spell Fits read law (Some x) rest fits = mapped_again X (Option X) spell Fits read law (λ x. Some x) x rest fits
+optional_again X spell Fits read law (Some x) rest fits =
+    mapped_again X (Option X) spell Fits read law (λ x. Some x) x rest fits
 
 -- what is read behind a flag
 after_flag : (X : Type 0) (spell : X → List ℕ) (Fits : X → Type 0) (read : Reader X) → IsReader X spell Fits read →
@@ -145,7 +159,8 @@ after_flag : (X : Type 0) (spell : X → List ℕ) (Fits : X → Type 0) (read :
     → Takes bytes (optional spell x.0) x.1 × IfSome x.0 Fits
 after_flag X spell Fits read law false bytes rest x front e =
     let made : Option X × List ℕ = (None, rest) in
-    subst (λ (z : Option X × List ℕ). Takes bytes (optional spell z.0) z.1 × IfSome z.0 Fits) (same_Some made x e) (front, tt)
+    subst (λ (z : Option X × List ℕ). Takes bytes (optional spell z.0) z.1 × IfSome z.0 Fits) (same_Some made x e)
+    (front, tt)
 after_flag X spell Fits read law true bytes rest x front e =
     let a = bind_some (read rest) (λ y. Some (Some y.0, y.1)) x e in
     let t = law.takes rest a.0 front.rest_fits a.1 in
@@ -173,27 +188,33 @@ IsRow r = IsKey r.0 × IsValue r.1
 
 op_again : (o : Op) (rest : List ℕ) → IsOp o → op_at (op_bytes o ++ rest) ≡ Some (o, rest)
 unfolding op_bytes op_at
-op_again (Insert key value) rest fits = mapped_again (Bytes × Bytes) Op row_text IsRow row_at row_reads (λ p. Insert p.0 p.1) (key, value) rest fits
-op_again (Update key value) rest fits = mapped_again (Bytes × Bytes) Op row_text IsRow row_at row_reads (λ p. Update p.0 p.1) (key, value) rest fits
-op_again (Upsert key value) rest fits = mapped_again (Bytes × Bytes) Op row_text IsRow row_at row_reads (λ p. Upsert p.0 p.1) (key, value) rest fits
+op_again (Insert key value) rest fits =
+    mapped_again (Bytes × Bytes) Op row_text IsRow row_at row_reads (λ p. Insert p.0 p.1) (key, value) rest fits
+op_again (Update key value) rest fits =
+    mapped_again (Bytes × Bytes) Op row_text IsRow row_at row_reads (λ p. Update p.0 p.1) (key, value) rest fits
+op_again (Upsert key value) rest fits =
+    mapped_again (Bytes × Bytes) Op row_text IsRow row_at row_reads (λ p. Upsert p.0 p.1) (key, value) rest fits
 op_again (Delete key) rest fits = mapped_again Bytes Op text IsKey key_at key_reads (λ k. Delete k) key rest fits
 
 row_choice : (kind : ℕ) (make : Bytes × Bytes → Op) → ((r : Bytes × Bytes) → op_bytes (make r) ≡ kind ∷ row_text r)
     → ((r : Bytes × Bytes) → IsRow r → IsOp (make r)) → IsChoice Op op_bytes IsOp (kind, mapped make row_at)
-row_choice kind make is_spelled has = mapped_choice (Bytes × Bytes) Op row_text IsRow row_at op_bytes IsOp row_reads kind make is_spelled has
+row_choice kind make is_spelled has =
+    mapped_choice (Bytes × Bytes) Op row_text IsRow row_at op_bytes IsOp row_reads kind make is_spelled has
 
 pub op_reads : IsReader Op op_bytes IsOp op_at
 unfolding op_bytes op_at
 op_reads = record {
   takes = one_of_takes Op op_bytes IsOp
-      ((1, mapped (λ p. Insert p.0 p.1) row_at) ∷ (2, mapped (λ p. Update p.0 p.1) row_at) ∷ (3, mapped (λ p. Upsert p.0 p.1) row_at) ∷ (4, mapped (λ key. Delete key) key_at) ∷ []) (
+      ((1, mapped (λ p. Insert p.0 p.1) row_at) ∷ (2, mapped (λ p. Update p.0 p.1) row_at)
+      ∷ (3, mapped (λ p. Upsert p.0 p.1) row_at) ∷ (4, mapped (λ key. Delete key) key_at) ∷ []) (
         row_choice 1 (λ p. Insert p.0 p.1) (λ r. refl) (λ r has. has),
         (
           row_choice 2 (λ p. Update p.0 p.1) (λ r. refl) (λ r has. has),
           (
             row_choice 3 (λ p. Upsert p.0 p.1) (λ r. refl) (λ r has. has),
             (
-              mapped_choice Bytes Op text IsKey key_at op_bytes IsOp key_reads 4 (λ key. Delete key) (λ key. refl) (λ key has. has),
+              mapped_choice Bytes Op text IsKey key_at op_bytes IsOp key_reads 4 (λ key. Delete key) (λ key. refl)
+                  (λ key has. has),
               tt,
             ),
           ),
@@ -220,7 +241,8 @@ answer_again NoRecord rest fits = refl
 
 value_choice : (kind : ℕ) (make : Bytes → Answer) → ((v : Bytes) → answer_bytes (make v) ≡ kind ∷ text v)
     → ((v : Bytes) → IsValue v → IsAnswer (make v)) → IsChoice Answer answer_bytes IsAnswer (kind, mapped make value_at)
-value_choice kind make is_spelled has = mapped_choice Bytes Answer text IsValue value_at answer_bytes IsAnswer value_reads kind make is_spelled has
+value_choice kind make is_spelled has =
+    mapped_choice Bytes Answer text IsValue value_at answer_bytes IsAnswer value_reads kind make is_spelled has
 
 plain_choice : (kind : ℕ) (a : Answer) → answer_bytes a ≡ kind ∷ [] → IsAnswer a
     → IsChoice Answer answer_bytes IsAnswer (kind, fixed a)
@@ -230,7 +252,9 @@ pub answer_reads : IsReader Answer answer_bytes IsAnswer answer_at
 unfolding answer_bytes answer_at
 answer_reads = record {
   takes = one_of_takes Answer answer_bytes IsAnswer
-      ((1, fixed Inserted) ∷ (2, mapped (λ v. Updated v) value_at) ∷ (3, fixed (Was None)) ∷ (4, mapped (λ v. Was (Some v)) value_at) ∷ (5, mapped (λ v. Deleted v) value_at) ∷ (6, fixed Exists) ∷ (7, fixed NoRecord) ∷ []) (
+      ((1, fixed Inserted) ∷ (2, mapped (λ v. Updated v) value_at) ∷ (3, fixed (Was None))
+      ∷ (4, mapped (λ v. Was (Some v)) value_at) ∷ (5, mapped (λ v. Deleted v) value_at) ∷ (6, fixed Exists)
+      ∷ (7, fixed NoRecord) ∷ []) (
         plain_choice 1 Inserted refl tt,
         (
           value_choice 2 (λ v. Updated v) (λ v. refl) (λ v has. has),

@@ -24,7 +24,8 @@ all_takes X spell Fits read law body x fits e =
     let g = cond_some (eqb (length a.0.1) 0) a.0.0 x a.2 in
     let t = law.takes body a.0 fits a.1 in
     let nothing : a.0.1 ≡ [] = nil_from_length a.0.1 (eqb-true _ _ g.0) in
-    let whole : body ≡ spell a.0.0 = t.0.parts ∙ ap (λ (r : List ℕ). spell a.0.0 ++ r) nothing ∙ append-nil (spell a.0.0) in
+    let whole : body ≡ spell a.0.0 =
+    t.0.parts ∙ ap (λ (r : List ℕ). spell a.0.0 ++ r) nothing ∙ append-nil (spell a.0.0) in
     subst (λ (z : X). (body ≡ spell z) × Fits z) g.1 (whole, t.1)
 
 all_again : (X : Type 0) (spell : X → List ℕ) (Fits : X → Type 0) (read : Reader X) → IsReader X spell Fits read →
@@ -60,8 +61,10 @@ why limit place left =
         | inr some ↦ elim (cases_Bool (ltb limit (first_number left))) [
           | inl much ↦ above (ltb-false _ _ long) (ltb-true _ _ much) (rw (long, some, much) refl)
           | inr fits ↦ elim (cases_Bool (ltb (length left) (8 + first_number left))) [
-            | inl ends ↦ cut (ltb-false _ _ long) (eqb-no _ some) (ltb-false _ _ fits) (ltb-true _ _ ends) (rw (long, some, fits, ends) refl)
-            | inr there ↦ whole (ltb-false _ _ long) (eqb-no _ some) (ltb-false _ _ fits) (ltb-false _ _ there) (rw (long, some, fits, there) refl)
+            | inl ends ↦ cut (ltb-false _ _ long) (eqb-no _ some) (ltb-false _ _ fits) (ltb-true _ _ ends)
+                (rw (long, some, fits, ends) refl)
+            | inr there ↦ whole (ltb-false _ _ long) (eqb-no _ some) (ltb-false _ _ fits) (ltb-false _ _ there)
+                (rw (long, some, fits, there) refl)
           ]
         ]
       ]
@@ -80,36 +83,59 @@ value_is X place next None x m e = absurd cc
 whole_is_there : (X : Type 0) (spell : X → List ℕ) (Fits : X → Type 0) (read : Reader X) → IsReader X spell Fits read →
     (place : ℕ) (left : List ℕ) (x : X) (next : ℕ) → IsBytes left → 8 ≤ length left
     → 8 + first_number left ≤ length left
-    → value_or_bad place (place + (8 + first_number left)) (all_of read (take (first_number left) (drop 8 left))) ≡ took.Record x next
+    → value_or_bad place (place + (8 + first_number left)) (all_of read (take (first_number left) (drop 8 left)))
+    ≡ took.Record x next
     → IsThere X spell Fits place left x next
 whole_is_there X spell Fits read law place left x next fits long there e =
     let n = first_number left in
     let body = take n (drop 8 left) in
     let v = value_is X place (place + (8 + n)) (all_of read body) x next e in
     let a = all_takes X spell Fits read law body x (IsBytes-take n (drop 8 left) (IsBytes-drop 8 left fits)) v.0 in
-    let len : length (spell x) ≡ n = sym (ap length a.0) ∙ omega (arith, length-take n (drop 8 left), length-drop 8 left) in
+    let len : length (spell x) ≡ n =
+    sym (ap length a.0) ∙ omega (arith, length-take n (drop 8 left), length-drop 8 left) in
     let header : number (length (spell x)) ≡ take 8 left = ap number len ∙ number_in_front left fits long in
-    let split : left ≡ take 8 left ++ (body ++ drop n (drop 8 left)) = sym (take-append-drop 8 left) ∙ ap (λ (t : List ℕ). take 8 left ++ t) (sym (take-append-drop n (drop 8 left))) in
-    let framed : left ≡ frame (spell x) ++ drop n (drop 8 left) = split ∙ sym (append_assoc (take 8 left) body (drop n (drop 8 left))) ∙ ap (λ (t : List ℕ). (t ++ body) ++ drop n (drop 8 left)) (sym header) ∙ ap (λ (t : List ℕ). (number (length (spell x)) ++ t) ++ drop n (drop 8 left)) a.0 in
-    let rest : drop (length (frame (spell x))) left ≡ drop n (drop 8 left) = ap (drop (length (frame (spell x)))) framed ∙ drop_at (frame (spell x)) (drop n (drop 8 left)) (length (frame (spell x))) refl in
-    record { fits = a.1; parts = framed ∙ ap (λ (t : List ℕ). frame (spell x) ++ t) (sym rest); next_is = omega (arith, v.1, length-frame (spell x), len) }
+    let split : left ≡ take 8 left ++ (body ++ drop n (drop 8 left)) =
+    sym (take-append-drop 8 left)
+    ∙ ap (λ (t : List ℕ). take 8 left ++ t) (sym (take-append-drop n (drop 8 left))) in
+    let framed : left ≡ frame (spell x) ++ drop n (drop 8 left) =
+    split ∙ sym (append_assoc (take 8 left) body (drop n (drop 8 left)))
+    ∙ ap (λ (t : List ℕ). (t ++ body) ++ drop n (drop 8 left)) (sym header)
+    ∙ ap (λ (t : List ℕ). (number (length (spell x)) ++ t) ++ drop n (drop 8 left)) a.0 in
+    let rest : drop (length (frame (spell x))) left ≡ drop n (drop 8 left) =
+    ap (drop (length (frame (spell x)))) framed
+    ∙ drop_at (frame (spell x)) (drop n (drop 8 left)) (length (frame (spell x))) refl in
+    record {
+      fits = a.1;
+      parts = framed ∙ ap (λ (t : List ℕ). frame (spell x) ++ t) (sym rest);
+      next_is = omega (arith, v.1, length-frame (spell x), len);
+    }
 
 is_there : (X : Type 0) (spell : X → List ℕ) (Fits : X → Type 0) (read : Reader X) → IsReader X spell Fits read →
-    (limit place : ℕ) (left : List ℕ) (t : Taken Bytes) (x : X) (next : ℕ) → IsBytes left → Why limit place left t → within place read t ≡ took.Record x next → IsThere X spell Fits place left x next
+    (limit place : ℕ) (left : List ℕ) (t : Taken Bytes) (x : X) (next : ℕ) → IsBytes left → Why limit place left t
+    → within place read t ≡ took.Record x next → IsThere X spell Fits place left x next
 is_there X spell Fits read law limit place left t x next fits cause e =
     elim cause [
-      | few lt is ↦ absurd (let h : within place read took.Short ≡ took.Record x next = sym (ap (within place read) is) ∙ e in cc)
-      | empty long none is ↦ absurd (let h : within place read (took.Bad place) ≡ took.Record x next = sym (ap (within place read) is) ∙ e in cc)
-      | above long much is ↦ absurd (let h : within place read (took.Bad place) ≡ took.Record x next = sym (ap (within place read) is) ∙ e in cc)
-      | cut long some low lt is ↦ absurd (let h : within place read took.Short ≡ took.Record x next = sym (ap (within place read) is) ∙ e in cc)
+      | few lt is ↦ absurd (let h : within place read took.Short ≡ took.Record x next = sym (ap (within place read) is)
+          ∙ e in cc)
+      | empty long none is ↦ absurd
+          (let h : within place read (took.Bad place) ≡ took.Record x next = sym (ap (within place read) is) ∙ e in cc)
+      | above long much is ↦ absurd
+          (let h : within place read (took.Bad place) ≡ took.Record x next = sym (ap (within place read) is) ∙ e in cc)
+      | cut long some low lt is ↦
+          absurd (let h : within place read took.Short ≡ took.Record x next = sym (ap (within place read) is) ∙ e in cc)
       | whole long some low there is ↦
-          let h : within place read (took.Record (take (first_number left) (drop 8 left)) (place + (8 + first_number left))) ≡ took.Record x next = sym (ap (within place read) is) ∙ e in
+          let h : within place read
+          (took.Record (take (first_number left) (drop 8 left)) (place + (8 + first_number left)))
+          ≡ took.Record x next = sym (ap (within place read) is) ∙ e in
           whole_is_there X spell Fits read law place left x next fits long there h
     ]
 
 pub found : (X : Type 0) (spell : X → List ℕ) (Fits : X → Type 0) (read : Reader X) → IsReader X spell Fits read →
-    (limit place : ℕ) (left : List ℕ) (result : Taken X) → IsBytes left → result ≡ within place read (frame_at limit place left) → IfTaken result (IsThere X spell Fits place left)
-found X spell Fits read law limit place left (took.Record x next) fits e = is_there X spell Fits read law limit place left (frame_at limit place left) x next fits (why limit place left) (sym e)
+    (limit place : ℕ) (left : List ℕ) (result : Taken X) → IsBytes left → result
+    ≡ within place read (frame_at limit place left) → IfTaken result (IsThere X spell Fits place left)
+found X spell Fits read law limit place left (took.Record x next) fits e =
+    is_there X spell Fits read law limit place left (frame_at limit place left) x next fits (why limit place left)
+    (sym e)
 found X spell Fits read law limit place left took.Short fits e = tt
 found X spell Fits read law limit place left (took.Bad at) fits e = tt
 
@@ -119,21 +145,26 @@ found X spell Fits read law limit place left (took.Bad at) fits e = tt
 pub length_there : (body left rest : List ℕ) → length body < 2 ^ 64 → left ≡ frame body ++ rest
     → first_number left ≡ length body
 length_there body left rest short e =
-    ap first_number (e ∙ append_assoc (number (length body)) body rest) ∙ first_number-number (length body) (body ++ rest) short
+    ap first_number (e ∙ append_assoc (number (length body)) body rest)
+    ∙ first_number-number (length body) (body ++ rest) short
 
 pub body_there : (body left rest : List ℕ) → length body < 2 ^ 64 → left ≡ frame body ++ rest
     → take (first_number left) (drop 8 left) ≡ body
 body_there body left rest short e =
-    let after : drop 8 left ≡ body ++ rest = ap (drop 8) (e ∙ append_assoc (number (length body)) body rest) ∙ drop_at (number (length body)) (body ++ rest) 8 (length-number (length body)) in
+    let after : drop 8 left ≡ body ++ rest =
+    ap (drop 8) (e ∙ append_assoc (number (length body)) body rest)
+    ∙ drop_at (number (length body)) (body ++ rest) 8 (length-number (length body)) in
     rw (length_there body left rest short e, after) (take_at body rest (length body) refl)
 
 pub only : (X : Type 0) (spell : X → List ℕ) (Fits : X → Type 0) (read : Reader X) → IsReader X spell Fits read →
-    (limit place : ℕ) (left : List ℕ) (x : X) (rest : List ℕ) → Fits x → 0 < length (spell x) → length (spell x) ≤ limit → limit < 2 ^ 64
+    (limit place : ℕ) (left : List ℕ) (x : X) (rest : List ℕ) → Fits x → 0 < length (spell x) → length (spell x) ≤ limit
+    → limit < 2 ^ 64
     → left ≡ frame (spell x) ++ rest
     → within place read (frame_at limit place left) ≡ took.Record x (place + length (frame (spell x)))
 only X spell Fits read law limit place left x rest fits some low small e =
     let body = spell x in
-    let len : length left ≡ 8 + length body + length rest = ap length e ∙ omega (arith, length-append (frame body) rest, length-frame body) in
+    let len : length left ≡ 8 + length body + length rest =
+    ap length e ∙ omega (arith, length-append (frame body) rest, length-frame body) in
     let fits_word : length body < 2 ^ 64 = omega arith in
     let n = length_there body left rest fits_word e in
     let text = body_there body left rest fits_word e in
@@ -154,7 +185,8 @@ pub only_any : (X : Type 0) (spell : X → List ℕ) (Fits : X → Type 0) (read
     → left ≡ frame (spell x) ++ rest
     → within place read (frame_at any_length place left) ≡ took.Record x (place + length (frame (spell x)))
 only_any X spell Fits read law place left x rest fits some there e =
-    let len : length left ≡ 8 + length (spell x) + length rest = ap length e ∙ omega (arith, length-append (frame (spell x)) rest, length-frame (spell x)) in
+    let len : length left ≡ 8 + length (spell x) + length rest =
+    ap length e ∙ omega (arith, length-append (frame (spell x)) rest, length-frame (spell x)) in
     only X spell Fits read law any_length place left x rest fits some (omega arith) (omega arith) e
 
 -- ---- Short and Bad
@@ -187,15 +219,20 @@ short_is_cut : (X : Type 0) (read : Reader X) (limit place : ℕ) (left : List �
 short_is_cut X read limit place left e =
     elim (why limit place left) [
       | few low is ↦ inl low
-      | empty long none is ↦ absurd (let h : within place read (took.Bad place) ≡ took.Short = sym (ap (within place read) is) ∙ e in cc)
-      | above long much is ↦ absurd (let h : within place read (took.Bad place) ≡ took.Short = sym (ap (within place read) is) ∙ e in cc)
+      | empty long none is ↦ absurd
+          (let h : within place read (took.Bad place) ≡ took.Short = sym (ap (within place read) is) ∙ e in cc)
+      | above long much is ↦ absurd
+          (let h : within place read (took.Bad place) ≡ took.Short = sym (ap (within place read) is) ∙ e in cc)
       | cut long one low less is ↦ inr (one, low, long, less)
-      | whole long one low there is ↦ absurd (never_short X place (place + (8 + first_number left)) (all_of read (take (first_number left) (drop 8 left))) (sym (ap (within place read) is) ∙ e))
+      | whole long one low there is ↦
+          absurd (never_short X place (place + (8 + first_number left))
+          (all_of read (take (first_number left) (drop 8 left))) (sym (ap (within place read) is) ∙ e))
     ]
 
 pub short : (X : Type 0) (read : Reader X) (limit place : ℕ) (left : List ℕ) (result : Taken X)
     → result ≡ within place read (frame_at limit place left) → (result ≡ took.Short) ↔ IsCut limit left
-short X read limit place left result e = (λ s. short_is_cut X read limit place left (sym e ∙ s), λ c. e ∙ cut_is_short X read limit place left c)
+short X read limit place left result e =
+    (λ s. short_is_cut X read limit place left (sym e ∙ s), λ c. e ∙ cut_is_short X read limit place left c)
 
 bad_value : (X : Type 0) (place next : ℕ) (o : Option X) (at : ℕ) → value_or_bad place next o ≡ took.Bad at → at ≡ place
 bad_value X place next (Some x) at e = absurd cc
@@ -205,11 +242,17 @@ bad_place : (X : Type 0) (read : Reader X) (limit place : ℕ) (left : List ℕ)
     → within place read (frame_at limit place left) ≡ took.Bad at → at ≡ place
 bad_place X read limit place left at e =
     elim (why limit place left) [
-      | few low is ↦ absurd (let h : within place read took.Short ≡ took.Bad at = sym (ap (within place read) is) ∙ e in cc)
-      | empty long none is ↦ (let h : within place read (took.Bad place) ≡ took.Bad at = sym (ap (within place read) is) ∙ e in cc)
-      | above long much is ↦ (let h : within place read (took.Bad place) ≡ took.Bad at = sym (ap (within place read) is) ∙ e in cc)
-      | cut long one low less is ↦ absurd (let h : within place read took.Short ≡ took.Bad at = sym (ap (within place read) is) ∙ e in cc)
-      | whole long one low there is ↦ bad_value X place (place + (8 + first_number left)) (all_of read (take (first_number left) (drop 8 left))) at (sym (ap (within place read) is) ∙ e)
+      | few low is ↦ absurd (let h : within place read took.Short ≡ took.Bad at = sym (ap (within place read) is) ∙ e in
+          cc)
+      | empty long none is ↦ (let h : within place read (took.Bad place) ≡ took.Bad at = sym (ap (within place read) is)
+          ∙ e in cc)
+      | above long much is ↦ (let h : within place read (took.Bad place) ≡ took.Bad at = sym (ap (within place read) is)
+          ∙ e in cc)
+      | cut long one low less is ↦
+          absurd (let h : within place read took.Short ≡ took.Bad at = sym (ap (within place read) is) ∙ e in cc)
+      | whole long one low there is ↦
+          bad_value X place (place + (8 + first_number left)) (all_of read (take (first_number left) (drop 8 left))) at
+          (sym (ap (within place read) is) ∙ e)
     ]
 
 pub bad : (X : Type 0) (read : Reader X) (limit place : ℕ) (left : List ℕ) (result : Taken X)
@@ -258,17 +301,22 @@ pub one_frame_of : (X : Type 0) (spell : X → List ℕ) (Fits : X → Type 0) (
 one_frame_of X spell Fits read law limit small a b x y p q bound_a bound_b e =
     let one = only X spell Fits read law limit 0 (frame (spell a) ++ x) a x p bound_a.0 bound_a.1 small refl in
     let two = only X spell Fits read law limit 0 (frame (spell a) ++ x) b y q bound_b.0 bound_b.1 small e in
-    let same : took.Record a (0 + length (frame (spell a))) ≡ took.Record b (0 + length (frame (spell b))) = sym one ∙ two in
+    let same : took.Record a (0 + length (frame (spell a))) ≡ took.Record b (0 + length (frame (spell b))) =
+    sym one ∙ two in
     let values : a ≡ b = cc in
     let framed : frame (spell a) ≡ frame (spell b) = ap (λ (z : X). frame (spell z)) values in
-    let rest : frame (spell a) ++ x ≡ frame (spell a) ++ y = e ∙ ap (λ (f : List ℕ). f ++ y) (sym framed) in
-    (values, sym (drop_at (frame (spell a)) x (length (frame (spell a))) refl) ∙ ap (drop (length (frame (spell a)))) rest ∙ drop_at (frame (spell a)) y (length (frame (spell a))) refl)
+    let rest : frame (spell a) ++ x ≡ frame (spell a) ++ y = e ∙ ap (λ (f : List ℕ). f ++ y) (sym framed) in (
+      values,
+      sym (drop_at (frame (spell a)) x (length (frame (spell a))) refl)
+          ∙ ap (drop (length (frame (spell a)))) rest ∙ drop_at (frame (spell a)) y (length (frame (spell a))) refl,
+    )
 
 -- the same where a limit holds for all
 pub one_frame : (X : Type 0) (spell : X → List ℕ) (Fits : X → Type 0) (read : Reader X) → IsReader X spell Fits read →
     (limit : ℕ) → ((x : X) → Fits x → (0 < length (spell x)) × (length (spell x) ≤ limit)) → limit < 2 ^ 64
     → (a b : X) (x y : List ℕ) → Fits a → Fits b → frame (spell a) ++ x ≡ frame (spell b) ++ y → (a ≡ b) × (x ≡ y)
-one_frame X spell Fits read law limit bounds small a b x y p q e = one_frame_of X spell Fits read law limit small a b x y p q (bounds a p) (bounds b q) e
+one_frame X spell Fits read law limit bounds small a b x y p q e =
+    one_frame_of X spell Fits read law limit small a b x y p q (bounds a p) (bounds b q) e
 
 -- frames one after another spell one list
 pub one_list : (X : Type 0) (spell : X → List ℕ) (Fits : X → Type 0) (read : Reader X) → IsReader X spell Fits read →
@@ -278,14 +326,18 @@ pub one_list : (X : Type 0) (spell : X → List ℕ) (Fits : X → Type 0) (read
     → flat_map (λ x. frame (spell x)) xs ≡ flat_map (λ x. frame (spell x)) ys → xs ≡ ys
 one_list X spell Fits read law limit small Framed fits bounds [] [] all_x all_y e = refl
 one_list X spell Fits read law limit small Framed fits bounds [] (y ∷ ys) all_x all_y e =
-    absurd (let none : 0 ≡ length (frame (spell y) ++ flat_map (λ x. frame (spell x)) ys) = ap length (e ∙ flat_map-cons (λ x. frame (spell x)) y ys) in
+    absurd (let none : 0 ≡ length (frame (spell y) ++ flat_map (λ x. frame (spell x)) ys) = ap length
+    (e ∙ flat_map-cons (λ x. frame (spell x)) y ys) in
     omega (arith, none, length-append (frame (spell y)) (flat_map (λ x. frame (spell x)) ys), length-frame (spell y)))
 one_list X spell Fits read law limit small Framed fits bounds (x ∷ xs) [] all_x all_y e =
-    absurd (let none : 0 ≡ length (frame (spell x) ++ flat_map (λ x. frame (spell x)) xs) = ap length (sym e ∙ flat_map-cons (λ x. frame (spell x)) x xs) in
+    absurd (let none : 0 ≡ length (frame (spell x) ++ flat_map (λ x. frame (spell x)) xs) = ap length
+    (sym e ∙ flat_map-cons (λ x. frame (spell x)) x xs) in
     omega (arith, none, length-append (frame (spell x)) (flat_map (λ x. frame (spell x)) xs), length-frame (spell x)))
 one_list X spell Fits read law limit small Framed fits bounds (x ∷ xs) (y ∷ ys) all_x all_y e =
-    let parts : frame (spell x) ++ flat_map (λ x. frame (spell x)) xs ≡ frame (spell y) ++ flat_map (λ x. frame (spell x)) ys =
+    let parts : frame (spell x) ++ flat_map (λ x. frame (spell x)) xs ≡ frame (spell y)
+    ++ flat_map (λ x. frame (spell x)) ys =
     sym (flat_map-cons (λ x. frame (spell x)) x xs) ∙ e ∙ flat_map-cons (λ x. frame (spell x)) y ys in
-    let one = one_frame_of X spell Fits read law limit small x y _ _ (fits x all_x.0) (fits y all_y.0) (bounds x all_x.0) (bounds y all_y.0) parts in
+    let one = one_frame_of X spell Fits read law limit small x y _ _ (fits x all_x.0) (fits y all_y.0)
+    (bounds x all_x.0) (bounds y all_y.0) parts in
     let rest : xs ≡ ys = one_list X spell Fits read law limit small Framed fits bounds xs ys all_x.1 all_y.1 one.1 in
     λ i. one.0 i ∷ rest i

@@ -24,14 +24,19 @@ AreParts image =
     × ((IfSome image.low_fence IsKey × IfSome image.high_fence IsKey) × (AreRows image.rows × AreEntries image.entries))
 
 parts_of : LeafImage → ImageParts
-parts_of image = ((image.id, (image.last, image.low)), ((image.low_fence, image.high_fence), (image.rows, image.entries)))
+parts_of image = (
+  (image.id, (image.last, image.low)),
+  ((image.low_fence, image.high_fence), (image.rows, image.entries)),
+)
 
 fence_reads : IsReader (Option Bytes) (optional text) (λ o. IfSome o IsKey) (optional_at key_at)
 fence_reads = optional_reads Bytes text IsKey key_at key_reads
 
 parts_read : IsReader LeafImage image_bytes AreParts (mapped image_of image_parts_at)
 unfolding image_bytes parts_of
-parts_read = mapped_reads _ LeafImage _ _ _ image_bytes AreParts (both (both number_reads (both number_reads number_reads)) (both (both fence_reads fence_reads) (both rows_read entries_read)))
+parts_read = mapped_reads _ LeafImage _ _ _ image_bytes AreParts
+    (both (both number_reads (both number_reads number_reads))
+    (both (both fence_reads fence_reads) (both rows_read entries_read)))
     image_of parts_of (λ p. refl) (λ p has. has) (λ image. refl) (λ image has. has)
 
 -- a test that all pass
@@ -70,7 +75,8 @@ bounds_from image h =
 
 from_bounds : (image : LeafImage) → KeepsBounds image → keeps_bounds image ≡ true
 from_bounds image h =
-    and_from _ _ (passed _ image.rows h.rows) (and_from _ _ (passed _ image.entries h.entries) (above_rise image.low image.entries h.rising))
+    and_from _ _ (passed _ image.rows h.rows)
+    (and_from _ _ (passed _ image.entries h.entries) (above_rise image.low image.entries h.rising))
 
 is_image : (image : LeafImage) → AreParts image × (keeps_bounds image ≡ true) → IsImage image
 is_image image fits = record {
@@ -86,11 +92,16 @@ is_image image fits = record {
 
 pub image_reads : IsReader LeafImage image_bytes IsImage image_at
 unfolding image_at
-image_reads = fits_as (where_reads LeafImage image_bytes AreParts (mapped image_of image_parts_at) parts_read keeps_bounds) IsImage is_image
-    (λ image fits. (((fits.id, (fits.last, fits.low)), ((fits.low_fence, fits.high_fence), (fits.rows, fits.entries))), from_bounds image fits.bounds))
+image_reads = fits_as (where_reads LeafImage image_bytes AreParts (mapped image_of image_parts_at) parts_read
+    keeps_bounds) IsImage is_image
+    (λ image fits. (
+      ((fits.id, (fits.last, fits.low)), ((fits.low_fence, fits.high_fence), (fits.rows, fits.entries))),
+      from_bounds image fits.bounds,
+    ))
 
 pub image_length : (image : LeafImage) →
-    length (image_bytes image) ≡ 24 + (length (optional text image.low_fence) + length (optional text image.high_fence)) + (length (rows_bytes image.rows) + length (entries_bytes image.entries))
+    length (image_bytes image) ≡ 24 + (length (optional text image.low_fence) + length (optional text image.high_fence))
+    + (length (rows_bytes image.rows) + length (entries_bytes image.entries))
 unfolding image_bytes
 image_length image =
     let fences = optional text image.low_fence ++ optional text image.high_fence in
@@ -106,4 +117,12 @@ image_length image =
 
 -- an image that has a spelling may be written
 pub image_is_ordered : (image : LeafImage) → IsImage image → IsOrderedImage image
-image_is_ordered image fits = record { id = fits.id; last = fits.last; low = fits.low; rows = fits.rows.1; numbers = entry_numbers image.entries fits.entries.1; bounds = fits.bounds }
+image_is_ordered image fits =
+    record {
+      id = fits.id;
+      last = fits.last;
+      low = fits.low;
+      rows = fits.rows.1;
+      numbers = entry_numbers image.entries fits.entries.1;
+      bounds = fits.bounds;
+    }

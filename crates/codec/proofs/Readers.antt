@@ -29,7 +29,8 @@ pub record Takes (bytes spelling rest : List ℕ) : Type 0 where
   pub rest_fits : IsBytes rest
 
 pub Takes-then : (a x b y c : List ℕ) → Takes a x b → Takes b y c → Takes a (x ++ y) c
-Takes-then a x b y c p q = record { parts = p.parts ∙ ap (λ (t : List ℕ). x ++ t) q.parts ∙ sym (append_assoc x y c); rest_fits = q.rest_fits }
+Takes-then a x b y c p q =
+    record { parts = p.parts ∙ ap (λ (t : List ℕ). x ++ t) q.parts ∙ sym (append_assoc x y c); rest_fits = q.rest_fits }
 
 -- What is read is spelled so and has a spelling; what has a spelling is read, whatever follows it.
 pub record IsReader (X : Type 0) (spell : X → List ℕ) (Fits : X → Type 0) (read : Reader X) : Type 0 where
@@ -57,7 +58,8 @@ pub guard_none : {A : Type 0} (b : Bool) (o : Option A) (y : A) → cond b None 
 guard_none true o y e = absurd cc
 guard_none false o y e = (refl, e)
 
-pub pair_reads : (X Y : Type 0) (s : X → List ℕ) (F : X → Type 0) (r : Reader X) (t : Y → List ℕ) (G : Y → Type 0) (q : Reader Y) →
+pub pair_reads : (X Y : Type 0) (s : X → List ℕ) (F : X → Type 0) (r : Reader X) (t : Y → List ℕ) (G : Y → Type 0)
+    (q : Reader Y) →
     IsReader X s F r → IsReader Y t G q → IsReader (X × Y) (λ p. s p.0 ++ t p.1) (λ p. F p.0 × G p.1) (pair r q)
 pair_reads X Y s F r t G q first second = record {
   takes = λ bytes x fits e.
@@ -66,9 +68,11 @@ pair_reads X Y s F r t G q first second = record {
       let t0 = first.takes bytes a.0 fits a.1 in
       let t1 = second.takes a.0.1 b.0 t0.0.rest_fits b.1 in
       let made : (X × Y) × List ℕ = ((a.0.0, b.0.0), b.0.1) in
-      subst (λ (z : (X × Y) × List ℕ). Takes bytes (s z.0.0 ++ t z.0.1) z.1 × (F z.0.0 × G z.0.1)) (same_Some made x b.2)
+      subst (λ (z : (X × Y) × List ℕ). Takes bytes (s z.0.0 ++ t z.0.1) z.1 × (F z.0.0 × G z.0.1))
+      (same_Some made x b.2)
       (Takes-then bytes (s a.0.0) a.0.1 (t b.0.0) b.0.1 t0.0 t1.0, (t0.1, t1.1));
-  again = λ x rest fits. ap (pair r q) (append_assoc (s x.0) (t x.1) rest) ∙ rw (first.again x.0 (t x.1 ++ rest) fits.0, second.again x.1 rest fits.1) refl;
+  again = λ x rest fits. ap (pair r q) (append_assoc (s x.0) (t x.1) rest)
+      ∙ rw (first.again x.0 (t x.1 ++ rest) fits.0, second.again x.1 rest fits.1) refl;
 }
 
 pub mapped_again : (X Y : Type 0) (s : X → List ℕ) (F : X → Type 0) (r : Reader X) → IsReader X s F r →
@@ -91,7 +95,8 @@ mapped_reads X Y s F r spell Fits law make parts is_spelled has made had = recor
   again = λ y rest fits.
       let spelling : spell y ≡ s (parts y) = ap spell (sym (made y)) ∙ is_spelled (parts y) in
       let whole : Y × List ℕ → Option (Y × List ℕ) = λ z. Some z in
-      ap (λ (w : List ℕ). mapped make r (w ++ rest)) spelling ∙ mapped_again X Y s F r law make (parts y) rest (had y fits) ∙ ap (λ (z : Y). whole (z, rest)) (made y);
+      ap (λ (w : List ℕ). mapped make r (w ++ rest)) spelling
+      ∙ mapped_again X Y s F r law make (parts y) rest (had y fits) ∙ ap (λ (z : Y). whole (z, rest)) (made y);
 }
 
 -- the same in other words for what has a spelling
@@ -138,12 +143,15 @@ mapped_choice X Y s F r spell Fits law kind make is_spelled has = record {
       let a = bind_some (r bytes) (λ x. Some (make x.0, x.1)) y e in
       let t = law.takes bytes a.0 fits a.1 in
       let made : Y × List ℕ = (make a.0.0, a.0.1) in
-      subst (λ (z : Y × List ℕ). Takes (kind ∷ bytes) (spell z.0) z.1 × Fits z.0) (same_Some made y a.2)
-      (record { parts = rw (is_spelled a.0.0) (ap (λ (w : List ℕ). kind ∷ w) t.0.parts); rest_fits = t.0.rest_fits }, has a.0.0 t.1);
+      subst (λ (z : Y × List ℕ). Takes (kind ∷ bytes) (spell z.0) z.1 × Fits z.0) (same_Some made y a.2) (
+        record { parts = rw (is_spelled a.0.0) (ap (λ (w : List ℕ). kind ∷ w) t.0.parts); rest_fits = t.0.rest_fits },
+        has a.0.0 t.1,
+      );
 }
 
 -- The same with what the parts show left out.
-pub both : {X Y : Type 0} {s : X → List ℕ} {F : X → Type 0} {r : Reader X} {t : Y → List ℕ} {G : Y → Type 0} {q : Reader Y} →
+pub both : {X Y : Type 0} {s : X → List ℕ} {F : X → Type 0} {r : Reader X} {t : Y → List ℕ} {G : Y
+    → Type 0} {q : Reader Y} →
     IsReader X s F r → IsReader Y t G q → IsReader (X × Y) (λ p. s p.0 ++ t p.1) (λ p. F p.0 × G p.1) (pair r q)
 both first second = pair_reads _ _ _ _ _ _ _ _ first second
 
@@ -170,7 +178,8 @@ choose_takes Y spell Fits [] laws kind bytes y fits e = absurd cc
 choose_takes Y spell Fits (c ∷ cs) laws kind bytes y fits e =
     elim (choose_cases (eqb kind c.0) (c.1 bytes) (choose cs kind bytes) (Some y) e) [
       | inl h ↦
-          subst (λ (k : ℕ). Takes (k ∷ bytes) (spell y.0) y.1 × Fits y.0) (sym (eqb-true kind c.0 h.0)) (laws.0.takes bytes y fits h.1)
+          subst (λ (k : ℕ). Takes (k ∷ bytes) (spell y.0) y.1 × Fits y.0) (sym (eqb-true kind c.0 h.0))
+          (laws.0.takes bytes y fits h.1)
       | inr h ↦ choose_takes Y spell Fits cs laws.1 kind bytes y fits h.1
     ]
 
@@ -179,4 +188,5 @@ pub one_of_takes : (Y : Type 0) (spell : Y → List ℕ) (Fits : Y → Type 0) (
     (bytes : List ℕ) (y : Y × List ℕ) → IsBytes bytes → one_of choices bytes ≡ Some y
     → Takes bytes (spell y.0) y.1 × Fits y.0
 one_of_takes Y spell Fits choices laws [] y fits e = absurd cc
-one_of_takes Y spell Fits choices laws (kind ∷ bytes) y fits e = choose_takes Y spell Fits choices laws kind bytes y (IsBytes-rest kind bytes fits) e
+one_of_takes Y spell Fits choices laws (kind ∷ bytes) y fits e =
+    choose_takes Y spell Fits choices laws kind bytes y (IsBytes-rest kind bytes fits) e

@@ -18,22 +18,32 @@ use Rattle.codec.proofs.Readers.{IsReader, both, made_again, choice, one_of_take
 use Rattle.codec.proofs.Fields.{number_reads, optional_reads, value_reads, answer_reads}
 use Rattle.codec.proofs.Lists.{numbers_read, rows_read}
 
-answered_reads : IsReader (ℕ × (ℕ × Option Answer)) (λ p. number p.0 ++ (number p.1.0 ++ optional answer_bytes p.1.1)) (λ p. IsNumber p.0 × (IsNumber p.1.0 × IfSome p.1.1 IsAnswer)) (pair number_at (pair number_at (optional_at answer_at)))
-answered_reads = both number_reads (both number_reads (optional_reads Answer answer_bytes IsAnswer answer_at answer_reads))
+answered_reads : IsReader (ℕ × (ℕ × Option Answer)) (λ p. number p.0 ++ (number p.1.0 ++ optional answer_bytes p.1.1))
+    (λ p. IsNumber p.0 × (IsNumber p.1.0 × IfSome p.1.1 IsAnswer))
+    (pair number_at (pair number_at (optional_at answer_at)))
+answered_reads = both number_reads
+    (both number_reads (optional_reads Answer answer_bytes IsAnswer answer_at answer_reads))
 
-found_reads : IsReader (ℕ × (ℕ × Option Bytes)) (λ p. number p.0 ++ (number p.1.0 ++ optional text p.1.1)) (λ p. IsNumber p.0 × (IsNumber p.1.0 × IfSome p.1.1 IsValue)) (pair number_at (pair number_at (optional_at value_at)))
+found_reads : IsReader (ℕ × (ℕ × Option Bytes)) (λ p. number p.0 ++ (number p.1.0 ++ optional text p.1.1))
+    (λ p. IsNumber p.0 × (IsNumber p.1.0 × IfSome p.1.1 IsValue))
+    (pair number_at (pair number_at (optional_at value_at)))
 found_reads = both number_reads (both number_reads (optional_reads Bytes text IsValue value_at value_reads))
 
-listed_reads : IsReader (ℕ × (ℕ × List Row)) (λ p. number p.0 ++ (number p.1.0 ++ rows_bytes p.1.1)) (λ p. IsNumber p.0 × (IsNumber p.1.0 × AreRows p.1.1)) (pair number_at (pair number_at rows_at))
+listed_reads : IsReader (ℕ × (ℕ × List Row)) (λ p. number p.0 ++ (number p.1.0 ++ rows_bytes p.1.1))
+    (λ p. IsNumber p.0 × (IsNumber p.1.0 × AreRows p.1.1)) (pair number_at (pair number_at rows_at))
 listed_reads = both number_reads (both number_reads rows_read)
 
 reply_again : (r : Reply) (rest : List ℕ) → IsReply r → reply_at (reply_bytes r ++ rest) ≡ Some (r, rest)
 unfolding reply_bytes reply_at
 reply_again (is.Connected session) rest fits = made_again number_reads (λ n. is.Connected n) session rest fits
-reply_again (is.Answered session n a) rest fits = made_again answered_reads (λ p. is.Answered p.0 p.1.0 p.1.1) (session, (n, a)) rest fits
-reply_again (is.Row session read value) rest fits = made_again found_reads (λ p. is.Row p.0 p.1.0 p.1.1) (session, (read, value)) rest fits
-reply_again (is.Rows session read rows) rest fits = made_again listed_reads (λ p. is.Rows p.0 p.1.0 p.1.1) (session, (read, rows)) rest fits
-reply_again (is.Checkpointed session low) rest fits = made_again numbers_read (λ p. is.Checkpointed p.0 p.1) (session, low) rest fits
+reply_again (is.Answered session n a) rest fits =
+    made_again answered_reads (λ p. is.Answered p.0 p.1.0 p.1.1) (session, (n, a)) rest fits
+reply_again (is.Row session read value) rest fits =
+    made_again found_reads (λ p. is.Row p.0 p.1.0 p.1.1) (session, (read, value)) rest fits
+reply_again (is.Rows session read rows) rest fits =
+    made_again listed_reads (λ p. is.Rows p.0 p.1.0 p.1.1) (session, (read, rows)) rest fits
+reply_again (is.Checkpointed session low) rest fits =
+    made_again numbers_read (λ p. is.Checkpointed p.0 p.1) (session, low) rest fits
 reply_again (is.RedoEnded session) rest fits = made_again number_reads (λ n. is.RedoEnded n) session rest fits
 
 pub reply_reads : IsReader Reply reply_bytes IsReply reply_at
@@ -84,7 +94,8 @@ pub reply_taken : (place : ℕ) (left : List ℕ) (r : Reply) (rest : List ℕ) 
     → left ≡ frame (reply_bytes r) ++ rest
     → within place reply_at (frame_at any_length place left) ≡ took.Record r (place + length (frame (reply_bytes r)))
 reply_taken place left r rest fits short e =
-    frames.only Reply reply_bytes IsReply reply_at reply_reads any_length place left r rest fits (reply_not_empty r) (omega (arith, short)) (omega arith) e
+    frames.only Reply reply_bytes IsReply reply_at reply_reads any_length place left r rest fits (reply_not_empty r)
+    (omega (arith, short)) (omega arith) e
 
 -- only rows have their kind
 kind_of_rows : (r : Reply) → HasKind 20 (reply_bytes r) → has_rows r ≡ true
@@ -100,4 +111,5 @@ kind_of_rows (is.RedoEnded s) h = absurd (omega (arith, h))
 pub rows_framed : (left : List ℕ) (r : Reply) (rest : List ℕ) → length (reply_bytes r) < 2 ^ 64
     → left ≡ frame (reply_bytes r) ++ rest
     → IsFrameOf any_length (HasKind 20) left → has_rows r ≡ true
-rows_framed left r rest short e h = kind_of_rows r (subst (HasKind 20) (body_there (reply_bytes r) left rest short e) h.body)
+rows_framed left r rest short e h =
+    kind_of_rows r (subst (HasKind 20) (body_there (reply_bytes r) left rest short e) h.body)

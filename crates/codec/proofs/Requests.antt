@@ -16,46 +16,68 @@ use Rattle.codec.proofs.Readers.{IsReader, both, made_again, choice, one_of_take
 use Rattle.codec.proofs.Lists.{numbers_read}
 use Rattle.codec.proofs.Fields.{length-number, numbers_length, number_reads, optional_reads, key_reads, op_reads, op_length}
 
-perform_reads : IsReader (ℕ × (ℕ × Op)) (λ p. number p.0 ++ (number p.1.0 ++ op_bytes p.1.1)) (λ p. IsNumber p.0 × (IsNumber p.1.0 × IsOp p.1.1)) (pair number_at (pair number_at op_at))
+perform_reads : IsReader (ℕ × (ℕ × Op)) (λ p. number p.0 ++ (number p.1.0 ++ op_bytes p.1.1))
+    (λ p. IsNumber p.0 × (IsNumber p.1.0 × IsOp p.1.1)) (pair number_at (pair number_at op_at))
 perform_reads = both number_reads (both number_reads op_reads)
 
-get_reads : IsReader (ℕ × (ℕ × Bytes)) (λ p. number p.0 ++ (number p.1.0 ++ text p.1.1)) (λ p. IsNumber p.0 × (IsNumber p.1.0 × IsKey p.1.1)) (pair number_at (pair number_at key_at))
+get_reads : IsReader (ℕ × (ℕ × Bytes)) (λ p. number p.0 ++ (number p.1.0 ++ text p.1.1))
+    (λ p. IsNumber p.0 × (IsNumber p.1.0 × IsKey p.1.1)) (pair number_at (pair number_at key_at))
 get_reads = both number_reads (both number_reads key_reads)
 
-scan_reads : IsReader (ℕ × (ℕ × (Bytes × Option Bytes))) (λ p. number p.0 ++ (number p.1.0 ++ (text p.1.1.0 ++ optional text p.1.1.1)))
-    (λ p. IsNumber p.0 × (IsNumber p.1.0 × (IsKey p.1.1.0 × IfSome p.1.1.1 IsKey))) (pair number_at (pair number_at (pair key_at (optional_at key_at))))
+scan_reads : IsReader (ℕ × (ℕ × (Bytes × Option Bytes)))
+    (λ p. number p.0 ++ (number p.1.0 ++ (text p.1.1.0 ++ optional text p.1.1.1)))
+    (λ p. IsNumber p.0 × (IsNumber p.1.0 × (IsKey p.1.1.0 × IfSome p.1.1.1 IsKey)))
+    (pair number_at (pair number_at (pair key_at (optional_at key_at))))
 scan_reads = both number_reads (both number_reads (both key_reads (optional_reads Bytes text IsKey key_at key_reads)))
 
 request_again : (r : Request) (rest : List ℕ) → IsRequest r → request_at (request_bytes r ++ rest) ≡ Some (r, rest)
 unfolding request_bytes request_at
 request_again (is.Connect session) rest fits = made_again number_reads (λ n. is.Connect n) session rest fits
-request_again (is.Perform session n o) rest fits = made_again perform_reads (λ p. is.Perform p.0 p.1.0 p.1.1) (session, (n, o)) rest fits
-request_again (is.Get session read key) rest fits = made_again get_reads (λ p. is.Get p.0 p.1.0 p.1.1) (session, (read, key)) rest fits
-request_again (is.Scan session read low high) rest fits = made_again scan_reads (λ p. is.Scan p.0 p.1.0 p.1.1.0 p.1.1.1) (session, (read, (low, high))) rest fits
-request_again (is.LowWater session low) rest fits = made_again numbers_read (λ p. is.LowWater p.0 p.1) (session, low) rest fits
-request_again (is.Checkpoint session low) rest fits = made_again numbers_read (λ p. is.Checkpoint p.0 p.1) (session, low) rest fits
+request_again (is.Perform session n o) rest fits =
+    made_again perform_reads (λ p. is.Perform p.0 p.1.0 p.1.1) (session, (n, o)) rest fits
+request_again (is.Get session read key) rest fits =
+    made_again get_reads (λ p. is.Get p.0 p.1.0 p.1.1) (session, (read, key)) rest fits
+request_again (is.Scan session read low high) rest fits =
+    made_again scan_reads (λ p. is.Scan p.0 p.1.0 p.1.1.0 p.1.1.1) (session, (read, (low, high))) rest fits
+request_again (is.LowWater session low) rest fits =
+    made_again numbers_read (λ p. is.LowWater p.0 p.1) (session, low) rest fits
+request_again (is.Checkpoint session low) rest fits =
+    made_again numbers_read (λ p. is.Checkpoint p.0 p.1) (session, low) rest fits
 request_again (is.RedoEnd session) rest fits = made_again number_reads (λ n. is.RedoEnd n) session rest fits
 
 pub request_reads : IsReader Request request_bytes IsRequest request_at
 unfolding request_bytes request_at
 request_reads = record {
   takes = one_of_takes Request request_bytes IsRequest
-      ((1, mapped (λ n. is.Connect n) number_at) ∷ (2, mapped (λ p. is.Perform p.0 p.1.0 p.1.1) (pair number_at (pair number_at op_at))) ∷ (3, mapped (λ p. is.Get p.0 p.1.0 p.1.1) (pair number_at (pair number_at key_at)))
-      ∷ (4, mapped (λ p. is.Scan p.0 p.1.0 p.1.1.0 p.1.1.1) (pair number_at (pair number_at (pair key_at (optional_at key_at))))) ∷ (5, mapped (λ p. is.LowWater p.0 p.1) (pair number_at number_at))
-      ∷ (6, mapped (λ p. is.Checkpoint p.0 p.1) (pair number_at number_at)) ∷ (7, mapped (λ n. is.RedoEnd n) number_at) ∷ []) (
+      ((1, mapped (λ n. is.Connect n) number_at)
+      ∷ (2, mapped (λ p. is.Perform p.0 p.1.0 p.1.1) (pair number_at (pair number_at op_at)))
+      ∷ (3, mapped (λ p. is.Get p.0 p.1.0 p.1.1) (pair number_at (pair number_at key_at)))
+      ∷ (
+        4,
+        mapped (λ p. is.Scan p.0 p.1.0 p.1.1.0 p.1.1.1)
+            (pair number_at (pair number_at (pair key_at (optional_at key_at)))),
+      )
+      ∷ (5, mapped (λ p. is.LowWater p.0 p.1) (pair number_at number_at))
+      ∷ (6, mapped (λ p. is.Checkpoint p.0 p.1) (pair number_at number_at)) ∷ (7, mapped (λ n. is.RedoEnd n) number_at)
+      ∷ []) (
         choice number_reads Request request_bytes IsRequest 1 (λ n. is.Connect n) (λ n. refl) (λ n has. has),
         (
-          choice perform_reads Request request_bytes IsRequest 2 (λ p. is.Perform p.0 p.1.0 p.1.1) (λ p. refl) (λ p has. has),
+          choice perform_reads Request request_bytes IsRequest 2 (λ p. is.Perform p.0 p.1.0 p.1.1) (λ p. refl)
+              (λ p has. has),
           (
             choice get_reads Request request_bytes IsRequest 3 (λ p. is.Get p.0 p.1.0 p.1.1) (λ p. refl) (λ p has. has),
             (
-              choice scan_reads Request request_bytes IsRequest 4 (λ p. is.Scan p.0 p.1.0 p.1.1.0 p.1.1.1) (λ p. refl) (λ p has. has),
+              choice scan_reads Request request_bytes IsRequest 4 (λ p. is.Scan p.0 p.1.0 p.1.1.0 p.1.1.1) (λ p. refl)
+                  (λ p has. has),
               (
-                choice numbers_read Request request_bytes IsRequest 5 (λ p. is.LowWater p.0 p.1) (λ p. refl) (λ p has. has),
+                choice numbers_read Request request_bytes IsRequest 5 (λ p. is.LowWater p.0 p.1) (λ p. refl)
+                    (λ p has. has),
                 (
-                  choice numbers_read Request request_bytes IsRequest 6 (λ p. is.Checkpoint p.0 p.1) (λ p. refl) (λ p has. has),
+                  choice numbers_read Request request_bytes IsRequest 6 (λ p. is.Checkpoint p.0 p.1) (λ p. refl)
+                      (λ p has. has),
                   (
-                    choice number_reads Request request_bytes IsRequest 7 (λ n. is.RedoEnd n) (λ n. refl) (λ n has. has),
+                    choice number_reads Request request_bytes IsRequest 7 (λ n. is.RedoEnd n) (λ n. refl)
+                        (λ n has. has),
                     tt,
                   ),
                 ),
@@ -94,8 +116,10 @@ request_length (is.Scan session read low high) fits =
     let most = fits.1.1.0.1 in
     let most2 = optional_key_length high fits.1.1.1 in
     (omega arith, omega arith)
-request_length (is.LowWater session low) fits = let len = numbers_length session (number low) in let len2 = length-number low in (omega arith, omega arith)
-request_length (is.Checkpoint session low) fits = let len = numbers_length session (number low) in let len2 = length-number low in (omega arith, omega arith)
+request_length (is.LowWater session low) fits = let len = numbers_length session (number low) in let len2 =
+    length-number low in (omega arith, omega arith)
+request_length (is.Checkpoint session low) fits = let len = numbers_length session (number low) in let len2 =
+    length-number low in (omega arith, omega arith)
 request_length (is.RedoEnd session) fits = let len = length-number session in (omega arith, omega arith)
 
 pub request_fits : (r : Request) → IsRequest r
@@ -105,7 +129,9 @@ request_fits r fits = let h = request_length r fits in (h.0, omega (arith, h.1))
 -- a request's frame is taken, whatever follows it
 pub request_taken : (place : ℕ) (left : List ℕ) (r : Request) (rest : List ℕ) → IsRequest r
     → left ≡ frame (request_bytes r) ++ rest
-    → within place request_at (frame_at any_length place left) ≡ took.Record r (place + length (frame (request_bytes r)))
+    → within place request_at (frame_at any_length place left)
+    ≡ took.Record r (place + length (frame (request_bytes r)))
 request_taken place left r rest fits e =
     let bounds = request_fits r fits in
-    frames.only Request request_bytes IsRequest request_at request_reads any_length place left r rest fits bounds.0 bounds.1 (omega arith) e
+    frames.only Request request_bytes IsRequest request_at request_reads any_length place left r rest fits bounds.0
+    bounds.1 (omega arith) e

@@ -23,7 +23,8 @@ dc_record_bytes (is.Merge left right merged) = 3 ∷ number left ++ (number righ
 abbrev pub IsOrderedDcRecord : DcRecord → Type 0
 IsOrderedDcRecord (is.Accept session) = IsNumber session
 IsOrderedDcRecord (is.Split left cut right) = IsNumber left × IsOrderedImage right
-IsOrderedDcRecord (is.Merge left right merged) = IsNumber left × (IsNumber right × (IsOrderedImage merged × (merged.id ≡ left)))
+IsOrderedDcRecord (is.Merge left right merged) =
+    IsNumber left × (IsNumber right × (IsOrderedImage merged × (merged.id ≡ left)))
 
 -- what has a spelling
 abbrev pub IsDcRecord : DcRecord → Type 0

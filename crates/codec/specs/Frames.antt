@@ -16,7 +16,8 @@ any_length = 2 ^ 64 - 1
 abbrev pub IsCut : ℕ → List ℕ → Type 0
 IsCut limit bytes =
     (length bytes < 8)
-    ⊎ ((0 < first_number bytes) × (first_number bytes ≤ limit) × (8 ≤ length bytes) × (length bytes < 8 + first_number bytes))
+    ⊎ ((0 < first_number bytes) × (first_number bytes ≤ limit) × (8 ≤ length bytes)
+    × (length bytes < 8 + first_number bytes))
 
 -- the bytes begin with a whole frame, whose length is from 1 to the limit
 pub record IsWholeFrame (limit : ℕ) (left : List ℕ) : Type 0 where
@@ -51,13 +52,15 @@ IfBad Short P = Unit {0}
 IfBad (Bad place) P = P place
 
 -- of the bytes left at a place, the first are the frame of a value that has a spelling, and the next place is after it
-pub record IsThere (X : Type 0) (spell : X → List ℕ) (Fits : X → Type 0) (place : ℕ) (left : List ℕ) (x : X) (next : ℕ) : Type 0 where
+pub record IsThere (X : Type 0) (spell : X → List ℕ) (Fits : X → Type 0) (place : ℕ) (left : List ℕ) (x : X)
+    (next : ℕ) : Type 0 where
   pub fits : Fits x
   pub parts : left ≡ frame (spell x) ++ drop (length (frame (spell x))) left
   pub next_is : next ≡ place + length (frame (spell x))
 
 -- the bytes are the spelling of a value and no more, and the next place is after them
-pub record IsWhole (X : Type 0) (spell : X → List ℕ) (Fits : X → Type 0) (bytes : List ℕ) (x : X) (next : ℕ) : Type 0 where
+pub record IsWhole (X : Type 0) (spell : X → List ℕ) (Fits : X → Type 0) (bytes : List ℕ) (x : X) (next : ℕ) :
+    Type 0 where
   pub fits : Fits x
   pub all : bytes ≡ spell x
   pub next_is : next ≡ length bytes

@@ -32,7 +32,8 @@ pub record KeepsBounds (image : LeafImage) : Type 0 where
 unfoldable pub image_bytes : LeafImage → List ℕ
 image_bytes image =
     (number image.id ++ (number image.last ++ number image.low))
-    ++ ((optional text image.low_fence ++ optional text image.high_fence) ++ (rows_bytes image.rows ++ entries_bytes image.entries))
+    ++ ((optional text image.low_fence ++ optional text image.high_fence)
+    ++ (rows_bytes image.rows ++ entries_bytes image.entries))
 
 -- what the types of the parts don't ensure
 pub record IsOrderedImage (image : LeafImage) : Type 0 where

@@ -80,7 +80,8 @@ one_of choices bytes = byte_at bytes >>= λ kind. choose choices kind.0 kind.1
 
 -- a number below a bound
 unfoldable pub below_at : ℕ → Reader ℕ
-below_at bound bytes = if nat_lt (length bytes) 8 then None else (if nat_lt (first_number bytes) bound then Some (first_number bytes, drop 8 bytes) else None)
+below_at bound bytes = if nat_lt (length bytes) 8 then None else
+    (if nat_lt (first_number bytes) bound then Some (first_number bytes, drop 8 bytes) else None)
 
 abbrev pub number_at : Reader ℕ
 number_at = below_at (2 ^ 48)
@@ -103,7 +104,8 @@ bytes_at bytes = byte_at bytes >>= λ n. if nat_lt (length n.1) n.0 then None el
 
 -- a text of at least low bytes and at most high
 abbrev pub text_at : ℕ → ℕ → Reader Bytes
-text_at low high bytes = bytes_at bytes >>= λ t. if nat_lt (length t.0) low then None else if nat_lt high (length t.0) then None else Some t
+text_at low high bytes =
+    bytes_at bytes >>= λ t. if nat_lt (length t.0) low then None else if nat_lt high (length t.0) then None else Some t
 
 unfoldable pub key_at : Reader Bytes
 key_at = text_at 1 32
@@ -146,7 +148,11 @@ record_at = one_of (
     ∷ (2, fixed is.Begin)
     ∷ (3, mapped (λ p. is.Op p.0 p.1.0 p.1.1) (pair number_at (pair number_at op_at)))
     ∷ (4, mapped (λ p. is.Answer p.0 p.1) (pair number_at answer_at))
-    ∷ (5, mapped (λ p. is.Comp p.0 p.1.0 p.1.1.0 p.1.1.1) (pair number_at (pair number_at (pair number_at (optional_at op_at)))))
+    ∷ (
+      5,
+      mapped (λ p. is.Comp p.0 p.1.0 p.1.1.0 p.1.1.1)
+          (pair number_at (pair number_at (pair number_at (optional_at op_at)))),
+    )
     ∷ (6, mapped (λ txn. is.Commit txn) number_at)
     ∷ (7, mapped (λ txn. is.End txn) number_at)
     ∷ (8, mapped (λ low. is.Checkpoint low) number_at)
@@ -157,7 +163,11 @@ request_at = one_of (
     (1, mapped (λ session. asks.Connect session) number_at)
     ∷ (2, mapped (λ p. asks.Perform p.0 p.1.0 p.1.1) (pair number_at (pair number_at op_at)))
     ∷ (3, mapped (λ p. asks.Get p.0 p.1.0 p.1.1) (pair number_at (pair number_at key_at)))
-    ∷ (4, mapped (λ p. asks.Scan p.0 p.1.0 p.1.1.0 p.1.1.1) (pair number_at (pair number_at (pair key_at (optional_at key_at)))))
+    ∷ (
+      4,
+      mapped (λ p. asks.Scan p.0 p.1.0 p.1.1.0 p.1.1.1)
+          (pair number_at (pair number_at (pair key_at (optional_at key_at)))),
+    )
     ∷ (5, mapped (λ p. asks.LowWater p.0 p.1) (pair number_at number_at))
     ∷ (6, mapped (λ p. asks.Checkpoint p.0 p.1) (pair number_at number_at))
     ∷ (7, mapped (λ session. asks.RedoEnd session) number_at)
@@ -203,7 +213,15 @@ abbrev pub image_parts_at : Reader ImageParts
 image_parts_at = pair image_numbers_at (pair fences_at (pair rows_at entries_at))
 
 abbrev pub image_of : ImageParts → LeafImage
-image_of p = record { id = p.0.0; last = p.0.1.0; low = p.0.1.1; low_fence = p.1.0.0; high_fence = p.1.0.1; rows = p.1.1.0; entries = p.1.1.1 }
+image_of p = record {
+  id = p.0.0;
+  last = p.0.1.0;
+  low = p.0.1.1;
+  low_fence = p.1.0.0;
+  high_fence = p.1.0.1;
+  rows = p.1.1.0;
+  entries = p.1.1.1;
+}
 
 -- whether each entry's number is above the one before it, the first above low
 abbrev pub numbers_rise : ℕ → List Entry → Bool

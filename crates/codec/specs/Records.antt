@@ -10,7 +10,8 @@ record_bytes is.Session = 1 ∷ []
 record_bytes is.Begin = 2 ∷ []
 record_bytes (is.Op txn prev o) = 3 ∷ number txn ++ (number prev ++ op_bytes o)
 record_bytes (is.Answer of a) = 4 ∷ number of ++ answer_bytes a
-record_bytes (is.Comp txn undoes next inverse) = 5 ∷ number txn ++ (number undoes ++ (number next ++ optional op_bytes inverse))
+record_bytes (is.Comp txn undoes next inverse) = 5 ∷ number txn
+    ++ (number undoes ++ (number next ++ optional op_bytes inverse))
 record_bytes (is.Commit txn) = 6 ∷ number txn
 record_bytes (is.End txn) = 7 ∷ number txn
 record_bytes (is.Checkpoint low) = 8 ∷ number low

@@ -15,26 +15,37 @@ an_answer : (o : Option Answer) → IsSome o → (a : Answer) × (o ≡ Some a)
 an_answer None h = absurd (cc)
 an_answer (Some a) h = (a, refl)
 
-module _ (log : List Record) (c : Chain) (may : MayUndo log c) (u : ℕ) (found : u ≡ undo_from (record_at log c.last) c.last) where
+module _ (log : List Record) (c : Chain) (may : MayUndo log c) (u : ℕ)
+    (found : u ≡ undo_from (record_at log c.last) c.last) where
   -- one look finds the latest operation that stands
   left : IsLatestOrNone (Stands log c.txn) u
-  left = let P : ℕ → Type 0 = IsLatestOrNone (Stands log c.txn) in subst P (sym found) (latest_found log c.txn may.legal c.last may.last)
+  left = let P : ℕ → Type 0 = IsLatestOrNone (Stands log c.txn) in
+      subst P (sym found) (latest_found log c.txn may.legal c.last may.last)
 
   latest : 0 < u → IsLatest (Stands log c.txn) u
   latest some = elim left [ inl h ↦ h | inr none ↦ absurd (omega (arith, none.0, some)) ]
 
   -- where it isn't above a bound, none is
   pub undone : (above : ℕ) → u ≤ above → IsUndone log c.txn above
-  undone above below n stands = elim left [ inl h ↦ omega (arith, h.greatest n stands, below) | inr none ↦ absurd (none.1 n stands) ]
+  undone above below n stands =
+      elim left [ inl h ↦ omega (arith, h.greatest n stands, below) | inr none ↦ absurd (none.1 n stands) ]
 
   -- it is answered
   pub undoable : 0 < u → IsUndoable log u
   undoable some =
       let stands = (latest some).is in
       let the_op = op_record c.txn stands.op (record_at log u) stands.is in
-      let asks : request_in (record_at log u) ≡ Some stands.op = let P : Option Record → Type 0 = λ r. request_in r ≡ Some stands.op in subst P (sym the_op.1) refl in
+      let asks : request_in (record_at log u) ≡ Some stands.op = let P : Option Record → Type 0 =
+      λ r. request_in r ≡ Some stands.op in subst P (sym the_op.1) refl in
       let the_answer = an_answer (answer_of log u) (may.idle u stands.op (stands_step log c.txn u stands) asks) in
-      record { txn = c.txn; prev = the_op.0; op = stands.op; answer = the_answer.0; is = the_op.1; answered = the_answer.1 }
+      record {
+        txn = c.txn;
+        prev = the_op.0;
+        op = stands.op;
+        answer = the_answer.0;
+        is = the_op.1;
+        answered = the_answer.1;
+      }
 
   -- so its compensation fits
   pub fits_comp : (next : ℕ) (inverse : Option Op) → 0 < u

@@ -1,5 +1,5 @@
 -- What is read at the places of performances is what was performed, also when there is one more.
-use Rattle.std.proofs.Common.{◌≡◌, ℕ, ◌+◌, ◌≤◌, ◌<◌, List, [], ◌∷◌, ◌++◌, length, drop, get_or, reverse, refl, sym, ap, ◌∙◌, subst, arith, append_assoc}
+use Rattle.std.proofs.Common.{◌≡◌, ℕ, ◌≤◌, ◌<◌, List, [], ◌∷◌, ◌++◌, length, drop, get_or, reverse, refl, sym, ap, ◌∙◌, subst, arith, append_assoc}
 use Rattle.std.specs.Prelude.{map, slice_get, option_map, Some, None}
 use Rattle.std.proofs.lemmas.List.{append-nil, length-append, length-drop, length-reverse, length-map, reverse-append, reverse-reverse, map-append, drop_at, drop-append-le}
 use Rattle.std.proofs.lemmas.Option.{slice_get-map, slice_get_read}
@@ -37,7 +37,8 @@ pub length-performances : (bytes places : List ℕ) → length (performances_at 
 length-performances bytes places = length-reverse (map (read bytes) places) ∙ length-map places (read bytes)
 
 -- a place that is read is one of them
-pub place_read : (bytes places : List ℕ) (performed : List Performance) (i place : ℕ) → performances_at bytes places ≡ performed
+pub place_read : (bytes places : List ℕ) (performed : List Performance) (i place : ℕ) → performances_at bytes places
+    ≡ performed
     → i < length performed → place ≡ get_or places i place → slice_get places i ≡ Some place
 place_read bytes places performed i place are lt is =
     let count : length performed ≡ length places = ap length (sym are) ∙ length-performances bytes places in
@@ -58,7 +59,8 @@ within bytes place p h =
     omega (arith, all, some, length-drop place bytes)
 
 -- a performance stands where it stood
-stands_still : (bytes more : List ℕ) (place : ℕ) (p : Performance) → StandsAt bytes place p → StandsAt (bytes ++ more) place p
+stands_still : (bytes more : List ℕ) (place : ℕ) (p : Performance) → StandsAt bytes place p
+    → StandsAt (bytes ++ more) place p
 stands_still bytes more place p h = record {
   fits = h.fits;
   rest = h.rest ++ more;
@@ -72,12 +74,14 @@ stands_newest : (bytes : List ℕ) (p : Performance) → IsPerformed (parts_of p
 stands_newest bytes p fits = record {
   fits = fits;
   rest = [];
-  is = drop_at bytes (performed_bytes (parts_of p)) (length bytes) refl ∙ sym (append-nil (performed_bytes (parts_of p)));
+  is = drop_at bytes (performed_bytes (parts_of p)) (length bytes) refl
+      ∙ sym (append-nil (performed_bytes (parts_of p)));
 }
 
 module _ (bytes more : List ℕ) where
   same_read : (place : ℕ) → StandsAt bytes place (read bytes place) → read (bytes ++ more) place ≡ read bytes place
-  same_read place h = read_is (bytes ++ more) place (read bytes place) (stands_still bytes more place (read bytes place) h)
+  same_read place h = read_is (bytes ++ more) place (read bytes place)
+      (stands_still bytes more place (read bytes place) h)
 
   all_still : (places : List ℕ) → AreSpelled bytes places → AreSpelled (bytes ++ more) places
   all_still = all_from (λ place. StandsAt bytes place (read bytes place))
@@ -91,7 +95,8 @@ module _ (bytes more : List ℕ) where
 
 -- ---- one performance more
 
-module _ (bytes places : List ℕ) (h : AreSpelled bytes places) (p : Performance) (fits : IsPerformed (parts_of p)) (place : ℕ)
+module _ (bytes places : List ℕ) (h : AreSpelled bytes places) (p : Performance) (fits : IsPerformed (parts_of p))
+    (place : ℕ)
     (ends : place ≡ length bytes) where
   abbrev longer : List ℕ
   longer = bytes ++ performed_bytes (parts_of p)

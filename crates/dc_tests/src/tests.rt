@@ -1,3 +1,1 @@
-//! A module for each crate.
 mod data;
-mod system_transactions;

@@ -12,7 +12,8 @@ use Rattle.history.specs.Legal.{IsLatest, IsLatestOrNone, Stands}
 -- and its undo-next is the latest earlier one that is left
 abbrev pub IsWellChained : List Record → Type 0
 IsWellChained [] = Unit {0}
-IsWellChained (is.Comp t u x i ∷ log) = IsLatest (Stands log t) u × IsLatestOrNone (λ n. Stands log t n × (n < u)) x × IsWellChained log
+IsWellChained (is.Comp t u x i ∷ log) =
+    IsLatest (Stands log t) u × IsLatestOrNone (λ n. Stands log t n × (n < u)) x × IsWellChained log
 IsWellChained (r ∷ log) = IsWellChained log
 
 -- what is left to undo from a step on: the step itself where it is an operation, else its undo-next
@@ -40,10 +41,12 @@ pub record EndsBetween (log : List Record) (t n m : ℕ) : Type 0 where
 -- between an operation and a later request of another transaction on its key, its transaction ended
 abbrev pub IsStrict : List Record → Type 0
 IsStrict log =
-    (n m t u : ℕ) (o q : Op) → IsOpBy log n t o → n < m → IsStepOf log u m → Requests log m q → key_of q ≡ key_of o → u ≢ t
+    (n m t u : ℕ) (o q : Op) → IsOpBy log n t o → n < m → IsStepOf log u m → Requests log m q → key_of q ≡ key_of o
+    → u ≢ t
     → EndsBetween log t n m
 
 -- of two requests on a key the earlier is answered before the later one stands
 abbrev pub IsOneAtATime : List Record → Type 0
 IsOneAtATime log =
-    (n m : ℕ) (o q : Op) → Requests log n o → n < m → Requests log m q → key_of q ≡ key_of o → IsSome (answer_of (before log m) n)
+    (n m : ℕ) (o q : Op) → Requests log n o → n < m → Requests log m q → key_of q ≡ key_of o
+    → IsSome (answer_of (before log m) n)

@@ -56,8 +56,7 @@ pub data Call : Type 0 where
   ToRollBack : (t : ℕ) → Call
   ToCommit : (t : ℕ) → Call
 
--- a call with what it gave, a told line, a crash, or a refused call. No event of a node gives Crashes and
--- TellsLost yet.
+-- a call with what it gave, a told line, a crash of the transaction component, or a refused call
 pub data Line : Type 0 where
   Begins : (t : ℕ) → Line
   Acts : (t : ℕ) → (op : Op) → (number : ℕ) → Line
@@ -138,7 +137,8 @@ Falls m t new = ((kept : Bool) × (new ≡ losing m t kept)) ⊎ IsUnbegun m t n
 
 -- what a crash makes of a transaction, and whether its entries are crossed
 abbrev pub Survives : Machine → ℕ → Status → Txn → Bool → Type 0
-Survives m t Committing new fell = ((new ≡ ended (m.txns t) Committed) × (fell ≡ false)) ⊎ (Falls m t new × (fell ≡ true))
+Survives m t Committing new fell =
+    ((new ≡ ended (m.txns t) Committed) × (fell ≡ false)) ⊎ (Falls m t new × (fell ≡ true))
 Survives m t Committed new fell = (new ≡ m.txns t) × (fell ≡ false)
 Survives m t Losing new fell = (new ≡ m.txns t) × (fell ≡ false)
 Survives m t Gone new fell =
@@ -238,10 +238,16 @@ abbrev pub Step : Machine → Line → Machine → Type 0
 Step m (Begins t) n = IsAboveAll t m × (n ≡ with_txn m t blank)
 Step m (Acts t o k) n =
     HasStatus m t Open × IsFree m t (at_key Exclusive (key_of o)) × (t < k) × IsAboveAll k m
-    × (n ≡ with_txn m t (record (m.txns t) { status = Waiting k o; last = Some (k, o); spans = at_key Exclusive (key_of o) ∷ (m.txns t).spans }))
+    × (n ≡ with_txn m t (record (m.txns t) {
+      status = Waiting k o;
+      last = Some (k, o);
+      spans = at_key Exclusive (key_of o) ∷ (m.txns t).spans;
+    }))
 Step m (TellsAnswer t a) n =
     (k : ℕ) × (o : Op) × HasStatus m t (Waiting k o) × (a ≡ answer_in (plain m.h) o)
-    × (n ≡ record (with_status m t Open) { h = placed (record { number = k; txn = t; op = o; answer = a; crossed = false }) m.h })
+    × (n ≡ record (with_status m t Open) {
+      h = placed (record { number = k; txn = t; op = o; answer = a; crossed = false }) m.h;
+    })
 Step m (Reads t q) n =
     HasStatus m t Open × IsRange (asked_span q) × IsFree m t (asked_span q)
     × (n ≡ with_txn m t (record (m.txns t) { status = Reading q; spans = asked_span q ∷ (m.txns t).spans }))
@@ -258,7 +264,8 @@ Step m (GoesBack t s) n =
     × (n ≡ record (with_txn m t (record (m.txns t) { status = Rolling (Some s); saves = take s (m.txns t).saves }))
     { h = cross (λ k. not (list_any (λ j. j == k) kept)) t m.h })
 Step m (TellsBack t s) n = HasStatus m t (Rolling (Some s)) × (n ≡ with_status m t Open)
-Step m (RollsBack t) n = HasStatus m t Open × (n ≡ record (with_status m t (Rolling None)) { h = cross (λ _. true) t m.h })
+Step m (RollsBack t) n =
+    HasStatus m t Open × (n ≡ record (with_status m t (Rolling None)) { h = cross (λ _. true) t m.h })
 Step m (TellsRolledBack t) n = HasStatus m t (Rolling None) × (n ≡ with_txn m t (ended (m.txns t) Gone))
 Step m (Commits t) n = HasStatus m t Open × (n ≡ with_status m t Committing)
 Step m (TellsCommitted t) n = HasStatus m t Committing × (n ≡ with_txn m t (ended (m.txns t) Committed))

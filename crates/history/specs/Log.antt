@@ -93,7 +93,8 @@ entry_with log n t o (Some a) h = record { number = n; txn = t; op = o; answer =
 
 abbrev pub hist_in : List Record → List Record → List Entry
 hist_in log [] = []
-hist_in log (is.Op txn prev op ∷ before) = entry_with log (length before + 1) txn op (answer_of log (length before + 1)) (hist_in log before)
+hist_in log (is.Op txn prev op ∷ before) =
+    entry_with log (length before + 1) txn op (answer_of log (length before + 1)) (hist_in log before)
 hist_in log (r ∷ before) = hist_in log before
 
 abbrev pub hist : List Record → List Entry

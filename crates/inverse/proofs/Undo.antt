@@ -42,7 +42,8 @@ without_effect m o h =
 pub after-elsewhere : (m : Table) (k : Bytes) (s : Option Bytes) (p : Op) → key_of p ≢ k
     → after (with_record m k s) p ≡ with_record (after m p) k s
 after-elsewhere m k s p apart =
-    ap (λ r. with_record (with_record m k s) (key_of p) (value_after p r)) (get-with_record_other m k (key_of p) s apart)
+    ap (λ r. with_record (with_record m k s) (key_of p) (value_after p r))
+    (get-with_record_other m k (key_of p) s apart)
     ∙ with_record-swap m k (key_of p) s _ (λ e. apart (sym e))
 
 answer-elsewhere : (m : Table) (k : Bytes) (s : Option Bytes) (p : Op) → key_of p ≢ k
@@ -52,7 +53,8 @@ answer-elsewhere m k s p apart = ap (answer_at p) (get-with_record_other m k (ke
 after_all-elsewhere : (m : Table) (k : Bytes) (s : Option Bytes) (w : List Op) → AreElsewhere k w
     → after_all (with_record m k s) w ≡ with_record (after_all m w) k s
 after_all-elsewhere m k s [] h = refl
-after_all-elsewhere m k s (p ∷ w) h = ap (λ t. after_all t w) (after-elsewhere m k s p h.0) ∙ after_all-elsewhere (after m p) k s w h.1
+after_all-elsewhere m k s (p ∷ w) h =
+    ap (λ t. after_all t w) (after-elsewhere m k s p h.0) ∙ after_all-elsewhere (after m p) k s w h.1
 
 answers_in-elsewhere : (m : Table) (k : Bytes) (s : Option Bytes) (w : List Op) → AreElsewhere k w
     → answers_in (with_record m k s) w ≡ answers_in m w
@@ -71,8 +73,10 @@ get-after_all_elsewhere m k (p ∷ w) h =
 undone_at : (t : Table) (o i : Op) (r : Option Bytes) → PutsBack o i r → r ≡ get t (key_of o)
     → after (with_record t (key_of o) (value_after o r)) i ≡ t
 undone_at t o i r back there =
-    ap (λ k. with_record (with_record t (key_of o) (value_after o r)) k (value_after i (get (with_record t (key_of o) (value_after o r)) k))) back.key
-    ∙ ap (λ x. with_record (with_record t (key_of o) (value_after o r)) (key_of o) (value_after i x)) (get-with_record_same t (key_of o) (value_after o r))
+    ap (λ k. with_record (with_record t (key_of o) (value_after o r)) k
+    (value_after i (get (with_record t (key_of o) (value_after o r)) k))) back.key
+    ∙ ap (λ x. with_record (with_record t (key_of o) (value_after o r)) (key_of o) (value_after i x))
+    (get-with_record_same t (key_of o) (value_after o r))
     ∙ ap (with_record (with_record t (key_of o) (value_after o r)) (key_of o)) back.value
     ∙ with_record-again t (key_of o) (value_after o r) r
     ∙ with_record-there t (key_of o) r there
@@ -82,7 +86,8 @@ effective_at : (t : Table) (o i : Op) (r : Option Bytes) → PutsBack o i r
 effective_at t o i r back =
     let P : Option Bytes → Type 0 = λ x. IsEffective (answer_at i x) in
     let found : value_after o r ≡ get (with_record t (key_of o) (value_after o r)) (key_of i) =
-    sym (ap (get (with_record t (key_of o) (value_after o r))) back.key ∙ get-with_record_same t (key_of o) (value_after o r)) in
+    sym (ap (get (with_record t (key_of o) (value_after o r))) back.key
+    ∙ get-with_record_same t (key_of o) (value_after o r)) in
     subst P found back.effective
 
 pub undone : Undone
@@ -90,7 +95,8 @@ undone m o i w h elsewhere =
     let k = key_of o in
     let r = get m (key_of o) in
     let back = puts_back o i r h in
-    let there : after_all (after m o) w ≡ with_record (after_all m w) k (value_after o r) = after_all-elsewhere m k (value_after o r) w elsewhere in
+    let there : after_all (after m o) w ≡ with_record (after_all m w) k (value_after o r) =
+    after_all-elsewhere m k (value_after o r) w elsewhere in
     let P : Table → Type 0 = λ t. IsEffective (answer_in t i) in (
       ap (λ t. after t i) there ∙ undone_at (after_all m w) o i r back (sym (get-after_all_elsewhere m k w elsewhere)),
       answers_in-elsewhere m k (value_after o r) w elsewhere,

@@ -51,7 +51,13 @@ insert_again_is_run =
           (refl, refl, omega arith, refl),
           (
             acted saved 2 insert_a 3,
-            (refl, alone_free saved 2 (at_key Exclusive (key_of insert_a)) alone_saved, omega arith, (tt, alone_below saved 2 3 alone_saved (omega arith), alone_above saved 2 3 alone_saved tt), refl),
+            (
+              refl,
+              alone_free saved 2 (at_key Exclusive (key_of insert_a)) alone_saved,
+              omega arith,
+              (tt, alone_below saved 2 3 alone_saved (omega arith), alone_above saved 2 3 alone_saved tt),
+              refl,
+            ),
             (
               once,
               (3, insert_a, refl, first_answer (97 ∷ []) (49 ∷ []), refl),
@@ -63,7 +69,17 @@ insert_again_is_run =
                   (refl, refl),
                   (
                     twice,
-                    (refl, alone_free back 2 (at_key Exclusive (key_of insert_a)) alone_back, omega arith, ((omega arith, tt), alone_below back 2 5 alone_back (omega arith), alone_above back 2 5 alone_back tt), refl),
+                    (
+                      refl,
+                      alone_free back 2 (at_key Exclusive (key_of insert_a)) alone_back,
+                      omega arith,
+                      (
+                        (omega arith, tt),
+                        alone_below back 2 5 alone_back (omega arith),
+                        alone_above back 2 5 alone_back tt,
+                      ),
+                      refl,
+                    ),
                     (last, (5, insert_a, refl, first_answer (97 ∷ []) (49 ∷ []), refl), refl),
                   ),
                 ),
@@ -84,7 +100,10 @@ after_goes_back : (lines : List Line) (last : Machine) → Steps once (GoesBack 
 after_goes_back lines last h =
     let kept : [] ≡ h.1.0 = same h.1.0 h.1.3 in
     let there : h.0 ≡ going_back = h.1.4
-    ∙ ap (λ (k : List ℕ). record (with_txn once 2 (record (once.txns 2) { status = Rolling (Some 1) })) { h = cross (λ n. not (list_any (λ j. j == n) k)) 2 once.h }) (sym kept) in
+    ∙ ap (λ (k : List ℕ). record (with_txn once 2 (record (once.txns 2) { status = Rolling (Some 1) })) {
+      h = cross
+          (λ n. not (list_any (λ j. j == n) k)) 2 once.h;
+    }) (sym kept) in
     subst (λ m. Steps m lines last) there h.2
   where
     same : (k : List ℕ) → ◌≡◌ {A = Option (List ℕ)} (Some []) (Some k) → [] ≡ k
@@ -96,11 +115,14 @@ crossed_is_seen_is_none h =
     let goes : List Line = GoesBack 2 1 ∷ TellsBack 2 1 ∷ ends in
     let acts : List Line = Acts 2 insert_a 3 ∷ TellsAnswer 2 Inserted ∷ goes in
     let saves : Steps saved acts h.0 = after_saves acts h.0 (after_begins fresh 2 (Saves 2 1 ∷ acts) h.0 h.1) in
-    let asks : Steps (acted saved 2 insert_a 3) (TellsAnswer 2 Inserted ∷ goes) h.0 = after_acts saved 2 insert_a 3 (TellsAnswer 2 Inserted ∷ goes) h.0 saves in
-    let tells : Steps once goes h.0 = (after_told (acted saved 2 insert_a 3) insert_a 3 Inserted goes h.0 refl asks).1 in
+    let asks : Steps (acted saved 2 insert_a 3) (TellsAnswer 2 Inserted ∷ goes) h.0 =
+    after_acts saved 2 insert_a 3 (TellsAnswer 2 Inserted ∷ goes) h.0 saves in
+    let tells : Steps once goes h.0 =
+    (after_told (acted saved 2 insert_a 3) insert_a 3 Inserted goes h.0 refl asks).1 in
     let rolls : Steps going_back (TellsBack 2 1 ∷ ends) h.0 = after_goes_back (TellsBack 2 1 ∷ ends) h.0 tells in
     let is_back : Steps back ends h.0 = subst (λ m. Steps m ends h.0) rolls.1.1 rolls.2 in
-    let again : Steps twice (TellsAnswer 2 Exists ∷ []) h.0 = after_acts back 2 insert_a 5 (TellsAnswer 2 Exists ∷ []) h.0 is_back in
+    let again : Steps twice (TellsAnswer 2 Exists ∷ []) h.0 =
+    after_acts back 2 insert_a 5 (TellsAnswer 2 Exists ∷ []) h.0 is_back in
     let answer = (after_told twice insert_a 5 Exists [] h.0 refl again).0 in
     let wrong : Exists ≡ Inserted = answer ∙ sym (first_answer (97 ∷ []) (49 ∷ [])) in
     cc

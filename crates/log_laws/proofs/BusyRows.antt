@@ -16,13 +16,21 @@ read_is_busy_is_run =
       last,
       starts_acting insert_a (Begins 4 ∷ IsRefused (ToRead 4 (OfKey (97 ∷ []))) (Busy 2) ∷ []) last (
         last,
-        ((tt, alone_below waits 2 4 (alone_acted insert_a 3) (omega arith), alone_above waits 2 4 (alone_acted insert_a 3) (omega arith)), refl),
+        (
+          (
+            tt,
+            alone_below waits 2 4 (alone_acted insert_a 3) (omega arith),
+            alone_above waits 2 4 (alone_acted insert_a 3) (omega arith),
+          ),
+          refl,
+        ),
         (last, ((refl, second_holder waits (alone_acted insert_a 3) s (inl (97 ∷ [], refl, refl, refl))), refl), refl),
       ),
     )
 
 pub held_key_is_read_is_none : IsRun held_key_is_read → ⊥
 held_key_is_read_is_none h =
-    let reads = after_begins waits 4 (Reads 4 (OfKey (97 ∷ [])) ∷ []) h.0 (after_acting insert_a (Begins 4 ∷ Reads 4 (OfKey (97 ∷ [])) ∷ []) h.0 h.1) in
+    let reads = after_begins waits 4 (Reads 4 (OfKey (97 ∷ [])) ∷ []) h.0
+    (after_acting insert_a (Begins 4 ∷ Reads 4 (OfKey (97 ∷ [])) ∷ []) h.0 h.1) in
     let is_free : IsFree (begun waits 4) 4 (asked_span (OfKey (97 ∷ []))) = reads.1.2 in
     is_free 2 (λ e. omega (arith, e)) (inl (97 ∷ [], refl, refl, refl))

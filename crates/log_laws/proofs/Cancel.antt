@@ -52,7 +52,8 @@ all_cancel-before : (log : List Record) (n : ℕ) → AllCancel log → AllCance
 all_cancel-before = until AllCancel tt (λ r log h. h.1)
 
 -- a compensation in a legal log with right answers, all of whose beginnings cancel
-module _ (log : List Record) (t u x : ℕ) (i : Option Op) (legal : IsLegal log) (fits : FitsComp log t u x i) (right : HasRightAnswers log) (all : AllCancel log) where
+module _ (log : List Record) (t u x : ℕ) (i : Option Op) (legal : IsLegal log) (fits : FitsComp log t u x i)
+    (right : HasRightAnswers log) (all : AllCancel log) where
   abbrev o : Op
   o = fits.inverse.op
 
@@ -64,7 +65,8 @@ module _ (log : List Record) (t u x : ℕ) (i : Option Op) (legal : IsLegal log)
   outcome_there : Outcome o was i
   outcome_there =
       let asks : Requests log u o = op_request t o (record_at log u) (undone_is log t u x i legal fits) in
-      let right_answer : fits.inverse.answer ≡ answer_at o was = right_at log u fits.inverse.answer legal right fits.inverse.answered o asks in
+      let right_answer : fits.inverse.answer ≡ answer_at o was =
+      right_at log u fits.inverse.answer legal right fits.inverse.answered o asks in
       let P : Option Op → Type 0 = Outcome o was in
       subst P (sym (fits.inverse.inverse ∙ ap (inverse_of o) right_answer)) (outcome o was)
 
@@ -75,7 +77,8 @@ module _ (log : List Record) (t u x : ℕ) (i : Option Op) (legal : IsLegal log)
       ∙ ap (value_after o) (sym (cancels (before log u) (all_cancel-before log u all) (key_of o)))
 
   -- at the key the inverse takes the operation away
-  cancelled_there : value_with (key_of o) i (value_on (key_of o) log) ≡ value_where (key_of o) (λ n. not ((n == u) || is_crossed log n)) log
+  cancelled_there : value_with (key_of o) i (value_on (key_of o) log)
+      ≡ value_where (key_of o) (λ n. not ((n == u) || is_crossed log n)) log
   cancelled_there =
       ap (value_with (key_of o) i) left_there ∙ given_back o was i outcome_there
       ∙ cancels (before log u) (all_cancel-before log u all) (key_of o) ∙ sym (standing_without log t u x i legal fits)
@@ -88,7 +91,8 @@ module _ (log : List Record) (t u x : ℕ) (i : Option Op) (legal : IsLegal log)
       ∙ values_alike k (λ n. not (is_crossed log n)) (λ n. not ((n == u) || is_crossed log n)) log (λ n v q is_op on.
       let apart : n ≢ u = λ e.
       let there : IsOpBy log u v q = subst (λ (z : ℕ). IsOpBy log z v q) e is_op in
-      true≢false (sym on ∙ ap (is_on k) (op_same v t q o (record_at log u) there (undone_is log t u x i legal fits)).1 ∙ off) in
+      true≢false (sym on ∙ ap (is_on k) (op_same v t q o (record_at log u) there (undone_is log t u x i legal fits)).1
+      ∙ off) in
       ap (λ b. not (b || is_crossed log n)) (sym (ne_eqb n u apart)))
 
   -- so a log cancels still with a compensation more
@@ -96,7 +100,8 @@ module _ (log : List Record) (t u x : ℕ) (i : Option Op) (legal : IsLegal log)
   comp_cancels k =
       elim (cases_Bool (is_on k o)) [
         | inl on ↦
-            let P : Bytes → Type 0 = λ q. value_with q i (value_on q log) ≡ value_where q (λ n. not ((n == u) || is_crossed log n)) log in
+            let P : Bytes → Type 0 =
+            λ q. value_with q i (value_on q log) ≡ value_where q (λ n. not ((n == u) || is_crossed log n)) log in
             subst P (sym (is_same-true k (key_of o) on)) cancelled_there
         | inr off ↦ cancelled_elsewhere k off
       ]
@@ -106,7 +111,8 @@ cancels_next : (r : Record) (log : List Record) → Fits log r → IsLegal log �
     → Cancels (r ∷ log)
 cancels_next (is.Op t p o) log fits legal right all k =
     ap (λ v. if is_on k o then value_after o v else v) (cancels log all k)
-    ∙ ap (λ b. if not b && is_on k o then value_after o (value_standing k log) else value_standing k log) (sym (uncrossed_next log legal))
+    ∙ ap (λ b. if not b && is_on k o then value_after o (value_standing k log) else value_standing k log)
+    (sym (uncrossed_next log legal))
 cancels_next (is.Comp t u x i) log fits legal right all k = comp_cancels log t u x i legal fits right all k
 cancels_next _ log fits legal right all k = cancels log all k
 
@@ -127,8 +133,10 @@ bracket_there : (log : List Record) (t u x : ℕ) (i : Op) (legal : IsLegal log)
     → Brackets log u fits.inverse.op i
 bracket_there log t u x i legal fits right all =
     let o : Op = fits.inverse.op in
-    let puts_back : PutsBack o i (value_on (key_of o) (before log u)) = outcome_there log t u x (Some i) legal fits right all in
-    let there : value_on (key_of o) log ≡ value_after o (value_on (key_of o) (before log u)) = left_there log t u x (Some i) legal fits right all in
+    let puts_back : PutsBack o i (value_on (key_of o) (before log u)) =
+    outcome_there log t u x (Some i) legal fits right all in
+    let there : value_on (key_of o) log ≡ value_after o (value_on (key_of o) (before log u)) =
+    left_there log t u x (Some i) legal fits right all in
     record {
       same_key = puts_back.key;
       left = there;
@@ -141,5 +149,6 @@ pub bracket : CompensationsBracket
 bracket log t u x o i legal right is_op =
     let fits = legal.0 in
     let all = all_cancel log legal.1 right in
-    let same : fits.inverse.op ≡ o = (op_same t t fits.inverse.op o (record_at log u) (undone_is log t u x (Some i) legal.1 fits) is_op).1 in
+    let same : fits.inverse.op ≡ o =
+    (op_same t t fits.inverse.op o (record_at log u) (undone_is log t u x (Some i) legal.1 fits) is_op).1 in
     subst (λ q. Brackets log u q i) same (bracket_there log t u x i legal.1 fits right all)

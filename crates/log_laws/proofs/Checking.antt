@@ -25,7 +25,8 @@ pub idle_from : (log : List Record) (t : ℕ) → ((n : ℕ) → n ≤ length lo
 idle_from log t none n o step asks =
     elim (cases_Bool (is_some (answer_of log n))) [
       | inl answered ↦ answered
-      | inr waits ↦ absurd (none n (step_number log n t step).bounded (record { step = step; requested = ap is_some asks; unanswered = waits }))
+      | inr waits ↦ absurd (none n (step_number log n t step).bounded
+          (record { step = step; requested = ap is_some asks; unanswered = waits }))
     ]
 
 -- where none blocks, the key is free
@@ -44,7 +45,8 @@ pub answered_from : (log : List Record) (low : ℕ) → ((n : ℕ) → n ≤ len
 answered_from log low none n o below asks =
     elim (cases_Bool (is_some (answer_of log n))) [
       | inl answered ↦ answered
-      | inr waits ↦ absurd (none n (request_number log n o asks).bounded (record { below = below; requested = ap is_some asks; unanswered = waits }))
+      | inr waits ↦ absurd (none n (request_number log n o asks).bounded
+          (record { below = below; requested = ap is_some asks; unanswered = waits }))
     ]
 
 -- the greatest of those read so far: of none, and of all
@@ -61,12 +63,17 @@ pub latest_more : (P : ℕ → Type 0) (i x y : ℕ) (b : Bool) → IsLatestOrNo
     → ((b ≡ true → P (i + 1)) × (P (i + 1) → b ≡ true))
     → ((b ≡ true) × (y ≡ i + 1)) ⊎ ((b ≡ false) × (y ≡ x)) → IsLatestOrNone (λ n. P n × (n ≤ i + 1)) y
 latest_more P i x y b found decides (inl h) =
-    inl (record { is = (subst P (sym h.1) (decides.0 h.0), omega (arith, h.1)); greatest = λ m l. omega (arith, l.1, h.1) })
+    inl (record {
+      is = (subst P (sym h.1) (decides.0 h.0), omega (arith, h.1));
+      greatest = λ m l. omega (arith, l.1, h.1);
+    })
 latest_more P i x y b found decides (inr h) =
     let still : (m : ℕ) → P m → m ≤ i + 1 → m ≤ i = λ m p within.
-    elim (cases_eq m (i + 1)) [ inl e ↦ absurd (true≢false (sym (decides.1 (subst P e p)) ∙ h.0)) | inr e ↦ omega arith ] in
+    elim (cases_eq m (i + 1))
+    [ inl e ↦ absurd (true≢false (sym (decides.1 (subst P e p)) ∙ h.0)) | inr e ↦ omega arith ] in
     subst (IsLatestOrNone (λ n. P n × (n ≤ i + 1))) (sym h.1)
-    (latest_as (λ n. P n × (n ≤ i)) (λ n. P n × (n ≤ i + 1)) (λ n l. (l.0, omega (arith, l.1))) (λ n l. (l.0, still n l.0 l.1)) x found)
+    (latest_as (λ n. P n × (n ≤ i)) (λ n. P n × (n ≤ i + 1)) (λ n l. (l.0, omega (arith, l.1)))
+    (λ n l. (l.0, still n l.0 l.1)) x found)
 
 -- a kind of numbers has one greatest
 pub latest_unique : (P : ℕ → Type 0) (x y : ℕ) → IsLatestOrNone P x → IsLatestOrNone P y → x ≡ y
@@ -82,18 +89,23 @@ latest_some P x some (inr h) = absurd (some h.0)
 
 -- so a number is tested against the one that was found
 pub is_the_latest : (P : ℕ → Type 0) (x y : ℕ) → IsLatestOrNone P x → IsTrue (nat_eq x y) ↔ IsLatestOrNone P y
-is_the_latest P x y found = (λ e. subst (IsLatestOrNone P) (eqb-true x y e) found, λ h. eq-eqb x y (latest_unique P x y found h))
+is_the_latest P x y found =
+    (λ e. subst (IsLatestOrNone P) (eqb-true x y e) found, λ h. eq-eqb x y (latest_unique P x y found h))
 
 -- the same where one is wanted
 pub is_the_next : (P : ℕ → Type 0) (x y : ℕ) → y ≢ 0 → IsLatestOrNone P x → IsTrue (nat_eq x y) ↔ IsLatest P y
-is_the_next P x y some found =
-    (λ e. latest_some P y some (subst (IsLatestOrNone P) (eqb-true x y e) found), λ h. eq-eqb x y (latest_unique P x y found (inl h)))
+is_the_next P x y some found = (
+  λ e. latest_some P y some (subst (IsLatestOrNone P) (eqb-true x y e) found),
+  λ h. eq-eqb x y (latest_unique P x y found (inl h)),
+)
 
 -- 0 is no greatest number
 pub is_zero : (P : ℕ → Type 0) (y : ℕ) → y ≡ 0 → (P 0 → ⊥) → IsTrue (not (nat_eq y 0)) ↔ IsLatest P y
-is_zero P y zero zero_is_none = (λ e. absurd (true≢false (sym e ∙ ap not (eq-eqb y 0 zero))), λ h. absurd (zero_is_none (subst P zero h.is)))
+is_zero P y zero zero_is_none =
+    (λ e. absurd (true≢false (sym e ∙ ap not (eq-eqb y 0 zero))), λ h. absurd (zero_is_none (subst P zero h.is)))
 
 -- 0 was found just where there is none
 pub is_none : (P : ℕ → Type 0) (x : ℕ) → (P 0 → ⊥) → IsLatestOrNone P x → IsTrue (nat_eq x 0) ↔ ((n : ℕ) → P n → ⊥)
-is_none P x zero_is_none (inl h) = (λ e. absurd (zero_is_none (subst P (eqb-true x 0 e) h.is)), λ none. absurd (none x h.is))
+is_none P x zero_is_none (inl h) =
+    (λ e. absurd (zero_is_none (subst P (eqb-true x 0 e) h.is)), λ none. absurd (none x h.is))
 is_none P x zero_is_none (inr h) = (λ e. h.1, λ none. eq-eqb x 0 h.0)

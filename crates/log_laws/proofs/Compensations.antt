@@ -40,20 +40,23 @@ frozen (r ∷ log) u n v q legal number below is_op ended =
     elim (which r log u number) [
       | inl e ↦
           let same = before_new r log u e in
-          ended_crosses_none r log n v q legal.0 (subst (λ x. IsOpBy x n v q) same is_op) (subst (λ x. has_ended x v ≡ true) same ended)
+          ended_crosses_none r log n v q legal.0 (subst (λ x. IsOpBy x n v q) same is_op)
+          (subst (λ x. has_ended x v ≡ true) same ended)
           ∙ ap (λ x. is_crossed x n) (sym same)
       | inr was ↦
           let same = before_old r log u (not_newest log u was) in
           let was_op : IsOpBy (before log u) n v q = subst (λ x. IsOpBy x n v q) same is_op in
           let had_ended : has_ended (before log u) v ≡ true = subst (λ x. has_ended x v ≡ true) same ended in
-          ended_crosses_none r log n v q legal.0 (subst (AnOp v q) (record_before log n u was below) was_op) (since (λ x. has_ended x v ≡ true) (ended_push v) log u had_ended)
+          ended_crosses_none r log n v q legal.0 (subst (AnOp v q) (record_before log n u was below) was_op)
+          (since (λ x. has_ended x v ≡ true) (ended_push v) log u had_ended)
           ∙ frozen log u n v q legal.1 was below was_op had_ended ∙ ap (λ x. is_crossed x n) (sym same)
     ]
 
 -- who ended between two numbers had ended before the later one
 pub ended_before : (log : List Record) (t n m : ℕ) → IsNumber log m → EndsBetween log t n m
     → has_ended (before log m) t ≡ true
-ended_before log t n m number h = end_ends (before log m) t h.end (subst (AnEnd t) (sym (record_before log h.end m number h.before)) h.is)
+ended_before log t n m number h =
+    end_ends (before log m) t h.end (subst (AnEnd t) (sym (record_before log h.end m number h.before)) h.is)
 
 -- at a compensation: what stands at its key
 module _ (log : List Record) (t u x : ℕ) (i : Option Op) (legal : IsLegal log) (fits : FitsComp log t u x i) where
@@ -64,7 +67,8 @@ module _ (log : List Record) (t u x : ℕ) (i : Option Op) (legal : IsLegal log)
   pub undone_is : IsOpBy log u t undone
   undone_is =
       subst (λ (z : ℕ). IsOpBy log u z fits.inverse.op)
-      (op_same fits.inverse.txn t fits.inverse.op fits.latest.is.op (record_at log u) fits.inverse.is fits.latest.is.is).0 fits.inverse.is
+      (op_same fits.inverse.txn t fits.inverse.op fits.latest.is.op (record_at log u) fits.inverse.is
+      fits.latest.is.is).0 fits.inverse.is
 
   -- its number is one of the log
   number : IsNumber log u
@@ -78,10 +82,19 @@ module _ (log : List Record) (t u x : ℕ) (i : Option Op) (legal : IsLegal log)
         | inl c ↦ c
         | inr c ↦
             elim (cases_eq v t) [
-              | inl e ↦ absurd (omega (arith, above, fits.latest.greatest n (record { op = q; is = subst (λ (z : ℕ). IsOpBy log n z q) e is_op; uncrossed = c })))
+              | inl e ↦ absurd (omega (
+                arith,
+                above,
+                fits.latest.greatest n (record {
+                  op = q;
+                  is = subst (λ (z : ℕ). IsOpBy log n z q) e is_op;
+                  uncrossed = c;
+                }),
+              ))
               | inr other ↦
                   let same : key_of q ≡ key_of undone = sym (is_same-true (key_of undone) (key_of q) on) in
-                  let end = strict log legal u n t v undone q undone_is above (op_step v q (record_at log n) is_op) (op_request v q (record_at log n) is_op) same other in
+                  let end = strict log legal u n t v undone q undone_is above (op_step v q (record_at log n) is_op)
+                  (op_request v q (record_at log n) is_op) same other in
                   absurd (true≢false (sym (end_ends log t end.end end.is) ∙ fits.open_txn.goes_on))
             ]
       ]
@@ -97,12 +110,18 @@ module _ (log : List Record) (t u x : ℕ) (i : Option Op) (legal : IsLegal log)
             elim (cases_Bool (is_crossed (before log u) n)) [
               | inl c ↦ since (λ y. is_crossed y n ≡ true) (crossed_push n) log u c ∙ sym c
               | inr c ↦
-                  (stands_since log t u n legal fits.latest.is below (record { op = q; is = subst (λ (z : ℕ). IsOpBy (before log u) n z q) e was_op; uncrossed = c })).uncrossed
+                  (stands_since log t u n legal fits.latest.is below
+                  (record {
+                    op = q;
+                    is = subst (λ (z : ℕ). IsOpBy (before log u) n z q) e was_op;
+                    uncrossed = c;
+                  })).uncrossed
                   ∙ sym c
             ]
         | inr other ↦
             let same : key_of undone ≡ key_of q = is_same-true (key_of undone) (key_of q) on in
-            let end = strict log legal n u v t q undone is_op below (op_step t undone (record_at log u) undone_is) (op_request t undone (record_at log u) undone_is) same (λ e. other (sym e)) in
+            let end = strict log legal n u v t q undone is_op below (op_step t undone (record_at log u) undone_is)
+            (op_request t undone (record_at log u) undone_is) same (λ e. other (sym e)) in
             frozen log u n v q legal number below was_op (ended_before log v n u number end)
       ]
 
@@ -123,17 +142,25 @@ module _ (log : List Record) (t u x : ℕ) (i : Option Op) (legal : IsLegal log)
   -- what stands there is what it left
   pub standing_left : value_standing k log ≡ value_after undone (value_standing k (before log u))
   standing_left =
-      value_split k standing log u t undone undone_is (λ n v q above is_op on. ap not (crossed_above n v q above is_op on))
-      ∙ ap (λ b. if not b && is_on k undone then value_after undone (value_where k standing (before log u)) else value_where k standing (before log u)) fits.latest.is.uncrossed
-      ∙ ap (λ b. if b then value_after undone (value_where k standing (before log u)) else value_where k standing (before log u)) (is_same-refl k)
-      ∙ ap (value_after undone) (values_alike k standing stood (before log u) (λ n v q was_op on. ap not (crossed_below n v q was_op on)))
+      value_split k standing log u t undone undone_is
+      (λ n v q above is_op on. ap not (crossed_above n v q above is_op on))
+      ∙ ap (λ b. if not b && is_on k undone then value_after undone (value_where k standing (before log u)) else
+      value_where k standing (before log u)) fits.latest.is.uncrossed
+      ∙ ap (λ b. if b then value_after undone (value_where k standing (before log u)) else value_where k standing
+      (before log u)) (is_same-refl k)
+      ∙ ap (value_after undone)
+      (values_alike k standing stood (before log u) (λ n v q was_op on. ap not (crossed_below n v q was_op on)))
 
   -- and without it what stood before it
   pub standing_without : value_where k left log ≡ value_standing k (before log u)
   standing_without =
-      value_split k left log u t undone undone_is (λ n v q above is_op on. ap not (or_right (n == u) (is_crossed log n) (crossed_above n v q above is_op on)))
-      ∙ ap (λ b. if not (b || is_crossed log u) && is_on k undone then value_after undone (value_where k left (before log u)) else value_where k left (before log u)) (eq-eqb u u refl)
+      value_split k left log u t undone undone_is
+      (λ n v q above is_op on. ap not (or_right (n == u) (is_crossed log n) (crossed_above n v q above is_op on)))
+      ∙ ap (λ b. if not (b || is_crossed log u)
+      && is_on k undone then value_after undone (value_where k left (before log u)) else value_where k left
+      (before log u)) (eq-eqb u u refl)
       ∙ values_alike k left stood (before log u)
       (λ n v q was_op on.
       let below : n < u = number_before log u n number (op_number (before log u) n v q was_op) in
-      ap (λ b. not (b || is_crossed log n)) (ne_eqb n u (λ e. omega (arith, e, below))) ∙ ap not (crossed_below n v q was_op on))
+      ap (λ b. not (b || is_crossed log n)) (ne_eqb n u (λ e. omega (arith, e, below)))
+      ∙ ap not (crossed_below n v q was_op on))

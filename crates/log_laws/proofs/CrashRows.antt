@@ -45,7 +45,8 @@ below_again : (u : ℕ) → ((begun kept 6).txns u).begun ≡ true → u < 7
 below_again u has_begun =
     elim (cases_eq u 6) [
       | inl e ↦ omega (arith, e)
-      | inr apart ↦ alone_below kept 2 7 alone_kept (omega arith) u (sym (ap (λ x. x.begun) (not_sixth u apart)) ∙ has_begun)
+      | inr apart ↦ alone_below kept 2 7 alone_kept (omega arith) u
+          (sym (ap (λ x. x.begun) (not_sixth u apart)) ∙ has_begun)
     ]
 
 above_again : (u : ℕ) → IsAbove 7 ((begun kept 6).txns u).status
@@ -67,7 +68,10 @@ commit_stays_is_run =
           crashes committing (ended (committing.txns 2) Committed) false alone_committing survives_kept,
           (
             begun kept 6,
-            (((omega arith, tt), alone_below kept 2 6 alone_kept (omega arith), alone_above kept 2 6 alone_kept tt), refl),
+            (
+              ((omega arith, tt), alone_below kept 2 6 alone_kept (omega arith), alone_above kept 2 6 alone_kept tt),
+              refl,
+            ),
             (
               asks_again,
               (refl, free_again, omega arith, ((omega arith, tt), below_again, above_again), refl),
@@ -87,7 +91,11 @@ commit_falls_is_run =
       starts (97 ∷ []) (49 ∷ []) (Commits 2 ∷ Crashes ∷ TellsLost 2 ∷ []) last (
         committing,
         (refl, refl),
-        (fallen, crashes committing (losing committing 2 false) true alone_committing (inr (inl (false, refl), refl)), (last, (refl, refl), refl)),
+        (
+          fallen,
+          crashes committing (losing committing 2 false) true alone_committing (inr (inl (false, refl), refl)),
+          (last, (refl, refl), refl),
+        ),
       ),
     )
 
@@ -120,7 +128,11 @@ end_is_lost_is_run =
         (
           ends,
           (refl, refl),
-          (back, crashes ends (losing ends 2 false) false alone (inr (inr (refl, false, refl)), refl), (last, (refl, refl), refl)),
+          (
+            back,
+            crashes ends (losing ends 2 false) false alone (inr (inr (refl, false, refl)), refl),
+            (last, (refl, refl), refl),
+          ),
         ),
       ),
     )
@@ -155,8 +167,22 @@ key_stays_held_is_run =
         crashes m (losing m 2 true) true (alone_acted insert_a 3) (inl (true, refl), refl),
         (
           last,
-          ((tt, alone_below cut_short 2 4 alone_cut_short (omega arith), alone_above cut_short 2 4 alone_cut_short tt), refl),
-          (last, ((refl, second_holder cut_short alone_cut_short (at_key Exclusive (key_of insert_a)) (inl (97 ∷ [], refl, refl, refl))), refl), refl),
+          (
+            (tt, alone_below cut_short 2 4 alone_cut_short (omega arith), alone_above cut_short 2 4 alone_cut_short tt),
+            refl,
+          ),
+          (
+            last,
+            (
+              (
+                refl,
+                second_holder cut_short alone_cut_short (at_key Exclusive (key_of insert_a))
+                    (inl (97 ∷ [], refl, refl, refl)),
+              ),
+              refl,
+            ),
+            refl,
+          ),
         ),
       ),
     )

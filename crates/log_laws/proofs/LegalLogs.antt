@@ -117,9 +117,11 @@ begun (r ∷ log) t n h s =
 pub ended_cases : (t : ℕ) (r : Record) (log : List Record) → has_ended (r ∷ log) t ≡ true
     → (has_ended log t ≡ true) ⊎ ((r ≡ is.Commit t) ⊎ (r ≡ is.End t))
 ended_cases t (is.Commit u) log h =
-    elim (or_cases (t == u) (has_ended log t) h) [ inl e ↦ inr (inl (ap is.Commit (sym (eqb-true t u e)))) | inr e ↦ inl e ]
+    elim (or_cases (t == u) (has_ended log t) h)
+    [ inl e ↦ inr (inl (ap is.Commit (sym (eqb-true t u e)))) | inr e ↦ inl e ]
 ended_cases t (is.End u) log h =
-    elim (or_cases (t == u) (has_ended log t) h) [ inl e ↦ inr (inr (ap is.End (sym (eqb-true t u e)))) | inr e ↦ inl e ]
+    elim (or_cases (t == u) (has_ended log t) h)
+    [ inl e ↦ inr (inr (ap is.End (sym (eqb-true t u e)))) | inr e ↦ inl e ]
 ended_cases t _ log h = inl h
 
 -- a number of an operation
@@ -140,17 +142,27 @@ step_number log n t h = within (AStep t) (no_step t) log n h
 
 -- and stays what it is in a longer log
 kept_op : (r : Record) (log : List Record) (n : ℕ) → SomeOp log n → SomeOp (r ∷ log) n
-kept_op r log n h = record { txn = h.txn; op = h.op; is_op = kept_at (AnOp h.txn h.op) r log n (op_number log n h.txn h.op h.is_op) h.is_op }
+kept_op r log n h = record {
+  txn = h.txn;
+  op = h.op;
+  is_op = kept_at (AnOp h.txn h.op) r log n (op_number log n h.txn h.op h.is_op) h.is_op;
+}
 
 kept_request : (r : Record) (log : List Record) (n : ℕ) → HasRequest log n → HasRequest (r ∷ log) n
-kept_request r log n h = record { op = h.op; requested = kept_at (ARequest h.op) r log n (request_number log n h.op h.requested) h.requested }
+kept_request r log n h =
+    record {
+      op = h.op;
+      requested = kept_at (ARequest h.op) r log n (request_number log n h.op h.requested)
+          h.requested;
+    }
 
 -- what a compensation names is an operation of its transaction
 crossed_now : (r : Record) (log : List Record) (n : ℕ) → Fits log r → is_crossed (r ∷ log) n ≡ true
     → (is_crossed log n ≡ true → SomeOp log n) → SomeOp log n
 crossed_now (is.Comp t u x i) log n h c before =
     elim (or_cases (n == u) (is_crossed log n) c) [
-      | inl e ↦ subst (SomeOp log) (sym (eqb-true n u e)) (record { txn = t; op = h.latest.is.op; is_op = h.latest.is.is })
+      | inl e ↦ subst (SomeOp log) (sym (eqb-true n u e))
+          (record { txn = t; op = h.latest.is.op; is_op = h.latest.is.is })
       | inr e ↦ before e
     ]
 crossed_now _ log n h c before = before c
@@ -201,9 +213,14 @@ stands_number log t n h = op_number log n t h.op h.is
 
 pub stands_kept : (r : Record) (log : List Record) (t n : ℕ) → Stands log t n → is_crossed (r ∷ log) n ≡ false
     → Stands (r ∷ log) t n
-stands_kept r log t n h c = record { op = h.op; is = kept_at (AnOp t h.op) r log n (stands_number log t n h) h.is; uncrossed = c }
+stands_kept r log t n h c =
+    record { op = h.op; is = kept_at (AnOp t h.op) r log n (stands_number log t n h) h.is; uncrossed = c }
 
 -- and it stood before the newest record
 pub stands_had : (r : Record) (log : List Record) (t n : ℕ) → IsNumber log n → Stands (r ∷ log) t n → Stands log t n
 stands_had r log t n is h =
-    record { op = h.op; is = had_at (AnOp t h.op) r log n is h.is; uncrossed = falls (is_crossed log n) (is_crossed (r ∷ log) n) (crossed_push n r log) h.uncrossed }
+    record {
+      op = h.op;
+      is = had_at (AnOp t h.op) r log n is h.is;
+      uncrossed = falls (is_crossed log n) (is_crossed (r ∷ log) n) (crossed_push n r log) h.uncrossed;
+    }

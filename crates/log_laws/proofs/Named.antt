@@ -14,7 +14,11 @@ pub txn_below : (log : List Record) (t n : ℕ) → IsLegal log → IsStepOf log
 txn_below [] t n legal step = absurd (cc)
 txn_below (r ∷ log) t n legal step =
     elim (which r log n (step_number (r ∷ log) n t step)) [
-      | inl e ↦ omega (arith, e, (begun_number log t (step_open log r t legal.0 (newest_at (AStep t) r log n e step)).begun).bounded)
+      | inl e ↦ omega (
+        arith,
+        e,
+        (begun_number log t (step_open log r t legal.0 (newest_at (AStep t) r log n e step)).begun).bounded,
+      )
       | inr was ↦ txn_below log t n legal.1 (had_at (AStep t) r log n was step)
     ]
 
@@ -30,11 +34,13 @@ crossed_answered_now _ log n fits c before = before c
 
 pub crossed_answered : (log : List Record) (n : ℕ) → IsLegal log → is_crossed log n ≡ true → IsSome (answer_of log n)
 crossed_answered [] n legal c = absurd (cc)
-crossed_answered (r ∷ log) n legal c = answered_push n r log (crossed_answered_now r log n legal.0 c (crossed_answered log n legal.1))
+crossed_answered (r ∷ log) n legal c =
+    answered_push n r log (crossed_answered_now r log n legal.0 c (crossed_answered log n legal.1))
 
 pub unanswered_uncrossed : (log : List Record) (n : ℕ) → IsLegal log → is_some (answer_of log n) ≡ false
     → is_crossed log n ≡ false
-unanswered_uncrossed log n legal h = falls (is_crossed log n) (is_some (answer_of log n)) (crossed_answered log n legal) h
+unanswered_uncrossed log n legal h =
+    falls (is_crossed log n) (is_some (answer_of log n)) (crossed_answered log n legal) h
 
 -- who has ended had begun
 pub ended_begun : (log : List Record) (t : ℕ) → IsLegal log → has_ended log t ≡ true → record_at log t ≡ Some is.Begin
@@ -51,7 +57,8 @@ pub open_begun : (log : List Record) → IsLegal log → IsOpen (is.Begin ∷ lo
 open_begun log legal = record {
   begun = at_newest (λ x. x ≡ Some is.Begin) is.Begin log (length log + 1) refl refl;
   goes_on = elim (cases_Bool (has_ended log (length log + 1))) [
-    | inl ended ↦ absurd (not_newest log (length log + 1) (begun_number log (length log + 1) (ended_begun log (length log + 1) legal ended)) refl)
+    | inl ended ↦ absurd (not_newest log (length log + 1)
+        (begun_number log (length log + 1) (ended_begun log (length log + 1) legal ended)) refl)
     | inr h ↦ h
   ];
 }

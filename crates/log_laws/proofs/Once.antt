@@ -51,12 +51,14 @@ compensated_once log n m u legal a b = by log n m legal (as_comp log n u a) (as_
               elim (which r log m (comp_number (r ∷ log) m u b)) [
                 | inl f ↦ e ∙ sym f
                 | inr f ↦
-                    absurd (not_again r log u legal.0 (newest_at (AComp u) r log n e a) (crosses log m u (had_at (AComp u) r log m f b)))
+                    absurd (not_again r log u legal.0 (newest_at (AComp u) r log n e a)
+                    (crosses log m u (had_at (AComp u) r log m f b)))
               ]
           | inr e ↦
               elim (which r log m (comp_number (r ∷ log) m u b)) [
                 | inl f ↦
-                    absurd (not_again r log u legal.0 (newest_at (AComp u) r log m f b) (crosses log n u (had_at (AComp u) r log n e a)))
+                    absurd (not_again r log u legal.0 (newest_at (AComp u) r log m f b)
+                    (crosses log n u (had_at (AComp u) r log n e a)))
                 | inr f ↦ by log n m legal.1 (had_at (AComp u) r log n e a) (had_at (AComp u) r log m f b)
               ]
         ]

@@ -26,7 +26,8 @@ on_or_off false k m o v same e = e
 -- the value at a key after an operation on it or on another
 get-after : (k : Bytes) (m : Table) (o : Op) (v : Option Bytes) → get m k ≡ v
     → get (after m o) k ≡ (if is_on k o then value_after o v else v)
-get-after k m o v e = get-with_record m (key_of o) (value_after o (get m (key_of o))) k ∙ on_or_off (is_on k o) k m o v (is_same-true k (key_of o)) e
+get-after k m o v e = get-with_record m (key_of o) (value_after o (get m (key_of o))) k
+    ∙ on_or_off (is_on k o) k m o v (is_same-true k (key_of o)) e
 
 -- an entry leaves its operation's value unless it is crossed
 pub entry_leaves : (crossed : Bool) (k : Bytes) (m : Table) (o : Op) (v : Option Bytes) → get m k ≡ v
@@ -38,13 +39,15 @@ entry_leaves false k m o v e = get-after k m o v e
 answered_leaves : (whole : List Record) (n t : ℕ) (o : Op) (a : Option Answer) (h : List Entry) (k : Bytes)
     (v : Option Bytes)
     → get (plain h) k ≡ v
-    → get (plain (entry_with whole n t o a h)) k ≡ (if (is_some a && not (is_crossed whole n)) && is_on k o then value_after o v else v)
+    → get (plain (entry_with whole n t o a h)) k
+    ≡ (if (is_some a && not (is_crossed whole n)) && is_on k o then value_after o v else v)
 answered_leaves whole n t o None h k v e = e
 answered_leaves whole n t o (Some a) h k v e = entry_leaves (is_crossed whole n) k (plain h) o v e
 
 -- so does what is left to read of the log
 plain_in : (whole log : List Record) (k : Bytes)
-    → get (plain (hist_in whole log)) k ≡ value_where k (λ n. is_some (answer_of whole n) && not (is_crossed whole n)) log
+    → get (plain (hist_in whole log)) k
+    ≡ value_where k (λ n. is_some (answer_of whole n) && not (is_crossed whole n)) log
 plain_in whole [] k = get-empty key_cmp k
 plain_in whole (is.Op t p o ∷ log) k =
     answered_leaves whole (length log + 1) t o (answer_of whole (length log + 1)) (hist_in whole log) k
@@ -65,7 +68,8 @@ rest_captured cap false d rest h = h
 captured_leaves : (cap : ℕ → Bool) (on : Bool) (d : Numbered) (rest : List Numbered) (v : Option Bytes)
     → value_of cap rest ≡ v → AreCaptured cap (if on then d ∷ rest else rest)
     → value_of cap (if on then d ∷ rest else rest) ≡ (if on then value_after d.op v else v)
-captured_leaves cap true d rest v e h = ap (λ b. if b then value_after d.op (value_of cap rest) else value_of cap rest) h.0 ∙ ap (value_after d.op) e
+captured_leaves cap true d rest v e h =
+    ap (λ b. if b then value_after d.op (value_of cap rest) else value_of cap rest) h.0 ∙ ap (value_after d.op) e
 captured_leaves cap false d rest v e h = e
 
 -- the same, of what a record has done

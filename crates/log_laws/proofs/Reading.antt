@@ -30,14 +30,19 @@ at_taken xs (suc m) i d below within =
     let more = reverse-take_suc xs m d (omega arith) in
     let size : length (reverse (take m xs)) ≡ m = length-taken xs m (omega arith) in
     elim (cases_eq i m) [
-      | inl e ↦ ap (λ x. record_at x (i + 1)) more ∙ at_newest (λ x. x ≡ Some (get_or xs i d)) (get_or xs m d) (reverse (take m xs)) (i + 1) (omega arith) (ap (λ (j : ℕ). Some (get_or xs j d)) (sym e))
-      | inr e ↦ ap (λ x. record_at x (i + 1)) more ∙ record_old (get_or xs m d) (reverse (take m xs)) (i + 1) (λ f. e (omega arith)) ∙ at_taken xs m i d (omega arith) (omega arith)
+      | inl e ↦ ap (λ x. record_at x (i + 1)) more
+          ∙ at_newest (λ x. x ≡ Some (get_or xs i d)) (get_or xs m d) (reverse (take m xs)) (i + 1) (omega arith)
+          (ap (λ (j : ℕ). Some (get_or xs j d)) (sym e))
+      | inr e ↦ ap (λ x. record_at x (i + 1)) more
+          ∙ record_old (get_or xs m d) (reverse (take m xs)) (i + 1) (λ f. e (omega arith))
+          ∙ at_taken xs m i d (omega arith) (omega arith)
     ]
 
 -- in the whole slice
 pub at_reversed : (xs : List Record) (i : ℕ) (d : Record) → i < length xs
     → record_at (reverse xs) (i + 1) ≡ Some (get_or xs i d)
-at_reversed xs i d h = ap (λ x. record_at x (i + 1)) (sym (reverse-take_all xs)) ∙ at_taken xs (length xs) i d h (omega arith)
+at_reversed xs i d h = ap (λ x. record_at x (i + 1)) (sym (reverse-take_all xs))
+    ∙ at_taken xs (length xs) i d h (omega arith)
 
 -- what is read at the place is the record of the number
 pub read_at : (xs : List Record) (n : ℕ) (r : Option (Bor Record)) → (n ≡ 0 → ⊥) → is_some r ≡ ltb (n - 1) (length xs)
@@ -48,7 +53,8 @@ read_at xs n None positive is_in there =
     sym (beyond (reverse xs) n (λ h _. omega (arith, length-reverse xs)))
 read_at xs n (Some x) positive is_in there =
     let e : (n - 1) + 1 ≡ n = omega arith in
-    ap Some there ∙ sym (at_reversed xs (n - 1) x.now (ltb-true (n - 1) (length xs) (sym is_in))) ∙ ap (record_at (reverse xs)) e
+    ap Some there ∙ sym (at_reversed xs (n - 1) x.now (ltb-true (n - 1) (length xs) (sym is_in)))
+    ∙ ap (record_at (reverse xs)) e
 
 -- a legal log's record fits those before its place
 pub fits_taken : (xs : List Record) (i : ℕ) (d : Record) → i < length xs → IsLegal (reverse xs)
@@ -56,5 +62,6 @@ pub fits_taken : (xs : List Record) (i : ℕ) (d : Record) → i < length xs →
 fits_taken xs i d h legal =
     let parts : reverse (drop (suc i) xs) ++ reverse (take (suc i) xs) ≡ reverse xs =
     sym (reverse-append (take (suc i) xs) (drop (suc i) xs)) ∙ ap reverse (take-append-drop (suc i) xs) in
-    let taken : IsLegal (reverse (take (suc i) xs)) = legal_end (reverse (drop (suc i) xs)) (reverse (take (suc i) xs)) (subst IsLegal (sym parts) legal) in
+    let taken : IsLegal (reverse (take (suc i) xs)) =
+    legal_end (reverse (drop (suc i) xs)) (reverse (take (suc i) xs)) (subst IsLegal (sym parts) legal) in
     (subst IsLegal (reverse-take_suc xs i d h) taken).0

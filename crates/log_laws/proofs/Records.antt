@@ -63,7 +63,8 @@ no_request o h = cc
 -- the newest number has the newest record
 pub at_newest : (P : Option Record → Type 0) (r : Record) (log : List Record) (n : ℕ) → n ≡ length log + 1 → P (Some r)
     → P (record_at (r ∷ log) n)
-at_newest P r log n e h = subst (λ (b : Bool). P (cond b (Some r) (record_at log n))) (sym (eq-eqb n (length log + 1) e)) h
+at_newest P r log n e h =
+    subst (λ (b : Bool). P (cond b (Some r) (record_at log n))) (sym (eq-eqb n (length log + 1) e)) h
 
 pub newest_at : (P : Option Record → Type 0) (r : Record) (log : List Record) (n : ℕ) → n ≡ length log + 1
     → P (record_at (r ∷ log) n) → P (Some r)
@@ -72,7 +73,8 @@ newest_at P r log n e h = subst (λ (b : Bool). P (cond b (Some r) (record_at lo
 -- any other has the record that it had
 pub at_older : (P : Option Record → Type 0) (r : Record) (log : List Record) (n : ℕ) → n ≢ length log + 1
     → P (record_at log n) → P (record_at (r ∷ log) n)
-at_older P r log n e h = subst (λ (b : Bool). P (cond b (Some r) (record_at log n))) (sym (ne_eqb n (length log + 1) e)) h
+at_older P r log n e h =
+    subst (λ (b : Bool). P (cond b (Some r) (record_at log n))) (sym (ne_eqb n (length log + 1) e)) h
 
 pub older_at : (P : Option Record → Type 0) (r : Record) (log : List Record) (n : ℕ) → n ≢ length log + 1
     → P (record_at (r ∷ log) n) → P (record_at log n)
@@ -115,7 +117,8 @@ pub within : (P : Option Record → Type 0) → (P None → ⊥) → (log : List
     → IsNumber log n
 within P nothing [] n h = absurd (nothing h)
 within P nothing (r ∷ log) n h =
-    elim (cases_eq n (length log + 1)) [ inl e ↦ newest_number r log n e | inr e ↦ longer r log n (within P nothing log n (older_at P r log n e h)) ]
+    elim (cases_eq n (length log + 1))
+    [ inl e ↦ newest_number r log n e | inr e ↦ longer r log n (within P nothing log n (older_at P r log n e h)) ]
 
 -- a number that isn't one of the log has no record
 pub beyond : (log : List Record) (n : ℕ) → (n ≤ length log → 0 < n → ⊥) → record_at log n ≡ None
@@ -123,7 +126,8 @@ beyond log n out = by (record_at log n) refl
   where
     by : (v : Option Record) → record_at log n ≡ v → v ≡ None
     by None e = refl
-    by (Some r) e = let number = within (λ x. x ≡ Some r) (λ f. cc) log n e in absurd (out number.bounded number.positive)
+    by (Some r) e = let number = within (λ x. x ≡ Some r) (λ f. cc) log n e in
+        absurd (out number.bounded number.positive)
 
 -- what a number has it has in a longer log
 pub kept_at : (P : Option Record → Type 0) (r : Record) (log : List Record) (n : ℕ) → IsNumber log n
@@ -185,7 +189,8 @@ pub record_before : (log : List Record) (m n : ℕ) → IsNumber log n → m < n
 record_before [] m n h less = refl
 record_before (r ∷ log) m n h less =
     elim (which r log n h) [
-      | inl e ↦ before_newest (λ x. record_at x m ≡ record_at (r ∷ log) m) r log n e (sym (record_old r log m (λ f. omega arith)))
+      | inl e ↦ before_newest (λ x. record_at x m ≡ record_at (r ∷ log) m) r log n e
+          (sym (record_old r log m (λ f. omega arith)))
       | inr was ↦ before_older (λ x. record_at x m ≡ record_at (r ∷ log) m) r log n (not_newest log n was)
           (record_before log m n was less ∙ sym (record_old r log m (λ f. omega (arith, was.bounded))))
     ]

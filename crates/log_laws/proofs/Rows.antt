@@ -14,8 +14,11 @@ rolls_back m status = (rolling m, (status, refl), (gone (rolling m), (refl, refl
 -- one insert, rolled back, is a run
 pub rolled_back_is_run : IsRun insert_rolled_back
 rolled_back_is_run =
-    let m : Machine = inserted insert_a in
-    (gone (rolling m), starts (97 ∷ []) (49 ∷ []) (RollsBack 2 ∷ TellsRolledBack 2 ∷ []) (gone (rolling m)) (rolls_back m refl))
+    let m : Machine = inserted insert_a in (
+      gone (rolling m),
+      starts (97 ∷ []) (49 ∷ []) (RollsBack 2 ∷ TellsRolledBack 2 ∷ []) (gone (rolling m))
+          (rolls_back m refl),
+    )
 
 -- a second insert, answered Exists, is one
 pub second_insert_is_run : IsRun insert_twice
@@ -27,7 +30,13 @@ second_insert_is_run =
     let ends : List Line = Acts 2 insert_second 5 ∷ TellsAnswer 2 Exists ∷ RollsBack 2 ∷ TellsRolledBack 2 ∷ [] in
     let rest : Steps m ends (gone (rolling p)) = (
       n,
-      (refl, alone_free m 2 (at_key Exclusive (key_of insert_second)) alone, omega arith, ((omega arith, tt), alone_below m 2 5 alone (omega arith), alone_above m 2 5 alone tt), refl),
+      (
+        refl,
+        alone_free m 2 (at_key Exclusive (key_of insert_second)) alone,
+        omega arith,
+        ((omega arith, tt), alone_below m 2 5 alone (omega arith), alone_above m 2 5 alone tt),
+        refl,
+      ),
       (p, (5, insert_second, refl, second_answer (107 ∷ []) (49 ∷ []) (50 ∷ []), refl), rolls_back p refl),
     ) in
     (gone (rolling p), starts (107 ∷ []) (49 ∷ []) ends (gone (rolling p)) rest)
@@ -46,7 +55,8 @@ number_twice_is_none h =
     let ends : List Line = TellsRolledBack 2 ∷ Begins 2 ∷ [] in
     let rolls = after_begins fresh 2 (RollsBack 2 ∷ ends) h.0 h.1 in
     let tells : Steps (rolling m) ends h.0 = subst (λ x. Steps x ends h.0) rolls.1.1 rolls.2 in
-    let again : Steps (gone (rolling m)) (Begins 2 ∷ []) h.0 = subst (λ x. Steps x (Begins 2 ∷ []) h.0) tells.1.1 tells.2 in
+    let again : Steps (gone (rolling m)) (Begins 2 ∷ []) h.0 =
+    subst (λ x. Steps x (Begins 2 ∷ []) h.0) tells.1.1 tells.2 in
     omega (arith, again.1.0.1 2 refl)
 
 -- a second insert isn't answered Inserted

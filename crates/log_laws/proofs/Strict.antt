@@ -1,4 +1,5 @@
--- Compensations come latest first, an open transaction has its keys to itself, and requests on a key come one at a time.
+-- Compensations come latest first, an open transaction has its keys to itself, and requests on a key come one at a
+-- time.
 use Rattle.std.proofs.Common.{◌≡◌, ◌≢◌, ℕ, ◌+◌, ◌<◌, true, List, [], ◌∷◌, length, Option, Some, None, IsSome, refl, sym, ap, ◌∙◌, subst, arith, inl, inr, ◌⊎◌, true≢false}
 use Rattle.std.proofs.lemmas.Bool.{cases_eq, cases_Bool, cases_order, eq-eqb}
 use Rattle.record_key.specs.declared.op.Op.{Op}
@@ -45,7 +46,11 @@ end_number log t n h = within (AnEnd t) (no_end t) log n h
 
 -- and stays one in a longer log
 kept_end : (r : Record) (log : List Record) (t n : ℕ) → EndsAfter log t n → EndsAfter (r ∷ log) t n
-kept_end r log t n h = record { end = h.end; is_end = kept_at (AnEnd t) r log h.end (end_number log t h.end h.is_end) h.is_end; after = h.after }
+kept_end r log t n h = record {
+  end = h.end;
+  is_end = kept_at (AnEnd t) r log h.end (end_number log t h.end h.is_end) h.is_end;
+  after = h.after;
+}
 
 -- a transaction that has a step and has ended did so after the step
 pub ended_after : (log : List Record) (t n : ℕ) → IsLegal log → IsStepOf log t n → has_ended log t ≡ true
@@ -59,7 +64,12 @@ ended_after (r ∷ log) t n h s ended =
       | inr was ↦
           elim (ended_cases t r log ended) [
             | inl ago ↦ kept_end r log t n (ended_after log t n h.1 (had_at (AStep t) r log n was s) ago)
-            | inr now ↦ record { end = length log + 1; is_end = at_newest (AnEnd t) r log (length log + 1) refl (some_end t r now); after = omega (arith, was.bounded) }
+            | inr now ↦ record {
+              end = length log + 1;
+              is_end = at_newest (AnEnd t) r log (length log + 1) refl (some_end t r now);
+              after =
+                  omega (arith, was.bounded);
+            }
           ]
     ]
 
@@ -80,7 +90,12 @@ end_ends (r ∷ log) t n h =
 -- what lies between two numbers does so in a longer log
 longer_between : (r : Record) (log : List Record) (t n m : ℕ) → EndsBetween log t n m → EndsBetween (r ∷ log) t n m
 longer_between r log t n m h =
-    record { end = h.end; is = kept_at (AnEnd t) r log h.end (end_number log t h.end h.is) h.is; after = h.after; before = h.before }
+    record {
+      end = h.end;
+      is = kept_at (AnEnd t) r log h.end (end_number log t h.end h.is) h.is;
+      after = h.after;
+      before = h.before;
+    }
 
 -- the transaction of an older operation is open or ended since
 open_or_ended : (log : List Record) (t n : ℕ) → IsLegal log → IsStepOf log t n → IsOpen log t ⊎ EndsAfter log t n
@@ -95,11 +110,17 @@ between_newest : (r : Record) (log : List Record) (t n m : ℕ) → m ≡ length
     → EndsBetween (r ∷ log) t n m
 between_newest r log t n m e h =
     let is_number : IsNumber log h.end = end_number log t h.end h.is_end in
-    record { end = h.end; is = kept_at (AnEnd t) r log h.end is_number h.is_end; after = h.after; before = omega (arith, is_number.bounded) }
+    record {
+      end = h.end;
+      is = kept_at (AnEnd t) r log h.end is_number h.is_end;
+      after = h.after;
+      before = omega (arith, is_number.bounded);
+    }
 
 -- what strictness says at the newest record
 abbrev StrictAt : Record → List Record → Type 0
-StrictAt r log = (n t u : ℕ) (o q : Op) → IsOpBy log n t o → AStep u (Some r) → ARequest q (Some r) → key_of q ≡ key_of o → u ≢ t → EndsAfter log t n
+StrictAt r log = (n t u : ℕ) (o q : Op) → IsOpBy log n t o → AStep u (Some r) → ARequest q (Some r) → key_of q
+    ≡ key_of o → u ≢ t → EndsAfter log t n
 
 -- an Op needs a free key; a Comp is on the key of its own operation, which is strict towards the other
 strict_at : (r : Record) (log : List Record) → Fits log r → IsLegal log → IsStrict log → StrictAt r log
@@ -116,16 +137,21 @@ strict_at (is.Comp v w x i) log fits legal strict n t u o q is_op s asks same ot
     let one : v ≡ u = cc in
     let latest = fits.latest.is in
     let is_latest : IsOpBy log w u undone.op =
-    subst (λ (z : ℕ). IsOpBy log w z undone.op) ((op_same undone.txn v undone.op latest.op (record_at log w) undone.is latest.is).0 ∙ one) undone.is in
+    subst (λ (z : ℕ). IsOpBy log w z undone.op)
+    ((op_same undone.txn v undone.op latest.op (record_at log w) undone.is latest.is).0 ∙ one) undone.is in
     let key : key_of q ≡ key_of undone.op = inverse_key undone.op q undone.answer (sym undone.inverse ∙ asks) in
     elim (cases_order n w) [
-      | inl e ↦ absurd (other (op_same u t undone.op o (record_at log w) is_latest (subst (λ (z : ℕ). IsOpBy log z t o) e is_op)).0)
+      | inl e ↦ absurd (other (op_same u t undone.op o (record_at log w) is_latest
+          (subst (λ (z : ℕ). IsOpBy log z t o) e is_op)).0)
       | inr (inl below) ↦
-          let found = strict n w t u o undone.op is_op below (op_step u undone.op (record_at log w) is_latest) (op_request u undone.op (record_at log w) is_latest) (sym key ∙ same) other in
+          let found = strict n w t u o undone.op is_op below (op_step u undone.op (record_at log w) is_latest)
+          (op_request u undone.op (record_at log w) is_latest) (sym key ∙ same) other in
           record { end = found.end; is_end = found.is; after = found.after }
       | inr (inr above) ↦
-          let found = strict w n u t undone.op o is_latest above (op_step t o (record_at log n) is_op) (op_request t o (record_at log n) is_op) (sym same ∙ key) (λ e. other (sym e)) in
-          absurd (true≢false (sym (end_ends log u found.end found.is) ∙ ap (has_ended log) (sym one) ∙ fits.open_txn.goes_on))
+          let found = strict w n u t undone.op o is_latest above (op_step t o (record_at log n) is_op)
+          (op_request t o (record_at log n) is_op) (sym same ∙ key) (λ e. other (sym e)) in
+          absurd (true≢false (sym (end_ends log u found.end found.is) ∙ ap (has_ended log) (sym one)
+          ∙ fits.open_txn.goes_on))
     ]
 strict_at _ log fits legal strict n t u o q is_op s asks same other = absurd (cc)
 
@@ -140,10 +166,12 @@ strict (r ∷ log) legal n m t u o q is_op below s asks same other =
     elim (which r log m (step_number (r ∷ log) m u s)) [
       | inl e ↦
           between_newest r log t n m e (strict_at r log legal.0 legal.1 (strict log legal.1) n t u o q
-          (had_at (AnOp t o) r log n older is_op) (newest_at (AStep u) r log m e s) (newest_at (ARequest q) r log m e asks) same other)
+          (had_at (AnOp t o) r log n older is_op) (newest_at (AStep u) r log m e s)
+          (newest_at (ARequest q) r log m e asks) same other)
       | inr was ↦
           longer_between r log t n m (strict log legal.1 n m t u o q
-          (had_at (AnOp t o) r log n older is_op) below (had_at (AStep u) r log m was s) (had_at (ARequest q) r log m was asks) same other)
+          (had_at (AnOp t o) r log n older is_op) below (had_at (AStep u) r log m was s)
+          (had_at (ARequest q) r log m was asks) same other)
     ]
 
 -- the law
@@ -190,7 +218,8 @@ on_key_newest (is.Comp u w x i) log t o fits s asks =
     kept_key (is.Comp u w x i) log t o (record {
       number = w;
       op = undone.op;
-      is_op = subst (λ (z : ℕ). IsOpBy log w z undone.op) ((op_same undone.txn u undone.op latest.op (record_at log w) undone.is latest.is).0 ∙ one) undone.is;
+      is_op = subst (λ (z : ℕ). IsOpBy log w z undone.op)
+          ((op_same undone.txn u undone.op latest.op (record_at log w) undone.is latest.is).0 ∙ one) undone.is;
       same_key = sym (inverse_key undone.op o undone.answer (sym undone.inverse ∙ asks));
     })
 on_key_newest _ log t o fits s asks = absurd (cc)
@@ -201,7 +230,8 @@ on_key [] h n t o s asks = absurd (cc)
 on_key (r ∷ log) h n t o s asks =
     elim (cases_eq n (length log + 1)) [
       | inl e ↦ on_key_newest r log t o h.0 (newest_at (AStep t) r log n e s) (newest_at (ARequest o) r log n e asks)
-      | inr e ↦ kept_key r log t o (on_key log h.1 n t o (older_at (AStep t) r log n e s) (older_at (ARequest o) r log n e asks))
+      | inr e ↦ kept_key r log t o
+          (on_key log h.1 n t o (older_at (AStep t) r log n e s) (older_at (ARequest o) r log n e asks))
     ]
 
 -- a request of a transaction that has ended is answered
@@ -231,7 +261,8 @@ answered_at r log fits legal n t u o q s asks step ask same =
       | inl e ↦ step_idle log r u fits step n o (subst (λ (z : ℕ). IsStepOf log z n) (sym e) s) asks
       | inr other ↦
           let found = on_key log legal n t o s asks in
-          let end = strict_at r log fits legal (strict log legal) found.number t u found.op q found.is_op step ask (same ∙ sym found.same_key) other in
+          let end = strict_at r log fits legal (strict log legal) found.number t u found.op q found.is_op step ask
+          (same ∙ sym found.same_key) other in
           ended_answered log t n o legal (end_ends log t end.end end.is_end) s asks
     ]
 
@@ -249,7 +280,8 @@ one_at_a_time (r ∷ log) legal n m o q asks below ask same =
           let newest : ARequest q (Some r) = newest_at (ARequest q) r log m e ask in
           let by = request_step o (record_at log n) asked in
           let of = request_step q (Some r) newest in
-          before_newest (λ x. IsSome (answer_of x n)) r log m e (answered_at r log legal.0 legal.1 n by.0 of.0 o q by.1 asked of.1 newest same)
+          before_newest (λ x. IsSome (answer_of x n)) r log m e
+          (answered_at r log legal.0 legal.1 n by.0 of.0 o q by.1 asked of.1 newest same)
       | inr was ↦
           before_older (λ x. IsSome (answer_of x n)) r log m (not_newest log m was)
           (one_at_a_time log legal.1 n m o q asked below (had_at (ARequest q) r log m was ask) same)

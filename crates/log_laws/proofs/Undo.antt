@@ -1,4 +1,5 @@
--- What a transaction has left to undo: what stands at a number stands as long as a later one does, and two looks find it.
+-- What a transaction has left to undo: what stands at a number stands as long as a later one does, and two looks find
+-- it.
 use Rattle.std.proofs.Common.{◌≡◌, ◌≢◌, ℕ, ◌+◌, ◌<◌, ◌≤◌, true, List, [], ◌∷◌, length, Option, Some, None, refl, sym, ap, ◌∙◌, subst, arith, inl, inr, eqb-true, true≢false, eq-eqb, ne_eqb}
 use Rattle.std.specs.Prelude.{◌||◌, ◌==◌}
 use Rattle.std.proofs.lemmas.Bool.{cases_eq, cases_Bool, or_cases}
@@ -30,10 +31,12 @@ crosses_now (is.Comp v w x i) log t n fits h c =
     elim (or_cases (n == w) (is_crossed log n) c) [
       | inl e ↦
           let same : n ≡ w = eqb-true n w e in
-          let there : IsOpBy log n v fits.latest.is.op = subst (λ (z : ℕ). IsOpBy log z v fits.latest.is.op) (sym same) fits.latest.is.is in
+          let there : IsOpBy log n v fits.latest.is.op =
+          subst (λ (z : ℕ). IsOpBy log z v fits.latest.is.op) (sym same) fits.latest.is.is in
           let one : v ≡ t = (op_same v t fits.latest.is.op h.op (record_at log n) there h.is).0 in
           record {
-            latest = subst (λ (z : ℕ). IsLatest (Stands log t) z) (sym same) (subst (λ (z : ℕ). IsLatest (Stands log z) w) one fits.latest);
+            latest = subst (λ (z : ℕ). IsLatest (Stands log t) z) (sym same)
+                (subst (λ (z : ℕ). IsLatest (Stands log z) w) one fits.latest);
             step = ap Some one;
           }
       | inr e ↦ absurd (true≢false (sym e ∙ h.uncrossed))
@@ -49,17 +52,25 @@ op_crosses_none _ log t n o h = absurd (cc)
 -- what stood before a standing operation of its transaction stands still
 pub stands_since : (log : List Record) (t u n : ℕ) → IsLegal log → Stands log t u → n < u → Stands (before log u) t n
     → Stands log t n
-stands_since [] t u n legal h below stood = absurd (omega (arith, (stands_number [] t u h).positive, (stands_number [] t u h).bounded))
+stands_since [] t u n legal h below stood =
+    absurd (omega (arith, (stands_number [] t u h).positive, (stands_number [] t u h).bounded))
 stands_since (r ∷ log) t u n legal h below stood =
     elim (which r log u (stands_number (r ∷ log) t u h)) [
       | inl e ↦
           let then_stood : Stands log t n = subst (λ x. Stands x t n) (before_new r log u e) stood in
-          stands_kept r log t n then_stood (op_crosses_none r log t n h.op (newest_at (AnOp t h.op) r log u e h.is) ∙ then_stood.uncrossed)
+          stands_kept r log t n then_stood
+          (op_crosses_none r log t n h.op (newest_at (AnOp t h.op) r log u e h.is) ∙ then_stood.uncrossed)
       | inr was ↦
           let later : Stands log t u = stands_had r log t u was h in
-          let then_stood : Stands log t n = stands_since log t u n legal.1 later below (subst (λ x. Stands x t n) (before_old r log u (not_newest log u was)) stood) in
+          let then_stood : Stands log t n =
+          stands_since log t u n legal.1 later below
+          (subst (λ x. Stands x t n) (before_old r log u (not_newest log u was)) stood) in
           elim (cases_Bool (is_crossed (r ∷ log) n)) [
-            | inl c ↦ absurd (omega (arith, below, (crosses_now r log t n legal.0 then_stood c).latest.greatest u later))
+            | inl c ↦ absurd (omega (
+              arith,
+              below,
+              (crosses_now r log t n legal.0 then_stood c).latest.greatest u later,
+            ))
             | inr c ↦ stands_kept r log t n then_stood c
           ]
     ]
@@ -70,7 +81,8 @@ stands_until log t u n number below h =
     record {
       op = h.op;
       is = subst (AnOp t h.op) (sym (record_before log n u number below)) h.is;
-      uncrossed = falls (is_crossed (before log u) n) (is_crossed log n) (since (λ x. is_crossed x n ≡ true) (crossed_push n) log u) h.uncrossed;
+      uncrossed = falls (is_crossed (before log u) n) (is_crossed log n)
+          (since (λ x. is_crossed x n ≡ true) (crossed_push n) log u) h.uncrossed;
     }
 
 -- a number of the log before another is below it
@@ -79,7 +91,8 @@ number_before log u n number is = omega (arith, length_before log u number, is.b
 
 -- what the law says of one log
 abbrev LatestIsFound : List Record → ℕ → Type 0
-LatestIsFound log t = (s : ℕ) → IsLatestOrNone (IsStepOf log t) s → IsLatestOrNone (Stands log t) (undo_from (record_at log s) s)
+LatestIsFound log t = (s : ℕ) → IsLatestOrNone (IsStepOf log t) s
+    → IsLatestOrNone (Stands log t) (undo_from (record_at log s) s)
 
 -- the latest step, or 0, is at most the length
 pub latest_number : (log : List Record) (t s : ℕ) → IsLatestOrNone (IsStepOf log t) s → s ≤ length log
@@ -89,7 +102,8 @@ latest_number log t s (inr h) = omega (arith, h.0)
 -- the newest record is no step of the transaction: its steps are as they were
 module _ (r : Record) (log : List Record) (t : ℕ) (other : AStep t (Some r) → ⊥) where
   pub steps_there : (n : ℕ) → IsStepOf (r ∷ log) t n → IsStepOf log t n
-  steps_there n h = elim (cases_eq n (length log + 1)) [ inl e ↦ absurd (other (newest_at (AStep t) r log n e h)) | inr e ↦ older_at (AStep t) r log n e h ]
+  steps_there n h = elim (cases_eq n (length log + 1))
+      [ inl e ↦ absurd (other (newest_at (AStep t) r log n e h)) | inr e ↦ older_at (AStep t) r log n e h ]
 
   pub steps_back : (n : ℕ) → IsStepOf log t n → IsStepOf (r ∷ log) t n
   steps_back n h = kept_at (AStep t) r log n (step_number log n t h) h
@@ -98,24 +112,35 @@ module _ (r : Record) (log : List Record) (t : ℕ) (other : AStep t (Some r) �
 module _ (r : Record) (log : List Record) (t : ℕ) (other : AStep t (Some r) → ⊥) (fits : Fits log r) where
   pub stands_there : (n : ℕ) → Stands log t n → Stands (r ∷ log) t n
   stands_there n h =
-      elim (cases_Bool (is_crossed (r ∷ log) n)) [ inl c ↦ absurd (other (crosses_now r log t n fits h c).step) | inr c ↦ stands_kept r log t n h c ]
+      elim (cases_Bool (is_crossed (r ∷ log) n))
+      [ inl c ↦ absurd (other (crosses_now r log t n fits h c).step) | inr c ↦ stands_kept r log t n h c ]
 
   pub stands_back : (n : ℕ) → Stands (r ∷ log) t n → Stands log t n
-  stands_back n h = stands_had r log t n (step_number log n t (steps_there r log t other n (stands_step (r ∷ log) t n h))) h
+  stands_back n h = stands_had r log t n
+      (step_number log n t (steps_there r log t other n (stands_step (r ∷ log) t n h))) h
 
   -- so what is left is found as it was
   found_older : LatestIsFound log t → LatestIsFound (r ∷ log) t
   found_older found s h =
-      let was : IsLatestOrNone (IsStepOf log t) s = latest_as (IsStepOf (r ∷ log) t) (IsStepOf log t) (steps_there r log t other) (steps_back r log t other) s h in
-      subst (λ x. IsLatestOrNone (Stands (r ∷ log) t) (undo_from x s)) (sym (record_old r log s (λ e. omega (arith, latest_number log t s was))))
-      (latest_as (Stands log t) (Stands (r ∷ log) t) stands_there stands_back (undo_from (record_at log s) s) (found s was))
+      let was : IsLatestOrNone (IsStepOf log t) s =
+      latest_as (IsStepOf (r ∷ log) t) (IsStepOf log t) (steps_there r log t other) (steps_back r log t other) s
+      h in
+      subst (λ x. IsLatestOrNone (Stands (r ∷ log) t) (undo_from x s))
+      (sym (record_old r log s (λ e. omega (arith, latest_number log t s was))))
+      (latest_as (Stands log t) (Stands (r ∷ log) t) stands_there stands_back (undo_from (record_at log s) s)
+      (found s was))
 
 -- the newest step is the newest record
 newest_latest : (r : Record) (log : List Record) (t s : ℕ) → AStep t (Some r) → IsLatestOrNone (IsStepOf (r ∷ log) t) s
     → s ≡ length log + 1
 newest_latest r log t s step (inl h) =
-    omega (arith, (step_number (r ∷ log) s t h.is).bounded, h.greatest (length log + 1) (at_newest (AStep t) r log (length log + 1) refl step))
-newest_latest r log t s step (inr h) = absurd (h.1 (length log + 1) (at_newest (AStep t) r log (length log + 1) refl step))
+    omega (
+      arith,
+      (step_number (r ∷ log) s t h.is).bounded,
+      h.greatest (length log + 1) (at_newest (AStep t) r log (length log + 1) refl step),
+    )
+newest_latest r log t s step (inr h) =
+    absurd (h.1 (length log + 1) (at_newest (AStep t) r log (length log + 1) refl step))
 
 -- after an operation, the operation itself is left
 found_op : (log : List Record) (t p : ℕ) (o : Op) → IsLegal log → LatestIsFound (is.Op t p o ∷ log) t
@@ -123,14 +148,20 @@ found_op log t p o legal s h =
     let r : Record = is.Op t p o in
     let e : s ≡ length log + 1 = newest_latest r log t s refl h in
     at_newest (λ x. IsLatestOrNone (Stands (r ∷ log) t) (undo_from x s)) r log s e (inl (record {
-      is = record { op = o; is = at_newest (AnOp t o) r log s e refl; uncrossed = ap (is_crossed log) e ∙ uncrossed_next log legal };
+      is = record {
+        op = o;
+        is = at_newest (AnOp t o) r log s e refl;
+        uncrossed = ap (is_crossed log) e ∙ uncrossed_next log legal;
+      };
       greatest = λ m stands. omega (arith, e, (stands_number (r ∷ log) t m stands).bounded);
     }))
 
 -- after a compensation, what stood below the operation that it names
 left_there : (log : List Record) (t w x : ℕ) (i : Option Op) (n : ℕ) → Stands log t n × (n < w)
     → Stands (is.Comp t w x i ∷ log) t n
-left_there log t w x i n h = stands_kept (is.Comp t w x i) log t n h.0 (ap (λ b. b || is_crossed log n) (ne_eqb n w (λ e. omega (arith, e, h.1))) ∙ h.0.uncrossed)
+left_there log t w x i n h =
+    stands_kept (is.Comp t w x i) log t n h.0
+    (ap (λ b. b || is_crossed log n) (ne_eqb n w (λ e. omega (arith, e, h.1))) ∙ h.0.uncrossed)
 
 left_back : (log : List Record) (t w x : ℕ) (i : Option Op) → IsLatest (Stands log t) w → (n : ℕ)
     → Stands (is.Comp t w x i ∷ log) t n → Stands log t n × (n < w)
@@ -151,7 +182,8 @@ found_comp log t w x i fits s h =
     let r : Record = is.Comp t w x i in
     let e : s ≡ length log + 1 = newest_latest r log t s refl h in
     at_newest (λ z. IsLatestOrNone (Stands (r ∷ log) t) (undo_from z s)) r log s e
-    (latest_as (λ n. Stands log t n × (n < w)) (Stands (r ∷ log) t) (left_there log t w x i) (left_back log t w x i fits.latest) x fits.next)
+    (latest_as (λ n. Stands log t n × (n < w)) (Stands (r ∷ log) t) (left_there log t w x i)
+    (left_back log t w x i fits.latest) x fits.next)
 
 -- so one look finds it after any record that fits
 found_next : (r : Record) (log : List Record) (t : ℕ) → Fits log r → IsLegal log → LatestIsFound log t
@@ -170,7 +202,8 @@ found_next r log t fits legal found = found_older r log t (λ s. cc) fits found
 
 -- and in every legal log
 pub latest_found : (log : List Record) (t : ℕ) → IsLegal log → LatestIsFound log t
-latest_found [] t legal s (inl h) = absurd (omega (arith, (step_number [] s t h.is).positive, (step_number [] s t h.is).bounded))
+latest_found [] t legal s (inl h) =
+    absurd (omega (arith, (step_number [] s t h.is).positive, (step_number [] s t h.is).bounded))
 latest_found [] t legal s (inr h) = inr (refl, λ m stands. h.1 m (stands_step [] t m stands))
 latest_found (r ∷ log) t legal s h = found_next r log t legal.0 legal.1 (latest_found log t legal.1) s h
 
@@ -184,7 +217,8 @@ op_record t o (Some _) h = absurd (cc)
 
 -- before a standing operation that same look finds what is left below it
 pub earlier_found : (log : List Record) (t u : ℕ) → IsLegal log → Stands log t u
-    → IsLatestOrNone (λ n. Stands log t n × (n < u)) (undo_from (record_at log (prev_in (record_at log u))) (prev_in (record_at log u)))
+    → IsLatestOrNone (λ n. Stands log t n × (n < u))
+    (undo_from (record_at log (prev_in (record_at log u))) (prev_in (record_at log u)))
 earlier_found log t u legal h =
     let left : ℕ → Type 0 = λ n. Stands log t n × (n < u) in
     let number : IsNumber log u = stands_number log t u h in
@@ -196,7 +230,8 @@ earlier_found log t u legal h =
     let below : p < u = omega (arith, latest_number (before log u) t p fits.prev, length_before log u number) in
     let there : IsLatestOrNone left (undo_from (record_at (before log u) p) p) =
     latest_as (Stands (before log u) t) left
-    (λ n stood. let lower : n < u = number_before log u n number (stands_number (before log u) t n stood) in (stands_since log t u n legal h lower stood, lower))
+    (λ n stood. let lower : n < u = number_before log u n number (stands_number (before log u) t n stood) in
+    (stands_since log t u n legal h lower stood, lower))
     (λ n l. stands_until log t u n number l.1 l.0) (undo_from (record_at (before log u) p) p) found in
     subst (λ (z : ℕ). IsLatestOrNone left (undo_from (record_at log z) z)) (sym (ap prev_in the_op.1))
     (subst (λ z. IsLatestOrNone left (undo_from z p)) (record_before log p u number below) there)

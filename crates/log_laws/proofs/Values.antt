@@ -16,7 +16,9 @@ use Rattle.log_laws.proofs.LegalLogs.{op_number, request_number, unanswered_next
 -- an operation that both tests let through, or neither
 chosen : (on p q : Bool) (o : Op) (v w : Option Bytes) → (on ≡ true → p ≡ q) → v ≡ w
     → (if p && on then value_after o v else v) ≡ (if q && on then value_after o w else w)
-chosen true p q o v w same e = ap (λ b. if b && true then value_after o v else v) (same refl) ∙ ap (λ x. if q && true then value_after o x else x) e
+chosen true p q o v w same e =
+    ap (λ b. if b && true then value_after o v else v) (same refl)
+    ∙ ap (λ x. if q && true then value_after o x else x) e
 chosen false true true o v w same e = e
 chosen false true false o v w same e = e
 chosen false false true o v w same e = e
@@ -67,8 +69,10 @@ value_split k p (r ∷ log) u t o is none =
           ∙ ap (λ by. value_kept k u p by (value_where k p log)) (newest_at (AnOp t o) r log u e is))
       | inr was ↦
           kept_none k (length log + 1) p (op_of r) (value_where k p log)
-          (λ v q by on. none (length log + 1) v q (omega (arith, was.bounded)) (at_newest (AnOp v q) r log (length log + 1) refl by) on)
-          ∙ before_older (λ x. value_where k p log ≡ value_kept k u p (Some (t, o)) (value_where k p x)) r log u (not_newest log u was)
+          (λ v q by on. none (length log + 1) v q (omega (arith, was.bounded))
+          (at_newest (AnOp v q) r log (length log + 1) refl by) on)
+          ∙ before_older (λ x. value_where k p log ≡ value_kept k u p (Some (t, o)) (value_where k p x)) r log u
+          (not_newest log u was)
           (value_split k p log u t o (had_at (AnOp t o) r log u was is)
           (λ n v q above by on. none n v q above (kept_at (AnOp v q) r log n (op_number log n v q by) by) on))
     ]
@@ -87,7 +91,8 @@ right_now : (r : Record) (log : List Record) (n : ℕ) (a : Answer) → HasRight
 right_now (is.Answer m b) log n a right answered before =
     elim (cases_eq n m) [
       | inl e ↦
-          let same : Some b ≡ Some a = subst (λ (c : Bool). cond c (Some b) (answer_of log n) ≡ Some a) (eq-eqb n m e) answered in
+          let same : Some b ≡ Some a =
+          subst (λ (c : Bool). cond c (Some b) (answer_of log n) ≡ Some a) (eq-eqb n m e) answered in
           let equal : b ≡ a = cc in
           subst (IsRight log n) equal (subst (λ (z : ℕ). IsRight log z b) (sym e) right.0)
       | inr e ↦ before (subst (λ (c : Bool). cond c (Some b) (answer_of log n) ≡ Some a) (ne_eqb n m e) answered)
@@ -102,9 +107,11 @@ right_at (r ∷ log) n a legal right answered o asks =
     elim (which r log n (request_number (r ∷ log) n o asks)) [
       | inl e ↦
           let none : answer_of log (length log + 1) ≡ Some a =
-          ap (answer_of log) (sym e) ∙ sym (request_answers_none o r log n (newest_at (ARequest o) r log n e asks)) ∙ answered in
+          ap (answer_of log) (sym e) ∙ sym (request_answers_none o r log n (newest_at (ARequest o) r log n e asks))
+          ∙ answered in
           absurd (true≢false (sym (ap is_some none) ∙ unanswered_next log legal.1))
       | inr was ↦
           subst (λ x. a ≡ answer_at o (value_on (key_of o) x)) (sym (before_old r log n (not_newest log n was)))
-          (right_now r log n a right answered (right_at log n a legal.1 (right_rest r log right)) o (had_at (ARequest o) r log n was asks))
+          (right_now r log n a right answered (right_at log n a legal.1 (right_rest r log right)) o
+          (had_at (ARequest o) r log n was asks))
     ]

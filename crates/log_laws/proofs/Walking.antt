@@ -28,7 +28,10 @@ acted m t o k =
 
 abbrev pub told : Machine → ℕ → Op → ℕ → Answer → Machine
 told m t o k a =
-    record (with_status m t Open) { h = placed (record { number = k; txn = t; op = o; answer = a; crossed = false }) m.h }
+    record (with_status m t Open) {
+      h = placed (record { number = k; txn = t; op = o; answer = a; crossed = false })
+          m.h;
+    }
 
 abbrev pub rolling : Machine → Machine
 rolling m = record (with_status m 2 (Rolling None)) { h = cross (λ _. true) 2 m.h }
@@ -101,7 +104,17 @@ starts_acting o lines last rest =
     let alone : IsAlone m 2 = alone_with fresh 2 blank (λ u apart. refl) in (
       m,
       (fresh_below 2, refl),
-      (acted m 2 o 3, (refl, alone_free m 2 (at_key Exclusive (key_of o)) alone, omega arith, (tt, alone_below m 2 3 alone (omega arith), alone_above m 2 3 alone tt), refl), rest),
+      (
+        acted m 2 o 3,
+        (
+          refl,
+          alone_free m 2 (at_key Exclusive (key_of o)) alone,
+          omega arith,
+          (tt, alone_below m 2 3 alone (omega arith), alone_above m 2 3 alone tt),
+          refl,
+        ),
+        rest,
+      ),
     )
 
 pub starts : (a b : Bytes) (lines : List Line) (last : Machine) → Steps (inserted (Insert a b)) lines last
@@ -118,15 +131,19 @@ crashes m x fell alone survives = (λ u. if u == 2 then fell else false, each, r
     each : (u : ℕ) → Survives m u (m.txns u).status (if u == 2 then x else nobody) (if u == 2 then fell else false)
     each u =
         elim (cases_eq u 2) [
-          | inl e ↦ subst (λ (n : ℕ). Survives m n (m.txns n).status (if n == 2 then x else nobody) (if n == 2 then fell else false)) (sym e) survives
+          | inl e ↦ subst (λ (n : ℕ). Survives m n (m.txns n).status (if n == 2 then x else nobody)
+              (if n == 2 then fell else false)) (sym e) survives
           | inr apart ↦ other (ap (λ y. y.status) (alone u apart))
-              (ap (λ (b : Bool). if b then x else nobody) (ne_eqb u 2 apart) ∙ sym (alone u apart)) (ap (λ (b : Bool). if b then fell else false) (ne_eqb u 2 apart))
+              (ap (λ (b : Bool). if b then x else nobody) (ne_eqb u 2 apart) ∙ sym (alone u apart))
+              (ap (λ (b : Bool). if b then fell else false) (ne_eqb u 2 apart))
         ]
       where
         other : (m.txns u).status ≡ Gone → (if u == 2 then x else nobody) ≡ m.txns u
             → (if u == 2 then fell else false) ≡ false
             → Survives m u (m.txns u).status (if u == 2 then x else nobody) (if u == 2 then fell else false)
-        other is_gone same stays = subst (λ s. Survives m u s (if u == 2 then x else nobody) (if u == 2 then fell else false)) (sym is_gone) (inl same, stays)
+        other is_gone same stays =
+            subst (λ s. Survives m u s (if u == 2 then x else nobody) (if u == 2 then fell else false)) (sym is_gone)
+            (inl same, stays)
 
 pub alone_crashed : (m : Machine) (x : Txn) (fell : Bool) → IsAlone (crashed m x fell) 2
 alone_crashed m x fell u apart = ap (λ (b : Bool). if b then x else nobody) (ne_eqb u 2 apart)
@@ -139,7 +156,8 @@ second_holder m alone s conflicts = record {
   conflicts = conflicts;
   least = λ u apart h. elim (cases_eq u 2) [
     | inl e ↦ omega (arith, e)
-    | inr other ↦ absurd (subst (λ x. AnyConflict s x.spans) (ap (λ (b : Bool). if b then blank else m.txns u) (ne_eqb u 4 apart) ∙ alone u other) h)
+    | inr other ↦ absurd (subst (λ x. AnyConflict s x.spans)
+        (ap (λ (b : Bool). if b then blank else m.txns u) (ne_eqb u 4 apart) ∙ alone u other) h)
   ];
 }
 
@@ -174,8 +192,11 @@ after_told m o k a lines last waits h =
 -- what must follow the first two lines, and three
 pub after_acting : (o : Op) (lines : List Line) (last : Machine) → Steps fresh (Begins 2 ∷ Acts 2 o 3 ∷ lines) last
     → Steps (acted (begun fresh 2) 2 o 3) lines last
-after_acting o lines last h = after_acts (begun fresh 2) 2 o 3 lines last (after_begins fresh 2 (Acts 2 o 3 ∷ lines) last h)
+after_acting o lines last h =
+    after_acts (begun fresh 2) 2 o 3 lines last (after_begins fresh 2 (Acts 2 o 3 ∷ lines) last h)
 
 pub after_insert : (o : Op) (lines : List Line) (last : Machine)
     → Steps fresh (Begins 2 ∷ Acts 2 o 3 ∷ TellsAnswer 2 Inserted ∷ lines) last → Steps (inserted o) lines last
-after_insert o lines last h = (after_told (acted (begun fresh 2) 2 o 3) o 3 Inserted lines last refl (after_acting o (TellsAnswer 2 Inserted ∷ lines) last h)).1
+after_insert o lines last h =
+    (after_told (acted (begun fresh 2) 2 o 3) o 3 Inserted lines last refl
+    (after_acting o (TellsAnswer 2 Inserted ∷ lines) last h)).1

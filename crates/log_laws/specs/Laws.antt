@@ -32,7 +32,8 @@ pub record Names (log : List Record) (n undoes : ℕ) : Type 0 where
 
 -- no operation is compensated twice
 abbrev pub LegalIsCompensatedOnce : Type 0
-LegalIsCompensatedOnce = (log : List Record) (n m undoes : ℕ) → IsLegal log → Names log n undoes → Names log m undoes → n ≡ m
+LegalIsCompensatedOnce =
+    (log : List Record) (n m undoes : ℕ) → IsLegal log → Names log n undoes → Names log m undoes → n ≡ m
 
 abbrev pub LegalIsOneAtATime : Type 0
 LegalIsOneAtATime = (log : List Record) → IsLegal log → IsOneAtATime log
@@ -42,14 +43,16 @@ pub record FindsUndo (log : List Record) (t : ℕ) : Type 0 where
   pub latest : (s : ℕ) → IsLatestOrNone (IsStepOf log t) s
       → IsLatestOrNone (Stands log t) (undo_from (record_at log s) s)
   pub earlier : (u : ℕ) → Stands log t u
-      → IsLatestOrNone (λ n. Stands log t n × (n < u)) (undo_from (record_at log (prev_in (record_at log u))) (prev_in (record_at log u)))
+      → IsLatestOrNone (λ n. Stands log t n × (n < u))
+      (undo_from (record_at log (prev_in (record_at log u))) (prev_in (record_at log u)))
 
 abbrev pub UndoIsFound : Type 0
 UndoIsFound = (log : List Record) (t : ℕ) → IsLegal log → FindsUndo log t
 
 -- a lost Answer record can only come back the same
 abbrev pub RightAnswersAreUnique : Type 0
-RightAnswersAreUnique = (log : List Record) (n : ℕ) (o : Op) (a b : Answer) → Requests log n o → IsRight log n a → IsRight log n b → a ≡ b
+RightAnswersAreUnique = (log : List Record) (n : ℕ) (o : Op) (a b : Answer) → Requests log n o → IsRight log n a
+    → IsRight log n b → a ≡ b
 
 -- where a compensation fits, its key holds what the operation left, so the inverse gives back what was there
 pub record Brackets (log : List Record) (u : ℕ) (o i : Op) : Type 0 where

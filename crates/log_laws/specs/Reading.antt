@@ -3,7 +3,7 @@ use Rattle.std.specs.Prelude.{◌≡◌, ◌≢◌, ℕ, ◌≤◌, List, IsSome
 use Rattle.record_key.specs.declared.op.Op.{Op}
 use Rattle.record_key.specs.Table.{Bytes, key_of}
 use Rattle.history.specs.declared.record.Record.{Record}
-use Rattle.history.specs.Log.{record_at, answer_of, request_in, IsOpen, Requests, IsStepOf, IsOpBy}
+use Rattle.history.specs.Log.{record_at, answer_of, request_in, IsOpen, IsStepOf, IsOpBy}
 
 -- a request of the transaction that has no answer
 pub record Waits (log : List Record) (t n : ℕ) : Type 0 where

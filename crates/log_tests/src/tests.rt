@@ -2,5 +2,3 @@
 mod devices;
 mod legality;
 mod logs;
-mod restarts;
-mod savepoints;

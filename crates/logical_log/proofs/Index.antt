@@ -172,7 +172,8 @@ told (r ∷ log) legal n some within =
         | inl apart ↦
             let older : n ≤ length log = omega (arith, e, within) in
             let place : index_at (r ∷ log) n ≡ index_at log n =
-            noted_old r (length log + 1) (index log) (n - 1) asks_nothing (omega (arith, length-index log, older)) apart in
+            noted_old r (length log + 1) (index log) (n - 1) asks_nothing (omega (arith, length-index log, older))
+            apart in
             subst (Told (r ∷ log) n) (sym place)
             (told_old r log n (index_at log n) some older apart (told log legal.1 n some older))
         | inr named ↦ told_by r log n legal.0 some named

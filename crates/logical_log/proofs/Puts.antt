@@ -12,6 +12,9 @@ pub puts_key : (old new : Bytes → Option ℕ) (k : Bytes) (v : Option ℕ) →
     → ((q : Bytes) → is_eq (key_cmp k q) ≡ false → new q ≡ old q) → Puts Bytes old new k v
 puts_key old new k v here elsewhere = record {
   here = here;
-  elsewhere = λ q apart. elim (cases_Bool (is_eq (key_cmp k q)))
-      [ inl same ↦ absurd (apart (sym (exact_bytes k q ((Equal-is (key_cmp k q)).0 same)))) | inr other ↦ elsewhere q other ];
+  elsewhere = λ q apart. elim (cases_Bool (is_eq (key_cmp k q))) [
+    | inl same ↦ absurd (apart (sym (exact_bytes k q ((Equal-is (key_cmp k q)).0 same))))
+    | inr other ↦
+        elsewhere q other
+  ];
 }

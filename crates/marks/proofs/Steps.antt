@@ -48,7 +48,8 @@ moves s words number w h two ordered up fits others = record {
   two_words = two;
   ordered = ordered;
   each_fits = λ other u at. ⊎_elim
-      (λ (t : (other ≡ number) × (w ≡ u)). subst (λ (z : ℕ × View). Fits (pair_of words) z.0 z.1) (λ i. (sym t.0 i, t.1 i)) fits)
+      (λ (t : (other ≡ number) × (w ≡ u)). subst (λ (z : ℕ × View). Fits (pair_of words) z.0 z.1)
+      (λ i. (sym t.0 i, t.1 i)) fits)
       (λ (t : (other ≢ number) × (get_elem? s.views other ≡ some u)). let was = h.each_fits other u t.1 in record {
         reached = UpTo_trans u.seen (words_of s) (pair_of words) was.reached up;
         met_reached = was.met_reached;
@@ -67,7 +68,8 @@ raises_to s words number v h at raises two ordered up = let was = h.each_fits nu
     moves s words number (sees v (pair_of words)) h two ordered up
     record {
       reached = UpTo_refl (pair_of words);
-      met_reached = UpTo_trans v.met v.seen (pair_of words) was.met_reached (UpTo_trans v.seen (words_of s) (pair_of words) was.reached up);
+      met_reached = UpTo_trans v.met v.seen (pair_of words) was.met_reached
+          (UpTo_trans v.seen (words_of s) (pair_of words) was.reached up);
       raiser_first = was.raiser_first;
       raiser_exact = λ _. refl;
     }
@@ -87,8 +89,10 @@ max_within a b c = omega arith
 
 pub reads_low : (slots number : ℕ) (me : Mine)
     → Allows Holds slots number me 1 (λ n. n) (low_read (step slots 1 0 0 none) me)
-reads_low slots number me s h _ at _ = let v = me.0 in let n : ℕ = get_or s.words 1 0 in let is = low_set s.words n h.two_words in let was = h.each_fits number v at in
-    let up_to_seen = λ (r : IsTrue v.raises). subst (λ (p : Pair). p.low ≤ p.stable) (sym (was.raiser_exact r)) h.ordered in
+reads_low slots number me s h _ at _ = let v = me.0 in let n : ℕ = get_or s.words 1 0 in let is =
+    low_set s.words n h.two_words in let was = h.each_fits number v at in
+    let up_to_seen = λ (r : IsTrue v.raises). subst (λ (p : Pair). p.low ≤ p.stable) (sym (was.raiser_exact r))
+    h.ordered in
     let low_is = λ (r : IsTrue v.raises). ap (λ (p : Pair). p.low) (was.raiser_exact r) in
     let stable_is = λ (r : IsTrue v.raises). ap (λ (p : Pair). p.stable) (was.raiser_exact r) in
     let above = λ (r : IsTrue v.raises). subst (λ (k : ℕ). k ≤ v.seen.stable) (low_is r) (up_to_seen r) in (
@@ -97,7 +101,10 @@ reads_low slots number me s h _ at _ = let v = me.0 in let n : ℕ = get_or s.wo
       tt,
       knows s (set s.words 1 n) number (sees v (pair (max v.seen.stable n) n)) h is.0 is.1 record {
         reached = (max_within v.seen.stable n (get_or s.words 0 0) was.reached.0 h.ordered, le_refl n);
-        met_reached = (le_trans was.met_reached.0 (le-max_left v.seen.stable n), le_trans was.met_reached.1 was.reached.1);
+        met_reached = (
+          le_trans was.met_reached.0 (le-max_left v.seen.stable n),
+          le_trans was.met_reached.1 was.reached.1,
+        );
         raiser_first = was.raiser_first;
         raiser_exact = λ r. ap (λ (k : ℕ). pair k n) (max-eq_left (above r) ∙ stable_is r);
       },
@@ -106,7 +113,8 @@ reads_low slots number me s h _ at _ = let v = me.0 in let n : ℕ = get_or s.wo
 
 pub reads_stable : (slots number : ℕ) (me : Mine)
     → Allows Holds slots number me 0 (λ n. n) (stable_read (step slots 0 0 0 none) me)
-reads_stable slots number me s h _ at _ = let v = me.0 in let n : ℕ = get_or s.words 0 0 in let is = stable_set s.words n h.two_words in let was = h.each_fits number v at in
+reads_stable slots number me s h _ at _ = let v = me.0 in let n : ℕ = get_or s.words 0 0 in let is =
+    stable_set s.words n h.two_words in let was = h.each_fits number v at in
     let low_is = λ (r : IsTrue v.raises). ap (λ (p : Pair). p.low) (was.raiser_exact r) in
     let stable_is = λ (r : IsTrue v.raises). ap (λ (p : Pair). p.stable) (was.raiser_exact r) in (
       sees v (pair n v.seen.low),
@@ -128,38 +136,46 @@ raised_to : (s : Marked) (words : List ℕ) (number : ℕ) (v : View) (p : Pair)
     → Holds (moved s words number (sees v p))
 raised_to s words number v p h at raises two is ordered up =
     subst (λ (q : Pair). Holds (moved s words number (sees v q))) is
-    (raises_to s words number v h at raises two (subst (λ (q : Pair). q.low ≤ q.stable) (sym is) ordered) (subst (λ (q : Pair). UpTo (words_of s) q) (sym is) up))
+    (raises_to s words number v h at raises two (subst (λ (q : Pair). q.low ≤ q.stable) (sym is) ordered)
+    (subst (λ (q : Pair). UpTo (words_of s) q) (sym is) up))
 
 pub raises_stable : (slots number n : ℕ) (me : Mine) → IsTrue me.0.raises
     → Allows Holds slots number me 0 (λ k. max k n) (stable_raised (step slots 0 n 0 none) me)
-raises_stable slots number n me raises s h _ at _ = let v = me.0 in let k : ℕ = get_or s.words 0 0 in let low : ℕ = get_or s.words 1 0 in
+raises_stable slots number n me raises s h _ at _ = let v = me.0 in let k : ℕ = get_or s.words 0 0 in let low : ℕ =
+    get_or s.words 1 0 in
     let is = stable_set s.words (max k n) h.two_words in let exact = (h.each_fits number v at).raiser_exact raises in
-    let seen : pair (max k n) low ≡ pair (max v.seen.stable n) v.seen.low = ap (λ (p : Pair). pair (max p.stable n) p.low) (sym exact) in (
+    let seen : pair (max k n) low ≡ pair (max v.seen.stable n) v.seen.low =
+    ap (λ (p : Pair). pair (max p.stable n) p.low) (sym exact) in (
       sees v (pair (max v.seen.stable n) v.seen.low),
       keeps,
       tt,
       subst (λ (p : Pair). Holds (moved s (set s.words 0 (max k n)) number (sees v p))) seen
-          (raised_to s (set s.words 0 (max k n)) number v (pair (max k n) low) h at raises is.0 is.1 (le_trans h.ordered (le-max_left k n)) (le-max_left k n, le_refl low)),
+          (raised_to s (set s.words 0 (max k n)) number v (pair (max k n) low) h at raises is.0 is.1
+          (le_trans h.ordered (le-max_left k n)) (le-max_left k n, le_refl low)),
       refl,
     )
 
 pub raises_low : (slots number n : ℕ) (me : Mine) → IsTrue me.0.raises → n ≤ me.0.seen.stable
     → Allows Holds slots number me 1 (λ k. max k n) (low_raised (step slots 1 n 0 none) me)
-raises_low slots number n me raises below s h _ at _ = let v = me.0 in let k : ℕ = get_or s.words 1 0 in let stable : ℕ = get_or s.words 0 0 in
+raises_low slots number n me raises below s h _ at _ = let v = me.0 in let k : ℕ = get_or s.words 1 0 in
+    let stable : ℕ = get_or s.words 0 0 in
     let is = low_set s.words (max k n) h.two_words in let exact = (h.each_fits number v at).raiser_exact raises in
-    let seen : pair stable (max k n) ≡ pair v.seen.stable (max v.seen.low n) = ap (λ (p : Pair). pair p.stable (max p.low n)) (sym exact) in
+    let seen : pair stable (max k n) ≡ pair v.seen.stable (max v.seen.low n) =
+    ap (λ (p : Pair). pair p.stable (max p.low n)) (sym exact) in
     let within : n ≤ stable = subst (λ (p : Pair). n ≤ p.stable) exact below in (
       sees v (pair v.seen.stable (max v.seen.low n)),
       keeps,
       tt,
       subst (λ (p : Pair). Holds (moved s (set s.words 1 (max k n)) number (sees v p))) seen
-          (raised_to s (set s.words 1 (max k n)) number v (pair stable (max k n)) h at raises is.0 is.1 (max_within k n stable h.ordered within) (le_refl stable, le-max_left k n)),
+          (raised_to s (set s.words 1 (max k n)) number v (pair stable (max k n)) h at raises is.0 is.1
+          (max_within k n stable h.ordered within) (le_refl stable, le-max_left k n)),
       refl,
     )
 
 pub compares : (slots number : ℕ) (me : Mine)
     → Allows Holds slots number me 0 (λ n. n) (compared (step slots 0 0 0 none) me)
-compares slots number me s h _ at _ = let v = me.0 in let n : ℕ = get_or s.words 0 0 in let is = stable_set s.words n h.two_words in let was = h.each_fits number v at in
+compares slots number me s h _ at _ = let v = me.0 in let n : ℕ = get_or s.words 0 0 in let is =
+    stable_set s.words n h.two_words in let was = h.each_fits number v at in
     (v, keeps, tt, knows s (set s.words 0 n) number v h is.0 is.1 was, (was.met_reached, refl))
 
 not_raising : IsTrue false → ⊥
@@ -167,7 +183,13 @@ not_raising raises = cc
 
 -- a newcomer fits any words
 newcomer_fits : (words : Pair) (number : ℕ) → Fits words number newcomer
-newcomer_fits words number = record { reached = (zero-le, zero-le); met_reached = (zero-le, zero-le); raiser_first = λ r. absurd (not_raising r); raiser_exact = λ r. absurd (not_raising r) }
+newcomer_fits words number =
+    record {
+      reached = (zero-le, zero-le);
+      met_reached = (zero-le, zero-le);
+      raiser_first = λ r. absurd (not_raising r);
+      raiser_exact = λ r. absurd (not_raising r);
+    }
 
 pub comes : (slots : ℕ) → Enters Holds slots 0 (λ n w. came (step slots 0 0 0 none) (raiser_at_first, []) n (w, []))
 comes slots s h _ _ = (
@@ -175,22 +197,32 @@ comes slots s h _ _ = (
   record {
     two_words = h.two_words;
     ordered = h.ordered;
-    each_fits = λ number u at. ⊎_elim (h.each_fits number u) (λ (is : newcomer ≡ u). subst (λ (v : View). Fits (words_of s) number v) is (newcomer_fits (words_of s) number)) (at_snoc s.views newcomer u number at);
+    each_fits = λ number u at. ⊎_elim (h.each_fits number u)
+        (λ (is : newcomer ≡ u). subst (λ (v : View). Fits (words_of s) number v) is (newcomer_fits (words_of s) number))
+        (at_snoc s.views newcomer u number at);
   },
   refl,
 )
 
 -- a reader that is told what a seat has seen fits the words that the seat's view fits
 told_fits : (words : Pair) (number other : ℕ) (v : View) → Fits words number v → Fits words other (told v)
-told_fits words number other v was = record { reached = was.reached; met_reached = (zero-le, zero-le); raiser_first = λ r. absurd (not_raising r); raiser_exact = λ r. absurd (not_raising r) }
+told_fits words number other v was =
+    record {
+      reached = was.reached;
+      met_reached = (zero-le, zero-le);
+      raiser_first = λ r. absurd (not_raising r);
+      raiser_exact = λ r. absurd (not_raising r);
+    }
 
 pub tells : (number : ℕ) (v : View) → Splits Holds number v v (told v)
 tells number v s h at = record {
   two_words = h.two_words;
   ordered = h.ordered;
   each_fits = λ other u at'. ⊎_elim
-      (λ (was : get_elem? (set s.views number v) other ≡ some u). h.each_fits other u (subst (λ (views : List View). get_elem? views other ≡ some u) (set_again s.views number v at) was))
-      (λ (is : told v ≡ u). subst (λ (x : View). Fits (words_of s) other x) is (told_fits (words_of s) number other v (h.each_fits number v at)))
+      (λ (was : get_elem? (set s.views number v) other ≡ some u). h.each_fits other u
+      (subst (λ (views : List View). get_elem? views other ≡ some u) (set_again s.views number v at) was))
+      (λ (is : told v ≡ u). subst (λ (x : View). Fits (words_of s) other x) is
+      (told_fits (words_of s) number other v (h.each_fits number v at)))
       (at_snoc (set s.views number v) (told v) u other at');
 }
 
@@ -198,7 +230,8 @@ tells number v s h at = record {
 pub meets : (number other : ℕ) (v w : View) → IsTrue v.raises → Joins Holds number v other w (meeting v w) newcomer
 meets number other v w raises s h at apart at' =
     let was = h.each_fits number v at in
-    let met = ⊎_elim (λ (t : (other ≡ number) × (meeting v w ≡ w)). absurd (apart t.0)) (λ (t : (other ≢ number) × (get_elem? s.views other ≡ some w)). h.each_fits other w t.1)
+    let met = ⊎_elim (λ (t : (other ≡ number) × (meeting v w ≡ w)). absurd (apart t.0))
+    (λ (t : (other ≢ number) × (get_elem? s.views other ≡ some w)). h.each_fits other w t.1)
     (at_set s.views number other (meeting v w) w at') in
     let after = knows s s.words number (meeting v w) h h.two_words refl record {
       reached = was.reached;
@@ -206,4 +239,5 @@ meets number other v w raises s h at apart at' =
       raiser_first = was.raiser_first;
       raiser_exact = was.raiser_exact;
     } in
-    knows (moved s s.words number (meeting v w)) s.words other newcomer after h.two_words refl (newcomer_fits (words_of s) other)
+    knows (moved s s.words number (meeting v w)) s.words other newcomer after h.two_words refl
+    (newcomer_fits (words_of s) other)

@@ -15,7 +15,12 @@ impl Model for Seat {
 
     ghost Value = { Seen };
 
-    ghost view = { λ s. record { marks = s.place.table_id; raises = s.place.me.0.raises; stable = s.place.me.0.seen.stable; low = s.place.me.0.seen.low } };
+    ghost view = { λ s. record {
+      marks = s.place.table_id;
+      raises = s.place.me.0.raises;
+      stable = s.place.me.0.seen.stable;
+      low = s.place.me.0.seen.low;
+    } };
 
     ghost invariant = { λ s. s.place.me.1 ≡ [] };
 }

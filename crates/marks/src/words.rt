@@ -68,7 +68,8 @@ impl<A: Allocator> Marks<A> {
         ensures ordered { result.1 ≤ result.0 }
         ensures never_falls { (seat.old.stable ≤ result.0) × (seat.old.low ≤ result.1) }
         ensures seen { seat.new ≡ seeing seat.old result.0 result.1 }
-        // so there is nothing in a seat to answer from, or to tell whose it is: what the raiser's finds, each seat finds
+        // so there is nothing in a seat to answer from, or to tell whose it is: what the raiser's finds, each seat
+        // finds
         ensures seat_has_no_bytes { bytes_of the_row ≡ 0 }
         ensures raiser_finds_its_own { IsTrue seat.old.raises → result ≡ (seat.old.stable, seat.old.low) }
     {

@@ -38,7 +38,8 @@ falls_with k n (Some o) rest h =
 pub falls : (k : Bytes) (log : List Record) → Fall (length log + 1) (numbered_on k log)
 falls k [] = tt
 falls k (r ∷ log) =
-    let more : Fall (length log + 1 + 1) (numbered_on k (r ∷ log)) = falls_with k (length log + 1) (request_of r) (numbered_on k log) (falls k log) in
+    let more : Fall (length log + 1 + 1) (numbered_on k (r ∷ log)) =
+    falls_with k (length log + 1) (request_of r) (numbered_on k log) (falls k log) in
     fall_from (length log + 1 + 1) (length (r ∷ log) + 1) (numbered_on k (r ∷ log)) (omega arith) more
 
 -- a request on the key stands there
@@ -63,9 +64,11 @@ stands_on k (r ∷ log) n o requests on =
     elim (which r log n (within (ARequest o) (no_request o) (r ∷ log) n requests)) [
       | inl e ↦
           let asks : ARequest o (Some r) = newest_at (ARequest o) r log n e requests in
-          subst (λ q. Stands n o (numbered_with k (length log + 1) q (numbered_on k log))) (sym asks) (stands_first k n (length log + 1) o (numbered_on k log) (sym e) on)
+          subst (λ q. Stands n o (numbered_with k (length log + 1) q (numbered_on k log))) (sym asks)
+          (stands_first k n (length log + 1) o (numbered_on k log) (sym e) on)
       | inr was ↦
-          stands_later k n (length log + 1) o (request_of r) (numbered_on k log) (λ same. not_newest log n was (sym same))
+          stands_later k n (length log + 1) o (request_of r) (numbered_on k log)
+          (λ same. not_newest log n was (sym same))
           (stands_on k log n o (had_at (ARequest o) r log n was requests) on)
     ]
 
@@ -97,7 +100,8 @@ below_first l n o [] falls h = absurd h
 below_first l n o (d ∷ done) falls h =
     elim (cases_eq d.number n) [
       | inl e ↦ omega (arith, e, falls.0)
-      | inr apart ↦ let less : n < d.number = below_first d.number n o done falls.1 (rw (ne_eqb d.number n apart) at h) in omega (arith, less, falls.0)
+      | inr apart ↦ let less : n < d.number =
+          below_first d.number n o done falls.1 (rw (ne_eqb d.number n apart) at h) in omega (arith, less, falls.0)
     ]
 
 -- what comes before a captured one is captured
@@ -108,11 +112,13 @@ earlier_captured cap l m n q o (d ∷ done) falls h at_m at_n less got =
     elim (cases_eq d.number m) [
       | inl e ↦
           let here : cap d.number ≡ true = ap cap e ∙ got in
-          captured_there cap n o done (rw here at h) (rw (ne_eqb d.number n (λ same. omega (arith, e, same, less))) at at_n)
+          captured_there cap n o done (rw here at h)
+          (rw (ne_eqb d.number n (λ same. omega (arith, e, same, less))) at at_n)
       | inr apart ↦
           let later : Stands m q done = rw (ne_eqb d.number m apart) at at_m in
           let below : m < d.number = below_first d.number m q done falls.1 later in
-          earlier_captured cap d.number m n q o done falls.1 (rest_beginning cap d done h) later (rw (ne_eqb d.number n (λ same. omega (arith, below, same, less))) at at_n) less got
+          earlier_captured cap d.number m n q o done falls.1 (rest_beginning cap d done h) later
+          (rw (ne_eqb d.number n (λ same. omega (arith, below, same, less))) at at_n) less got
     ]
 
 -- later ones on the key than one that isn't captured aren't either
@@ -123,7 +129,8 @@ later_uncaptured cap k log n m o q h asks_n on_n out asks_m on_m less =
     elim (cases_Bool (cap m)) [
       | inl got ↦
           absurd (true≢false
-          (sym (earlier_captured cap (length log + 1) m n q o (numbered_on k log) (falls k log) h (stands_on k log m q asks_m on_m) (stands_on k log n o asks_n on_n) less got) ∙ out))
+          (sym (earlier_captured cap (length log + 1) m n q o (numbered_on k log) (falls k log) h
+          (stands_on k log m q asks_m on_m) (stands_on k log n o asks_n on_n) less got) ∙ out))
       | inr out ↦ out
     ]
 
@@ -147,11 +154,15 @@ value_before cap k [] n o requests out later = absurd (no_request o requests)
 value_before cap k (r ∷ log) n o requests out later =
     elim (which r log n (within (ARequest o) (no_request o) (r ∷ log) n requests)) [
       | inl e ↦
-          skipped cap k (length log + 1) (request_of r) (numbered_on k log) (λ p asks on. subst (λ (m : ℕ). cap m ≡ false) e out)
+          skipped cap k (length log + 1) (request_of r) (numbered_on k log)
+          (λ p asks on. subst (λ (m : ℕ). cap m ≡ false) e out)
           ∙ ap (λ x. value_of cap (numbered_on k x)) (sym (before_new r log n e))
       | inr was ↦
-          skipped cap k (length log + 1) (request_of r) (numbered_on k log) (λ p asks on. later (length log + 1) p (omega (arith, was.bounded)) (at_newest (ARequest p) r log (length log + 1) refl asks) on)
+          skipped cap k (length log + 1) (request_of r) (numbered_on k log)
+          (λ p asks on. later (length log + 1) p (omega (arith, was.bounded))
+          (at_newest (ARequest p) r log (length log + 1) refl asks) on)
           ∙ value_before cap k log n o (had_at (ARequest o) r log n was requests) out
-          (λ m q above asks on. later m q above (kept_at (ARequest q) r log m (within (ARequest q) (no_request q) log m asks) asks) on)
+          (λ m q above asks on. later m q above
+          (kept_at (ARequest q) r log m (within (ARequest q) (no_request q) log m asks) asks) on)
           ∙ ap (λ x. value_of cap (numbered_on k x)) (sym (before_old r log n (not_newest log n was)))
     ]

@@ -34,7 +34,8 @@ kept_here Q false x xs here all = all
 pub all_kept : {X : Type 0} (P Q : X → Type 0) (test : X → Bool) → ((x : X) → P x → test x ≡ true → Q x) → (xs : List X)
     → AllByRecursion P xs → AllByRecursion Q (filter test xs)
 all_kept P Q test from [] all = tt
-all_kept P Q test from (x ∷ xs) all = kept_here Q (test x) x (filter test xs) (from x all.0) (all_kept P Q test from xs all.1)
+all_kept P Q test from (x ∷ xs) all =
+    kept_here Q (test x) x (filter test xs) (from x all.0) (all_kept P Q test from xs all.1)
 
 either_all : (P : Entry → Type 0) (b : Bool) (es fs : List Entry) → AllByRecursion P es → AllByRecursion P fs
     → AllByRecursion P (cond b es fs)
@@ -59,7 +60,8 @@ below_other : (x fence y : Bytes) (o : Ordering) → key_cmp x fence ≡ Less �
     → key_cmp x y ≡ Less
 below_other x fence y Less less is free = absurd (true≢false free)
 below_other x fence y Equal less is free = alike_right nat_list_cmp_total y fence x is ∙ less
-below_other x fence y Greater less is free = nat_list_cmp_total.trans x fence y less (nat_list_cmp_total.antisymm fence y ∙ ap ordering_reverse is)
+below_other x fence y Greater less is free =
+    nat_list_cmp_total.trans x fence y less (nat_list_cmp_total.antisymm fence y ∙ ap ordering_reverse is)
 
 pub less_of : (x y : Bytes) → is_below x y ≡ true → key_cmp x y ≡ Less
 less_of x y below = is_lt-Less _ (as_T (is_below x y) below)
@@ -86,16 +88,19 @@ free_below x fence low free starts =
 pub from_low : (low : Option Bytes) (x fence : Bytes) → is_below x fence ≡ false → starts_at_most low fence ≡ true
     → starts_at_most low x ≡ true
 from_low None x fence free starts = refl
-from_low (Some low) x fence free starts = not_from_false (is_below x low) (free_below x fence low free (not-true (is_below fence low) starts))
+from_low (Some low) x fence free starts =
+    not_from_false (is_below x low) (free_below x fence low free (not-true (is_below fence low) starts))
 
 -- in a leaf's fences and on a side of a key
 pub between_lower : (low high : Option Bytes) (fence x : Bytes) → is_between low high x ≡ true → is_under fence x ≡ true
     → is_between low (Some fence) x ≡ true
-between_lower low high fence x inside under = and_from (starts_at_most low x) (is_below x fence) (and_parts _ _ inside).0 under
+between_lower low high fence x inside under =
+    and_from (starts_at_most low x) (is_below x fence) (and_parts _ _ inside).0 under
 
 pub between_upper : (low high : Option Bytes) (fence x : Bytes) → is_between low high x ≡ true → is_from fence x ≡ true
     → is_between (Some fence) high x ≡ true
-between_upper low high fence x inside from = and_from (not (is_below x fence)) (ends_above high x) from (and_parts _ _ inside).1
+between_upper low high fence x inside from =
+    and_from (not (is_below x fence)) (ends_above high x) from (and_parts _ _ inside).1
 
 -- and back
 pub lower_between : (low high : Option Bytes) (fence x : Bytes) → ends_above high fence ≡ true
@@ -117,9 +122,11 @@ pub tied_alike : (test : Bytes → Bool) (q x : Bytes) → key_cmp q x ≡ Equal
 tied_alike test q x tied = ap test (sym (exact_bytes q x tied))
 
 pub retained : (rows : List Row) (test : Bytes → Bool) → AreInOrder rows
-    → AreInOrder (filter (λ (row : Row). test row.0) rows) × (table_of (filter (λ (row : Row). test row.0) rows) ≡ map.retain_keys (table_of rows) test)
+    → AreInOrder (filter (λ (row : Row). test row.0) rows)
+    × (table_of (filter (λ (row : Row). test row.0) rows) ≡ map.retain_keys (table_of rows) test)
 retained rows test ordered =
-    let left : AreInOrder (filter (λ (row : Row). test row.0) rows) = from_T _ (is_sorted-where_key key_cmp test rows (as_T _ ordered)) in (
+    let left : AreInOrder (filter (λ (row : Row). test row.0) rows) =
+    from_T _ (is_sorted-where_key key_cmp test rows (as_T _ ordered)) in (
       left,
       same_table _ _ (λ q.
           get-table_of _ q left
@@ -170,7 +177,8 @@ none_pass test (row ∷ rows) all = rw all.0 (none_pass test rows all.1)
 first_left : (test : Bytes → Bool) (rows more : List Row) → AllByRecursion (λ (row : Row). test row.0 ≡ true) rows
     → AllByRecursion (λ (row : Row). test row.0 ≡ false) more → filter (λ (row : Row). test row.0) (rows ++ more) ≡ rows
 first_left test [] more all none = none_pass test more none
-first_left test (row ∷ rows) more all none = rw all.0 (ap (λ (rest : List Row). row ∷ rest) (first_left test rows more all.1 none))
+first_left test (row ∷ rows) more all none =
+    rw all.0 (ap (λ (rest : List Row). row ∷ rest) (first_left test rows more all.1 none))
 
 second_left : (test : Bytes → Bool) (rows more : List Row) → AllByRecursion (λ (row : Row). test row.0 ≡ false) rows
     → AllByRecursion (λ (row : Row). test row.0 ≡ true) more → filter (λ (row : Row). test row.0) (rows ++ more) ≡ more
@@ -186,13 +194,16 @@ pub apart_of : (low high : Option Bytes) (fence : Bytes) (rows more : List Row) 
     → LieBetween (Some fence) high more
     → Apart fence rows more
 apart_of low high fence rows more one two = record {
-  under = all_from _ _ (λ (row : Row) inside. (and_parts (starts_at_most low row.0) (is_below row.0 fence) inside).1) rows one;
-  free = all_from _ _ (λ (row : Row) inside. not-true (is_below row.0 fence) (and_parts (not (is_below row.0 fence)) (ends_above high row.0) inside).0) more two;
+  under = all_from _ _ (λ (row : Row) inside. (and_parts (starts_at_most low row.0) (is_below row.0 fence) inside).1)
+      rows one;
+  free = all_from _ _ (λ (row : Row) inside. not-true (is_below row.0 fence)
+      (and_parts (not (is_below row.0 fence)) (ends_above high row.0) inside).0) more two;
 }
 
 pub ordered_both : (fence : Bytes) (rows more : List Row) → AreInOrder rows → AreInOrder more → Apart fence rows more
     → AreInOrder (rows ++ more)
-ordered_both fence rows more one two apart = from_T _ (sorted_both fence rows more (as_T _ one) (as_T _ two) apart.under apart.free)
+ordered_both fence rows more one two apart =
+    from_T _ (sorted_both fence rows more (as_T _ one) (as_T _ two) apart.under apart.free)
 
 -- a cut of both at the fence gives each back
 pub table_again : (m : Table) → table_of (map.entries m) ≡ m

@@ -21,7 +21,8 @@ pub right_longer : (r : Record) (log : List Record) (n : ℕ) (o : Op) (a : Answ
     → IsRight (r ∷ log) n a
 right_longer r log n o a requests right q asks =
     let number = request_number log n o requests in
-    right q (had_at (ARequest q) r log n number asks) ∙ ap (λ x. answer_at q (value_on (key_of q) x)) (sym (before_old r log n (not_newest log n number)))
+    right q (had_at (ARequest q) r log n number asks)
+    ∙ ap (λ x. answer_at q (value_on (key_of q) x)) (sym (before_old r log n (not_newest log n number)))
 
 saved_longer : (r : Record) (log : List Record) (es : List Entry) → AllByRecursion (IsSavedRight log) es
     → AllByRecursion (IsSavedRight (r ∷ log)) es
@@ -29,7 +30,8 @@ saved_longer r log [] all = tt
 saved_longer r log (e ∷ es) all = (
   record {
     op = all.0.op;
-    requests = kept_at (ARequest all.0.op) r log e.number (request_number log e.number all.0.op all.0.requests) all.0.requests;
+    requests = kept_at (ARequest all.0.op) r log e.number (request_number log e.number all.0.op all.0.requests)
+        all.0.requests;
     on_key = all.0.on_key;
     right = right_longer r log e.number all.0.op e.answer all.0.requests all.0.right;
   },
@@ -39,7 +41,8 @@ saved_longer r log (e ∷ es) all = (
 -- one number more on the key that isn't captured
 more_at : (cap : ℕ → Bool) (k : Bytes) (n : ℕ) (q : Option Op) (rest : List Numbered)
     → ((o : Op) → q ≡ Some o → cap n ≡ false)
-    → (IsBeginning cap rest → IsBeginning cap (numbered_with k n q rest)) × (value_of cap (numbered_with k n q rest) ≡ value_of cap rest)
+    → (IsBeginning cap rest → IsBeginning cap (numbered_with k n q rest))
+    × (value_of cap (numbered_with k n q rest) ≡ value_of cap rest)
 more_at cap k n None rest out = (λ h. h, refl)
 more_at cap k n (Some o) rest out =
     pick (is_on k o)

@@ -38,7 +38,8 @@ all_done P k [] each = tt
 all_done P k (r ∷ log) each =
     all_with P k (length log + 1) (request_of r) (numbered_on k log)
     (λ o q on. each (length log + 1) o (at_newest (ARequest o) r log (length log + 1) refl q) on)
-    (all_done P k log (λ n o requests on. each n o (kept_at (ARequest o) r log n (within (ARequest o) (no_request o) log n requests) requests) on))
+    (all_done P k log (λ n o requests on. each n o
+    (kept_at (ARequest o) r log n (within (ARequest o) (no_request o) log n requests) requests) on))
 
 -- a request that no later one on its key follows is the newest there
 pub newest_done : (log : List Record) (n : ℕ) (o : Op) → Requests log n o
@@ -50,14 +51,19 @@ newest_done (r ∷ log) n o requests last =
       | inl e ↦
           let asks : ARequest o (Some r) = newest_at (ARequest o) r log n e requests in
           ap (λ q. numbered_with (key_of o) (length log + 1) q (numbered_on (key_of o) log)) asks
-          ∙ ap (λ b. if b then record { number = length log + 1; op = o } ∷ numbered_on (key_of o) log else numbered_on (key_of o) log) (on_key (key_of o) o refl)
+          ∙ ap (λ b. if b then record { number = length log + 1; op = o } ∷ numbered_on (key_of o) log else numbered_on
+          (key_of o) log) (on_key (key_of o) o refl)
           ∙ ap (λ (m : ℕ). record { number = m; op = o } ∷ numbered_on (key_of o) log) (sym e)
           ∙ ap (λ x. record { number = n; op = o } ∷ numbered_on (key_of o) x) (sym (before_new r log n e))
       | inr was ↦
           let older : Requests log n o = had_at (ARequest o) r log n was requests in
-          passed (request_of r) (λ q asks on. last (length log + 1) q (omega (arith, was.bounded)) (at_newest (ARequest q) r log (length log + 1) refl asks) on)
-          ∙ newest_done log n o older (λ m q above asks on. last m q above (kept_at (ARequest q) r log m (within (ARequest q) (no_request q) log m asks) asks) on)
-          ∙ ap (λ x. record { number = n; op = o } ∷ numbered_on (key_of o) x) (sym (before_old r log n (not_newest log n was)))
+          passed (request_of r) (λ q asks on. last (length log + 1) q (omega (arith, was.bounded))
+          (at_newest (ARequest q) r log (length log + 1) refl asks) on)
+          ∙ newest_done log n o older
+          (λ m q above asks on. last m q above
+          (kept_at (ARequest q) r log m (within (ARequest q) (no_request q) log m asks) asks) on)
+          ∙ ap (λ x. record { number = n; op = o } ∷ numbered_on (key_of o) x)
+          (sym (before_old r log n (not_newest log n was)))
     ]
   where
     passed : (q : Option Op) → ((p : Op) → q ≡ Some p → key_of p ≡ key_of o → ⊥)
@@ -66,7 +72,8 @@ newest_done (r ∷ log) n o requests last =
     passed (Some p) none = skip (is_on (key_of o) p) refl
       where
         skip : (b : Bool) → is_on (key_of o) p ≡ b
-            → (if b then record { number = length log + 1; op = p } ∷ numbered_on (key_of o) log else numbered_on (key_of o) log) ≡ numbered_on (key_of o) log
+            → (if b then record { number = length log + 1; op = p } ∷ numbered_on (key_of o) log else numbered_on
+            (key_of o) log) ≡ numbered_on (key_of o) log
         skip true on = absurd (none p refl (key_on (key_of o) p on))
         skip false on = refl
 
@@ -87,7 +94,8 @@ beginning_at false true p q done e same rest h = absurd (true≢false (sym e))
 pub beginning_alike : (p q : ℕ → Bool) (done : List Numbered) → AllByRecursion (λ d. p d.number ≡ q d.number) done
     → IsBeginning p done → IsBeginning q done
 beginning_alike p q [] same h = tt
-beginning_alike p q (d ∷ done) same h = beginning_at (p d.number) (q d.number) p q done same.0 same.1 (beginning_alike p q done same.1) h
+beginning_alike p q (d ∷ done) same h =
+    beginning_at (p d.number) (q d.number) p q done same.0 same.1 (beginning_alike p q done same.1) h
 
 pub value_alike : (p q : ℕ → Bool) (done : List Numbered) → AllByRecursion (λ d. p d.number ≡ q d.number) done
     → value_of p done ≡ value_of q done

@@ -13,18 +13,22 @@ pub record Grows (old new : ℕ → Bool) (o : Op) (done : List Numbered) : Type
   pub beginning : IsBeginning new done
   pub value : value_of new done ≡ value_after o (value_of old done)
 
-module _ (old new : ℕ → Bool) (n : ℕ) (o : Op) (out : old n ≡ false) (got : new n ≡ true) (others : (m : ℕ) → m ≢ n → new m ≡ old m) where
+module _ (old new : ℕ → Bool) (n : ℕ) (o : Op) (out : old n ≡ false) (got : new n ≡ true)
+    (others : (m : ℕ) → m ≢ n → new m ≡ old m) where
   -- those before it
   all_older : (l : ℕ) (done : List Numbered) → l ≤ n → Fall l done
       → AllByRecursion (λ d. d.number < n → old d.number ≡ true) done → AreCaptured old done
   all_older l [] le falls each = tt
-  all_older l (d ∷ done) le falls each = (each.0 (omega (arith, le, falls.0)), all_older d.number done (omega (arith, le, falls.0)) falls.1 each.1)
+  all_older l (d ∷ done) le falls each =
+      (each.0 (omega (arith, le, falls.0)), all_older d.number done (omega (arith, le, falls.0)) falls.1 each.1)
 
   all_alike : (l : ℕ) (done : List Numbered) → l ≤ n → Fall l done
       → AllByRecursion (λ d. old d.number ≡ new d.number) done
   all_alike l [] le falls = tt
-  all_alike l (d ∷ done) le falls =
-      (sym (others d.number (λ same. omega (arith, same, le, falls.0))), all_alike d.number done (omega (arith, le, falls.0)) falls.1)
+  all_alike l (d ∷ done) le falls = (
+    sym (others d.number (λ same. omega (arith, same, le, falls.0))),
+    all_alike d.number done (omega (arith, le, falls.0)) falls.1,
+  )
 
   grown_here : (d : Numbered) (done : List Numbered) → d.number ≡ n → d.op ≡ o → Fall d.number done
       → AllByRecursion (λ d. d.number < n → old d.number ≡ true) done → Grows old new o (d ∷ done)

@@ -37,9 +37,11 @@ kept_pair P false e f es fs here new all more = (new, (here, all))
 pub all_placed : (P : Entry → Type 0) (f : Entry) (es : List Entry) → P f → AllByRecursion P es
     → AllByRecursion P (placed f es)
 all_placed P f [] new all = (new, tt)
-all_placed P f (e ∷ es) new all = kept_pair P (nat_lt e.number f.number) e f es (placed f es) all.0 new all.1 (all_placed P f es new all.1)
+all_placed P f (e ∷ es) new all =
+    kept_pair P (nat_lt e.number f.number) e f es (placed f es) all.0 new all.1 (all_placed P f es new all.1)
 
-module _ (log : List Record) (leaf : LeafView) (n : ℕ) (o : Op) (honest : IsHonestLeaf log leaf) (next : IsNextOn log leaf n o) where
+module _ (log : List Record) (leaf : LeafView) (n : ℕ) (o : Op) (honest : IsHonestLeaf log leaf)
+    (next : IsNextOn log leaf n o) where
   abbrev key : Bytes
   key = key_of o
 
@@ -66,27 +68,36 @@ module _ (log : List Record) (leaf : LeafView) (n : ℕ) (o : Op) (honest : IsHo
   older = all_done (λ m. m < n → old m ≡ true) key log (λ m q asks on less. next.others m q asks on less)
 
   later : (m : ℕ) (q : Op) → n < m → Requests log m q → key_of q ≡ key → old m ≡ false
-  later m q less asks on = later_uncaptured old key log n m o q here.beginning next.requests refl next.uncaptured asks on less
+  later m q less asks on =
+      later_uncaptured old key log n m o q here.beginning next.requests refl next.uncaptured asks on less
 
   before_captured : AreCaptured old (numbered_on key (before log n))
   before_captured = all_done (λ m. old m ≡ true) key (before log n) (λ m q asks on.
-      let below : m < n = omega (arith, (request_number (before log n) m q asks).bounded, length_before log n (request_number log n o next.requests)) in
-      next.others m q (subst (λ r. request_in r ≡ Some q) (record_before log m n (request_number log n o next.requests) below) asks) on below)
+      let below : m < n = omega (
+        arith,
+        (request_number (before log n) m q asks).bounded,
+        length_before log n (request_number log n o next.requests),
+      ) in
+      next.others m q (subst (λ r. request_in r ≡ Some q)
+      (record_before log m n (request_number log n o next.requests) below) asks) on below)
 
   -- what stands at the key is what the requests before it left
   was : get leaf.rows key ≡ value_on key (before log n)
-  was = here.right ∙ value_before old key log n o next.requests next.uncaptured later ∙ value_of-captured (before log n) key old before_captured
+  was = here.right ∙ value_before old key log n o next.requests next.uncaptured later
+      ∙ value_of-captured (before log n) key old before_captured
 
   pub right_answer : IsRight log n (answer_in leaf.rows o)
   right_answer q asks = let same : q ≡ o = one_request log n o q next.requests asks in rw same (ap (answer_at o) was)
 
   grows : Grows old new o (numbered_on key log)
-  grows = one_more old new n o next.uncaptured captured_itself captured_other (length log + 1) (numbered_on key log) (falls key log) (stands_on key log n o next.requests refl) older here.beginning
+  grows = one_more old new n o next.uncaptured captured_itself captured_other (length log + 1) (numbered_on key log)
+      (falls key log) (stands_on key log n o next.requests refl) older here.beginning
 
   honest_here : IsHonestAt log new key (get (performed leaf n o).rows key)
   honest_here = record {
     beginning = grows.beginning;
-    right = get-with_record_same leaf.rows key (value_after o (get leaf.rows key)) ∙ ap (value_after o) here.right ∙ sym grows.value;
+    right = get-with_record_same leaf.rows key (value_after o (get leaf.rows key)) ∙ ap (value_after o) here.right
+        ∙ sym grows.value;
   }
 
   honest_elsewhere : (q : Bytes) → q ≢ key → IsHonestAt log old q (get leaf.rows q)
@@ -94,10 +105,12 @@ module _ (log : List Record) (leaf : LeafView) (n : ℕ) (o : Op) (honest : IsHo
   honest_elsewhere q apart h =
       let alike : AllByRecursion (λ d. old d.number ≡ new d.number) (numbered_on q log) =
       all_done (λ m. old m ≡ new m) q log (λ m p asks on.
-      sym (captured_other m (λ e. apart (sym on ∙ ap key_of (one_request log n o p next.requests (subst (λ (z : ℕ). Requests log z p) e asks)))))) in
+      sym (captured_other m (λ e. apart
+      (sym on ∙ ap key_of (one_request log n o p next.requests (subst (λ (z : ℕ). Requests log z p) e asks)))))) in
       record {
         beginning = beginning_alike old new (numbered_on q log) alike h.beginning;
-        right = get-with_record_other leaf.rows key q (value_after o (get leaf.rows key)) apart ∙ h.right ∙ value_alike old new (numbered_on q log) alike;
+        right = get-with_record_other leaf.rows key q (value_after o (get leaf.rows key)) apart ∙ h.right
+            ∙ value_alike old new (numbered_on q log) alike;
       }
 
   pub honest_performed : IsHonestLeaf log (performed leaf n o)
@@ -106,6 +119,7 @@ module _ (log : List Record) (leaf : LeafView) (n : ℕ) (o : Op) (honest : IsHo
       | inl on ↦ subst (λ x. IsHonestAt log new x (get (performed leaf n o).rows x)) (key_on q o on) honest_here
       | inr off ↦ honest_elsewhere q (λ e. true≢false (sym (on_key q o (sym e)) ∙ off)) (honest.at q within)
     ];
-    saved = all_placed (IsSavedRight log) (record { number = n; key = key; answer = answer_in leaf.rows o }) leaf.ab.entries
+    saved = all_placed (IsSavedRight log) (record { number = n; key = key; answer = answer_in leaf.rows o })
+        leaf.ab.entries
         (record { op = o; requests = next.requests; on_key = refl; right = right_answer }) honest.saved;
   }

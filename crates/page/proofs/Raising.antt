@@ -53,7 +53,8 @@ honest_raised log leaf l honest to = record {
       let h : IsHonestAt log old k (get leaf.rows k) = honest.at k within in
       let alike : AllByRecursion (λ (d : Numbered). old d.number ≡ new d.number) (numbered_on k log) =
       all_done (λ (m : ℕ). old m ≡ new m) k log (λ m q asks on.
-      or_there (captures leaf.ab m) (nat_le m l) (captured_to leaf l m (to.all m q asks (ap (is_in_fences leaf) on ∙ within)))
+      or_there (captures leaf.ab m) (nat_le m l)
+      (captured_to leaf l m (to.all m q asks (ap (is_in_fences leaf) on ∙ within)))
       ∙ sym (raised_captures leaf.ab l m)) in
       record {
         beginning = beginning_alike old new (numbered_on k log) alike h.beginning;

@@ -42,7 +42,8 @@ still_above : (x y k : Bytes) → is_below x k ≡ false → key_cmp x y ≡ Les
 still_above x y k above less =
     elim (cases_Bool (is_below y k)) [
       | inl below ↦
-          let lower : key_cmp x k ≡ Less = nat_list_cmp_total.trans x y k less (is_lt-Less (key_cmp y k) (as_T (is_below y k) below)) in
+          let lower : key_cmp x k ≡ Less =
+          nat_list_cmp_total.trans x y k less (is_lt-Less (key_cmp y k) (as_T (is_below y k) below)) in
           absurd (true≢false (sym (ap is_lt lower) ∙ above))
       | inr free ↦ free
     ]
@@ -99,7 +100,8 @@ one_then false b row rows q is = refl
 
 both : (p q : Row → Bool) (rows : List Row) → filter q (filter p rows) ≡ filter (λ row. p row && q row) rows
 both p q [] = refl
-both p q (row ∷ rows) = one_then (p row) (q row) row (filter p rows) q refl ∙ ap (λ (rest : List Row). cond (p row && q row) (row ∷ rest) rest) (both p q rows)
+both p q (row ∷ rows) = one_then (p row) (q row) row (filter p rows) q refl
+    ∙ ap (λ (rest : List Row). cond (p row && q row) (row ∷ rest) rest) (both p q rows)
 
 alone : (p : Row → Bool) (rows : List Row) → filter p rows ≡ filter (λ row. p row && true) rows
 alone p [] = refl

@@ -61,11 +61,17 @@ idle rows o r ordered is same = record { ordered = ordered; table = after-idle (
 
 pub writes : (rows : List Row) (o : Op) (place : Result ℕ ℕ) → AreInOrder rows → IsPlaceOf (key_of o) rows place
     → Writes rows (rows_after o place rows) o
-writes rows (Insert k v) (Ok at) ordered is = idle rows (Insert k v) _ ordered (found rows ordered k at ([], []) is) refl
-writes rows (Insert k v) (Err gap) ordered is = written rows _ (Insert k v) None (absent rows ordered k gap is) (inserted rows ordered k gap v is)
-writes rows (Update k v) (Ok at) ordered is = written rows _ (Update k v) (Some _) (found rows ordered k at ([], []) is) (replaced rows ordered k at v is)
+writes rows (Insert k v) (Ok at) ordered is =
+    idle rows (Insert k v) _ ordered (found rows ordered k at ([], []) is) refl
+writes rows (Insert k v) (Err gap) ordered is =
+    written rows _ (Insert k v) None (absent rows ordered k gap is) (inserted rows ordered k gap v is)
+writes rows (Update k v) (Ok at) ordered is =
+    written rows _ (Update k v) (Some _) (found rows ordered k at ([], []) is) (replaced rows ordered k at v is)
 writes rows (Update k v) (Err gap) ordered is = idle rows (Update k v) None ordered (absent rows ordered k gap is) refl
-writes rows (Upsert k v) (Ok at) ordered is = written rows _ (Upsert k v) (Some _) (found rows ordered k at ([], []) is) (replaced rows ordered k at v is)
-writes rows (Upsert k v) (Err gap) ordered is = written rows _ (Upsert k v) None (absent rows ordered k gap is) (inserted rows ordered k gap v is)
-writes rows (Delete k) (Ok at) ordered is = written rows _ (Delete k) (Some _) (found rows ordered k at ([], []) is) (removed rows ordered k at is)
+writes rows (Upsert k v) (Ok at) ordered is =
+    written rows _ (Upsert k v) (Some _) (found rows ordered k at ([], []) is) (replaced rows ordered k at v is)
+writes rows (Upsert k v) (Err gap) ordered is =
+    written rows _ (Upsert k v) None (absent rows ordered k gap is) (inserted rows ordered k gap v is)
+writes rows (Delete k) (Ok at) ordered is =
+    written rows _ (Delete k) (Some _) (found rows ordered k at ([], []) is) (removed rows ordered k at is)
 writes rows (Delete k) (Err gap) ordered is = idle rows (Delete k) None ordered (absent rows ordered k gap is) refl

@@ -21,7 +21,12 @@ upper_of leaf k id d = record {
 -- what is left below the key
 abbrev pub lower_of : LeafView → Bytes → ℕ → LeafView
 lower_of leaf k d =
-    record leaf { last = d; high_fence = Some k; rows = map.retain_keys leaf.rows (is_under k); ab = cut_under leaf.ab k }
+    record leaf {
+      last = d;
+      high_fence = Some k;
+      rows = map.retain_keys leaf.rows (is_under k);
+      ab = cut_under leaf.ab k;
+    }
 
 -- the second leaf begins where the first ends, above where the first begins and below where the second ends
 pub record AreNeighbours (left right : LeafView) : Type 0 where

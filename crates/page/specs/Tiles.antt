@@ -34,7 +34,8 @@ pub record IsInside (p : Part) (cut : Bytes) : Type 0 where
 -- begins, and the last one alone has no end
 abbrev pub TileFrom : Option Bytes → List Part → Type 0
 TileFrom from [] = ⊥
-TileFrom from (p ∷ ps) = (p.low ≡ from) × MatchOption p.high (ps ≡ []) (λ high. (starts_below p.low high ≡ true) × TileFrom (Some high) ps)
+TileFrom from (p ∷ ps) =
+    (p.low ≡ from) × MatchOption p.high (ps ≡ []) (λ high. (starts_below p.low high ≡ true) × TileFrom (Some high) ps)
 
 -- each key lies in just one of the parts, which stand in key order
 abbrev pub Tile : List Part → Type 0

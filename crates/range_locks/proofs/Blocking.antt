@@ -46,13 +46,17 @@ StandsInWay h t lock u = (u ≢ t) × AnyConflict (span_of lock) (spans_of (seen
 
 pub way_from_locks : (h : Held) (t : ℕ) (lock : Lock) (u : ℕ) → u ≢ t
     → list_any (clashes_with lock) (locks_in h u) ≡ true → StandsInWay h t lock u
-way_from_locks h t lock u other any =
-    (other, subst (AnyConflict (span_of lock)) (sym (read h u)) (conflicts_from_clashes (span_of lock) _ (any_newest lock (locks_in h u) ∙ any)))
+way_from_locks h t lock u other any = (
+  other,
+  subst (AnyConflict (span_of lock)) (sym (read h u))
+      (conflicts_from_clashes (span_of lock) _ (any_newest lock (locks_in h u) ∙ any)),
+)
 
 pub locks_from_way : (h : Held) (t : ℕ) (lock : Lock) (u : ℕ) → StandsInWay h t lock u
     → list_any (clashes_with lock) (locks_in h u) ≡ true
 locks_from_way h t lock u way =
-    sym (any_newest lock (locks_in h u)) ∙ clashes_from_conflicts (span_of lock) _ (subst (AnyConflict (span_of lock)) (read h u) way.1)
+    sym (any_newest lock (locks_in h u))
+    ∙ clashes_from_conflicts (span_of lock) _ (subst (AnyConflict (span_of lock)) (read h u) way.1)
 
 pub other_number : (u t : ℕ) → not (u == t) ≡ true → u ≢ t
 other_number u t h same = grind (arith, nat_tests)
@@ -78,7 +82,8 @@ module _ (h : Held) (t : ℕ) (lock : Lock) where
         | inl here ↦
             let tests = both_true (not (e.0 == t)) (list_any (clashes_with lock) e.1.items) here.0 in
             subst (StandsInWay h t lock) here.1
-            (way_from_locks h t lock e.0 (other_number e.0 t tests.0) (ap (λ o. list_any (clashes_with lock) (items_of o)) all.0 ∙ tests.1))
+            (way_from_locks h t lock e.0 (other_number e.0 t tests.0)
+            (ap (λ o. list_any (clashes_with lock) (items_of o)) all.0 ∙ tests.1))
         | inr later ↦ passes_way u es all.1 later
       ]
 
@@ -97,7 +102,8 @@ module _ (h : Held) (t : ℕ) (lock : Lock) where
       → Passes (λ (e : ℕ × Vec Lock). e.0) (blocks t lock) es u
   way_passes u [] other any = absurd (true≢false (sym any))
   way_passes u (e ∷ es) other any =
-      way_first (is_eq (nat_cmp u e.0)) e (lookup (is_at (nat_cmp u)) es) u es other (same_number u e.0) any (λ later. way_passes u es other later)
+      way_first (is_eq (nat_cmp u e.0)) e (lookup (is_at (nat_cmp u)) es) u es other (same_number u e.0) any
+      (λ later. way_passes u es other later)
 
   -- what a search for the least says of a take
   pub free_where_none : (least : Option ℕ) → IsLeast (StandsInWay h t lock) least
@@ -108,9 +114,11 @@ module _ (h : Held) (t : ℕ) (lock : Lock) where
   pub least_where_some : (least : Option ℕ) → IsLeast (StandsInWay h t lock) least
       → IfSome least (IsLeastHolder (seen h) t (span_of lock))
   least_where_some None l = tt
-  least_where_some (Some n) l = record { other = l.0.0; conflict = l.0.1; least = λ u other conflict. l.1 u (other, conflict) }
+  least_where_some (Some n) l =
+      record { other = l.0.0; conflict = l.0.1; least = λ u other conflict. l.1 u (other, conflict) }
 
   pub searched : AllByRecursion (λ (e : ℕ × Vec Lock). get nat_cmp h.by_txn e.0 ≡ Some e.1) h.by_txn.entries
       → IsLeast (StandsInWay h t lock) (least_of (λ (e : ℕ × Vec Lock). e.0) (blocks t lock) None h.by_txn.entries)
   searched all = least_found (λ (e : ℕ × Vec Lock). e.0) (blocks t lock) (StandsInWay h t lock) h.by_txn.entries
-      (λ u passes. passes_way u h.by_txn.entries all passes) (λ u way. way_passes u h.by_txn.entries way.0 (locks_from_way h t lock u way))
+      (λ u passes. passes_way u h.by_txn.entries all passes)
+      (λ u way. way_passes u h.by_txn.entries way.0 (locks_from_way h t lock u way))

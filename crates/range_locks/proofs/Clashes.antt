@@ -61,8 +61,10 @@ conflict_from_clash s r h =
     let modes : T (do_conflict s.mode r.mode) = and_first (do_conflict s.mode r.mode) _ h in
     let ends : T (ends_above s.hi k && ends_above r.hi k) = and_second (do_conflict s.mode r.mode) _ h in (
       k,
-      from_T (is_within s k) (both_T (not (is_below k s.lo)) _ (late_first s.lo r.lo (is_below s.lo r.lo) refl) (and_first (ends_above s.hi k) _ ends)),
-      from_T (is_within r k) (both_T (not (is_below k r.lo)) _ (late_second s.lo r.lo (is_below s.lo r.lo) refl) (and_second (ends_above s.hi k) _ ends)),
+      from_T (is_within s k) (both_T (not (is_below k s.lo)) _ (late_first s.lo r.lo (is_below s.lo r.lo) refl)
+          (and_first (ends_above s.hi k) _ ends)),
+      from_T (is_within r k) (both_T (not (is_below k r.lo)) _ (late_second s.lo r.lo (is_below s.lo r.lo) refl)
+          (and_second (ends_above s.hi k) _ ends)),
       from_T _ modes,
     )
 
@@ -72,7 +74,8 @@ clash_from_conflict s r c =
     let in_s : T (is_within s k) = as_T (is_within s k) c.1 in
     let in_r : T (is_within r k) = as_T (is_within r k) c.2 in
     let late : T (not (is_below k (later s.lo r.lo))) =
-    late_at_most s.lo r.lo k (is_below s.lo r.lo) (and_first (not (is_below k s.lo)) _ in_s) (and_first (not (is_below k r.lo)) _ in_r) in
+    late_at_most s.lo r.lo k (is_below s.lo r.lo) (and_first (not (is_below k s.lo)) _ in_s)
+    (and_first (not (is_below k r.lo)) _ in_r) in
     both_T (do_conflict s.mode r.mode) _ (as_T _ c.3)
     (both_T (ends_above s.hi (later s.lo r.lo)) _
     (ends_lower s.hi (later s.lo r.lo) k late (and_second (not (is_below k s.lo)) _ in_s))

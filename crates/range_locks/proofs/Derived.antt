@@ -55,11 +55,13 @@ by_order P h = subst P same_order h
 
 -- an entry came or went, by the index's order
 pub changed : (b : Bool) (s z : BTreeSet Entry) (d e : Entry)
-    → ((q : Entry) → contains derived.cmp-value.it z q ≡ cond (is_eq (derived.cmp-value.it d q)) b (contains derived.cmp-value.it s q))
+    → ((q : Entry) → contains derived.cmp-value.it z q
+    ≡ cond (is_eq (derived.cmp-value.it d q)) b (contains derived.cmp-value.it s q))
     → d ≡ e → (q : Entry) → contains entry_cmp z q ≡ cond (is_eq (entry_cmp e q)) b (contains entry_cmp s q)
 changed b s z d e h same q =
     by_order (λ R. contains R z q ≡ cond (is_eq (R e q)) b (contains R s q))
-    (subst (λ (x : Entry). contains derived.cmp-value.it z q ≡ cond (is_eq (derived.cmp-value.it x q)) b (contains derived.cmp-value.it s q)) same (h q))
+    (subst (λ (x : Entry). contains derived.cmp-value.it z q
+    ≡ cond (is_eq (derived.cmp-value.it x q)) b (contains derived.cmp-value.it s q)) same (h q))
 
 not_true : (b : Bool) → not b ≡ true → b ≡ false
 not_true true h = absurd (true≢false (sym h))
@@ -68,4 +70,5 @@ not_true false h = refl
 pub absent : (s : BTreeSet Entry) (d e : Entry) (b : Bool) → b ≡ not (contains derived.cmp-value.it s d) → b ≡ true
     → d ≡ e → contains entry_cmp s e ≡ false
 absent s d e b is true_b same =
-    by_order (λ R. contains R s e ≡ false) (subst (λ (x : Entry). contains derived.cmp-value.it s x ≡ false) same (not_true _ (sym is ∙ true_b)))
+    by_order (λ R. contains R s e ≡ false)
+    (subst (λ (x : Entry). contains derived.cmp-value.it s x ≡ false) same (not_true _ (sym is ∙ true_b)))

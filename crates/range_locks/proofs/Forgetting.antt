@@ -24,6 +24,9 @@ pub one_forgotten : (t : ℕ) (q : Entry) (locks : List Lock) (i : ℕ) (item co
     → now ≡ (was && not (list_any (is_entry_of t q) (take i locks))) → new ≡ cond (is_entry_of t q copy) false now
     → new ≡ (was && not (list_any (is_entry_of t q) (take (i + 1) locks)))
 one_forgotten t q locks i item copy was now new within same at before went =
-    went ∙ ap (cond (is_entry_of t q copy) false) before ∙ one_out (is_entry_of t q copy) (list_any (is_entry_of t q) (take i locks)) was
+    went ∙ ap (cond (is_entry_of t q copy) false) before
+    ∙ one_out (is_entry_of t q copy) (list_any (is_entry_of t q) (take i locks)) was
     ∙ ap (λ l. was && not (list_any (is_entry_of t q) (take i locks) || (is_entry_of t q l || false))) (same ∙ at)
-    ∙ ap (λ b. was && not b) (sym (ap (list_any (is_entry_of t q)) (take_more locks i item within) ∙ list_any-append (is_entry_of t q) (take i locks) (get_or locks i item ∷ [])))
+    ∙ ap (λ b. was && not b)
+    (sym (ap (list_any (is_entry_of t q)) (take_more locks i item within)
+    ∙ list_any-append (is_entry_of t q) (take i locks) (get_or locks i item ∷ [])))

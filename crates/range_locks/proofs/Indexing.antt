@@ -30,7 +30,9 @@ apart_then Greater p h = refl
 
 -- at an entry of the transaction, and at another's
 same_txn : (t : ℕ) (lock : Lock) (q : Entry) → t ≡ q.txn → is_entry_of t q lock ≡ is_lock_of q lock
-same_txn t lock q same = tied_then (lock_cmp lock q.lock) (nat_cmp t q.txn) (subst (λ u. nat_cmp t u ≡ Equal) same (tied_itself nat_cmp_total t))
+same_txn t lock q same =
+    tied_then (lock_cmp lock q.lock) (nat_cmp t q.txn)
+    (subst (λ u. nat_cmp t u ≡ Equal) same (tied_itself nat_cmp_total t))
 
 other_txn : (t : ℕ) (lock : Lock) (q : Entry) → t ≢ q.txn → is_entry_of t q lock ≡ false
 other_txn t lock q other =
@@ -90,11 +92,14 @@ module _ (old new : Held) (t : ℕ) (s z : BTreeSet Entry) (indexed : IsIndexed 
   added_index lock small lists has = record {
     each = λ q. elim (cases_eq t q.txn) [
       | inl same ↦
-          has q ∙ ap (cond (is_entry_of t q lock) true) (indexed.each q) ∙ ap (λ b. cond b true (stands old q)) (same_txn t lock q same)
+          has q ∙ ap (cond (is_entry_of t q lock) true) (indexed.each q)
+          ∙ ap (λ b. cond b true (stands old q)) (same_txn t lock q same)
           ∙ one_added (is_lock_of q lock) (stands old q)
-          ∙ sym (with_last q (locks_in old q.txn) (locks_in new q.txn) lock (subst (λ u. locks_in new u ≡ locks_in old u ++ lock ∷ []) same lists.own))
+          ∙ sym (with_last q (locks_in old q.txn) (locks_in new q.txn) lock
+          (subst (λ u. locks_in new u ≡ locks_in old u ++ lock ∷ []) same lists.own))
       | inr other ↦
-          has q ∙ ap (λ b. cond b true (contains entry_cmp s q)) (other_txn t lock q other) ∙ indexed.each q ∙ sym (others_stand q lists.others other)
+          has q ∙ ap (λ b. cond b true (contains entry_cmp s q)) (other_txn t lock q other) ∙ indexed.each q
+          ∙ sym (others_stand q lists.others other)
     ];
     fits = still_fits lists.others small;
   }
@@ -114,11 +119,15 @@ module _ (old new : Held) (t : ℕ) (s z : BTreeSet Entry) (indexed : IsIndexed 
   removed_index lock small was others gone has = record {
     each = λ q. elim (cases_eq t q.txn) [
       | inl same ↦
-          has q ∙ ap (cond (is_entry_of t q lock) false) (indexed.each q) ∙ ap (λ b. cond b false (stands old q)) (same_txn t lock q same)
-          ∙ ap (cond (is_lock_of q lock) false) (with_last q (locks_in new q.txn) (locks_in old q.txn) lock (subst (λ u. locks_in old u ≡ locks_in new u ++ lock ∷ []) same was))
+          has q ∙ ap (cond (is_entry_of t q lock) false) (indexed.each q)
+          ∙ ap (λ b. cond b false (stands old q)) (same_txn t lock q same)
+          ∙ ap (cond (is_lock_of q lock) false)
+          (with_last q (locks_in new q.txn) (locks_in old q.txn) lock
+          (subst (λ u. locks_in old u ≡ locks_in new u ++ lock ∷ []) same was))
           ∙ one_gone (is_lock_of q lock) (stands new q) (λ is. at_lock lock q same is ∙ gone)
       | inr other ↦
-          has q ∙ ap (λ b. cond b false (contains entry_cmp s q)) (other_txn t lock q other) ∙ indexed.each q ∙ sym (others_stand q others other)
+          has q ∙ ap (λ b. cond b false (contains entry_cmp s q)) (other_txn t lock q other) ∙ indexed.each q
+          ∙ sym (others_stand q others other)
     ];
     fits = still_fits others small;
   }
@@ -129,7 +138,8 @@ module _ (old new : Held) (t : ℕ) (s z : BTreeSet Entry) (indexed : IsIndexed 
   kept_index lock small was others there = record {
     each = λ q. elim (cases_eq t q.txn) [
       | inl same ↦
-          indexed.each q ∙ with_last q (locks_in new q.txn) (locks_in old q.txn) lock (subst (λ u. locks_in old u ≡ locks_in new u ++ lock ∷ []) same was)
+          indexed.each q ∙ with_last q (locks_in new q.txn) (locks_in old q.txn) lock
+          (subst (λ u. locks_in old u ≡ locks_in new u ++ lock ∷ []) same was)
           ∙ one_stays (is_lock_of q lock) (stands new q) (λ is. at_lock lock q same is ∙ there)
       | inr other ↦ indexed.each q ∙ sym (others_stand q others other)
     ];
@@ -138,16 +148,21 @@ module _ (old new : Held) (t : ℕ) (s z : BTreeSet Entry) (indexed : IsIndexed 
 
   -- all of a transaction's went
   pub released_index : t < 2 ^ 64 → Lists old t [] new
-      → ((q : Entry) → contains entry_cmp z q ≡ (contains entry_cmp s q && not (list_any (is_entry_of t q) (locks_in old t))))
+      → ((q : Entry) → contains entry_cmp z q
+      ≡ (contains entry_cmp s q && not (list_any (is_entry_of t q) (locks_in old t))))
       → IsIndexed new z
   released_index small lists has = record {
     each = λ q. elim (cases_eq t q.txn) [
       | inl same ↦
           has q ∙ ap (λ b. b && not (list_any (is_entry_of t q) (locks_in old t))) (indexed.each q)
-          ∙ ap (λ b. stands old q && not b) (any_same (is_entry_of t q) (is_lock_of q) (locks_in old t) (λ l. same_txn t l q same) ∙ ap (λ u. list_any (is_lock_of q) (locks_in old u)) same)
-          ∙ and_not (stands old q) ∙ sym (ap (list_any (is_lock_of q)) (subst (λ u. locks_in new u ≡ []) same lists.own))
+          ∙ ap (λ b. stands old q && not b)
+          (any_same (is_entry_of t q) (is_lock_of q) (locks_in old t) (λ l. same_txn t l q same)
+          ∙ ap (λ u. list_any (is_lock_of q) (locks_in old u)) same)
+          ∙ and_not (stands old q)
+          ∙ sym (ap (list_any (is_lock_of q)) (subst (λ u. locks_in new u ≡ []) same lists.own))
       | inr other ↦
-          has q ∙ and_true (contains entry_cmp s q) _ (any_none (is_entry_of t q) (locks_in old t) (λ l. other_txn t l q other))
+          has q ∙ and_true (contains entry_cmp s q)
+          _ (any_none (is_entry_of t q) (locks_in old t) (λ l. other_txn t l q other))
           ∙ indexed.each q ∙ sym (others_stand q lists.others other)
     ];
     fits = still_fits lists.others small;

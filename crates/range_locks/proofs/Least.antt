@@ -13,28 +13,36 @@ one_more : (P : ℕ → Type 0) (least : Option ℕ) (n : ℕ) → IsLeast P lea
 one_more P None n h = (inr refl, λ u. λ p. elim p [ inl p ↦ absurd (h u p) | inr same ↦ omega (arith, same) ])
 one_more P (Some m) n h =
     elim (cases_lt m n) [
-      | inl less ↦ rw (lt-ltb m n less) (inl h.0, λ u. λ p. elim p [ inl p ↦ h.1 u p | inr same ↦ omega (arith, same, less) ])
-      | inr ge ↦ rw (le-ltb m n ge) (inr refl, λ u. λ p. elim p [ inl p ↦ omega (arith, h.1 u p, ge) | inr same ↦ omega (arith, same) ])
+      | inl less ↦ rw (lt-ltb m n less)
+          (inl h.0, λ u. λ p. elim p [ inl p ↦ h.1 u p | inr same ↦ omega (arith, same, less) ])
+      | inr ge ↦ rw (le-ltb m n ge)
+          (inr refl, λ u. λ p. elim p [ inl p ↦ omega (arith, h.1 u p, ge) | inr same ↦ omega (arith, same) ])
     ]
 
 one_tested : (b : Bool) (P : ℕ → Type 0) (least : Option ℕ) (n : ℕ) → IsLeast P least
     → IsLeast (λ u. P u ⊎ ((b ≡ true) × (n ≡ u))) (cond b (Some (lesser least n)) least)
 one_tested true P least n h =
     same_least (λ u. P u ⊎ (n ≡ u)) _ (Some (lesser least n))
-    (λ u. λ p. elim p [ inl p ↦ inl p | inr same ↦ inr (refl, same) ]) (λ u. λ p. elim p [ inl p ↦ inl p | inr both ↦ inr both.1 ]) (one_more P least n h)
+    (λ u. λ p. elim p [ inl p ↦ inl p | inr same ↦ inr (refl, same) ])
+    (λ u. λ p. elim p [ inl p ↦ inl p | inr both ↦ inr both.1 ]) (one_more P least n h)
 one_tested false P least n h =
     same_least P _ least (λ u p. inl p) (λ u. λ p. elim p [ inl p ↦ p | inr both ↦ absurd (true≢false (sym both.0)) ]) h
 
 least_after : {X : Type 0} (holder : X → ℕ) (test : X → Bool) (P : ℕ → Type 0) (least : Option ℕ) (xs : List X)
     → IsLeast P least
     → IsLeast (λ u. P u ⊎ Passes holder test xs u) (least_of holder test least xs)
-least_after holder test P least [] h = same_least P _ least (λ u p. inl p) (λ u. λ p. elim p [ inl p ↦ p | inr never ↦ absurd never ]) h
+least_after holder test P least [] h =
+    same_least P _ least (λ u p. inl p) (λ u. λ p. elim p [ inl p ↦ p | inr never ↦ absurd never ]) h
 least_after holder test P least (x ∷ xs) h =
     let Q : ℕ → Type 0 = λ u. P u ⊎ ((test x ≡ true) × (holder x ≡ u)) in
     let new : Option ℕ = cond (test x) (Some (lesser least (holder x))) least in
     same_least (λ u. Q u ⊎ Passes holder test xs u) _ (least_of holder test new xs)
     (λ u. λ p. elim p [ inl q ↦ elim q [ inl p ↦ inl p | inr here ↦ inr (inl here) ] | inr later ↦ inr (inr later) ])
-    (λ u. λ p. elim p [ inl p ↦ inl (inl p) | inr more ↦ elim more [ inl here ↦ inl (inr here) | inr later ↦ inr later ] ])
+    (λ u. λ p. elim p [
+      | inl p ↦ inl (inl p)
+      | inr more ↦
+          elim more [ inl here ↦ inl (inr here) | inr later ↦ inr later ]
+    ])
     (least_after holder test Q new xs (one_tested (test x) P least (holder x) h))
 
 -- a search from nothing finds the least of which the fact holds, where it holds of those that pass

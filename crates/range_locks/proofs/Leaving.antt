@@ -21,7 +21,8 @@ read_first true locks o rest h = refl
 read_first false locks o rest h = h
 
 read_entries : (es : List (ℕ × Vec Lock)) (t : ℕ)
-    → spans_of (map (λ (e : ℕ × Vec Lock). (e.0, newest_first e.1.items)) es) t ≡ newest_first (items_of (lookup (is_at (nat_cmp t)) es))
+    → spans_of (map (λ (e : ℕ × Vec Lock). (e.0, newest_first e.1.items)) es) t
+    ≡ newest_first (items_of (lookup (is_at (nat_cmp t)) es))
 read_entries [] t = refl
 read_entries (e ∷ es) t = read_first (is_eq (nat_cmp t e.0)) e.1 (lookup (is_at (nat_cmp t)) es) _ (read_entries es t)
 
@@ -50,7 +51,8 @@ unlisted (e ∷ f ∷ es) t one some u other =
 
 pub alone : (h : Held) (t : ℕ) → length h.by_txn.entries ≡ 1 → is_some (get nat_cmp h.by_txn t) ≡ true
     → (u : ℕ) → u ≢ t → spans_of (seen h) u ≡ []
-alone h t one some u other = read h u ∙ ap (λ o. newest_first (items_of o)) (unlisted h.by_txn.entries t one some u other)
+alone h t one some u other =
+    read h u ∙ ap (λ o. newest_first (items_of o)) (unlisted h.by_txn.entries t one some u other)
 
 pub lists : (old new : BTreeMap ℕ (Vec Lock)) (t : ℕ) (locks : Option (Vec Lock)) → Updates nat_cmp old new t locks
     → Lists (record { by_txn = old }) t (items_of locks) (record { by_txn = new })
@@ -67,7 +69,8 @@ pub pushed : (old new : BTreeMap ℕ (Vec Lock)) (t : ℕ) (locks : Vec Lock) (w
     → locks.items ≡ was ++ lock ∷ [] → was ≡ locks_in (record { by_txn = old }) t
     → Lists (record { by_txn = old }) t (locks_in (record { by_txn = old }) t ++ lock ∷ []) (record { by_txn = new })
 pushed old new t locks was lock updates items had =
-    subst (λ all. Lists (record { by_txn = old }) t all (record { by_txn = new })) (items ∙ ap (λ all. all ++ lock ∷ []) had) (lists old new t (Some locks) updates)
+    subst (λ all. Lists (record { by_txn = old }) t all (record { by_txn = new }))
+    (items ∙ ap (λ all. all ++ lock ∷ []) had) (lists old new t (Some locks) updates)
 
 -- what is written back with the same locks is seen as it was
 seen_entries : List (ℕ × Vec Lock) → LocksView
@@ -80,7 +83,8 @@ kept_first : (b : Bool) (e : ℕ × Vec Lock) (o : Option (Vec Lock)) (v w : Vec
 unfolding seen_entries
 kept_first true e o v w es fs found items later =
     let one : e.1 ≡ v = same_Some e.1 v found in
-    ap (λ (locks : List Lock). (e.0, newest_first locks) ∷ seen_entries es) (items ∙ ap (λ (x : Vec Lock). x.items) (sym one))
+    ap (λ (locks : List Lock). (e.0, newest_first locks) ∷ seen_entries es)
+    (items ∙ ap (λ (x : Vec Lock). x.items) (sym one))
 kept_first false e o v w es fs found items later = ap (λ rest. (e.0, newest_first e.1.items) ∷ rest) (later found)
 
 kept_entries : (es : List (ℕ × Vec Lock)) (t : ℕ) (v w : Vec Lock) → lookup (is_at (nat_cmp t)) es ≡ Some v
@@ -89,7 +93,8 @@ kept_entries : (es : List (ℕ × Vec Lock)) (t : ℕ) (v w : Vec Lock) → look
 unfolding seen_entries
 kept_entries [] t v w found items = refl
 kept_entries (e ∷ es) t v w found items =
-    kept_first (is_eq (nat_cmp t e.0)) e (lookup (is_at (nat_cmp t)) es) v w es (set_value (is_at (nat_cmp t)) es w) found items (λ there. kept_entries es t v w there items)
+    kept_first (is_eq (nat_cmp t e.0)) e (lookup (is_at (nat_cmp t)) es) v w es (set_value (is_at (nat_cmp t)) es w)
+    found items (λ there. kept_entries es t v w there items)
 
 pub kept : (old new : BTreeMap ℕ (Vec Lock)) (t : ℕ) (v w : Vec Lock)
     → new.entries ≡ set_value (is_at (nat_cmp t)) old.entries w → Some v ≡ get nat_cmp old t → w.items ≡ v.items

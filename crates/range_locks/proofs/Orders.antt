@@ -70,7 +70,8 @@ end_tied None = refl
 end_tied (Some k) = tied_itself nat_list_cmp_total k
 
 span_tied : (s : Span) → span_cmp s s ≡ Equal
-span_tied (Range low high) = ap (λ o. ordering_then o (option_cmp key_cmp high high)) (tied_itself nat_list_cmp_total low) ∙ end_tied high
+span_tied (Range low high) =
+    ap (λ o. ordering_then o (option_cmp key_cmp high high)) (tied_itself nat_list_cmp_total low) ∙ end_tied high
 span_tied (Key k) = tied_itself nat_list_cmp_total k
 
 pub lock_tied : (l : Lock) → lock_cmp l l ≡ Equal

@@ -50,8 +50,10 @@ pub forward_as : (s : Span) (low : Bytes) (from : Entry) (to : Bound Entry) → 
     → to ≡ keys_to s → ends_above (high_of s) (low_of s) ≡ true
     → IsForward (IsLeBy entry_cmp) (IsLtBy entry_cmp) (Included from) to
 forward_as s low from to starts lowest ends range =
-    subst (λ (f : Entry). IsForward (IsLeBy entry_cmp) (IsLtBy entry_cmp) (Included f) to) (sym (starts ∙ ap first_at lowest))
-    (subst (λ (b : Bound Entry). IsForward (IsLeBy entry_cmp) (IsLtBy entry_cmp) (keys_from s) b) (sym ends) (forward s range))
+    subst (λ (f : Entry). IsForward (IsLeBy entry_cmp) (IsLtBy entry_cmp) (Included f) to)
+    (sym (starts ∙ ap first_at lowest))
+    (subst (λ (b : Bound Entry). IsForward (IsLeBy entry_cmp) (IsLtBy entry_cmp) (keys_from s) b) (sym ends)
+    (forward s range))
 
 -- a key that conflicts is in the span
 key_within : (lo k : Bytes) (hi : Option Bytes) (t : Bool) → is_below lo k ≡ t → T (ends_above hi (cond t k lo))
@@ -60,8 +62,10 @@ key_within : (lo k : Bytes) (hi : Option Bytes) (t : Bool) → is_below lo k ≡
 key_within lo k hi true e ends next = (not_below_lower lo k (as_T _ e), ends)
 key_within lo k hi false e ends next =
     let at_most : T (is_le (key_cmp lo k)) = subst T (below_next lo k) next in
-    let same : lo ≡ k = exact_bytes lo k (le_not_lt (key_cmp lo k) at_most e) in
-    (subst (λ (x : Bytes). T (not (is_below k x))) (sym same) (not_below_itself k), subst (λ (x : Bytes). T (ends_above hi x)) same ends)
+    let same : lo ≡ k = exact_bytes lo k (le_not_lt (key_cmp lo k) at_most e) in (
+      subst (λ (x : Bytes). T (not (is_below k x))) (sym same) (not_below_itself k),
+      subst (λ (x : Bytes). T (ends_above hi x)) same ends,
+    )
   where
     le_not_lt : (o : Ordering) → T (is_le o) → is_lt o ≡ false → o ≡ Equal
     le_not_lt Less le lt = absurd (true≢false lt)
@@ -83,8 +87,10 @@ reaches_first k lo m u Greater e above =
 
 before_high : (k high : Bytes) (o p q : Ordering) → key_cmp high k ≡ o → key_cmp k high ≡ Less
     → is_le (ordering_then (ordering_then o p) q) ≡ false
-before_high k high Less p q e below = absurd (true≢false (ap is_lt (sym below ∙ nat_list_cmp_total.antisymm k high ∙ ap ordering_reverse e)))
-before_high k high Equal p q e below = absurd (true≢false (ap is_lt (sym below ∙ nat_list_cmp_total.antisymm k high ∙ ap ordering_reverse e)))
+before_high k high Less p q e below =
+    absurd (true≢false (ap is_lt (sym below ∙ nat_list_cmp_total.antisymm k high ∙ ap ordering_reverse e)))
+before_high k high Equal p q e below =
+    absurd (true≢false (ap is_lt (sym below ∙ nat_list_cmp_total.antisymm k high ∙ ap ordering_reverse e)))
 before_high k high Greater p q e below = refl
 
 up_to_last : (j k : Bytes) (m : Mode) (u : ℕ) (o : Ordering) → key_cmp j k ≡ o → u < 2 ^ 64 → T (is_le (key_cmp k j))
@@ -104,18 +110,22 @@ ends_before (Range low (Some high)) k m u small ends = before_high k high (key_c
 
 key_found : (l : Lock) (k : Bytes) (m : Mode) (u : ℕ) → u < 2 ^ 64
     → T (not (is_below k (low_of l.span))) × T (ends_above (high_of l.span) k)
-    → range_contains entry_cmp (keys_from l.span) (keys_to l.span) (record { lock = record { span = Key k; mode = m }; txn = u }) ≡ true
+    → range_contains entry_cmp (keys_from l.span) (keys_to l.span)
+    (record { lock = record { span = Key k; mode = m }; txn = u }) ≡ true
 key_found l k m u small within =
     let e : Entry = record { lock = record { span = Key k; mode = m }; txn = u } in
-    let first : is_from_start entry_cmp (keys_from l.span) e ≡ true = reaches_first k (low_of l.span) m u (key_cmp (low_of l.span) k) refl within.0 in
+    let first : is_from_start entry_cmp (keys_from l.span) e ≡ true =
+    reaches_first k (low_of l.span) m u (key_cmp (low_of l.span) k) refl within.0 in
     let last : is_past_end entry_cmp (keys_to l.span) e ≡ false = ends_before l.span k m u small within.1 in
     (λ i. first i && not (last i))
 
 -- a range that conflicts begins below the upper end
 before_range : (low high : Bytes) (o p q r : Ordering) → key_cmp high low ≡ o → key_cmp low high ≡ Less
     → is_le (ordering_then (ordering_then (ordering_then o p) q) r) ≡ false
-before_range low high Less p q r e below = absurd (true≢false (ap is_lt (sym below ∙ nat_list_cmp_total.antisymm low high ∙ ap ordering_reverse e)))
-before_range low high Equal p q r e below = absurd (true≢false (ap is_lt (sym below ∙ nat_list_cmp_total.antisymm low high ∙ ap ordering_reverse e)))
+before_range low high Less p q r e below =
+    absurd (true≢false (ap is_lt (sym below ∙ nat_list_cmp_total.antisymm low high ∙ ap ordering_reverse e)))
+before_range low high Equal p q r e below =
+    absurd (true≢false (ap is_lt (sym below ∙ nat_list_cmp_total.antisymm low high ∙ ap ordering_reverse e)))
 before_range low high Greater p q r e below = refl
 
 below_range : (s : Span) (k : Bytes) → ((low : Bytes) → ends_above (high_of s) low ≡ true → key_cmp low k ≡ Less)
@@ -130,36 +140,45 @@ under_next low k next Greater e le more = absurd le
 
 below_next_key : (k next low : Bytes) → is_below k next ≡ true → ends_above (high_of (Key k)) low ≡ true
     → key_cmp low next ≡ Less
-below_next_key k next low more above = under_next low k next (key_cmp low k) refl (subst T (below_next low k) (as_T _ above)) (is_lt-Less _ (as_T _ more))
+below_next_key k next low more above =
+    under_next low k next (key_cmp low k) refl (subst T (below_next low k) (as_T _ above)) (is_lt-Less _ (as_T _ more))
 
 pub high_below : (s : Span) (hi : Bytes) (to : Bound Entry) → high_of s ≡ Some hi → to ≡ ranges_at hi
     → HasRangesBelow s to
 high_below s hi to ends is =
     subst (HasRangesBelow s) (sym is)
-    (below_range s hi (λ low above. is_lt-Less _ (as_T _ (subst (λ (h : Option Bytes). ends_above h low ≡ true) ends above))))
+    (below_range s hi (λ low above. is_lt-Less
+    _ (as_T _ (subst (λ (h : Option Bytes). ends_above h low ≡ true) ends above))))
 
 pub next_below : (s : Span) (k next : Bytes) (to : Bound Entry) → s ≡ Key k → is_below k next ≡ true
     → to ≡ ranges_at next → HasRangesBelow s to
 next_below s k next to key more is =
     subst (HasRangesBelow s) (sym is)
-    (below_range s next (λ low above. below_next_key k next low more (subst (λ (x : Span). ends_above (high_of x) low ≡ true) key above)))
+    (below_range s next (λ low above. below_next_key k next low more
+    (subst (λ (x : Span). ends_above (high_of x) low ≡ true) key above)))
 
 found_at : (l : Lock) (to : Bound Entry) → HasRangesBelow l.span to → (s : Span) (m : Mode) (u : ℕ) → u < 2 ^ 64
     → T (clash (span_of l) (span_of (record { span = s; mode = m })))
     → (range_contains entry_cmp Unbounded to (record { lock = record { span = s; mode = m }; txn = u }) ≡ true)
-    ⊎ (range_contains entry_cmp (keys_from l.span) (keys_to l.span) (record { lock = record { span = s; mode = m }; txn = u }) ≡ true)
+    ⊎ (range_contains entry_cmp (keys_from l.span) (keys_to l.span)
+    (record { lock = record { span = s; mode = m }; txn = u }) ≡ true)
 found_at l to below (Range low high) m u small h =
-    let ends = and_second (law.do_conflict (span_of l).mode (span_of (record { span = Range low high; mode = m })).mode) _ h in
+    let ends = and_second (law.do_conflict (span_of l).mode (span_of (record { span = Range low high; mode = m })).mode)
+    _ h in
     let k : Bytes = later (low_of l.span) low in
     let above : T (ends_above (high_of l.span) low) =
-    ends_lower (high_of l.span) low k (late_second (low_of l.span) low (is_below (low_of l.span) low) refl) (and_first (ends_above (high_of l.span) k) _ ends) in
+    ends_lower (high_of l.span) low k (late_second (low_of l.span) low (is_below (low_of l.span) low) refl)
+    (and_first (ends_above (high_of l.span) k) _ ends) in
     inl (ap not (below low high m u (from_T _ above)))
 found_at l to below (Key k) m u small h =
     let ends = and_second (law.do_conflict (span_of l).mode (span_of (record { span = Key k; mode = m })).mode) _ h in
     let hi : Option Bytes = high_of l.span in
-    inr (key_found l k m u small (key_within (low_of l.span) k hi (is_below (low_of l.span) k) refl (and_first (ends_above hi _) _ ends) (and_second (ends_above hi _) _ ends)))
+    inr (key_found l k m u small
+    (key_within (low_of l.span) k hi (is_below (low_of l.span) k) refl (and_first (ends_above hi _) _ ends)
+    (and_second (ends_above hi _) _ ends)))
 
 pub found : (l : Lock) (to : Bound Entry) → HasRangesBelow l.span to → (e : Entry) → e.txn < 2 ^ 64
     → clashes_with l e.lock ≡ true
-    → (range_contains entry_cmp Unbounded to e ≡ true) ⊎ (range_contains entry_cmp (keys_from l.span) (keys_to l.span) e ≡ true)
+    → (range_contains entry_cmp Unbounded to e ≡ true)
+    ⊎ (range_contains entry_cmp (keys_from l.span) (keys_to l.span) e ≡ true)
 found l to below e small h = found_at l to below e.lock.span e.lock.mode e.txn small (as_T _ h)

@@ -22,7 +22,8 @@ pub taken_back : (h : Held) (s y z : BTreeSet Entry) (e : Entry) → IsIndexed h
 taken_back h s y z e indexed absent came went = record {
   each = λ q.
       went q ∙ ap (cond (is_eq (entry_cmp e q)) false) (came q)
-      ∙ back (is_eq (entry_cmp e q)) (contains entry_cmp s q) (λ is. ap (contains entry_cmp s) (sym (entry_exact e q is)) ∙ absent)
+      ∙ back (is_eq (entry_cmp e q)) (contains entry_cmp s q)
+      (λ is. ap (contains entry_cmp s) (sym (entry_exact e q is)) ∙ absent)
       ∙ indexed.each q;
   fits = indexed.fits;
 }
@@ -31,6 +32,7 @@ taken_back h s y z e indexed absent came went = record {
 pub same_index : (old new : Held) (s z : BTreeSet Entry) → ((u : ℕ) → locks_in new u ≡ locks_in old u) → z.keys ≡ s.keys
     → IsIndexed old s → IsIndexed new z
 same_index old new s z lists keys indexed = record {
-  each = λ q. ap (list_any (λ k. is_eq (entry_cmp q k))) keys ∙ indexed.each q ∙ sym (ap (list_any (is_lock_of q)) (lists q.txn));
+  each = λ q. ap (list_any (λ k. is_eq (entry_cmp q k))) keys ∙ indexed.each q
+      ∙ sym (ap (list_any (is_lock_of q)) (lists q.txn));
   fits = λ u large. lists u ∙ indexed.fits u large;
 }

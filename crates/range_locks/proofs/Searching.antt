@@ -52,7 +52,11 @@ module _ {X : Type 0} (holder : X → ℕ) (test p : X → Bool) where
       → (Passes holder test (filter p xs) u → (y : X) × Has y xs × (test y ≡ true) × (holder y ≡ u))
       → (y : X) × Has y (x ∷ xs) × (test y ≡ true) × (holder y ≡ u)
   passes_first true x xs u passes later =
-      elim passes [ inl here ↦ (x, inl refl, here.0, here.1) | inr more ↦ let found = later more in (found.0, inr found.1, found.2, found.3) ]
+      elim passes [
+        | inl here ↦ (x, inl refl, here.0, here.1)
+        | inr more ↦ let found = later more in
+            (found.0, inr found.1, found.2, found.3)
+      ]
   passes_first false x xs u passes later = let found = later passes in (found.0, inr found.1, found.2, found.3)
 
   pub passes_has : (xs : List X) (u : ℕ) → Passes holder test (filter p xs) u
@@ -82,14 +86,16 @@ module _ {X : Type 0} (holder : X → ℕ) (test p : X → Bool) where
 module _ (h : Held) (s : BTreeSet Entry) (t : ℕ) (lock : Lock) (indexed : IsIndexed h s) where
   -- an indexed entry is held
   entry_stands : (e : Entry) → Has e s.keys → stands h e ≡ true
-  entry_stands e has = sym (indexed.each e) ∙ has_any (λ (k : Entry). is_eq (entry_cmp e k)) e s.keys has (ap is_eq (entry_tied e))
+  entry_stands e has = sym (indexed.each e)
+      ∙ has_any (λ (k : Entry). is_eq (entry_cmp e k)) e s.keys has (ap is_eq (entry_tied e))
 
   entry_way : (e : Entry) → Has e s.keys → stops t lock e ≡ true → StandsInWay h t lock e.txn
   entry_way e has stopping =
       let tests = both_true (not (e.txn == t)) (clashes_with lock e.lock) stopping in
       let found = any_has (is_lock_of e) (locks_in h e.txn) (entry_stands e has) in
       way_from_locks h t lock e.txn (other_number e.txn t tests.0)
-      (has_any (clashes_with lock) found.0 (locks_in h e.txn) found.1 (ap (clashes_with lock) (lock_exact found.0 e.lock found.2) ∙ tests.1))
+      (has_any (clashes_with lock) found.0 (locks_in h e.txn) found.1
+      (ap (clashes_with lock) (lock_exact found.0 e.lock found.2) ∙ tests.1))
 
   pub passes_in_way : (p : Entry → Bool) (u : ℕ) → Passes txn_of (stops t lock) (filter p s.keys) u
       → StandsInWay h t lock u
@@ -110,23 +116,33 @@ module _ (h : Held) (s : BTreeSet Entry) (t : ℕ) (lock : Lock) (indexed : IsIn
   way_entry u way =
       let found = any_has (clashes_with lock) (locks_in h u) (locks_from_way h t lock u way) in
       let e : Entry = record { lock = found.0; txn = u } in
-      let held : stands h e ≡ true = has_any (is_lock_of e) found.0 (locks_in h u) found.1 (ap is_eq (lock_tied found.0)) in
+      let held : stands h e ≡ true =
+      has_any (is_lock_of e) found.0 (locks_in h u) found.1 (ap is_eq (lock_tied found.0)) in
       let there = any_has (λ (k : Entry). is_eq (entry_cmp e k)) s.keys (indexed.each e ∙ held) in
-      let apart : (u == t) ≡ false = ne_eqb u t way.0 in
-      (e, subst (λ (k : Entry). Has k s.keys) (sym (entry_exact e there.0 there.2)) there.1, ap (λ b. not b && clashes_with lock found.0) apart ∙ found.2, refl, small u found.0 found.1)
+      let apart : (u == t) ≡ false = ne_eqb u t way.0 in (
+        e,
+        subst (λ (k : Entry). Has k s.keys) (sym (entry_exact e there.0 there.2)) there.1,
+        ap (λ b. not b && clashes_with lock found.0) apart ∙ found.2,
+        refl,
+        small u found.0 found.1,
+      )
 
   -- two searches that together look wherever a conflict can be
   pub both_searched : (p r : Entry → Bool)
       → ((e : Entry) → e.txn < 2 ^ 64 → clashes_with lock e.lock ≡ true → (p e ≡ true) ⊎ (r e ≡ true))
-      → IsLeast (StandsInWay h t lock) (least_of txn_of (stops t lock) (least_of txn_of (stops t lock) None (filter p s.keys)) (filter r s.keys))
+      → IsLeast (StandsInWay h t lock)
+      (least_of txn_of (stops t lock) (least_of txn_of (stops t lock) None (filter p s.keys)) (filter r s.keys))
   both_searched p r somewhere =
-      least_of_two txn_of (stops t lock) (StandsInWay h t lock) (filter p s.keys) (filter r s.keys) (passes_in_way p) (passes_in_way r)
+      least_of_two txn_of (stops t lock) (StandsInWay h t lock) (filter p s.keys) (filter r s.keys) (passes_in_way p)
+      (passes_in_way r)
       (λ u way.
       let there = way_entry u way in
       let conflicts = both_true (not (there.0.txn == t)) (clashes_with lock there.0.lock) there.2 in
       elim (somewhere there.0 there.4 conflicts.1) [
-        | inl first ↦ inl (subst (Passes txn_of (stops t lock) (filter p s.keys)) there.3 (has_passes txn_of (stops t lock) p there.0 s.keys there.1 first there.2))
-        | inr second ↦ inr (subst (Passes txn_of (stops t lock) (filter r s.keys)) there.3 (has_passes txn_of (stops t lock) r there.0 s.keys there.1 second there.2))
+        | inl first ↦ inl (subst (Passes txn_of (stops t lock) (filter p s.keys)) there.3
+            (has_passes txn_of (stops t lock) p there.0 s.keys there.1 first there.2))
+        | inr second ↦ inr (subst (Passes txn_of (stops t lock) (filter r s.keys)) there.3
+            (has_passes txn_of (stops t lock) r there.0 s.keys there.1 second there.2))
       ])
 
   -- the search of the ranges and then of the keys
@@ -137,8 +153,11 @@ module _ (h : Held) (s : BTreeSet Entry) (t : ℕ) (lock : Lock) (indexed : IsIn
       → IsLeast (StandsInWay h t lock) least
   places_searched low end to from first least below from_is low_is to_is first_is least_is =
       let starts : from ≡ first_at (low_of lock.span) = from_is ∙ ap first_at low_is in
-      let both : least ≡ least_of txn_of (stops t lock) (least_of txn_of (stops t lock) None (filter (range_contains entry_cmp Unbounded end) s.keys))
+      let both : least ≡ least_of txn_of (stops t lock)
+      (least_of txn_of (stops t lock) None (filter (range_contains entry_cmp Unbounded end) s.keys))
       (filter (range_contains entry_cmp (keys_from lock.span) (keys_to lock.span)) s.keys) =
-      least_is ∙ (λ i. least_of txn_of (stops t lock) (first_is i) (filter (range_contains entry_cmp (Included (starts i)) (to_is i)) s.keys)) in
+      least_is ∙ (λ i. least_of txn_of (stops t lock) (first_is i)
+      (filter (range_contains entry_cmp (Included (starts i)) (to_is i)) s.keys)) in
       subst (IsLeast (StandsInWay h t lock)) (sym both)
-      (both_searched (range_contains entry_cmp Unbounded end) (range_contains entry_cmp (keys_from lock.span) (keys_to lock.span)) (found lock end below))
+      (both_searched (range_contains entry_cmp Unbounded end)
+      (range_contains entry_cmp (keys_from lock.span) (keys_to lock.span)) (found lock end below))

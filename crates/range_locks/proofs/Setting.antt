@@ -26,7 +26,8 @@ shown e = (e.0, newest_first e.1.items)
 -- locks that are put into the map, and taken out of it
 put_first : (o : Ordering) (t : ℕ) (w : Vec Lock) (e : ℕ × Vec Lock) (es fs : List (ℕ × Vec Lock)) (rest : LocksView)
     → map shown fs ≡ rest
-    → map shown (match_ordering o ((t, w) ∷ e ∷ es) ((e.0, w) ∷ es) (e ∷ fs)) ≡ match_ordering o (shown (t, w) ∷ shown e ∷ map shown es) (shown (e.0, w) ∷ map shown es) (shown e ∷ rest)
+    → map shown (match_ordering o ((t, w) ∷ e ∷ es) ((e.0, w) ∷ es) (e ∷ fs))
+    ≡ match_ordering o (shown (t, w) ∷ shown e ∷ map shown es) (shown (e.0, w) ∷ map shown es) (shown e ∷ rest)
 put_first Less t w e es fs rest h = refl
 put_first Equal t w e es fs rest h = refl
 put_first Greater t w e es fs rest h = ap (λ (v : LocksView). shown e ∷ v) h
@@ -59,8 +60,10 @@ over : (t : ℕ) (v w : Vec Lock) (es : List (ℕ × Vec Lock)) → IsStrictlySo
 over t v w [] sorted found = absurd (true≢false (sym (ap is_some found)))
 over t v w (e ∷ es) sorted found =
     over_first (nat_cmp t e.0) t w e es _ _
-    (λ low. true≢false (sym (ap is_some (sym (lookup-none (is_at (nat_cmp t)) (e ∷ es) (none_below_head nat_cmp_total t e es sorted low)) ∙ found))))
-    (λ high. over t v w es (sorted_tail nat_cmp e.0 (keys_of es) sorted) (subst (λ o. cond (is_eq o) (Some e.1) (lookup (is_at (nat_cmp t)) es) ≡ Some v) high found))
+    (λ low. true≢false (sym (ap is_some
+    (sym (lookup-none (is_at (nat_cmp t)) (e ∷ es) (none_below_head nat_cmp_total t e es sorted low)) ∙ found))))
+    (λ high. over t v w es (sorted_tail nat_cmp e.0 (keys_of es) sorted)
+    (subst (λ o. cond (is_eq o) (Some e.1) (lookup (is_at (nat_cmp t)) es) ≡ Some v) high found))
 
 out_over_first : (b : Bool) (test : ℕ → Bool) (e : ℕ × Vec Lock) (w : Vec Lock) (es fs : List (ℕ × Vec Lock))
     → test e.0 ≡ b → remove_entry test fs ≡ remove_entry test es
@@ -76,7 +79,8 @@ out_over test w (e ∷ es) = out_over_first (test e.0) test e w es (set_value te
 -- a lock more
 more : (h : Held) (t : ℕ) (w : Vec Lock) (lock : Lock) → w.items ≡ locks_in h t ++ lock ∷ []
     → newest_first w.items ≡ span_of lock ∷ spans_of (seen h) t
-more h t w lock items = ap newest_first items ∙ newest (locks_in h t) lock ∙ ap (λ spans. span_of lock ∷ spans) (sym (read h t))
+more h t w lock items = ap newest_first items ∙ newest (locks_in h t) lock
+    ∙ ap (λ spans. span_of lock ∷ spans) (sym (read h t))
 
 pub taken_new : (old new : Held) (t : ℕ) (w : Vec Lock) (lock : Lock)
     → new.by_txn.entries ≡ insert_entry nat_cmp old.by_txn.entries t w → w.items ≡ locks_in old t ++ lock ∷ []
@@ -88,7 +92,8 @@ pub taken_over : (old new : Held) (t : ℕ) (v w : Vec Lock) (lock : Lock) → I
     → get nat_cmp old.by_txn t ≡ Some v
     → new.by_txn.entries ≡ set_value (is_at (nat_cmp t)) old.by_txn.entries w → w.items ≡ locks_in old t ++ lock ∷ []
     → seen new ≡ set_spans t (span_of lock ∷ spans_of (seen old) t) (seen old)
-taken_over old new t v w lock sorted found is items = taken_new old new t w lock (is ∙ over t v w old.by_txn.entries sorted found) items
+taken_over old new t v w lock sorted found is items =
+    taken_new old new t w lock (is ∙ over t v w old.by_txn.entries sorted found) items
 
 -- the newest lock less
 less : (h : Held) (t : ℕ) (left : List Lock) (lock : Lock) → locks_in h t ≡ left ++ lock ∷ []
@@ -105,9 +110,11 @@ pub untaken_some : (old new : Held) (t : ℕ) (v w : Vec Lock) (lock : Lock) →
     → 0 < length w.items
     → seen new ≡ set_spans t (drop 1 (spans_of (seen old) t)) (seen old)
 untaken_some old new t v w lock sorted found is was some =
-    let long : length (newest_first w.items) ≡ length w.items = length-map (reverse w.items) span_of ∙ length-reverse w.items in
+    let long : length (newest_first w.items) ≡ length w.items =
+    length-map (reverse w.items) span_of ∙ length-reverse w.items in
     ap (map shown) (is ∙ over t v w old.by_txn.entries sorted found) ∙ put t w old.by_txn.entries
-    ∙ set_some t (newest_first w.items) (seen old) (omega (arith, long, some)) ∙ ap (λ spans. set_spans t spans (seen old)) (less old t w.items lock was)
+    ∙ set_some t (newest_first w.items) (seen old) (omega (arith, long, some))
+    ∙ ap (λ spans. set_spans t spans (seen old)) (less old t w.items lock was)
 
 pub untaken_last : (old new : Held) (m : BTreeMap ℕ (Vec Lock)) (t : ℕ) (w : Vec Lock) (lock : Lock)
     → m.entries ≡ set_value (is_at (nat_cmp t)) old.by_txn.entries w
@@ -115,8 +122,10 @@ pub untaken_last : (old new : Held) (m : BTreeMap ℕ (Vec Lock)) (t : ℕ) (w :
     → length w.items ≡ 0
     → seen new ≡ set_spans t (drop 1 (spans_of (seen old) t)) (seen old)
 untaken_last old new m t w lock set is was none =
-    ap (map shown) (is ∙ ap (remove_entry (is_at (nat_cmp t))) set ∙ out_over (is_at (nat_cmp t)) w old.by_txn.entries) ∙ out (is_at (nat_cmp t)) old.by_txn.entries
-    ∙ ap (λ spans. set_spans t spans (seen old)) (sym (ap newest_first (nil_from_length w.items none)) ∙ less old t w.items lock was)
+    ap (map shown) (is ∙ ap (remove_entry (is_at (nat_cmp t))) set ∙ out_over (is_at (nat_cmp t)) w old.by_txn.entries)
+    ∙ out (is_at (nat_cmp t)) old.by_txn.entries
+    ∙ ap (λ spans. set_spans t spans (seen old))
+    (sym (ap newest_first (nil_from_length w.items none)) ∙ less old t w.items lock was)
 
 -- all locks went
 pub released : (old new : Held) (t : ℕ) → new.by_txn.entries ≡ remove_entry (is_at (nat_cmp t)) old.by_txn.entries

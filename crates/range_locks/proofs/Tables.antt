@@ -50,17 +50,22 @@ same_from low [] (f ∷ fs) g h same = absurd (h.1 (sym (same f.0 ∙ here f.0 f
 same_from low (e ∷ es) [] g h same = absurd (g.1 (sym (here e.0 e es refl) ∙ same e.0))
 same_from low (e ∷ es) (f ∷ fs) g h same =
     elim (cases_lt e.0 f.0) [
-      | inl below ↦ absurd (g.1 (sym (here e.0 e es refl) ∙ same e.0 ∙ unlisted f.0 (f ∷ fs) e.0 (omega arith, h.1, h.2) below))
+      | inl below ↦ absurd (g.1
+          (sym (here e.0 e es refl) ∙ same e.0 ∙ unlisted f.0 (f ∷ fs) e.0 (omega arith, h.1, h.2) below))
       | inr least ↦ elim (cases_lt f.0 e.0) [
-        | inl below ↦ absurd (h.1 (sym (here f.0 f fs refl) ∙ sym (same f.0) ∙ unlisted e.0 (e ∷ es) f.0 (omega arith, g.1, g.2) below))
+        | inl below ↦ absurd (h.1
+            (sym (here f.0 f fs refl) ∙ sym (same f.0) ∙ unlisted e.0 (e ∷ es) f.0 (omega arith, g.1, g.2) below))
         | inr greatest ↦
             let number : e.0 ≡ f.0 = omega (arith, least, greatest) in
             let spans : e.1 ≡ f.1 = sym (here e.0 e es refl) ∙ same e.0 ∙ here e.0 f fs number in
             let others : (u : ℕ) → spans_of es u ≡ spans_of fs u = λ u. elim (cases_lt e.0 u) [
-              | inl above ↦ sym (there u e es (λ is. omega (arith, is, above))) ∙ same u ∙ there u f fs (λ is. omega (arith, is, above, number))
-              | inr small ↦ unlisted (suc e.0) es u g.2 (omega (arith, small)) ∙ sym (unlisted (suc f.0) fs u h.2 (omega (arith, small, number)))
+              | inl above ↦ sym (there u e es (λ is. omega (arith, is, above))) ∙ same u
+                  ∙ there u f fs (λ is. omega (arith, is, above, number))
+              | inr small ↦ unlisted (suc e.0) es u g.2 (omega (arith, small))
+                  ∙ sym (unlisted (suc f.0) fs u h.2 (omega (arith, small, number)))
             ] in
-            let rest : es ≡ fs = same_from (suc e.0) es fs g.2 (subst (λ n. RisesFrom (suc n) fs) (sym number) h.2) others in
+            let rest : es ≡ fs = same_from (suc e.0) es fs g.2 (subst (λ n. RisesFrom (suc n) fs) (sym number) h.2)
+            others in
             λ i. (number i, spans i) ∷ rest i
       ]
     ]
@@ -89,7 +94,8 @@ module _ (t : ℕ) (ss : List Span) where
 
   listed_other : (v : LocksView) (u : ℕ) → u ≢ t → spans_of (insert_entry nat_cmp v t ss) u ≡ spans_of v u
   listed_other [] u other = there u (t, ss) [] other
-  listed_other (e ∷ es) u other = first_other (nat_cmp t e.0) e es (insert_entry nat_cmp es t ss) u other (ranks t e.0) (listed_other es u other)
+  listed_other (e ∷ es) u other =
+      first_other (nat_cmp t e.0) e es (insert_entry nat_cmp es t ss) u other (ranks t e.0) (listed_other es u other)
 
   first_rises : (o : Ordering) (low : ℕ) (e : ℕ × List Span) (es rest : LocksView)
       → MatchOrdering o (t < e.0) (t ≡ e.0) (e.0 < t) → ss ≢ [] → low ≤ t → RisesFrom low (e ∷ es)
@@ -103,7 +109,8 @@ module _ (t : ℕ) (ss : List Span) where
       → RisesFrom low (insert_entry nat_cmp v t ss)
   listed_rises low [] some from h = (from, some, tt)
   listed_rises low (e ∷ es) some from h =
-      first_rises (nat_cmp t e.0) low e es (insert_entry nat_cmp es t ss) (ranks t e.0) some from h (λ above. listed_rises (suc e.0) es some above h.2)
+      first_rises (nat_cmp t e.0) low e es (insert_entry nat_cmp es t ss) (ranks t e.0) some from h
+      (λ above. listed_rises (suc e.0) es some above h.2)
 
 -- a transaction is listed no more
 module _ (t : ℕ) where

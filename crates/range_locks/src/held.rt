@@ -44,7 +44,8 @@ impl Held {
     /// Adds the newest lock of a transaction. Refused NoMemory.
     pub fn push(&mut self, alloc: Global, txn: u64, lock: Lock) -> Result<(), Refusal>
         ensures listed { OnOk result (Lists self.old txn (locks_in self.old txn ++ lock ∷ []) self.new) }
-        ensures taken { OnOk result (seen self.new ≡ set_spans txn (span_of lock ∷ spans_of (seen self.old) txn) (seen self.old)) }
+        ensures taken { OnOk result
+            (seen self.new ≡ set_spans txn (span_of lock ∷ spans_of (seen self.old) txn) (seen self.old)) }
         ensures refused { IfErr result (λ refusal. refusal ≡ Refusal.NoMemory) }
         ensures unchanged { OnErr result (seen self.new ≡ seen self.old) }
         ensures unlisted { OnErr result ((u : ℕ) → locks_in self.new u ≡ locks_in self.old u) }

@@ -25,7 +25,8 @@ pub fn search(
     before: Option<u64>,
 ) -> Option<u64>
     requires { IsForward (IsLeBy entry_cmp) (IsLtBy entry_cmp) from to }
-    ensures { result ≡ least_of txn_of (stops txn lock.now) before (filter (range_contains entry_cmp from to) index.now.keys) }
+    ensures { result ≡ least_of txn_of (stops txn lock.now) before
+        (filter (range_contains entry_cmp from to) index.now.keys) }
 {
     let mut least = before;
     for entry in index.range((from, to)) {
@@ -44,7 +45,8 @@ fn stops(txn: u64, lock: &Lock, entry: &Entry) -> bool
 
 /// Takes these locks of the transaction out of the index.
 pub fn forget(index: &mut BTreeSet<Entry>, txn: u64, locks: &[Lock])
-    ensures { (e : Entry) → contains entry_cmp index.new e ≡ (contains entry_cmp index.old e && not (list_any (is_entry_of txn e) locks.now)) }
+    ensures { (e : Entry) → contains entry_cmp index.new e
+        ≡ (contains entry_cmp index.old e && not (list_any (is_entry_of txn e) locks.now)) }
 {
     for lock in locks {
         index.remove(&Entry {

@@ -56,7 +56,9 @@ impl Parts {
         ensures kept { IsIndexed self.new.held self.new.index }
         ensures range { OnOk result (IsRange (meant mode span.now)) }
         ensures free { OnOk result (IsFree (seen self.old.held) txn (meant mode span.now)) }
-        ensures taken { OnOk result (seen self.new.held ≡ set_spans txn (meant mode span.now ∷ spans_of (seen self.old.held) txn) (seen self.old.held)) }
+        ensures taken { OnOk result
+            (seen self.new.held ≡ set_spans txn (meant mode span.now ∷ spans_of (seen self.old.held) txn)
+            (seen self.old.held)) }
         ensures refused { IfErr result (Refuses (seen self.old.held) txn (meant mode span.now)) }
         ensures unchanged { OnErr result (seen self.new.held ≡ seen self.old.held) }
     {
@@ -110,7 +112,9 @@ impl Parts {
     pub fn add(&mut self, txn: u64, lock: Lock) -> Result<(), Refusal>
         requires { IsIndexed self.old.held self.old.index }
         ensures kept { IsIndexed self.new.held self.new.index }
-        ensures taken { OnOk result (seen self.new.held ≡ set_spans txn (span_of lock ∷ spans_of (seen self.old.held) txn) (seen self.old.held)) }
+        ensures taken { OnOk result
+            (seen self.new.held ≡ set_spans txn (span_of lock ∷ spans_of (seen self.old.held) txn)
+            (seen self.old.held)) }
         ensures refused { IfErr result (λ refusal. refusal ≡ Refusal.NoMemory) }
         ensures unchanged { OnErr result (seen self.new.held ≡ seen self.old.held) }
     {
@@ -135,7 +139,8 @@ impl Parts {
         requires indexed { IsIndexed self.old.held self.old.index }
         requires some { spans_of (seen self.old.held) txn ≢ [] }
         ensures kept { IsIndexed self.new.held self.new.index }
-        ensures untaken { seen self.new.held ≡ set_spans txn (drop 1 (spans_of (seen self.old.held) txn)) (seen self.old.held) }
+        ensures untaken { seen self.new.held
+            ≡ set_spans txn (drop 1 (spans_of (seen self.old.held) txn)) (seen self.old.held) }
     {
         let lock = self.held.pop(txn);
         let entry = Entry { lock, txn };

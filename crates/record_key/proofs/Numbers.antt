@@ -55,7 +55,8 @@ number_order (suc n) [] ys bx by p q = absurd (omega arith)
 number_order (suc n) (x ∷ xs) [] bx by p q = absurd (omega arith)
 number_order (suc n) (x ∷ xs) (y ∷ ys) bx by p q =
     rw (big_from-cons 0 n x xs, big_from-cons 0 n y ys)
-    (lies (number_order n xs ys (λ k. bx (suc k)) (λ k. by (suc k)) (omega arith) (omega arith)) (nat_cmp x y) refl (ranked x y _ refl))
+    (lies (number_order n xs ys (λ k. bx (suc k)) (λ k. by (suc k)) (omega arith) (omega arith)) (nat_cmp x y) refl
+    (ranked x y _ refl))
   where
     r : ℕ
     r = big_from 0 n xs
@@ -89,11 +90,13 @@ number_order (suc n) (x ∷ xs) (y ∷ ys) bx by p q =
 
 -- the first bytes decide, then the others
 pub order_parts : (n : ℕ) (xs ys : List ℕ) → n ≤ length xs → n ≤ length ys
-    → slice_cmp nat_cmp xs ys ≡ ordering_then (slice_cmp nat_cmp (take n xs) (take n ys)) (slice_cmp nat_cmp (drop n xs) (drop n ys))
+    → slice_cmp nat_cmp xs ys
+    ≡ ordering_then (slice_cmp nat_cmp (take n xs) (take n ys)) (slice_cmp nat_cmp (drop n xs) (drop n ys))
 order_parts zero xs ys p q = refl
 order_parts (suc n) [] ys p q = absurd (omega arith)
 order_parts (suc n) (x ∷ xs) [] p q = absurd (omega arith)
-order_parts (suc n) (x ∷ xs) (y ∷ ys) p q = ap (ordering_then (nat_cmp x y)) (order_parts n xs ys (omega arith) (omega arith)) ∙ thrice (nat_cmp x y) _ _
+order_parts (suc n) (x ∷ xs) (y ∷ ys) p q =
+    ap (ordering_then (nat_cmp x y)) (order_parts n xs ys (omega arith) (omega arith)) ∙ thrice (nat_cmp x y) _ _
   where
     thrice : (a b c : Ordering) → ordering_then a (ordering_then b c) ≡ ordering_then (ordering_then a b) c
     thrice Less b c = refl

@@ -1,5 +1,5 @@
 -- Keys and answers are read where they were packed, also when more follow or some are dropped.
-use Rattle.std.proofs.Common.{◌≡◌, ℕ, Bool, filter, zero, suc, ◌<◌, ◌≤◌, ◌+◌, ◌-◌, List, [], ◌∷◌, ◌++◌, length, take, drop, get_or, Some, None, refl, sym, ap, ◌∙◌, subst, arith}
+use Rattle.std.proofs.Common.{◌≡◌, ℕ, Bool, filter, zero, suc, ◌<◌, ◌≤◌, ◌+◌, List, [], ◌∷◌, ◌++◌, length, take, drop, get_or, Some, None, refl, sym, ap, ◌∙◌, subst, arith}
 use Rattle.std.specs.Prelude.{map}
 use Rattle.std.specs.List.{AllByRecursion, insert}
 use Rattle.std.specs.List.Retain.{RetainsInTurn}
@@ -61,7 +61,8 @@ module _ (bytes more : List ℕ) (place : ℕ) (h : IsPacked bytes place) where
 
   packed_still : IsPacked (bytes ++ more) place
   packed_still =
-      let longer : length (drop place (bytes ++ more)) ≡ length tail + length more = ap length tail_more ∙ length-append tail more in
+      let longer : length (drop place (bytes ++ more)) ≡ length tail + length more =
+      ap length tail_more ∙ length-append tail more in
       let key = same_head 0 (omega arith) in
       let value = same_head 2 (omega arith) in
       record {
@@ -73,7 +74,8 @@ module _ (bytes more : List ℕ) (place : ℕ) (h : IsPacked bytes place) where
 
 all_still : (bytes more : List ℕ) (slots : List Slot) → AllByRecursion (IsFilled bytes) slots
     → AllByRecursion (IsFilled (bytes ++ more)) slots
-all_still bytes more = all_from (IsFilled bytes) (IsFilled (bytes ++ more)) (λ slot h. packed_still bytes more slot.place h)
+all_still bytes more = all_from (IsFilled bytes) (IsFilled (bytes ++ more))
+    (λ slot h. packed_still bytes more slot.place h)
 
 same_entries : (bytes more : List ℕ) (slots : List Slot) → AllByRecursion (IsFilled bytes) slots
     → map (entry_in (bytes ++ more)) slots ≡ map (entry_in bytes) slots
@@ -113,9 +115,11 @@ module _ (bytes : List ℕ) (key : Bytes) (answer : Answer) (h : HasLengths key 
   unfolding packed
   packed_newest =
       let lengths = length-append key (value_of answer) in
-      let all : length (drop (length bytes) longer) ≡ suc (suc (suc (length (key ++ value_of answer)))) = ap length newest in
+      let all : length (drop (length bytes) longer) ≡ suc (suc (suc (length (key ++ value_of answer)))) =
+      ap length newest in
       let first : key_len longer (length bytes) ≡ length key = ap (λ (t : List ℕ). get_or t 0 0) newest in
-      let third : value_len longer (length bytes) ≡ length (value_of answer) = ap (λ (t : List ℕ). get_or t 2 0) newest in
+      let third : value_len longer (length bytes) ≡ length (value_of answer) =
+      ap (λ (t : List ℕ). get_or t 2 0) newest in
       record {
         some_key = omega (arith, first, h.some_key);
         short_key = omega (arith, first, h.short_key);

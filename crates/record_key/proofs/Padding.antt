@@ -30,7 +30,9 @@ zeros_before zero [] h = refl
 zeros_before zero (y ∷ ys) h = absurd (omega arith)
 zeros_before (suc n) [] h = zeros_before n [] (omega arith)
 zeros_before (suc n) (zero ∷ ys) h = zeros_before n ys (omega arith)
-zeros_before (suc n) (suc y ∷ ys) h = ap (λ o. ordering_then (ordering_then o (slice_cmp nat_cmp (filled n []) (filled n ys))) Less) (below 0 (suc y) (omega arith))
+zeros_before (suc n) (suc y ∷ ys) h =
+    ap (λ o. ordering_then (ordering_then o (slice_cmp nat_cmp (filled n []) (filled n ys))) Less)
+    (below 0 (suc y) (omega arith))
 
 zeros_after : (n : ℕ) (xs : List ℕ) → length xs ≤ n
     → ordering_then (slice_cmp nat_cmp (filled n xs) (filled n [])) Greater ≡ Greater
@@ -38,7 +40,9 @@ zeros_after zero [] h = refl
 zeros_after zero (x ∷ xs) h = absurd (omega arith)
 zeros_after (suc n) [] h = zeros_after n [] (omega arith)
 zeros_after (suc n) (zero ∷ xs) h = zeros_after n xs (omega arith)
-zeros_after (suc n) (suc x ∷ xs) h = ap (λ o. ordering_then (ordering_then o (slice_cmp nat_cmp (filled n xs) (filled n []))) Greater) (above (suc x) 0 (omega arith))
+zeros_after (suc n) (suc x ∷ xs) h =
+    ap (λ o. ordering_then (ordering_then o (slice_cmp nat_cmp (filled n xs) (filled n []))) Greater)
+    (above (suc x) 0 (omega arith))
 
 same_zeros : (n : ℕ) → slice_cmp nat_cmp (filled n []) (filled n []) ≡ Equal
 same_zeros zero = refl
@@ -58,7 +62,8 @@ filled_order n (x ∷ xs) [] p q =
     ∙ zeros_after n (x ∷ xs) p
 filled_order zero (x ∷ xs) (y ∷ ys) p q = absurd (omega arith)
 filled_order (suc n) (x ∷ xs) (y ∷ ys) p q =
-    ap (λ o. ordering_then (ordering_then (nat_cmp x y) (slice_cmp nat_cmp (filled n xs) (filled n ys))) o) (one_less xs ys)
+    ap (λ o. ordering_then (ordering_then (nat_cmp x y) (slice_cmp nat_cmp (filled n xs) (filled n ys))) o)
+    (one_less xs ys)
     ∙ then_more (nat_cmp x y) _ _ _ (filled_order n xs ys (omega arith) (omega arith))
   where
     one_less : (us vs : List ℕ) → nat_cmp (suc (length us)) (suc (length vs)) ≡ nat_cmp (length us) (length vs)
@@ -79,5 +84,6 @@ take_short (suc n) (x ∷ xs) = let rest = take_short n xs in omega (arith, rest
 
 -- with zeros after both, and then by their lengths, they lie as without
 pub padded_order : (n : ℕ) (xs ys : List ℕ) → length xs ≤ n → length ys ≤ n
-    → ordering_then (slice_cmp nat_cmp (padded n xs) (padded n ys)) (nat_cmp (length xs) (length ys)) ≡ slice_cmp nat_cmp xs ys
+    → ordering_then (slice_cmp nat_cmp (padded n xs) (padded n ys)) (nat_cmp (length xs) (length ys))
+    ≡ slice_cmp nat_cmp xs ys
 padded_order n xs ys p q = rw (is_filled n xs p, is_filled n ys q) (filled_order n xs ys p q)

@@ -102,7 +102,8 @@ where_key-at : (k : Bytes) (rows : List Row) (p : ℕ) → T (map.is_sorted key_
     → where_key key_cmp (λ y. not (eq_by_cmp key_cmp k y)) rows ≡ remove rows p
 where_key-at k [] p ordered at = absurd at
 where_key-at k (row ∷ rows) zero ordered at = rw at (where_key-below k row.0 rows at (and_first _ _ ordered))
-where_key-at k (row ∷ rows) (suc p) ordered at = rw at.0 (ap (λ rest. row ∷ rest) (where_key-at k rows p (and_second _ _ ordered) at.1))
+where_key-at k (row ∷ rows) (suc p) ordered at =
+    rw at.0 (ap (λ rest. row ∷ rest) (where_key-at k rows p (and_second _ _ ordered) at.1))
 
 -- a row put at the key's place
 module _ (rows : List Row) (ordered : AreInOrder rows) (k : Bytes) (p : ℕ) where
@@ -142,7 +143,8 @@ module _ (rows : List Row) (ordered : AreInOrder rows) (k : Bytes) (p : ℕ) whe
   without_table : table_of (where_key key_cmp (λ y. not (eq_by_cmp key_cmp k y)) rows) ≡ map.remove (table_of rows) k
   without_table = same_table _ _ (λ q.
       get-table_of _ q without_ordered
-      ∙ find-where_key key_cmp (λ y. not (eq_by_cmp key_cmp k y)) q (λ x tied. ap (λ r. not (is_eq r)) (sym (alike_right nat_list_cmp_total q x k tied))) rows
+      ∙ find-where_key key_cmp (λ y. not (eq_by_cmp key_cmp k y)) q
+      (λ x tied. ap (λ r. not (is_eq r)) (sym (alike_right nat_list_cmp_total q x k tied))) rows
       ∙ turned (eq_by_cmp key_cmp k q) (find key_cmp q rows) None
       ∙ ap (λ b. cond b None (find key_cmp q rows)) ((eq_by_cmp_equiv nat_list_cmp_total).symm k q)
       ∙ ap (cond (eq_by_cmp key_cmp q k) None) (sym (get-table_of rows q ordered))

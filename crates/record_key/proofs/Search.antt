@@ -39,7 +39,8 @@ module _ {X : Type 0} (order : X → Ordering) where
   belongs_from (x ∷ xs) zero d within below above = above (omega arith)
   belongs_from (x ∷ xs) (suc p) d within below above = (
     below 0 (omega arith),
-    belongs_from xs p d (omega (arith, within)) (λ j lt. below (suc j) (omega (arith, lt))) (λ lt. above (omega (arith, lt))),
+    belongs_from xs p d (omega (arith, within)) (λ j lt. below (suc j) (omega (arith, lt)))
+        (λ lt. above (omega (arith, lt))),
   )
 
 at_most_two : (o : Ordering) → ordering_index o ≤ 2
@@ -60,7 +61,8 @@ part_less o p (inl less) same = less
 part_less o p (inr greater) same = absurd (let no : Greater ≡ Equal = sym greater ∙ same in cc)
 
 -- how each item compares with the value, and how the value compares with each item
-module _ {X : Type 0} (items order : X → Ordering) (turned : (x : X) → order x ≡ ordering_reverse (items x)) (xs : List X)
+module _ {X : Type 0} (items order : X → Ordering) (turned : (x : X) → order x ≡ ordering_reverse (items x))
+    (xs : List X)
     (parts : (i j : ℕ) (d : X) → i < j → j < length xs → Part (items (get_or xs i d)) (items (get_or xs j d))) where
   comparisons_rise : IsNonDecreasingBy (λ x. ordering_index (items x)) xs
   comparisons_rise i j d le within =
@@ -90,14 +92,16 @@ above_first : (x : Bytes) (rows : List Row) (j : ℕ) (d : Row) → T (below_all
     → key_cmp x (get_or rows j d).0 ≡ Less
 above_first x [] j d below within = absurd (omega arith)
 above_first x (row ∷ rows) zero d below within = is_lt-Less _ (and_first _ _ below)
-above_first x (row ∷ rows) (suc j) d below within = above_first x rows j d (and_second _ _ below) (omega (arith, within))
+above_first x (row ∷ rows) (suc j) d below within =
+    above_first x rows j d (and_second _ _ below) (omega (arith, within))
 
 -- keys rise with their places
 rising : (rows : List Row) (i j : ℕ) (d : Row) → T (is_sorted key_cmp rows) → i < j → j < length rows
     → key_cmp (get_or rows i d).0 (get_or rows j d).0 ≡ Less
 rising [] i j d sorted lt within = absurd (omega arith)
 rising (row ∷ rows) i zero d sorted lt within = absurd (omega arith)
-rising (row ∷ rows) zero (suc j) d sorted lt within = above_first row.0 rows j d (and_first _ _ sorted) (omega (arith, within))
+rising (row ∷ rows) zero (suc j) d sorted lt within =
+    above_first row.0 rows j d (and_first _ _ sorted) (omega (arith, within))
 rising (row ∷ rows) (suc i) (suc j) d sorted lt within =
     rising rows i j d (and_second _ _ sorted) (omega (arith, lt)) (omega (arith, within))
 
@@ -106,14 +110,17 @@ keys_part x y k Less below is = inl (nat_list_cmp_total.trans x y k below is)
 keys_part x y k Equal below is = inl (sym (alike x) ∙ below)
   where
     alike : (z : Bytes) → key_cmp z y ≡ key_cmp z k
-    alike z = nat_list_cmp_total.antisymm z y ∙ ap ordering_reverse (nat_list_cmp_total.congr y k z is) ∙ sym (nat_list_cmp_total.antisymm z k)
+    alike z = nat_list_cmp_total.antisymm z y ∙ ap ordering_reverse (nat_list_cmp_total.congr y k z is)
+        ∙ sym (nat_list_cmp_total.antisymm z k)
 keys_part x y k Greater below is = inr is
 
 pub rows_searched : (rows : List Row) → AreInOrder rows → (k : Bytes) (r : Result ℕ ℕ) → IsSearchInRange r (length rows)
     → IsBinarySearchResult (λ (row : Row). key_cmp row.0 k) rows r → IsPlaceOf k rows r
 rows_searched rows ordered k r within found =
-    searched (λ (row : Row). key_cmp row.0 k) (λ (row : Row). key_cmp k row.0) (λ row. nat_list_cmp_total.antisymm k row.0) rows
-    (λ i j d lt le. keys_part (get_or rows i d).0 (get_or rows j d).0 k _ (rising rows i j d (as_T _ ordered) lt le) refl)
+    searched (λ (row : Row). key_cmp row.0 k) (λ (row : Row). key_cmp k row.0)
+    (λ row. nat_list_cmp_total.antisymm k row.0) rows
+    (λ i j d lt le. keys_part (get_or rows i d).0 (get_or rows j d).0 k _ (rising rows i j d (as_T _ ordered) lt le)
+    refl)
     ([], []) r within found
 
 -- ---- entries
@@ -123,7 +130,8 @@ numbers_above : (l : ℕ) (es : List Entry) (j : ℕ) (d : Entry) → RiseAbove 
 numbers_above l [] j d h within = absurd (omega (arith, within))
 numbers_above l (e ∷ es) zero d h within = h.0
 numbers_above l (e ∷ es) (suc j) d h within =
-    let above : e.number < (get_or es j d).number = numbers_above e.number es j d h.1 (omega (arith, within)) in omega (arith, above, h.0)
+    let above : e.number < (get_or es j d).number = numbers_above e.number es j d h.1 (omega (arith, within)) in
+    omega (arith, above, h.0)
 
 numbers_rise : (l : ℕ) (es : List Entry) (i j : ℕ) (d : Entry) → RiseAbove l es → i < j → j < length es
     → (get_or es i d).number < (get_or es j d).number
@@ -168,5 +176,6 @@ module _ {X : Type 0} (f : X → Entry) (xs : List X) (l : ℕ) (h : RiseAbove l
       place_mapped f (λ (e : Entry). nat_cmp n e.number) xs r
       (searched (λ x. nat_cmp (f x).number n) (λ x. nat_cmp n (f x).number)
       (λ x. nat_cmp_total.antisymm n (f x).number) xs
-      (λ i j some lt le. numbers_part (f (get_or xs i some)).number (f (get_or xs j some)).number n (risen i j some lt le))
+      (λ i j some lt le. numbers_part (f (get_or xs i some)).number (f (get_or xs j some)).number n
+      (risen i j some lt le))
       d r within found)

@@ -54,4 +54,6 @@ goes_on at xs ys (words, place, within, so_far) first second test e same =
 pub all_equal : (at : ℕ) (xs ys : List ℕ) → AreEqualTo at xs ys → length xs ≡ 32 → length ys ≡ 32 → 32 ≤ at
     → Equal ≡ slice_cmp nat_cmp xs ys
 all_equal at xs ys kept first second test =
-    sym (same_so_far at xs ys kept ∙ (λ i. slice_cmp nat_cmp (past at xs (omega (arith, first, test)) i) (past at ys (omega (arith, second, test)) i)))
+    sym (same_so_far at xs ys kept
+    ∙ (λ i. slice_cmp nat_cmp (past at xs (omega (arith, first, test)) i)
+    (past at ys (omega (arith, second, test)) i)))

@@ -73,9 +73,11 @@ cond-left true r x h = absurd (h refl)
 cond-left false r x h = refl
 
 pub get-with_record_other : (m : Table) (k q : Bytes) (r : Option Bytes) → q ≢ k → get (with_record m k r) q ≡ get m q
-get-with_record_other m k q r apart = get-with_record m k r q ∙ cond-left (is_same q k) r (get m q) (λ h. apart (is_same-true q k h))
+get-with_record_other m k q r apart =
+    get-with_record m k r q ∙ cond-left (is_same q k) r (get m q) (λ h. apart (is_same-true q k h))
 
 -- an operation that leaves what stands at its key leaves the table
 pub after-idle : (m : Table) (o : Op) (r : Option Bytes) → r ≡ get m (key_of o) → value_after o r ≡ r → m ≡ after m o
 after-idle m o r there idle =
-    sym (ap (λ x. with_record m (key_of o) (value_after o x)) (sym there) ∙ ap (with_record m (key_of o)) idle ∙ with_record-there m (key_of o) r there)
+    sym (ap (λ x. with_record m (key_of o) (value_after o x)) (sym there) ∙ ap (with_record m (key_of o)) idle
+    ∙ with_record-there m (key_of o) r there)

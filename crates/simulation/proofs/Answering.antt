@@ -48,7 +48,8 @@ plain_uncrossed [] = refl
 plain_uncrossed (e ∷ h) = by e.number e.txn e.op e.answer e.crossed h (plain_uncrossed h)
   where
     by : (n t : ℕ) (o : Op) (a : Answer) (c : Bool) (h : List Entry) → plain (standing h) ≡ plain h
-        → plain (standing (record { number = n; txn = t; op = o; answer = a; crossed = c } ∷ h)) ≡ plain (record { number = n; txn = t; op = o; answer = a; crossed = c } ∷ h)
+        → plain (standing (record { number = n; txn = t; op = o; answer = a; crossed = c } ∷ h))
+        ≡ plain (record { number = n; txn = t; op = o; answer = a; crossed = c } ∷ h)
     by n t o a true h rest = rest
     by n t o a false h rest = ap (λ m. after m o) rest
 
@@ -69,10 +70,12 @@ plain_filtered p k (e ∷ h) all = by (p e) refl (plain_filtered p k h all.1)
       where
         pick : (b : Bool) → get (plain h) k ≡ get (if b then plain h else after (plain h) e.op) k
         pick true = refl
-        pick false = sym (get-with_record_other (plain h) (key_of e.op) k (value_after e.op (get (plain h) (key_of e.op))) apart)
+        pick false = sym (get-with_record_other (plain h) (key_of e.op) k
+            (value_after e.op (get (plain h) (key_of e.op))) apart)
 
     by : (b : Bool) → p e ≡ b → get (plain (filter p h)) k ≡ get (plain h) k
-        → get (plain (cond b (e ∷ filter p h) (filter p h))) k ≡ get (if e.crossed then plain h else after (plain h) e.op) k
+        → get (plain (cond b (e ∷ filter p h) (filter p h))) k
+        ≡ get (if e.crossed then plain h else after (plain h) e.op) k
     by true keeps rest =
         let c = all.0.stays keeps in
         ap (λ b. get (if b then plain (filter p h) else after (plain (filter p h)) e.op) k) c
@@ -85,12 +88,15 @@ keys_apart : (log : List Record) (n t m u : ℕ) (o q : Op) → IsLegal log → 
     → IsOpBy log m u q → IsOpen log u → u ≢ t → key_of o ≢ key_of q
 keys_apart log n t m u o q legal by open_t is_op open_u other same =
     elim (cases_order m n) [
-      | inl e ↦ other (op_same u t q o (record_at log n) (let P : ℕ → Type 0 = λ z. IsOpBy log z u q in subst P e is_op) by).0
+      | inl e ↦ other (op_same u t q o (record_at log n) (let P : ℕ → Type 0 = λ z. IsOpBy log z u q in subst P e is_op)
+          by).0
       | inr (inl below) ↦
-          let found = strict log legal m n u t q o is_op below (op_step t o (record_at log n) by) (op_request t o (record_at log n) by) same (λ e. other (sym e)) in
+          let found = strict log legal m n u t q o is_op below (op_step t o (record_at log n) by)
+          (op_request t o (record_at log n) by) same (λ e. other (sym e)) in
           true≢false (sym (end_ends log u found.end found.is) ∙ open_u.goes_on)
       | inr (inr above) ↦
-          let found = strict log legal n m t u o q by above (op_step u q (record_at log m) is_op) (op_request u q (record_at log m) is_op) (sym same) other in
+          let found = strict log legal n m t u o q by above (op_step u q (record_at log m) is_op)
+          (op_request u q (record_at log m) is_op) (sym same) other in
           true≢false (sym (end_ends log t found.end found.is) ∙ open_t.goes_on)
     ]
 
@@ -149,17 +155,21 @@ module _ (v : View) (m : Machine) (t n : ℕ) (a : Answer) (legal : IsLegal (is.
 
     loses_open : (u : ℕ) → v.loses u ≡ true → IsOpen v.log u × (u ≢ t)
     loses_open u l = (
-      (subst (HasStatusOf v u) (losing_is v u (m.txns u).status (stands.each u).status l) (stands.each u).status).open_txn,
+      (subst (HasStatusOf v u) (losing_is v u (m.txns u).status (stands.each u).status l)
+          (stands.each u).status).open_txn,
       λ same. true≢false (sym l ∙ ap v.loses same ∙ waiting.0.stays),
     )
 
     harmless : (k u : ℕ) (q : Op) → IsOpBy v.log k u q → (b : Answer)
-        → IsHarmless (counts v) (key_of o) (record { number = k; txn = u; op = q; answer = b; crossed = is_crossed v.log k })
+        → IsHarmless (counts v) (key_of o)
+        (record { number = k; txn = u; op = q; answer = b; crossed = is_crossed v.log k })
     harmless k u q by b = record {
       out = λ no_count. elim (why_out (is_crossed v.log k) (v.loses u) (is_to_undo (v.doing u) k) no_count) [
         | inl c ↦ inl c
-        | inr (inl l) ↦ let h = loses_open u l in inr (keys_apart v.log n t k u o q legal.1 waiting.1 waiting.0.open_txn by h.0 h.1)
-        | inr (inr r) ↦ let h = rolls_open u k r in inr (keys_apart v.log n t k u o q legal.1 waiting.1 waiting.0.open_txn by h.0 h.1)
+        | inr (inl l) ↦ let h = loses_open u l in
+            inr (keys_apart v.log n t k u o q legal.1 waiting.1 waiting.0.open_txn by h.0 h.1)
+        | inr (inr r) ↦ let h = rolls_open u k r in
+            inr (keys_apart v.log n t k u o q legal.1 waiting.1 waiting.0.open_txn by h.0 h.1)
       ];
       stays = λ c. why_in (is_crossed v.log k) (not (v.loses u) && not (is_to_undo (v.doing u) k)) c;
     }
@@ -168,7 +178,8 @@ module _ (v : View) (m : Machine) (t n : ℕ) (a : Answer) (legal : IsLegal (is.
     told_so =
         told_right v.log n t o legal.1 right.1 waiting.0.open_txn waiting.1 waiting.2 uncrossed_yet a right.0
         ∙ ap (answer_at o) (sym (ap (λ x. get x (key_of o)) (sym (plain_uncrossed m.h) ∙ ap plain stands.entries)
-        ∙ plain_filtered (counts v) (key_of o) (hist v.log) (all_hist (IsHarmless (counts v) (key_of o)) v.log v.log harmless)))
+        ∙ plain_filtered (counts v) (key_of o) (hist v.log)
+        (all_hist (IsHarmless (counts v) (key_of o)) v.log v.log harmless)))
 
     abbrev entry : Entry
     entry = record { number = n; txn = t; op = o; answer = a; crossed = false }
@@ -182,7 +193,8 @@ module _ (v : View) (m : Machine) (t n : ℕ) (a : Answer) (legal : IsLegal (is.
     answer_agrees k u q by = Both refl refl (λ b. elim (cases_eq u t) [
       | inr apart ↦ counts_same v k u (is_crossed v.log k) (view.doing u) (put_other v.doing t (Some Ready) u apart)
       | inl e ↦
-          both_below v k u (is_crossed v.log k) (v.doing u) (view.doing u) (ap (λ d. is_to_undo d k) (ap v.doing e ∙ awaits))
+          both_below v k u (is_crossed v.log k) (v.doing u) (view.doing u)
+          (ap (λ d. is_to_undo d k) (ap v.doing e ∙ awaits))
           (ap (λ d. is_to_undo d k) (ap view.doing e ∙ put_same v.doing t (Some Ready)))
     ])
 
@@ -214,9 +226,11 @@ module _ (v : View) (m : Machine) (t n : ℕ) (a : Answer) (legal : IsLegal (is.
     other_entries : (u : ℕ) → (u ≡ t → ⊥) → CarriesEntries v.log m.h (placed entry m.h) u
     other_entries u apart = record {
       entry = λ k q e. placed_entry entry m.h k u q e;
-      remembers = λ kept end r. record { same = all_placed _ entry m.h (λ e. absurd (apart (sym e))) r.same; within = r.within };
+      remembers = λ kept end r.
+          record { same = all_placed _ entry m.h (λ e. absurd (apart (sym e))) r.same; within = r.within };
       unentered = λ k q by all. all_placed _ entry m.h
-          (λ e. apart (op_same u t q o (record_at v.log n) (subst (λ (z : ℕ). IsOpBy v.log z u q) (sym e) by) waiting.1).0) all;
+          (λ e. apart (op_same u t q o (record_at v.log n) (subst (λ (z : ℕ). IsOpBy v.log z u q) (sym e) by)
+          waiting.1).0) all;
     }
 
     saves_so : (low high : ℕ) (saves : List (List ℕ)) (ends : List ℕ) → low ≤ n → low ≤ high
@@ -224,7 +238,11 @@ module _ (v : View) (m : Machine) (t n : ℕ) (a : Answer) (legal : IsLegal (is.
     saves_so low high [] [] le lh has = tt
     saves_so low high (kept ∷ saves) (end ∷ ends) le lh has = (
       record {
-        same = all_placed _ entry m.h (λ e. (λ any. absurd (unlisted kept n end (omega (arith, has.1, le)) has.0.within any), λ at. absurd (omega (arith, has.1, le, at)))) has.0.same;
+        same = all_placed _ entry m.h
+            (λ e. (
+              λ any. absurd (unlisted kept n end (omega (arith, has.1, le)) has.0.within any),
+              λ at. absurd (omega (arith, has.1, le, at)),
+            )) has.0.same;
         within = has.0.within;
       },
       omega (arith, has.1, lh),
@@ -242,7 +260,8 @@ module _ (v : View) (m : Machine) (t n : ℕ) (a : Answer) (legal : IsLegal (is.
     answers_so =
         let x = stands.each t in
         let new : Txn = record (m.txns t) { status = Open } in
-        let own_saves : HasSavesOf v m.h t (Waiting n o) (m.txns t).saves = subst (λ s. HasSavesOf v m.h t s (m.txns t).saves) is_waiting x.saves in (
+        let own_saves : HasSavesOf v m.h t (Waiting n o) (m.txns t).saves =
+        subst (λ s. HasSavesOf v m.h t s (m.txns t).saves) is_waiting x.saves in (
           record (with_txn m t new) { h = placed entry m.h },
           (n, o, is_waiting, told_so, refl),
           record {
@@ -253,8 +272,13 @@ module _ (v : View) (m : Machine) (t n : ℕ) (a : Answer) (legal : IsLegal (is.
             each = one_changed m view (placed entry m.h) t new
                 (record {
                   begun = begun_so (is.Answer n a) v.log t (m.txns t).begun (λ e. cc) x.begun;
-                  status = record { open_txn = goes_on waiting.0.open_txn; does = put_same v.doing t (Some Ready); stays = waiting.0.stays };
-                  saves = saves_so n (length view.log + 1) (m.txns t).saves (v.saves t) (omega arith) (omega (arith, (op_number v.log n t o waiting.1).bounded)) own_saves;
+                  status = record {
+                    open_txn = goes_on waiting.0.open_txn;
+                    does = put_same v.doing t (Some Ready);
+                    stays = waiting.0.stays;
+                  };
+                  saves = saves_so n (length view.log + 1) (m.txns t).saves (v.saves t) (omega arith)
+                      (omega (arith, (op_number v.log n t o waiting.1).bounded)) own_saves;
                   spans = subst (λ s. HoldsAs v t s (m.txns t).spans) is_waiting x.spans;
                   unentered = tt;
                   entered = λ k q by.
@@ -264,7 +288,8 @@ module _ (v : View) (m : Machine) (t n : ℕ) (a : Answer) (legal : IsLegal (is.
                         | inr h ↦ inl (its_own k q was h)
                       ];
                 })
-                (λ u apart. txn_kept v view u (passes v view (is.Answer n a) u (answer_passes u apart)) m.h (placed entry m.h) (other_entries u apart) (m.txns u) (stands.each u));
+                (λ u apart. txn_kept v view u (passes v view (is.Answer n a) u (answer_passes u apart)) m.h
+                (placed entry m.h) (other_entries u apart) (m.txns u) (stands.each u));
           },
         )
       where
@@ -281,7 +306,8 @@ module _ (v : View) (m : Machine) (t n : ℕ) (a : Answer) (legal : IsLegal (is.
               | inl e ↦ absurd (no_entry m.h e own_unentered)
               | inr l ↦
                   let same = both_same n k o q (sym l.0 ∙ h.0) in
-                  subst (λ (z : ℕ). HasEntry (placed entry m.h) z t q) same.0 (subst (HasEntry (placed entry m.h) n t) same.1 (placed_itself entry m.h))
+                  subst (λ (z : ℕ). HasEntry (placed entry m.h) z t q) same.0
+                  (subst (HasEntry (placed entry m.h) n t) same.1 (placed_itself entry m.h))
             ]
 
 pub answer_is_told : AnswerIsTold

@@ -42,7 +42,11 @@ end_at (r ∷ log) t h =
     elim (ended_cases t r log h) [
       | inl ago ↦
           let was = end_at log t ago in
-          record { end = was.end; is_end = at_older (AnEnd t) r log was.end (not_newest log was.end (end_number log t was.end was.is_end)) was.is_end }
+          record {
+            end = was.end;
+            is_end = at_older (AnEnd t) r log was.end
+                (not_newest log was.end (end_number log t was.end was.is_end)) was.is_end;
+          }
       | inr now ↦ record { end = length log + 1; is_end = at_newest (AnEnd t) r log (length log + 1) refl (some now) }
     ]
   where
@@ -76,7 +80,8 @@ one_end (r ∷ log) t n m legal p q =
   where
     apart : (n m : ℕ) → n ≡ length log + 1 → IsNumber log m → IsEndOf (r ∷ log) t n → IsEndOf (r ∷ log) t m → ⊥
     apart n m e f p q =
-        true≢false (sym (end_ends log t m (had_at (AnEnd t) r log m f q)) ∙ (end_open r log t legal.0 (newest_at (AnEnd t) r log n e p)).goes_on)
+        true≢false (sym (end_ends log t m (had_at (AnEnd t) r log m f q))
+        ∙ (end_open r log t legal.0 (newest_at (AnEnd t) r log n e p)).goes_on)
 
 -- who has its end above the beginning has not ended there
 pub not_ended : (newer older : List Record) (t n : ℕ) → IsLegal (newer ++ older) → IsEndOf (newer ++ older) t n
@@ -86,7 +91,8 @@ not_ended newer older t n legal is above =
       | inl ended ↦
           let was = end_at older t ended in
           let bounded = (end_number older t was.end was.is_end).bounded in
-          let there : IsEndOf (newer ++ older) t was.end = subst (AnEnd t) (sym (record_same newer older was.end bounded)) was.is_end in
+          let there : IsEndOf (newer ++ older) t was.end =
+          subst (AnEnd t) (sym (record_same newer older was.end bounded)) was.is_end in
           absurd (omega (arith, one_end (newer ++ older) t n was.end legal is there, bounded, above))
       | inr h ↦ h
     ]
@@ -100,14 +106,16 @@ answer_stays : (r : Record) (log : List Record) (n : ℕ) → Fits log r → IsS
     → answer_of (r ∷ log) n ≡ answer_of log n
 answer_stays (is.Answer m a) log n fits some =
     elim (cases_eq n m) [
-      | inl e ↦ absurd (true≢false (sym some ∙ ap (λ (k : ℕ). is_some (answer_of log k)) e ∙ ap is_some fits.unanswered))
+      | inl e ↦ absurd (true≢false
+          (sym some ∙ ap (λ (k : ℕ). is_some (answer_of log k)) e ∙ ap is_some fits.unanswered))
       | inr apart ↦ ap (λ (b : Bool). cond b (Some a) (answer_of log n)) (ne_eqb n m apart)
     ]
 answer_stays _ log n fits some = refl
 
 -- an operation of the beginning is one of the whole
 pub op_longer : (newer older : List Record) (n t : ℕ) (o : Op) → IsOpBy older n t o → IsOpBy (newer ++ older) n t o
-op_longer newer older n t o by = subst (AnOp t o) (sym (record_same newer older n (op_number older n t o by).bounded)) by
+op_longer newer older n t o by =
+    subst (AnOp t o) (sym (record_same newer older n (op_number older n t o by).bounded)) by
 
 pub op_shorter : (newer older : List Record) (n t : ℕ) (o : Op) → n ≤ length older → IsOpBy (newer ++ older) n t o
     → IsOpBy older n t o
@@ -125,14 +133,16 @@ settled_in (r ∷ newer) older n t o legal by ended some =
     let rest = settled_in newer older n t o legal.1 by ended some in
     record {
       answer = answer_stays r (newer ++ older) n legal.0 (answered_longer newer older n some) ∙ rest.answer;
-      crossed = ended_crosses_none r (newer ++ older) n t o legal.0 (op_longer newer older n t o by) (ended_longer newer older t ended) ∙ rest.crossed;
+      crossed = ended_crosses_none r (newer ++ older) n t o legal.0 (op_longer newer older n t o by)
+          (ended_longer newer older t ended) ∙ rest.crossed;
     }
 
 pub settled_op : (newer older : List Record) (n t : ℕ) (o : Op) → IsLegal (newer ++ older) → IsOpBy older n t o
     → has_ended older t ≡ true → IsSettledOp newer older n
 settled_op newer older n t o legal by ended =
     settled_in newer older n t o legal by ended
-    (ended_answered older t n o (legal_end newer older legal) ended (op_step t o (record_at older n) by) (op_request t o (record_at older n) by))
+    (ended_answered older t n o (legal_end newer older legal) ended (op_step t o (record_at older n) by)
+    (op_request t o (record_at older n) by))
 
 -- whoever is rolled back wholly has all of its operations named by compensations
 pub undone_wholly : (log : List Record) (t e n : ℕ) (o : Op) → IsLegal log → record_at log e ≡ Some (is.End t)
@@ -150,7 +160,8 @@ undone_wholly (r ∷ log) t e n o legal end by =
             | inl newest ↦
                 let step : AStep t (Some r) = op_step t o (Some r) (newest_at (AnOp t o) r log n newest by) in
                 absurd (true≢false (sym (end_ends log t e (inr ended)) ∙ (step_open log r t legal.0 step).goes_on))
-            | inr older ↦ crossed_push n r log (undone_wholly log t e n o legal.1 ended (had_at (AnOp t o) r log n older by))
+            | inr older ↦ crossed_push n r log
+                (undone_wholly log t e n o legal.1 ended (had_at (AnOp t o) r log n older by))
           ]
     ]
   where
@@ -201,7 +212,8 @@ left_unbegun log t h =
 -- whoever is over and has ended there has its End there
 pub end_before : (newer older : List Record) (t : ℕ) → IsLegal (newer ++ older) → IsOver (newer ++ older) t
     → record_at older t ≡ Some is.Begin → has_ended older t ≡ true → (n : ℕ) × (record_at older n ≡ Some (is.End t))
-end_before newer older t legal (inr none) here shut = absurd (none (record_same newer older t (begun_number older t here).bounded ∙ here))
+end_before newer older t legal (inr none) here shut =
+    absurd (none (record_same newer older t (begun_number older t here).bounded ∙ here))
 end_before newer older t legal (inl end) here shut =
     elim (cases_lt (length older) end.0) [
       | inl above ↦ absurd (true≢false (sym shut ∙ not_ended newer older t end.0 legal (inr end.1) above))

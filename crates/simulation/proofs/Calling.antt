@@ -25,7 +25,8 @@ use Rattle.simulation.proofs.Doings.{put_same, put_other, open_as, numbers_below
 
 -- where a transaction does the same, its entries count the same
 pub counts_same : (v : View) (n u : ℕ) (c : Bool) (x : Option Doing) → x ≡ v.doing u
-    → (not c && (not (v.loses u) && not (is_to_undo (v.doing u) n))) ≡ (not c && (not (v.loses u) && not (is_to_undo x n)))
+    → (not c && (not (v.loses u) && not (is_to_undo (v.doing u) n)))
+    ≡ (not c && (not (v.loses u) && not (is_to_undo x n)))
 counts_same v n u c x same = ap (λ d. not c && (not (v.loses u) && not (is_to_undo d n))) (sym same)
 
 -- the log's next number is above all others
@@ -49,14 +50,16 @@ module _ (v : View) (m : Machine) (legal : IsLegal v.log) (stands : StandsFor v 
   old u le e = omega (arith, le, e)
 
   old_op : (n u : ℕ) (o : Op) → IsOpBy v.log n u o → u ≡ new_txn → ⊥
-  old_op n u o by e = omega (arith, e, txn_below v.log u n legal (op_step u o (record_at v.log n) by), (op_number v.log n u o by).bounded)
+  old_op n u o by e = omega
+      (arith, e, txn_below v.log u n legal (op_step u o (record_at v.log n) by), (op_number v.log n u o by).bounded)
 
   new_stays : v.loses new_txn ≡ false
   new_stays =
       elim (cases_Bool (v.loses new_txn)) [
         | inl l ↦
             let e = losing_is v new_txn (m.txns new_txn).status (stands.each new_txn).status l in
-            absurd (old new_txn ((begun_number v.log new_txn (subst (HasStatusOf v new_txn) e (stands.each new_txn).status).open_txn.begun).bounded) refl)
+            absurd (old new_txn ((begun_number v.log new_txn
+            (subst (HasStatusOf v new_txn) e (stands.each new_txn).status).open_txn.begun).bounded) refl)
         | inr l ↦ l
       ]
 
@@ -80,19 +83,25 @@ module _ (v : View) (m : Machine) (legal : IsLegal v.log) (stands : StandsFor v 
     (next_above v m stands, refl),
     record {
       entries = stands.entries ∙ alike v.log (is.Begin ∷ v.log) (counts v) (counts (after_begin v)) v.log (λ n u o by.
-          Both refl refl (λ a. counts_same v n u (is_crossed v.log n) ((after_begin v).doing u) (put_other v.doing new_txn (Some Ready) u (old_op n u o by))));
+          Both refl refl (λ a. counts_same v n u (is_crossed v.log n) ((after_begin v).doing u)
+          (put_other v.doing new_txn (Some Ready) u (old_op n u o by))));
       falling = stands.falling;
       recorded = recorded_push v (after_begin v) is.Begin m.h refl refl stands.recorded;
       each = one_changed m (after_begin v) m.h new_txn blank
           (record {
             begun = (λ e. (open_begun v.log legal).begun, λ at. refl);
-            status = record { open_txn = open_begun v.log legal; does = put_same v.doing new_txn (Some Ready); stays = new_stays };
+            status = record {
+              open_txn = open_begun v.log legal;
+              does = put_same v.doing new_txn (Some Ready);
+              stays = new_stays;
+            };
             saves = subst (HasSaves m.h new_txn (length v.log + 1 + 1) []) (sym (put_same v.saves new_txn [])) tt;
             spans = subst (AreSpans []) (sym (put_same v.spans new_txn [])) (λ s. (λ a. a, λ a. a));
             unentered = tt;
             entered = λ n o by. absurd (old_op n new_txn o (op_before is.Begin v.log new_txn n o (λ q e. cc) by) refl);
           })
-          (λ u apart. txn_kept v (after_begin v) u (passes v (after_begin v) is.Begin u (begin_passes u apart)) m.h m.h (same_entries v.log m.h u) (m.txns u) (stands.each u));
+          (λ u apart. txn_kept v (after_begin v) u (passes v (after_begin v) is.Begin u (begin_passes u apart)) m.h m.h
+          (same_entries v.log m.h u) (m.txns u) (stands.each u));
     },
   )
 
@@ -123,7 +132,8 @@ module _ (v : View) (m : Machine) (t p : ℕ) (o : Op) (legal : IsLegal (is.Op t
     act_agrees : (n u : ℕ) (q : Op) → IsOpBy v.log n u q
         → Agrees v.log (act_record ∷ v.log) (counts v) (counts act_view) n u q
     act_agrees n u q by = Both refl refl (λ a. elim (cases_eq u t) [
-      | inr apart ↦ counts_same v n u (is_crossed v.log n) (act_view.doing u) (put_other v.doing t (Some (Awaits act_number)) u apart)
+      | inr apart ↦ counts_same v n u (is_crossed v.log n) (act_view.doing u)
+          (put_other v.doing t (Some (Awaits act_number)) u apart)
       | inl e ↦
           let was : v.doing u ≡ Some Ready = ap v.doing e ∙ idle in
           let now : act_view.doing u ≡ Some (Awaits act_number) = ap act_view.doing e
@@ -155,9 +165,15 @@ module _ (v : View) (m : Machine) (t p : ℕ) (o : Op) (legal : IsLegal (is.Op t
     acts_so =
         let at = open_as v m t stands idle in
         let x = stands.each t in
-        let new : Txn = record (m.txns t) { status = Waiting act_number o; last = Some (act_number, o); spans = at_key Exclusive (key_of o) ∷ (m.txns t).spans } in
-        let own_spans : HoldsAs v t Open (m.txns t).spans = subst (λ s. HoldsAs v t s (m.txns t).spans) at.is_so x.spans in
-        let own_saves : HasSavesOf v m.h t Open (m.txns t).saves = subst (λ s. HasSavesOf v m.h t s (m.txns t).saves) at.is_so x.saves in
+        let new : Txn = record (m.txns t) {
+          status = Waiting act_number o;
+          last = Some (act_number, o);
+          spans = at_key Exclusive (key_of o) ∷ (m.txns t).spans;
+        } in
+        let own_spans : HoldsAs v t Open (m.txns t).spans =
+        subst (λ s. HoldsAs v t s (m.txns t).spans) at.is_so x.spans in
+        let own_saves : HasSavesOf v m.h t Open (m.txns t).saves =
+        subst (λ s. HasSavesOf v m.h t s (m.txns t).saves) at.is_so x.saves in
         let open_now : IsOpen (act_record ∷ v.log) t = (passes_open at.so.open_txn) in (
           with_txn m t new,
           (
@@ -169,24 +185,34 @@ module _ (v : View) (m : Machine) (t p : ℕ) (o : Op) (legal : IsLegal (is.Op t
           ),
           record {
             entries = stands.entries ∙ alike v.log (act_record ∷ v.log) (counts v) (counts act_view) v.log act_agrees
-                ∙ sym (ap (λ a. filter (counts act_view) (entry_with (act_record ∷ v.log) act_number t o a (hist_in (act_record ∷ v.log) v.log))) act_next);
+                ∙ sym (ap (λ a. filter (counts act_view)
+                (entry_with (act_record ∷ v.log) act_number t o a (hist_in (act_record ∷ v.log) v.log))) act_next);
             falling = stands.falling;
             recorded = recorded_push v act_view act_record m.h refl refl stands.recorded;
             each = one_changed m act_view m.h t new
                 (record {
                   begun = begun_so act_record v.log t (m.txns t).begun (λ e. cc) x.begun;
                   status = (
-                    record { open_txn = open_now; does = put_same v.doing t (Some (Awaits act_number)); stays = at.so.stays },
+                    record {
+                      open_txn = open_now;
+                      does = put_same v.doing t (Some (Awaits act_number));
+                      stays = at.so.stays;
+                    },
                     at_newest (AnOp t o) act_record v.log act_number refl refl,
                     act_next,
                   );
                   saves = own_saves;
-                  spans = subst (AreSpans (at_key Exclusive (key_of o) ∷ (m.txns t).spans)) (sym (put_same v.spans t (at_key Exclusive (key_of o) ∷ v.spans t)))
-                      (λ s. (λ a. elim a [ inl e ↦ inl e | inr b ↦ inr ((own_spans s).0 b) ], λ a. elim a [ inl e ↦ inl e | inr b ↦ inr ((own_spans s).1 b) ]));
+                  spans = subst (AreSpans (at_key Exclusive (key_of o) ∷ (m.txns t).spans))
+                      (sym (put_same v.spans t (at_key Exclusive (key_of o) ∷ v.spans t)))
+                      (λ s. (
+                        λ a. elim a [ inl e ↦ inl e | inr b ↦ inr ((own_spans s).0 b) ],
+                        λ a. elim a [ inl e ↦ inl e | inr b ↦ inr ((own_spans s).1 b) ],
+                      ));
                   unentered = unentered_next m.h (numbers_below v m.h stands.recorded);
                   entered = λ n q by. elim (which act_record v.log n (op_number (act_record ∷ v.log) n t q by)) [
                     | inl e ↦
-                        let q_same : o ≡ q = (op_same t t o q (Some act_record) refl (newest_at (AnOp t q) act_record v.log n e by)).1 in
+                        let q_same : o ≡ q = (op_same t t o q (Some act_record) refl
+                        (newest_at (AnOp t q) act_record v.log n e by)).1 in
                         inr ((λ j. Some (sym e j, q_same j)), tt)
                     | inr was ↦ elim (x.entered n q (had_at (AnOp t q) act_record v.log n was by)) [
                       | inl a ↦ inl a
@@ -194,12 +220,17 @@ module _ (v : View) (m : Machine) (t p : ℕ) (o : Op) (legal : IsLegal (is.Op t
                     ]
                   ];
                 })
-                (λ u apart. txn_kept v act_view u (passes v act_view act_record u (act_passes u apart)) m.h m.h (same_entries v.log m.h u) (m.txns u) (stands.each u));
+                (λ u apart. txn_kept v act_view u (passes v act_view act_record u (act_passes u apart)) m.h m.h
+                (same_entries v.log m.h u) (m.txns u) (stands.each u));
           },
         )
       where
         passes_open : IsOpen v.log t → IsOpen (act_record ∷ v.log) t
-        passes_open h = record { begun = kept_at (λ x. x ≡ Some is.Begin) act_record v.log t (begun_number v.log t h.begun) h.begun; goes_on = h.goes_on }
+        passes_open h = record {
+          begun = kept_at (λ x. x ≡ Some is.Begin) act_record v.log t
+              (begun_number v.log t h.begun) h.begun;
+          goes_on = h.goes_on;
+        }
 
 pub act_is_a_step : ActIsAStep
 act_is_a_step v m t p o legal stands idle is_free = acts_so v m t p o legal stands idle is_free

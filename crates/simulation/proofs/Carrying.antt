@@ -62,14 +62,22 @@ module _ (v w : View) (u : ℕ) (c : Carries v w u) where
     stable = omega (arith, so.stable, c.stable);
     found = λ n o by. omega (arith, so.found n o (c.op_had n o by), c.stable);
   }
-  status_kept Gone so = (quiet false so.0, elim so.1 [ inl e ↦ inl (e.0, c.end e.0 e.1) | inr none ↦ inr (λ at. none (c.begun.1 at)) ])
+  status_kept Gone so = (
+    quiet false so.0,
+    elim so.1 [ inl e ↦ inl (e.0, c.end e.0 e.1) | inr none ↦ inr (λ at. none (c.begun.1 at)) ],
+  )
 
   spans_kept : (s : Status) (xs : List Span) → HoldsAs v u s xs → HoldsAs w u s xs
-  spans_kept Open xs h = subst (λ ys. (s : Span) → (IsAmong s xs → IsAmong s ys) × (IsAmong s ys → IsAmong s xs)) (sym c.spans) h
-  spans_kept (Waiting n o) xs h = subst (λ ys. (s : Span) → (IsAmong s xs → IsAmong s ys) × (IsAmong s ys → IsAmong s xs)) (sym c.spans) h
-  spans_kept (Reading r) xs h = subst (λ ys. (s : Span) → (IsAmong s xs → IsAmong s ys) × (IsAmong s ys → IsAmong s xs)) (sym c.spans) h
-  spans_kept (Rolling p) xs h = subst (λ ys. (s : Span) → (IsAmong s xs → IsAmong s ys) × (IsAmong s ys → IsAmong s xs)) (sym c.spans) h
-  spans_kept Committing xs h = subst (λ ys. (s : Span) → (IsAmong s xs → IsAmong s ys) × (IsAmong s ys → IsAmong s xs)) (sym c.spans) h
+  spans_kept Open xs h = subst (λ ys. (s : Span) → (IsAmong s xs → IsAmong s ys) × (IsAmong s ys → IsAmong s xs))
+      (sym c.spans) h
+  spans_kept (Waiting n o) xs h =
+      subst (λ ys. (s : Span) → (IsAmong s xs → IsAmong s ys) × (IsAmong s ys → IsAmong s xs)) (sym c.spans) h
+  spans_kept (Reading r) xs h =
+      subst (λ ys. (s : Span) → (IsAmong s xs → IsAmong s ys) × (IsAmong s ys → IsAmong s xs)) (sym c.spans) h
+  spans_kept (Rolling p) xs h =
+      subst (λ ys. (s : Span) → (IsAmong s xs → IsAmong s ys) × (IsAmong s ys → IsAmong s xs)) (sym c.spans) h
+  spans_kept Committing xs h =
+      subst (λ ys. (s : Span) → (IsAmong s xs → IsAmong s ys) × (IsAmong s ys → IsAmong s xs)) (sym c.spans) h
   spans_kept Committed xs h = h
   spans_kept Losing xs h = record {
     each = λ s among. let own = h.each s among in (own.0, own.1, c.op_kept own.0 own.1 own.2, own.3);
@@ -81,20 +89,24 @@ module _ (v w : View) (u : ℕ) (c : Carries v w u) where
     each_save : (low high : ℕ) (saves : List (List ℕ)) (ends : List ℕ) → low ≤ high → HasSaves h u low saves ends
         → HasSaves g u high saves ends
     each_save low high [] [] le has = tt
-    each_save low high (kept ∷ saves) (end ∷ ends) le has = (e.remembers kept end has.0, omega (arith, has.1, le), each_save low high saves ends le has.2)
+    each_save low high (kept ∷ saves) (end ∷ ends) le has =
+        (e.remembers kept end has.0, omega (arith, has.1, le), each_save low high saves ends le has.2)
     each_save low high [] (end ∷ ends) le has = absurd has
     each_save low high (kept ∷ saves) [] le has = absurd has
 
     open_saves : (low high : ℕ) (saves : List (List ℕ)) → low ≤ high → HasSaves h u low saves (v.saves u)
         → HasSaves g u high saves (w.saves u)
-    open_saves low high saves le has = subst (HasSaves g u high saves) (sym c.saves) (each_save low high saves (v.saves u) le has)
+    open_saves low high saves le has =
+        subst (HasSaves g u high saves) (sym c.saves) (each_save low high saves (v.saves u) le has)
 
     saves_kept : (s : Status) (saves : List (List ℕ)) → HasSavesOf v h u s saves → HasSavesOf w g u s saves
     saves_kept Open saves has = open_saves (length v.log + 1) (length w.log + 1) saves (omega (arith, c.longer)) has
     saves_kept (Waiting n o) saves has = open_saves n n saves (omega arith) has
-    saves_kept (Reading r) saves has = open_saves (length v.log + 1) (length w.log + 1) saves (omega (arith, c.longer)) has
+    saves_kept (Reading r) saves has =
+        open_saves (length v.log + 1) (length w.log + 1) saves (omega (arith, c.longer)) has
     saves_kept (Rolling None) saves has = tt
-    saves_kept (Rolling (Some p)) saves has = open_saves (length v.log + 1) (length w.log + 1) saves (omega (arith, c.longer)) has
+    saves_kept (Rolling (Some p)) saves has =
+        open_saves (length v.log + 1) (length w.log + 1) saves (omega (arith, c.longer)) has
     saves_kept Committing saves has = tt
     saves_kept Committed saves has = tt
     saves_kept Losing saves has = tt
@@ -121,8 +133,10 @@ pub one_changed : (m : Machine) (w : View) (h : List Entry) (t : ℕ) (x : Txn) 
 one_changed m w h t x here elsewhere u =
     elim (cases_eq u t) [
       | inl e ↦
-          subst (λ (b : Bool). IsTxnOf w h u (if b then x else m.txns u)) (sym (eq-eqb u t e)) (subst (λ (k : ℕ). IsTxnOf w h k x) (sym e) here)
-      | inr apart ↦ subst (λ (b : Bool). IsTxnOf w h u (if b then x else m.txns u)) (sym (ne_eqb u t apart)) (elsewhere u apart)
+          subst (λ (b : Bool). IsTxnOf w h u (if b then x else m.txns u)) (sym (eq-eqb u t e))
+          (subst (λ (k : ℕ). IsTxnOf w h k x) (sym e) here)
+      | inr apart ↦ subst (λ (b : Bool). IsTxnOf w h u (if b then x else m.txns u)) (sym (ne_eqb u t apart))
+          (elsewhere u apart)
     ]
 
 -- a record that isn't its operation leaves it those that it had
@@ -140,7 +154,8 @@ pub begin_kept : (r : Record) (log : List Record) (u : ℕ) → (u ≡ length lo
 begin_kept r log u none = (
   kept_begun r log u,
   λ at. elim (cases_eq u (length log + 1)) [
-    | inl e ↦ absurd (none e (let same : Some r ≡ Some is.Begin = newest_at (λ x. x ≡ Some is.Begin) r log u e at in cc))
+    | inl e ↦ absurd (none e
+        (let same : Some r ≡ Some is.Begin = newest_at (λ x. x ≡ Some is.Begin) r log u e at in cc))
     | inr e ↦ older_at (λ x. x ≡ Some is.Begin) r log u e at
   ],
 )
@@ -173,16 +188,20 @@ passes v w r u p = record {
   saves = p.saves;
   spans = p.spans;
   longer = subst (λ l. length v.log ≤ length l) (sym p.log) (omega arith);
-  goes_on = λ h. subst (λ l. IsOpen l u) (sym p.log) (record { begun = kept_begun r v.log u h.begun; goes_on = p.no_end ∙ h.goes_on });
-  op_kept = λ n o by. subst (λ l. IsOpBy l n u o) (sym p.log) (kept_at (AnOp u o) r v.log n (op_number v.log n u o by) by);
+  goes_on = λ h. subst (λ l. IsOpen l u) (sym p.log)
+      (record { begun = kept_begun r v.log u h.begun; goes_on = p.no_end ∙ h.goes_on });
+  op_kept = λ n o by. subst (λ l. IsOpBy l n u o) (sym p.log)
+      (kept_at (AnOp u o) r v.log n (op_number v.log n u o by) by);
   op_had = λ n o by. op_before r v.log u n o p.no_op (subst (λ l. IsOpBy l n u o) p.log by);
   waits = λ n o by d none. subst (λ l. answer_of l n ≡ None) (sym p.log) (p.waits n o by d none);
   commit = λ n at. kept n (is.Commit u) at;
   stable = omega (arith, p.stable);
   unstable = λ n at lt. omega (arith, p.stable, lt);
   end = λ n at. kept n (is.End u) at;
-  begun = subst (λ l. (record_at v.log u ≡ Some is.Begin) ↔ (record_at l u ≡ Some is.Begin)) (sym p.log) (begin_kept r v.log u p.no_begin);
+  begun = subst (λ l. (record_at v.log u ≡ Some is.Begin) ↔ (record_at l u ≡ Some is.Begin)) (sym p.log)
+      (begin_kept r v.log u p.no_begin);
 }
   where
     kept : (n : ℕ) (q : Record) → record_at v.log n ≡ Some q → record_at w.log n ≡ Some q
-    kept n q at = subst (λ l. record_at l n ≡ Some q) (sym p.log) (kept_at (λ x. x ≡ Some q) r v.log n (within (λ x. x ≡ Some q) (λ e. cc) v.log n at) at)
+    kept n q at = subst (λ l. record_at l n ≡ Some q) (sym p.log)
+        (kept_at (λ x. x ≡ Some q) r v.log n (within (λ x. x ≡ Some q) (λ e. cc) v.log n at) at)

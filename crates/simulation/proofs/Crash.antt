@@ -54,7 +54,8 @@ crossed_out false c a e = ap (λ (x : Bool). not x && a) e
 
 unentered_opened : (older : List Record) (h : List Entry) (t : ℕ) (s : Status) → HasStatusOf (opened older) t s
     → IsUnentered h s
-unentered_opened older h t (Waiting n o) so = let none : ◌≡◌ {A = Option Doing} None (Some (Awaits n)) = so.0.does in absurd (cc)
+unentered_opened older h t (Waiting n o) so = let none : ◌≡◌ {A = Option Doing} None (Some (Awaits n)) = so.0.does in
+    absurd (cc)
 unentered_opened older h t _ so = tt
 
 module _ (v : View) (m : Machine) (newer older : List Record) (legal : IsLegal (newer ++ older))
@@ -70,7 +71,8 @@ module _ (v : View) (m : Machine) (newer older : List Record) (legal : IsLegal (
     survives : (t : ℕ) → Survival v m newer older t (m.txns t).status
     survives t =
         let x = stands.each t in
-        survival v m newer older t legal within stands.recorded x.begun (m.txns t).status refl x.status x.spans x.entered
+        survival v m newer older t legal within stands.recorded x.begun (m.txns t).status refl x.status x.spans
+        x.entered
 
     -- an operation that is left counts after the crash as it did before, if its transaction stands
     agrees : (n t : ℕ) (o : Op) → IsOpBy older n t o
@@ -85,12 +87,18 @@ module _ (v : View) (m : Machine) (newer older : List Record) (legal : IsLegal (
               (λ j. not (kept.0 j) && (not (same.crossed j) && (not (kept.1 j) && not (is_to_undo (kept.2 j) n))))
               ∙ sym (ap (λ (l : Bool). not (is_crossed older n) && (not l && true)) shut))
           | inr goes_on ↦
-              let open_txn : IsOpen older t = record { begun = begun older t n (legal_end newer older legal) (op_step t o (record_at older n) by); goes_on = goes_on } in
+              let open_txn : IsOpen older t =
+              record {
+                begun = begun older t n (legal_end newer older legal) (op_step t o (record_at older n) by);
+                goes_on = goes_on;
+              } in
               Neither
               (λ a. elim ((survives t).left open_txn) [
                 | inl f ↦ ap (λ (b : Bool). not b && counts was (as_entry whole n t o a)) f
-                | inr (inl l) ↦ loses_out (survives t).fell (is_crossed whole n) (v.loses t) (not (is_to_undo (v.doing t) n)) l
-                | inr (inr c) ↦ crossed_out (survives t).fell (is_crossed whole n) (not (v.loses t) && not (is_to_undo (v.doing t) n)) (c n o (longer by))
+                | inr (inl l) ↦ loses_out (survives t).fell (is_crossed whole n) (v.loses t)
+                    (not (is_to_undo (v.doing t) n)) l
+                | inr (inr c) ↦ crossed_out (survives t).fell (is_crossed whole n)
+                    (not (v.loses t) && not (is_to_undo (v.doing t) n)) (c n o (longer by))
               ])
               (λ a. crossed_out (is_crossed older n) (is_left_open older t) true (left_open older t open_txn))
         ]
@@ -101,8 +109,10 @@ module _ (v : View) (m : Machine) (newer older : List Record) (legal : IsLegal (
     entries_left : standing (map (fallen (λ t. (survives t).fell)) m.h) ≡ filter (counts (opened older)) (hist older)
     entries_left =
         uncross_fallen (λ t. (survives t).fell) m.h
-        ∙ ap (filter (λ e. not (survives e.txn).fell)) (stands.entries ∙ drop_newer whole (counts was) v.stable newer older within
-        (subst (AllByRecursion (λ e. e.number ≤ v.stable)) stands.entries (all_filtered (λ e. e.number ≤ v.stable) (λ e. not e.crossed) m.h (stable_all m.h stands.recorded))))
+        ∙ ap (filter (λ e. not (survives e.txn).fell))
+        (stands.entries ∙ drop_newer whole (counts was) v.stable newer older within
+        (subst (AllByRecursion (λ e. e.number ≤ v.stable)) stands.entries
+        (all_filtered (λ e. e.number ≤ v.stable) (λ e. not e.crossed) m.h (stable_all m.h stands.recorded))))
         ∙ filter_twice (λ e. not (survives e.txn).fell) (counts was) (hist_in whole older)
         ∙ alike whole older (λ e. not (survives e.txn).fell && counts was e) (counts (opened older)) older agrees
       where
@@ -113,7 +123,8 @@ module _ (v : View) (m : Machine) (newer older : List Record) (legal : IsLegal (
     txn_left : (t : ℕ) → IsTxnOf (opened older) (map (fallen (λ u. (survives u).fell)) m.h) t (survives t).new
     txn_left t =
         let s = survives t in
-        let status : HasStatusOf (opened older) t s.new.status = subst (HasStatusOf (opened older) t) (sym s.is_after) s.status in
+        let status : HasStatusOf (opened older) t s.new.status =
+        subst (HasStatusOf (opened older) t) (sym s.is_after) s.status in
         record {
           begun = s.begun;
           status = status;
@@ -144,4 +155,5 @@ module _ (v : View) (m : Machine) (newer older : List Record) (legal : IsLegal (
 -- the law
 pub crash_is_a_step : CrashIsAStep
 crash_is_a_step v m newer older legal stands split within =
-    crashes v m newer older (subst IsLegal split legal) within (subst (λ log. StandsFor (with_log v log) m) split stands)
+    crashes v m newer older (subst IsLegal split legal) within
+    (subst (λ log. StandsFor (with_log v log) m) split stands)

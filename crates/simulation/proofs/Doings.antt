@@ -37,7 +37,8 @@ by_doing v t Gone so = subst (λ d. IsStatusFor d Gone) (sym so.0.does_none) tt
 
 pub status_for : (v : View) (m : Machine) (t : ℕ) (d : Doing) → StandsFor v m → v.doing t ≡ Some d
     → IsStatusFor (Some d) (m.txns t).status
-status_for v m t d stands at = subst (λ x. IsStatusFor x (m.txns t).status) at (by_doing v t (m.txns t).status (stands.each t).status)
+status_for v m t d stands at =
+    subst (λ x. IsStatusFor x (m.txns t).status) at (by_doing v t (m.txns t).status (stands.each t).status)
 
 -- the transaction as one of its status
 pub record IsAs (v : View) (m : Machine) (t : ℕ) (s : Status) : Type 0 where
@@ -63,7 +64,8 @@ not_active v t d none some = let both : None ≡ Some d = sym none ∙ some in c
 pub numbers_below : (v : View) (h : List Entry) → AllByRecursion (IsRecorded v) h
     → AllByRecursion (λ e. e.number < length v.log + 1) h
 numbers_below v [] all = tt
-numbers_below v (e ∷ h) all = (omega (arith, (op_number v.log e.number e.txn e.op all.0.is).bounded), numbers_below v h all.1)
+numbers_below v (e ∷ h) all =
+    (omega (arith, (op_number v.log e.number e.txn e.op all.0.is).bounded), numbers_below v h all.1)
 
 -- a change that leaves the log leaves a transaction of which it leaves what the component has
 pub carries_view : (v : View) (d : ℕ → Option Doing) (saves : ℕ → List ℕ) (spans : ℕ → List Span) (u : ℕ)

@@ -31,7 +31,8 @@ module _ (v : View) (m : Machine) (t : ℕ) (legal : IsLegal (is.Commit t ∷ v.
   commit_agrees n u q by = Both refl refl (λ a. elim (cases_eq u t) [
     | inr apart ↦ counts_same v n u (is_crossed v.log n) (commit_view.doing u) (put_other v.doing t None u apart)
     | inl e ↦
-        both_below v n u (is_crossed v.log n) (v.doing u) (commit_view.doing u) (ap (λ d. is_to_undo d n) (ap v.doing e ∙ idle))
+        both_below v n u (is_crossed v.log n) (v.doing u) (commit_view.doing u)
+        (ap (λ d. is_to_undo d n) (ap v.doing e ∙ idle))
         (ap (λ d. is_to_undo d n) (ap commit_view.doing e ∙ put_same v.doing t None))
   ])
 
@@ -73,9 +74,11 @@ module _ (v : View) (m : Machine) (t : ℕ) (legal : IsLegal (is.Commit t ∷ v.
                 saves = tt;
                 spans = subst (λ s. HoldsAs v t s (m.txns t).spans) at.is_so x.spans;
                 unentered = tt;
-                entered = λ n q by. elim (x.entered n q (op_before (is.Commit t) v.log t n q (λ z e. cc) by)) [ inl a ↦ inl a | inr a ↦ absurd (subst IsUntold at.is_so a.1) ];
+                entered = λ n q by. elim (x.entered n q (op_before (is.Commit t) v.log t n q (λ z e. cc) by))
+                    [ inl a ↦ inl a | inr a ↦ absurd (subst IsUntold at.is_so a.1) ];
               })
-              (λ u apart. txn_kept v commit_view u (passes v commit_view (is.Commit t) u (commit_passes u apart)) m.h m.h (same_entries v.log m.h u) (m.txns u) (stands.each u));
+              (λ u apart. txn_kept v commit_view u (passes v commit_view (is.Commit t) u (commit_passes u apart)) m.h
+              m.h (same_entries v.log m.h u) (m.txns u) (stands.each u));
         },
       )
 
@@ -91,11 +94,13 @@ module _ (v : View) (m : Machine) (t b : ℕ) (legal : IsLegal (is.End t ∷ v.l
   end_agrees : (n u : ℕ) (q : Op) → IsOpBy v.log n u q
       → Agrees v.log (is.End t ∷ v.log) (counts v) (counts end_view) n u q
   end_agrees n u q by = elim (cases_eq u t) [
-    | inr apart ↦ Both refl refl (λ a. counts_same v n u (is_crossed v.log n) (end_view.doing u) (put_other v.doing t None u apart))
+    | inr apart ↦ Both refl refl
+        (λ a. counts_same v n u (is_crossed v.log n) (end_view.doing u) (put_other v.doing t None u apart))
     | inl e ↦
         let c : is_crossed v.log n ≡ true = elim (cases_Bool (is_crossed v.log n)) [
           | inl c ↦ c
-          | inr c ↦ absurd (legal.0.undone n (record { op = q; is = subst (λ (k : ℕ). IsOpBy v.log n k q) e by; uncrossed = c }))
+          | inr c ↦ absurd (legal.0.undone n
+              (record { op = q; is = subst (λ (k : ℕ). IsOpBy v.log n k q) e by; uncrossed = c }))
         ] in
         Neither (λ a. crossed_out false (is_crossed v.log n) (not (v.loses u) && not (is_to_undo (v.doing u) n)) c)
         (λ a. crossed_out false (is_crossed v.log n) (not (v.loses u) && not (is_to_undo (end_view.doing u) n)) c)
@@ -129,13 +134,18 @@ module _ (v : View) (m : Machine) (t b : ℕ) (legal : IsLegal (is.End t ∷ v.l
           each = one_changed m end_view m.h t new
               (record {
                 begun = begun_so (is.End t) v.log t (m.txns t).begun (λ e. cc) x.begun;
-                status = (record { does_none = put_same v.doing t None; loses_so = at.so.1.stays }, inl (length v.log + 1, record_new (is.End t) v.log));
+                status = (
+                  record { does_none = put_same v.doing t None; loses_so = at.so.1.stays },
+                  inl (length v.log + 1, record_new (is.End t) v.log),
+                );
                 saves = tt;
                 spans = refl;
                 unentered = tt;
-                entered = λ n q by. elim (x.entered n q (op_before (is.End t) v.log t n q (λ z e. cc) by)) [ inl a ↦ inl a | inr a ↦ inr (a.0, tt) ];
+                entered = λ n q by. elim (x.entered n q (op_before (is.End t) v.log t n q (λ z e. cc) by))
+                    [ inl a ↦ inl a | inr a ↦ inr (a.0, tt) ];
               })
-              (λ u apart. txn_kept v end_view u (passes v end_view (is.End t) u (end_passes u apart)) m.h m.h (same_entries v.log m.h u) (m.txns u) (stands.each u));
+              (λ u apart. txn_kept v end_view u (passes v end_view (is.End t) u (end_passes u apart)) m.h m.h
+              (same_entries v.log m.h u) (m.txns u) (stands.each u));
         },
       )
 
@@ -150,14 +160,21 @@ module _ (v : View) (m : Machine) (t s b : ℕ) (stands : StandsFor v m) (rolls 
 
   back_agrees : (n u : ℕ) (q : Op) → IsOpBy v.log n u q → Agrees v.log v.log (counts v) (counts back_view) n u q
   back_agrees n u q by = elim (cases_eq u t) [
-    | inr apart ↦ Both refl refl (λ a. counts_same v n u (is_crossed v.log n) (back_view.doing u) (put_other v.doing t (Some Ready) u apart))
+    | inr apart ↦ Both refl refl
+        (λ a. counts_same v n u (is_crossed v.log n) (back_view.doing u) (put_other v.doing t (Some Ready) u apart))
     | inl e ↦
         elim (cases_Bool (is_crossed v.log n)) [
           | inl c ↦
-              Neither (λ a. crossed_out false (is_crossed v.log n) (not (v.loses u) && not (is_to_undo (v.doing u) n)) c)
-              (λ a. crossed_out false (is_crossed v.log n) (not (v.loses u) && not (is_to_undo (back_view.doing u) n)) c)
+              Neither (λ a. crossed_out false (is_crossed v.log n) (not (v.loses u) && not (is_to_undo (v.doing u) n))
+              c)
+              (λ a. crossed_out false (is_crossed v.log n) (not (v.loses u) && not (is_to_undo (back_view.doing u) n))
+              c)
           | inr c ↦
-              let le : n ≤ b = done n (record { op = q; is = subst (λ (k : ℕ). IsOpBy v.log n k q) e by; uncrossed = c }) in
+              let le : n ≤ b = done n (record {
+                op = q;
+                is = subst (λ (k : ℕ). IsOpBy v.log n k q) e by;
+                uncrossed = c;
+              }) in
               Both refl refl (λ a. both_below v n u (is_crossed v.log n) (v.doing u) (back_view.doing u)
               (ap (λ d. is_to_undo d n) (ap v.doing e ∙ rolls) ∙ le-ltb b n le)
               (ap (λ d. is_to_undo d n) (ap back_view.doing e ∙ put_same v.doing t (Some Ready))))
@@ -178,13 +195,20 @@ module _ (v : View) (m : Machine) (t s b : ℕ) (stands : StandsFor v m) (rolls 
           each = one_changed m back_view m.h t new
               (record {
                 begun = x.begun;
-                status = record { open_txn = at.so.1.open_txn; does = put_same v.doing t (Some Ready); stays = at.so.1.stays };
+                status = record {
+                  open_txn = at.so.1.open_txn;
+                  does = put_same v.doing t (Some Ready);
+                  stays = at.so.1.stays;
+                };
                 saves = subst (λ z. HasSavesOf v m.h t z (m.txns t).saves) at.is_so x.saves;
                 spans = subst (λ z. HoldsAs v t z (m.txns t).spans) at.is_so x.spans;
                 unentered = tt;
-                entered = λ n q by. elim (x.entered n q by) [ inl a ↦ inl a | inr a ↦ absurd (subst IsUntold at.is_so a.1) ];
+                entered = λ n q by. elim (x.entered n q by)
+                    [ inl a ↦ inl a | inr a ↦ absurd (subst IsUntold at.is_so a.1) ];
               })
-              (λ u apart. txn_kept v back_view u (carries_view v back_view.doing v.saves v.spans u (put_other v.doing t (Some Ready) u apart) refl refl)
+              (λ u apart. txn_kept v back_view u
+              (carries_view v back_view.doing v.saves v.spans u (put_other v.doing t (Some Ready) u apart) refl
+              refl)
               m.h m.h (same_entries v.log m.h u) (m.txns u) (stands.each u));
         },
       )

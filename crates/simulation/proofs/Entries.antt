@@ -77,7 +77,8 @@ both_answered x y p q n t o (Some a) None g h e c same below = absurd (cc)
 alike_answered : (x y : List Record) (p q : Entry → Bool) (n t : ℕ) (o : Op) (g h : List Entry) → Agrees x y p q n t o
     → filter p g ≡ filter q h
     → filter p (entry_with x n t o (answer_of x n) g) ≡ filter q (entry_with y n t o (answer_of y n) h)
-alike_answered x y p q n t o g h (Both e c same) below = both_answered x y p q n t o (answer_of x n) (answer_of y n) g h e c same below
+alike_answered x y p q n t o g h (Both e c same) below =
+    both_answered x y p q n t o (answer_of x n) (answer_of y n) g h e c same below
 alike_answered x y p q n t o g h (Neither first second) below =
     pass_answered x p n t o (answer_of x n) g first ∙ below ∙ sym (pass_answered y q n t o (answer_of y n) h second)
 
@@ -94,7 +95,8 @@ pub alike : (x y : List Record) (p q : Entry → Bool) (rest : List Record)
 alike x y p q [] same = refl
 alike x y p q (r ∷ rest) same =
     ap (filter p) (hist_step x r rest)
-    ∙ alike_step x y p q (length rest + 1) (op_of r) (hist_in x rest) (hist_in y rest) (newest_op (Agrees x y p q) r rest same)
+    ∙ alike_step x y p q (length rest + 1) (op_of r) (hist_in x rest) (hist_in y rest)
+    (newest_op (Agrees x y p q) r rest same)
     (alike x y p q rest (older_ops (Agrees x y p q) r rest same))
     ∙ ap (filter q) (sym (hist_step y r rest))
 
@@ -126,7 +128,8 @@ pub drop_newer : (x : List Record) (p : Entry → Bool) (k : ℕ) (newer older :
 drop_newer x p k [] older within all = refl
 drop_newer x p k (r ∷ newer) older within all =
     let step = hist_step x r (newer ++ older) in
-    let now = drop_step x p k (length (newer ++ older) + 1) (op_of r) (hist_in x (newer ++ older)) (omega (arith, within, longer_length newer older))
+    let now = drop_step x p k (length (newer ++ older) + 1) (op_of r) (hist_in x (newer ++ older))
+    (omega (arith, within, longer_length newer older))
     (subst (λ h. AreWithin k (filter p h)) step all) in
     ap (filter p) step ∙ now.0 ∙ drop_newer x p k newer older within now.1
 
@@ -156,14 +159,17 @@ uncross_one : (n t : ℕ) (o : Op) (a : Answer) (b : Bool) (x y : List Entry) �
     → cond (not b) (record { number = n; txn = t; op = o; answer = a; crossed = b } ∷ x) x
     ≡ cond (not b) (record { number = n; txn = t; op = o; answer = a; crossed = false } ∷ y) y
 uncross_one n t o a true x y rest = rest
-uncross_one n t o a false x y rest = ap (λ z. record { number = n; txn = t; op = o; answer = a; crossed = false } ∷ z) rest
+uncross_one n t o a false x y rest =
+    ap (λ z. record { number = n; txn = t; op = o; answer = a; crossed = false } ∷ z) rest
 
 uncross_step : (f : ℕ → ℕ → Bool) (n t : ℕ) (o : Op) (a : Answer) (c : Bool) (h : List Entry)
     → standing (map (marked f) h) ≡ filter (λ e. not (f e.txn e.number)) (standing h)
     → standing (map (marked f) (record { number = n; txn = t; op = o; answer = a; crossed = c } ∷ h))
-    ≡ filter (λ e. not (f e.txn e.number)) (standing (record { number = n; txn = t; op = o; answer = a; crossed = c } ∷ h))
+    ≡ filter (λ e. not (f e.txn e.number))
+    (standing (record { number = n; txn = t; op = o; answer = a; crossed = c } ∷ h))
 uncross_step f n t o a true h rest = rest
-uncross_step f n t o a false h rest = uncross_one n t o a (f t n) (standing (map (marked f) h)) (filter (λ e. not (f e.txn e.number)) (standing h)) rest
+uncross_step f n t o a false h rest =
+    uncross_one n t o a (f t n) (standing (map (marked f) h)) (filter (λ e. not (f e.txn e.number)) (standing h)) rest
 
 pub uncross_marked : (f : ℕ → ℕ → Bool) (h : List Entry)
     → standing (map (marked f) h) ≡ filter (λ e. not (f e.txn e.number)) (standing h)
@@ -193,7 +199,10 @@ marked_all P Q f (e ∷ h) each all = (each e all.0, marked_all P Q f h each all
 
 pub marked_falling : (f : ℕ → ℕ → Bool) (h : List Entry) → IsFalling h → IsFalling (map (marked f) h)
 marked_falling f [] falls = tt
-marked_falling f (e ∷ h) falls = (marked_all (λ x. x.number < e.number) (λ x. x.number < e.number) f h (λ x lt. lt) falls.0, marked_falling f h falls.1)
+marked_falling f (e ∷ h) falls = (
+  marked_all (λ x. x.number < e.number) (λ x. x.number < e.number) f h (λ x lt. lt) falls.0,
+  marked_falling f h falls.1,
+)
 
 pub marked_entry : (f : ℕ → ℕ → Bool) (h : List Entry) (n t : ℕ) (o : Op) → HasEntry h n t o
     → HasEntry (map (marked f) h) n t o

@@ -11,7 +11,8 @@ use Rattle.simulation.specs.Examples.{answered_once, UncommittedIsLost, Committe
 use Rattle.simulation.proofs.Told.{losing_is}
 
 pub uncommitted_is_lost : UncommittedIsLost
-uncommitted_is_lost o a m stands = (stands.entries, losing_is (opened (answered_once o a)) 1 (m.txns 1).status (stands.each 1).status refl)
+uncommitted_is_lost o a m stands =
+    (stands.entries, losing_is (opened (answered_once o a)) 1 (m.txns 1).status (stands.each 1).status refl)
 
 -- no End stands there
 no_end : (o : Op) (a : Answer) (n : ℕ) → record_at (is.Commit 1 ∷ answered_once o a) n ≡ Some (is.End 1) → ⊥

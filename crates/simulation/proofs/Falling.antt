@@ -111,9 +111,6 @@ not_fallen : (n : Machine) (t : ℕ) → HasStatus n t Committed → HasFallen n
 not_fallen n t is (inl l) = let e : Losing ≡ Committed = sym l ∙ is in cc
 not_fallen n t is (inr g) = let e : Gone ≡ Committed = sym g ∙ is in cc
 
-not_going_on : (n : Machine) (t : ℕ) → HasStatus n t Committed → HasStatus n t Committing → ⊥
-not_going_on n t is at = let e : Committing ≡ Committed = sym at ∙ is in cc
-
 pub asked_is_committed : AskedIsCommitted
 asked_is_committed m mid n lines t h steps anew is =
     by (since_steps mid n lines t (entries_of t m.h) steps anew begins)

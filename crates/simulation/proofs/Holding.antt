@@ -40,12 +40,16 @@ pub entry_holds : (h : List Entry) (n t : ℕ) (o : Op) → HasEntry h n t o
     → IsAmong (at_key Exclusive (key_of o)) (entry_spans t h)
 entry_holds [] n t o has = absurd has
 entry_holds (e ∷ h) n t o (inl is) =
-    subst (λ (b : Bool). IsAmong (at_key Exclusive (key_of o)) (map (λ (x : Entry). at_key Exclusive (key_of x.op)) (cond b (e ∷ filter (λ x. x.txn == t) h) (filter (λ x. x.txn == t) h))))
+    subst (λ (b : Bool). IsAmong (at_key Exclusive (key_of o))
+    (map (λ (x : Entry). at_key Exclusive (key_of x.op))
+    (cond b (e ∷ filter (λ x. x.txn == t) h) (filter (λ x. x.txn == t) h))))
     (sym (eq-eqb e.txn t is.1)) (inl (ap (λ p. at_key Exclusive (key_of p)) (sym is.2)))
 entry_holds (e ∷ h) n t o (inr has) = by (e.txn == t) (entry_holds h n t o has)
   where
     by : (b : Bool) → IsAmong (at_key Exclusive (key_of o)) (entry_spans t h)
-        → IsAmong (at_key Exclusive (key_of o)) (map (λ (x : Entry). at_key Exclusive (key_of x.op)) (cond b (e ∷ filter (λ x. x.txn == t) h) (filter (λ x. x.txn == t) h)))
+        → IsAmong (at_key Exclusive (key_of o))
+        (map (λ (x : Entry). at_key Exclusive (key_of x.op))
+        (cond b (e ∷ filter (λ x. x.txn == t) h) (filter (λ x. x.txn == t) h)))
     by true rest = inr rest
     by false rest = rest
 
@@ -56,12 +60,18 @@ pub held_by_entry : (log : List Record) (t : ℕ) (s : Span) (h : List Entry)
 held_by_entry log t s [] all among = absurd among
 held_by_entry log t s (e ∷ h) all among =
     elim (split (e.txn == t) refl among) [
-      | inl here ↦ (e.number, e.op, subst (λ (u : ℕ). IsOpBy log e.number u e.op) (eqb-true e.txn t here.0) all.0, here.1)
+      | inl here ↦ (
+        e.number,
+        e.op,
+        subst (λ (u : ℕ). IsOpBy log e.number u e.op) (eqb-true e.txn t here.0) all.0,
+        here.1,
+      )
       | inr rest ↦ held_by_entry log t s h all.1 rest
     ]
   where
     split : (b : Bool) → (e.txn == t) ≡ b
-        → IsAmong s (map (λ (x : Entry). at_key Exclusive (key_of x.op)) (cond b (e ∷ filter (λ x. x.txn == t) h) (filter (λ x. x.txn == t) h)))
+        → IsAmong s (map (λ (x : Entry). at_key Exclusive (key_of x.op))
+        (cond b (e ∷ filter (λ x. x.txn == t) h) (filter (λ x. x.txn == t) h)))
         → (((e.txn == t) ≡ true) × (s ≡ at_key Exclusive (key_of e.op))) ⊎ IsAmong s (entry_spans t h)
     split true is (inl same) = inl (is, same)
     split true is (inr rest) = inr rest
@@ -73,7 +83,8 @@ pub no_entry : (log : List Record) (t : ℕ) (h : List Entry) → IsLegal log �
     → AllByRecursion (λ e. e.txn ≡ t → ⊥) h
 no_entry log t [] legal none all = tt
 no_entry log t (e ∷ h) legal none all = (
-  λ same. none (subst (λ (u : ℕ). record_at log u ≡ Some is.Begin) same (begun log e.txn e.number legal (op_step e.txn e.op (record_at log e.number) all.0))),
+  λ same. none (subst (λ (u : ℕ). record_at log u ≡ Some is.Begin) same
+      (begun log e.txn e.number legal (op_step e.txn e.op (record_at log e.number) all.0))),
   no_entry log t h legal none all.1,
 )
 
@@ -81,9 +92,12 @@ no_entry log t (e ∷ h) legal none all = (
 pub no_numbers : (t : ℕ) (h : List Entry) → AllByRecursion (λ e. e.txn ≡ t → ⊥) h → numbers_of t h ≡ []
 no_numbers t [] none = refl
 no_numbers t (e ∷ h) none =
-    ap (λ (b : Bool). map (λ (x : Entry). x.number) (cond b (e ∷ filter (λ x. x.txn == t) h) (filter (λ x. x.txn == t) h))) (ne_eqb e.txn t none.0) ∙ no_numbers t h none.1
+    ap (λ (b : Bool). map (λ (x : Entry). x.number)
+    (cond b (e ∷ filter (λ x. x.txn == t) h) (filter (λ x. x.txn == t) h))) (ne_eqb e.txn t none.0)
+    ∙ no_numbers t h none.1
 
--- whether the last operation's span is kept, so that with the entries' spans just the keys of the log's operations are held
+-- whether the last operation's span is kept, so that with the entries' spans just the keys of the log's operations are
+-- held
 pub record Choice (log : List Record) (h : List Entry) (t : ℕ) (last : Option (ℕ × Op)) : Type 0 where
   pub kept : Bool
   pub each : (s : Span) → IsAmong s (if kept then last_spans last else []) → IsItsKey log t s
@@ -118,7 +132,8 @@ choose log h t (Some last) entered = at (op_in (record_at log last.0)) refl
         | inl e ↦ inl e
         | inr e ↦
             let n_same : last.0 ≡ n = (same_pair last.0 n last.1 o e).0 in
-            inl (subst (λ (k : ℕ). HasEntry h k t o) n_same (each o (subst (λ (k : ℕ). IsOpBy log k t o) (sym n_same) by)))
+            inl (subst (λ (k : ℕ). HasEntry h k t o) n_same
+            (each o (subst (λ (k : ℕ). IsOpBy log k t o) (sym n_same) by)))
       ];
     }
 
@@ -137,10 +152,12 @@ choose log h t (Some last) entered = at (op_in (record_at log last.0)) refl
     by_txn by is (inl own) =
         let here : IsOpBy log last.0 t by.1 = is ∙ ap (λ (u : ℕ). Some (u, by.1)) own in
         elim (entered last.0 by.1 here) [
-          | inl entry ↦ unkept (λ o is_op. subst (HasEntry h last.0 t) (op_same t t by.1 o (record_at log last.0) here is_op).1 entry)
+          | inl entry ↦ unkept (λ o is_op. subst (HasEntry h last.0 t)
+              (op_same t t by.1 o (record_at log last.0) here is_op).1 entry)
           | inr e ↦ kept_as (subst (IsOpBy log last.0 t) (sym (same_pair last.0 last.0 last.1 by.1 e).1) here)
         ]
-    by_txn by is (inr apart) = unkept (λ o is_op. absurd (apart (op_same by.0 t by.1 o (record_at log last.0) is is_op).0))
+    by_txn by is (inr apart) =
+        unkept (λ o is_op. absurd (apart (op_same by.0 t by.1 o (record_at log last.0) is is_op).0))
 
     at : (r : Option (ℕ × Op)) → op_in (record_at log last.0) ≡ r → Choice log h t (Some last)
     at None is = unkept (λ o is_op. absurd (none o (sym is ∙ is_op)))
@@ -159,7 +176,8 @@ chosen log h t last recorded c = record {
     | inr e ↦ c.each s e
   ];
   all = λ n o by. elim (c.all n o by) [
-    | inl e ↦ among_first (at_key Exclusive (key_of o)) (entry_spans t h) (if c.kept then last_spans last else []) (entry_holds h n t o e)
+    | inl e ↦ among_first (at_key Exclusive (key_of o)) (entry_spans t h) (if c.kept then last_spans last else [])
+        (entry_holds h n t o e)
     | inr e ↦ among_second (at_key Exclusive (key_of o)) (entry_spans t h) (if c.kept then last_spans last else []) e
   ];
 }

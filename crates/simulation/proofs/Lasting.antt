@@ -1,7 +1,7 @@
 -- What lasts over lines, one at a time and then all of a run.
 use Rattle.std.proofs.Common.{◌≡◌, ◌≢◌, ℕ, Bool, true, false, List, [], ◌∷◌, sym, ap, ◌∙◌, subst, arith, inl, inr, ◌⊎◌}
 use Rattle.history.specs.History.{Entry, entries_of}
-use Rattle.history.specs.ListMachine.{Machine, Txn, Status, Open, Waiting, Reading, Rolling, Committing, Committed, Losing, Gone, Line, Begins, TellsCommitted, Crashes, TellsLost, HasStatus, Falls, Survives, Step}
+use Rattle.history.specs.ListMachine.{Machine, Status, Open, Waiting, Reading, Rolling, Committing, Committed, Losing, Gone, Line, Begins, TellsCommitted, Crashes, TellsLost, HasStatus, Falls, Survives, Step}
 use Rattle.simulation.specs.Lasting.{HasCommitted, HasFallen, CommitsLast}
 use Rattle.simulation.proofs.Owning.{IsClosed, IsUntouched, untouched, own_marked}
 
@@ -12,9 +12,6 @@ survives_as m n t s h is = subst (λ x. Survives m t x (n.txns t) (h.0 t)) is (h
 
 pub own_stays : (m n : Machine) (t : ℕ) (h : Step m Crashes n) → h.0 t ≡ false → entries_of t n.h ≡ entries_of t m.h
 own_stays m n t h stays = ap (entries_of t) h.2 ∙ own_marked (λ u k. h.0 u) t m.h (λ k. stays)
-
-has_status : (x : Txn) (s : Status) (y : Txn) → x ≡ y → y.status ≡ s → x.status ≡ s
-has_status x s y same is = ap (λ z. z.status) same ∙ is
 
 pub falls_so : (m n : Machine) (t : ℕ) → Falls m t (n.txns t) → HasFallen n t
 falls_so m n t (inl k) = inl (ap (λ x. x.status) k.1)

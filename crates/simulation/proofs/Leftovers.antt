@@ -59,7 +59,12 @@ module _ (v : View) (m : Machine) (saves : ℕ → List ℕ) (spans : ℕ → Li
       status_left (Rolling p) so = (so.0, active _ so.1)
       status_left Committing so = (quiet false so.0, so.1, so.2, so.3)
       status_left Committed so = (quiet false so.0, so.1, so.2, so.3)
-      status_left Losing so = record { quiet = quiet true so.quiet; open_txn = so.open_txn; stable = so.stable; found = so.found }
+      status_left Losing so = record {
+        quiet = quiet true so.quiet;
+        open_txn = so.open_txn;
+        stable = so.stable;
+        found = so.found;
+      }
       status_left Gone so = (quiet false so.0, so.1)
 
       -- an open one has the same, and a committing one the same spans
@@ -121,7 +126,8 @@ module _ (v : View) (m : Machine) (saves : ℕ → List ℕ) (spans : ℕ → Li
   }
 
 pub leftovers_are_no_step : LeftoversAreNoStep
-leftovers_are_no_step v m saves spans stands same_saves same_spans = left_over v m saves spans stands same_saves same_spans
+leftovers_are_no_step v m saves spans stands same_saves same_spans =
+    left_over v m saves spans stands same_saves same_spans
 
 pub let_go_is_no_step : LetGoIsNoStep
 let_go_is_no_step v m t stands none told =
@@ -132,4 +138,5 @@ let_go_is_no_step v m t stands none told =
 
 pub rebuilt_spans_are_no_step : RebuiltSpansAreNoStep
 rebuilt_spans_are_no_step log m spans stands =
-    left_over (opened log) m (opened log).saves spans stands (λ t. inl refl) (λ t. inr (refl, λ n at. (end_number log t n (inl at)).bounded))
+    left_over (opened log) m (opened log).saves spans stands (λ t. inl refl)
+    (λ t. inr (refl, λ n at. (end_number log t n (inl at)).bounded))

@@ -19,7 +19,8 @@ use Rattle.simulation.proofs.Undoing.{both_below}
 module _ (v : View) (m : Machine) (t : ℕ) (stands : StandsFor v m) (d : Option Doing) (saves : ℕ → List ℕ)
     (spans : ℕ → List Span)
     (was : (n : ℕ) → is_to_undo (v.doing t) n ≡ false) (now : (n : ℕ) → is_to_undo d n ≡ false)
-    (same_saves : (u : ℕ) → (u ≡ t → ⊥) → saves u ≡ v.saves u) (same_spans : (u : ℕ) → (u ≡ t → ⊥) → spans u ≡ v.spans u) (x : Txn)
+    (same_saves : (u : ℕ) → (u ≡ t → ⊥) → saves u ≡ v.saves u)
+    (same_spans : (u : ℕ) → (u ≡ t → ⊥) → spans u ≡ v.spans u) (x : Txn)
   where
     abbrev pub moved : View
     moved = record v { doing = put v.doing t d; saves = saves; spans = spans }
@@ -28,7 +29,8 @@ module _ (v : View) (m : Machine) (t : ℕ) (stands : StandsFor v m) (d : Option
     moved_agrees n u q by = Both refl refl (λ a. elim (cases_eq u t) [
       | inr apart ↦ counts_same v n u (is_crossed v.log n) (moved.doing u) (put_other v.doing t d u apart)
       | inl e ↦
-          both_below v n u (is_crossed v.log n) (v.doing u) (moved.doing u) (ap (λ y. is_to_undo (v.doing y) n) e ∙ was n)
+          both_below v n u (is_crossed v.log n) (v.doing u) (moved.doing u)
+          (ap (λ y. is_to_undo (v.doing y) n) e ∙ was n)
           (ap (λ y. is_to_undo (moved.doing y) n) e ∙ ap (λ y. is_to_undo y n) (put_same v.doing t d) ∙ now n)
     ])
 
@@ -42,7 +44,8 @@ module _ (v : View) (m : Machine) (t : ℕ) (stands : StandsFor v m) (d : Option
       falling = stands.falling;
       recorded = moved_recorded m.h stands.recorded;
       each = one_changed m moved m.h t x here (λ u apart.
-          txn_kept v moved u (carries_view v moved.doing saves spans u (put_other v.doing t d u apart) (same_saves u apart) (same_spans u apart))
+          txn_kept v moved u (carries_view v moved.doing saves spans u (put_other v.doing t d u apart)
+          (same_saves u apart) (same_spans u apart))
           m.h m.h (same_entries v.log m.h u) (m.txns u) (stands.each u));
     }
 
@@ -63,16 +66,25 @@ module _ (v : View) (m : Machine) (t : ℕ) (stands : StandsFor v m) where
       let own : HoldsAs v t Open (m.txns t).spans = subst (λ z. HoldsAs v t z (m.txns t).spans) at.is_so x.spans in (
         with_txn m t new,
         (at.is_so, range, is_free, refl),
-        moves v m t stands (Some (Looks q)) v.saves (put v.spans t (s ∷ v.spans t)) (below Ready idle (λ n. refl)) (λ n. refl) (λ u apart. refl)
+        moves v m t stands (Some (Looks q)) v.saves (put v.spans t (s ∷ v.spans t)) (below Ready idle (λ n. refl))
+            (λ n. refl) (λ u apart. refl)
             (λ u apart. put_other v.spans t (s ∷ v.spans t) u apart) new
             (record {
               begun = x.begun;
-              status = record { open_txn = at.so.open_txn; does = put_same v.doing t (Some (Looks q)); stays = at.so.stays };
+              status = record {
+                open_txn = at.so.open_txn;
+                does = put_same v.doing t (Some (Looks q));
+                stays = at.so.stays;
+              };
               saves = subst (λ z. HasSavesOf v m.h t z (m.txns t).saves) at.is_so x.saves;
               spans = subst (AreSpans (s ∷ (m.txns t).spans)) (sym (put_same v.spans t (s ∷ v.spans t)))
-                  (λ r. (λ a. elim a [ inl e ↦ inl e | inr b ↦ inr ((own r).0 b) ], λ a. elim a [ inl e ↦ inl e | inr b ↦ inr ((own r).1 b) ]));
+                  (λ r. (
+                    λ a. elim a [ inl e ↦ inl e | inr b ↦ inr ((own r).0 b) ],
+                    λ a. elim a [ inl e ↦ inl e | inr b ↦ inr ((own r).1 b) ],
+                  ));
               unentered = tt;
-              entered = λ n o by. elim (x.entered n o by) [ inl a ↦ inl a | inr a ↦ absurd (subst IsUntold at.is_so a.1) ];
+              entered = λ n o by. elim (x.entered n o by)
+                  [ inl a ↦ inl a | inr a ↦ absurd (subst IsUntold at.is_so a.1) ];
             }),
       )
 
@@ -82,7 +94,8 @@ module _ (v : View) (m : Machine) (t : ℕ) (stands : StandsFor v m) where
       let x = stands.each t in
       let is_so : (m.txns t).status ≡ Reading q = status_for v m t (Looks q) stands looks in
       let so : HasStatusOf v t (Reading q) = subst (HasStatusOf v t) is_so x.status in
-      moves v m t stands (Some Ready) v.saves v.spans (below (Looks q) looks (λ n. refl)) (λ n. refl) (λ u apart. refl) (λ u apart. refl) (record (m.txns t) { status = Open })
+      moves v m t stands (Some Ready) v.saves v.spans (below (Looks q) looks (λ n. refl)) (λ n. refl) (λ u apart. refl)
+      (λ u apart. refl) (record (m.txns t) { status = Open })
       (record {
         begun = x.begun;
         status = record { open_txn = so.open_txn; does = put_same v.doing t (Some Ready); stays = so.stays };
@@ -96,7 +109,11 @@ pub read_is_a_step : ReadIsAStep
 read_is_a_step v m t q stands idle range is_free = reads_so v m t stands q idle range is_free
 
 pub row_is_told : RowIsTold
-row_is_told v m t k value stands looks is = (with_status m t Open, (k, status_for v m t (Looks (OfKey k)) stands looks, is, refl), told_read v m t stands (OfKey k) looks)
+row_is_told v m t k value stands looks is = (
+  with_status m t Open,
+  (k, status_for v m t (Looks (OfKey k)) stands looks, is, refl),
+  told_read v m t stands (OfKey k) looks,
+)
 
 pub rows_are_told : RowsAreTold
 rows_are_told v m t lo hi rows stands looks is =

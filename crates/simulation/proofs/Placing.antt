@@ -44,12 +44,14 @@ pub hist_alike : (x y rest : List Record) → ((n t : ℕ) (o : Op) → IsOpBy r
 hist_alike x y [] same = refl
 hist_alike x y (r ∷ rest) same =
     hist_step x r rest
-    ∙ same_step x y (length rest + 1) (op_of r) (hist_in x rest) (hist_in y rest) (newest_op (Same x y) r rest same) (hist_alike x y rest (older_ops (Same x y) r rest same))
+    ∙ same_step x y (length rest + 1) (op_of r) (hist_in x rest) (hist_in y rest) (newest_op (Same x y) r rest same)
+    (hist_alike x y rest (older_ops (Same x y) r rest same))
     ∙ sym (hist_step y r rest)
 
 -- entries have the numbers of operations of the log
 all_entry : (P : Entry → Type 0) (log : List Record) (n : ℕ) (by : Option (ℕ × Op)) (h : List Entry)
-    → ((t : ℕ) (o : Op) (a : Answer) → by ≡ Some (t, o) → P (record { number = n; txn = t; op = o; answer = a; crossed = is_crossed log n }))
+    → ((t : ℕ) (o : Op) (a : Answer) → by ≡ Some (t, o)
+    → P (record { number = n; txn = t; op = o; answer = a; crossed = is_crossed log n }))
     → AllByRecursion P h → AllByRecursion P (entry_of log n by h)
 all_entry P log n None h each all = all
 all_entry P log n (Some by) h each all = with_answer (answer_of log n)
@@ -59,17 +61,21 @@ all_entry P log n (Some by) h each all = with_answer (answer_of log n)
     with_answer (Some a) = (each by.0 by.1 a refl, all)
 
 pub all_hist : (P : Entry → Type 0) (log rest : List Record)
-    → ((n t : ℕ) (o : Op) → IsOpBy rest n t o → (a : Answer) → P (record { number = n; txn = t; op = o; answer = a; crossed = is_crossed log n }))
+    → ((n t : ℕ) (o : Op) → IsOpBy rest n t o → (a : Answer)
+    → P (record { number = n; txn = t; op = o; answer = a; crossed = is_crossed log n }))
     → AllByRecursion P (hist_in log rest)
 all_hist P log [] each = tt
 all_hist P log (r ∷ rest) each =
-    let Q : ℕ → ℕ → Op → Type 0 = λ n t o. (a : Answer) → P (record { number = n; txn = t; op = o; answer = a; crossed = is_crossed log n }) in
+    let Q : ℕ → ℕ → Op → Type 0 =
+    λ n t o. (a : Answer) → P (record { number = n; txn = t; op = o; answer = a; crossed = is_crossed log n }) in
     subst (AllByRecursion P) (sym (hist_step log r rest))
-    (all_entry P log (length rest + 1) (op_of r) (hist_in log rest) (λ t o a is. newest_op Q r rest each t o is a) (all_hist P log rest (older_ops Q r rest each)))
+    (all_entry P log (length rest + 1) (op_of r) (hist_in log rest) (λ t o a is. newest_op Q r rest each t o is a)
+    (all_hist P log rest (older_ops Q r rest each)))
 
 -- every number of a log's history is one of the log
 pub hist_below : (log rest : List Record) → AllByRecursion (λ e. e.number < length rest + 1) (hist_in log rest)
-hist_below log rest = all_hist (λ e. e.number < length rest + 1) log rest (λ n t o by a. omega (arith, (op_number rest n t o by).bounded))
+hist_below log rest = all_hist (λ e. e.number < length rest + 1) log rest
+    (λ n t o by a. omega (arith, (op_number rest n t o by).bounded))
 
 -- an entry above all others goes to the front
 pub placed_front : (e : Entry) (h : List Entry) → AllByRecursion (λ f. f.number < e.number) h → placed e h ≡ e ∷ h
@@ -80,7 +86,10 @@ placed_front e (f ∷ h) all = ap (λ b. if b then e ∷ f ∷ h else f ∷ plac
 pub placed_past : (log : List Record) (m t : ℕ) (o : Op) (a : Option Answer) (e : Entry) (h : List Entry) → e.number < m
     → entry_with log m t o a (placed e h) ≡ placed e (entry_with log m t o a h)
 placed_past log m t o None e h lt = refl
-placed_past log m t o (Some a) e h lt = ap (λ b. if b then e ∷ record { number = m; txn = t; op = o; answer = a; crossed = is_crossed log m } ∷ h else record { number = m; txn = t; op = o; answer = a; crossed = is_crossed log m } ∷ placed e h) (sym (ge_nat_lt m e.number (omega arith)))
+placed_past log m t o (Some a) e h lt =
+    ap (λ b. if b then e ∷ record { number = m; txn = t; op = o; answer = a; crossed = is_crossed log m } ∷ h else
+    record { number = m; txn = t; op = o; answer = a; crossed = is_crossed log m } ∷ placed e h)
+    (sym (ge_nat_lt m e.number (omega arith)))
 
 -- the answer of one operation more
 module _ (log : List Record) (n t : ℕ) (o : Op) (a : Answer) (none : answer_of log n ≡ None) where
@@ -97,7 +106,9 @@ module _ (log : List Record) (n t : ℕ) (o : Op) (a : Answer) (none : answer_of
   answer_now = ap (λ (b : Bool). cond b (Some a) (answer_of log n)) (eq-eqb n n refl)
 
   below_alike : (rest : List Record) → length rest < n → hist_in longer rest ≡ hist_in log rest
-  below_alike rest below = hist_alike longer log rest (λ m u q by. (same_answer m (λ e. omega (arith, e, below, (op_number rest m u q by).bounded)), refl))
+  below_alike rest below =
+      hist_alike longer log rest
+      (λ m u q by. (same_answer m (λ e. omega (arith, e, below, (op_number rest m u q by).bounded)), refl))
 
   past_step : (m : ℕ) (by : Option (ℕ × Op)) (h : List Entry) → n < m
       → entry_of longer m by (placed entry h) ≡ placed entry (entry_of log m by h)
@@ -117,7 +128,9 @@ module _ (log : List Record) (n t : ℕ) (o : Op) (a : Answer) (none : answer_of
             ∙ ap (λ (m : ℕ). entry_with longer m t o (answer_of longer m) (hist_in longer rest)) (sym e)
             ∙ ap (λ x. entry_with longer n t o x (hist_in longer rest)) answer_now
             ∙ ap (λ h. entry ∷ h) (below_alike rest (omega (arith, e)))
-            ∙ sym (placed_front entry (hist_in log rest) (let P : ℕ → Type 0 = λ m. AllByRecursion (λ f. f.number < m) (hist_in log rest) in subst P (sym e) (hist_below log rest)))
+            ∙ sym (placed_front entry (hist_in log rest)
+            (let P : ℕ → Type 0 = λ m. AllByRecursion (λ f. f.number < m) (hist_in log rest) in
+            subst P (sym e) (hist_below log rest)))
             ∙ ap (placed entry) (sym (hist_step log r rest
             ∙ ap (λ x. entry_of log (length rest + 1) x (hist_in log rest)) is_op
             ∙ ap (λ (m : ℕ). entry_with log m t o (answer_of log m) (hist_in log rest)) (sym e)
@@ -132,7 +145,8 @@ module _ (log : List Record) (n t : ℕ) (o : Op) (a : Answer) (none : answer_of
 -- the history with it
 pub hist_answer : (log : List Record) (n t : ℕ) (o : Op) (a : Answer) → answer_of log n ≡ None
     → is_crossed log n ≡ false → IsOpBy log n t o
-    → hist (is.Answer n a ∷ log) ≡ placed (record { number = n; txn = t; op = o; answer = a; crossed = false }) (hist log)
+    → hist (is.Answer n a ∷ log)
+    ≡ placed (record { number = n; txn = t; op = o; answer = a; crossed = false }) (hist log)
 hist_answer log n t o a none stands by =
     placed_in log n t o a none log by
     ∙ ap (λ b. placed (record { number = n; txn = t; op = o; answer = a; crossed = b }) (hist log)) stands
@@ -165,7 +179,8 @@ filter_placed p e [] keeps falls = ap (λ (b : Bool). cond b (e ∷ []) []) keep
 filter_placed p e (f ∷ h) keeps falls = pick (nat_lt f.number e.number) refl (filter_placed p e h keeps falls.1)
   where
     front : f.number < e.number → placed e (filter p (f ∷ h)) ≡ e ∷ filter p (f ∷ h)
-    front lt = placed_front e (filter p (f ∷ h)) (all_filtered (λ x. x.number < e.number) p (f ∷ h) (lt, below_all f.number e.number h lt falls.0))
+    front lt = placed_front e (filter p (f ∷ h))
+        (all_filtered (λ x. x.number < e.number) p (f ∷ h) (lt, below_all f.number e.number h lt falls.0))
 
     past : (b : Bool) → nat_lt f.number e.number ≡ false
         → cond b (f ∷ placed e (filter p h)) (placed e (filter p h)) ≡ placed e (cond b (f ∷ filter p h) (filter p h))
@@ -186,8 +201,18 @@ placed_falling e (f ∷ h) apart falls = pick (nat_lt f.number e.number) refl (p
   where
     pick : (b : Bool) → nat_lt f.number e.number ≡ b → IsFalling (placed e h)
         → IsFalling (if b then e ∷ f ∷ h else f ∷ placed e h)
-    pick true lt rest = ((is_lt f.number e.number lt, below_all f.number e.number h (is_lt f.number e.number lt) falls.0), falls)
-    pick false ge rest = (all_placed (λ x. x.number < f.number) e h (omega (arith, not_lt f.number e.number ge, (λ (s : f.number ≡ e.number). apart.0 s))) falls.0, rest)
+    pick true lt rest = (
+      (
+        is_lt f.number e.number lt,
+        below_all f.number e.number h (is_lt f.number e.number lt) falls.0,
+      ),
+      falls,
+    )
+    pick false ge rest = (
+      all_placed (λ x. x.number < f.number) e h
+          (omega (arith, not_lt f.number e.number ge, (λ (s : f.number ≡ e.number). apart.0 s))) falls.0,
+      rest,
+    )
 
 -- it is there, and so are the others
 pub placed_entry : (e : Entry) (h : List Entry) (n t : ℕ) (o : Op) → HasEntry h n t o → HasEntry (placed e h) n t o
@@ -226,4 +251,5 @@ falling_step log n (Some by) h below falls = falling_answered log n by.0 by.1 (a
 pub hist_falling : (log rest : List Record) → IsFalling (hist_in log rest)
 hist_falling log [] = tt
 hist_falling log (r ∷ rest) =
-    subst IsFalling (sym (hist_step log r rest)) (falling_step log (length rest + 1) (op_of r) (hist_in log rest) (hist_below log rest) (hist_falling log rest))
+    subst IsFalling (sym (hist_step log r rest))
+    (falling_step log (length rest + 1) (op_of r) (hist_in log rest) (hist_below log rest) (hist_falling log rest))

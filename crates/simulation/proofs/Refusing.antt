@@ -33,12 +33,14 @@ true_spans v t (Reading q) xs legal true_ones so holds = holds
 true_spans v t (Rolling p) xs legal true_ones so holds = holds
 true_spans v t Committing xs legal true_ones so holds = holds
 true_spans v t Committed xs legal true_ones so holds =
-    both_none xs (v.spans t) holds (true_ones.let_go t so.0.does_none so.0.loses_so (uncommitting v t Committed legal so (inl refl)))
+    both_none xs (v.spans t) holds
+    (true_ones.let_go t so.0.does_none so.0.loses_so (uncommitting v t Committed legal so (inl refl)))
 true_spans v t Losing xs legal true_ones so holds =
     let own = true_ones.losers t so.quiet.loses_so in
     λ s. (same_keys v.log t xs (v.spans t) holds own s, same_keys v.log t (v.spans t) xs own holds s)
 true_spans v t Gone xs legal true_ones so holds =
-    both_none xs (v.spans t) holds (true_ones.let_go t so.0.does_none so.0.loses_so (uncommitting v t Gone legal so (inr refl)))
+    both_none xs (v.spans t) holds
+    (true_ones.let_go t so.0.does_none so.0.loses_so (uncommitting v t Gone legal so (inr refl)))
 
 -- so the holders are the same
 holder : (v : View) (m : Machine) (t u : ℕ) (s : Span) → IsLegal v.log → StandsFor v m → HasTrueSpans v
@@ -62,7 +64,8 @@ meets : (m : Machine) (call : Call) (t u : ℕ) (s : Span) → wanted call ≡ S
 meets m (ToAct x o) t u s e open_now by =
     let same = same_call x t (at_key Exclusive (key_of o)) s e in (
       subst (λ (k : ℕ). HasStatus m k Open) (sym same.0) open_now,
-      subst (λ (k : ℕ). IsHolder m k (at_key Exclusive (key_of o)) u) (sym same.0) (subst (λ r. IsHolder m t r u) (sym same.1) by),
+      subst (λ (k : ℕ). IsHolder m k (at_key Exclusive (key_of o)) u) (sym same.0)
+          (subst (λ r. IsHolder m t r u) (sym same.1) by),
     )
 meets m (ToRead x q) t u s e open_now by =
     let same = same_call x t (asked_span q) s e in (
@@ -102,7 +105,8 @@ shut v t Losing so none = inr (inr (inl refl))
 shut v t Gone so none = inr (inr (inr refl))
 
 pub not_open_is_a_line : NotOpenIsALine
-not_open_is_a_line v m call t stands names none = (of_caller IsNotOpen m call t names (shut v t (m.txns t).status (stands.each t).status none), refl)
+not_open_is_a_line v m call t stands names none =
+    (of_caller IsNotOpen m call t names (shut v t (m.txns t).status (stands.each t).status none), refl)
 
 pub unanswered_is_a_line : UnansweredIsALine
 unanswered_is_a_line v m call t stands names waits = (of_caller IsUnanswered m call t names (by waits), refl)
@@ -133,10 +137,12 @@ live v t Gone so some = absurd (true≢false (sym (subst IsSome so.0.does_none s
 all_live : (v : View) (m : Machine) (ts : List ℕ) → StandsFor v m → AllByRecursion (λ t. IsSome (v.doing t)) ts
     → AllByRecursion (λ t. is_live (m.txns t).status ≡ true) ts
 all_live v m [] stands all = tt
-all_live v m (t ∷ ts) stands all = (live v t (m.txns t).status (stands.each t).status all.0, all_live v m ts stands all.1)
+all_live v m (t ∷ ts) stands all =
+    (live v t (m.txns t).status (stands.each t).status all.0, all_live v m ts stands all.1)
 
 pub full_is_a_line : FullIsALine
-full_is_a_line v m ts stands count different all = (record { ts = ts; count = count; different = different; live = all_live v m ts stands all }, refl)
+full_is_a_line v m ts stands count different all =
+    (record { ts = ts; count = count; different = different; live = all_live v m ts stands all }, refl)
 
 -- as many savepoints as the component has
 save_count : (v : View) (m : Machine) (t : ℕ) → StandsFor v m → v.doing t ≡ Some Ready

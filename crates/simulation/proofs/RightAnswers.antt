@@ -45,7 +45,8 @@ module _ (log : List Record) (n t : ℕ) (o : Op) (legal : IsLegal log) (right :
   none_above m v q above is_op on =
       let same : key_of q ≡ key = sym (is_same-true key (key_of q) on) in
       absurd (some_isnt_false (answer_of log n) (ap is_some unanswered)
-      (since (λ x. IsSome (answer_of x n)) (answered_push n) log m (one_at_a_time log legal n m o q requests above (op_request v q (record_at log m) is_op) same)))
+      (since (λ x. IsSome (answer_of x n)) (answered_push n) log m
+      (one_at_a_time log legal n m o q requests above (op_request v q (record_at log m) is_op) same)))
 
   -- what was done to the key before it is answered, and is crossed out as it was then
   below_kept : (m v : ℕ) (q : Op) → IsOpBy (before log n) m v q → is_on key q ≡ true
@@ -55,7 +56,8 @@ module _ (log : List Record) (n t : ℕ) (o : Op) (legal : IsLegal log) (right :
       let is_op : IsOpBy log m v q = subst (AnOp v q) (record_before log m n number below) was_op in
       let same : key ≡ key_of q = is_same-true key (key_of q) on in
       let answered : IsSome (answer_of log m) =
-      since (λ x. IsSome (answer_of x m)) (answered_push m) log n (one_at_a_time log legal m n q o (op_request v q (record_at log m) is_op) below requests same) in
+      since (λ x. IsSome (answer_of x m)) (answered_push m) log n
+      (one_at_a_time log legal m n q o (op_request v q (record_at log m) is_op) below requests same) in
       let crossed : is_crossed log m ≡ is_crossed (before log n) m =
       elim (cases_eq v t) [
         | inl e ↦
@@ -63,10 +65,15 @@ module _ (log : List Record) (n t : ℕ) (o : Op) (legal : IsLegal log) (right :
               | inl c ↦ since (λ y. is_crossed y m ≡ true) (crossed_push m) log n c ∙ sym c
               | inr c ↦
                   (stands_since log t n m legal (record { op = o; is = by; uncrossed = stands }) below
-                  (record { op = q; is = subst (λ (z : ℕ). IsOpBy (before log n) m z q) e was_op; uncrossed = c })).uncrossed ∙ sym c
+                  (record {
+                    op = q;
+                    is = subst (λ (z : ℕ). IsOpBy (before log n) m z q) e was_op;
+                    uncrossed = c;
+                  })).uncrossed ∙ sym c
             ]
         | inr other ↦
-            let end = strict log legal m n v t q o is_op below (op_step t o (record_at log n) by) requests same (λ e. other (sym e)) in
+            let end = strict log legal m n v t q o is_op below (op_step t o (record_at log n) by) requests same
+            (λ e. other (sym e)) in
             frozen log n m v q legal number below was_op (ended_before log v m n number end)
       ] in
       ap (λ b. b && not (is_crossed log m)) answered ∙ ap not crossed
@@ -76,7 +83,9 @@ module _ (log : List Record) (n t : ℕ) (o : Op) (legal : IsLegal log) (right :
   plain_there =
       plain_of_history log key
       ∙ value_split key kept log n t o by none_above
-      ∙ ap (λ b. if (b && not (is_crossed log n)) && is_on key o then value_after o (value_where key kept (before log n)) else value_where key kept (before log n)) (ap is_some unanswered)
+      ∙ ap (λ b. if (b && not (is_crossed log n))
+      && is_on key o then value_after o (value_where key kept (before log n)) else value_where key kept
+      (before log n)) (ap is_some unanswered)
       ∙ values_alike key kept (λ m. not (is_crossed (before log n) m)) (before log n) below_kept
       ∙ sym (cancel (before log n) (legal_before log n legal) (right_before log n right) key)
 

@@ -17,7 +17,8 @@ use Rattle.simulation.proofs.Undoing.{marked_entries}
 
 -- what a new savepoint remembers
 any_more : (n : ℕ) (e : Entry) (t : ℕ) (h : List Entry) (b : Bool) → list_any (λ j. j == n) (numbers_of t h) ≡ true
-    → list_any (λ j. j == n) (map (λ (x : Entry). x.number) (cond b (e ∷ filter (λ x. x.txn == t) h) (filter (λ x. x.txn == t) h))) ≡ true
+    → list_any (λ j. j == n)
+    (map (λ (x : Entry). x.number) (cond b (e ∷ filter (λ x. x.txn == t) h) (filter (λ x. x.txn == t) h))) ≡ true
 any_more n e t h true any = or_second (e.number == n) any
   where
     or_second : (a : Bool) {b : Bool} → b ≡ true → (a || b) ≡ true
@@ -26,9 +27,13 @@ any_more n e t h true any = or_second (e.number == n) any
 any_more n e t h false any = any
 
 any_here : (n : ℕ) (e : Entry) (t : ℕ) (h : List Entry) → e.number ≡ n → e.txn ≡ t
-    → list_any (λ j. j == n) (map (λ (x : Entry). x.number) (cond (e.txn == t) (e ∷ filter (λ x. x.txn == t) h) (filter (λ x. x.txn == t) h))) ≡ true
+    → list_any (λ j. j == n)
+    (map (λ (x : Entry). x.number)
+    (cond (e.txn == t) (e ∷ filter (λ x. x.txn == t) h) (filter (λ x. x.txn == t) h))) ≡ true
 any_here n e t h at own =
-    ap (λ (b : Bool). list_any (λ j. j == n) (map (λ (x : Entry). x.number) (cond b (e ∷ filter (λ x. x.txn == t) h) (filter (λ x. x.txn == t) h)))) (eq-eqb e.txn t own)
+    ap (λ (b : Bool). list_any (λ j. j == n)
+    (map (λ (x : Entry). x.number) (cond b (e ∷ filter (λ x. x.txn == t) h) (filter (λ x. x.txn == t) h))))
+    (eq-eqb e.txn t own)
     ∙ ap (λ (b : Bool). b || list_any (λ j. j == n) (numbers_of t h)) (eq-eqb e.number n at)
 
 listed : (h : List Entry) (n t : ℕ) (o : Op) → HasEntry h n t o → list_any (λ j. j == n) (numbers_of t h) ≡ true
@@ -40,7 +45,10 @@ listed (e ∷ h) n t o (inr has) = any_more n e t h (e.txn == t) (listed h n t o
 itself : (h g : List Entry) → ((n t : ℕ) (o : Op) → HasEntry h n t o → HasEntry g n t o)
     → AllByRecursion (λ e. HasEntry g e.number e.txn e.op) h
 itself [] g each = tt
-itself (e ∷ h) g each = (each e.number e.txn e.op (inl (refl, refl, refl)), itself h g (λ n t o has. each n t o (inr has)))
+itself (e ∷ h) g each = (
+  each e.number e.txn e.op (inl (refl, refl, refl)),
+  itself h g (λ n t o has. each n t o (inr has)),
+)
 
 numbers_within : (t end : ℕ) (h : List Entry) → AllByRecursion (λ e. e.number < end + 1) h
     → AllByRecursion (λ j. j ≤ end) (numbers_of t h)
@@ -48,7 +56,8 @@ numbers_within t end [] all = tt
 numbers_within t end (e ∷ h) all = by (e.txn == t) (numbers_within t end h all.1)
   where
     by : (b : Bool) → AllByRecursion (λ j. j ≤ end) (numbers_of t h)
-        → AllByRecursion (λ j. j ≤ end) (map (λ (x : Entry). x.number) (cond b (e ∷ filter (λ x. x.txn == t) h) (filter (λ x. x.txn == t) h)))
+        → AllByRecursion (λ j. j ≤ end)
+        (map (λ (x : Entry). x.number) (cond b (e ∷ filter (λ x. x.txn == t) h) (filter (λ x. x.txn == t) h)))
     by true rest = (omega (arith, all.0), rest)
     by false rest = rest
 
@@ -56,14 +65,20 @@ remembers_all : (t end : ℕ) (g h : List Entry) → AllByRecursion (λ e. HasEn
     → AllByRecursion (λ e. e.number < end + 1) h
     → AllByRecursion (λ e. e.txn ≡ t → (list_any (λ j. j == e.number) (numbers_of t g) ≡ true) ↔ (e.number ≤ end)) h
 remembers_all t end g [] has all = tt
-remembers_all t end g (e ∷ h) has all =
-    (λ own. (λ any. omega (arith, all.0), λ le. listed g e.number t e.op (subst (λ u. HasEntry g e.number u e.op) own has.0)), remembers_all t end g h has.1 all.1)
+remembers_all t end g (e ∷ h) has all = (
+  λ own. (
+    λ any. omega (arith, all.0),
+    λ le. listed g e.number t e.op (subst (λ u. HasEntry g e.number u e.op) own has.0),
+  ),
+  remembers_all t end g h has.1 all.1,
+)
 
 one_save_more : (h : List Entry) (t limit : ℕ) (saves : List (List ℕ)) (ends : List ℕ) (kept : List ℕ) (end : ℕ)
     → HasSaves h t limit saves ends → Remembers h t kept end → end < limit
     → HasSaves h t limit (saves ++ kept ∷ []) (ends ++ end ∷ [])
 one_save_more h t limit [] [] kept end has r lt = (r, lt, tt)
-one_save_more h t limit (k ∷ saves) (e ∷ ends) kept end has r lt = (has.0, has.1, one_save_more h t limit saves ends kept end has.2 r lt)
+one_save_more h t limit (k ∷ saves) (e ∷ ends) kept end has r lt =
+    (has.0, has.1, one_save_more h t limit saves ends kept end has.2 r lt)
 one_save_more h t limit [] (e ∷ ends) kept end has r lt = absurd has
 one_save_more h t limit (k ∷ saves) [] kept end has r lt = absurd has
 
@@ -78,7 +93,8 @@ pub save_is_a_step : SaveIsAStep
 save_is_a_step v m t s stands idle count le =
     let at = open_as v m t stands idle in
     let x = stands.each t in
-    let own : HasSaves m.h t (length v.log + 1) (m.txns t).saves (v.saves t) = subst (λ z. HasSavesOf v m.h t z (m.txns t).saves) at.is_so x.saves in
+    let own : HasSaves m.h t (length v.log + 1) (m.txns t).saves (v.saves t) =
+    subst (λ z. HasSavesOf v m.h t z (m.txns t).saves) at.is_so x.saves in
     let new : Txn = record (m.txns t) { saves = (m.txns t).saves ++ numbers_of t m.h ∷ [] } in
     let ends : List ℕ = v.saves t ++ length v.log ∷ [] in
     let numbers = numbers_below v m.h stands.recorded in
@@ -86,8 +102,10 @@ save_is_a_step v m t s stands idle count le =
       same = remembers_all t (length v.log) m.h m.h (itself m.h m.h (λ n u o has. has)) numbers;
       within = numbers_within t (length v.log) m.h numbers;
     } in
-    let more : HasSaves m.h t (length v.log + 1) ((m.txns t).saves ++ numbers_of t m.h ∷ []) (v.saves t ++ length v.log ∷ []) =
-    one_save_more m.h t (length v.log + 1) (m.txns t).saves (v.saves t) (numbers_of t m.h) (length v.log) own r (omega arith) in
+    let more : HasSaves m.h t (length v.log + 1) ((m.txns t).saves ++ numbers_of t m.h ∷ [])
+    (v.saves t ++ length v.log ∷ []) =
+    one_save_more m.h t (length v.log + 1) (m.txns t).saves (v.saves t) (numbers_of t m.h) (length v.log) own r
+    (omega arith) in
     let w : View = after_save v t in (
       with_txn m t new,
       (at.is_so, omega (arith, as_many m.h t (length v.log + 1) (m.txns t).saves (v.saves t) own, count), le, refl),
@@ -98,14 +116,19 @@ save_is_a_step v m t s stands idle count le =
         each = one_changed m w m.h t new
             (record {
               begun = x.begun;
-              status = subst (HasStatusOf w t) (sym at.is_so) (record { open_txn = at.so.open_txn; does = idle; stays = at.so.stays });
+              status = subst (HasStatusOf w t) (sym at.is_so)
+                  (record { open_txn = at.so.open_txn; does = idle; stays = at.so.stays });
               saves = subst (λ z. HasSavesOf w m.h t z ((m.txns t).saves ++ numbers_of t m.h ∷ [])) (sym at.is_so)
-                  (subst (HasSaves m.h t (length v.log + 1) ((m.txns t).saves ++ numbers_of t m.h ∷ [])) (sym (put_same v.saves t (v.saves t ++ length v.log ∷ []))) more);
-              spans = subst (λ z. HoldsAs w t z (m.txns t).spans) (sym at.is_so) (subst (λ z. HoldsAs v t z (m.txns t).spans) at.is_so x.spans);
+                  (subst (HasSaves m.h t (length v.log + 1) ((m.txns t).saves ++ numbers_of t m.h ∷ []))
+                  (sym (put_same v.saves t (v.saves t ++ length v.log ∷ []))) more);
+              spans = subst (λ z. HoldsAs w t z (m.txns t).spans) (sym at.is_so)
+                  (subst (λ z. HoldsAs v t z (m.txns t).spans) at.is_so x.spans);
               unentered = x.unentered;
               entered = x.entered;
             })
-            (λ u apart. txn_kept v w u (carries_view v v.doing w.saves v.spans u refl (put_other v.saves t (v.saves t ++ length v.log ∷ []) u apart) refl)
+            (λ u apart. txn_kept v w u
+            (carries_view v v.doing w.saves v.spans u refl
+            (put_other v.saves t (v.saves t ++ length v.log ∷ []) u apart) refl)
             m.h m.h (same_entries v.log m.h u) (m.txns u) (stands.each u));
       },
     )
@@ -147,7 +170,8 @@ same_marks : (f g : ℕ → ℕ → Bool) (h : List Entry) → AllByRecursion (�
 same_marks f g [] all = refl
 same_marks f g (e ∷ h) all =
     let rest = same_marks f g h all.1 in
-    λ j. record { number = e.number; txn = e.txn; op = e.op; answer = e.answer; crossed = e.crossed || all.0 j } ∷ rest j
+    λ j. record { number = e.number; txn = e.txn; op = e.op; answer = e.answer; crossed = e.crossed || all.0 j } ∷ rest
+    j
 
 above_or_kept : (u t n end : ℕ) (any : Bool) → (u ≡ t → (any ≡ true) ↔ (n ≤ end))
     → ((u == t) && not any) ≡ ((u == t) && nat_lt end n)
@@ -160,13 +184,16 @@ above_or_kept u t n end any same =
   where
     by : (any : Bool) → (any ≡ true) ↔ (n ≤ end) → not any ≡ nat_lt end n
     by true same = sym (le-ltb end n (same.0 refl))
-    by false same = elim (cases_lt end n) [ inl lt ↦ sym (lt-ltb end n lt) | inr le ↦ absurd (true≢false (sym (same.1 le))) ]
+    by false same = elim (cases_lt end n)
+        [ inl lt ↦ sym (lt-ltb end n lt) | inr le ↦ absurd (true≢false (sym (same.1 le))) ]
 
 marks_of : (t end : ℕ) (kept : List ℕ) (h : List Entry)
     → AllByRecursion (λ e. e.txn ≡ t → (list_any (λ j. j == e.number) kept ≡ true) ↔ (e.number ≤ end)) h
-    → AllByRecursion (λ e. ((e.txn == t) && not (list_any (λ j. j == e.number) kept)) ≡ ((e.txn == t) && nat_lt end e.number)) h
+    → AllByRecursion (λ e. ((e.txn == t) && not (list_any (λ j. j == e.number) kept))
+    ≡ ((e.txn == t) && nat_lt end e.number)) h
 marks_of t end kept [] all = tt
-marks_of t end kept (e ∷ h) all = (above_or_kept e.txn t e.number end (list_any (λ j. j == e.number) kept) all.0, marks_of t end kept h all.1)
+marks_of t end kept (e ∷ h) all =
+    (above_or_kept e.txn t e.number end (list_any (λ j. j == e.number) kept) all.0, marks_of t end kept h all.1)
 
 swap_out : (b c l : Bool) → (not b && (not c && (not l && true))) ≡ (not c && (not l && not b))
 swap_out true true l = refl
@@ -188,23 +215,28 @@ module _ (v : View) (m : Machine) (t s end : ℕ) (stands : StandsFor v m) (idle
   past_agrees n u q by = Both refl refl (λ a. elim (cases_eq u t) [
     | inr apart ↦
         ap (λ (b : Bool). not (b && nat_lt end n) && counts v (as_entry v.log n u q a)) (ne_eqb u t apart)
-        ∙ counts_same v n u (is_crossed v.log n) (back.doing u) (put_other v.doing t (Some (Rolls (Some s) end)) u apart)
+        ∙ counts_same v n u (is_crossed v.log n) (back.doing u)
+        (put_other v.doing t (Some (Rolls (Some s) end)) u apart)
     | inl e ↦
         ap (λ (b : Bool). not (b && nat_lt end n) && counts v (as_entry v.log n u q a)) (eq-eqb u t e)
-        ∙ ap (λ d. not (nat_lt end n) && (not (is_crossed v.log n) && (not (v.loses u) && not (is_to_undo d n)))) (ap v.doing e ∙ idle)
+        ∙ ap (λ d. not (nat_lt end n) && (not (is_crossed v.log n) && (not (v.loses u) && not (is_to_undo d n))))
+        (ap v.doing e ∙ idle)
         ∙ swap_out (nat_lt end n) (is_crossed v.log n) (v.loses u)
-        ∙ sym (ap (λ d. not (is_crossed v.log n) && (not (v.loses u) && not (is_to_undo d n))) (ap back.doing e ∙ put_same v.doing t (Some (Rolls (Some s) end))))
+        ∙ sym (ap (λ d. not (is_crossed v.log n) && (not (v.loses u) && not (is_to_undo d n)))
+        (ap back.doing e ∙ put_same v.doing t (Some (Rolls (Some s) end))))
   ])
 
   pub goes_back_so : Leads v m (GoesBack t s) (after_go_back v t s end)
   goes_back_so =
       let at = open_as v m t stands idle in
       let x = stands.each t in
-      let own : HasSaves m.h t (length v.log + 1) (m.txns t).saves (v.saves t) = subst (λ z. HasSavesOf v m.h t z (m.txns t).saves) at.is_so x.saves in
+      let own : HasSaves m.h t (length v.log + 1) (m.txns t).saves (v.saves t) =
+      subst (λ z. HasSavesOf v m.h t z (m.txns t).saves) at.is_so x.saves in
       let save = save_at m.h t (length v.log + 1) (m.txns t).saves (v.saves t) (s - 1) end own at_end in
       let new : Txn = record (m.txns t) { status = Rolling (Some s); saves = take s (m.txns t).saves } in
       let kept_marks : ℕ → ℕ → Bool = λ u n. (u == t) && not (list_any (λ j. j == n) save.kept) in
-      let same : map (marked kept_marks) m.h ≡ map (marked past) m.h = same_marks kept_marks past m.h (marks_of t end save.kept m.h save.remembers.same) in
+      let same : map (marked kept_marks) m.h ≡ map (marked past) m.h =
+      same_marks kept_marks past m.h (marks_of t end save.kept m.h save.remembers.same) in
       let h : List Entry = map (marked past) m.h in
       let carried = first_saves m.h t (length v.log + 1) (m.txns t).saves (v.saves t) s own in (
         record (with_txn m t new) { h = h },
@@ -214,18 +246,31 @@ module _ (v : View) (m : Machine) (t s end : ℕ) (stands : StandsFor v m) (idle
               ∙ filter_twice (λ e. not (past e.txn e.number)) (counts v) (hist v.log)
               ∙ alike v.log v.log (λ e. not (past e.txn e.number) && counts v e) (counts back) v.log past_agrees;
           falling = marked_falling past m.h stands.falling;
-          recorded = marked_all (IsRecorded v) (IsRecorded back) past m.h (λ e r. record { is = r.is; stable = r.stable }) stands.recorded;
+          recorded = marked_all (IsRecorded v) (IsRecorded back) past m.h
+              (λ e r. record { is = r.is; stable = r.stable }) stands.recorded;
           each = one_changed m back h t new
               (record {
                 begun = x.begun;
-                status = (end, record { open_txn = at.so.open_txn; does = put_same v.doing t (Some (Rolls (Some s) end)); stays = at.so.stays });
-                saves = subst (HasSaves h t (length v.log + 1) (take s (m.txns t).saves)) (sym (put_same v.saves t (take s (v.saves t))))
+                status = (
+                  end,
+                  record {
+                    open_txn = at.so.open_txn;
+                    does = put_same v.doing t (Some (Rolls (Some s) end));
+                    stays = at.so.stays;
+                  },
+                );
+                saves = subst (HasSaves h t (length v.log + 1) (take s (m.txns t).saves))
+                    (sym (put_same v.saves t (take s (v.saves t))))
                     (marked_saves (length v.log + 1) (take s (m.txns t).saves) (take s (v.saves t)) carried);
                 spans = subst (λ z. HoldsAs v t z (m.txns t).spans) at.is_so x.spans;
                 unentered = tt;
-                entered = λ n q by. elim (x.entered n q by) [ inl a ↦ inl (marked_entry past m.h n t q a) | inr a ↦ absurd (subst IsUntold at.is_so a.1) ];
+                entered = λ n q by. elim (x.entered n q by)
+                    [ inl a ↦ inl (marked_entry past m.h n t q a) | inr a ↦ absurd (subst IsUntold at.is_so a.1) ];
               })
-              (λ u apart. txn_kept v back u (carries_view v back.doing back.saves v.spans u (put_other v.doing t (Some (Rolls (Some s) end)) u apart) (put_other v.saves t (take s (v.saves t)) u apart) refl)
+              (λ u apart. txn_kept v back u
+              (carries_view v back.doing back.saves v.spans u
+              (put_other v.doing t (Some (Rolls (Some s) end)) u apart)
+              (put_other v.saves t (take s (v.saves t)) u apart) refl)
               m.h h (marked_entries v.log past m.h u) (m.txns u) (stands.each u));
         },
       )
@@ -233,7 +278,8 @@ module _ (v : View) (m : Machine) (t s end : ℕ) (stands : StandsFor v m) (idle
       marked_saves : (limit : ℕ) (saves : List (List ℕ)) (ends : List ℕ) → HasSaves m.h t limit saves ends
           → HasSaves (map (marked past) m.h) t limit saves ends
       marked_saves limit [] [] has = tt
-      marked_saves limit (k ∷ saves) (e ∷ ends) has = ((marked_entries v.log past m.h t).remembers k e has.0, has.1, marked_saves limit saves ends has.2)
+      marked_saves limit (k ∷ saves) (e ∷ ends) has =
+          ((marked_entries v.log past m.h t).remembers k e has.0, has.1, marked_saves limit saves ends has.2)
       marked_saves limit [] (e ∷ ends) has = absurd has
       marked_saves limit (k ∷ saves) [] has = absurd has
 

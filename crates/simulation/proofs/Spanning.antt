@@ -56,5 +56,6 @@ pub free_by_true_spans : FreeByTrueSpans
 free_by_true_spans v m t s stands true_spans out u apart h =
     let x = stands.each u in
     free_of v s u (out u apart)
-    (λ n o loses by c. out u apart (conflict_among s (at_key Exclusive (key_of o)) (v.spans u) ((true_spans.losers u loses).all n o by) c))
+    (λ n o loses by c. out u apart
+    (conflict_among s (at_key Exclusive (key_of o)) (v.spans u) ((true_spans.losers u loses).all n o by) c))
     (m.txns u).status (m.txns u).spans x.status x.spans h

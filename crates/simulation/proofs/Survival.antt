@@ -42,8 +42,10 @@ recorded_in : (v : View) (newer older : List Record) (h : List Entry) → v.stab
     → AllByRecursion (IsRecorded (with_log v (newer ++ older))) h
     → AllByRecursion (λ e. IsOpBy older e.number e.txn e.op) h
 recorded_in v newer older [] within all = tt
-recorded_in v newer older (e ∷ h) within all =
-    (op_shorter newer older e.number e.txn e.op (omega (arith, all.0.stable, within)) all.0.is, recorded_in v newer older h within all.1)
+recorded_in v newer older (e ∷ h) within all = (
+  op_shorter newer older e.number e.txn e.op (omega (arith, all.0.stable, within)) all.0.is,
+  recorded_in v newer older h within all.1,
+)
 
 module _ (v : View) (m : Machine) (newer older : List Record) (t : ℕ) (legal : IsLegal (newer ++ older))
     (within : v.stable ≤ length older)
@@ -171,7 +173,8 @@ module _ (v : View) (m : Machine) (newer older : List Record) (t : ℕ) (legal :
           begun = (λ e. begin, λ at. same_begun ∙ had_begun begin);
           status = (record { does_none = refl; loses_so = left_ended older t ended }, n, here, kept);
           spans = none;
-          entered = λ k o by. elim (entered k o (op_longer newer older k t o by)) [ inl e ↦ inl e | inr e ↦ absurd (told e.1) ];
+          entered = λ k o by. elim (entered k o (op_longer newer older k t o by))
+              [ inl e ↦ inl e | inr e ↦ absurd (told e.1) ];
           over = λ h. (refl, quiet.loses_so, quiet.does_none);
           left = λ h. absurd (true≢false (sym ended ∙ h.goes_on));
         }
@@ -236,15 +239,20 @@ module _ (v : View) (m : Machine) (newer older : List Record) (t : ℕ) (legal :
         undone : IsOver (newer ++ older) t
             → (n : ℕ) (o : Op) → IsOpBy (newer ++ older) n t o → is_crossed (newer ++ older) n ≡ true
         undone (inl end) n o by = undone_wholly (newer ++ older) t end.0 n o legal end.1 by
-        undone (inr none) n o by = absurd (none (begun (newer ++ older) t n legal (op_step t o (record_at (newer ++ older) n) by)))
+        undone (inr none) n o by =
+            absurd (none (begun (newer ++ older) t n legal (op_step t o (record_at (newer ++ older) n) by)))
 
     -- one case for each status
     pub survival : (s : Status) → (m.txns t).status ≡ s → HasStatusOf (with_log v (newer ++ older)) t s
         → HoldsAs (with_log v (newer ++ older)) t s (m.txns t).spans → IsEntered s → Survival v m newer older t s
-    survival Open e so spans entered = let d = open_falls Open entered so.open_txn in fell_open Open d (d.allowed, refl) so.open_txn
-    survival (Waiting n o) e so spans entered = let d = open_falls (Waiting n o) entered so.0.open_txn in fell_open (Waiting n o) d (d.allowed, refl) so.0.open_txn
-    survival (Reading r) e so spans entered = let d = open_falls (Reading r) entered so.open_txn in fell_open (Reading r) d (d.allowed, refl) so.open_txn
-    survival (Rolling p) e so spans entered = let d = open_falls (Rolling p) entered so.1.open_txn in fell_open (Rolling p) d (d.allowed, refl) so.1.open_txn
+    survival Open e so spans entered = let d = open_falls Open entered so.open_txn in
+        fell_open Open d (d.allowed, refl) so.open_txn
+    survival (Waiting n o) e so spans entered = let d = open_falls (Waiting n o) entered so.0.open_txn in
+        fell_open (Waiting n o) d (d.allowed, refl) so.0.open_txn
+    survival (Reading r) e so spans entered = let d = open_falls (Reading r) entered so.open_txn in
+        fell_open (Reading r) d (d.allowed, refl) so.open_txn
+    survival (Rolling p) e so spans entered = let d = open_falls (Rolling p) entered so.1.open_txn in
+        fell_open (Rolling p) d (d.allowed, refl) so.1.open_txn
     survival Committing e so spans entered =
         elim (cases_lt (length older) so.1) [
           | inl above ↦
@@ -263,12 +271,15 @@ module _ (v : View) (m : Machine) (newer older : List Record) (t : ℕ) (legal :
                 over = λ h. absurd (true≢false (sym h ∙ goes_on));
                 left = λ h. inl refl;
               }
-          | inr kept ↦ committed Committing so.1 (ended (m.txns t) Committed) refl refl (inl (refl, refl)) refl (λ u. u) entered so.0 so.2 kept
+          | inr kept ↦ committed Committing so.1 (ended (m.txns t) Committed) refl refl (inl (refl, refl)) refl (λ u. u)
+              entered so.0 so.2 kept
         ]
     survival Committed e so spans entered =
-        committed Committed so.1 (m.txns t) e spans (refl, refl) refl (λ u. u) entered so.0 so.2 (omega (arith, so.3, within))
+        committed Committed so.1 (m.txns t) e spans (refl, refl) refl (λ u. u) entered so.0 so.2
+        (omega (arith, so.3, within))
     survival Losing e so spans entered =
-        let here : record_at older t ≡ Some is.Begin = sym (record_same newer older t (omega (arith, so.stable, within))) ∙ so.open_txn.begun in
+        let here : record_at older t ≡ Some is.Begin =
+        sym (record_same newer older t (omega (arith, so.stable, within))) ∙ so.open_txn.begun in
         let open_txn : IsOpen older t = record { begun = here; goes_on = goes_on_in so.open_txn } in
         record {
           new = m.txns t;
@@ -280,8 +291,13 @@ module _ (v : View) (m : Machine) (newer older : List Record) (t : ℕ) (legal :
           status = is_loser open_txn;
           spans = record {
             each = λ s among.
-                let own = spans.each s among in
-                (own.0, own.1, op_shorter newer older own.0 t own.1 (omega (arith, so.found own.0 own.1 own.2, within)) own.2, own.3);
+                let own = spans.each s among in (
+                  own.0,
+                  own.1,
+                  op_shorter newer older own.0 t own.1 (omega (arith, so.found own.0 own.1 own.2, within))
+                      own.2,
+                  own.3,
+                );
             all = λ n o by. spans.all n o (op_longer newer older n t o by);
           };
           entered = acts_untold Losing Losing tt entered;

@@ -54,7 +54,8 @@ pub recorded_push : (v w : View) (r : Record) (h : List Entry) → w.log ≡ r �
 recorded_push v w r [] log stable all = tt
 recorded_push v w r (e ∷ h) log stable all = (
   record {
-    is = subst (λ l. IsOpBy l e.number e.txn e.op) (sym log) (kept_at (AnOp e.txn e.op) r v.log e.number (op_number v.log e.number e.txn e.op all.0.is) all.0.is);
+    is = subst (λ l. IsOpBy l e.number e.txn e.op) (sym log)
+        (kept_at (AnOp e.txn e.op) r v.log e.number (op_number v.log e.number e.txn e.op all.0.is) all.0.is);
     stable = omega (arith, stable, all.0.stable);
   },
   recorded_push v w r h log stable all.1,
@@ -80,12 +81,17 @@ module _ (v : View) (m : Machine) (t : ℕ) (legal : IsLegal (is.End t ∷ v.log
   agrees_lost : (n u : ℕ) (o : Op) → IsOpBy v.log n u o → Agrees v.log (is.End t ∷ v.log) (counts v) (counts w) n u o
   agrees_lost n u o by =
       elim (cases_eq u t) [
-        | inr apart ↦ Both refl refl (λ a. ap (λ (l : Bool). not (is_crossed v.log n) && (not l && not (is_to_undo (v.doing u) n))) (sym (other_lost u apart)))
+        | inr apart ↦ Both refl refl
+            (λ a. ap (λ (l : Bool). not (is_crossed v.log n) && (not l && not (is_to_undo (v.doing u) n)))
+            (sym (other_lost u apart)))
         | inl e ↦ Neither
-            (λ a. loses_out false (is_crossed v.log n) (v.loses u) (not (is_to_undo (v.doing u) n)) (ap v.loses e ∙ loses))
-            (λ a. crossed_out false (is_crossed v.log n) (not (w.loses u) && not (is_to_undo (v.doing u) n)) (elim (cases_Bool (is_crossed v.log n)) [
+            (λ a. loses_out false (is_crossed v.log n) (v.loses u) (not (is_to_undo (v.doing u) n))
+            (ap v.loses e ∙ loses))
+            (λ a. crossed_out false (is_crossed v.log n) (not (w.loses u) && not (is_to_undo (v.doing u) n))
+            (elim (cases_Bool (is_crossed v.log n)) [
               | inl c ↦ c
-              | inr c ↦ absurd (legal.0.undone n (record { op = o; is = subst (λ (k : ℕ). IsOpBy v.log n k o) e by; uncrossed = c }))
+              | inr c ↦ absurd (legal.0.undone n
+                  (record { op = o; is = subst (λ (k : ℕ). IsOpBy v.log n k o) e by; uncrossed = c }))
             ]))
       ]
 
@@ -114,13 +120,18 @@ module _ (v : View) (m : Machine) (t : ℕ) (legal : IsLegal (is.End t ∷ v.log
       each = one_changed m w m.h t (ended (m.txns t) Gone)
           (record {
             begun = begun_so (is.End t) v.log t (m.txns t).begun (λ e. cc) (stands.each t).begun;
-            status = (record { does_none = loser.quiet.does_none; loses_so = not_lost }, inl (length v.log + 1, record_new (is.End t) v.log));
+            status = (
+              record { does_none = loser.quiet.does_none; loses_so = not_lost },
+              inl (length v.log + 1, record_new (is.End t) v.log),
+            );
             saves = tt;
             spans = refl;
             unentered = tt;
-            entered = λ n o by. elim ((stands.each t).entered n o (op_before (is.End t) v.log t n o (λ q e. cc) by)) [ inl a ↦ inl a | inr a ↦ inr (a.0, tt) ];
+            entered = λ n o by. elim ((stands.each t).entered n o (op_before (is.End t) v.log t n o (λ q e. cc) by))
+                [ inl a ↦ inl a | inr a ↦ inr (a.0, tt) ];
           })
-          (λ u apart. txn_kept v w u (passes v w (is.End t) u (passes_lost u apart)) m.h m.h (same_entries v.log m.h u) (m.txns u) (stands.each u));
+          (λ u apart. txn_kept v w u (passes v w (is.End t) u (passes_lost u apart)) m.h m.h (same_entries v.log m.h u)
+          (m.txns u) (stands.each u));
     },
   )
 
@@ -178,10 +189,12 @@ module _ (v : View) (m : Machine) (legal : IsLegal v.log) (stands : StandsFor v 
 
   recorded_stable : (h : List Entry) → AllByRecursion (IsRecorded v) h → AllByRecursion (IsRecorded one_more) h
   recorded_stable [] all = tt
-  recorded_stable (e ∷ h) all = (record { is = all.0.is; stable = omega (arith, all.0.stable) }, recorded_stable h all.1)
+  recorded_stable (e ∷ h) all =
+      (record { is = all.0.is; stable = omega (arith, all.0.stable) }, recorded_stable h all.1)
 
   txn_stable : (u : ℕ) → (IsCommitAt v.log u (v.stable + 1) → ⊥) → IsTxnOf one_more m.h u (m.txns u)
-  txn_stable u none = txn_kept v one_more u (carries_stable u none) m.h m.h (same_entries v.log m.h u) (m.txns u) (stands.each u)
+  txn_stable u none = txn_kept v one_more u (carries_stable u none) m.h m.h (same_entries v.log m.h u) (m.txns u)
+      (stands.each u)
 
   no_commit : ((t : ℕ) → IsCommitAt v.log t (v.stable + 1) → ⊥) → StandsFor one_more m
   no_commit none = record {
@@ -194,7 +207,8 @@ module _ (v : View) (m : Machine) (legal : IsLegal v.log) (stands : StandsFor v 
   commit_told : (t : ℕ) → IsCommitAt v.log t (v.stable + 1) → (n : Machine) × Steps m (TellsCommitted t ∷ []) n
       × StandsFor one_more n
   commit_told t at =
-      let is_committing : (m.txns t).status ≡ Committing = committing_is v t (m.txns t).status legal at (stands.each t).status in
+      let is_committing : (m.txns t).status ≡ Committing =
+      committing_is v t (m.txns t).status legal at (stands.each t).status in
       let so : HasStatusOf v t Committing = subst (HasStatusOf v t) is_committing (stands.each t).status in
       let new : Txn = ended (m.txns t) Committed in (
         with_txn m t new,
@@ -206,11 +220,17 @@ module _ (v : View) (m : Machine) (legal : IsLegal v.log) (stands : StandsFor v 
           each = one_changed m one_more m.h t new
               (record {
                 begun = (stands.each t).begun;
-                status = (record { does_none = so.0.does_none; loses_so = so.0.loses_so }, v.stable + 1, at, omega arith);
+                status = (
+                  record { does_none = so.0.does_none; loses_so = so.0.loses_so },
+                  v.stable + 1,
+                  at,
+                  omega arith,
+                );
                 saves = tt;
                 spans = refl;
                 unentered = tt;
-                entered = λ n o by. elim ((stands.each t).entered n o by) [ inl a ↦ inl a | inr a ↦ absurd (subst IsUntold is_committing a.1) ];
+                entered = λ n o by. elim ((stands.each t).entered n o by)
+                    [ inl a ↦ inl a | inr a ↦ absurd (subst IsUntold is_committing a.1) ];
               })
               (λ u apart. txn_stable u (λ f. apart (commit_same u f)));
         },
@@ -243,6 +263,7 @@ commits_are_told (suc k) v m legal stands within =
     let rest = commits_are_told k (record v { stable = v.stable + 1 }) one.0 legal one.2 (omega (arith, within)) in
     let more : v.stable + 1 + k ≡ v.stable + suc k = omega arith in (
       rest.0,
-      steps_after m (told_at (record_at v.log (v.stable + 1))) (told_after v.log (v.stable + 1) k) one.0 rest.0 one.1 rest.1,
+      steps_after m (told_at (record_at v.log (v.stable + 1))) (told_after v.log (v.stable + 1) k) one.0 rest.0 one.1
+          rest.1,
       subst (λ s. StandsFor (record v { stable = s }) rest.0) more rest.2,
     )

@@ -54,11 +54,13 @@ module _ (v : View) (m : Machine) (t : ℕ) (stands : StandsFor v m) (idle : v.d
   roll_agrees n u q by = elim (cases_eq u t) [
     | inr apart ↦ Both refl refl (λ a.
         ap (λ (b : Bool). not (b && true) && counts v (as_entry v.log n u q a)) (ne_eqb u t apart)
-        ∙ counts_same v n u (is_crossed v.log n) (roll_view.doing u) (put_other v.doing t (Some (Rolls None 0)) u apart))
+        ∙ counts_same v n u (is_crossed v.log n) (roll_view.doing u)
+        (put_other v.doing t (Some (Rolls None 0)) u apart))
     | inl e ↦ Neither
         (λ a. ap (λ (b : Bool). not (b && true) && counts v (as_entry v.log n u q a)) (eq-eqb u t e))
         (λ a. above_out (is_crossed v.log n) (v.loses u) (is_to_undo (roll_view.doing u) n)
-        (ap (λ d. is_to_undo d n) (ap roll_view.doing e ∙ put_same v.doing t (Some (Rolls None 0))) ∙ lt-ltb 0 n (op_number v.log n u q by).positive))
+        (ap (λ d. is_to_undo d n) (ap roll_view.doing e ∙ put_same v.doing t (Some (Rolls None 0)))
+        ∙ lt-ltb 0 n (op_number v.log n u q by).positive))
   ]
 
   rolls_so : Leads v m (RollsBack t) (does v t (Some (Rolls None 0)))
@@ -72,19 +74,31 @@ module _ (v : View) (m : Machine) (t : ℕ) (stands : StandsFor v m) (idle : v.d
         record {
           entries = uncross_marked crossing m.h ∙ ap (filter (λ e. not (crossing e.txn e.number))) stands.entries
               ∙ filter_twice (λ e. not (crossing e.txn e.number)) (counts v) (hist v.log)
-              ∙ alike v.log v.log (λ e. not (crossing e.txn e.number) && counts v e) (counts roll_view) v.log roll_agrees;
+              ∙ alike v.log v.log (λ e. not (crossing e.txn e.number) && counts v e) (counts roll_view) v.log
+              roll_agrees;
           falling = marked_falling crossing m.h stands.falling;
-          recorded = marked_all (IsRecorded v) (IsRecorded roll_view) crossing m.h (λ e r. record { is = r.is; stable = r.stable }) stands.recorded;
+          recorded = marked_all (IsRecorded v) (IsRecorded roll_view) crossing m.h
+              (λ e r. record { is = r.is; stable = r.stable }) stands.recorded;
           each = one_changed m roll_view h t new
               (record {
                 begun = x.begun;
-                status = (0, record { open_txn = at.so.open_txn; does = put_same v.doing t (Some (Rolls None 0)); stays = at.so.stays });
+                status = (
+                  0,
+                  record {
+                    open_txn = at.so.open_txn;
+                    does = put_same v.doing t (Some (Rolls None 0));
+                    stays = at.so.stays;
+                  },
+                );
                 saves = tt;
                 spans = subst (λ s. HoldsAs v t s (m.txns t).spans) at.is_so x.spans;
                 unentered = tt;
-                entered = λ n q by. elim (x.entered n q by) [ inl a ↦ inl (marked_entry crossing m.h n t q a) | inr a ↦ absurd (subst IsUntold at.is_so a.1) ];
+                entered = λ n q by. elim (x.entered n q by)
+                    [ inl a ↦ inl (marked_entry crossing m.h n t q a) | inr a ↦ absurd (subst IsUntold at.is_so a.1) ];
               })
-              (λ u apart. txn_kept v roll_view u (carries_view v roll_view.doing v.saves v.spans u (put_other v.doing t (Some (Rolls None 0)) u apart) refl refl)
+              (λ u apart. txn_kept v roll_view u
+              (carries_view v roll_view.doing v.saves v.spans u (put_other v.doing t (Some (Rolls None 0)) u apart)
+              refl refl)
               m.h h (marked_entries v.log crossing m.h u) (m.txns u) (stands.each u));
         },
       )
@@ -110,11 +124,13 @@ module _ (v : View) (m : Machine) (t u x : ℕ) (i : Option Op) (legal : IsLegal
         → Agrees v.log (is.Comp t u x i ∷ v.log) (counts v) (counts comp_view) n w q
     comp_agrees n w q by = elim (cases_eq n u) [
       | inr apart ↦
-          let same : is_crossed v.log n ≡ ((n == u) || is_crossed v.log n) = sym (ap (λ (b : Bool). b || is_crossed v.log n) (ne_eqb n u apart)) in
+          let same : is_crossed v.log n ≡ ((n == u) || is_crossed v.log n) =
+          sym (ap (λ (b : Bool). b || is_crossed v.log n) (ne_eqb n u apart)) in
           Both refl same (λ a. ap (λ (c : Bool). not c && (not (v.loses w) && not (is_to_undo (v.doing w) n))) same)
       | inl e ↦
           let latest = legal.0.latest.is in
-          let own : w ≡ t = (op_same w t q latest.op (record_at v.log u) (subst (λ (k : ℕ). IsOpBy v.log k w q) e by) latest.is).0 in
+          let own : w ≡ t = (op_same w t q latest.op (record_at v.log u) (subst (λ (k : ℕ). IsOpBy v.log k w q) e by)
+          latest.is).0 in
           let out : (c : Bool) → (not c && (not (v.loses w) && not (is_to_undo (v.doing w) n))) ≡ false =
           λ c. (λ j. not c && (not (v.loses (own j)) && not (is_to_undo (v.doing (own j)) (e j)))) ∙ undone_out c in
           Neither (λ a. out (is_crossed v.log n)) (λ a. out ((n == u) || is_crossed v.log n))
@@ -139,7 +155,8 @@ module _ (v : View) (m : Machine) (t u x : ℕ) (i : Option Op) (legal : IsLegal
       entries = stands.entries ∙ alike v.log (is.Comp t u x i ∷ v.log) (counts v) (counts comp_view) v.log comp_agrees;
       falling = stands.falling;
       recorded = recorded_push v comp_view (is.Comp t u x i) m.h refl refl stands.recorded;
-      each = λ w. txn_kept v comp_view w (passes v comp_view (is.Comp t u x i) w (comp_passes w)) m.h m.h (same_entries v.log m.h w) (m.txns w) (stands.each w);
+      each = λ w. txn_kept v comp_view w (passes v comp_view (is.Comp t u x i) w (comp_passes w)) m.h m.h
+          (same_entries v.log m.h w) (m.txns w) (stands.each w);
     }
 
 pub comp_is_no_step : CompIsNoStep
@@ -169,7 +186,8 @@ module _ (v : View) (m : Machine) (n : ℕ) (a : Answer) (legal : IsLegal (is.An
     not_awaited : (w k : ℕ) (q : Op) → IsOpBy v.log k w q → v.doing w ≡ Some (Awaits k) → k ≡ n → ⊥
     not_awaited w k q by does e =
         let l : v.loses w ≡ true = unasked w q (subst (λ (z : ℕ). IsOpBy v.log z w q) e by) in
-        let so : HasStatusOf v w Losing = subst (HasStatusOf v w) (losing_is v w (m.txns w).status (stands.each w).status l) (stands.each w).status in
+        let so : HasStatusOf v w Losing =
+        subst (HasStatusOf v w) (losing_is v w (m.txns w).status (stands.each w).status l) (stands.each w).status in
         let both : Some (Awaits k) ≡ None = sym does ∙ so.quiet.does_none in
         cc
 
@@ -193,7 +211,8 @@ module _ (v : View) (m : Machine) (n : ℕ) (a : Answer) (legal : IsLegal (is.An
           ∙ alike v.log (is.Answer n a ∷ v.log) (counts v) (counts undone_view) v.log undone_agrees;
       falling = stands.falling;
       recorded = recorded_push v undone_view (is.Answer n a) m.h refl refl stands.recorded;
-      each = λ w. txn_kept v undone_view w (passes v undone_view (is.Answer n a) w (undone_passes w)) m.h m.h (same_entries v.log m.h w) (m.txns w) (stands.each w);
+      each = λ w. txn_kept v undone_view w (passes v undone_view (is.Answer n a) w (undone_passes w)) m.h m.h
+          (same_entries v.log m.h w) (m.txns w) (stands.each w);
     }
 
 pub undone_is_no_step : UndoneIsNoStep

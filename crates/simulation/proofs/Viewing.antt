@@ -33,7 +33,8 @@ calm_flags c l a el ea = (λ j. not c && (not (el j) && not (ea j))) ∙ by c
 pub calm_entries : CalmEntriesAreTheLogs
 calm_entries v m stands calm =
     stands.entries ∙ alike v.log v.log (counts v) (λ e. not e.crossed) v.log (λ n t o by.
-    Both refl refl (λ a. calm_flags (is_crossed v.log n) (v.loses t) (is_to_undo (v.doing t) n) (calm.stays t) (calm.unrolled t n)))
+    Both refl refl (λ a. calm_flags (is_crossed v.log n) (v.loses t) (is_to_undo (v.doing t) n) (calm.stays t)
+    (calm.unrolled t n)))
 
 answered_flag : (a c : Bool) → (c ≡ false → a ≡ true) → (a && not c) ≡ not c
 answered_flag true c h = refl
@@ -45,8 +46,10 @@ plain_is_the_logs v m k legal right stands each =
     ap (λ x. get x k) (sym (plain_uncrossed m.h) ∙ ap plain stands.entries)
     ∙ plain_filtered (counts v) k (hist v.log) (all_hist (IsHarmless (counts v) k) v.log v.log harmless)
     ∙ plain_of_history v.log k
-    ∙ values_alike k (λ n. is_some (answer_of v.log n) && not (is_crossed v.log n)) (λ n. not (is_crossed v.log n)) v.log
-    (λ n t o by on. answered_flag (is_some (answer_of v.log n)) (is_crossed v.log n) (λ c. (each n t o by (is_same-true k (key_of o) on) c).0))
+    ∙ values_alike k (λ n. is_some (answer_of v.log n) && not (is_crossed v.log n)) (λ n. not (is_crossed v.log n))
+    v.log
+    (λ n t o by on. answered_flag (is_some (answer_of v.log n)) (is_crossed v.log n)
+    (λ c. (each n t o by (is_same-true k (key_of o) on) c).0))
     ∙ sym (cancel v.log legal right k)
   where
     harmless : (n t : ℕ) (o : Op) → IsOpBy v.log n t o → (a : Answer)
@@ -56,7 +59,8 @@ plain_is_the_logs v m k legal right stands each =
         | inl c ↦ inl c
         | inr c ↦ inr (λ same.
             let h = each n t o by same c in
-            true≢false (sym (calm_flags (is_crossed v.log n) (v.loses t) (is_to_undo (v.doing t) n) h.1 h.2 ∙ ap not c) ∙ drops))
+            true≢false (sym (calm_flags (is_crossed v.log n) (v.loses t) (is_to_undo (v.doing t) n) h.1 h.2 ∙ ap not c)
+            ∙ drops))
       ];
       stays = λ keeps. why_in (is_crossed v.log n) (not (v.loses t) && not (is_to_undo (v.doing t) n)) keeps;
     }
@@ -92,16 +96,23 @@ module _ (v : View) (m : Machine) (stands : StandsFor v m) where
 
   same_hist : (r : Record) (low : ℕ) → (r ≡ is.Session) ⊎ (r ≡ is.Checkpoint low)
       → filter (counts v) (hist v.log) ≡ filter (counts (record v { log = r ∷ v.log })) (hist (r ∷ v.log))
-  same_hist r low (inl e) = subst (λ q. filter (counts v) (hist v.log) ≡ filter (counts (record v { log = q ∷ v.log })) (hist (q ∷ v.log))) (sym e)
-      (alike v.log (is.Session ∷ v.log) (counts v) (counts (record v { log = is.Session ∷ v.log })) v.log (λ n t o by. Both refl refl (λ a. refl)))
-  same_hist r low (inr e) = subst (λ q. filter (counts v) (hist v.log) ≡ filter (counts (record v { log = q ∷ v.log })) (hist (q ∷ v.log))) (sym e)
-      (alike v.log (is.Checkpoint low ∷ v.log) (counts v) (counts (record v { log = is.Checkpoint low ∷ v.log })) v.log (λ n t o by. Both refl refl (λ a. refl)))
+  same_hist r low (inl e) =
+      subst (λ q. filter (counts v) (hist v.log) ≡ filter (counts (record v { log = q ∷ v.log })) (hist (q ∷ v.log)))
+      (sym e)
+      (alike v.log (is.Session ∷ v.log) (counts v) (counts (record v { log = is.Session ∷ v.log })) v.log
+      (λ n t o by. Both refl refl (λ a. refl)))
+  same_hist r low (inr e) =
+      subst (λ q. filter (counts v) (hist v.log) ≡ filter (counts (record v { log = q ∷ v.log })) (hist (q ∷ v.log)))
+      (sym e)
+      (alike v.log (is.Checkpoint low ∷ v.log) (counts v) (counts (record v { log = is.Checkpoint low ∷ v.log })) v.log
+      (λ n t o by. Both refl refl (λ a. refl)))
 
 pub neutral_is_no_step : NeutralIsNoStep
 neutral_is_no_step v m r low stands which = record {
   entries = stands.entries ∙ same_hist v m stands r low which;
   falling = stands.falling;
   recorded = recorded_push v (record v { log = r ∷ v.log }) r m.h refl refl stands.recorded;
-  each = λ u. txn_kept v (record v { log = r ∷ v.log }) u (passes v (record v { log = r ∷ v.log }) r u (neutral_passes v m stands r low u which))
+  each = λ u. txn_kept v (record v { log = r ∷ v.log }) u
+      (passes v (record v { log = r ∷ v.log }) r u (neutral_passes v m stands r low u which))
       m.h m.h (same_entries v.log m.h u) (m.txns u) (stands.each u);
 }

@@ -14,7 +14,11 @@ kept_bytes forced kept end bytes e =
 
 pub crash_leaves : (forced pending : List ℕ) (kept : ℕ) → MayLeave forced pending (forced ++ take kept pending)
 crash_leaves forced pending kept = record {
-  beginning = (drop kept pending, ap (λ p. forced ++ p) (sym (take-append-drop kept pending)) ∙ sym (append_assoc forced (take kept pending) (drop kept pending)));
+  beginning = (
+    drop kept pending,
+    ap (λ p. forced ++ p) (sym (take-append-drop kept pending))
+        ∙ sym (append_assoc forced (take kept pending) (drop kept pending)),
+  );
   has_forced = (take kept pending, refl);
 }
 
@@ -23,16 +27,30 @@ pub crash_reaches : (forced pending left : List ℕ) → MayLeave forced pending
     → (kept : ℕ) × (left ≡ forced ++ take kept pending)
 crash_reaches forced pending left may =
     let more = may.has_forced.0 in let rest = may.beginning.0 in
-    let whole : forced ++ pending ≡ forced ++ (more ++ rest) = may.beginning.1 ∙ ap (λ l. l ++ rest) may.has_forced.1 ∙ append_assoc forced more rest in
-    let same : pending ≡ more ++ rest = append_cancel_left forced _ _ whole in
-    (length more, may.has_forced.1 ∙ ap (λ m. forced ++ m) (sym (ap (take (length more)) same ∙ take-append_seam more rest)))
+    let whole : forced ++ pending ≡ forced ++ (more ++ rest) =
+    may.beginning.1 ∙ ap (λ l. l ++ rest) may.has_forced.1 ∙ append_assoc forced more rest in
+    let same : pending ≡ more ++ rest = append_cancel_left forced _ _ whole in (
+      length more,
+      may.has_forced.1
+          ∙ ap (λ m. forced ++ m) (sym (ap (take (length more)) same ∙ take-append_seam more rest)),
+    )
 
 -- the state of a log whose bytes were cut so, all of them forced
 pub crash_state : (bytes left : List ℕ) (forced kept end : ℕ) (countdown : Option ℕ) (failures : ℕ)
     → left ≡ take end bytes → end ≡ length left
     → min end (length bytes) ≡ min (forced + kept) (length bytes)
-    → let old : LogState = record { forced = take forced bytes; pending = drop forced bytes; countdown = countdown; failures = failures } in
-    let new : LogState = record { forced = take end left; pending = drop end left; countdown = countdown; failures = failures } in
+    → let old : LogState = record {
+      forced = take forced bytes;
+      pending = drop forced bytes;
+      countdown = countdown;
+      failures = failures;
+    } in
+    let new : LogState = record {
+      forced = take end left;
+      pending = drop end left;
+      countdown = countdown;
+      failures = failures;
+    } in
     new ≡ with_bytes old (old.forced ++ take kept old.pending) []
 crash_state bytes left forced kept end countdown failures cut all e =
     let f : take end left ≡ take forced bytes ++ take kept (drop forced bytes) =

@@ -24,7 +24,9 @@ image o = option_map (λ v. v.items) o
 find-images : (es : Entries) (q : ℕ) → find nat_cmp q (images es) ≡ image (lookup (is_at (nat_cmp q)) es)
 find-images [] q = refl
 find-images (e ∷ es) q =
-    elim (is_eq (nat_cmp q e.0)) as (λ b. cond b (Some e.1.items) (find nat_cmp q (images es)) ≡ image (cond b (Some e.1) (lookup (is_at (nat_cmp q)) es))) [
+    elim (is_eq (nat_cmp q e.0))
+    as (λ b. cond b (Some e.1.items) (find nat_cmp q (images es))
+    ≡ image (cond b (Some e.1) (lookup (is_at (nat_cmp q)) es))) [
       | true ↦ refl
       | false ↦ find-images es q
     ]
@@ -35,16 +37,20 @@ get-pages_of es q = get-from_entries nat_cmp_total (images es) q ∙ find-images
 
 image-cond : (a b : Bool) → a ≡ b → (v : Vec ℕ Global) (o : Option (Vec ℕ Global))
     → image (cond a (Some v) o) ≡ cond b (Some v.items) (image o)
-image-cond a b e v o = ap (λ c. image (cond c (Some v) o)) e ∙ elim b as (λ c. image (cond c (Some v) o) ≡ cond c (Some v.items) (image o)) [ true ↦ refl | false ↦ refl ]
+image-cond a b e v o = ap (λ c. image (cond c (Some v) o)) e
+    ∙ elim b as (λ c. image (cond c (Some v) o) ≡ cond c (Some v.items) (image o)) [ true ↦ refl | false ↦ refl ]
 
 -- entries that have v at k, and elsewhere what was there
 pub pages_of-updates : (old new : Entries) (k : ℕ) (v : Vec ℕ Global)
     → ((q : ℕ) → lookup (is_at (nat_cmp q)) new ≡ cond (is_at (nat_cmp k) q) (Some v) (lookup (is_at (nat_cmp q)) old))
     → pages_of new ≡ insert (pages_of old) k v.items
-pages_of-updates old new k v updates = same_map nat_cmp_total nat_cmp-IsAntisymmetric (pages_of new) (insert (pages_of old) k v.items) (λ q.
+pages_of-updates old new k v updates =
+    same_map nat_cmp_total nat_cmp-IsAntisymmetric (pages_of new) (insert (pages_of old) k v.items) (λ q.
     get-pages_of new q ∙ ap image (updates q)
-    ∙ image-cond (is_at (nat_cmp k) q) (eq_by_cmp nat_cmp q k) ((eq_by_cmp_equiv nat_cmp_total).symm k q) v (lookup (is_at (nat_cmp q)) old)
-    ∙ sym (get-insert nat_cmp_total (pages_of old) k v.items q ∙ ap (cond (eq_by_cmp nat_cmp q k) (Some v.items)) (get-pages_of old q)))
+    ∙ image-cond (is_at (nat_cmp k) q) (eq_by_cmp nat_cmp q k) ((eq_by_cmp_equiv nat_cmp_total).symm k q) v
+    (lookup (is_at (nat_cmp q)) old)
+    ∙ sym (get-insert nat_cmp_total (pages_of old) k v.items q
+    ∙ ap (cond (eq_by_cmp nat_cmp q k) (Some v.items)) (get-pages_of old q)))
 
 -- a first entry stays first
 put-first : (e : ℕ × Vec ℕ Global) (es : Entries) → IsStrictlySortedBy nat_cmp (keys_of (e ∷ es))
@@ -53,7 +59,8 @@ put-first e [] sorted = refl
 put-first e (e' ∷ es) sorted = let less = (sorted_head nat_cmp e.0 (keys_of (e' ∷ es)) sorted).0 in rw less refl
 
 entries-pages_of : (es : Entries) → IsStrictlySortedBy nat_cmp (keys_of es) → entries (pages_of es) ≡ images es
-entries-pages_of [] sorted = nil_from_length (entries (pages_of [])) (sym (len-entries (pages_of [])) ∙ len-empty nat_cmp (List ℕ))
+entries-pages_of [] sorted =
+    nil_from_length (entries (pages_of [])) (sym (len-entries (pages_of [])) ∙ len-empty nat_cmp (List ℕ))
 entries-pages_of (e ∷ es) sorted =
     entries-insert nat_cmp_total (pages_of es) e.0 e.1.items
     ∙ ap (put nat_cmp e.0 e.1.items) (entries-pages_of es (sorted_tail nat_cmp e.0 (keys_of es) sorted))

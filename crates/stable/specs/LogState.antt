@@ -20,4 +20,7 @@ with_bytes log forced pending = record log { forced = forced; pending = pending 
 
 -- the log after a call that gave this answer, its bytes as they were
 abbrev pub log_after : {T : Type 0} → LogState → Result T DeviceError → LogState
-log_after log answer = record log { countdown = after_answer log.countdown answer; failures = log.failures + failures_told answer }
+log_after log answer = record log {
+  countdown = after_answer log.countdown answer;
+  failures = log.failures + failures_told answer;
+}

@@ -21,8 +21,10 @@ pub record PagesState : Type 0 where
 
 abbrev pub pages_state_code : Coded PagesState
 pages_state_code =
-    code_by (Pages × (Option ℕ × ℕ)) (coded× (code coded_ℕ (coded_list coded_ℕ)) (coded× (coded_option coded_ℕ) coded_ℕ))
-    (λ s. (s.pages, (s.countdown, s.failures))) (λ p. record { pages = p.0; countdown = p.1.0; failures = p.1.1 }) (λ _. refl)
+    code_by (Pages × (Option ℕ × ℕ))
+    (coded× (code coded_ℕ (coded_list coded_ℕ)) (coded× (coded_option coded_ℕ) coded_ℕ))
+    (λ s. (s.pages, (s.countdown, s.failures))) (λ p. record { pages = p.0; countdown = p.1.0; failures = p.1.1 })
+    (λ _. refl)
 
 -- the pages that the entries of a map spell
 abbrev pub pages_of : List (ℕ × Vec ℕ Global) → Pages
@@ -30,4 +32,8 @@ pages_of entries = from_entries (map (λ e. (e.0, e.1.items)) entries)
 
 -- the device after a call that gave this answer, its pages as they were
 abbrev pub pages_after : {T : Type 0} → PagesState → Result T DeviceError → PagesState
-pages_after device answer = record device { countdown = after_answer device.countdown answer; failures = device.failures + failures_told answer }
+pages_after device answer =
+    record device {
+      countdown = after_answer device.countdown answer;
+      failures = device.failures + failures_told answer;
+    }

@@ -31,10 +31,14 @@ entries_below : (t : ℕ) (slab : Slab OpenTxn) (es : List (ℕ × ℕ)) → Are
     → AllByRecursion (λ (e : ℕ × ℕ). e.0 < t) es
 entries_below t slab [] are below = tt
 entries_below t slab (e ∷ es) are below =
-    let own : AreBelow t (are.0.open_txn ∷ []) = rw are.0.held at (all_back _ (in_slots slab es) (listed (get slab e.1)) below) in
-    (rw (← are.0.number) own.0, entries_below t slab es are.1 (all_front _ (in_slots slab es) (listed (get slab e.1)) below))
+    let own : AreBelow t (are.0.open_txn ∷ []) =
+    rw are.0.held at (all_back _ (in_slots slab es) (listed (get slab e.1)) below) in (
+      rw (← are.0.number) own.0,
+      entries_below t slab es are.1 (all_front _ (in_slots slab es) (listed (get slab e.1)) below),
+    )
 
-module _ (old new : Slab OpenTxn) (s : ℕ) (opened : OpenTxn) (vacant : get old s ≡ None) (u : Updates old new s (Some opened)) where
+module _ (old new : Slab OpenTxn) (s : ℕ) (opened : OpenTxn) (vacant : get old s ≡ None)
+    (u : Updates old new s (Some opened)) where
   occupied : (k : ℕ) (o : OpenTxn) → get old k ≡ Some o → k ≢ s
   occupied k o held same = absurd (let there : get old k ≡ get old s = ap (get old) same in cc)
 

@@ -34,7 +34,8 @@ without_both t [] ys = refl
 without_both t (x ∷ xs) ys = pick (x.txn == t) (without_both t xs ys)
   where
     pick : (b : Bool) → without t (xs ++ ys) ≡ without t xs ++ without t ys
-        → (if b then without t (xs ++ ys) else x ∷ without t (xs ++ ys)) ≡ (if b then without t xs else x ∷ without t xs) ++ without t ys
+        → (if b then without t (xs ++ ys) else x ∷ without t (xs ++ ys))
+        ≡ (if b then without t xs else x ∷ without t xs) ++ without t ys
     pick true rest = rest
     pick false rest = ap (λ os. x ∷ os) rest
 
@@ -88,7 +89,14 @@ module _ (old new : Slab OpenTxn) (s : ℕ) (opened : OpenTxn) (u : Updates old 
               record { open_txn = opened; held = now; number = same; below = are.0.below; apart = are.0.apart },
               others.are,
             );
-            view = rw (now, others.view, are.0.held, replace_in_both opened (in_slots old es) (are.0.open_txn ∷ []), own, none_replaced opened (in_slots old es) above) refl;
+            view = rw (
+              now,
+              others.view,
+              are.0.held,
+              replace_in_both opened (in_slots old es) (are.0.open_txn ∷ []),
+              own,
+              none_replaced opened (in_slots old es) above,
+            ) refl;
           }
       pick false is later rest =
           let differs : e.1 ≢ s = λ h. all_found (λ n. n ≢ e.1) opened.txn s es are.0.apart later (sym h) in
@@ -96,10 +104,22 @@ module _ (old new : Slab OpenTxn) (s : ℕ) (opened : OpenTxn) (u : Updates old 
           let now : get new e.1 ≡ Some are.0.open_txn = u.others e.1 differs ∙ are.0.held in
           record {
             are = (
-              record { open_txn = are.0.open_txn; held = now; number = are.0.number; below = are.0.below; apart = are.0.apart },
+              record {
+                open_txn = are.0.open_txn;
+                held = now;
+                number = are.0.number;
+                below = are.0.below;
+                apart = are.0.apart;
+              },
               (rest later).are,
             );
-            view = rw (now, (rest later).view, are.0.held, replace_in_both opened (in_slots old es) (are.0.open_txn ∷ []), there) refl;
+            view = rw (
+              now,
+              (rest later).view,
+              are.0.held,
+              replace_in_both opened (in_slots old es) (are.0.open_txn ∷ []),
+              there,
+            ) refl;
           }
 
 module _ (old new : Slab OpenTxn) (t s : ℕ) (u : Updates old new s None) where
@@ -116,11 +136,19 @@ module _ (old new : Slab OpenTxn) (t s : ℕ) (u : Updates old new s None) where
           let same : t ≡ e.0 = grind (arith, nat_tests) in
           let apart : AllByRecursion (λ (d : ℕ × ℕ). d.1 ≢ s) es = rw (← slot) are.0.apart in
           let others = kept old new (λ k. k ≢ s) u.others es apart are.1 in
-          let above : AllByRecursion (λ (o : OpenTxn). t < o.txn) (in_slots old es) = numbers (λ n. t < n) old es are.1 (rw same are.0.below) in
+          let above : AllByRecursion (λ (o : OpenTxn). t < o.txn) (in_slots old es) =
+          numbers (λ n. t < n) old es are.1 (rw same are.0.below) in
           let own : (are.0.open_txn.txn == t) ≡ true = grind (arith, nat_tests, are.0.number) in
           record {
             are = others.are;
-            view = rw (others.view, are.0.held, without_both t (in_slots old es) (are.0.open_txn ∷ []), own, all_without t (in_slots old es) above, append-nil) refl;
+            view = rw (
+              others.view,
+              are.0.held,
+              without_both t (in_slots old es) (are.0.open_txn ∷ []),
+              own,
+              all_without t (in_slots old es) above,
+              append-nil,
+            ) refl;
           }
       pick false is later rest =
           let differs : e.1 ≢ s = λ h. all_found (λ n. n ≢ e.1) t s es are.0.apart later (sym h) in
@@ -137,7 +165,13 @@ module _ (old new : Slab OpenTxn) (t s : ℕ) (u : Updates old new s None) where
               },
               (rest later).are,
             );
-            view = rw (now, (rest later).view, are.0.held, without_both t (in_slots old es) (are.0.open_txn ∷ []), there) refl;
+            view = rw (
+              now,
+              (rest later).view,
+              are.0.held,
+              without_both t (in_slots old es) (are.0.open_txn ∷ []),
+              there,
+            ) refl;
           }
 
 -- the transaction in a number's slot is replaced
@@ -146,7 +180,9 @@ replaces : (opened : OpenTxn) (s : ℕ) (slab : Slab OpenTxn) (es : List (ℕ ×
     → Some s ≡ slot_of opened.txn es → IsSome (find opened.txn os)
     → Holds (with_value slab s opened) es (replace opened os)
 replaces opened s slab es os are view found open_txn =
-    let h = replaced slab (with_value slab s opened) s opened (Updates-with_value slab s opened (is_held opened.txn slab es os are view s found open_txn)) es are (sym found) in
+    let h = replaced slab (with_value slab s opened) s opened
+    (Updates-with_value slab s opened (is_held opened.txn slab es os are view s found open_txn)) es are
+    (sym found) in
     record { are = h.are; view = h.view ∙ ap (replace opened) view }
 
 -- a number and what is in its slot are removed
@@ -187,4 +223,5 @@ pub changes_none : (what : Change) (t : ℕ) (slot : Option ℕ) (slab : Slab Op
     → AreSlots slab es → in_slots slab es ≡ os
     → slot ≡ slot_of t es → held_at slab slot ≡ None → os ≡ happens t what os
 changes_none what t slot slab es os are view is none =
-    let found : find t os ≡ None = sym (found_at t slab es os are view slot is) ∙ none in sym (ap (λ x. happens_to x what os) found)
+    let found : find t os ≡ None = sym (found_at t slab es os are view slot is) ∙ none in
+    sym (ap (λ x. happens_to x what os) found)

@@ -40,8 +40,10 @@ pub committing_ended : (log : List Record) (stable u : ℕ) → is_listed (commi
     → has_ended log u ≡ true
 committing_ended [] stable u h = absurd (cc)
 committing_ended (is.Commit t ∷ log) stable u h =
-    ended_if (nat_lt stable (length log + 1)) t u (commits_in log stable) (has_ended log u) (committing_ended log stable u) h
-committing_ended (is.End t ∷ log) stable u h = ap (λ b. (u == t) || b) (committing_ended log stable u h) ∙ or-true (u == t)
+    ended_if (nat_lt stable (length log + 1)) t u (commits_in log stable) (has_ended log u)
+    (committing_ended log stable u) h
+committing_ended (is.End t ∷ log) stable u h =
+    ap (λ b. (u == t) || b) (committing_ended log stable u h) ∙ or-true (u == t)
 committing_ended (r ∷ log) stable u h = committing_ended log stable u h
 
 -- so nobody who is open is committing
@@ -67,17 +69,21 @@ holder_committed os cs t o at u =
     elim (cases_eq u t) [
       | inl same ↦
           let P : ℕ → Type 0 = λ n. is_holder (without t os) (cs ++ t ∷ []) n ≡ is_holder os cs n in
-          let listed : is_listed (cs ++ t ∷ []) t ≡ true = listed_last cs t t ∙ ap (λ b. is_listed cs t || b) (eq-eqb t t refl) ∙ or-true (is_listed cs t) in
+          let listed : is_listed (cs ++ t ∷ []) t ≡ true =
+          listed_last cs t t ∙ ap (λ b. is_listed cs t || b) (eq-eqb t t refl) ∙ or-true (is_listed cs t) in
           subst P (sym same) (rw (without_same t os, listed, at) refl)
       | inr other ↦
-          let listed : is_listed (cs ++ t ∷ []) u ≡ is_listed cs u = listed_last cs t u ∙ ap (λ b. is_listed cs u || b) (ne_eqb t u (λ e. other (sym e))) ∙ or-false (is_listed cs u) in
+          let listed : is_listed (cs ++ t ∷ []) u ≡ is_listed cs u =
+          listed_last cs t u ∙ ap (λ b. is_listed cs u || b) (ne_eqb t u (λ e. other (sym e)))
+          ∙ or-false (is_listed cs u) in
           rw (without_other t os u other, listed) refl
     ]
 
 -- the same with more who hold
 pub holder_more : (os : List OpenTxn) (cs ls : List ℕ) (u : ℕ)
     → is_holder os (cs ++ ls) u ≡ (is_holder os cs u || is_listed ls u)
-holder_more os cs ls u = pick (is_some (find u os)) (is_listed cs u) (is_listed (cs ++ ls) u) (list_any-append (λ v. v == u) cs ls)
+holder_more os cs ls u =
+    pick (is_some (find u os)) (is_listed cs u) (is_listed (cs ++ ls) u) (list_any-append (λ v. v == u) cs ls)
   where
     pick : (a b c : Bool) → c ≡ (b || is_listed ls u) → (a || c) ≡ ((a || b) || is_listed ls u)
     pick true b c e = refl

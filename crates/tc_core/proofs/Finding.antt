@@ -74,7 +74,8 @@ replaced_falls new [] falls = tt
 replaced_falls new (o ∷ os) falls = (pick (o.txn == new.txn) refl, replaced_falls new os falls.1)
   where
     pick : (b : Bool) → (o.txn == new.txn) ≡ b → AreBelow (if b then new else o).txn (replace new os)
-    pick true same = let P : ℕ → Type 0 = λ t. AreBelow t (replace new os) in subst P (eqb-true o.txn new.txn same) (replaced_below new os o.txn falls.0)
+    pick true same = let P : ℕ → Type 0 = λ t. AreBelow t (replace new os) in
+        subst P (eqb-true o.txn new.txn same) (replaced_below new os o.txn falls.0)
     pick false other = replaced_below new os o.txn falls.0
 
 -- without one
@@ -125,10 +126,13 @@ without_length t (o ∷ os) = pick (without_length t os) (o.txn == t)
 without_above : (t : ℕ) (os : List OpenTxn) → AreBelow t os → without t os ≡ os
 without_above t [] below = refl
 without_above t (o ∷ os) below =
-    ap (λ b. if b then without t os else o ∷ without t os) (ne_eqb o.txn t (λ e. omega (arith, e, below.0))) ∙ ap (λ (xs : List OpenTxn). o ∷ xs) (without_above t os below.1)
+    ap (λ b. if b then without t os else o ∷ without t os) (ne_eqb o.txn t (λ e. omega (arith, e, below.0)))
+    ∙ ap (λ (xs : List OpenTxn). o ∷ xs) (without_above t os below.1)
 
 pub without_new : (new : OpenTxn) (os : List OpenTxn) → AreBelow new.txn os → without new.txn (new ∷ os) ≡ os
-without_new new os below = ap (λ b. if b then without new.txn os else new ∷ without new.txn os) (eq-eqb new.txn new.txn refl) ∙ without_above new.txn os below
+without_new new os below =
+    ap (λ b. if b then without new.txn os else new ∷ without new.txn os) (eq-eqb new.txn new.txn refl)
+    ∙ without_above new.txn os below
 
 -- the one with the least number
 found_below : (os : List OpenTxn) (bound u : ℕ) (p : OpenTxn) → AreBelow bound os → find u os ≡ Some p → u < bound
@@ -146,7 +150,8 @@ pub record IsOldest (test : OpenTxn → Bool) (os : List OpenTxn) (o : OpenTxn) 
 pub oldest_none : (test : OpenTxn → Bool) (os : List OpenTxn) → oldest test os ≡ None → (u : ℕ) (p : OpenTxn)
     → find u os ≡ Some p → test p ≡ false
 oldest_none test [] none u p h = absurd (cc)
-oldest_none test (o ∷ os) none u p h = pick (λ is there. oldest_none test os is u p there) (oldest test os) refl (test o) refl none
+oldest_none test (o ∷ os) none u p h =
+    pick (λ is there. oldest_none test os is u p there) (oldest test os) refl (test o) refl none
   where
     pick : (oldest test os ≡ None → find u os ≡ Some p → test p ≡ false) → (rest : Option OpenTxn)
         → oldest test os ≡ rest → (b : Bool) → test o ≡ b → unless rest (if b then Some o else None) ≡ None

@@ -51,7 +51,8 @@ any_newest s (is.Op u p op) log t o by clash = pick (t == u) (eq-eqb t u (sym sa
 
     pick : (b : Bool) → b ≡ true
         → AnyConflict s (if b then at_key Exclusive (key_of op) ∷ op_spans log t else op_spans log t)
-    pick true h = let P : Op → Type 0 = λ x. Conflict s (at_key Exclusive (key_of x)) in inl (subst P (sym same.1) clash)
+    pick true h = let P : Op → Type 0 = λ x. Conflict s (at_key Exclusive (key_of x)) in
+        inl (subst P (sym same.1) clash)
     pick false h = absurd (cc)
 any_newest s _ log t o by clash = absurd (cc)
 
@@ -88,18 +89,21 @@ op_spans_longer _ log t none = refl
 -- an operation takes its key for its transaction, and nothing for another
 op_spans_own : (t p : ℕ) (op : Op) (log : List Record)
     → op_spans (is.Op t p op ∷ log) t ≡ at_key Exclusive (key_of op) ∷ op_spans log t
-op_spans_own t p op log = ap (λ b. if b then at_key Exclusive (key_of op) ∷ op_spans log t else op_spans log t) (eq-eqb t t refl)
+op_spans_own t p op log =
+    ap (λ b. if b then at_key Exclusive (key_of op) ∷ op_spans log t else op_spans log t) (eq-eqb t t refl)
 
 op_spans_other : (t p : ℕ) (op : Op) (log : List Record) (u : ℕ) → u ≢ t
     → op_spans (is.Op t p op ∷ log) u ≡ op_spans log u
-op_spans_other t p op log u apart = ap (λ b. if b then at_key Exclusive (key_of op) ∷ op_spans log u else op_spans log u) (ne_eqb u t apart)
+op_spans_other t p op log u apart =
+    ap (λ b. if b then at_key Exclusive (key_of op) ∷ op_spans log u else op_spans log u) (ne_eqb u t apart)
 
 -- who has no operation holds nothing
 pub op_spans_none : (log : List Record) (t : ℕ) → ((n : ℕ) (o : Op) → IsOpBy log n t o → ⊥) → op_spans log t ≡ []
 op_spans_none [] t none = refl
 op_spans_none (r ∷ log) t none =
     newest r (λ o by. none (length log + 1) o (at_newest (AnOp t o) r log (length log + 1) refl by))
-    ∙ op_spans_none log t (λ n o by. none n o (at_older (AnOp t o) r log n (not_newest log n (op_number log n t o by)) by))
+    ∙ op_spans_none log t (λ n o by. none n o
+    (at_older (AnOp t o) r log n (not_newest log n (op_number log n t o by)) by))
   where
     newest : (r : Record) → ((o : Op) → op_of r ≡ Some (t, o) → ⊥) → op_spans (r ∷ log) t ≡ op_spans log t
     newest (is.Op u p op) no_op = op_spans_other u p op log t (λ e. no_op op (ap (λ x. Some (x, op)) (sym e)))
@@ -109,13 +113,15 @@ held_alike : (log log2 : List Record) (os os2 : List OpenTxn) (cs cs2 : List ℕ
     → is_holder os2 cs2 t ≡ is_holder os cs t → op_spans log2 t ≡ op_spans log t
     → held_spans log2 os2 cs2 t ≡ held_spans log os cs t
 held_alike log log2 os os2 cs cs2 t same_holder same_spans =
-    ap (λ b. if b then op_spans log2 t else []) same_holder ∙ ap (λ (x : List Span). if is_holder os cs t then x else []) same_spans
+    ap (λ b. if b then op_spans log2 t else []) same_holder
+    ∙ ap (λ (x : List Span). if is_holder os cs t then x else []) same_spans
 
 -- held is the same where the same hold and have the same operations
 pub held_same : (log log2 : List Record) (os os2 : List OpenTxn) (cs cs2 : List ℕ)
     → ((t : ℕ) → is_holder os2 cs2 t ≡ is_holder os cs t)
     → ((t : ℕ) → op_spans log2 t ≡ op_spans log t) → (t : ℕ) → held_spans log2 os2 cs2 t ≡ held_spans log os cs t
-held_same log log2 os os2 cs cs2 same_holders same_spans t = held_alike log log2 os os2 cs cs2 t (same_holders t) (same_spans t)
+held_same log log2 os os2 cs cs2 same_holders same_spans t =
+    held_alike log log2 os os2 cs cs2 t (same_holders t) (same_spans t)
 
 -- the same hold where the same are open
 pub same_holder : (os os2 : List OpenTxn) (cs : List ℕ) (t : ℕ) → find t os2 ≡ find t os
@@ -144,29 +150,35 @@ Holds log os cs t spans log2 os2 =
 -- an operation takes its key
 pub held_acted : (log : List Record) (os : List OpenTxn) (cs : List ℕ) (new o : OpenTxn) (p : ℕ) (op : Op)
     → find new.txn os ≡ Some o
-    → Holds log os cs new.txn (at_key Exclusive (key_of op) ∷ held_spans log os cs new.txn) (is.Op new.txn p op ∷ log) (replace new os)
+    → Holds log os cs new.txn (at_key Exclusive (key_of op) ∷ held_spans log os cs new.txn) (is.Op new.txn p op ∷ log)
+    (replace new os)
 held_acted log os cs new o p op at =
     let r : Record = is.Op new.txn p op in (
       held_open (r ∷ log) (replace new os) cs new.txn new (replaced_same new o os at) ∙ op_spans_own new.txn p op log
           ∙ ap (λ (x : List Span). at_key Exclusive (key_of op) ∷ x) (sym (held_open log os cs new.txn o at)),
-      λ u apart. held_alike log (r ∷ log) os (replace new os) cs cs u (holder_replaced new o os cs at u) (op_spans_other new.txn p op log u apart),
+      λ u apart. held_alike log (r ∷ log) os (replace new os) cs cs u (holder_replaced new o os cs at u)
+          (op_spans_other new.txn p op log u apart),
     )
 
 -- one that begins holds nothing
 pub held_begun : (log : List Record) (os : List OpenTxn) (cs : List ℕ) (new : OpenTxn) → IsLegal log
     → new.txn ≡ length log + 1 → Holds log os cs new.txn [] (is.Begin ∷ log) (new ∷ os)
 held_begun log os cs new legal number = (
-  held_open (is.Begin ∷ log) (new ∷ os) cs new.txn new (find_here new os new.txn refl) ∙ op_spans_none log new.txn no_op,
-  λ u apart. held_alike log (is.Begin ∷ log) os (new ∷ os) cs cs u (same_holder os (new ∷ os) cs u (find_there new os u (λ e. apart (sym e)))) refl,
+  held_open (is.Begin ∷ log) (new ∷ os) cs new.txn new (find_here new os new.txn refl)
+      ∙ op_spans_none log new.txn no_op,
+  λ u apart. held_alike log (is.Begin ∷ log) os (new ∷ os) cs cs u
+      (same_holder os (new ∷ os) cs u (find_there new os u (λ e. apart (sym e)))) refl,
 )
   where
     no_op : (n : ℕ) (o : Op) → IsOpBy log n new.txn o → ⊥
-    no_op n o by = not_newest log new.txn (begun_number log new.txn (begun log new.txn n legal (op_step new.txn o (record_at log n) by))) number
+    no_op n o by = not_newest log new.txn
+        (begun_number log new.txn (begun log new.txn n legal (op_step new.txn o (record_at log n) by))) number
 
 -- one that ends holds nothing any more
 pub held_ended : (log : List Record) (os : List OpenTxn) (cs : List ℕ) (t : ℕ) → is_listed cs t ≡ false
     → Holds log os cs t [] (is.End t ∷ log) (without t os)
 held_ended log os cs t unlisted = (
   held_none (is.End t ∷ log) (without t os) cs t (rw (without_same t os, unlisted) refl),
-  λ u apart. held_alike log (is.End t ∷ log) os (without t os) cs cs u (same_holder os (without t os) cs u (without_other t os u apart)) refl,
+  λ u apart. held_alike log (is.End t ∷ log) os (without t os) cs cs u
+      (same_holder os (without t os) cs u (without_other t os u apart)) refl,
 )

@@ -48,7 +48,8 @@ found_in t slab (e ∷ es) are =
     ∙ pick (is_eq (nat_cmp t e.0)) refl
   where
     pick : (b : Bool) → is_eq (nat_cmp t e.0) ≡ b
-        → unless (held_at slab (slot_of t es)) (find t (listed (get slab e.1))) ≡ held_at slab (cond b (Some e.1) (slot_of t es))
+        → unless (held_at slab (slot_of t es)) (find t (listed (get slab e.1)))
+        ≡ held_at slab (cond b (Some e.1) (slot_of t es))
     pick true is =
         let same : t ≡ e.0 = grind (arith, nat_tests) in
         let none : slot_of t es ≡ None = no_slot t es (rw same are.0.below) in
@@ -58,7 +59,8 @@ found_in t slab (e ∷ es) are =
         let there : (are.0.open_txn.txn == t) ≡ false = grind (arith, nat_tests, are.0.number) in
         rw (are.0.held, there) (unless_none (held_at slab (slot_of t es)))
 
-module _ (t : ℕ) (slab : Slab OpenTxn) (es : List (ℕ × ℕ)) (os : List OpenTxn) (are : AreSlots slab es) (view : in_slots slab es ≡ os) where
+module _ (t : ℕ) (slab : Slab OpenTxn) (es : List (ℕ × ℕ)) (os : List OpenTxn) (are : AreSlots slab es)
+    (view : in_slots slab es ≡ os) where
   pub found_at : (slot : Option ℕ) → slot ≡ slot_of t es → held_at slab slot ≡ find t os
   found_at slot is = ap (held_at slab) is ∙ sym (found_in t slab es are) ∙ ap (find t) view
 
@@ -66,4 +68,5 @@ module _ (t : ℕ) (slab : Slab OpenTxn) (es : List (ℕ × ℕ)) (os : List Ope
   is_held s is open_txn = subst (λ (o : Option OpenTxn). IsSome o) (sym (found_at (Some s) is)) open_txn
 
   pub has_slot : IsSome (find t os) → None ≡ slot_of t es → ⊥
-  has_slot open_txn none = true≢false (sym (subst (λ (o : Option OpenTxn). IsSome o) (sym (found_at None none)) open_txn))
+  has_slot open_txn none =
+      true≢false (sym (subst (λ (o : Option OpenTxn). IsSome o) (sym (found_at None none)) open_txn))

@@ -22,7 +22,10 @@ pub open_had : (r : Record) (log : List Record) (t : ℕ) → IsOpen (r ∷ log)
 open_had r log t h =
     elim (cases_eq t (length log + 1)) [
       | inl e ↦ let same : Some r ≡ Some is.Begin = newest_at ABegin r log t e h.begun in inl (e, cc)
-      | inr e ↦ inr (record { begun = older_at ABegin r log t e h.begun; goes_on = falls (has_ended log t) (has_ended (r ∷ log) t) (ended_push t r log) h.goes_on })
+      | inr e ↦ inr (record {
+        begun = older_at ABegin r log t e h.begun;
+        goes_on = falls (has_ended log t) (has_ended (r ∷ log) t) (ended_push t r log) h.goes_on;
+      })
     ]
 
 -- so it was open, where no transaction begins
@@ -40,7 +43,8 @@ open_kept r log t same h = record {
 pub unended_next : (log : List Record) → IsLegal log → has_ended log (length log + 1) ≡ false
 unended_next log legal =
     elim (cases_Bool (has_ended log (length log + 1))) [
-      | inl h ↦ absurd (not_newest log (length log + 1) (begun_number log (length log + 1) (ended_begun log (length log + 1) legal h)) refl)
+      | inl h ↦ absurd (not_newest log (length log + 1)
+          (begun_number log (length log + 1) (ended_begun log (length log + 1) legal h)) refl)
       | inr h ↦ h
     ]
 
@@ -51,10 +55,13 @@ pub record IsNeutral (r : Record) (log : List Record) (t : ℕ) : Type 0 where
 
 module _ (r : Record) (log : List Record) (t : ℕ) (neutral : IsNeutral r log t) where
   last_is : (s : ℕ) → IsLatestOrNone (IsStepOf log t) s → IsLatestOrNone (IsStepOf (r ∷ log) t) s
-  last_is s h = latest_as (IsStepOf log t) (IsStepOf (r ∷ log) t) (steps_back r log t neutral.no_step) (steps_there r log t neutral.no_step) s h
+  last_is s h = latest_as (IsStepOf log t) (IsStepOf (r ∷ log) t) (steps_back r log t neutral.no_step)
+      (steps_there r log t neutral.no_step) s h
 
   pub request_was : (m : ℕ) (o : Op) → IsStepOf (r ∷ log) t m → Requests (r ∷ log) m o → Requests log m o
-  request_was m o step h = older_at (ARequest o) r log m (not_newest log m (step_number log m t (steps_there r log t neutral.no_step m step))) h
+  request_was m o step h =
+      older_at (ARequest o) r log m
+      (not_newest log m (step_number log m t (steps_there r log t neutral.no_step m step))) h
 
 -- what lies within a log lies within a longer one
 saves_longer : (m n : ℕ) (saves : List ℕ) → m ≤ n → AllByRecursion (λ end. end ≤ m) saves
@@ -70,7 +77,8 @@ pub record IsBounded (log : List Record) (o : OpenTxn) : Type 0 where
 pub bounded : (r : Record) (log : List Record) (o : OpenTxn) → IsOpenTxn log o → IsBounded (r ∷ log) o
 bounded r log o h = record {
   saves = saves_longer (length log) (length (r ∷ log)) o.saves (omega arith) h.saves;
-  rolling = λ b is. let was : IsRollback log b = h.rolling b is in record { whole = was.whole; within = omega (arith, was.within) };
+  rolling = λ b is. let was : IsRollback log b = h.rolling b is in
+      record { whole = was.whole; within = omega (arith, was.within) };
 }
 
 pub still_open : (r : Record) (log : List Record) (o : OpenTxn) (w : Option ℕ) → IsNeutral r log o.txn → IsOpenTxn log o
@@ -78,7 +86,8 @@ pub still_open : (r : Record) (log : List Record) (o : OpenTxn) (w : Option ℕ)
 still_open r log o w neutral h waits = record {
   is = open_kept r log o.txn neutral.ends_not h.is;
   last = last_is r log o.txn neutral o.last h.last;
-  undo = h.undo ∙ ap (λ x. undo_from x o.last) (sym (record_old r log o.last (λ e. omega (arith, e, latest_number log o.txn o.last h.last))));
+  undo = h.undo ∙ ap (λ x. undo_from x o.last)
+      (sym (record_old r log o.last (λ e. omega (arith, e, latest_number log o.txn o.last h.last))));
   waits = waits;
   saves = (bounded r log o h).saves;
   rolling = (bounded r log o h).rolling;

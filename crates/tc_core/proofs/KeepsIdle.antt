@@ -21,10 +21,13 @@ a_record : (log : List Record) (n : ℕ) (q : Record) → record_at log n ≡ So
 a_record log n q h = within (λ x. x ≡ Some q) (λ e. cc) log n h
 
 request_at : (b : Bool) (r : Record) (log : List Record) (o : OpenTxn) (n : ℕ)
-    → MatchBool b ((u : ℕ) × (x : ℕ) × (i : Op) × (record_at log n ≡ Some (is.Comp o.txn u x (Some i)))) ((p : ℕ) × (op : Op) × (record_at log n ≡ Some (is.Op o.txn p op)))
-    → MatchBool b ((u : ℕ) × (x : ℕ) × (i : Op) × (record_at (r ∷ log) n ≡ Some (is.Comp o.txn u x (Some i)))) ((p : ℕ) × (op : Op) × (record_at (r ∷ log) n ≡ Some (is.Op o.txn p op)))
+    → MatchBool b ((u : ℕ) × (x : ℕ) × (i : Op) × (record_at log n ≡ Some (is.Comp o.txn u x (Some i))))
+    ((p : ℕ) × (op : Op) × (record_at log n ≡ Some (is.Op o.txn p op)))
+    → MatchBool b ((u : ℕ) × (x : ℕ) × (i : Op) × (record_at (r ∷ log) n ≡ Some (is.Comp o.txn u x (Some i))))
+    ((p : ℕ) × (op : Op) × (record_at (r ∷ log) n ≡ Some (is.Op o.txn p op)))
 request_at true r log o n h =
-    let q : Record = is.Comp o.txn h.0 h.1 (Some h.2) in (h.0, h.1, h.2, kept_at (λ x. x ≡ Some q) r log n (a_record log n q h.3) h.3)
+    let q : Record = is.Comp o.txn h.0 h.1 (Some h.2) in
+    (h.0, h.1, h.2, kept_at (λ x. x ≡ Some q) r log n (a_record log n q h.3) h.3)
 request_at false r log o n h =
     let q : Record = is.Op o.txn h.0 h.1 in (h.0, h.1, kept_at (λ x. x ≡ Some q) r log n (a_record log n q h.2) h.2)
 
@@ -38,7 +41,8 @@ pub record IsOwnRequest (log : List Record) (t n : ℕ) : Type 0 where
   pub requests : Requests log n op
 
 own_at : (b : Bool) (log : List Record) (o : OpenTxn) (n : ℕ)
-    → MatchBool b ((u : ℕ) × (x : ℕ) × (i : Op) × (record_at log n ≡ Some (is.Comp o.txn u x (Some i)))) ((p : ℕ) × (op : Op) × (record_at log n ≡ Some (is.Op o.txn p op)))
+    → MatchBool b ((u : ℕ) × (x : ℕ) × (i : Op) × (record_at log n ≡ Some (is.Comp o.txn u x (Some i))))
+    ((p : ℕ) × (op : Op) × (record_at log n ≡ Some (is.Op o.txn p op)))
     → IsOwnRequest log o.txn n
 own_at true log o n h = record { op = h.2; step = rw h.3 refl; requests = rw h.3 refl }
 own_at false log o n h = record { op = h.1; step = rw h.2 refl; requests = rw h.2 refl }
@@ -49,7 +53,9 @@ own_request log o n h = own_at (rolls_back o) log o n h
 module _ (r : Record) (log : List Record) where
   -- nothing of the transaction is answered by it: who waits waits still
   still_idle : (t : ℕ) → IsNeutral r log t → IsIdle log t → IsIdle (r ∷ log) t
-  still_idle t neutral idle n o step requests = answered_push n r log (idle n o (steps_there r log t neutral.no_step n step) (request_was r log t neutral n o step requests))
+  still_idle t neutral idle n o step requests =
+      answered_push n r log (idle n o (steps_there r log t neutral.no_step n step)
+      (request_was r log t neutral n o step requests))
 
   still_waits : (o : OpenTxn) (w : Option ℕ) → IsNeutral r log o.txn
       → ((n : ℕ) → w ≡ Some n → answer_of (r ∷ log) n ≡ answer_of log n) → Waits log o w → Waits (r ∷ log) o w
@@ -58,7 +64,8 @@ module _ (r : Record) (log : List Record) where
     request = request_kept r log o n h.request;
     unanswered = same n refl ∙ h.unanswered;
     only = λ m op step requests apart. answered_push m r log
-        (h.only m op (steps_there r log o.txn neutral.no_step m step) (request_was r log o.txn neutral m op step requests) apart);
+        (h.only m op (steps_there r log o.txn neutral.no_step m step)
+        (request_was r log o.txn neutral m op step requests) apart);
   }
 
   -- so it leaves another transaction's
@@ -80,7 +87,8 @@ idle_now log o n a waits m op step requests =
       | inl e ↦ let none : AStep o.txn (Some r) = newest_at (AStep o.txn) r log m e step in absurd (cc)
       | inr e ↦ elim (cases_eq m n) [
         | inl same ↦ some_answer (m == n) a (answer_of log m) (eq-eqb m n same)
-        | inr apart ↦ answered_push m r log (waits.only m op (older_at (AStep o.txn) r log m e step) (older_at (ARequest op) r log m e requests) apart)
+        | inr apart ↦ answered_push m r log
+            (waits.only m op (older_at (AStep o.txn) r log m e step) (older_at (ARequest op) r log m e requests) apart)
       ]
     ]
 
@@ -92,7 +100,8 @@ waits_now r log t o is idle request unanswered = record {
   request = request;
   unanswered = unanswered;
   only = λ m op step requests apart. answered_push m r log
-      (idle m op (let P : ℕ → Type 0 = λ x. IsStepOf log x m in subst P is (older_at (AStep o.txn) r log m apart step)) (older_at (ARequest op) r log m apart requests));
+      (idle m op (let P : ℕ → Type 0 = λ x. IsStepOf log x m in subst P is (older_at (AStep o.txn) r log m apart step))
+      (older_at (ARequest op) r log m apart requests));
 }
 
 -- a step that requests nothing leaves the transaction idle
@@ -101,5 +110,6 @@ pub idle_after : (r : Record) (log : List Record) (t : ℕ) → ((o : Op) → AR
 idle_after r log t none idle n o step requests =
     elim (cases_eq n (length log + 1)) [
       | inl e ↦ absurd (none o (newest_at (ARequest o) r log n e requests))
-      | inr e ↦ answered_push n r log (idle n o (older_at (AStep t) r log n e step) (older_at (ARequest o) r log n e requests))
+      | inr e ↦ answered_push n r log
+          (idle n o (older_at (AStep t) r log n e step) (older_at (ARequest o) r log n e requests))
     ]

@@ -52,7 +52,8 @@ module _ (w : TcView) (k : IsTc w) (undoing : w.phase ≡ phase.Undoing None) wh
     where
       pick : (a : Option Answer) → answer_of w.log n ≡ a → IsSome (answer_of w.log n)
       pick (Some a) is = ap is_some is
-      pick None is = absurd (none_due n (record { txn = t; loser = loser; op = o; step = step; requests = requests; unanswered = is }))
+      pick None is = absurd (none_due n
+          (record { txn = t; loser = loser; op = o; step = step; requests = requests; unanswered = is }))
 
   positive : 0 < w.session
   positive = let P : Phase → Type 0 = IsPhase w.checkpointed w.session in subst P undoing k.phase
@@ -74,7 +75,8 @@ module _ (w : TcView) (k : IsTc w) (undoing : w.phase ≡ phase.Undoing None) wh
           → is_none_lost w.losers ≡ false → ⊥
       pick (x ∷ xs) is ts done some =
           let P : List Loser → Type 0 = λ ys. Contains ys x in
-          let there : Contains w.losers.undoing x = subst P (sym is) (Contains-append_left (x ∷ []) xs x (Contains-push [] x)) in
+          let there : Contains w.losers.undoing x =
+          subst P (sym is) (Contains-append_left (x ∷ []) xs x (Contains-push [] x)) in
           none_left x.left (record {
             txn = x.txn;
             loser = undoing_loser w.log w.losers k.lost.losers x there;
@@ -82,7 +84,8 @@ module _ (w : TcView) (k : IsTc w) (undoing : w.phase ≡ phase.Undoing None) wh
           })
       pick [] is (t ∷ ts) done some =
           let P : List ℕ → Type 0 = λ us. Contains us t in
-          none_ends t (done_ends w.log w.losers k.lost.losers t (subst P (sym done) (Contains-append_left (t ∷ []) ts t (Contains-push [] t))))
+          none_ends t (done_ends w.log w.losers k.lost.losers t
+          (subst P (sym done) (Contains-append_left (t ∷ []) ts t (Contains-push [] t))))
       pick [] is [] done some =
           let none : is_none_lost w.losers ≡ true = rw (is, done) refl in true≢false (sym none ∙ some)
 
@@ -90,7 +93,8 @@ module _ (w : TcView) (k : IsTc w) (undoing : w.phase ≡ phase.Undoing None) wh
   pub fits_lost_end : (t : ℕ) → MayEnd w.log w.losers.below t → Fits w.log (is.End t)
   fits_lost_end t ends = record { open_txn = ends.loser.open_txn; idle = lost_idle t ends.loser; undone = ends.undone }
 
-  module _ (t : ℕ) (l : LosersView) (least : IsLeast (MayEnd w.log w.losers.below) t) (taken : TakesEnd w.losers l) (same : l.below ≡ w.losers.below) where
+  module _ (t : ℕ) (l : LosersView) (least : IsLeast (MayEnd w.log w.losers.below) t) (taken : TakesEnd w.losers l)
+      (same : l.below ≡ w.losers.below) where
     abbrev pub ended : Record
     ended = is.End t
 
@@ -104,7 +108,8 @@ module _ (w : TcView) (k : IsTc w) (undoing : w.phase ≡ phase.Undoing None) wh
     gone : is_listed (txns l) t ≡ false
     gone = elim (cases_Bool (is_listed (txns l) t)) [
       | inl listed ↦
-          let clash : t ≢ t = (ends w.log t t (listed_loser (ended ∷ w.log) l losers_ended t listed).open_txn).0 in absurd (clash refl)
+          let clash : t ≢ t = (ends w.log t t (listed_loser (ended ∷ w.log) l losers_ended t listed).open_txn).0 in
+          absurd (clash refl)
       | inr unlisted ↦ unlisted
     ]
 
@@ -156,9 +161,11 @@ module _ (w : TcView) (k : IsTc w) (undoing : w.phase ≡ phase.Undoing None) wh
       };
       locks = loses w.log w.open_txns (closing w) w.locks k.locks t (w.committing ++ txns l) nobody
           (λ u apart. holder_alike w.open_txns w.committing (txns w.losers) (txns l) u (others u apart));
-      early = (let P : ℕ → Type 0 = λ b. HoldOperations b (set_spans t [] w.locks) in subst P (sym same) (early_freed w.losers.below t w.locks k.locks.table k.early));
+      early = (let P : ℕ → Type 0 = λ b. HoldOperations b (set_spans t [] w.locks) in
+          subst P (sym same) (early_freed w.losers.below t w.locks k.locks.table k.early));
       reading = reads_kept w.reads w.open_txns w.locks k.reading (set_spans t [] w.locks)
-          (λ u o at. set_other t [] w.locks o.txn k.locks.table (λ e. omega (arith, e, found_number u w.open_txns o at, k.open_txns.late u o at, least.is.loser.early)));
+          (λ u o at. set_other t [] w.locks o.txn k.locks.table
+          (λ e. omega (arith, e, found_number u w.open_txns o at, k.open_txns.late u o at, least.is.loser.early)));
     }
 
   -- the compensation that is due is that of the latest operation
@@ -166,7 +173,8 @@ module _ (w : TcView) (k : IsTc w) (undoing : w.phase ≡ phase.Undoing None) wh
       → r ≡ lost_comp w.log x
   lost_is x r next h = (comp_is w.log x.txn x.left 0 r k.legal (inl next.at.left) h).0
 
-  module _ (x : Loser) (l : LosersView) (next : LosesNext w.log w.losers.below x) (fits : Fits w.log (lost_comp w.log x))
+  module _ (x : Loser) (l : LosersView) (next : LosesNext w.log w.losers.below x)
+      (fits : Fits w.log (lost_comp w.log x))
       (taken : TakesComp w.losers (length w.log + 1) (next_of w.log x.left) l) (same : l.below ≡ w.losers.below) where
     abbrev inverse : Option Op
     inverse = inverse_at w.log x.left
@@ -203,7 +211,8 @@ module _ (w : TcView) (k : IsTc w) (undoing : w.phase ≡ phase.Undoing None) wh
         let P : ℕ → Type 0 = λ b. IsDue (comp ∷ w.log) b n in
         let due : IsDue (comp ∷ w.log) w.losers.below n = subst P same due in
         elim (cases_eq n (length w.log + 1)) [
-          | inl e ↦ asked inverse due.op (length w.log + 1) (newest_at (ARequest due.op) comp w.log n e due.requests) ∙ ap Some (sym e)
+          | inl e ↦ asked inverse due.op (length w.log + 1) (newest_at (ARequest due.op) comp w.log n e due.requests)
+              ∙ ap Some (sym e)
           | inr e ↦ absurd (none_due n (due_was comp w.log w.losers.below legal_comp n k.lost.losers.bound e due))
         ]
 
@@ -234,7 +243,8 @@ module _ (w : TcView) (k : IsTc w) (undoing : w.phase ≡ phase.Undoing None) wh
       open_txns =
           let P : ℕ → Type 0 = λ b. AreOpen (comp ∷ w.log) b w.open_txns in
           subst P (sym same) (same_open w.log (comp ∷ w.log) w.losers.below w.open_txns k.open_txns
-          (λ o at h. step_leaves comp w.log x.txn refl (λ n. refl) o (other_txn x.txn next.loser o at) h) (open_was comp w.log (λ e. cc)));
+          (λ o at h. step_leaves comp w.log x.txn refl (λ n. refl) o (other_txn x.txn next.loser o at) h)
+          (open_was comp w.log (λ e. cc)));
       committing = k.committing;
       lost = record {
         losers = losers_comp;

@@ -30,7 +30,8 @@ use Rattle.tc_core.proofs.LocksHeld.{longer}
 
 -- where nothing is lacking what is asked for is answered
 pub not_lacking : (w : TcView) (n : ℕ) → lacks w n ≡ false → (o : Op) → Requests w.log n o → IsSome (answer_of w.log n)
-not_lacking w n none o asks = pick (is_some (answer_of w.log n)) (sym (ap (λ q. is_some q && not (is_some (answer_of w.log n))) asks) ∙ none)
+not_lacking w n none o asks =
+    pick (is_some (answer_of w.log n)) (sym (ap (λ q. is_some q && not (is_some (answer_of w.log n))) asks) ∙ none)
   where
     pick : (b : Bool) → (true && not b) ≡ false → b ≡ true
     pick true h = refl
@@ -66,7 +67,8 @@ module _ (w : TcView) (k : IsTc w) where
         asking = λ l is. ap (λ p. next_phase p n) (k.asking l is);
         phase = phase_passed w.checkpointed w.session n w.phase taken k.phase;
         low = low_longer w k r refl;
-        open_txns = same_open w.log (r ∷ w.log) w.losers.below w.open_txns k.open_txns leaves (open_was r w.log (λ e. cc));
+        open_txns = same_open w.log (r ∷ w.log) w.losers.below w.open_txns k.open_txns leaves
+            (open_was r w.log (λ e. cc));
         committing = k.committing;
         lost = lost_answered w.log w.session w.phase w.losers n a k.lost taken (fits, k.legal);
         locks = longer w.log w.open_txns (closing w) w.locks k.locks r refl;
@@ -114,7 +116,8 @@ module _ (w : TcView) (k : IsTc w) where
       past n due = elim (cases_lt w.checkpointed n) [
         | inl later ↦ omega (arith, later)
         | inr below ↦
-            let some : IsSome (answer_of w.log n) = (may_all w.log w.stable w.checkpointed k.low.checked).answered n due.op below due.requests in
+            let some : IsSome (answer_of w.log n) =
+            (may_all w.log w.stable w.checkpointed k.low.checked).answered n due.op below due.requests in
             absurd (true≢false (sym some ∙ ap is_some due.unanswered))
       ]
 
@@ -194,7 +197,8 @@ keeps_redo_ended w k next at =
         phase_of = phase_of_ended w.losers;
         lacking = λ n due. absurd (
             let Q : Phase → Type 0 = λ p. MayLack w.session p n in
-            let lack : MayLack w.session (phase.Redoing next true) n = subst Q at (k.lost.lacking n due) in omega (arith, lack.0, lack.1, end)
+            let lack : MayLack w.session (phase.Redoing next true) n = subst Q at (k.lost.lacking n due) in
+            omega (arith, lack.0, lack.1, end)
             );
         due = λ n e. absurd (none_awaited w.losers n e);
       };

@@ -61,7 +61,8 @@ module _ (w : TcView) (k : IsTc w) where
   keeps_checkpointed l asked unspent =
       let r : Record = is.Checkpoint l in
       let running : w.phase ≡ phase.Running = k.asking l asked in
-      let positive : 0 < w.session = let P : Phase → Type 0 = IsPhase w.checkpointed w.session in subst P running k.phase in
+      let positive : 0 < w.session = let P : Phase → Type 0 = IsPhase w.checkpointed w.session in
+      subst P running k.phase in
       record {
         legal = (fits_checkpoint l asked, k.legal);
         within = omega (arith, k.within);
@@ -70,7 +71,8 @@ module _ (w : TcView) (k : IsTc w) where
         phase = let P : Phase → Type 0 = IsPhase (greater w.checkpointed l) w.session in subst P (sym running) positive;
         asking = λ m none. absurd (cc);
         low = low_checkpointed w k l (k.low.asked l asked);
-        open_txns = same_open w.log (r ∷ w.log) w.losers.below w.open_txns k.open_txns (λ o at h. checkpoint_leaves w.log l o h) (open_was r w.log (λ e. cc));
+        open_txns = same_open w.log (r ∷ w.log) w.losers.below w.open_txns k.open_txns
+            (λ o at h. checkpoint_leaves w.log l o h) (open_was r w.log (λ e. cc));
         committing = k.committing;
         lost = lost_more w k r (fits_checkpoint l asked) tt (λ n. refl);
         locks = longer w.log w.open_txns (closing w) w.locks k.locks r refl;

@@ -14,7 +14,8 @@ use Rattle.tc_core.proofs.HeldSpans.{is_some_replaced}
 open_number : (log : List Record) (below : ℕ) (os : List OpenTxn) → AreOpen log below os → (t : ℕ) (o : OpenTxn)
     → find t os ≡ Some o
     → t ≤ length log
-open_number log below os k t o at = omega (arith, (begun_number log o.txn (k.each t o at).is.begun).bounded, found_number t os o at)
+open_number log below os k t o at =
+    omega (arith, (begun_number log o.txn (k.each t o at).is.begun).bounded, found_number t os o at)
 
 below_more : (os : List OpenTxn) (t u : ℕ) → t ≤ u → AreBelow t os → AreBelow u os
 below_more [] t u le below = tt
@@ -86,7 +87,8 @@ module _ (log log2 : List Record) (below : ℕ) (os : List OpenTxn) (k : AreOpen
     ];
     all = λ t h late. elim (cases_eq new.txn t) [
       | inl same ↦ ap is_some (find_here new os t same)
-      | inr apart ↦ elim (was t h) [ inl e ↦ absurd (apart (sym e)) | inr had ↦ ap is_some (find_there new os t apart) ∙ k.all t had late ]
+      | inr apart ↦ elim (was t h)
+          [ inl e ↦ absurd (apart (sym e)) | inr had ↦ ap is_some (find_there new os t apart) ∙ k.all t had late ]
     ];
     order = (let P : ℕ → Type 0 = λ n. AreBelow n os in subst P (sym number) (open_below log below os k), k.order);
     few = omega (arith, less);
@@ -97,13 +99,15 @@ module _ (log log2 : List Record) (below : ℕ) (os : List OpenTxn) (k : AreOpen
       → ((u : ℕ) → IsOpen log2 u → (u ≢ t) × IsOpen log u) → AreOpen log2 below (without t os)
   without_open t kept was = record {
     each = λ u p found. elim (cases_eq u t) [
-      | inl same ↦ let none : find u (without t os) ≡ None = let P : ℕ → Type 0 = λ n. find n (without t os) ≡ None in subst P (sym same) (without_same t os) in absurd (cc)
+      | inl same ↦ let none : find u (without t os) ≡ None = let P : ℕ → Type 0 = λ n. find n (without t os) ≡ None in
+          subst P (sym same) (without_same t os) in absurd (cc)
       | inr apart ↦
           let there : find u os ≡ Some p = sym (without_other t os u apart) ∙ found in
           kept p (λ e. apart (sym (found_number u os p there) ∙ e)) (k.each u p there)
     ];
     late = λ u p found. elim (cases_eq u t) [
-      | inl same ↦ let none : find u (without t os) ≡ None = let P : ℕ → Type 0 = λ n. find n (without t os) ≡ None in subst P (sym same) (without_same t os) in absurd (cc)
+      | inl same ↦ let none : find u (without t os) ≡ None = let P : ℕ → Type 0 = λ n. find n (without t os) ≡ None in
+          subst P (sym same) (without_same t os) in absurd (cc)
       | inr apart ↦ k.late u p (sym (without_other t os u apart) ∙ found)
     ];
     all = λ u h late. ap is_some (without_other t os u (was u h).0) ∙ k.all u (was u h).1 late;

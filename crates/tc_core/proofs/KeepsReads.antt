@@ -5,7 +5,7 @@ use Rattle.record_key.specs.declared.op.Op.{Op}
 use Rattle.record_key.specs.Table.{key_of}
 use Rattle.history.specs.declared.record.Record.{Record}
 use Rattle.history.specs.Log.{IsOpen, IsOpBy}
-use Rattle.history.specs.Spans.{Exclusive, at_key, is_within, IsRange, Conflict, AnyConflict}
+use Rattle.history.specs.Spans.{Exclusive, at_key, is_within, IsRange, Conflict}
 use Rattle.history.specs.Spans as law
 use Rattle.range_locks.specs.declared.span.Span.{Span}
 use Rattle.range_locks.specs.Locks.{spans_of, IsFree}
@@ -36,7 +36,14 @@ waits_alike log o r (Some n) h = record { request = h.request; unanswered = h.un
 
 open_alike : (log : List Record) (o : OpenTxn) (r : Option Read) → IsOpenTxn log o
     → IsOpenTxn log (record o { reading = r })
-open_alike log o r h = record { is = h.is; last = h.last; undo = h.undo; waits = waits_alike log o r o.waiting h.waits; saves = h.saves; rolling = h.rolling }
+open_alike log o r h = record {
+  is = h.is;
+  last = h.last;
+  undo = h.undo;
+  waits = waits_alike log o r o.waiting h.waits;
+  saves = h.saves;
+  rolling = h.rolling;
+}
 
 pub keeps_ask : (w : TcView) (o : OpenTxn) (s : Span) → IsTc w → find o.txn w.open_txns ≡ Some o → o.waiting ≡ None
     → o.rolling ≡ None
@@ -52,14 +59,24 @@ keeps_ask w o s k at none flat range free unspent =
       phase = k.phase;
       asking = k.asking;
       low = k.low;
-      open_txns = replaced_open w.log w.log w.losers.below w.open_txns k.open_txns new o at (open_alike w.log o (Some r) (open_at w o k at)) (λ p apart same. same) (λ t same. same);
+      open_txns = replaced_open w.log w.log w.losers.below w.open_txns k.open_txns new o at
+          (open_alike w.log o (Some r) (open_at w o k at)) (λ p apart same. same) (λ t same. same);
       committing = k.committing;
       lost = k.lost;
       locks = shares w.log w.open_txns (closing w) w.locks k.locks new o (shared s) at refl free;
-      early = early_taken w.losers.below o.txn (shared s ∷ spans_of w.locks o.txn) w.locks k.locks.table (late_at w o k at) k.early;
-      reading = reads_asked w.reads w.open_txns w.locks k.reading new o r (w.reads + 1) _ at refl (omega arith) (omega arith)
+      early = early_taken w.losers.below o.txn (shared s ∷ spans_of w.locks o.txn) w.locks k.locks.table
+          (late_at w o k at) k.early;
+      reading = reads_asked w.reads w.open_txns w.locks k.reading new o r (w.reads + 1) _ at refl (omega arith)
+          (omega arith)
           (λ u apart. set_other o.txn (shared s ∷ spans_of w.locks o.txn) w.locks u k.locks.table apart)
-          (record { idle = none; flat = flat; asked = omega arith; range = range; before = spans_of w.locks o.txn; held = set_own o.txn (shared s ∷ spans_of w.locks o.txn) w.locks k.locks.table });
+          (record {
+            idle = none;
+            flat = flat;
+            asked = omega arith;
+            range = range;
+            before = spans_of w.locks o.txn;
+            held = set_own o.txn (shared s ∷ spans_of w.locks o.txn) w.locks k.locks.table;
+          });
     }
 
 pub keeps_told : (w : TcView) (o : OpenTxn) → IsTc w → find o.txn w.open_txns ≡ Some o → IsTc (was_told w o)
@@ -71,7 +88,8 @@ keeps_told w o k at = record {
   phase = k.phase;
   asking = k.asking;
   low = k.low;
-  open_txns = replaced_open w.log w.log w.losers.below w.open_txns k.open_txns (told_txn o) o at (open_alike w.log o None (open_at w o k at)) (λ p apart same. same) (λ t same. same);
+  open_txns = replaced_open w.log w.log w.losers.below w.open_txns k.open_txns (told_txn o) o at
+      (open_alike w.log o None (open_at w o k at)) (λ p apart same. same) (λ t same. same);
   committing = k.committing;
   lost = k.lost;
   locks = replaced w.log w.open_txns (closing w) w.locks k.locks (told_txn o) o at;
@@ -82,13 +100,17 @@ keeps_told w o k at = record {
 -- whoever asked a read is an open transaction
 read_is : (x : Option Read) (n : ℕ) → is_read n x ≡ true → (s : Span) × (x ≡ Some (record { number = n; span = s }))
 read_is None n h = absurd (cc)
-read_is (Some r) n h =
-    (r.span, ap (λ (m : ℕ). let q : Read = record { number = m; span = r.span } in let x : Option Read = Some q in x) (eqb-true r.number n h))
+read_is (Some r) n h = (
+  r.span,
+  ap (λ (m : ℕ). let q : Read = record { number = m; span = r.span } in let x : Option Read = Some q in x)
+      (eqb-true r.number n h),
+)
 
 pub reader_is : (w : TcView) (n : ℕ) (o : OpenTxn) → IsTc w → reader w n ≡ Some o
     → (find o.txn w.open_txns ≡ Some o) × ((s : Span) × (o.reading ≡ Some (record { number = n; span = s })))
 reader_is w n o k is =
-    let h : IsOldest (wants (Reader n)) w.open_txns o = oldest_found (wants (Reader n)) w.open_txns o k.open_txns.order is in
+    let h : IsOldest (wants (Reader n)) w.open_txns o =
+    oldest_found (wants (Reader n)) w.open_txns o k.open_txns.order is in
     (h.found, read_is o.reading n h.passes)
 
 -- and each that waits for a read is found by its number
@@ -118,8 +140,10 @@ held_apart w o r n u q k at some by open_u other =
     elim (cases_Bool (is_within (shared r.span) (key_of q))) [
       | inl within ↦
           let h : IsReading w.reads w.locks o r = reading_at w o r k at some in
-          let clash : Conflict (shared r.span) (at_key Exclusive (key_of q)) = (key_of q, within, within_itself (key_of q), refl) in
+          let clash : Conflict (shared r.span) (at_key Exclusive (key_of q)) =
+          (key_of q, within, within_itself (key_of q), refl) in
           let P : List law.Span → Type 0 = λ xs. AreApart xs (spans_of w.locks u) in
-          absurd ((subst P h.held (k.locks.apart o.txn u (λ e. other (sym e)))).0 (held_by w n u q (shared r.span) k by open_u clash))
+          absurd ((subst P h.held (k.locks.apart o.txn u (λ e. other (sym e)))).0
+          (held_by w n u q (shared r.span) k by open_u clash))
       | inr outside ↦ outside
     ]

@@ -25,7 +25,8 @@ session_leaves log o h = leaves_open is.Session log o (record { no_step = λ s. 
 
 pub checkpoint_leaves : (log : List Record) (l : ℕ) (o : OpenTxn) → IsOpenTxn log o
     → IsOpenTxn (is.Checkpoint l ∷ log) o
-checkpoint_leaves log l o h = leaves_open (is.Checkpoint l) log o (record { no_step = λ s. cc; ends_not = refl }) (λ n e. refl) h
+checkpoint_leaves log l o h =
+    leaves_open (is.Checkpoint l) log o (record { no_step = λ s. cc; ends_not = refl }) (λ n e. refl) h
 
 pub begin_leaves : (log : List Record) (o : OpenTxn) → IsOpenTxn log o → IsOpenTxn (is.Begin ∷ log) o
 begin_leaves log o h = leaves_open is.Begin log o (record { no_step = λ s. cc; ends_not = refl }) (λ n e. refl) h
@@ -35,23 +36,31 @@ pub step_leaves : (r : Record) (log : List Record) (t : ℕ) → AStep t (Some r
     → ((n : ℕ) → answer_of (r ∷ log) n ≡ answer_of log n)
     → (o : OpenTxn) → o.txn ≢ t → IsOpenTxn log o → IsOpenTxn (r ∷ log) o
 step_leaves r log t step same o apart h =
-    leaves_open r log o (record { no_step = λ s. apart (let e : Some o.txn ≡ Some t = sym s ∙ step in cc); ends_not = step_ends_none log r t o.txn step }) (λ n e. same n) h
+    leaves_open r log o (record {
+      no_step = λ s. apart (let e : Some o.txn ≡ Some t = sym s ∙ step in cc);
+      ends_not = step_ends_none log r t o.txn step;
+    }) (λ n e. same n) h
 
 -- so does its Commit, and its end
 pub commit_leaves : (log : List Record) (t : ℕ) (o : OpenTxn) → o.txn ≢ t → IsOpenTxn log o
     → IsOpenTxn (is.Commit t ∷ log) o
 commit_leaves log t o apart h =
-    leaves_open (is.Commit t) log o (record { no_step = λ s. cc; ends_not = ap (λ b. b || has_ended log o.txn) (ne_eqb o.txn t apart) }) (λ n e. refl) h
+    leaves_open (is.Commit t) log o
+    (record { no_step = λ s. cc; ends_not = ap (λ b. b || has_ended log o.txn) (ne_eqb o.txn t apart) })
+    (λ n e. refl) h
 
 pub end_leaves : (log : List Record) (t : ℕ) (o : OpenTxn) → o.txn ≢ t → IsOpenTxn log o → IsOpenTxn (is.End t ∷ log) o
 end_leaves log t o apart h =
-    leaves_open (is.End t) log o (record { no_step = λ s. cc; ends_not = ap (λ b. b || has_ended log o.txn) (ne_eqb o.txn t apart) }) (λ n e. refl) h
+    leaves_open (is.End t) log o
+    (record { no_step = λ s. cc; ends_not = ap (λ b. b || has_ended log o.txn) (ne_eqb o.txn t apart) })
+    (λ n e. refl) h
 
 -- and the answer that it waits for, since each other waits for a record of its own
 pub answer_leaves : (log : List Record) (o : OpenTxn) (n : ℕ) (a : Answer) → IsWaiting log o n → (p : OpenTxn)
     → p.txn ≢ o.txn → IsOpenTxn log p → IsOpenTxn (is.Answer n a ∷ log) p
 answer_leaves log o n a waits p apart h =
-    leaves_open (is.Answer n a) log p (record { no_step = λ s. cc; ends_not = refl }) (λ m waiting. ap (λ b. cond b (Some a) (answer_of log m)) (ne_eqb m n (other m waiting))) h
+    leaves_open (is.Answer n a) log p (record { no_step = λ s. cc; ends_not = refl })
+    (λ m waiting. ap (λ b. cond b (Some a) (answer_of log m)) (ne_eqb m n (other m waiting))) h
   where
     other : (m : ℕ) → p.waiting ≡ Some m → m ≢ n
     other m waiting same =
@@ -67,7 +76,9 @@ no_steps_yet log n legal step =
     let r : Record = is.Begin in
     elim (cases_eq n (length log + 1)) [
       | inl e ↦ let none : AStep (length log + 1) (Some r) = newest_at (AStep (length log + 1)) r log n e step in cc
-      | inr e ↦ not_newest log (length log + 1) (begun_number log (length log + 1) (begun log (length log + 1) n legal (older_at (AStep (length log + 1)) r log n e step))) refl
+      | inr e ↦ not_newest log (length log + 1)
+          (begun_number log (length log + 1)
+          (begun log (length log + 1) n legal (older_at (AStep (length log + 1)) r log n e step))) refl
     ]
 
 pub opens : (log : List Record) → IsLegal log → IsOpenTxn (is.Begin ∷ log) (begun_txn (length log + 1))
@@ -83,7 +94,11 @@ opens log legal = record {
 -- its operation
 newest_step : (r : Record) (log : List Record) (t : ℕ) → AStep t (Some r)
     → IsLatestOrNone (IsStepOf (r ∷ log) t) (length log + 1)
-newest_step r log t step = inl (record { is = at_newest (AStep t) r log (length log + 1) refl step; greatest = λ m h. omega (arith, (step_number (r ∷ log) m t h).bounded) })
+newest_step r log t step =
+    inl (record {
+      is = at_newest (AStep t) r log (length log + 1) refl step;
+      greatest = λ m h. omega (arith, (step_number (r ∷ log) m t h).bounded);
+    })
 
 pub acts : (log : List Record) (o : OpenTxn) (op : Op) → answer_of log (length log + 1) ≡ None → IsOpenTxn log o
     → IsIdle log o.txn → o.rolling ≡ None
@@ -94,7 +109,8 @@ acts log o op none h idle flat =
       is = open_kept r log o.txn refl h.is;
       last = newest_step r log o.txn refl;
       undo = sym (ap (λ x. undo_from x (length log + 1)) (record_new r log));
-      waits = waits_now r log o.txn (acted_txn o (length log + 1)) refl idle (rw flat (o.last, op, record_new r log)) none;
+      waits = waits_now r log o.txn (acted_txn o (length log + 1)) refl idle (rw flat (o.last, op, record_new r log))
+          none;
       saves = (bounded r log o h).saves;
       rolling = (bounded r log o h).rolling;
     }
@@ -102,7 +118,8 @@ acts log o op none h idle flat =
 -- the answer that it waits for
 pub answer_comes : (log : List Record) (o : OpenTxn) (n : ℕ) (a : Answer) → IsOpenTxn log o → IsWaiting log o n
     → IsOpenTxn (is.Answer n a ∷ log) (answered_txn o)
-answer_comes log o n a h waits = still_open (is.Answer n a) log o None (record { no_step = λ s. cc; ends_not = refl }) h (idle_now log o n a waits)
+answer_comes log o n a h waits =
+    still_open (is.Answer n a) log o None (record { no_step = λ s. cc; ends_not = refl }) h (idle_now log o n a waits)
 
 -- its compensation
 waits_then : (i : Option Op) (log : List Record) (o : OpenTxn) (x : ℕ) (b : Rollback)
@@ -111,7 +128,8 @@ waits_then : (i : Option Op) (log : List Record) (o : OpenTxn) (x : ℕ) (b : Ro
 waits_then None log o x b none idle rolling = idle_after (is.Comp o.txn o.undo x None) log o.txn (λ q h. cc) idle
 waits_then (Some i) log o x b none idle rolling =
     let r : Record = is.Comp o.txn o.undo x (Some i) in
-    waits_now r log o.txn (compensated_txn o (length log + 1) x (Some i)) refl idle (rw rolling (o.undo, x, i, record_new r log)) none
+    waits_now r log o.txn (compensated_txn o (length log + 1) x (Some i)) refl idle
+    (rw rolling (o.undo, x, i, record_new r log)) none
 
 pub compensates : (i : Option Op) (log : List Record) (o : OpenTxn) (x : ℕ) (b : Rollback)
     → answer_of log (length log + 1) ≡ None → IsOpenTxn log o → IsIdle log o.txn → o.rolling ≡ Some b

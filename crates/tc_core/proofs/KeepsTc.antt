@@ -63,7 +63,13 @@ fresh_tc failures = record {
     checkpointed = inr (refl, λ l named. absurd (let none = named.1 in cc));
     checked = may_none [];
   };
-  open_txns = record { each = λ t o at. absurd (cc); late = λ t o at. absurd (cc); all = λ t h late. absurd (let none = h.begun in cc); order = tt; few = omega arith };
+  open_txns = record {
+    each = λ t o at. absurd (cc);
+    late = λ t o at. absurd (cc);
+    all = λ t h late. absurd (let none = h.begun in cc);
+    order = tt;
+    few = omega arith;
+  };
   committing = refl;
   lost = record {
     losers = record {
@@ -113,7 +119,8 @@ keeps_logged w k unspent = record {
   phase = k.phase;
   asking = k.asking;
   low = low_longer w k is.Session refl;
-  open_txns = same_open w.log (is.Session ∷ w.log) w.losers.below w.open_txns k.open_txns (λ o at h. session_leaves w.log o h) (open_was is.Session w.log (λ e. cc));
+  open_txns = same_open w.log (is.Session ∷ w.log) w.losers.below w.open_txns k.open_txns
+      (λ o at h. session_leaves w.log o h) (open_was is.Session w.log (λ e. cc));
   committing = k.committing;
   lost = lost_more w k is.Session tt tt (λ n. refl);
   locks = longer w.log w.open_txns (closing w) w.locks k.locks is.Session refl;
@@ -149,7 +156,8 @@ closed w t k listed = rw (not_open, not_lost) refl
         pick : (x : Option OpenTxn) → find t w.open_txns ≡ x → is_some (find t w.open_txns) ≡ false
         pick None is = ap is_some is
         pick (Some o) is =
-            absurd (clash (let P : ℕ → Type 0 = IsOpen w.log in subst P (found_number t w.open_txns o is) (k.open_txns.each t o is).is))
+            absurd (clash (let P : ℕ → Type 0 = IsOpen w.log in
+            subst P (found_number t w.open_txns o is) (k.open_txns.each t o is).is))
 
     not_lost : is_listed (txns w.losers) t ≡ false
     not_lost = elim (cases_Bool (is_listed (txns w.losers) t)) [
@@ -163,7 +171,9 @@ open_holder w u k open_u =
     elim (cases_lt u w.losers.below) [
       | inl early ↦
           let listed : is_listed (closing w) u ≡ true = list_any-append (λ v. v == u) w.committing (txns w.losers)
-          ∙ ap (λ b. is_listed w.committing u || b) (loser_listed w.log w.losers k.lost.losers u (record { open_txn = open_u; early = early })) ∙ or-true (is_listed w.committing u) in
+          ∙ ap (λ b. is_listed w.committing u || b)
+          (loser_listed w.log w.losers k.lost.losers u (record { open_txn = open_u; early = early }))
+          ∙ or-true (is_listed w.committing u) in
           ap (λ b. is_some (find u w.open_txns) || b) listed ∙ or-true (is_some (find u w.open_txns))
       | inr late ↦ open_holds w.open_txns (closing w) u (k.open_txns.all u open_u late)
     ]
@@ -184,7 +194,8 @@ keeps_force w k = record {
   locks = let_go_held w.log w.open_txns w.committing (txns w.losers) w.locks k.locks (λ t. closed w t k);
   early = early_let_go w.losers.below w.committing w.locks k.locks.table k.early;
   reading = reads_kept w.reads w.open_txns w.locks k.reading (let_go w.committing w.locks)
-      (λ t o at. let_go_other w.committing w.locks o.txn k.locks.table (not_committing w o.txn k (k.open_txns.each t o at).is.goes_on));
+      (λ t o at. let_go_other w.committing w.locks o.txn k.locks.table
+      (not_committing w o.txn k (k.open_txns.each t o at).is.goes_on));
 }
 
 -- and a session begins
@@ -220,11 +231,13 @@ keeps_begin w k less unspent = record {
   phase = k.phase;
   asking = k.asking;
   low = low_longer w k is.Begin refl;
-  open_txns = added_open w.log (is.Begin ∷ w.log) w.losers.below w.open_txns k.open_txns (begun_txn (length w.log + 1)) refl k.lost.losers.bound less (opens w.log k.legal) (begin_leaves w.log)
+  open_txns = added_open w.log (is.Begin ∷ w.log) w.losers.below w.open_txns k.open_txns (begun_txn (length w.log + 1))
+      refl k.lost.losers.bound less (opens w.log k.legal) (begin_leaves w.log)
       (λ t now. elim (open_had is.Begin w.log t now) [ inl new ↦ inl new.0 | inr was ↦ inr was ]);
   committing = k.committing;
   lost = lost_more w k is.Begin tt tt (λ n. refl);
-  locks = begins w.log w.open_txns (closing w) w.locks k.locks (begun_txn (length w.log + 1)) k.legal refl (all_below w k)
+  locks = begins w.log w.open_txns (closing w) w.locks k.locks (begun_txn (length w.log + 1)) k.legal refl
+      (all_below w k)
       (not_closing w (length w.log + 1) k (unended_next w.log k.legal) k.lost.losers.bound);
   early = k.early;
   reading = reads_begun w.reads w.open_txns w.locks k.reading (begun_txn (length w.log + 1)) refl;
@@ -250,7 +263,8 @@ pub held_by : (w : TcView) (n u : ℕ) (q : Op) (s : Span) → IsTc w → IsOpBy
 held_by w n u q s k by open_u clash =
     let P : List Span → Type 0 = AnyConflict s in
     any_held w.log w.open_txns (closing w) w.locks k.locks u s
-    (subst P (sym (held_is w.log w.open_txns (closing w) u (open_holder w u k open_u))) (op_spans_has s w.log n u q by clash))
+    (subst P (sym (held_is w.log w.open_txns (closing w) u (open_holder w u k open_u)))
+    (op_spans_has s w.log n u q by clash))
 
 -- so a key that nobody else holds has no operation of another open transaction
 pub key_free : (w : TcView) (t : ℕ) (op : Op) → IsTc w → IsFree w.locks t (at_key Exclusive (key_of op))
@@ -260,7 +274,8 @@ key_free w t op k free n u o by key open_u =
       | inl same ↦ same
       | inr apart ↦
           let P : Bytes → Type 0 = λ x. Conflict (at_key Exclusive x) (at_key Exclusive (key_of o)) in
-          absurd (free u apart (held_by w n u o (at_key Exclusive (key_of op)) k by open_u (subst P key (conflicts_itself (key_of o)))))
+          absurd (free u apart (held_by w n u o (at_key Exclusive (key_of op)) k by open_u
+          (subst P key (conflicts_itself (key_of o)))))
     ]
 
 -- an operation on a key that nobody else holds
@@ -285,13 +300,19 @@ keeps_act w o op k at none still flat free unspent =
       phase = k.phase;
       asking = k.asking;
       low = low_longer w k r refl;
-      open_txns = replaced_open w.log (r ∷ w.log) w.losers.below w.open_txns k.open_txns (acted_txn o (length w.log + 1)) o at (acts w.log o op (none_next w.log k.legal) h (idle_at w.log o h none) flat)
+      open_txns = replaced_open w.log (r ∷ w.log) w.losers.below w.open_txns k.open_txns
+          (acted_txn o (length w.log + 1)) o at
+          (acts w.log o op (none_next w.log k.legal) h (idle_at w.log o h none) flat)
           (step_leaves r w.log o.txn refl (λ n. refl)) (open_was r w.log (λ e. cc));
       committing = k.committing;
       lost = lost_more w k r (fits_op w o op k at none free) (late_at w o k at) (λ n. refl);
-      locks = takes_key w.log w.open_txns (closing w) w.locks k.locks (acted_txn o (length w.log + 1)) o o.last op at free;
-      early = early_taken w.losers.below o.txn (at_key Exclusive (key_of op) ∷ spans_of w.locks o.txn) w.locks k.locks.table (late_at w o k at) k.early;
-      reading = reads_replaced w.reads w.open_txns w.locks k.reading (acted_txn o (length w.log + 1)) o _ at still (λ u apart. set_other o.txn (at_key Exclusive (key_of op) ∷ spans_of w.locks o.txn) w.locks u k.locks.table apart);
+      locks = takes_key w.log w.open_txns (closing w) w.locks k.locks (acted_txn o (length w.log + 1)) o o.last op at
+          free;
+      early = early_taken w.losers.below o.txn (at_key Exclusive (key_of op) ∷ spans_of w.locks o.txn) w.locks
+          k.locks.table (late_at w o k at) k.early;
+      reading = reads_replaced w.reads w.open_txns w.locks k.reading (acted_txn o (length w.log + 1)) o _ at still
+          (λ u apart. set_other o.txn (at_key Exclusive (key_of op) ∷ spans_of w.locks o.txn) w.locks u k.locks.table
+          apart);
     }
 
 -- a rollback begins or ends, and a savepoint is set or dropped: what the log says of it stays
@@ -318,7 +339,8 @@ module _ (w : TcView) (o new : OpenTxn) (k : IsTc w) (at : find o.txn w.open_txn
               is = let Q : ℕ → Type 0 = IsOpen w.log in subst Q (sym number) h.is;
               last = rw same h.last;
               undo = rw same h.undo;
-              waits = subst P (sym none_new) (let Q : ℕ → Type 0 = IsIdle w.log in subst Q (sym number) (idle_at w.log o h none));
+              waits = subst P (sym none_new)
+                  (let Q : ℕ → Type 0 = IsIdle w.log in subst Q (sym number) (idle_at w.log o h none));
               saves = within.saves;
               rolling = within.rolling;
             })
@@ -327,7 +349,8 @@ module _ (w : TcView) (o new : OpenTxn) (k : IsTc w) (at : find o.txn w.open_txn
         lost = k.lost;
         locks = replaced w.log w.open_txns (closing w) w.locks k.locks new o found;
         early = k.early;
-        reading = reads_replaced w.reads w.open_txns w.locks k.reading new o w.locks found (ap (λ (x : OpenTxn). x.reading) same ∙ still) (λ u apart. refl);
+        reading = reads_replaced w.reads w.open_txns w.locks k.reading new o w.locks found
+            (ap (λ (x : OpenTxn). x.reading) same ∙ still) (λ u apart. refl);
       }
 
 -- within the log stay what was
@@ -348,18 +371,21 @@ one_within log [] n end all at = absurd (cc)
 one_within log (e ∷ saves) zero end all at = let same : e ≡ end = cc in omega (arith, same, all.0)
 one_within log (e ∷ saves) (suc n) end all at = one_within log saves n end all.1 at
 
-module _ (w : TcView) (o : OpenTxn) (k : IsTc w) (at : find o.txn w.open_txns ≡ Some o) (none : o.waiting ≡ None) (still : o.reading ≡ None) where
+module _ (w : TcView) (o : OpenTxn) (k : IsTc w) (at : find o.txn w.open_txns ≡ Some o) (none : o.waiting ≡ None)
+    (still : o.reading ≡ None) where
   pub keeps_rollback : IsTc (rolled w o)
   keeps_rollback = keeps_bounds w o (rolling_txn o) k at refl none still (record {
     saves = (open_at w o k at).saves;
     rolling = λ r some. let same : record { savepoint = None; above = 0 } ≡ r = cc in
-        let P : Rollback → Type 0 = IsRollback w.log in subst P same (record { whole = λ e. refl; within = omega arith });
+        let P : Rollback → Type 0 = IsRollback w.log in
+        subst P same (record { whole = λ e. refl; within = omega arith });
   })
 
   pub keeps_save : IsTc (saved w o)
   keeps_save =
       let h = open_at w o k at in
-      keeps_bounds w o (saved_txn o (length w.log)) k at refl none still (record { saves = more_within w.log o.saves h.saves; rolling = h.rolling })
+      keeps_bounds w o (saved_txn o (length w.log)) k at refl none still
+      (record { saves = more_within w.log o.saves h.saves; rolling = h.rolling })
 
   pub keeps_back : (s end : ℕ) → slice_get o.saves (s - 1) ≡ Some end → IsTc (going_back w o s end)
   keeps_back s end is =
@@ -367,11 +393,16 @@ module _ (w : TcView) (o : OpenTxn) (k : IsTc w) (at : find o.txn w.open_txns �
       keeps_bounds w o (going_back_txn o s end) k at refl none still (record {
         saves = taken_within w.log s o.saves h.saves;
         rolling = λ r some. let same : record { savepoint = Some s; above = end } ≡ r = cc in
-            let P : Rollback → Type 0 = IsRollback w.log in subst P same (record { whole = λ e. absurd (cc); within = one_within w.log o.saves (s - 1) end h.saves is });
+            let P : Rollback → Type 0 = IsRollback w.log in
+            subst P same (record {
+              whole = λ e. absurd (cc);
+              within = one_within w.log o.saves (s - 1) end h.saves is;
+            });
       })
 
   pub keeps_is_back : IsTc (is_back w o)
-  keeps_is_back = keeps_bounds w o (back_txn o) k at refl none still (record { saves = (open_at w o k at).saves; rolling = λ r some. absurd (cc) })
+  keeps_is_back = keeps_bounds w o (back_txn o) k at refl none still
+      (record { saves = (open_at w o k at).saves; rolling = λ r some. absurd (cc) })
 
 -- an answer
 pub fits_answer : (w : TcView) (o : OpenTxn) (n : ℕ) (a : Answer) → IsTc w → find o.txn w.open_txns ≡ Some o
@@ -407,15 +438,19 @@ keeps_answer w o n a k at some unspent =
       phase = k.phase;
       asking = k.asking;
       low = low_longer w k r refl;
-      open_txns = replaced_open w.log (r ∷ w.log) w.losers.below w.open_txns k.open_txns (answered_txn o) o at (answer_comes w.log o n a h waits)
+      open_txns = replaced_open w.log (r ∷ w.log) w.losers.below w.open_txns k.open_txns (answered_txn o) o at
+          (answer_comes w.log o n a h waits)
           (answer_leaves w.log o n a waits) (open_was r w.log (λ e. cc));
       committing = k.committing;
       lost = lost_spared w.log w.session w.phase w.losers r k.lost (fits_answer w o n a k at some, k.legal) tt
-          (λ m e. ap (λ b. cond b (Some a) (answer_of w.log m)) (ne_eqb m n (other_due w o n k at waits m (k.lost.due m e))));
-      locks = replaced (r ∷ w.log) w.open_txns (closing w) w.locks (longer w.log w.open_txns (closing w) w.locks k.locks r refl) (answered_txn o) o at;
+          (λ m e. ap (λ b. cond b (Some a) (answer_of w.log m))
+          (ne_eqb m n (other_due w o n k at waits m (k.lost.due m e))));
+      locks = replaced (r ∷ w.log) w.open_txns (closing w) w.locks
+          (longer w.log w.open_txns (closing w) w.locks k.locks r refl) (answered_txn o) o at;
       early = k.early;
       reading = reads_replaced w.reads w.open_txns w.locks k.reading (answered_txn o) o w.locks at
-          (no_reading o.reading (λ q reads. let idle : o.waiting ≡ None = (reading_at w o q k at reads).idle in absurd (cc))) (λ u apart. refl);
+          (no_reading o.reading (λ q reads. let idle : o.waiting ≡ None = (reading_at w o q k at reads).idle in
+          absurd (cc))) (λ u apart. refl);
     }
 
 -- whoever waits for an answer is an open transaction
@@ -448,7 +483,8 @@ pub awaits : (w : TcView) (o : OpenTxn) (n : ℕ) → IsTc w → find o.txn w.op
 awaits w o n k at some =
     let own = own_request w.log o n (waits_at w.log o n (open_at w o k at) some).request in
     ap (λ (x : Option ℕ). if_awaits n (asker x w.open_txns)) own.step ∙ ap (if_awaits n) at
-    ∙ ap (λ (x : Option ℕ). if is_number x n then Some o else None) some ∙ ap (λ b. if b then Some o else None) (eq-eqb n n refl)
+    ∙ ap (λ (x : Option ℕ). if is_number x n then Some o else None) some
+    ∙ ap (λ b. if b then Some o else None) (eq-eqb n n refl)
 
 -- what was just answered is
 pub newly_answered : (log : List Record) (n : ℕ) (a : Answer) → IsSome (answer_of (is.Answer n a ∷ log) n)
@@ -458,7 +494,8 @@ newly_answered log n a = ap (λ b. is_some (cond b (Some a) (answer_of log n))) 
 pub phase_passed : (c s n : ℕ) (p : Phase) → takes s p n ≡ true → IsPhase c s p → IsPhase c s (next_phase p n)
 phase_passed c s n phase.Unconnected test h = absurd (cc)
 phase_passed c s n phase.Connecting test h = absurd (cc)
-phase_passed c s n (phase.Redoing next ending) test h = (grind (arith, nat_tests, test, h.0), grind (arith, nat_tests, test), λ e. absurd (true≢false (sym e)))
+phase_passed c s n (phase.Redoing next ending) test h =
+    (grind (arith, nat_tests, test, h.0), grind (arith, nat_tests, test), λ e. absurd (true≢false (sym e)))
 phase_passed c s n (phase.Undoing waiting) test h = h
 phase_passed c s n phase.Running test h = h
 

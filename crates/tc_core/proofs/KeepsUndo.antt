@@ -33,7 +33,8 @@ pub undo_found : (w : TcView) (o : OpenTxn) → IsTc w → find o.txn w.open_txn
     → IsLatestOrNone (Stands w.log o.txn) o.undo
 undo_found w o k at =
     let h = open_at w o k at in
-    let P : ℕ → Type 0 = IsLatestOrNone (Stands w.log o.txn) in subst P (sym h.undo) (latest_found w.log o.txn k.legal o.last h.last)
+    let P : ℕ → Type 0 = IsLatestOrNone (Stands w.log o.txn) in
+    subst P (sym h.undo) (latest_found w.log o.txn k.legal o.last h.last)
 
 -- the inverse is that by the operation and its answer
 inverse_is : (log : List Record) (u : ℕ) (i : Option Op) → Inverts log u i → i ≡ inverse_at log u
@@ -45,7 +46,8 @@ pub comp_is : (log : List Record) (t u above : ℕ) (r : Record) → IsLegal log
 comp_is log t u above r legal left h =
     let same : h.undoes ≡ u = latest_unique (Stands log t) h.undoes u (inl h.fits.latest) left in
     let next : h.next ≡ next_of log h.undoes =
-    latest_unique (λ n. Stands log t n × (n < h.undoes)) h.next (next_of log h.undoes) h.fits.next (earlier_found log t h.undoes legal h.fits.latest.is) in
+    latest_unique (λ n. Stands log t n × (n < h.undoes)) h.next (next_of log h.undoes) h.fits.next
+    (earlier_found log t h.undoes legal h.fits.latest.is) in
     let inverse : h.inverse ≡ inverse_at log h.undoes = inverse_is log h.undoes h.inverse h.fits.inverse in
     (h.is ∙ rw (next, inverse, same) refl, omega (arith, h.above_bound, same))
 
@@ -60,7 +62,8 @@ fits_comp log t above r h = rw h.is h.fits
 -- nothing above the bound is left
 pub none_left : (w : TcView) (o : OpenTxn) (above : ℕ) → IsTc w → find o.txn w.open_txns ≡ Some o
     → IsUndone w.log o.txn above → o.undo ≤ above
-none_left w o above k at undone = elim (undo_found w o k at) [ inl latest ↦ undone o.undo latest.is | inr none ↦ omega (arith, none.0) ]
+none_left w o above k at undone =
+    elim (undo_found w o k at) [ inl latest ↦ undone o.undo latest.is | inr none ↦ omega (arith, none.0) ]
 
 pub keeps_comp : (w : TcView) (o : OpenTxn) (b : Rollback) → IsTc w → find o.txn w.open_txns ≡ Some o
     → o.waiting ≡ None → o.rolling ≡ Some b
@@ -85,10 +88,12 @@ keeps_comp w o b k at none rolling fits unspent =
           (step_leaves r w.log o.txn refl (λ n. refl)) (open_was r w.log (λ e. cc));
       committing = k.committing;
       lost = lost_more w k r fits (late_at w o k at) (λ n. refl);
-      locks = replaced (r ∷ w.log) w.open_txns (closing w) w.locks (longer w.log w.open_txns (closing w) w.locks k.locks r refl) new o at;
+      locks = replaced (r ∷ w.log) w.open_txns (closing w) w.locks
+          (longer w.log w.open_txns (closing w) w.locks k.locks r refl) new o at;
       early = k.early;
       reading = reads_replaced w.reads w.open_txns w.locks k.reading new o w.locks at
-          (no_reading o.reading (λ q reads. let flat : Some b ≡ None = sym rolling ∙ (reading_at w o q k at reads).flat in absurd (cc))) (λ u apart. refl);
+          (no_reading o.reading (λ q reads. let flat : Some b ≡ None = sym rolling
+          ∙ (reading_at w o q k at reads).flat in absurd (cc))) (λ u apart. refl);
     }
 
 -- an end
@@ -112,12 +117,14 @@ keeps_end w o k at fits unspent = record {
   phase = k.phase;
   asking = k.asking;
   low = low_longer w k (is.End o.txn) refl;
-  open_txns = without_open w.log (is.End o.txn ∷ w.log) w.losers.below w.open_txns k.open_txns o.txn (end_leaves w.log o.txn) (ends w.log o.txn);
+  open_txns = without_open w.log (is.End o.txn ∷ w.log) w.losers.below w.open_txns k.open_txns o.txn
+      (end_leaves w.log o.txn) (ends w.log o.txn);
   committing = k.committing;
   lost = lost_more w k (is.End o.txn) fits (late_at w o k at) (λ n. refl);
   locks = gives_back w.log w.open_txns (closing w) w.locks k.locks o.txn (unlisted w o k at);
   early = early_freed w.losers.below o.txn w.locks k.locks.table k.early;
-  reading = reads_ended w.reads w.open_txns w.locks k.reading o.txn _ (λ u apart. set_other o.txn [] w.locks u k.locks.table apart);
+  reading = reads_ended w.reads w.open_txns w.locks k.reading o.txn
+      _ (λ u apart. set_other o.txn [] w.locks u k.locks.table apart);
 }
 
 -- a commit
@@ -135,10 +142,12 @@ keeps_commit w o k at none unspent = record {
   phase = k.phase;
   asking = k.asking;
   low = low_longer w k (is.Commit o.txn) refl;
-  open_txns = without_open w.log (is.Commit o.txn ∷ w.log) w.losers.below w.open_txns k.open_txns o.txn (commit_leaves w.log o.txn) (commits w.log o.txn);
+  open_txns = without_open w.log (is.Commit o.txn ∷ w.log) w.losers.below w.open_txns k.open_txns o.txn
+      (commit_leaves w.log o.txn) (commits w.log o.txn);
   committing = ap (λ ts. ts ++ o.txn ∷ []) k.committing ∙ sym (commits_more w.log w.stable o.txn k.within);
   lost = lost_more w k (is.Commit o.txn) (fits_commit w o k at none) (late_at w o k at) (λ n. refl);
-  locks = alike w.log w.open_txns (closing w) w.locks k.locks (is.Commit o.txn) _ _ refl (holder_closing w.open_txns w.committing (txns w.losers) o.txn o at);
+  locks = alike w.log w.open_txns (closing w) w.locks k.locks (is.Commit o.txn) _ _ refl
+      (holder_closing w.open_txns w.committing (txns w.losers) o.txn o at);
   early = k.early;
   reading = reads_ended w.reads w.open_txns w.locks k.reading o.txn w.locks (λ u apart. refl);
 }

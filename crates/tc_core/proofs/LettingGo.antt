@@ -26,8 +26,10 @@ let_go_other (t ∷ ts) locks u table unlisted =
     elim (cases_eq u t) [
       | inl same ↦ absurd (true≢false (sym (ap (λ b. b || is_listed ts u) (eq-eqb t u (sym same))) ∙ unlisted))
       | inr other ↦
-          let later : is_listed ts u ≡ false = sym (ap (λ b. b || is_listed ts u) (ne_eqb t u (λ e. other (sym e)))) ∙ unlisted in
-          let_go_other ts (set_spans t [] locks) u (set_table t [] locks table) later ∙ set_other t [] locks u table other
+          let later : is_listed ts u ≡ false =
+          sym (ap (λ b. b || is_listed ts u) (ne_eqb t u (λ e. other (sym e)))) ∙ unlisted in
+          let_go_other ts (set_spans t [] locks) u (set_table t [] locks table) later
+          ∙ set_other t [] locks u table other
     ]
 
 -- nor more than the keys of operations
@@ -35,14 +37,17 @@ pub early_taken : (below t : ℕ) (spans : List Span) (locks : LocksView) → Is
     → HoldOperations below locks
     → HoldOperations below (set_spans t spans locks)
 early_taken below t spans locks table late h u early =
-    let same : spans_of (set_spans t spans locks) u ≡ spans_of locks u = set_other t spans locks u table (λ e. omega (arith, e, late, early)) in
+    let same : spans_of (set_spans t spans locks) u ≡ spans_of locks u =
+    set_other t spans locks u table (λ e. omega (arith, e, late, early)) in
     rw same (h u early)
 
 pub early_freed : (below t : ℕ) (locks : LocksView) → IsTable locks → HoldOperations below locks
     → HoldOperations below (set_spans t [] locks)
 early_freed below t locks table h u early = elim (cases_eq u t) [
-  | inl e ↦ let none : spans_of (set_spans t [] locks) u ≡ [] = ap (spans_of (set_spans t [] locks)) e ∙ set_own t [] locks table in rw none refl
-  | inr apart ↦ let same : spans_of (set_spans t [] locks) u ≡ spans_of locks u = set_other t [] locks u table apart in rw same (h u early)
+  | inl e ↦ let none : spans_of (set_spans t [] locks) u ≡ [] =
+      ap (spans_of (set_spans t [] locks)) e ∙ set_own t [] locks table in rw none refl
+  | inr apart ↦ let same : spans_of (set_spans t [] locks) u ≡ spans_of locks u = set_other t [] locks u table apart in
+      rw same (h u early)
 ]
 
 pub early_let_go : (below : ℕ) (ts : List ℕ) (locks : LocksView) → IsTable locks → HoldOperations below locks
@@ -67,9 +72,11 @@ gone_own : (ts : List ℕ) (locks : LocksView) (u : ℕ) → IsTable locks → i
 gone_own [] locks u table listed = absurd (cc)
 gone_own (t ∷ ts) locks u table listed =
     elim (cases_eq u t) [
-      | inl same ↦ still_nothing ts (set_spans t [] locks) u (set_table t [] locks table) (ap (spans_of (set_spans t [] locks)) same ∙ set_own t [] locks table)
+      | inl same ↦ still_nothing ts (set_spans t [] locks) u (set_table t [] locks table)
+          (ap (spans_of (set_spans t [] locks)) same ∙ set_own t [] locks table)
       | inr other ↦
-          let later : is_listed ts u ≡ true = sym (ap (λ b. b || is_listed ts u) (ne_eqb t u (λ e. other (sym e)))) ∙ listed in
+          let later : is_listed ts u ≡ true =
+          sym (ap (λ b. b || is_listed ts u) (ne_eqb t u (λ e. other (sym e)))) ∙ listed in
           gone_own ts (set_spans t [] locks) u (set_table t [] locks table) later
     ]
 
@@ -78,7 +85,9 @@ pub apart_none : (xs : List Span) → AreApart xs []
 apart_none [] = tt
 apart_none (x ∷ xs) = (λ any. any, apart_none xs)
 
-module _ (log : List Record) (os : List OpenTxn) (cs ls : List ℕ) (locks : LocksView) (held : AreHeld log os (cs ++ ls) locks) (closed : (t : ℕ) → is_listed cs t ≡ true → is_holder os ls t ≡ false) where
+module _ (log : List Record) (os : List OpenTxn) (cs ls : List ℕ) (locks : LocksView)
+    (held : AreHeld log os (cs ++ ls) locks)
+    (closed : (t : ℕ) → is_listed cs t ≡ true → is_holder os ls t ≡ false) where
   own : (t : ℕ) → is_listed cs t ≡ true → spans_of (let_go cs locks) t ≡ []
   own t = gone_own cs locks t held.table
 
@@ -88,14 +97,16 @@ module _ (log : List Record) (os : List OpenTxn) (cs ls : List ℕ) (locks : Loc
   -- who isn't committing is a holder where it was
   same_if : (t : ℕ) → is_listed cs t ≡ false → is_holder os ls t ≡ is_holder os (cs ++ ls) t
   same_if t unlisted =
-      ap (λ b. is_some (find t os) || b) (sym (list_any-append (λ u. u == t) cs ls ∙ ap (λ b. b || is_listed ls t) unlisted))
+      ap (λ b. is_some (find t os) || b)
+      (sym (list_any-append (λ u. u == t) cs ls ∙ ap (λ b. b || is_listed ls t) unlisted))
 
   pub let_go_held : AreHeld log os ls (let_go cs locks)
   let_go_held = record {
     table = gone_table cs locks held.table;
     exclusive = λ t. elim (cases_Bool (is_listed cs t)) [
       | inl listed ↦ ap (filter is_exclusive) (own t listed) ∙ sym (held_none log os ls t (closed t listed))
-      | inr unlisted ↦ ap (filter is_exclusive) (other t unlisted) ∙ held.exclusive t ∙ ap (λ b. if b then op_spans log t else []) (sym (same_if t unlisted))
+      | inr unlisted ↦ ap (filter is_exclusive) (other t unlisted) ∙ held.exclusive t
+          ∙ ap (λ b. if b then op_spans log t else []) (sym (same_if t unlisted))
     ];
     others = λ t none. elim (cases_Bool (is_listed cs t)) [
       | inl listed ↦ own t listed

@@ -29,7 +29,8 @@ flip s r c = (c.0, c.2, c.1, modes_flip s.mode r.mode c.3)
 
 head_apart : (xs : List Span) (y : Span) (ys : List Span) → AreApart xs (y ∷ ys) → AnyConflict y xs → ⊥
 head_apart [] y ys h any = any
-head_apart (x ∷ xs) y ys h any = elim any [ inl here ↦ h.0 (inl (flip y x here)) | inr there ↦ head_apart xs y ys h.1 there ]
+head_apart (x ∷ xs) y ys h any =
+    elim any [ inl here ↦ h.0 (inl (flip y x here)) | inr there ↦ head_apart xs y ys h.1 there ]
 
 tail_apart : (xs : List Span) (y : Span) (ys : List Span) → AreApart xs (y ∷ ys) → AreApart xs ys
 tail_apart [] y ys h = tt
@@ -49,11 +50,13 @@ any_of test s (x ∷ xs) any = pick (test x) (any_of test s xs) any
     pick true rest any = elim any [ inl here ↦ inl here | inr there ↦ inr (rest there) ]
     pick false rest any = inr (rest any)
 
-module _ (log : List Record) (os : List OpenTxn) (cs : List ℕ) (locks : LocksView) (held : AreHeld log os cs locks) where
+module _ (log : List Record) (os : List OpenTxn) (cs : List ℕ) (locks : LocksView)
+    (held : AreHeld log os cs locks) where
   -- what the operations of a transaction hold stands in the table
   pub any_held : (t : ℕ) (s : Span) → AnyConflict s (held_spans log os cs t) → AnyConflict s (spans_of locks t)
   any_held t s any =
-      let P : List Span → Type 0 = AnyConflict s in any_of is_exclusive s (spans_of locks t) (subst P (sym (held.exclusive t)) any)
+      let P : List Span → Type 0 = AnyConflict s in
+      any_of is_exclusive s (spans_of locks t) (subst P (sym (held.exclusive t)) any)
 
   -- the same is held where the same hold and have the same operations
   stays : (log2 : List Record) (os2 : List OpenTxn) (cs2 : List ℕ)
@@ -68,14 +71,16 @@ module _ (log : List Record) (os : List OpenTxn) (cs : List ℕ) (locks : LocksV
 
   -- one transaction's spans change, in the table as by the log
   change : (t : ℕ) (spans : List Span) (log2 : List Record) (os2 : List OpenTxn) (cs2 : List ℕ)
-      → (held_spans log2 os2 cs2 t ≡ filter is_exclusive spans) × ((u : ℕ) → u ≢ t → held_spans log2 os2 cs2 u ≡ held_spans log os cs u)
+      → (held_spans log2 os2 cs2 t ≡ filter is_exclusive spans)
+      × ((u : ℕ) → u ≢ t → held_spans log2 os2 cs2 u ≡ held_spans log os cs u)
       → (is_holder os2 cs2 t ≡ false → spans ≡ []) → ((u : ℕ) → u ≢ t → is_holder os2 cs2 u ≡ is_holder os cs u)
       → ((u : ℕ) → u ≢ t → AreApart spans (spans_of locks u))
       → AreHeld log2 os2 cs2 (set_spans t spans locks)
   change t spans log2 os2 cs2 holds own others apart =
       let new : LocksView = set_spans t spans locks in
       let mine : spans_of new t ≡ spans = set_own t spans locks held.table in
-      let its : (u : ℕ) → u ≢ t → spans_of new u ≡ spans_of locks u = λ u other. set_other t spans locks u held.table other in
+      let its : (u : ℕ) → u ≢ t → spans_of new u ≡ spans_of locks u =
+      λ u other. set_other t spans locks u held.table other in
       record {
         table = set_table t spans locks held.table;
         exclusive = λ u. elim (cases_eq u t) [
@@ -84,7 +89,8 @@ module _ (log : List Record) (os : List OpenTxn) (cs : List ℕ) (locks : LocksV
           | inr other ↦ ap (filter is_exclusive) (its u other) ∙ held.exclusive u ∙ sym (holds.1 u other)
         ];
         others = λ u none. elim (cases_eq u t) [
-          | inl same ↦ let P : ℕ → Type 0 = λ n. is_holder os2 cs2 n ≡ false → spans_of new n ≡ [] in subst P (sym same) (λ h. mine ∙ own h) none
+          | inl same ↦ let P : ℕ → Type 0 = λ n. is_holder os2 cs2 n ≡ false → spans_of new n ≡ [] in
+              subst P (sym same) (λ h. mine ∙ own h) none
           | inr other ↦ its u other ∙ held.others u (sym (others u other) ∙ none)
         ];
         apart = λ u v differ. elim (cases_eq u t) [
@@ -112,7 +118,8 @@ module _ (log : List Record) (os : List OpenTxn) (cs : List ℕ) (locks : LocksV
       ])
       (λ t none. elim (cases_eq t new.txn) [
         | inl same ↦ let P : ℕ → Type 0 = λ n. spans_of locks n ≡ [] in subst P (sym same) (held.others new.txn nobody)
-        | inr other ↦ held.others t (sym (same_holder os (new ∷ os) cs t (find_there new os t (λ e. other (sym e)))) ∙ none)
+        | inr other ↦ held.others t
+            (sym (same_holder os (new ∷ os) cs t (find_there new os t (λ e. other (sym e)))) ∙ none)
       ])
 
   -- a free span is taken for an open transaction
@@ -129,7 +136,8 @@ module _ (log : List Record) (os : List OpenTxn) (cs : List ℕ) (locks : LocksV
   -- an operation takes its key
   pub takes : (new o : OpenTxn) (p : ℕ) (op : Op) → find new.txn os ≡ Some o
       → IsFree locks new.txn (at_key Exclusive (key_of op))
-      → AreHeld (is.Op new.txn p op ∷ log) (replace new os) cs (set_spans new.txn (at_key Exclusive (key_of op) ∷ spans_of locks new.txn) locks)
+      → AreHeld (is.Op new.txn p op ∷ log) (replace new os) cs
+      (set_spans new.txn (at_key Exclusive (key_of op) ∷ spans_of locks new.txn) locks)
   takes new o p op at free =
       let holds = held_acted log os cs new o p op at in
       taken new o (at_key Exclusive (key_of op)) (is.Op new.txn p op ∷ log) at free
@@ -139,7 +147,8 @@ module _ (log : List Record) (os : List OpenTxn) (cs : List ℕ) (locks : LocksV
   pub alike : (r : Record) (os2 : List OpenTxn) (cs2 : List ℕ) → op_of r ≡ None
       → ((t : ℕ) → is_holder os2 cs2 t ≡ is_holder os cs t) → AreHeld (r ∷ log) os2 cs2 locks
   alike r os2 cs2 none same =
-      stays (r ∷ log) os2 cs2 (held_same log (r ∷ log) os os2 cs cs2 same (λ u. op_spans_longer r log u none)) (λ t nobody. held.others t (sym (same t) ∙ nobody))
+      stays (r ∷ log) os2 cs2 (held_same log (r ∷ log) os os2 cs cs2 same (λ u. op_spans_longer r log u none))
+      (λ t nobody. held.others t (sym (same t) ∙ nobody))
 
   pub longer : (r : Record) → op_of r ≡ None → AreHeld (r ∷ log) os cs locks
   longer r none = alike r os cs none (λ t. refl)
@@ -148,7 +157,8 @@ module _ (log : List Record) (os : List OpenTxn) (cs : List ℕ) (locks : LocksV
   pub replaced : (new o : OpenTxn) → find new.txn os ≡ Some o → AreHeld log (replace new os) cs locks
   replaced new o at =
       let same = holder_replaced new o os cs at in
-      stays log (replace new os) cs (held_same log log os (replace new os) cs cs same (λ u. refl)) (λ t none. held.others t (sym (same t) ∙ none))
+      stays log (replace new os) cs (held_same log log os (replace new os) cs cs same (λ u. refl))
+      (λ t none. held.others t (sym (same t) ∙ none))
 
   -- a read takes its span
   pub shares : (new o : OpenTxn) (s : Span) → find new.txn os ≡ Some o → is_exclusive s ≡ false → IsFree locks new.txn s
@@ -156,7 +166,9 @@ module _ (log : List Record) (os : List OpenTxn) (cs : List ℕ) (locks : LocksV
   shares new o s at flat free =
       let same = held_same log log os (replace new os) cs cs (holder_replaced new o os cs at) (λ u. refl) in
       taken new o s log at free (
-        same new.txn ∙ sym (held.exclusive new.txn) ∙ sym (ap (λ b. if b then s ∷ filter is_exclusive (spans_of locks new.txn) else filter is_exclusive (spans_of locks new.txn)) flat),
+        same new.txn ∙ sym (held.exclusive new.txn)
+            ∙ sym (ap (λ b. if b then s ∷ filter is_exclusive (spans_of locks new.txn) else filter is_exclusive
+            (spans_of locks new.txn)) flat),
         λ u other. same u,
       )
 

@@ -68,7 +68,8 @@ same_listed log log2 l l2 h h2 t there back =
     elim (cases_Bool (is_listed (txns l) t)) [
       | inl listed ↦ loser_listed log2 l2 h2 t (there (listed_loser log l h t listed)) ∙ sym listed
       | inr unlisted ↦ elim (cases_Bool (is_listed (txns l2) t)) [
-        | inl listed ↦ absurd (true≢false (sym (loser_listed log l h t (back (listed_loser log2 l2 h2 t listed))) ∙ unlisted))
+        | inl listed ↦ absurd (true≢false
+            (sym (loser_listed log l h t (back (listed_loser log2 l2 h2 t listed))) ∙ unlisted))
         | inr unlisted_now ↦ unlisted_now ∙ sym unlisted
       ]
     ]
@@ -116,11 +117,13 @@ lost_spared log s p l r h legal spares same = record {
   losers = others_spare log r l h.losers legal spares;
   phase_of = h.phase_of;
   lacking = λ n due. elim (cases_eq n (length log + 1)) [
-    | inl e ↦ absurd (spared_step l.below r due.txn spares due.loser.early (newest_at (AStep due.txn) r log n e due.step))
+    | inl e ↦ absurd (spared_step l.below r due.txn spares due.loser.early
+        (newest_at (AStep due.txn) r log n e due.step))
     | inr e ↦ h.lacking n (due_was r log l.below legal n h.losers.bound e due)
   ];
   due = λ n e. let was = h.due n e in
-      due_kept r log l.below legal n was (spared_commit l.below r was.txn spares was.loser.early) (spared_end l.below r was.txn spares was.loser.early)
+      due_kept r log l.below legal n was (spared_commit l.below r was.txn spares was.loser.early)
+      (spared_end l.below r was.txn spares was.loser.early)
       (same n e ∙ was.unanswered);
 }
 
@@ -134,7 +137,8 @@ lost_started log s p l legal h =
       phase_of = tt;
       lacking = λ n due. elim (cases_eq n (length log + 1)) [
         | inl e ↦ let none : AStep due.txn (Some r) = newest_at (AStep due.txn) r log n e due.step in absurd (cc)
-        | inr e ↦ let was = due_was r log l.below (tt, legal) n h.losers.bound e due in omega (arith, (step_number log n was.txn was.step).bounded)
+        | inr e ↦ let was = due_was r log l.below (tt, legal) n h.losers.bound e due in
+            omega (arith, (step_number log n was.txn was.step).bounded)
       ];
       due = λ n e. absurd (cc);
     }
@@ -210,7 +214,8 @@ lost_answered log s p l n a h test legal =
       lacking = λ m due. elim (cases_eq m (length log + 1)) [
         | inl e ↦ let none : AStep due.txn (Some r) = newest_at (AStep due.txn) r log m e due.step in absurd (cc)
         | inr e ↦ lack_passed s p n m test
-            (λ same. let some : answer_of (r ∷ log) m ≡ Some a = ap (λ b. cond b (Some a) (answer_of log m)) (eq-eqb m n same) in
+            (λ same. let some : answer_of (r ∷ log) m
+            ≡ Some a = ap (λ b. cond b (Some a) (answer_of log m)) (eq-eqb m n same) in
             let clash : None ≡ Some a = sym due.unanswered ∙ some in cc)
             (h.lacking m (due_was r log l.below legal m h.losers.bound e due))
       ];
@@ -224,7 +229,8 @@ lost_answered log s p l n a h test legal =
 -- so does one that is no answer
 pub lost_more : (w : TcView) (k : IsTc w) (r : Record) → Fits w.log r → SparesBelow w.losers.below r
     → ((n : ℕ) → answer_of (r ∷ w.log) n ≡ answer_of w.log n) → AreLost (r ∷ w.log) w.session w.phase w.losers
-lost_more w k r fits spares same = lost_spared w.log w.session w.phase w.losers r k.lost (fits, k.legal) spares (λ n e. same n)
+lost_more w k r fits spares same =
+    lost_spared w.log w.session w.phase w.losers r k.lost (fits, k.legal) spares (λ n e. same n)
 
 -- an open transaction is no loser
 pub late_at : (w : TcView) (o : OpenTxn) → IsTc w → find o.txn w.open_txns ≡ Some o → w.losers.below ≤ o.txn

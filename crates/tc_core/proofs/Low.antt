@@ -106,5 +106,6 @@ module _ (w : TcView) (k : IsTc w) where
         asked = λ m none. absurd (cc);
         checkpointed = raised_more r w.log w.checkpointed k.low.checkpointed;
         checked = of_greater (FitsCheckpoint (stable_part (r ∷ w.log) w.stable)) w.checkpointed l
-            (may_longer r w.log w.stable w.checkpointed k.within k.low.checked) (may_longer r w.log w.stable l k.within may);
+            (may_longer r w.log w.stable w.checkpointed k.within k.low.checked)
+            (may_longer r w.log w.stable l k.within may);
       }

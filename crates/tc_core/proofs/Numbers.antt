@@ -15,11 +15,17 @@ next_number log t u x within (inr h) = omega (arith, h.0)
 pub fits_numbers : (log : List Record) (r : Record) → length log ≤ 281474976710655 → Fits log r → HasNumbers r
 fits_numbers log is.Session few fits = tt
 fits_numbers log is.Begin few fits = tt
-fits_numbers log (is.Op t p o) few fits = (omega (arith, (begun_number log t fits.open_txn.begun).bounded, few), omega (arith, latest_number log t p fits.prev, few))
+fits_numbers log (is.Op t p o) few fits = (
+  omega (arith, (begun_number log t fits.open_txn.begun).bounded, few),
+  omega (arith, latest_number log t p fits.prev, few),
+)
 fits_numbers log (is.Answer n a) few fits = omega (arith, (request_number log n fits.op fits.requested).bounded, few)
 fits_numbers log (is.Comp t u x i) few fits =
-    let within = (stands_number log t u fits.latest.is).bounded in
-    (omega (arith, (begun_number log t fits.open_txn.begun).bounded, few), omega (arith, within, few), omega (arith, next_number log t u x within fits.next, few))
+    let within = (stands_number log t u fits.latest.is).bounded in (
+      omega (arith, (begun_number log t fits.open_txn.begun).bounded, few),
+      omega (arith, within, few),
+      omega (arith, next_number log t u x within fits.next, few),
+    )
 fits_numbers log (is.Commit t) few fits = omega (arith, (begun_number log t fits.open_txn.begun).bounded, few)
 fits_numbers log (is.End t) few fits = omega (arith, (begun_number log t fits.open_txn.begun).bounded, few)
 fits_numbers log (is.Checkpoint l) few fits = omega (arith, fits.within, few)

@@ -19,7 +19,8 @@ module _ (test : OpenTxn → Bool) where
       ∙ unless_twice (oldest test ys) (oldest test xs) (if test x then Some x else None)
 
   first_slot : (slab : Slab OpenTxn) (e : ℕ × ℕ) (es : List (ℕ × ℕ))
-      → oldest test (in_slots slab (e ∷ es)) ≡ unless (oldest test (listed (get slab e.1))) (oldest test (in_slots slab es))
+      → oldest test (in_slots slab (e ∷ es))
+      ≡ unless (oldest test (listed (get slab e.1))) (oldest test (in_slots slab es))
   first_slot slab e es = oldest_in_both (in_slots slab es) (listed (get slab e.1))
 
   pub oldest_here : (slab : Slab OpenTxn) (e : ℕ × ℕ) (es : List (ℕ × ℕ)) (o : OpenTxn) → get slab e.1 ≡ Some o

@@ -56,7 +56,8 @@ one_holder : (log : List Record) (n m t u : ℕ) (o q : Op) → IsLegal log → 
     → IsOpBy log m u q
     → key_of q ≡ key_of o → u ≢ t → n < m → ⊥
 one_holder log n m t u o q legal open_t by other same apart later =
-    let ends = strict log legal n m t u o q by later (op_step u q (record_at log m) other) (op_request u q (record_at log m) other) same apart in
+    let ends = strict log legal n m t u o q by later (op_step u q (record_at log m) other)
+    (op_request u q (record_at log m) other) same apart in
     true≢false (sym (end_ends log t ends.end ends.is) ∙ open_t.goes_on)
 
 never_both : (log : List Record) (n m t u : ℕ) (o q : Op) → IsLegal log → IsOpen log t → IsOpen log u → IsOpBy log n t o
@@ -68,7 +69,8 @@ never_both log n m t u o q legal open_t open_u by other same apart =
       | inr up_to ↦ elim (cases_eq n m) [
         | inl e ↦ let P : ℕ → Type 0 = λ x. IsOpBy log x t o in
             apart ((op_same u t q o (record_at log m) other (subst P e by)).0)
-        | inr differ ↦ one_holder log m n u t q o legal open_u other by (sym same) (λ e. apart (sym e)) (omega (arith, up_to, differ))
+        | inr differ ↦ one_holder log m n u t q o legal open_u other by (sym same) (λ e. apart (sym e))
+            (omega (arith, up_to, differ))
       ]
     ]
 
@@ -103,7 +105,8 @@ any_op (is.Op v p q ∷ log) t k any = pick (any_op log t k) (t == v) refl any
 any_op (r ∷ log) t k any = has_longer r log t k (any_op log t k any)
 
 -- so what two open transactions hold by the log is apart
-module _ (log : List Record) (t u : ℕ) (legal : IsLegal log) (open_t : IsOpen log t) (open_u : IsOpen log u) (differ : t ≢ u) where
+module _ (log : List Record) (t u : ℕ) (legal : IsLegal log) (open_t : IsOpen log t) (open_u : IsOpen log u)
+    (differ : t ≢ u) where
   apart_in : (part : List Record) → ((n : ℕ) (o : Op) → IsOpBy part n t o → IsOpBy log n t o)
       → AreApart (op_spans part t) (op_spans log u)
   apart_in [] up = tt
@@ -115,8 +118,10 @@ module _ (log : List Record) (t u : ℕ) (legal : IsLegal log) (open_t : IsOpen 
       pick true same rest = (
         λ any. let other = any_op log u (key_of o) any in
             let mine : IsOpBy log (length part + 1) t o = up (length part + 1) o
-            (at_newest (AnOp t o) (is.Op v p o) part (length part + 1) refl (ap (λ x. Some (x, o)) (sym (eqb-true t v same)))) in
-            never_both log (length part + 1) other.0 t u o other.1 legal open_t open_u mine other.2 other.3 (λ e. differ (sym e)),
+            (at_newest (AnOp t o) (is.Op v p o) part (length part + 1) refl
+            (ap (λ x. Some (x, o)) (sym (eqb-true t v same)))) in
+            never_both log (length part + 1) other.0 t u o other.1 legal open_t open_u mine other.2 other.3
+            (λ e. differ (sym e)),
         rest,
       )
       pick false other rest = rest
@@ -137,10 +142,12 @@ all_exclusive (is.Op v p o ∷ log) t = pick (t == v) (all_exclusive log t)
 all_exclusive (r ∷ log) t = all_exclusive log t
 
 -- each loser holds the keys of its operations, and nobody else anything
-module _ (log : List Record) (l : LosersView) (locks : LocksView) (legal : IsLegal log) (losers : AreLosers log l) (all : l.below ≡ length log + 1) (holds : HoldsOpen log locks) where
+module _ (log : List Record) (l : LosersView) (locks : LocksView) (legal : IsLegal log) (losers : AreLosers log l)
+    (all : l.below ≡ length log + 1) (holds : HoldsOpen log locks) where
   open_listed : (t : ℕ) → IsOpen log t → is_listed (txns l) t ≡ true
   open_listed t open_t =
-      loser_listed log l losers t (record { open_txn = open_t; early = omega (arith, (begun_number log t open_t.begun).bounded, all) })
+      loser_listed log l losers t
+      (record { open_txn = open_t; early = omega (arith, (begun_number log t open_t.begun).bounded, all) })
 
   nothing : (t : ℕ) → is_listed (txns l) t ≡ false → spans_of locks t ≡ []
   nothing t unlisted = holds.none t (λ open_t. true≢false (sym (open_listed t open_t) ∙ unlisted))
@@ -152,15 +159,18 @@ module _ (log : List Record) (l : LosersView) (locks : LocksView) (legal : IsLeg
   held_opened = record {
     table = holds.table;
     exclusive = λ t. elim (cases_Bool (is_listed (txns l) t)) [
-      | inl listed ↦ ap (filter is_exclusive) (its t listed) ∙ all_exclusive log t ∙ sym (ap (λ b. if b then op_spans log t else []) listed)
-      | inr unlisted ↦ ap (filter is_exclusive) (nothing t unlisted) ∙ sym (ap (λ b. if b then op_spans log t else []) unlisted)
+      | inl listed ↦ ap (filter is_exclusive) (its t listed) ∙ all_exclusive log t
+          ∙ sym (ap (λ b. if b then op_spans log t else []) listed)
+      | inr unlisted ↦ ap (filter is_exclusive) (nothing t unlisted)
+          ∙ sym (ap (λ b. if b then op_spans log t else []) unlisted)
     ];
     others = λ t none. nothing t none;
     apart = λ t u differ. elim (cases_Bool (is_listed (txns l) t)) [
       | inl listed ↦ elim (cases_Bool (is_listed (txns l) u)) [
         | inl listed_u ↦
             rw (its t listed, its u listed_u)
-            (apart_ops log t u legal (listed_loser log l losers t listed).open_txn (listed_loser log l losers u listed_u).open_txn differ)
+            (apart_ops log t u legal (listed_loser log l losers t listed).open_txn
+            (listed_loser log l losers u listed_u).open_txn differ)
         | inr unlisted ↦ rw (nothing u unlisted) (apart_none (spans_of locks t))
       ]
       | inr unlisted ↦ rw (nothing t unlisted) tt
@@ -176,7 +186,8 @@ module _ (log : List Record) (l : LosersView) (locks : LocksView) (legal : IsLeg
 -- what was checkpointed is answered
 checked_in : (log : List Record) (c : ℕ) → IsLegal log → IsLatestOrNone (IsCheckpointed log) c → FitsCheckpoint log c
 checked_in log c legal (inl h) =
-    since (λ p. FitsCheckpoint p c) (λ r p fits. answered_longer r p c fits) log h.is.0 (fits_at log h.is.0 (is.Checkpoint c) legal h.is.1)
+    since (λ p. FitsCheckpoint p c) (λ r p fits. answered_longer r p c fits) log h.is.0
+    (fits_at log h.is.0 (is.Checkpoint c) legal h.is.1)
 checked_in log c legal (inr none) = let P : ℕ → Type 0 = FitsCheckpoint log in subst P (sym none.0) (may_none log)
 
 pub opened_tc : (log : List Record) (failures start : ℕ) (l : LosersView) (locks : LocksView) → IsLegal log

@@ -43,8 +43,13 @@ module _ (log : List Record) where
   locks_open = record {
     table = in_table (open_in log);
     own = λ t open_t. listed_holds (open_in log) t
-        (omega (arith, (open_listed log).once t (record { open_txn = open_t; early = omega (arith, (begun_number log t open_t.begun).bounded) })));
+        (omega (
+          arith,
+          (open_listed log).once t
+              (record { open_txn = open_t; early = omega (arith, (begun_number log t open_t.begun).bounded) }),
+        ));
     none = λ t closed. unlisted_holds (open_in log) t (not_listed t (open_in log)
-        (All-weaker (IsLoser log (length log + 1)) (λ u. t ≢ u) (λ u loser same. closed (subst (IsOpen log) (sym same) loser.open_txn))
+        (All-weaker (IsLoser log (length log + 1)) (λ u. t ≢ u)
+        (λ u loser same. closed (subst (IsOpen log) (sym same) loser.open_txn))
         (open_in log) (open_listed log).right));
   }

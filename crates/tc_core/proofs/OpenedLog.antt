@@ -20,7 +20,8 @@ opened_kept log failures legal few =
     let P : ℕ → Type 0 = λ c. IsTc (opened log failures c (losers_of log) (locks_of log)) in
     let same : (checkpointed_in log + 1) - 1 ≡ checkpointed_in log = omega arith in
     subst P same
-    (opened_tc log failures (checkpointed_in log + 1) (losers_of log) (locks_of log) legal few (are_losers log legal) refl
+    (opened_tc log failures (checkpointed_in log + 1) (losers_of log) (locks_of log) legal few (are_losers log legal)
+    refl
     (record { low = checkpointed_in log; greatest = checkpoints_found log; start_is = refl }) (locks_open log))
 
 pub opened_opened : OpenedIsOpened

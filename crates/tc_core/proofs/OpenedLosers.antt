@@ -46,7 +46,8 @@ module _ (P : ℕ → Type 0) (test : ℕ → Bool) (xs : List ℕ) (h : Lists P
       counted n,
       h.once n is.0,
       not_listed n failed (All-weaker (λ m. not (test m) ≡ true) (λ m. n ≢ m)
-          (λ m fails same. true≢false (sym is.1 ∙ ap test same ∙ not-true (test m) fails)) failed (filter_passes (λ m. not (test m)) xs)),
+          (λ m fails same. true≢false (sym is.1 ∙ ap test same ∙ not-true (test m) fails)) failed
+          (filter_passes (λ m. not (test m)) xs)),
     );
   }
 
@@ -59,7 +60,8 @@ begun_same : (r : Record) (log : List Record) → (r ≡ is.Begin → ⊥) → L
 begun_same r log other h =
     lists_same (HasBegun log) (HasBegun (r ∷ log)) (kept_begun r log)
     (λ t now. older_at (λ x. x ≡ Some is.Begin) r log t
-    (λ e. let same : Some r ≡ Some is.Begin = newest_at (λ x. x ≡ Some is.Begin) r log t e now in other (cc)) now) (begun_in log) h
+    (λ e. let same : Some r ≡ Some is.Begin = newest_at (λ x. x ≡ Some is.Begin) r log t e now in other (cc)) now)
+    (begun_in log) h
 
 begun_listed : (log : List Record) → Lists (HasBegun log) (begun_in log)
 begun_listed [] = record { right = All-nil (HasBegun []); once = λ t e. absurd (cc) }
@@ -71,7 +73,8 @@ begun_listed (is.Begin ∷ log) =
       | inl e ↦ inl e
       | inr e ↦ inr (older_at (λ x. x ≡ Some is.Begin) r log t e now)
     ])
-    (record_new r log) (λ was. not_newest log (length log + 1) (begun_number log (length log + 1) was) refl) (begun_listed log)
+    (record_new r log) (λ was. not_newest log (length log + 1) (begun_number log (length log + 1) was) refl)
+    (begun_listed log)
 begun_listed (r ∷ log) = begun_same r log (λ e. cc) (begun_listed log)
 
 -- and is open
@@ -99,8 +102,10 @@ last_more r log t true own h = inl (record {
   greatest = λ m step. omega (arith, (step_number (r ∷ log) m t step).bounded);
 })
 last_more r log t false other h =
-    let apart : AStep t (Some r) → ⊥ = λ own. true≢false (sym (ap (λ o. is_number o t) own ∙ eq-eqb t t refl) ∙ other) in
-    latest_as (IsStepOf log t) (IsStepOf (r ∷ log) t) (steps_back r log t apart) (steps_there r log t apart) (last_in log t) h
+    let apart : AStep t (Some r) → ⊥ =
+    λ own. true≢false (sym (ap (λ o. is_number o t) own ∙ eq-eqb t t refl) ∙ other) in
+    latest_as (IsStepOf log t) (IsStepOf (r ∷ log) t) (steps_back r log t apart) (steps_there r log t apart)
+    (last_in log t) h
 
 last_found : (log : List Record) (t : ℕ) → IsLatestOrNone (IsStepOf log t) (last_in log t)
 last_found [] t = inr (refl, λ m h. absurd (cc))
@@ -116,13 +121,18 @@ module _ (log : List Record) (legal : IsLegal log) where
   at_loser t some = record {
     last = last_found log t;
     left = latest_some (Stands log t) (loser_in log t).left
-        (λ none. true≢false (sym (eq-eqb (loser_in log t).left 0 none) ∙ not-true (is_undone log t) some)) (left_found t);
+        (λ none. true≢false (sym (eq-eqb (loser_in log t).left 0 none) ∙ not-true (is_undone log t) some))
+        (left_found t);
   }
 
   undone : (t : ℕ) → is_undone log t ≡ true → IsUndone log t
   undone t none n stands = elim (left_found t) [
     | inl latest ↦
-        omega (arith, eqb-true (loser_in log t).left 0 none, (stands_number log t (loser_in log t).left latest.is).positive)
+        omega (
+          arith,
+          eqb-true (loser_in log t).left 0 none,
+          (stands_number log t (loser_in log t).left latest.is).positive,
+        )
     | inr nothing ↦ nothing.1 n stands
   ]
 
@@ -140,5 +150,6 @@ module _ (log : List Record) (legal : IsLegal log) where
             (both_listed (IsLoser log (length log + 1)) (is_undone log) (open_in log) (open_listed log));
         undoing = All-map (IsAt log) (loser_in log) left (All-weaker (λ t. not (is_undone log t) ≡ true)
             (λ t. IsAt log (loser_in log t)) at_loser left (filter_passes (λ t. not (is_undone log t)) (open_in log)));
-        done = All-weaker (λ t. is_undone log t ≡ true) (IsUndone log) undone done (filter_passes (is_undone log) (open_in log));
+        done = All-weaker (λ t. is_undone log t ≡ true) (IsUndone log) undone done
+            (filter_passes (is_undone log) (open_in log));
       }

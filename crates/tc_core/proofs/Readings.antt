@@ -47,16 +47,28 @@ module _ (reads : ℕ) (os : List OpenTxn) (locks : LocksView) (k : AreReading r
           subst P (found_new new p os2 at t same found) (λ h. (own r h).0) reading
       | inr other ↦
           let there : find t os ≡ Some p = sym (others t other) ∙ found in
-          still_reads reads reads2 locks locks2 p r more (spans p.txn (λ e. other (sym (found_number t os p there) ∙ e))) (k.each t p r there reading)
+          still_reads reads reads2 locks locks2 p r more
+          (spans p.txn (λ e. other (sym (found_number t os p there) ∙ e))) (k.each t p r there reading)
     ];
     apart = λ t u p q r s found_p found_q reads_p reads_q same_number. elim (cases_eq t new.txn) [
       | inl same_t ↦ elim (cases_eq u new.txn) [
         | inl same_u ↦ same_t ∙ sym same_u
-        | inr other_u ↦ absurd (omega (arith, same_number, above p r t same_t found_p reads_p, (k.each u q s (sym (others u other_u) ∙ found_q) reads_q).asked))
+        | inr other_u ↦ absurd (omega (
+          arith,
+          same_number,
+          above p r t same_t found_p reads_p,
+          (k.each u q s (sym (others u other_u) ∙ found_q) reads_q).asked,
+        ))
       ]
       | inr other_t ↦ elim (cases_eq u new.txn) [
-        | inl same_u ↦ absurd (omega (arith, same_number, above q s u same_u found_q reads_q, (k.each t p r (sym (others t other_t) ∙ found_p) reads_p).asked))
-        | inr other_u ↦ k.apart t u p q r s (sym (others t other_t) ∙ found_p) (sym (others u other_u) ∙ found_q) reads_p reads_q same_number
+        | inl same_u ↦ absurd (omega (
+          arith,
+          same_number,
+          above q s u same_u found_q reads_q,
+          (k.each t p r (sym (others t other_t) ∙ found_p) reads_p).asked,
+        ))
+        | inr other_u ↦ k.apart t u p q r s (sym (others t other_t) ∙ found_p) (sym (others u other_u) ∙ found_q)
+            reads_p reads_q same_number
       ]
     ];
   }
@@ -80,7 +92,8 @@ module _ (reads : ℕ) (os : List OpenTxn) (locks : LocksView) (k : AreReading r
   pub reads_replaced : (new o : OpenTxn) (locks2 : LocksView) → find new.txn os ≡ Some o → new.reading ≡ None
       → ((u : ℕ) → u ≢ new.txn → spans_of locks2 u ≡ spans_of locks u) → AreReading reads (replace new os) locks2
   reads_replaced new o locks2 at none spans =
-      changed new reads (replace new os) locks2 (replaced_same new o os at) (omega arith) (λ u other. replaced_other new os u other) spans (λ r some. absurd (cc))
+      changed new reads (replace new os) locks2 (replaced_same new o os at) (omega arith)
+      (λ u other. replaced_other new os u other) spans (λ r some. absurd (cc))
 
   -- one asks for the next read
   pub reads_asked : (new o : OpenTxn) (r : Read) (reads2 : ℕ) (locks2 : LocksView) → find new.txn os ≡ Some o
@@ -88,7 +101,8 @@ module _ (reads : ℕ) (os : List OpenTxn) (locks : LocksView) (k : AreReading r
       → ((u : ℕ) → u ≢ new.txn → spans_of locks2 u ≡ spans_of locks u) → IsReading reads2 locks2 new r
       → AreReading reads2 (replace new os) locks2
   reads_asked new o r reads2 locks2 at some more above spans h =
-      changed new reads2 (replace new os) locks2 (replaced_same new o os at) more (λ u other. replaced_other new os u other) spans
+      changed new reads2 (replace new os) locks2 (replaced_same new o os at) more
+      (λ u other. replaced_other new os u other) spans
       (λ q is. let same : r ≡ q = let e : Some r ≡ Some q = sym some ∙ is in cc in
       let P : Read → Type 0 = λ x. IsReading reads2 locks2 new x × (reads < x.number) in subst P same (h, above))
 
@@ -104,7 +118,8 @@ module _ (reads : ℕ) (os : List OpenTxn) (locks : LocksView) (k : AreReading r
   reads_ended t locks2 spans = record {
     each = λ u p r found reading.
         let was : (u ≢ t) × (find u os ≡ Some p) = still u p found in
-        still_reads reads reads locks locks2 p r (omega arith) (spans p.txn (λ e. was.0 (sym (found_number u os p was.1) ∙ e))) (k.each u p r was.1 reading);
+        still_reads reads reads locks locks2 p r (omega arith)
+        (spans p.txn (λ e. was.0 (sym (found_number u os p was.1) ∙ e))) (k.each u p r was.1 reading);
     apart = λ u v p q r s found_p found_q. k.apart u v p q r s (still u p found_p).1 (still v q found_q).1;
   }
     where

@@ -50,12 +50,15 @@ noted_next (is.Op u p o) part keys noted h t = pick (noted u) refl
     same_if false apart test = refl
 
     pick : (x : Option ℕ) → noted u ≡ x
-        → listed_spans (keys ++ (if is_some (noted u) then (u, key_of o) ∷ [] else [])) t ≡ spans_if (noted t) (op_spans (is.Op u p o ∷ part) t)
+        → listed_spans (keys ++ (if is_some (noted u) then (u, key_of o) ∷ [] else [])) t
+        ≡ spans_if (noted t) (op_spans (is.Op u p o ∷ part) t)
     pick (Some n) at =
         rw at (listed_more keys (u, key_of o) t ∙ elim (cases_eq t u) [
           | inl same ↦
               let there : noted t ≡ Some n = ap noted same ∙ at in
-              rw (eq-eqb t u same, there) (ap (λ spans. at_key Exclusive (key_of o) ∷ spans) (h t ∙ ap (λ x. spans_if x (op_spans part t)) there))
+              rw (eq-eqb t u same, there)
+              (ap (λ spans. at_key Exclusive (key_of o) ∷ spans)
+              (h t ∙ ap (λ x. spans_if x (op_spans part t)) there))
           | inr apart ↦ rw (ne_eqb t u apart) (h t)
         ])
     pick None at =
@@ -92,4 +95,5 @@ noted_none log end noted legal within late t = by (noted t) refl
 
 -- all records were read
 pub none_past : (log : List Record) (end : ℕ) → end < length log → record_at log (end + 1) ≡ None → ⊥
-none_past log end there none = let has = has_record log (end + 1) (omega arith) (omega (arith, there)) in let some = has.1 in cc
+none_past log end there none = let has = has_record log (end + 1) (omega arith) (omega (arith, there)) in let some =
+    has.1 in cc

@@ -38,7 +38,8 @@ refuses w false r l h e = elim h [
 pub refuses_unspent : (w : TcView) → spent_refusal w.log ≡ None → (r : Refusal) (l : LogView)
     → MayRefuse (spent_refusal w.log) r → l ≡ after_refusal (log_of w) r
     → Refuses None true true w r (with_log w l)
-refuses_unspent w unspent r l h e = let P : Option Refusal → Type 0 = λ x. MayRefuse x r in refuses w false r l (subst P unspent h) e
+refuses_unspent w unspent r l h e = let P : Option Refusal → Type 0 = λ x. MayRefuse x r in
+    refuses w false r l (subst P unspent h) e
 
 -- the open transaction of a number, and what happens to it
 pub at_number : (w : TcView) (t : ℕ) (o : OpenTxn) → IsAt w t o → find t w.open_txns ≡ Some o

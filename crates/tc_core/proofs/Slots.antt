@@ -35,7 +35,13 @@ module _ (old new : Slab OpenTxn) (Keeps : ℕ → Type 0) (same : (k : ℕ) →
       let rest = kept es keeps.1 are.1 in
       record {
         are = (
-          record { open_txn = are.0.open_txn; held = same e.1 keeps.0 ∙ are.0.held; number = are.0.number; below = are.0.below; apart = are.0.apart },
+          record {
+            open_txn = are.0.open_txn;
+            held = same e.1 keeps.0 ∙ are.0.held;
+            number = are.0.number;
+            below = are.0.below;
+            apart = are.0.apart;
+          },
           rest.are,
         );
         view = rw (rest.view, same e.1 keeps.0) refl;
@@ -48,4 +54,5 @@ each_unit (e ∷ es) = (tt, each_unit es)
 -- the room in a slab doesn't matter
 pub same_slots : (old new : Slab OpenTxn) (es : List (ℕ × ℕ)) → new ≡ record old { capacity = new.capacity }
     → AreSlots old es → Holds new es (in_slots old es)
-same_slots old new es same are = kept old new (λ _. Unit {0}) (λ k _. ap (λ (slab : Slab OpenTxn). get slab k) same) es (each_unit es) are
+same_slots old new es same are =
+    kept old new (λ _. Unit {0}) (λ k _. ap (λ (slab : Slab OpenTxn). get slab k) same) es (each_unit es) are

@@ -37,15 +37,18 @@ module _ (w : TcView) (t : ℕ) (b : Rollback) (may : MayStep w t b) where
     open_txn = may.open_txn;
     at = may.found.at;
     allowed = refusal_is ∙ ap spent_of allowed;
-    undoes = let P : Option Rollback → Type 0 = λ x. Undoes w may.open_txn x step new in subst P (sym may.rolling) undoes;
+    undoes = let P : Option Rollback → Type 0 = λ x. Undoes w may.open_txn x step new in
+        subst P (sym may.rolling) undoes;
   }
 
   pub logs_comp : b.above < may.open_txn.undo → logs_next may.open_txn.undo (Some b) ≡ true
-  logs_comp above = let more : nat_lt b.above may.open_txn.undo ≡ true = grind (arith, nat_tests, above) in ap (λ x. x || not (is_some b.savepoint)) more
+  logs_comp above = let more : nat_lt b.above may.open_txn.undo ≡ true = grind (arith, nat_tests, above) in
+      ap (λ x. x || not (is_some b.savepoint)) more
 
   pub logs_none : (s : ℕ) → may.open_txn.undo ≤ b.above → b.savepoint ≡ Some s
       → logs_next may.open_txn.undo (Some b) ≡ false
-  logs_none s below is = let less : nat_lt b.above may.open_txn.undo ≡ false = grind (arith, nat_tests, below) in rw (less, is) refl
+  logs_none s below is = let less : nat_lt b.above may.open_txn.undo ≡ false = grind (arith, nat_tests, below) in
+      rw (less, is) refl
 
 pub unspent_and : (x y : Bool) → y ≡ false → (x && y) ≡ false
 unspent_and true y h = h

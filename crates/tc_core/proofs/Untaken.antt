@@ -5,7 +5,8 @@ use Rattle.history.specs.Spans.{Span}
 use Rattle.range_locks.specs.Locks.{LocksView, spans_of, set_spans, IsTable}
 use Rattle.range_locks.proofs.Tables.{set_own, set_again, set_same}
 
-module _ (locks taken : LocksView) (t : ℕ) (s : Span) (table : IsTable locks) (takes : taken ≡ set_spans t (s ∷ spans_of locks t) locks) where
+module _ (locks taken : LocksView) (t : ℕ) (s : Span) (table : IsTable locks)
+    (takes : taken ≡ set_spans t (s ∷ spans_of locks t) locks) where
   holds_it : spans_of taken t ≡ s ∷ spans_of locks t
   holds_it = ap (λ (v : LocksView). spans_of v t) takes ∙ set_own t (s ∷ spans_of locks t) locks table
 

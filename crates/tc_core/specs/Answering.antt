@@ -17,10 +17,12 @@ pub record Becomes (outcome : Outcome) (what : Told) (new : TcView) : Type 0 whe
 abbrev pub AnsweredGives : TcView → ℕ → Option Answer → Result Told Refusal → TcView → Type 0
 AnsweredGives old n a (Ok what) new = (answered_refusal_of old n a ≡ None) × Becomes (on_answered old n a) what new
 AnsweredGives old n a (Err r) new =
-    Refuses (answered_refusal_of old n a) (is_logged old n a (awaiting old n)) (is_logged old n a (awaiting old n)) old r new
+    Refuses (answered_refusal_of old n a) (is_logged old n a (awaiting old n)) (is_logged old n a (awaiting old n)) old
+    r new
 
 abbrev pub CheckpointedGives : TcView → ℕ → Result Told Refusal → TcView → Type 0
-CheckpointedGives old l (Ok what) new = (checkpointed_refusal_of old l ≡ None) × Becomes (on_checkpointed old l) what new
+CheckpointedGives old l (Ok what) new =
+    (checkpointed_refusal_of old l ≡ None) × Becomes (on_checkpointed old l) what new
 CheckpointedGives old l (Err r) new =
     Refuses (checkpointed_refusal_of old l) (is_number old.checkpointing l) (is_number old.checkpointing l) old r new
 

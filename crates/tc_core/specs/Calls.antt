@@ -117,8 +117,10 @@ CommitGives old t (Err r) new = Refuses (commit_refusal old t) true true old r n
 abbrev pub Undoes : TcView → OpenTxn → Option Rollback → UndoStep → TcView → Type 0
 Undoes w o None step.Idle new = new ≡ w
 Undoes w o (Some r) (step.Compensated n) new = (r.above < o.undo) × (n ≡ length w.log + 1) × (new ≡ compensated w o)
-Undoes w o (Some r) (step.RolledBack t) new = (o.undo ≤ r.above) × (r.savepoint ≡ None) × (t ≡ o.txn) × (new ≡ ended w o.txn)
-Undoes w o (Some r) (step.Back t s) new = (o.undo ≤ r.above) × (r.savepoint ≡ Some s) × (t ≡ o.txn) × (new ≡ is_back w o)
+Undoes w o (Some r) (step.RolledBack t) new =
+    (o.undo ≤ r.above) × (r.savepoint ≡ None) × (t ≡ o.txn) × (new ≡ ended w o.txn)
+Undoes w o (Some r) (step.Back t s) new =
+    (o.undo ≤ r.above) × (r.savepoint ≡ Some s) × (t ≡ o.txn) × (new ≡ is_back w o)
 Undoes w o _ _ new = ⊥
 
 -- a step of a rollback, of a transaction that waits for nothing
@@ -130,7 +132,8 @@ pub record UndoesStep (old : TcView) (t : ℕ) (step : UndoStep) (new : TcView) 
 
 abbrev pub UndoGives : TcView → ℕ → Result UndoStep Refusal → TcView → Type 0
 UndoGives old t (Ok step) new = UndoesStep old t step new
-UndoGives old t (Err r) new = Refuses (undo_refusal old t) (undo_logs (find t old.open_txns)) (undo_logs (find t old.open_txns)) old r new
+UndoGives old t (Err r) new =
+    Refuses (undo_refusal old t) (undo_logs (find t old.open_txns)) (undo_logs (find t old.open_txns)) old r new
 
 -- all is stable, and those that were committing are told, in the order of their Commit records
 abbrev pub ForceGives : TcView → Result Forced Refusal → TcView → Type 0

@@ -36,7 +36,8 @@ abbrev pub is_full : List OpenTxn → Bool
 is_full os = nat_le 64 (length os)
 
 abbrev pub begin_refusal : TcView → Option Refusal
-begin_refusal w = or_else (serving_refusal w) (first_of ((is_full w.open_txns, Full) ∷ (is_spent w.log, NumbersSpent) ∷ []))
+begin_refusal w = or_else (serving_refusal w)
+    (first_of ((is_full w.open_txns, Full) ∷ (is_spent w.log, NumbersSpent) ∷ []))
 
 abbrev pub commit_refusal : TcView → ℕ → Option Refusal
 commit_refusal w t = or_else (idle_refusal w t) (spent_refusal w.log)
@@ -47,7 +48,8 @@ saves_of (Some o) = o.saves
 
 -- no more than 16 savepoints are present
 abbrev pub save_refusal : TcView → ℕ → Option Refusal
-save_refusal w t = or_else (idle_refusal w t) (first_of ((nat_le 16 (length (saves_of (find t w.open_txns))), Full) ∷ []))
+save_refusal w t = or_else (idle_refusal w t)
+    (first_of ((nat_le 16 (length (saves_of (find t w.open_txns))), Full) ∷ []))
 
 -- savepoints count from 1 on
 abbrev pub has_savepoint : List ℕ → ℕ → Bool
@@ -97,4 +99,5 @@ awaited (Some o) = unwrap_or o.waiting 0
 abbrev pub resend_refusal : TcView → ℕ → Option Refusal
 resend_refusal w t =
     or_else (open_refusal w t)
-    (first_of ((not (is_waiting (find t w.open_txns)), Unsent) ∷ (nat_lt w.stable (awaited (find t w.open_txns)), BeyondStable) ∷ []))
+    (first_of ((not (is_waiting (find t w.open_txns)), Unsent)
+    ∷ (nat_lt w.stable (awaited (find t w.open_txns)), BeyondStable) ∷ []))

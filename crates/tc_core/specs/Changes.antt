@@ -117,7 +117,8 @@ abbrev pub rolled : TcView → OpenTxn → TcView
 rolled w o = record w { open_txns = replace (rolling_txn o) w.open_txns }
 
 abbrev pub going_back_txn : OpenTxn → ℕ → ℕ → OpenTxn
-going_back_txn o s end = record o { rolling = Some (record { savepoint = Some s; above = end }); saves = take s o.saves }
+going_back_txn o s end =
+    record o { rolling = Some (record { savepoint = Some s; above = end }); saves = take s o.saves }
 
 abbrev pub going_back : TcView → OpenTxn → ℕ → ℕ → TcView
 going_back w o s end = record w { open_txns = replace (going_back_txn o s end) w.open_txns }
@@ -154,7 +155,8 @@ compensated_txn o n next inverse = record o { last = n; undo = next; waiting = w
 abbrev pub compensated : TcView → OpenTxn → TcView
 compensated w o = record w {
   log = is.Comp o.txn o.undo (next_of w.log o.undo) (inverse_at w.log o.undo) ∷ w.log;
-  open_txns = replace (compensated_txn o (length w.log + 1) (next_of w.log o.undo) (inverse_at w.log o.undo)) w.open_txns;
+  open_txns = replace (compensated_txn o (length w.log + 1) (next_of w.log o.undo) (inverse_at w.log o.undo))
+      w.open_txns;
 }
 
 -- wholly rolled back: its End is logged, and it lets go of what it held

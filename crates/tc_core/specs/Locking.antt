@@ -15,7 +15,8 @@ use Rattle.tc_core.specs.OpenTxns.{find}
 -- the keys of a transaction's operations, exclusive, the newest first
 abbrev pub op_spans : List Record → ℕ → List Span
 op_spans [] t = []
-op_spans (is.Op txn prev op ∷ log) t = if t == txn then at_key Exclusive (key_of op) ∷ op_spans log t else op_spans log t
+op_spans (is.Op txn prev op ∷ log) t =
+    if t == txn then at_key Exclusive (key_of op) ∷ op_spans log t else op_spans log t
 op_spans (r ∷ log) t = op_spans log t
 
 -- a transaction holds them from its Begin to its End or until its Commit is stable, undone or not (strict
@@ -54,7 +55,8 @@ HoldOperations below locks = (t : ℕ) → t < below → filter is_exclusive (sp
 
 -- why a span isn't taken: it is busy; else no number is left for the call, or no memory
 abbrev pub RefusesLock : LocksView → ℕ → Span → Option Refusal → Refusal → Type 0
-RefusesLock locks t s spent r = ((u : ℕ) × (r ≡ Busy u) × IsLeastHolder locks t s u) ⊎ (IsFree locks t s × RefusesAs spent r)
+RefusesLock locks t s spent r =
+    ((u : ℕ) × (r ≡ Busy u) × IsLeastHolder locks t s u) ⊎ (IsFree locks t s × RefusesAs spent r)
 
 abbrev pub spent_of : Bool → Option Refusal
 spent_of spent = first_of ((spent, NumbersSpent) ∷ [])

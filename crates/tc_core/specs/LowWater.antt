@@ -17,7 +17,8 @@ MayAnnounce w l = FitsCheckpoint (stable_part w.log w.stable) l
 
 -- the component isn't running, or the number may not be announced
 abbrev pub RefusesLow : TcView → ℕ → Refusal → Type 0
-RefusesLow w l r = (running_refusal w ≡ Some r) ⊎ ((running_refusal w ≡ None) × (r ≡ BeyondStable) × (MayAnnounce w l → ⊥))
+RefusesLow w l r = (running_refusal w ≡ Some r)
+    ⊎ ((running_refusal w ≡ None) × (r ≡ BeyondStable) × (MayAnnounce w l → ⊥))
 
 -- the number is announced
 pub record Announces (w : TcView) (l : ℕ) : Type 0 where
@@ -25,7 +26,8 @@ pub record Announces (w : TcView) (l : ℕ) : Type 0 where
   pub allowed : MayAnnounce w l
 
 abbrev pub LowWaterGives : TcView → ℕ → Result Request Refusal → TcView → Type 0
-LowWaterGives old l (Ok request) new = Announces old l × (request ≡ asks.LowWater old.session l) × (new ≡ announced old l)
+LowWaterGives old l (Ok request) new =
+    Announces old l × (request ≡ asks.LowWater old.session l) × (new ≡ announced old l)
 LowWaterGives old l (Err r) new = RefusesLow old l r × (new ≡ old)
 
 -- the greatest number that may be announced now, 0 where clients aren't served

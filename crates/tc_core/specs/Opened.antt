@@ -38,7 +38,11 @@ last_in (r ∷ log) t = if is_number (step_of r) t then length log + 1 else last
 
 -- what it has left to undo
 abbrev pub loser_in : List Record → ℕ → Loser
-loser_in log t = record { left = undo_from (record_at log (last_in log t)) (last_in log t); txn = t; last = last_in log t }
+loser_in log t = record {
+  left = undo_from (record_at log (last_in log t)) (last_in log t);
+  txn = t;
+  last = last_in log t;
+}
 
 abbrev pub is_undone : List Record → ℕ → Bool
 is_undone log t = (loser_in log t).left == 0

@@ -107,7 +107,8 @@ on_answered w n a = if takes w.session w.phase n then on_awaited w n a (awaiting
 
 -- the session runs: redo begins one past the greatest number that was checkpointed
 abbrev pub on_connected : TcView → Phase → Outcome
-on_connected w phase.Connecting = (told.Connected w.session, record w { phase = phase.Redoing (w.checkpointed + 1) false })
+on_connected w phase.Connecting =
+    (told.Connected w.session, record w { phase = phase.Redoing (w.checkpointed + 1) false })
 on_connected w _ = (told.Nothing, w)
 
 -- the end of redo was sent, and is replied to: losers are undone, where there are any
@@ -118,7 +119,8 @@ on_redo_ended w _ = (told.Nothing, w)
 -- the checkpoint that was asked for is logged; of another number none is
 abbrev pub on_checkpointed : TcView → ℕ → Outcome
 on_checkpointed w l =
-    if is_number w.checkpointing l then (told.CheckpointLogged (length w.log + 1), checkpointed w l) else (told.Nothing, w)
+    if is_number w.checkpointing l then (told.CheckpointLogged (length w.log + 1), checkpointed w l) else
+    (told.Nothing, w)
 
 -- who asked the read of this number and waits for it still
 abbrev pub reader : TcView → ℕ → Option OpenTxn
@@ -143,7 +145,8 @@ on_row w v (Some o) = if is_key (span_read o.reading) then (told.Row o.txn v, wa
 
 abbrev pub on_rows : TcView → List (Bytes × Bytes) → Option OpenTxn → Outcome
 on_rows w rows None = (told.Nothing, w)
-on_rows w rows (Some o) = if is_range (span_read o.reading) then (told.Rows o.txn rows, was_told w o) else (told.Nothing, w)
+on_rows w rows (Some o) =
+    if is_range (span_read o.reading) then (told.Rows o.txn rows, was_told w o) else (told.Nothing, w)
 
 abbrev pub on_reply : TcView → Reply → Outcome
 on_reply w (says.Connected s) = on_connected w w.phase
@@ -187,7 +190,8 @@ abbrev pub checkpointed_refusal_of : TcView → ℕ → Option Refusal
 checkpointed_refusal_of w l = first_of ((is_number w.checkpointing l && is_spent w.log, NumbersSpent) ∷ [])
 
 abbrev pub reply_refusal : TcView → Reply → Option Refusal
-reply_refusal w reply = first_of ((is_stale w (session_of reply), Stale) ∷ (logs w reply && is_spent w.log, NumbersSpent) ∷ [])
+reply_refusal w reply = first_of
+    ((is_stale w (session_of reply), Stale) ∷ (logs w reply && is_spent w.log, NumbersSpent) ∷ [])
 
 abbrev pub ReplyGives : TcView → Reply → Result Told Refusal → TcView → Type 0
 ReplyGives old reply (Ok what) new = (reply_refusal old reply ≡ None) × TakesReply old reply what new

@@ -94,7 +94,8 @@ fn keys_of<D: LogDevice>(
     log: &Log<D>,
     open_txns: &BTreeMap<u64, u64>,
 ) -> Result<Vec<(u64, Key)>, AllocError>
-    ensures { IfOk result (λ keys. (t : ℕ) → listed_spans keys.items t ≡ spans_if (get nat_cmp open_txns.now t) (op_spans log.now.records t)) }
+    ensures { IfOk result (λ keys. (t : ℕ) → listed_spans keys.items t
+        ≡ spans_if (get nat_cmp open_txns.now t) (op_spans log.now.records t)) }
 {
     let records = log.len();
     let mut keys = Vec::new(alloc);
@@ -107,7 +108,8 @@ fn keys_of<D: LogDevice>(
     Ok(keys)
 }
 
-/// The number of the first of these transactions' beginnings, or of the last record: no operation of theirs stands before.
+/// The number of the first of these transactions' beginnings, or of the last record: no operation of theirs stands
+/// before.
 fn first_open(open_txns: &BTreeMap<u64, u64>, last: u64) -> u64
     ensures within { result ≤ last }
     ensures first { (t n : ℕ) → get nat_cmp open_txns.now t ≡ Some n → result ≤ t }

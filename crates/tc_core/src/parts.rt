@@ -20,8 +20,8 @@ use std::alloc::Global;
 /// The greatest number that a record or a read may have.
 pub const LAST_NUMBER: u64 = 281_474_976_710_655;
 
-/// The log, the session, what the data component may forget, the open transactions, those that are committing, the losers,
-/// and the locks of all these.
+/// The log, the session, what the data component may forget, the open transactions, those that are committing, the
+/// losers, and the locks of all these.
 #[derive(Drop)]
 pub struct Parts<D: LogDevice> {
     pub log: Log<D>,

@@ -159,10 +159,10 @@ impl<D: LogDevice> Tc<D> {
 
     /// Begins to roll the transaction back to a savepoint, which stays; later ones are dropped. Refused NotConnected,
     /// Redoing, NotOpen, RollingBack, Unanswered, BadSavepoint where it isn't present.
-    pub fn back(&mut self, txn: u64, savepoint: u64) -> Result<(), Refusal>
+    pub fn back_to(&mut self, txn: u64, savepoint: u64) -> Result<(), Refusal>
         ensures gives { BackGives self.old txn savepoint result self.new }
     {
-        self.parts.back(txn, savepoint)
+        self.parts.back_to(txn, savepoint)
     }
 
     /// Begins to roll the transaction back wholly. Refused NotConnected, Redoing, NotOpen, RollingBack, Unanswered.
@@ -243,9 +243,9 @@ impl<D: LogDevice> Tc<D> {
         self.parts.checkpoint()
     }
 
-    /// Takes a reply. The answer of an awaited request is logged and told, what was read is told, the checkpoint that was
-    /// asked for last is logged; a reply that isn't awaited changes nothing. Refused Stale, NumbersSpent, NoMemory, Device; the reply may be given again
-    /// then.
+    /// Takes a reply. The answer of an awaited request is logged and told, what was read is told, the checkpoint that
+    /// was asked for last is logged; a reply that isn't awaited changes nothing. Refused Stale, NumbersSpent, NoMemory,
+    /// Device; the reply may be given again then.
     pub fn on_reply(&mut self, reply: &Reply) -> Result<Told, Refusal>
         ensures gives { ReplyGives self.old reply.now result self.new }
     {
@@ -333,8 +333,8 @@ impl<D: LogDevice> Tc<D> {
         self.parts.log.stable_end()
     }
 
-    /// What holds at every moment: the log is legal, a beginning of it is stable, just its open transactions, those that
-    /// are committing and the losers are kept, and the lock table is theirs.
+    /// What holds at every moment: the log is legal, a beginning of it is stable, just its open transactions, those
+    /// that are committing and the losers are kept, and the lock table is theirs.
     pub fn kept(&self)
         ensures { IsTc self.now }
     {

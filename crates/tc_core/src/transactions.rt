@@ -59,7 +59,7 @@ impl<D: LogDevice> Parts<D> {
         Ok(savepoint)
     }
 
-    pub fn back(&mut self, txn: u64, savepoint: u64) -> Result<(), Refusal>
+    pub fn back_to(&mut self, txn: u64, savepoint: u64) -> Result<(), Refusal>
         requires { IsTc (seen self.old) }
         ensures kept { IsTc (seen self.new) }
         ensures gives { BackGives (seen self.old) txn savepoint result (seen self.new) }

@@ -19,14 +19,16 @@ at_label label q h = exact_bytes label q (from_eq (slice_cmp nat_cmp label q) h)
 zero_by : (label q : List ℕ) (m : BTreeMap (List ℕ) ℕ) (b : Bool) → is_at (slice_cmp nat_cmp label) q ≡ b
     → get (slice_cmp nat_cmp) m label ≡ None
     → unwrap_or (cond b (Some 0) (get (slice_cmp nat_cmp) m q)) 0 ≡ unwrap_or (get (slice_cmp nat_cmp) m q) 0
-zero_by label q m true e none = sym (ap (λ v. unwrap_or v 0) (ap (get (slice_cmp nat_cmp) m) (sym (at_label label q e)) ∙ none))
+zero_by label q m true e none =
+    sym (ap (λ v. unwrap_or v 0) (ap (get (slice_cmp nat_cmp) m) (sym (at_label label q e)) ∙ none))
 zero_by label q m false e none = refl
 
 -- a label that wasn't there and is put in with 0 stands for what it stood for
 pub put_zero : (m n : BTreeMap (List ℕ) ℕ) (label : List ℕ) → get (slice_cmp nat_cmp) m label ≡ None
     → Updates (slice_cmp nat_cmp) m n label (Some 0) → (q : List ℕ)
     → unwrap_or (get (slice_cmp nat_cmp) n q) 0 ≡ unwrap_or (get (slice_cmp nat_cmp) m q) 0
-put_zero m n label none h q = ap (λ v. unwrap_or v 0) (h.0 q) ∙ zero_by label q m (is_at (slice_cmp nat_cmp label) q) refl none
+put_zero m n label none h q =
+    ap (λ v. unwrap_or v 0) (h.0 q) ∙ zero_by label q m (is_at (slice_cmp nat_cmp label) q) refl none
 
 apart_by : (label q : List ℕ) (b : Bool) → is_at (slice_cmp nat_cmp label) q ≡ b → (q ≡ label → ⊥) → b ≡ false
 apart_by label q true e h = absurd (h (sym (at_label label q e)))
@@ -36,7 +38,8 @@ apart_by label q false e h = refl
 pub put_elsewhere : (m n : BTreeMap (List ℕ) ℕ) (label : List ℕ) (w : Option ℕ)
     → Updates (slice_cmp nat_cmp) m n label w → (q : List ℕ) → (q ≡ label → ⊥)
     → unwrap_or (get (slice_cmp nat_cmp) n q) 0 ≡ unwrap_or (get (slice_cmp nat_cmp) m q) 0
-put_elsewhere m n label w h q ne = ap (λ v. unwrap_or v 0) (h.2 q (apart_by label q (is_at (slice_cmp nat_cmp label) q) refl ne))
+put_elsewhere m n label w h q ne =
+    ap (λ v. unwrap_or v 0) (h.2 q (apart_by label q (is_at (slice_cmp nat_cmp label) q) refl ne))
 
 pub put_here : (m n : BTreeMap (List ℕ) ℕ) (label : List ℕ) (number : ℕ)
     → Updates (slice_cmp nat_cmp) m n label (Some number) → unwrap_or (get (slice_cmp nat_cmp) n label) 0 ≡ number

@@ -54,4 +54,5 @@ pub five_words : (name label key rest value more : List ℕ) (o : Option (List �
     → words_of rest ≡ value ∷ parts_left 32 o → o ≡ Some more → None ≡ command_of (name ∷ label ∷ key ∷ words_of rest)
 five_words name label key rest value more o first e =
     let words : words_of rest ≡ value ∷ words_of more = first ∙ ap (λ v. value ∷ parts_left 32 v) e in
-    too_many name label key value (words_of more) (some_part more (λ b. b == 32)) ∙ ap (λ v. command_of (name ∷ label ∷ key ∷ v)) (sym words)
+    too_many name label key value (words_of more) (some_part more (λ b. b == 32))
+    ∙ ap (λ v. command_of (name ∷ label ∷ key ∷ v)) (sym words)

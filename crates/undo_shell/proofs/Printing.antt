@@ -4,17 +4,8 @@ use Rattle.std.proofs.lemmas.List.{take-append-drop, take_more, take_all}
 use Rattle.std.specs.Prelude.{IsErr}
 use Rattle.std.proofs.lemmas.List.Concat.{flat_map-append}
 use Rattle.std.proofs.lemmas.Bool.{false≢true}
-use Rattle.std.specs.Io.KnownBytes.{Appends, Keeps}
+use Rattle.std.specs.Io.KnownBytes.{Appends}
 use Rattle.undo_shell.specs.Printed.{IsCut, Prints}
-
-pub appends_nothing : (a b : Option (List ℕ)) → Keeps a b → Appends a b []
-appends_nothing None b h = tt
-appends_nothing (Some x) None h = h
-appends_nothing (Some x) (Some y) h = h ∙ sym (append-nil x)
-
-pub appends_same : (a : Option (List ℕ)) → Appends a a []
-appends_same None = tt
-appends_same (Some x) = sym (append-nil x)
 
 pub appends_then : (a b c : Option (List ℕ)) (s t : List ℕ) → Appends a b s → Appends b c t → Appends a c (s ++ t)
 appends_then None b c s t h k = tt
@@ -43,7 +34,8 @@ cut_later a b c s t h k = record {
 -- some more of what is left was written
 pub still_all : (bytes written left : List ℕ) (n : ℕ) → bytes ≡ written ++ left
     → bytes ≡ (written ++ take n left) ++ drop n left
-still_all bytes written left n h = h ∙ ap (λ v. written ++ v) (sym (take-append-drop n left)) ∙ sym (append_assoc written (take n left) (drop n left))
+still_all bytes written left n h =
+    h ∙ ap (λ v. written ++ v) (sym (take-append-drop n left)) ∙ sym (append_assoc written (take n left) (drop n left))
 
 -- what a call that failed printed
 pub prints_err : {A E : Type 0} (a b : Option (List ℕ)) (t : List ℕ) (r : Result A E) → IsErr r → IsCut a b t
@@ -54,11 +46,8 @@ prints_err a b t (Err e) h k = k
 -- the exit of a `?` in the first part of a text, and in the second, and a text of two parts
 pub stops_first : {A E : Type 0} (a b : Option (List ℕ)) (s t text : List ℕ) (r : Result A E) → IsErr r → IsCut a b s
     → text ≡ s ++ t → Prints a b r text
-stops_first a b s t text r err cut e = let P : List ℕ → Type 0 = λ v. IsCut a b v in prints_err a b text r err (subst P (sym e) (cut_longer a b s t cut))
-
-pub stops_second : {A E : Type 0} (a b c : Option (List ℕ)) (s t text : List ℕ) (r : Result A E) → IsErr r
-    → Appends a b s → IsCut b c t → text ≡ s ++ t → Prints a c r text
-stops_second a b c s t text r err first cut e = let P : List ℕ → Type 0 = λ v. IsCut a c v in prints_err a c text r err (subst P (sym e) (cut_later a b c s t first cut))
+stops_first a b s t text r err cut e = let P : List ℕ → Type 0 = λ v. IsCut a b v in
+    prints_err a b text r err (subst P (sym e) (cut_longer a b s t cut))
 
 prints_parts : {A E : Type 0} (a b c : Option (List ℕ)) (s t : List ℕ) (r : Result A E) → Appends a b s → Prints b c r t
     → Prints a c r (s ++ t)
@@ -67,13 +56,16 @@ prints_parts a b c s t (Err e) h k = cut_later a b c s t h k
 
 pub prints_both : {A E : Type 0} (a b c : Option (List ℕ)) (s t text : List ℕ) (r : Result A E) → Appends a b s
     → Prints b c r t → text ≡ s ++ t → Prints a c r text
-prints_both a b c s t text r first second e = let P : List ℕ → Type 0 = λ v. Prints a c r v in subst P (sym e) (prints_parts a b c s t r first second)
+prints_both a b c s t text r first second e = let P : List ℕ → Type 0 = λ v. Prints a c r v in
+    subst P (sym e) (prints_parts a b c s t r first second)
 
 list_at : {X : Type 0} (f : X → List ℕ) (xs : List X) (i : ℕ) (d : X) → i < length xs
     → flat_map f xs ≡ (flat_map f (take i xs) ++ f (get_or xs i d)) ++ flat_map f (drop (i + 1) xs)
 list_at f xs i d lt =
     let here : drop i xs ≡ get_or xs i d ∷ drop (i + 1) xs = rw (add-one, drop-cons xs i d) refl in
-    ap (flat_map f) (sym (take-append-drop i xs)) ∙ flat_map-append f (take i xs) (drop i xs) ∙ ap (λ v. flat_map f (take i xs) ++ flat_map f v) here ∙ sym (append_assoc (flat_map f (take i xs)) (f (get_or xs i d)) (flat_map f (drop (i + 1) xs)))
+    ap (flat_map f) (sym (take-append-drop i xs)) ∙ flat_map-append f (take i xs) (drop i xs)
+    ∙ ap (λ v. flat_map f (take i xs) ++ flat_map f v) here
+    ∙ sym (append_assoc (flat_map f (take i xs)) (f (get_or xs i d)) (flat_map f (drop (i + 1) xs)))
 
 -- the text of a list up to an element, and a beginning of that element's
 pub cut_in_list : {X : Type 0} (f : X → List ℕ) (a b c : Option (List ℕ)) (xs : List X) (i : ℕ) (d : X) → i < length xs
@@ -81,7 +73,8 @@ pub cut_in_list : {X : Type 0} (f : X → List ℕ) (a b c : Option (List ℕ)) 
 cut_in_list f a b c xs i d lt before cut =
     let P : List ℕ → Type 0 = λ v. IsCut a c v in
     let first = cut_later a b c (flat_map f (take i xs)) (f (get_or xs i d)) before cut in
-    subst P (sym (list_at f xs i d lt)) (cut_longer a c (flat_map f (take i xs) ++ f (get_or xs i d)) (flat_map f (drop (i + 1) xs)) first)
+    subst P (sym (list_at f xs i d lt))
+    (cut_longer a c (flat_map f (take i xs) ++ f (get_or xs i d)) (flat_map f (drop (i + 1) xs)) first)
 
 -- the text of a list up to an element, and that element's
 pub item_more : {X : Type 0} (f : X → List ℕ) (a b c : Option (List ℕ)) (xs : List X) (i : ℕ) (x d : X) → i < length xs
@@ -97,7 +90,8 @@ item_more {X} f a b c xs i x d lt at before item =
 -- the text of all elements
 pub items_all : {X : Type 0} (f : X → List ℕ) (a b : Option (List ℕ)) (xs : List X) (i : ℕ) → length xs ≤ i
     → Appends a b (flat_map f (take i xs)) → Appends a b (flat_map f xs)
-items_all {X} f a b xs i most before = let P : List X → Type 0 = λ v. Appends a b (flat_map f v) in subst P (take_all i xs most) before
+items_all {X} f a b xs i most before = let P : List X → Type 0 = λ v. Appends a b (flat_map f v) in
+    subst P (take_all i xs most) before
 
 pub cut_at_item : {X : Type 0} (f : X → List ℕ) (a b c : Option (List ℕ)) (xs : List X) (i : ℕ) (x d : X)
     → i < length xs → x ≡ get_or xs i d → Appends a b (flat_map f (take i xs)) → IsCut b c (f x)

@@ -25,7 +25,8 @@ pub shows_line : (going : Bool) (o : Option Command) (c : Command) (view : NodeV
 shows_line true o c view labels r after next old new e replies h = record {
   said = result_text r after;
   appended = h.0;
-  runs = λ cs text status k. let P : Option Command → Type 0 = λ q. Runs (onto q cs) view labels (result_text r after ++ text) status in
+  runs = λ cs text status k. let P : Option Command → Type 0 =
+      λ q. Runs (onto q cs) view labels (result_text r after ++ text) status in
       subst P (sym e) (goes_on c cs view labels r after next text status replies h.1 k);
 }
 shows_line false o c view labels r after next old new e replies (inl h) = record {
@@ -43,7 +44,8 @@ shows_line false o c view labels r after next old new e replies (inr h) = record
 
 -- what is written so far, before what these lines write, is what all lines write
 abbrev pub GoesOn : List Command → NodeView → Bindings → List ℕ → List Command → NodeView → Bindings → Type 0
-GoesOn all first start so_far left view labels = (text : List ℕ) (status : ℕ) → Runs left view labels text status → Runs all first start (so_far ++ text) status
+GoesOn all first start so_far left view labels =
+    (text : List ℕ) (status : ℕ) → Runs left view labels text status → Runs all first start (so_far ++ text) status
 
 -- the run ends with this line
 pub line_stops : (all : List Command) (first : NodeView) (start : Bindings) (so_far : List ℕ) (left : List Command)
@@ -69,7 +71,8 @@ pub line_carries : (all : List Command) (first : NodeView) (start : Bindings) (s
 line_carries all first start so_far left view labels o rest after next b c e carry line text status k =
     let P : List Command → Type 0 = λ cs. Runs cs view labels (line.said ++ text) status in
     let Q : List ℕ → Type 0 = λ v. Runs all first start v status in
-    subst Q (sym (append_assoc so_far line.said text)) (carry (line.said ++ text) status (subst P (sym e) (line.runs rest text status k)))
+    subst Q (sym (append_assoc so_far line.said text))
+    (carry (line.said ++ text) status (subst P (sym e) (line.runs rest text status k)))
 
 -- no line is left
 pub run_is_done : (all : List Command) (first : NodeView) (start : Bindings) (so_far : List ℕ) (left : List Command)
@@ -86,7 +89,8 @@ run_is_done all first start so_far left view labels a b e carry before =
 
 pub alone_cut : (line : List ℕ) (own : ℕ) (old new : Option (List ℕ)) → IsCut old new line
     → WritesAlone line own old new 3
-alone_cut line own old new h = record { text = h.written; appended = h.appended; alone = inr ((h.left, h.beginning), refl) }
+alone_cut line own old new h =
+    record { text = h.written; appended = h.appended; alone = inr ((h.left, h.beginning), refl) }
 
 -- a script that could not be read
 pub unread : (given old new : Option (List ℕ)) (r : Refusal) (status : ℕ)
@@ -104,5 +108,10 @@ pub ran : (given old new : Option (List ℕ)) (script : List ℕ) (status : ℕ)
     → first_fault script ≡ None → WritesLines script old new status → WritesText given old new status
 ran given old new script status all ok (inl h) =
     let P : Option ℕ → Type 0 = λ fault. IsTextAfterCheck fault script h.2.text status in
-    record { text = h.2.text; appended = h.2.appended; is_text = inl (script, all, subst P (sym ok) (h.0, h.1, h.2.runs)) }
-ran given old new script status all ok (inr h) = record { text = h.text; appended = h.appended; is_text = inr (inl h.alone) }
+    record {
+      text = h.2.text;
+      appended = h.2.appended;
+      is_text = inl (script, all, subst P (sym ok) (h.0, h.1, h.2.runs));
+    }
+ran given old new script status all ok (inr h) =
+    record { text = h.text; appended = h.appended; is_text = inr (inl h.alone) }

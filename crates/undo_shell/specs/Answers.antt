@@ -27,4 +27,5 @@ value_line txn value = concat (codes "row " ∷ decimal txn ∷ codes " " ∷ sh
 
 -- the rows that a transaction asked for, and first how many they are
 abbrev pub found_text : ℕ → List Row → List ℕ
-found_text txn rows = concat (codes "rows " ∷ decimal txn ∷ codes " " ∷ decimal (length rows) ∷ codes "\n" ∷ []) ++ flat_map row_line rows
+found_text txn rows = concat (codes "rows " ∷ decimal txn ∷ codes " " ∷ decimal (length rows) ∷ codes "\n" ∷ [])
+    ++ flat_map row_line rows

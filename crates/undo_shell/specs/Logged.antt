@@ -29,7 +29,9 @@ act_text txn prev op = concat (codes "op " ∷ decimal txn ∷ codes " prev " �
 
 -- a compensation: whose it is, what it undoes, what is undone next, and by what it undoes
 abbrev pub comp_text : ℕ → ℕ → ℕ → Option Op → List ℕ
-comp_text txn undoes next inverse = concat (codes "comp " ∷ decimal txn ∷ codes " undoes " ∷ decimal undoes ∷ codes " next " ∷ decimal next ∷ codes " " ∷ []) ++ inverse_text inverse
+comp_text txn undoes next inverse =
+    concat (codes "comp " ∷ decimal txn ∷ codes " undoes " ∷ decimal undoes ∷ codes " next " ∷ decimal next ∷ codes
+    " " ∷ []) ++ inverse_text inverse
 
 abbrev pub record_text : Record → List ℕ
 record_text record-is.Session = codes "session\n"

@@ -162,7 +162,8 @@ crash_in (Some c) (Some frames) (Some bytes) = Some (steps (crash_of c frames by
 -- a line of two words that has no label
 abbrev pub unlabelled : List ℕ → List ℕ → Option Command
 unlabelled name word =
-    first_of (with_number name (number_in word)) (first_of (with_leaf name (text_in word)) (with_component name (component_in word)))
+    first_of (with_number name (number_in word))
+    (first_of (with_leaf name (text_in word)) (with_component name (component_in word)))
 
 -- a line of four words
 abbrev pub of_four : List ℕ → List ℕ → List ℕ → List ℕ → Option Command

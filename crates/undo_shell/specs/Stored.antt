@@ -15,11 +15,14 @@ table_text rows = flat_map row_line rows ++ numbered (codes "rows ") (length row
 
 -- its fences, a dash where there is no bound
 abbrev pub fences_text : LeafView → List ℕ
-fences_text leaf = concat (codes "leaf " ∷ decimal leaf.id ∷ codes " " ∷ shown_if leaf.low_fence ∷ codes " " ∷ shown_if leaf.high_fence ∷ [])
+fences_text leaf = concat
+    (codes "leaf " ∷ decimal leaf.id ∷ codes " " ∷ shown_if leaf.low_fence ∷ codes " " ∷ shown_if leaf.high_fence ∷ [])
 
 -- the low number, the last system transaction, and how many records there are
 abbrev pub counts_text : LeafView → List ℕ
-counts_text leaf = concat (codes " low " ∷ decimal leaf.ab.low ∷ codes " last " ∷ decimal leaf.last ∷ codes " n " ∷ decimal (length (entries leaf.rows)) ∷ codes " set " ∷ [])
+counts_text leaf = concat
+    (codes " low " ∷ decimal leaf.ab.low ∷ codes " last " ∷ decimal leaf.last ∷ codes " n " ∷ decimal
+    (length (entries leaf.rows)) ∷ codes " set " ∷ [])
 
 abbrev pub next_number : Entry → List ℕ
 next_number e = concat (codes "," ∷ decimal e.number ∷ [])

@@ -58,7 +58,8 @@ op_of kind.Upsert key value = op.Upsert key value
 op_of kind.Delete key value = op.Delete key
 
 abbrev pub Writes : List ℕ → Kind → List ℕ → List ℕ → NodeView → Bindings → Out → NodeView → Type 0
-Writes label k key value before labels output after = StepsUnless (length_fault key value) before (event.Act (labels label) (op_of k key value)) output after
+Writes label k key value before labels output after =
+    StepsUnless (length_fault key value) before (event.Act (labels label) (op_of k key value)) output after
 
 abbrev pub is_empty : List ℕ → Bool
 is_empty [] = true
@@ -70,13 +71,16 @@ is_long key = nat_lt 32 (length key)
 -- what is wrong with the lengths of one or two keys: an empty one first, then one that is too long
 abbrev pub keys_fault : List ℕ → Option (List ℕ) → Option Refusal
 keys_fault low None = first_of ((is_empty low, refusal.EmptyKey) ∷ (is_long low, refusal.TooLong) ∷ [])
-keys_fault low (Some high) = first_of ((is_empty low || is_empty high, refusal.EmptyKey) ∷ (is_long low || is_long high, refusal.TooLong) ∷ [])
+keys_fault low (Some high) =
+    first_of ((is_empty low || is_empty high, refusal.EmptyKey) ∷ (is_long low || is_long high, refusal.TooLong) ∷ [])
 
 abbrev pub Gets : List ℕ → List ℕ → NodeView → Bindings → Out → NodeView → Type 0
-Gets label key before labels output after = StepsUnless (keys_fault key None) before (event.Get (labels label) key) output after
+Gets label key before labels output after =
+    StepsUnless (keys_fault key None) before (event.Get (labels label) key) output after
 
 abbrev pub Scans : List ℕ → List ℕ → Option (List ℕ) → NodeView → Bindings → Out → NodeView → Type 0
-Scans label low high before labels output after = StepsUnless (keys_fault low high) before (event.Scan (labels label) low high) output after
+Scans label low high before labels output after =
+    StepsUnless (keys_fault low high) before (event.Scan (labels label) low high) output after
 
 -- the event of a leaf
 abbrev pub leaf_event : LeafCall → List ℕ → Event
@@ -114,10 +118,14 @@ IsTable view _ = ⊥
 -- what a line may come to, from a node and labels, and what it leaves
 abbrev pub ComesTo : Command → NodeView → Bindings → LineResult → NodeView → Bindings → Type 0
 ComesTo (begins label) before old r after new = IsEvent (λ output. Begins label before old output after new) r
-ComesTo (writes label k key value) before old r after new = IsEvent (λ output. Writes label k key value before old output after) r × AreSame old new
-ComesTo (gets label key) before old r after new = IsEvent (λ output. Gets label key before old output after) r × AreSame old new
-ComesTo (scans label low high) before old r after new = IsEvent (λ output. Scans label low high before old output after) r × AreSame old new
-ComesTo (calls label c) before old r after new = IsEvent (λ output. StepsTo before (event_of c (old label)) output after) r × AreSame old new
+ComesTo (writes label k key value) before old r after new =
+    IsEvent (λ output. Writes label k key value before old output after) r × AreSame old new
+ComesTo (gets label key) before old r after new =
+    IsEvent (λ output. Gets label key before old output after) r × AreSame old new
+ComesTo (scans label low high) before old r after new =
+    IsEvent (λ output. Scans label low high before old output after) r × AreSame old new
+ComesTo (calls label c) before old r after new =
+    IsEvent (λ output. StepsTo before (event_of c (old label)) output after) r × AreSame old new
 ComesTo (treats c key) before old r after new = IsEvent (λ output. Treats c key before output after) r × AreSame old new
 ComesTo (steps e) before old r after new = IsEvent (λ output. StepsTo before e output after) r × AreSame old new
 ComesTo (settles most) before old r after new = IsSettling most before r after × AreSame old new
@@ -147,7 +155,8 @@ ends_run _ = false
 -- the text of the result is written and the run goes on, or it ends: by the result, or where a write failed
 abbrev pub Shows : Bool → LineResult → NodeView → Option (List ℕ) → Option (List ℕ) → Type 0
 Shows true r view old new = Appends old new (result_text r view) × (ends_run r ≡ false)
-Shows false r view old new = (Appends old new (result_text r view) × (ends_run r ≡ true)) ⊎ IsCut old new (result_text r view)
+Shows false r view old new =
+    (Appends old new (result_text r view) × (ends_run r ≡ true)) ⊎ IsCut old new (result_text r view)
 
 -- these bytes are a beginning of the text
 abbrev pub IsBeginning : List ℕ → List ℕ → Type 0
@@ -172,18 +181,22 @@ pub data Runs : List Command → NodeView → Bindings → List ℕ → ℕ → 
       → ComesTo c view labels r after next → IsBeginning text (result_text r after) → Runs (c ∷ cs) view labels text 3
 
 -- the text of these lines is written
-pub record WritesRun (commands : List Command) (view : NodeView) (labels : Bindings) (old new : Option (List ℕ)) (status : ℕ) : Type 0 where
+pub record WritesRun (commands : List Command) (view : NodeView) (labels : Bindings) (old new : Option (List ℕ))
+    (status : ℕ) : Type 0 where
   pub text : List ℕ
   pub appended : Appends old new text
   pub runs : Runs commands view labels text status
 
 -- a line, if there is one, is run and its text written: what those behind it write follows, or nothing does
 abbrev pub RunsLine : Bool → Option Command → NodeView → Bindings → NodeView → Bindings → List ℕ → Type 0
-RunsLine true command view labels after next said = (cs : List Command) (text : List ℕ) (status : ℕ) → Runs cs after next text status → Runs (onto command cs) view labels (said ++ text) status
+RunsLine true command view labels after next said =
+    (cs : List Command) (text : List ℕ) (status : ℕ) → Runs cs after next text status
+    → Runs (onto command cs) view labels (said ++ text) status
 RunsLine false command view labels after next said = (cs : List Command) → Runs (onto command cs) view labels said 3
 
 -- a line and those after it: what it writes stands before what they write, with the exit status of the last
-pub record WritesLine (going : Bool) (command : Option Command) (view : NodeView) (labels : Bindings) (after : NodeView) (next : Bindings) (old new : Option (List ℕ)) : Type 0 where
+pub record WritesLine (going : Bool) (command : Option Command) (view : NodeView) (labels : Bindings) (after : NodeView)
+    (next : Bindings) (old new : Option (List ℕ)) : Type 0 where
   pub said : List ℕ
   pub appended : Appends old new said
   pub runs : RunsLine going command view labels after next said
@@ -201,20 +214,23 @@ pub record WritesAlone (line : List ℕ) (own : ℕ) (old new : Option (List ℕ
 -- what the lines of a script that was checked write; where memory for a node is refused, that alone
 abbrev pub WritesLines : List ℕ → Option (List ℕ) → Option (List ℕ) → ℕ → Type 0
 WritesLines script old new status =
-    ((labels : Bindings) × AreSame unbound labels × WritesRun (commands_of (lines_of script)) fresh_node labels old new status)
+    ((labels : Bindings) × AreSame unbound labels
+    × WritesRun (commands_of (lines_of script)) fresh_node labels old new status)
     ⊎ WritesAlone (refusal_line refusal.NoMemory) 3 old new status
 
 -- the text of a script, where this is its first fault
 abbrev pub IsTextAfterCheck : Option ℕ → List ℕ → List ℕ → ℕ → Type 0
 IsTextAfterCheck (Some line) script text status = IsAlone (refusal_line (refusal.BadScript line)) 2 text status
-IsTextAfterCheck None script text status = (labels : Bindings) × AreSame unbound labels × Runs (commands_of (lines_of script)) fresh_node labels text status
+IsTextAfterCheck None script text status =
+    (labels : Bindings) × AreSame unbound labels × Runs (commands_of (lines_of script)) fresh_node labels text status
 
 abbrev pub IsTextOf : List ℕ → List ℕ → ℕ → Type 0
 IsTextOf script text status = IsTextAfterCheck (first_fault script) script text status
 
 -- what is written where the script could not be read: a device failed, or there was no memory for it or for a node
 abbrev pub IsUnread : List ℕ → ℕ → Type 0
-IsUnread text status = IsAlone (refusal_line refusal.NoMemory) 3 text status ⊎ IsAlone (refusal_line refusal.Device) 3 text status
+IsUnread text status = IsAlone (refusal_line refusal.NoMemory) 3 text status
+    ⊎ IsAlone (refusal_line refusal.Device) 3 text status
 
 -- the script is all that the reader had left, where that is known
 abbrev pub IsAllOf : Option (List ℕ) → List ℕ → Type 0

@@ -9,7 +9,8 @@ words_of bytes = slice_split (λ b. b == 32) bytes
 
 -- 1 to 8 lower case letters or digits
 abbrev pub is_label : List ℕ → Bool
-is_label word = not (length word == 0) && nat_le (length word) 8 && list_all (λ b. is_ascii_lowercase b || is_ascii_digit b) word
+is_label word = not (length word == 0) && nat_le (length word) 8
+    && list_all (λ b. is_ascii_lowercase b || is_ascii_digit b) word
 
 abbrev pub label_in : List ℕ → Option (List ℕ)
 label_in word = if is_label word then Some word else None

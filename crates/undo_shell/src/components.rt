@@ -34,7 +34,8 @@ pub fn with_component<'a>(name: &[u8], word: &[u8]) -> Option<Line<'a>>
 
 /// A crash whose component and numbers are these words.
 pub fn crash<'a>(word: &[u8], frames: &[u8], bytes: &[u8]) -> Option<Line<'a>>
-    ensures { option_map meaning result ≡ crash_in (component_in word.now) (number_in frames.now) (number_in bytes.now) }
+    ensures { option_map meaning result
+        ≡ crash_in (component_in word.now) (number_in frames.now) (number_in bytes.now) }
 {
     let component = component_in(word)?;
     let frames = number_of(frames)?;

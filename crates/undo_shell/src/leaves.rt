@@ -46,7 +46,8 @@ fn fence(key: Option<&Key>) -> Piece<'_>
 
 /// What stands behind the fences.
 fn print_rest<W: io::Write>(writer: &mut W, leaf: &Leaf) -> io::Result<()>
-    ensures { Prints (W.contents writer.old) (W.contents writer.new) result (counts_text leaf.now ++ set_line leaf.now.ab.entries) }
+    ensures { Prints (W.contents writer.old) (W.contents writer.new) result
+        (counts_text leaf.now ++ set_line leaf.now.ab.entries) }
 {
     print_counts(writer, leaf)?;
     print_set(writer, leaf.entries())
@@ -89,7 +90,8 @@ fn print_more<W: io::Write>(writer: &mut W, entries: &Entries) -> io::Result<()>
 }
 
 fn print_numbers<W: io::Write>(writer: &mut W, entries: &Entries) -> io::Result<()>
-    ensures { Prints (W.contents writer.old) (W.contents writer.new) result (flat_map next_number (drop 1 entries.now)) }
+    ensures { Prints (W.contents writer.old) (W.contents writer.new) result
+        (flat_map next_number (drop 1 entries.now)) }
 {
     for at in 1..entries.len() {
         print_next(writer, &entries.entry(at))?;

@@ -69,7 +69,8 @@ fn print_and_committed<W: io::Write>(
     number: u64,
     committed: &[u64],
 ) -> io::Result<()>
-    ensures { Prints (W.contents writer.old) (W.contents writer.new) result (numbered text.now number ++ committed_text committed.now) }
+    ensures { Prints (W.contents writer.old) (W.contents writer.new) result
+        (numbered text.now number ++ committed_text committed.now) }
 {
     print_numbered(writer, text, number)?;
     print_committed(writer, committed)

@@ -65,7 +65,8 @@ fn run_lines<W: io::Write>(alloc: Global, script: &[u8], writer: &mut W) -> u8
 }
 
 fn run_from<W: io::Write>(shell: &mut Shell, script: &[u8], writer: &mut W) -> u8
-    ensures { WritesRun (commands_of (lines_of script.now)) shell.old.world (number_in shell.old.labels) (W.contents writer.old) (W.contents writer.new) result }
+    ensures { WritesRun (commands_of (lines_of script.now)) shell.old.world (number_in shell.old.labels)
+        (W.contents writer.old) (W.contents writer.new) result }
 {
     let mut left = Some(script);
     while let Some(bytes) = left {
@@ -80,7 +81,8 @@ fn run_from<W: io::Write>(shell: &mut Shell, script: &[u8], writer: &mut W) -> u
 
 /// Runs a line and writes its text. Gives whether the run goes on.
 fn run_line<W: io::Write>(shell: &mut Shell, line: &[u8], writer: &mut W) -> bool
-    ensures { WritesLine result (asked line.now) shell.old.world (number_in shell.old.labels) shell.new.world (number_in shell.new.labels) (W.contents writer.old) (W.contents writer.new) }
+    ensures { WritesLine result (asked line.now) shell.old.world (number_in shell.old.labels) shell.new.world
+        (number_in shell.new.labels) (W.contents writer.old) (W.contents writer.new) }
 {
     let Some(line) = request(line) else {
         return true;

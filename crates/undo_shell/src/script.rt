@@ -8,7 +8,8 @@ use crate::parsing::parse;
 
 /// What stands before the first such byte, and what stands after it where there is one.
 pub fn cut_at(bytes: &[u8], at: u8) -> (&[u8], Option<&[u8]>)
-    ensures parts { slice_split (λ b. b == at) bytes.now ≡ result.0.now ∷ parts_left at (option_map (λ rest. rest.now) result.1) }
+    ensures parts { slice_split (λ b. b == at) bytes.now
+        ≡ result.0.now ∷ parts_left at (option_map (λ rest. rest.now) result.1) }
     ensures shorter { IfSome result.1 (λ rest. length rest.now < length bytes.now) }
 {
     match place_of(bytes, at) {

@@ -43,7 +43,8 @@ impl Shell {
 
     /// Runs the line.
     pub fn perform(&mut self, line: &Line<'_>) -> LineResult
-        ensures { ComesTo (meaning line.now) self.old.world (number_in self.old.labels) result self.new.world (number_in self.new.labels) }
+        ensures { ComesTo (meaning line.now) self.old.world (number_in self.old.labels) result self.new.world
+            (number_in self.new.labels) }
     {
         match line {
             Line::Begin(label) => LineResult::Event(self.begin(label)),
@@ -69,7 +70,8 @@ impl Shell {
 
     /// Begins a transaction and binds the label to it.
     fn begin(&mut self, label: &Label) -> Out
-        ensures { Begins label.now self.old.world (number_in self.old.labels) result self.new.world (number_in self.new.labels) }
+        ensures { Begins label.now self.old.world (number_in self.old.labels) result self.new.world
+            (number_in self.new.labels) }
     {
         if let Err(refusal) = self.make_way(label) {
             return Out::Refused(refusal);
@@ -95,7 +97,8 @@ impl Shell {
 
     /// Writes, where the key and the value have lengths that the node takes.
     fn write(&mut self, label: &Label, kind: Kind, key: &[u8], value: &[u8]) -> Out
-        ensures event { Writes label.now kind key.now value.now self.old.world (number_in self.old.labels) result self.new.world }
+        ensures event { Writes label.now kind key.now value.now self.old.world (number_in self.old.labels) result
+            self.new.world }
         ensures labels { AreSame (number_in self.old.labels) (number_in self.new.labels) }
     {
         let op = match op_of(kind, key, value) {
@@ -143,7 +146,8 @@ impl Shell {
 
     /// Asks for the rows between keys that have lengths that the node takes.
     fn scan(&mut self, label: &Label, low: &[u8], high: Option<&[u8]>) -> Out
-        ensures event { Scans label.now low.now (option_copied high.entry) self.old.world (number_in self.old.labels) result self.new.world }
+        ensures event { Scans label.now low.now (option_copied high.entry) self.old.world (number_in self.old.labels)
+            result self.new.world }
         ensures labels { AreSame (number_in self.old.labels) (number_in self.new.labels) }
     {
         let (low, high) = match ends_of(low, high) {
@@ -157,7 +161,8 @@ impl Shell {
 
 /// The operation, unless the key or the value has a length that no node takes.
 fn op_of(kind: Kind, key: &[u8], value: &[u8]) -> Result<Op, Refusal>
-    ensures { MatchResult result (λ op. (length_fault key.now value.now ≡ None) × (op ≡ op_of kind key.now value.now)) (λ refusal. length_fault key.now value.now ≡ Some refusal) }
+    ensures { MatchResult result (λ op. (length_fault key.now value.now ≡ None) × (op ≡ op_of kind key.now value.now))
+        (λ refusal. length_fault key.now value.now ≡ Some refusal) }
 {
     let key = Key::new(key)?;
     let value = Value::new(value)?;
@@ -171,7 +176,10 @@ fn op_of(kind: Kind, key: &[u8], value: &[u8]) -> Result<Op, Refusal>
 
 /// The keys of a scan, unless one has a length that no key has.
 fn ends_of(low: &[u8], high: Option<&[u8]>) -> Result<(Key, Option<Key>), Refusal>
-    ensures { MatchResult result (λ ends. (keys_fault low.now (option_copied high.entry) ≡ None) × (ends.0 ≡ low.now) × (ends.1 ≡ option_copied high.entry)) (λ refusal. keys_fault low.now (option_copied high.entry) ≡ Some refusal) }
+    ensures { MatchResult result
+        (λ ends. (keys_fault low.now (option_copied high.entry) ≡ None) × (ends.0 ≡ low.now)
+        × (ends.1 ≡ option_copied high.entry))
+        (λ refusal. keys_fault low.now (option_copied high.entry) ≡ Some refusal) }
 {
     match high {
         None => Ok((Key::new(low)?, None)),
@@ -186,7 +194,8 @@ fn ends_of(low: &[u8], high: Option<&[u8]>) -> Result<(Key, Option<Key>), Refusa
 
 /// What is to happen to the leaf of this key, unless it has a length that no key has.
 fn leaf_event(call: LeafCall, key: &[u8]) -> Result<Event, Refusal>
-    ensures { MatchResult result (λ event. (keys_fault key.now None ≡ None) × (event ≡ leaf_event call key.now)) (λ refusal. keys_fault key.now None ≡ Some refusal) }
+    ensures { MatchResult result (λ event. (keys_fault key.now None ≡ None) × (event ≡ leaf_event call key.now))
+        (λ refusal. keys_fault key.now None ≡ Some refusal) }
 {
     let key = Key::new(key)?;
     Ok(match call {

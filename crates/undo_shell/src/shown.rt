@@ -27,7 +27,8 @@ pub fn print_part<W: io::Write>(writer: &mut W, part: Part, world: &World) -> io
 
 /// The lines of the leaves, or that the data component is down.
 fn print_leaves<W: io::Write>(writer: &mut W, world: &World) -> io::Result<()>
-    ensures { Prints (W.contents writer.old) (W.contents writer.new) result (leaves_text world.now.dc_up (leaves_of world.now)) }
+    ensures { Prints (W.contents writer.old) (W.contents writer.new) result
+        (leaves_text world.now.dc_up (leaves_of world.now)) }
 {
     match world.leaves() {
         Ok(count) => print_each_leaf(writer, world, count),
@@ -49,7 +50,8 @@ fn print_each_leaf<W: io::Write>(writer: &mut W, world: &World, count: usize) ->
 
 /// The lines of the log, or that the transaction component is down.
 fn print_log<W: io::Write>(writer: &mut W, world: &World) -> io::Result<()>
-    ensures { Prints (W.contents writer.old) (W.contents writer.new) result (log_if_up world.now.tc_up (log_of world.now) (stable_of world.now)) }
+    ensures { Prints (W.contents writer.old) (W.contents writer.new) result
+        (log_if_up world.now.tc_up (log_of world.now) (stable_of world.now)) }
 {
     match log_ends(world) {
         Ok((count, stable)) => print_whole_log(writer, world, count, stable),
@@ -78,7 +80,8 @@ fn print_whole_log<W: io::Write>(
     requires up { world.now.tc_up ≡ true }
     requires all { count ≡ length (log_of world.now) }
     requires stable { stable ≡ stable_of world.now }
-    ensures { Prints (W.contents writer.old) (W.contents writer.new) result (log_text (log_of world.now) (stable_of world.now)) }
+    ensures { Prints (W.contents writer.old) (W.contents writer.new) result
+        (log_text (log_of world.now) (stable_of world.now)) }
 {
     print_records(writer, world, count)?;
     print(
@@ -107,7 +110,8 @@ fn print_records<W: io::Write>(writer: &mut W, world: &World, count: u64) -> io:
 /// The line of the record of this number.
 fn print_at<W: io::Write>(writer: &mut W, world: &World, lsn: u64) -> io::Result<()>
     requires { world.now.tc_up ≡ true }
-    ensures { Prints (W.contents writer.old) (W.contents writer.new) result (line_at lsn (record_at (log_of world.now) lsn)) }
+    ensures { Prints (W.contents writer.old) (W.contents writer.new) result
+        (line_at lsn (record_at (log_of world.now) lsn)) }
 {
     match world.record(lsn) {
         Ok(Some(entry)) => print_record(writer, lsn, &entry),

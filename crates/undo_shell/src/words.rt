@@ -23,7 +23,8 @@ pub fn number_of(word: &[u8]) -> Option<u64>
 
 /// The number that these digits write, where it is below the limit.
 fn value_of(digits: &[u8]) -> Option<u64>
-    ensures { result ≡ (if nat_lt (value_behind 0 digits.now) (2 ^ 48) then Some (value_behind 0 digits.now) else None) }
+    ensures { result
+        ≡ (if nat_lt (value_behind 0 digits.now) (2 ^ 48) then Some (value_behind 0 digits.now) else None) }
 {
     let mut number = 0;
     for digit in digits {

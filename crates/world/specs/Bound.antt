@@ -20,13 +20,16 @@ asked (Some o) = 1
 
 abbrev pub requests_in : ℕ → ℕ → List Record → ℕ
 requests_in from below [] = 0
-requests_in from below (r ∷ log) = (if nat_le from (length log + 1) && nat_lt (length log + 1) below then asked (request_of r) else 0) + requests_in from below log
+requests_in from below (r ∷ log) =
+    (if nat_le from (length log + 1) && nat_lt (length log + 1) below then asked (request_of r) else 0)
+    + requests_in from below log
 
 -- how many operations of the transaction above this number no compensation of the whole log names
 abbrev pub left_in : List Record → ℕ → ℕ → List Record → ℕ
 left_in whole t above [] = 0
 left_in whole t above (is.Op txn prev op ∷ log) =
-    (if txn == t && (nat_lt above (length log + 1) && not (is_crossed whole (length log + 1))) then 1 else 0) + left_in whole t above log
+    (if txn == t && (nat_lt above (length log + 1) && not (is_crossed whole (length log + 1))) then 1 else 0)
+    + left_in whole t above log
 left_in whole t above (r ∷ log) = left_in whole t above log
 
 -- how many rounds are left: for an answer, a force unless its record is stable, and an exchange
@@ -98,12 +101,14 @@ abbrev pub is_busy : OpenTxn → Bool
 is_busy o = rolls_back o || waits o
 
 abbrev pub force_rounds : TcView → ℕ
-force_rounds w = if not (is_running w.phase) || (list_any is_busy w.open_txns || nat_lt w.stable (length w.log)) then 1 else 0
+force_rounds w = if not (is_running w.phase)
+    || (list_any is_busy w.open_txns || nat_lt w.stable (length w.log)) then 1 else 0
 
 -- where the data component runs the session
 abbrev pub tc_rounds : TcView → ℕ
 tc_rounds w =
-    phase_rounds w.log w.session w.phase + total (txn_rounds w.log w.stable) w.open_txns + lost_rounds w.log w.losers.below
+    phase_rounds w.log w.session w.phase + total (txn_rounds w.log w.stable) w.open_txns
+    + lost_rounds w.log w.losers.below
     + undo_rounds w.stable w.phase + force_rounds w
 
 -- where it doesn't, a session has to begin first

@@ -39,7 +39,8 @@ pub record MayKeep (stable_end records more n : ℕ) : Type 0 where
 -- what isn't on the device is gone
 abbrev pub TcCrashesTo : TcSide → ℕ → Bool → TcSide → Type 0
 TcCrashesTo old more true new =
-    (old.up ≡ true) × ((n : ℕ) × MayKeep old.tc.stable (length old.tc.log) more n × (new ≡ record { up = false; tc = crashed_tc old.tc n }))
+    (old.up ≡ true) × ((n : ℕ) × MayKeep old.tc.stable (length old.tc.log) more n
+    × (new ≡ record { up = false; tc = crashed_tc old.tc n }))
 TcCrashesTo old more false new = (old.up ≡ false) × (new ≡ old)
 
 -- its device has failed once more, if that is why it isn't opened

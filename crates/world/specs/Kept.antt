@@ -50,7 +50,8 @@ pub record IsBegun (stable session s : ℕ) : Type 0 where
 
 -- the fact holds of what whoever waits for the read of this number reads
 abbrev pub IsTrueOfReader : TcView → ℕ → (Span → Type 0) → Type 0
-IsTrueOfReader w n P = (t : ℕ) (o : OpenTxn) (q : Span) → find t w.open_txns ≡ Some o → o.reading ≡ Some (record { number = n; span = q }) → P q
+IsTrueOfReader w n P = (t : ℕ) (o : OpenTxn) (q : Span) → find t w.open_txns ≡ Some o → o.reading
+    ≡ Some (record { number = n; span = q }) → P q
 
 -- the read was asked in a session that was begun; as long as that is the component's, the fact is true of its reader
 pub record IsReadTrue (w : TcView) (s n : ℕ) (P : Span → Type 0) : Type 0 where

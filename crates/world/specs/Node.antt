@@ -39,7 +39,8 @@ use Rattle.world.specs.Component.{TcSide, DcSide, TcCrashesTo, TcRestartsTo, DcC
 use Rattle.world.specs.Messages.{message_at}
 use Rattle.world.specs.Sent.{IsUnread}
 
--- of each component whether it runs, and what it is, or where it doesn't run will be once it is restarted; every message
+-- of each component whether it runs, and what it is, or where it doesn't run will be once it is restarted; every
+-- message
 -- ever sent stands, the oldest first
 pub record NodeView : Type 0 where
   pub tc_up : Bool
@@ -96,11 +97,13 @@ sends_at _ = false
 
 abbrev pub RecoversTo : NodeView → Out → NodeView → Type 0
 RecoversTo old out.Nothing new = Calls (RecoverGives old.tc (Ok recovery.Nothing)) old new
-RecoversTo old (out.Sent i) new = (request : Request) × RecoverGives old.tc (Ok (recovery.Sends request)) new.tc × Sends old new.tc request i new
+RecoversTo old (out.Sent i) new =
+    (request : Request) × RecoverGives old.tc (Ok (recovery.Sends request)) new.tc × Sends old new.tc request i new
 RecoversTo old (out.Compensated n) new = Calls (RecoverGives old.tc (Ok (recovery.Compensated n))) old new
 RecoversTo old (out.Lost t) new = Calls (RecoverGives old.tc (Ok (recovery.Lost t))) old new
 RecoversTo old (out.Refused r) new =
-    (LacksRoom (recover_refusal old.tc) (sends_at old.tc.phase) r × (new ≡ old)) ⊎ Calls (RecoverGives old.tc (Err r)) old new
+    (LacksRoom (recover_refusal old.tc) (sends_at old.tc.phase) r × (new ≡ old))
+    ⊎ Calls (RecoverGives old.tc (Err r)) old new
 RecoversTo old _ new = ⊥
 
 abbrev pub BeginsTo : NodeView → Out → NodeView → Type 0
@@ -147,18 +150,21 @@ UndoesTo old t (out.Refused r) new = Calls (UndoGives old.tc t (Err r)) old new
 UndoesTo old t _ new = ⊥
 
 abbrev pub ForcesTo : NodeView → Out → NodeView → Type 0
-ForcesTo old (out.Stable end committed) new = Calls (ForceGives old.tc (Ok (record { end = end; committed = committed }))) old new
+ForcesTo old (out.Stable end committed) new =
+    Calls (ForceGives old.tc (Ok (record { end = end; committed = committed }))) old new
 ForcesTo old (out.Refused r) new = Calls (ForceGives old.tc (Err r)) old new
 ForcesTo old _ new = ⊥
 
 abbrev pub SendsTo : NodeView → ℕ → Out → NodeView → Type 0
-SendsTo old t (out.Sent i) new = (request : Request) × ResendGives old.tc t (Ok request) × Sends old old.tc request i new
+SendsTo old t (out.Sent i) new =
+    (request : Request) × ResendGives old.tc t (Ok request) × Sends old old.tc request i new
 SendsTo old t (out.Refused r) new = RefusesAs (resend_refusal old.tc t) r × (new ≡ old)
 SendsTo old t _ new = ⊥
 
 abbrev pub LowersTo : NodeView → ℕ → Out → NodeView → Type 0
 LowersTo old l (out.Sent i) new =
-    LowWaterGives old.tc l (Ok (asks.LowWater old.tc.session l)) new.tc × Sends old new.tc (asks.LowWater old.tc.session l) i new
+    LowWaterGives old.tc l (Ok (asks.LowWater old.tc.session l)) new.tc
+    × Sends old new.tc (asks.LowWater old.tc.session l) i new
 LowersTo old l (out.Refused r) new = (RefusesLow old.tc l r ⊎ (Announces old.tc l × (r ≡ NoMemory))) × (new ≡ old)
 LowersTo old l _ new = ⊥
 
@@ -195,7 +201,8 @@ ServesTo old i (out.Replied j) new =
     × (new ≡ record old { dc = new.dc; replies = old.replies ++ reply ∷ [] })
 ServesTo old i out.Noted new = Served old i (Ok None) new.dc × (new ≡ with_dc old new.dc)
 ServesTo old i (out.Refused r) new =
-    ((IsUnsent old.requests i r ⊎ Unreplied old i r) × (new ≡ old)) ⊎ (Served old i (Err r) new.dc × (new ≡ with_dc old new.dc))
+    ((IsUnsent old.requests i r ⊎ Unreplied old i r) × (new ≡ old))
+    ⊎ (Served old i (Err r) new.dc × (new ≡ with_dc old new.dc))
 ServesTo old i _ new = ⊥
 
 -- an event of a component: refused where that doesn't run
@@ -258,26 +265,30 @@ dc_side w = record { up = w.dc_up; dc = w.dc }
 
 abbrev pub CrashesTcTo : NodeView → ℕ → Out → NodeView → Type 0
 CrashesTcTo old more out.Down new = TcCrashesTo (tc_side old) more true (tc_side new) × BecomesTc old (tc_side new) new
-CrashesTcTo old more out.Nothing new = TcCrashesTo (tc_side old) more false (tc_side new) × BecomesTc old (tc_side new) new
+CrashesTcTo old more out.Nothing new =
+    TcCrashesTo (tc_side old) more false (tc_side new) × BecomesTc old (tc_side new) new
 CrashesTcTo old more _ new = ⊥
 
 abbrev pub RestartsTcTo : NodeView → Out → NodeView → Type 0
 RestartsTcTo old (out.Up count) new =
     TcRestartsTo (tc_side old) (Ok (Some count)) (tc_side new) × BecomesTc old (tc_side new) new
 RestartsTcTo old out.Nothing new = TcRestartsTo (tc_side old) (Ok None) (tc_side new) × BecomesTc old (tc_side new) new
-RestartsTcTo old (out.Refused r) new = TcRestartsTo (tc_side old) (Err r) (tc_side new) × BecomesTc old (tc_side new) new
+RestartsTcTo old (out.Refused r) new =
+    TcRestartsTo (tc_side old) (Err r) (tc_side new) × BecomesTc old (tc_side new) new
 RestartsTcTo old _ new = ⊥
 
 abbrev pub CrashesDcTo : NodeView → ℕ → Out → NodeView → Type 0
 CrashesDcTo old more out.Down new = DcCrashesTo (dc_side old) more true (dc_side new) × BecomesDc old (dc_side new) new
-CrashesDcTo old more out.Nothing new = DcCrashesTo (dc_side old) more false (dc_side new) × BecomesDc old (dc_side new) new
+CrashesDcTo old more out.Nothing new =
+    DcCrashesTo (dc_side old) more false (dc_side new) × BecomesDc old (dc_side new) new
 CrashesDcTo old more _ new = ⊥
 
 abbrev pub RestartsDcTo : NodeView → Out → NodeView → Type 0
 RestartsDcTo old (out.Up count) new =
     DcRestartsTo (dc_side old) (Ok (Some count)) (dc_side new) × BecomesDc old (dc_side new) new
 RestartsDcTo old out.Nothing new = DcRestartsTo (dc_side old) (Ok None) (dc_side new) × BecomesDc old (dc_side new) new
-RestartsDcTo old (out.Refused r) new = DcRestartsTo (dc_side old) (Err r) (dc_side new) × BecomesDc old (dc_side new) new
+RestartsDcTo old (out.Refused r) new =
+    DcRestartsTo (dc_side old) (Err r) (dc_side new) × BecomesDc old (dc_side new) new
 RestartsDcTo old _ new = ⊥
 
 abbrev pub as_out : Told → Out

@@ -20,7 +20,8 @@ use Rattle.simulation.specs.View.{IsCommitAt, standing}
 use Rattle.world.specs.Node.{NodeView}
 use Rattle.world.specs.Simulation.{Stands, IsSettled}
 
--- every leaf is honest for the transactions' log, and has captured stable numbers only: each that is cached, each page and
+-- every leaf is honest for the transactions' log, and has captured stable numbers only: each that is cached, each page
+-- and
 -- each leaf in the data component's log, and each that recovery would give, however much of that log a crash keeps
 pub record AreHonest (w : NodeView) : Type 0 where
   pub cached : AllByRecursion (IsHonestTo w.tc.log w.tc.stable) (leaves w.dc)

@@ -83,7 +83,8 @@ IsForced w =
     ((t : ℕ) × (n : ℕ) × IsDue w t n × (w.stable < n))
     ⊎ (AreUnrolled w.open_txns × AreIdle w.open_txns × (w.stable < length w.log))
 
--- the first round that applies: to restart a component that is down; to connect; to recover, which forces the log for a compensation that isn't stable,
+-- the first round that applies: to restart a component that is down; to connect; to recover, which forces the log for a
+-- compensation that isn't stable,
 -- and logs a record where none is awaited; for an unanswered request to force the log where its record isn't stable,
 -- else to exchange it, as a read always is; to undo; to force what isn't stable
 abbrev pub IsNext : NodeView → Round → Type 0
@@ -148,7 +149,8 @@ pub record Performed (old : NodeView) (events : List Event) (before after : List
   pub steps : Plays old events outs new
 
 -- the events up to a refused one, whose outputs are listed but for that one's
-pub record Stopped (old : NodeView) (events : List Event) (before after : List Out) (r : Refusal) (new : NodeView) : Type 0 where
+pub record Stopped (old : NodeView) (events : List Event) (before after : List Out) (r : Refusal) (new : NodeView) :
+    Type 0 where
   pub outs : List Out
   pub appended : after ≡ before ++ outs
   pub stops : StopsAt old events outs r new
@@ -201,11 +203,14 @@ IsAllowed (Some most) n = n ≤ most
 -- stopped
 abbrev pub Settles : NodeView → Option ℕ → List Out → List Out → Result Bool Refusal → NodeView → Type 0
 Settles old most before after (Ok true) new =
-    (p : Played old before after new) × IsAllowed most (length p.rounds) × (length p.rounds ≤ most_rounds old.tc.log) × IsAtRest new
+    (p : Played old before after new) × IsAllowed most (length p.rounds) × (length p.rounds ≤ most_rounds old.tc.log)
+    × IsAtRest new
 Settles old most before after (Ok false) new =
-    (p : Played old before after new) × (most ≡ Some (length p.rounds)) × (length p.rounds < most_rounds old.tc.log) × ((r : Round) × IsNext new r)
+    (p : Played old before after new) × (most ≡ Some (length p.rounds)) × (length p.rounds < most_rounds old.tc.log)
+    × ((r : Round) × IsNext new r)
 Settles old most before after (Err r) new =
-    (b : Broken old before after r new) × IsAllowed most (length b.rounds.rounds + 1) × (length b.rounds.rounds < most_rounds old.tc.log)
+    (b : Broken old before after r new) × IsAllowed most (length b.rounds.rounds + 1)
+    × (length b.rounds.rounds < most_rounds old.tc.log)
 
 -- one round less is left to play
 abbrev pub fewer : Option ℕ → Option ℕ

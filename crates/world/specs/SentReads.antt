@@ -15,10 +15,12 @@ pub request_reads : (bytes : List ℕ) (place : ℕ) (there : StandsAt Request r
     → request_there bytes place ≡ there.message
 unfolding read_there
 request_reads bytes place there =
-    ap (taken_or (asks.RedoEnd 0)) (request_taken place (drop place bytes) there.message there.rest there.fits there.parts)
+    ap (taken_or (asks.RedoEnd 0))
+    (request_taken place (drop place bytes) there.message there.rest there.fits there.parts)
 
 pub reply_reads : (bytes : List ℕ) (place : ℕ) (there : StandsAt Reply reply_bytes IsFramedReply bytes place)
     → reply_there bytes place ≡ there.message
 unfolding read_there
 reply_reads bytes place there =
-    ap (taken_or (says.RedoEnded 0)) (reply_taken place (drop place bytes) there.message there.rest there.fits.0 there.fits.1 there.parts)
+    ap (taken_or (says.RedoEnded 0))
+    (reply_taken place (drop place bytes) there.message there.rest there.fits.0 there.fits.1 there.parts)

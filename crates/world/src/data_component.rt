@@ -37,8 +37,8 @@ impl DataComponent {
         }
     }
 
-    /// Loses what isn't on the devices; of the records that aren't stable the first stay, so many, and of the next one at
-    /// most so many bytes. False where it is down already.
+    /// Loses what isn't on the devices; of the records that aren't stable the first stay, so many, and of the next one
+    /// at most so many bytes. False where it is down already.
     pub fn crash(&mut self, alloc: Global, frames: u64, bytes: u64) -> bool
         requires { IsRecoverable (dc_of self.old).dc.system }
         ensures { DcCrashesTo (dc_of self.old) frames result (dc_of self.new) }
@@ -55,8 +55,8 @@ impl DataComponent {
         }
     }
 
-    /// Opens it on its devices, and says how many leaves it has. None where it runs already. Refused NoMemory, Device; it
-    /// is down still then.
+    /// Opens it on its devices, and says how many leaves it has. None where it runs already. Refused NoMemory, Device;
+    /// it is down still then.
     pub fn restart(&mut self, alloc: Global) -> Result<Option<usize>, Refusal>
         requires { IsRecoverable (dc_of self.old).dc.system }
         ensures { DcRestartsTo (dc_of self.old) result (dc_of self.new) }

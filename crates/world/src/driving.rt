@@ -19,7 +19,8 @@ use std::alloc::Global;
 pub fn drive(alloc: Global, world: &mut World, events: &[Event]) -> Result<Vec<Out>, Refusal>
     ensures chain { IfOk result (λ outs. Chain world.old events.now outs.items world.new) }
     ensures run { IfOk result (λ outs. LeadsAll world.old events.now outs.items world.new) }
-    ensures rows { (m : Machine) → Stands world.new m → IsSettled world.new → rows_of (leaves world.new.dc) ≡ plain m.h }
+    ensures rows { (m : Machine) → Stands world.new m → IsSettled world.new
+        → rows_of (leaves world.new.dc) ≡ plain m.h }
     ensures refused { OnErr result (world.new ≡ world.old) }
     ensures memory { IsOkUnless result Refusal.NoMemory }
 {

@@ -41,7 +41,8 @@ pub(crate) trait Message: Drop {
         requires { StandsAt Self spell is_spelled bytes.now place }
         ensures found { IfOk result (λ message. message ≡ read_at bytes.now place) }
         ensures spelled { IfOk result (λ message. is_spelled message) }
-        ensures refused { IfErr result (λ refusal. (refusal ≡ Refusal.NoMemory) × (is_long (read_at bytes.now place) ≡ true)) };
+        ensures refused { IfErr result
+            (λ refusal. (refusal ≡ Refusal.NoMemory) × (is_long (read_at bytes.now place) ≡ true)) };
 
     /// What stands at a place is read there.
     ghost reads: { (bytes : List ℕ) (place : ℕ) (there : StandsAt Self spell is_spelled bytes place)

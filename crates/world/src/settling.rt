@@ -10,8 +10,8 @@ use record_key::Refusal;
 
 /// Plays the first round that applies until none is left, or as many as `most` says: true where none is left.
 /// Then both components run in one session, nothing waits, nothing is being rolled back, nobody whom a crash found
-/// open is left and every record is stable. Makes no client's call. Refused NoMemory, NumbersSpent, Device; what was done before stands, with its
-/// outputs in `out`.
+/// open is left and every record is stable. Makes no client's call. Refused NoMemory, NumbersSpent, Device; what was
+/// done before stands, with its outputs in `out`.
 pub fn settle(world: &mut World, most: Option<u64>, out: &mut Vec<Out>) -> Result<bool, Refusal>
     ensures { Settles world.old most out.old.items out.new.items result world.new }
 {

@@ -68,7 +68,8 @@ impl Stopped {
     /// one at most so many bytes.
     pub fn crashed(dc: Dc, frames: u64, bytes: u64) -> Stopped
         requires { IsRecoverable dc.system }
-        ensures { (kept : ℕ) × MayKeep dc.system.stable (length dc.system.log) frames kept × (result ≡ restarted (crashed dc.system kept)) }
+        ensures { (kept : ℕ) × MayKeep dc.system.stable (length dc.system.log) frames kept
+            × (result ≡ restarted (crashed dc.system kept)) }
     {
         dc.kept();
         let end = dc.end_of(dc.records());

@@ -117,7 +117,7 @@ impl Node {
         let TransactionComponent::Up(tc) = &mut self.tc else {
             return Out::Refused(Refusal::NotConnected);
         };
-        attempt!(tc.back(txn, savepoint));
+        attempt!(tc.back_to(txn, savepoint));
         Out::RollingBack
     }
 

@@ -35,8 +35,8 @@ impl TransactionComponent {
         }
     }
 
-    /// Loses what isn't on the device; of the records that aren't stable the first stay, so many, and of the next one at
-    /// most so many bytes. False where it is down already.
+    /// Loses what isn't on the device; of the records that aren't stable the first stay, so many, and of the next one
+    /// at most so many bytes. False where it is down already.
     pub fn crash(&mut self, alloc: Global, frames: u64, bytes: u64) -> bool
         ensures { TcCrashesTo (tc_of self.old) frames result (tc_of self.new) }
     {
@@ -52,8 +52,8 @@ impl TransactionComponent {
         }
     }
 
-    /// Opens it on its device, and says how many records it has. None where it runs already. Refused NoMemory, Device; it
-    /// is down still then.
+    /// Opens it on its device, and says how many records it has. None where it runs already. Refused NoMemory, Device;
+    /// it is down still then.
     pub fn restart(&mut self, alloc: Global) -> Result<Option<u64>, Refusal>
         ensures { TcRestartsTo (tc_of self.old) result (tc_of self.new) }
     {

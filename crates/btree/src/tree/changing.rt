@@ -69,7 +69,8 @@ impl Node {
     pub fn drop_from(&mut self, place: usize, key: &Key, last: u64)
         requires { place < length self.old.leaves }
         ensures changed { IsChangedAt place self.old self.new }
-        ensures lower { get_or self.new.leaves place first ≡ lower_of (get_or self.old.leaves place first) key.now last }
+        ensures lower { get_or self.new.leaves place first
+            ≡ lower_of (get_or self.old.leaves place first) key.now last }
     {
         match &mut self.below {
             Below::Leaf(leaf) => {

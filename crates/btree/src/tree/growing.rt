@@ -52,7 +52,8 @@ impl Node {
         requires counted { length self.old.leaves + 1 < 2 ^ 64 }
         requires spare { AreSpare spare.old.items }
         requires enough { self.old.height ≤ vec_len spare.old }
-        ensures leaves { self.new.leaves ++ under (option_to_list result) ≡ insert self.old.leaves (suc place) leaf.value }
+        ensures leaves { self.new.leaves ++ under (option_to_list result)
+            ≡ insert self.old.leaves (suc place) leaf.value }
         ensures child { IsChild self.old.height self.new }
         ensures right { IfSome result (IsChild self.old.height) }
         ensures spare { AreSpare spare.new.items }
@@ -85,7 +86,8 @@ fn add(children: &mut Vec<Node>, i: usize, node: Node, spare: &mut Vec<Vec<Node>
     requires counted { length (under children.old.items) + length node.leaves < 2 ^ 64 }
     requires spare { AreSpare spare.old.items }
     requires some { 0 < vec_len spare.old }
-    ensures leaves { under children.new.items ++ under (option_to_list result) ≡ under (insert children.old.items i node) }
+    ensures leaves { under children.new.items ++ under (option_to_list result)
+        ≡ under (insert children.old.items i node) }
     ensures children { AreChildren node.height children.new.items }
     ensures most { length children.new.items ≤ 8 }
     ensures least { 0 < length children.old.items → 2 ≤ length children.new.items }

@@ -1,5 +1,5 @@
-//! The transaction component by itself: what is refused, and devices and memory that fail, with replies that are made by
-//! hand. What else its calls do is a script of the shell. Each call stands in a small function of its own without a
+//! The transaction component by itself: what is refused, and devices and memory that fail, with replies that are made
+//! by hand. What else its calls do is a script of the shell. Each call stands in a small function of its own without a
 //! contract, so that a test of several calls is cheap to check.
 mod checkpoints;
 mod committing;
@@ -65,7 +65,7 @@ fn save(tc: &mut Tc<MemLog>, txn: u64) -> Result<u64, Refusal> {
 }
 
 fn back(tc: &mut Tc<MemLog>, txn: u64, savepoint: u64) -> Result<(), Refusal> {
-    tc.back(txn, savepoint)
+    tc.back_to(txn, savepoint)
 }
 
 fn rollback(tc: &mut Tc<MemLog>, txn: u64) -> Result<(), Refusal> {

@@ -16,14 +16,9 @@ all_answered w l h = (answered_whole (length w.log - w.stable) w.log l h).answer
 -- the number is stable
 pub most_stable : (w : TcView) (l : ℕ) → w.stable ≤ length w.log → IsAnsweredTo w l → l ≤ w.stable
 most_stable w l within h =
-    let short : length (stable_part w.log w.stable) ≡ length w.log - (length w.log - w.stable) = length-drop (length w.log - w.stable) w.log in
+    let short : length (stable_part w.log w.stable) ≡ length w.log - (length w.log - w.stable) =
+    length-drop (length w.log - w.stable) w.log in
     omega (arith, h.within, short, within)
-
-pub answered_less : (w : TcView) (n l : ℕ) → n ≤ l → IsAnsweredTo w l → IsAnsweredTo w n
-answered_less w n l less h = record {
-  within = omega (arith, less, h.within);
-  answered = λ m o below asks. h.answered m o (omega (arith, below, less)) asks;
-}
 
 -- so it stays where more is stable
 pub part_grows : (log : List Record) (s t l : ℕ) → s ≤ t → t ≤ length log → FitsCheckpoint (stable_part log s) l

@@ -29,6 +29,7 @@ own_low w key k = all_at (IsLowAnswered w.tc) (leaves w.dc) key k.dc.system.leav
 pub low_captured : (w : NodeView) (l n : ℕ) (key : Bytes) → IsKept w → IsChecked l w.dc.system → n ≤ l
     → captures_at w.dc key n ≡ true
 low_captured w l n key k checked below =
-    let low : l ≤ (leaf_at (leaves w.dc) key).ab.low = all_at (IsLow l) (leaves w.dc) key k.dc.system.leaves checked.leaves in
+    let low : l ≤ (leaf_at (leaves w.dc) key).ab.low =
+    all_at (IsLow l) (leaves w.dc) key k.dc.system.leaves checked.leaves in
     let within : nat_le n (leaf_at (leaves w.dc) key).ab.low ≡ true = grind (arith, nat_tests, low, below) in
     rw within refl

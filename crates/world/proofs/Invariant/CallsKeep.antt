@@ -78,12 +78,14 @@ pub reconnect_keeps : (old new : TcView) (x : Result Connecting Refusal) → IsT
     → IsTc new
 reconnect_keeps old new (Ok c) k h = subst IsTc (sym h.3) (keeps_session old k (unspent (is_spent old.log) h.0))
 reconnect_keeps old new (Err r) k (inl h) = refused_keeps (spent_refusal old.log) true true old new r k h
-reconnect_keeps old new (Err r) k (inr h) = subst IsTc (sym h.2) (keeps_failed (logged_session old) (session_keeps old k h.0))
+reconnect_keeps old new (Err r) k (inr h) =
+    subst IsTc (sym h.2) (keeps_failed (logged_session old) (session_keeps old k h.0))
 
 pub begin_keeps : (old new : TcView) (x : Result ℕ Refusal) → IsTc old → BeginGives old x new → IsTc new
 begin_keeps old new (Ok t) k h =
     let two = two_false (is_full old.open_txns) (is_spent old.log) Full NumbersSpent
-    (both_none (serving_refusal old) (first_of ((is_full old.open_txns, Full) ∷ (is_spent old.log, NumbersSpent) ∷ [])) h.0).1 in
+    (both_none (serving_refusal old) (first_of ((is_full old.open_txns, Full) ∷ (is_spent old.log, NumbersSpent) ∷ []))
+    h.0).1 in
     subst IsTc (sym h.2) (keeps_begin old k (grind (arith, nat_tests, two.0)) two.1)
 begin_keeps old new (Err r) k h = refused_keeps (begin_refusal old) true true old new r k h
 
@@ -99,26 +101,37 @@ pub act_keeps : (old new : TcView) (t : ℕ) (op : Op) (x : Result ℕ Refusal) 
 act_keeps old new t op (Ok n) k h =
     let o : OpenTxn = h.open_txn in
     let idle = idle_found old t o h.at h.allowed in
-    let free : IsFree old.locks o.txn (at_key Exclusive (key_of op)) = subst (λ (x : ℕ). IsFree old.locks x (at_key Exclusive (key_of op))) (sym h.at.number) h.free in
-    subst IsTc (sym h.acted) (keeps_act old o op k h.at.is idle.waiting idle.reading idle.rolling free (unspent (is_spent old.log) h.unspent))
-act_keeps old new t op (Err r) k h = taking_keeps (idle_refusal old t) (spent_refusal old.log) true old new t (at_key Exclusive (key_of op)) r k h
+    let free : IsFree old.locks o.txn (at_key Exclusive (key_of op)) =
+    subst (λ (x : ℕ). IsFree old.locks x (at_key Exclusive (key_of op))) (sym h.at.number) h.free in
+    subst IsTc (sym h.acted)
+    (keeps_act old o op k h.at.is idle.waiting idle.reading idle.rolling free
+    (unspent (is_spent old.log) h.unspent))
+act_keeps old new t op (Err r) k h =
+    taking_keeps (idle_refusal old t) (spent_refusal old.log) true old new t (at_key Exclusive (key_of op)) r k h
 
 pub read_keeps : (old new : TcView) (t : ℕ) (s : Span) (x : Result ℕ Refusal) → IsTc old → ReadGives old t s x new
     → IsTc new
 read_keeps old new t s (Ok n) k h =
     let o : OpenTxn = h.open_txn in
-    let allowed = both_none (first_of ((not (ends_above (shared s).hi (shared s).lo), BadRange) ∷ [])) (idle_refusal old t) h.allowed in
+    let allowed = both_none (first_of ((not (ends_above (shared s).hi (shared s).lo), BadRange) ∷ []))
+    (idle_refusal old t) h.allowed in
     let idle = idle_found old t o h.at allowed.1 in
-    let range : IsRange (shared s) = not_not (ends_above (shared s).hi (shared s).lo) (one_false (not (ends_above (shared s).hi (shared s).lo)) BadRange allowed.0) in
-    let free : IsFree old.locks o.txn (shared s) = subst (λ (x : ℕ). IsFree old.locks x (shared s)) (sym h.at.number) h.free in
+    let range : IsRange (shared s) =
+    not_not (ends_above (shared s).hi (shared s).lo)
+    (one_false (not (ends_above (shared s).hi (shared s).lo)) BadRange allowed.0) in
+    let free : IsFree old.locks o.txn (shared s) =
+    subst (λ (x : ℕ). IsFree old.locks x (shared s)) (sym h.at.number) h.free in
     let less = unspent (nat_le 281474976710655 old.reads) h.unspent in
-    subst IsTc (sym h.asked) (keeps_ask old o s k h.at.is idle.waiting idle.rolling range free (grind (arith, nat_tests, less)))
+    subst IsTc (sym h.asked)
+    (keeps_ask old o s k h.at.is idle.waiting idle.rolling range free (grind (arith, nat_tests, less)))
 read_keeps old new t s (Err r) k h = taking_keeps _ (reads_spent old.reads) false old new t (shared s) r k h
 
 pub save_keeps : (old new : TcView) (t : ℕ) (x : Result ℕ Refusal) → IsTc old → SaveGives old t x new → IsTc new
 save_keeps old new t (Ok s) k h =
     let o : OpenTxn = h.open_txn in
-    let idle = idle_found old t o h.at (both_none (idle_refusal old t) (first_of ((nat_le 16 (length (saves_of (find t old.open_txns))), Full) ∷ [])) h.allowed).0 in
+    let idle = idle_found old t o h.at
+    (both_none (idle_refusal old t) (first_of ((nat_le 16 (length (saves_of (find t old.open_txns))), Full) ∷ []))
+    h.allowed).0 in
     subst IsTc (sym h.saved) (keeps_save old o k h.at.is idle.waiting idle.reading)
 save_keeps old new t (Err r) k h = refused_keeps _ true false old new r k h
 
@@ -126,14 +139,17 @@ pub back_keeps : (old new : TcView) (t s : ℕ) (x : Result (Unit {0}) Refusal) 
     → IsTc new
 back_keeps old new t s (Ok u) k h =
     let o : OpenTxn = h.open_txn in
-    let idle = idle_found old t o h.at (both_none (idle_refusal old t) (first_of ((not (has_savepoint (saves_of (find t old.open_txns)) s), BadSavepoint) ∷ [])) h.allowed).0 in
+    let idle = idle_found old t o h.at
+    (both_none (idle_refusal old t)
+    (first_of ((not (has_savepoint (saves_of (find t old.open_txns)) s), BadSavepoint) ∷ [])) h.allowed).0 in
     subst IsTc (sym h.going) (keeps_back old o k h.at.is idle.waiting idle.reading s h.end h.savepoint)
 back_keeps old new t s (Err r) k h = refused_keeps _ false false old new r k h
 
 pub rollback_keeps : (old new : TcView) (t : ℕ) (x : Result (Unit {0}) Refusal) → IsTc old → RollbackGives old t x new
     → IsTc new
 rollback_keeps old new t (Ok u) k h =
-    let idle = idle_found old t h.open_txn h.at h.allowed in subst IsTc (sym h.rolled) (keeps_rollback old h.open_txn k h.at.is idle.waiting idle.reading)
+    let idle = idle_found old t h.open_txn h.at h.allowed in
+    subst IsTc (sym h.rolled) (keeps_rollback old h.open_txn k h.at.is idle.waiting idle.reading)
 rollback_keeps old new t (Err r) k h = refused_keeps (idle_refusal old t) false false old new r k h
 
 -- the transaction that a commit names was found idle
@@ -151,14 +167,18 @@ commit_found w t h = by (find t w.open_txns) refl
     by : (x : Option OpenTxn) → find t w.open_txns ≡ x → IsIdleAt w t
     by None none = absurd (true≢false (sym (found_idle w t allowed) ∙ ap is_some none))
     by (Some o) some =
-        let at : IsAt w t o = record { is = Rattle.tc_core.proofs.Finding.found_own t w.open_txns o some; number = Rattle.tc_core.proofs.Finding.found_number t w.open_txns o some } in
+        let at : IsAt w t o = record {
+          is = Rattle.tc_core.proofs.Finding.found_own t w.open_txns o some;
+          number = Rattle.tc_core.proofs.Finding.found_number t w.open_txns o some;
+        } in
         record { open_txn = o; at = at; idle = idle_found w t o at allowed }
 
 pub commit_keeps : (old new : TcView) (t : ℕ) (x : Result ℕ Refusal) → IsTc old → CommitGives old t x new → IsTc new
 commit_keeps old new t (Ok n) k h =
     let found = commit_found old t h.0 in
     let free = unspent (is_spent old.log) (both_none (idle_refusal old t) (spent_refusal old.log) h.0).1 in
-    subst IsTc (sym h.2) (subst (λ (x : ℕ). IsTc (committed old x)) found.at.number (keeps_commit old found.open_txn k found.at.is found.idle.waiting free))
+    subst IsTc (sym h.2) (subst (λ (x : ℕ). IsTc (committed old x)) found.at.number
+    (keeps_commit old found.open_txn k found.at.is found.idle.waiting free))
 commit_keeps old new t (Err r) k h = refused_keeps (commit_refusal old t) true true old new r k h
 
 pub force_keeps : (old new : TcView) (x : Result Forced Refusal) → IsTc old → ForceGives old x new → IsTc new
@@ -191,13 +211,16 @@ fits_comp w o k at none some = by (undo_found w o k at)
           idle = idle;
           latest = latest;
           next = earlier_found w.log o.txn o.undo k.legal stands;
-          inverse = inverted (answer_of w.log o.undo) refl stands.op stands.is (idle o.undo stands.op (op_step o.txn stands.op (record_at w.log o.undo) stands.is) (op_request o.txn stands.op (record_at w.log o.undo) stands.is));
+          inverse = inverted (answer_of w.log o.undo) refl stands.op stands.is
+              (idle o.undo stands.op (op_step o.txn stands.op (record_at w.log o.undo) stands.is)
+              (op_request o.txn stands.op (record_at w.log o.undo) stands.is));
         }
       where
         inverted : (a : Option Answer) → answer_of w.log o.undo ≡ a → (op : Op) → IsOpBy w.log o.undo o.txn op
             → IsSome (answer_of w.log o.undo) → Inverts w.log o.undo (inverse_at w.log o.undo)
         inverted None is op by some = absurd (true≢false (sym some ∙ ap is_some is))
-        inverted (Some a) is op by some = record { txn = o.txn; op = op; answer = a; is = by; answered = is; inverse = rw (by, is) refl }
+        inverted (Some a) is op by some =
+            record { txn = o.txn; op = op; answer = a; is = by; answered = is; inverse = rw (by, is) refl }
 
 -- a step of a rollback
 logged_unspent : (l s : Bool) → l ≡ true → first_of ((l && s, NumbersSpent) ∷ []) ≡ None → s ≡ false
@@ -213,35 +236,49 @@ undoes_keeps old new t o None (undo.Back u s) k at allowed rolling h = absurd h
 undoes_keeps old new t o (Some r) undo.Idle k at allowed rolling h = absurd h
 undoes_keeps old new t o (Some r) (undo.Compensated n) k at allowed rolling h =
     let found = at_number old t o at in
-    let both = both_none (answered_refusal old t) (first_of ((undo_logs (find t old.open_txns) && is_spent old.log, NumbersSpent) ∷ [])) allowed in
+    let both = both_none (answered_refusal old t)
+    (first_of ((undo_logs (find t old.open_txns) && is_spent old.log, NumbersSpent) ∷ [])) allowed in
     let above : nat_lt r.above o.undo ≡ true = grind (arith, nat_tests, h.0) in
-    let logged : undo_logs (find t old.open_txns) ≡ true = ap undo_logs found ∙ ap (logs_next o.undo) rolling ∙ ap (λ b. b || not (is_some r.savepoint)) above in
+    let logged : undo_logs (find t old.open_txns) ≡ true =
+    ap undo_logs found ∙ ap (logs_next o.undo) rolling ∙ ap (λ b. b || not (is_some r.savepoint)) above in
     let none = waits_for_none old t o at both.0 in
-    subst IsTc (sym h.2) (keeps_comp old o r k at.is none.0 rolling (fits_comp old o k at.is none.0 (omega (arith, h.0))) (logged_unspent (undo_logs (find t old.open_txns)) (is_spent old.log) logged both.1))
+    subst IsTc (sym h.2) (keeps_comp old o r k at.is none.0 rolling
+    (fits_comp old o k at.is none.0 (omega (arith, h.0)))
+    (logged_unspent (undo_logs (find t old.open_txns)) (is_spent old.log) logged both.1))
 undoes_keeps old new t o (Some r) (undo.RolledBack u) k at allowed rolling h =
     let found = at_number old t o at in
-    let both = both_none (answered_refusal old t) (first_of ((undo_logs (find t old.open_txns) && is_spent old.log, NumbersSpent) ∷ [])) allowed in
+    let both = both_none (answered_refusal old t)
+    (first_of ((undo_logs (find t old.open_txns) && is_spent old.log, NumbersSpent) ∷ [])) allowed in
     let logged : undo_logs (find t old.open_txns) ≡ true =
-    ap undo_logs found ∙ ap (logs_next o.undo) rolling ∙ ap (λ (s : Option ℕ). nat_lt r.above o.undo || not (is_some s)) h.1 ∙ or-true (nat_lt r.above o.undo) in
+    ap undo_logs found ∙ ap (logs_next o.undo) rolling
+    ∙ ap (λ (s : Option ℕ). nat_lt r.above o.undo || not (is_some s)) h.1 ∙ or-true (nat_lt r.above o.undo) in
     let none = waits_for_none old t o at both.0 in
     let zero : r.above ≡ 0 = ((open_at old o k at.is).rolling r rolling).whole h.1 in
-    let undone : IsUndone old.log o.txn 0 = λ n stands. omega (arith, undone_above old o r k at.is h.0 n stands, zero) in
-    subst IsTc (sym h.3) (keeps_end old o k at.is (fits_end old o k at.is none.0 undone) (logged_unspent (undo_logs (find t old.open_txns)) (is_spent old.log) logged both.1))
+    let undone : IsUndone old.log o.txn 0 =
+    λ n stands. omega (arith, undone_above old o r k at.is h.0 n stands, zero) in
+    subst IsTc (sym h.3) (keeps_end old o k at.is (fits_end old o k at.is none.0 undone)
+    (logged_unspent (undo_logs (find t old.open_txns)) (is_spent old.log) logged both.1))
 undoes_keeps old new t o (Some r) (undo.Back u s) k at allowed rolling h =
-    let both = both_none (answered_refusal old t) (first_of ((undo_logs (find t old.open_txns) && is_spent old.log, NumbersSpent) ∷ [])) allowed in
+    let both = both_none (answered_refusal old t)
+    (first_of ((undo_logs (find t old.open_txns) && is_spent old.log, NumbersSpent) ∷ [])) allowed in
     let none = waits_for_none old t o at both.0 in
     subst IsTc (sym h.3) (keeps_is_back old o k at.is none.0 none.1)
 
 pub undo_keeps : (old new : TcView) (t : ℕ) (x : Result UndoStep Refusal) → IsTc old → UndoGives old t x new → IsTc new
-undo_keeps old new t (Ok step) k h = undoes_keeps old new t h.open_txn h.open_txn.rolling step k h.at h.allowed refl h.undoes
-undo_keeps old new t (Err r) k h = refused_keeps (undo_refusal old t) (undo_logs (find t old.open_txns)) (undo_logs (find t old.open_txns)) old new r k h
+undo_keeps old new t (Ok step) k h =
+    undoes_keeps old new t h.open_txn h.open_txn.rolling step k h.at h.allowed refl h.undoes
+undo_keeps old new t (Err r) k h =
+    refused_keeps (undo_refusal old t) (undo_logs (find t old.open_txns)) (undo_logs (find t old.open_txns)) old new r k
+    h
 
 -- a request of recovery
 redoing_keeps : (w : TcView) (next : ℕ) (ending : Bool) (found : Option (ℕ × Op)) → IsTc w
     → w.phase ≡ phase.Redoing next ending → next ≤ w.session
     → FindsRequest w.log next w.session found → IsTc (redoing w (redo_place w.session found) (not (is_some found)))
-redoing_keeps w next ending None k at most h = keeps_redoing w k next ending w.session true at most (omega arith) (λ e. refl) h
-redoing_keeps w next ending (Some x) k at most h = keeps_redoing w k next ending x.0 false at h.0 (omega (arith, h.1)) (λ e. absurd (true≢false (sym e))) h.3
+redoing_keeps w next ending None k at most h =
+    keeps_redoing w k next ending w.session true at most (omega arith) (λ e. refl) h
+redoing_keeps w next ending (Some x) k at most h =
+    keeps_redoing w k next ending x.0 false at h.0 (omega (arith, h.1)) (λ e. absurd (true≢false (sym e))) h.3
 
 sends_keeps : (old new : TcView) (p : Phase) (q : Request) → IsTc old → old.phase ≡ p → SendsAt old p q new → IsTc new
 sends_keeps old new phase.Unconnected q k at h = absurd h
@@ -270,7 +307,8 @@ answered_keeps w n a k allowed = pick (takes w.session w.phase n) refl
     unawaited takes a none free false lacks_none = keeps_passed w n takes (not_lacking w n lacks_none) k
     unawaited takes None none free true lacking = k
     unawaited takes (Some a) none free true lacking =
-        keeps_lost_answer w k n a lacking none takes (logged_unspent (is_logged w n (Some a) None) (is_spent w.log) (rw (takes, lacking) refl) free)
+        keeps_lost_answer w k n a lacking none takes
+        (logged_unspent (is_logged w n (Some a) None) (is_spent w.log) (rw (takes, lacking) refl) free)
 
     taken : takes w.session w.phase n ≡ true → (a : Option Answer) (x : Option OpenTxn) → awaiting w n ≡ x
         → first_of ((is_logged w n a x && is_spent w.log, NumbersSpent) ∷ []) ≡ None
@@ -279,7 +317,9 @@ answered_keeps w n a k allowed = pick (takes w.session w.phase n) refl
     taken takes None (Some o) some free = k
     taken takes (Some a) (Some o) some free =
         let at = awaited_is w n o some in
-        keeps_passed (answered w o n a) n takes (λ q asks. newly_answered w.log n a) (keeps_answer w o n a k at.0 at.1 (logged_unspent (is_logged w n (Some a) (Some o)) (is_spent w.log) takes free))
+        keeps_passed (answered w o n a) n takes (λ q asks. newly_answered w.log n a)
+        (keeps_answer w o n a k at.0 at.1
+        (logged_unspent (is_logged w n (Some a) (Some o)) (is_spent w.log) takes free))
 
     pick : (b : Bool) → takes w.session w.phase n ≡ b
         → IsTc (if b then on_awaited w n a (awaiting w n) else (told.Nothing, w)).1
@@ -310,7 +350,8 @@ checkpointed_keeps w l k free = pick (is_number w.checkpointing l) refl
     logged_if b = if b then (told.CheckpointLogged (length w.log + 1), checkpointed w l) else (told.Nothing, w)
 
     pick : (b : Bool) → is_number w.checkpointing l ≡ b → IsTc (logged_if b).1
-    pick true asks = keeps_checkpointed w k l (number_is w.checkpointing l asks) (logged_unspent (is_number w.checkpointing l) (is_spent w.log) asks free)
+    pick true asks = keeps_checkpointed w k l (number_is w.checkpointing l asks)
+        (logged_unspent (is_number w.checkpointing l) (is_spent w.log) asks free)
     pick false other = k
 
 row_keeps : (w : TcView) (n : ℕ) (v : Option Bytes) (x : Option OpenTxn) → IsTc w → reader w n ≡ x
@@ -340,14 +381,17 @@ rows_keeps w n rows (Some o) k at = pick (is_range (span_read o.reading))
 -- what isn't refused is allowed as an answer is
 not_spent : (stale : Bool) (l : Bool) → first_of ((stale, Stale) ∷ (l, NumbersSpent) ∷ []) ≡ None
     → first_of ((l, NumbersSpent) ∷ []) ≡ None
-not_spent stale l h = let two = two_false stale l Stale NumbersSpent h in ap (λ b. first_of ((b, NumbersSpent) ∷ [])) two.1
+not_spent stale l h = let two = two_false stale l Stale NumbersSpent h in
+    ap (λ b. first_of ((b, NumbersSpent) ∷ [])) two.1
 
 outcome_keeps : (w : TcView) (reply : Reply) → IsTc w → reply_refusal w reply ≡ None → IsTc (on_reply w reply).1
 outcome_keeps w (says.Connected s) k h = connected_keeps w w.phase k refl
-outcome_keeps w (says.Answered s n a) k h = answered_keeps w n a k (not_spent (is_stale w s) (is_logged w n a (awaiting w n) && is_spent w.log) h)
+outcome_keeps w (says.Answered s n a) k h =
+    answered_keeps w n a k (not_spent (is_stale w s) (is_logged w n a (awaiting w n) && is_spent w.log) h)
 outcome_keeps w (says.Row s n v) k h = row_keeps w n v (reader w n) k refl
 outcome_keeps w (says.Rows s n rows) k h = rows_keeps w n rows (reader w n) k refl
-outcome_keeps w (says.Checkpointed s l) k h = checkpointed_keeps w l k (not_spent (is_stale w s) (is_number w.checkpointing l && is_spent w.log) h)
+outcome_keeps w (says.Checkpointed s l) k h =
+    checkpointed_keeps w l k (not_spent (is_stale w s) (is_number w.checkpointing l && is_spent w.log) h)
 outcome_keeps w (says.RedoEnded s) k h = redo_ended_keeps w w.phase k refl
 
 pub reply_keeps : (old new : TcView) (reply : Reply) (x : Result Told Refusal) → IsTc old → ReplyGives old reply x new

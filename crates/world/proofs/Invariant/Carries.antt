@@ -21,7 +21,8 @@ use Rattle.world.specs.Node.{NodeView, with_dc}
 use Rattle.world.specs.Kept.{IsKept, InSession, IsSent, IsAnswered, IsGiven, IsTrueTo, AreSessions, AnsweredAreCaptured, EarlierAreCaptured}
 use Rattle.world.proofs.Invariant.Running.{run_is, some_session}
 
--- where a session runs it ran before, as far past its redo at least, and no request's number was lost at its key; nor is
+-- where a session runs it ran before, as far past its redo at least, and no request's number was lost at its key; nor
+-- is
 -- a leaf less low
 pub record Carries (w : NodeView) (dc : DcView) : Type 0 where
   pub captured : dc.session ≢ 0 → (n : ℕ) (o : Op) → Requests w.tc.log n o → captures_at w.dc (key_of o) n ≡ true
@@ -55,14 +56,19 @@ module _ (w : NodeView) (dc : DcView) (k : IsKept w) (is : IsDc dc) (c : Carries
 
   sent_carried : (q : Request) → IsSent w.tc w.dc q → IsSent w.tc dc q
   sent_carried (asks.Connect s) h = h
-  sent_carried (asks.Perform s n o) h =
-      (h.0, h.1, carried s (EarlierAreCaptured w.tc.log w.dc n (key_of o)) (EarlierAreCaptured w.tc.log dc n (key_of o)) (earlier_carried s n (key_of o)) h.2)
+  sent_carried (asks.Perform s n o) h = (
+    h.0,
+    h.1,
+    carried s (EarlierAreCaptured w.tc.log w.dc n (key_of o)) (EarlierAreCaptured w.tc.log dc n (key_of o))
+        (earlier_carried s n (key_of o)) h.2,
+  )
   sent_carried (asks.Get s n key) h = h
   sent_carried (asks.Scan s n low high) h = h
   sent_carried (asks.LowWater s l) h = h
   sent_carried (asks.Checkpoint s l) h = h
   sent_carried (asks.RedoEnd s) h =
-      carried s (AnsweredAreCaptured w.tc.log w.dc) (AnsweredAreCaptured w.tc.log dc) (λ r. all_carried (some_run s r)) h
+      carried s (AnsweredAreCaptured w.tc.log w.dc) (AnsweredAreCaptured w.tc.log dc) (λ r. all_carried (some_run s r))
+      h
 
   answered_carried : (s n : ℕ) (a : Option Answer) → IsAnswered w.tc w.dc s n a → IsAnswered w.tc dc s n a
   answered_carried s n a h = record {
@@ -80,7 +86,8 @@ module _ (w : NodeView) (dc : DcView) (k : IsKept w) (is : IsDc dc) (c : Carries
   given_carried (says.Row s m v) h = h
   given_carried (says.Rows s m rows) h = h
   given_carried (says.Checkpointed s l) h = c.checks l h
-  given_carried (says.RedoEnded s) h = record { begun = omega (arith, h.begun, c.stored); holds = λ r. c.past s h.begun r (h.holds (c.ran s h.begun r)) }
+  given_carried (says.RedoEnded s) h =
+      record { begun = omega (arith, h.begun, c.stored); holds = λ r. c.past s h.begun r (h.holds (c.ran s h.begun r)) }
 
   -- what is past redo now was, or its redo has ended
   pub keeps_dc : IsRecoverable dc.system → IsTrueTo w.tc dc.system

@@ -80,7 +80,8 @@ pub record GoesOn (old new : TcView) : Type 0 where
 answered_on : (old new : TcView) (l : ℕ) → GoesOn old new → IsAnsweredTo old l → IsAnsweredTo new l
 answered_on old new l on h =
     part_grows new.log old.stable new.stable l on.stable on.now_within
-    (extend (λ log. FitsCheckpoint (stable_part log old.stable) l) old.log new.log on.log (λ r. may_longer r old.log old.stable l on.within) h)
+    (extend (λ log. FitsCheckpoint (stable_part log old.stable) l) old.log new.log on.log
+    (λ r. may_longer r old.log old.stable l on.within) h)
 
 pub begun_on : (old new : TcView) (s : ℕ) → GoesOn old new → IsBegun old.stable old.session s
     → IsBegun new.stable new.session s
@@ -101,7 +102,8 @@ same_session old new s on begun is = elim on.session [
 
 -- what is said of a reader stays, where it does for each span
 told_on : (old new : TcView) (s n : ℕ) (P Q : Span → Type 0) → GoesOn old new
-    → ((t : ℕ) (x : OpenTxn) (q : Span) → find t new.open_txns ≡ Some x → x.reading ≡ Some (record { number = n; span = q }) → P q → Q q)
+    → ((t : ℕ) (x : OpenTxn) (q : Span) → find t new.open_txns ≡ Some x → x.reading
+    ≡ Some (record { number = n; span = q }) → P q → Q q)
     → IsReadTrue old s n P → IsReadTrue new s n Q
 told_on old new s n P Q on from h = record {
   some = h.some;
@@ -121,7 +123,8 @@ Captures old new dc = dc.session ≢ 0 → AnsweredAreCaptured old.log dc → An
 earlier_longer : (r : Record) (log : List Record) (dc : DcView) (n : ℕ) (key : Bytes) → n ≤ length log
     → EarlierAreCaptured log dc n key
     → EarlierAreCaptured (r ∷ log) dc n key
-earlier_longer r log dc n key within h m o asks below = h m o (older_at (ARequest o) r log m (λ e. omega (arith, e, within, below)) asks) below
+earlier_longer r log dc n key within h m o asks below =
+    h m o (older_at (ARequest o) r log m (λ e. omega (arith, e, within, below)) asks) below
 
 pub sent_on : (old new : TcView) (dc : DcView) → GoesOn old new → Captures old new dc → (q : Request)
     → IsSent old dc q → IsSent new dc q
@@ -130,11 +133,14 @@ sent_on old new dc on captured (asks.Perform s n o) h = (
   omega (arith, h.0, on.stable),
   extend (λ log. Requests log n o) old.log new.log on.log (λ r. request_longer r old.log n o) h.1,
   extend (λ log. InSession dc s (EarlierAreCaptured log dc n (key_of o))) old.log new.log on.log
-      (λ r. in_session dc s (EarlierAreCaptured old.log dc n (key_of o)) (EarlierAreCaptured (r ∷ old.log) dc n (key_of o))
+      (λ r. in_session dc s (EarlierAreCaptured old.log dc n (key_of o))
+      (EarlierAreCaptured (r ∷ old.log) dc n (key_of o))
       (λ running. earlier_longer r old.log dc n (key_of o) (omega (arith, h.0, on.within)))) h.2,
 )
-sent_on old new dc on captured (asks.Get s n k) h = told_on old new s n (λ q. q ≡ Key k) (λ q. q ≡ Key k) on (λ t x q found reading is. is) h
-sent_on old new dc on captured (asks.Scan s n low high) h = told_on old new s n (λ q. q ≡ Range low high) (λ q. q ≡ Range low high) on (λ t x q found reading is. is) h
+sent_on old new dc on captured (asks.Get s n k) h =
+    told_on old new s n (λ q. q ≡ Key k) (λ q. q ≡ Key k) on (λ t x q found reading is. is) h
+sent_on old new dc on captured (asks.Scan s n low high) h =
+    told_on old new s n (λ q. q ≡ Range low high) (λ q. q ≡ Range low high) on (λ t x q found reading is. is) h
 sent_on old new dc on captured (asks.LowWater s l) h = answered_on old new l on h
 sent_on old new dc on captured (asks.Checkpoint s l) h = answered_on old new l on h
 sent_on old new dc on captured (asks.RedoEnd s) h =
@@ -144,13 +150,15 @@ sent_on old new dc on captured (asks.RedoEnd s) h =
 right_on : (old new : TcView) (n : ℕ) (o : Op) (a : Option Answer) → GoesOn old new → Requests old.log n o
     → IsRightOrNone old n a → IsRightOrNone new n a
 right_on old new n o None on asks h = answered_on old new n on h
-right_on old new n o (Some a) on asks h = extend (λ log. IsRight log n a) old.log new.log on.log (λ r. right_longer r old.log n o a asks) h
+right_on old new n o (Some a) on asks h =
+    extend (λ log. IsRight log n a) old.log new.log on.log (λ r. right_longer r old.log n o a asks) h
 
 answer_on : (old new : TcView) (dc : DcView) (s n : ℕ) (a : Option Answer) → GoesOn old new → IsAnswered old dc s n a
     → IsAnswered new dc s n a
 answer_on old new dc s n a on h = record {
   op = h.op;
-  requests = extend (λ log. Requests log n h.op) old.log new.log on.log (λ r. request_longer r old.log n h.op) h.requests;
+  requests = extend (λ log. Requests log n h.op) old.log new.log on.log (λ r. request_longer r old.log n h.op)
+      h.requests;
   stable = omega (arith, h.stable, on.stable);
   answer = right_on old new n h.op a on h.requests h.answer;
   captured = h.captured;
@@ -181,17 +189,21 @@ value_stays : (old new : TcView) → BothKept old new → Extends old.log new.lo
     → x.reading ≡ Some (record { number = n; span = q }) → (key : Bytes) → is_within (shared q) key ≡ true
     → value_on key new.log ≡ value_on key old.log
 value_stays old new both (inl same) t x n q found reading key within = ap (value_on key) same
-value_stays old new both (inr grown) t x n q found reading key within = ap (value_on key) grown.1 ∙ by (request_of grown.0) refl
+value_stays old new both (inr grown) t x n q found reading key within =
+    ap (value_on key) grown.1 ∙ by (request_of grown.0) refl
   where
     by : (y : Option Op) → request_of grown.0 ≡ y → value_with key y (value_on key old.log) ≡ value_on key old.log
     by None none = refl
     by (Some o) some =
         let next : ℕ = length old.log + 1 in
         let asks : Requests new.log next o =
-        subst (λ (log : List Record). Requests log next o) (sym grown.1) (at_newest (ARequest o) grown.0 old.log next refl some) in
+        subst (λ (log : List Record). Requests log next o) (sym grown.1)
+        (at_newest (ARequest o) grown.0 old.log next refl some) in
         let none : answer_of new.log next ≡ None =
-        subst (λ (log : List Record). answer_of log next ≡ None) (sym grown.1) (unanswered_new grown.0 old.log o both.was.legal some) in
-        let other = unread new x (record { number = n; span = q }) next o both.now (found_own t new.open_txns x found) reading asks none in
+        subst (λ (log : List Record). answer_of log next ≡ None) (sym grown.1)
+        (unanswered_new grown.0 old.log o both.was.legal some) in
+        let other = unread new x (record { number = n; span = q }) next o both.now (found_own t new.open_txns x found)
+        reading asks none in
         elim (cases_Bool (is_on key o)) [
           | inl on ↦ absurd (true≢false (sym within ∙ ap (is_within (shared q)) (sym (key_on key o on)) ∙ other))
           | inr off ↦ rw off refl
@@ -211,7 +223,8 @@ rows_on_span old new rows both on t x n (Key key) found reading h = h
 rows_on_span old new rows both on t x n (Range low high) found reading h = record {
   table = h.table;
   rows_are = h.rows_are;
-  values = λ key within. h.values key within ∙ sym (value_stays old new both on.log t x n (Range low high) found reading key within);
+  values = λ key within. h.values key within
+      ∙ sym (value_stays old new both on.log t x n (Range low high) found reading key within);
 }
 
 -- what was replied of a read that is still waited for
@@ -220,9 +233,11 @@ pub given_on : (old new : TcView) (dc : DcView) → BothKept old new → GoesOn 
 given_on old new dc both on (says.Connected s) h = h
 given_on old new dc both on (says.Answered s n a) h = answer_on old new dc s n a on h
 given_on old new dc both on (says.Row s n v) h =
-    told_on old new s n (IsValue old.log v) (IsValue new.log v) on (λ t x q found reading. value_on_span old new v both on t x n q found reading) h
+    told_on old new s n (IsValue old.log v) (IsValue new.log v) on
+    (λ t x q found reading. value_on_span old new v both on t x n q found reading) h
 given_on old new dc both on (says.Rows s n rows) h =
-    told_on old new s n (AreRows old.log rows) (AreRows new.log rows) on (λ t x q found reading. rows_on_span old new rows both on t x n q found reading) h
+    told_on old new s n (AreRows old.log rows) (AreRows new.log rows) on
+    (λ t x q found reading. rows_on_span old new rows both on t x n q found reading) h
 given_on old new dc both on (says.Checkpointed s l) h = h
 given_on old new dc both on (says.RedoEnded s) h = h
 
@@ -230,7 +245,8 @@ given_on old new dc both on (says.RedoEnded s) h = h
 honest_to_on : (old new : TcView) → GoesOn old new → (leaf : LeafView) → IsHonestTo old.log old.stable leaf
     → IsHonestTo new.log new.stable leaf
 honest_to_on old new on leaf h = record {
-  honest = extend (λ log. IsHonestLeaf log leaf) old.log new.log on.log (λ r. honest_uncaptured r old.log leaf next) h.honest;
+  honest = extend (λ log. IsHonestLeaf log leaf) old.log new.log on.log (λ r. honest_uncaptured r old.log leaf next)
+      h.honest;
   within = λ n captured. omega (arith, h.within n captured, on.stable);
 }
   where
@@ -242,10 +258,13 @@ honest_to_on old new on leaf h = record {
 
 true_on : (old new : TcView) (v : SystemView) → GoesOn old new → IsTrueTo old v → IsTrueTo new v
 true_on old new v on h = record {
-  leaves = all_from (IsHonestTo old.log old.stable) (IsHonestTo new.log new.stable) (honest_to_on old new on) v.leaves h.leaves;
-  written = have_all (IsHonestTo old.log old.stable) (IsHonestTo new.log new.stable) (honest_to_on old new on) (pages_of v.pages) v.log h.written;
+  leaves = all_from (IsHonestTo old.log old.stable) (IsHonestTo new.log new.stable) (honest_to_on old new on) v.leaves
+      h.leaves;
+  written = have_all (IsHonestTo old.log old.stable) (IsHonestTo new.log new.stable) (honest_to_on old new on)
+      (pages_of v.pages) v.log h.written;
   low = all_from (IsLowAnswered old) (IsLowAnswered new) (λ leaf. answered_on old new leaf.ab.low on) v.leaves h.low;
-  written_low = have_all (IsLowAnswered old) (IsLowAnswered new) (λ leaf. answered_on old new leaf.ab.low on) (pages_of v.pages) v.log h.written_low;
+  written_low = have_all (IsLowAnswered old) (IsLowAnswered new) (λ leaf. answered_on old new leaf.ab.low on)
+      (pages_of v.pages) v.log h.written_low;
 }
 
 performed_on : (old new : TcView) → GoesOn old new → (ps : List Performance)
@@ -253,7 +272,8 @@ performed_on : (old new : TcView) → GoesOn old new → (ps : List Performance)
     → AllByRecursion (λ (p : Performance). Requests new.log p.number p.op) ps
 performed_on old new on ps h =
     all_from (λ (p : Performance). Requests old.log p.number p.op) (λ (p : Performance). Requests new.log p.number p.op)
-    (λ p. extend (λ log. Requests log p.number p.op) old.log new.log on.log (λ r. request_longer r old.log p.number p.op)) ps h
+    (λ p. extend (λ log. Requests log p.number p.op) old.log new.log on.log
+    (λ r. request_longer r old.log p.number p.op)) ps h
 
 -- all holds still, where the answers are right and what is answered is captured
 pub keeps_on : (w : NodeView) (tc : TcView) → IsKept w → IsTc tc → GoesOn w.tc tc
@@ -268,7 +288,8 @@ keeps_on w tc k is on sessions right captured checked = record {
   performed = performed_on w.tc tc on w.dc.performed k.performed;
   answered = λ may. captured (some_session w.dc may) (k.answered may);
   sent = all_from (IsSent w.tc w.dc) (IsSent tc w.dc) (sent_on w.tc tc w.dc on captured) w.requests k.sent;
-  given = all_from (IsGiven w.tc w.dc) (IsGiven tc w.dc) (given_on w.tc tc w.dc (record { was = k.tc; now = is }) on) w.replies k.given;
+  given = all_from (IsGiven w.tc w.dc) (IsGiven tc w.dc) (given_on w.tc tc w.dc (record { was = k.tc; now = is }) on)
+      w.replies k.given;
   sessions = sessions;
   checked = checked;
 }

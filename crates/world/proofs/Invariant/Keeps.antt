@@ -48,7 +48,8 @@ pub asked_captured : (w : NodeView) (r : Record) → IsKept w
 asked_captured w r k same captured m o asks some =
     elim (cases_eq m (length w.tc.log + 1)) [
       | inl e ↦
-          let none : answer_of (r ∷ w.tc.log) m ≡ None = same m ∙ ap (answer_of w.tc.log) e ∙ none_next w.tc.log k.tc.legal in
+          let none : answer_of (r ∷ w.tc.log) m ≡ None =
+          same m ∙ ap (answer_of w.tc.log) e ∙ none_next w.tc.log k.tc.legal in
           absurd (true≢false (sym some ∙ ap is_some none))
       | inr e ↦ captured m o (older_at (ARequest o) r w.tc.log m e asks) (subst IsSome (same m) some)
     ]
@@ -65,26 +66,32 @@ answer_captured w n a p requests there captured m o asks some =
           let older : Requests w.tc.log m o = older_at (ARequest o) r w.tc.log m e asks in
           elim (cases_eq m n) [
             | inl same ↦
-                let one : p ≡ o = one_request w.tc.log n o p (subst (λ (z : ℕ). Requests w.tc.log z o) same older) requests in
-                subst (λ (z : ℕ). captures_at w.dc (key_of o) z ≡ true) (sym same) (subst (λ (q : Op). captures_at w.dc (key_of q) n ≡ true) one there)
-            | inr apart ↦ captured m o older (subst (λ (b : Bool). IsSome (cond b (Some a) (answer_of w.tc.log m))) (ne_eqb m n apart) some)
+                let one : p ≡ o = one_request w.tc.log n o p (subst (λ (z : ℕ). Requests w.tc.log z o) same older)
+                requests in
+                subst (λ (z : ℕ). captures_at w.dc (key_of o) z ≡ true) (sym same)
+                (subst (λ (q : Op). captures_at w.dc (key_of q) n ≡ true) one there)
+            | inr apart ↦ captured m o older
+                (subst (λ (b : Bool). IsSome (cond b (Some a) (answer_of w.tc.log m))) (ne_eqb m n apart) some)
           ]
     ]
 
 -- a record that asks for nothing leaves what was asked before, and what of it is captured
 pub before_on : (r : Record) (log : List Record) (s : ℕ) → ((o : Op) → ARequest o (Some r) → ⊥) → AreBefore log s
     → AreBefore (r ∷ log) s
-before_on r log s none before n o asks = before n o (older_at (ARequest o) r log n (λ e. absurd (none o (newest_at (ARequest o) r log n e asks))) asks)
+before_on r log s none before n o asks =
+    before n o (older_at (ARequest o) r log n (λ e. absurd (none o (newest_at (ARequest o) r log n e asks))) asks)
 
 pub all_on : (r : Record) (log : List Record) (dc : DcView) (next : ℕ) → ((o : Op) → ARequest o (Some r) → ⊥)
     → AllAreCaptured log dc next → AllAreCaptured (r ∷ log) dc next
-all_on r log dc next none all n o asks = all n o (older_at (ARequest o) r log n (λ e. absurd (none o (newest_at (ARequest o) r log n e asks))) asks)
+all_on r log dc next none all n o asks =
+    all n o (older_at (ARequest o) r log n (λ e. absurd (none o (newest_at (ARequest o) r log n e asks))) asks)
 
 pub quiet_served : (p : Phase) (s : ℕ) (r : Record) (log : List Record) (dc : DcView)
     → ((o : Op) → ARequest o (Some r) → ⊥) → IsServed p s log dc → IsServed p s (r ∷ log) dc
 quiet_served phase.Unconnected s r log dc none h = tt
 quiet_served phase.Connecting s r log dc none h = before_on r log s none h
-quiet_served (phase.Redoing next ending) s r log dc none h = (before_on r log s none h.0, h.1, λ runs. all_on r log dc next none (h.2 runs))
+quiet_served (phase.Redoing next ending) s r log dc none h =
+    (before_on r log s none h.0, h.1, λ runs. all_on r log dc next none (h.2 runs))
 quiet_served (phase.Undoing waiting) s r log dc none h = h
 quiet_served phase.Running s r log dc none h = h
 
@@ -92,7 +99,9 @@ quiet_served phase.Running s r log dc none h = h
 pub awaited_number : (w : TcView) → IsTc w → (t : ℕ) (o : OpenTxn) (n : ℕ) → find t w.open_txns ≡ Some o
     → o.waiting ≡ Some n → IsNumber w.log n
 awaited_number w k t o n found some =
-    let own = own_request w.log o n (waits_at w.log o n (open_at w o k (found_own t w.open_txns o found)) some).request in step_number w.log n o.txn own.step
+    let own = own_request w.log o n
+    (waits_at w.log o n (open_at w o k (found_own t w.open_txns o found)) some).request in
+    step_number w.log n o.txn own.step
 
 -- one record more
 pub keeps_appended : (w : NodeView) (tc : TcView) (r : Record) → IsKept w → IsTc tc
@@ -103,7 +112,15 @@ pub keeps_appended : (w : NodeView) (tc : TcView) (r : Record) → IsKept w → 
     → (w.dc.session ≢ 0 → AnsweredAreCaptured w.tc.log w.dc → AnsweredAreCaptured (r ∷ w.tc.log) w.dc)
     → IsKept (with_tc w tc)
 keeps_appended w tc r k is checked log stable session reads none_anew sessions right captured =
-    keeps_on w tc k is (record { within = k.tc.within; now_within = is.within; log = inr (r, log); stable = stable; session = session; reads = reads; none_anew = none_anew }) sessions (subst HasRightAnswers (sym log) right)
+    keeps_on w tc k is (record {
+      within = k.tc.within;
+      now_within = is.within;
+      log = inr (r, log);
+      stable = stable;
+      session = session;
+      reads = reads;
+      none_anew = none_anew;
+    }) sessions (subst HasRightAnswers (sym log) right)
     (λ some h. subst (λ (log : List Record). AnsweredAreCaptured log w.dc) (sym log) (captured some h)) checked
 
 -- the same log
@@ -112,7 +129,15 @@ pub keeps_same_log : (w : NodeView) (tc : TcView) → IsKept w → IsTc tc → I
     → NoneAnew w.tc.reads w.tc.open_txns tc.open_txns → AreSessions tc.stable tc.session tc.phase tc.log w.dc
     → IsKept (with_tc w tc)
 keeps_same_log w tc k is checked log stable session reads none_anew sessions =
-    keeps_on w tc k is (record { within = k.tc.within; now_within = is.within; log = inl log; stable = stable; session = session; reads = reads; none_anew = none_anew }) sessions (subst HasRightAnswers (sym log) k.right)
+    keeps_on w tc k is (record {
+      within = k.tc.within;
+      now_within = is.within;
+      log = inl log;
+      stable = stable;
+      session = session;
+      reads = reads;
+      none_anew = none_anew;
+    }) sessions (subst HasRightAnswers (sym log) k.right)
     (λ some h. subst (λ (log : List Record). AnsweredAreCaptured log w.dc) (sym log) h) checked
 
 -- where clients are served both components run in one session, past redo
@@ -172,11 +197,14 @@ abbrev pub with_request : NodeView → Request → NodeView
 with_request w q = record w { requests = w.requests ++ q ∷ [] }
 
 pub keeps_sent : (w : NodeView) (q : Request) → IsKept w → IsSent w.tc w.dc q → IsKept (with_request w q)
-keeps_sent w q k sent = keeps_messages w (w.requests ++ q ∷ []) w.replies k (all_push (IsSent w.tc w.dc) w.requests q k.sent sent) k.given
+keeps_sent w q k sent = keeps_messages w (w.requests ++ q ∷ []) w.replies k
+    (all_push (IsSent w.tc w.dc) w.requests q k.sent sent) k.given
 
 -- one reply more
 abbrev pub with_reply : NodeView → Reply → NodeView
 with_reply w reply = record w { replies = w.replies ++ reply ∷ [] }
 
 pub keeps_given : (w : NodeView) (reply : Reply) → IsKept w → IsGiven w.tc w.dc reply → IsKept (with_reply w reply)
-keeps_given w reply k given = keeps_messages w w.requests (w.replies ++ reply ∷ []) k k.sent (all_push (IsGiven w.tc w.dc) w.replies reply k.given given)
+keeps_given w reply k given =
+    keeps_messages w w.requests (w.replies ++ reply ∷ []) k k.sent
+    (all_push (IsGiven w.tc w.dc) w.replies reply k.given given)

@@ -44,11 +44,15 @@ served_alike phase.Unconnected session log old new stored same past captured h =
 served_alike phase.Connecting session log old new stored same past captured h = h
 served_alike (phase.Redoing next ending) session log old new stored same past captured h =
     (h.0, stored ∙ h.1, λ runs n o asks below. captured n o asks (h.2 (sym same ∙ runs) n o asks below))
-served_alike (phase.Undoing waiting) session log old new stored same past captured h = (stored ∙ h.0, λ runs. past ∙ h.1 (sym same ∙ runs))
-served_alike phase.Running session log old new stored same past captured h = (stored ∙ h.0, λ runs. past ∙ h.1 (sym same ∙ runs))
+served_alike (phase.Undoing waiting) session log old new stored same past captured h =
+    (stored ∙ h.0, λ runs. past ∙ h.1 (sym same ∙ runs))
+served_alike phase.Running session log old new stored same past captured h =
+    (stored ∙ h.0, λ runs. past ∙ h.1 (sym same ∙ runs))
 
 -- a new number is the next on its key
-module _ (w : NodeView) (s n : ℕ) (o : Op) (k : IsKept w) (is : IsDc (performs w.dc n o)) (recoverable : IsRecoverable (performs w.dc n o).system) (checks : Checks w.dc.system (performs w.dc n o).system) (running : runs w.dc s ≡ true)
+module _ (w : NodeView) (s n : ℕ) (o : Op) (k : IsKept w) (is : IsDc (performs w.dc n o))
+    (recoverable : IsRecoverable (performs w.dc n o).system) (checks : Checks w.dc.system (performs w.dc n o).system)
+    (running : runs w.dc s ≡ true)
     (sent : IsSent w.tc w.dc (asks.Perform s n o)) (new : captures_at w.dc (key_of o) n ≡ false) where
   abbrev old : LeafView
   old = leaf_at (leaves w.dc) (key_of o)
@@ -77,29 +81,42 @@ module _ (w : NodeView) (s n : ℕ) (o : Op) (k : IsKept w) (is : IsDc (performs
   ]
 
   carries : Carries w (performs w.dc n o)
-  carries = record { captured = λ some. captures_more; stored = omega arith; ran = λ t begun r. r; past = λ t begun r past. past; checks = checks }
+  carries = record {
+    captured = λ some. captures_more;
+    stored = omega arith;
+    ran = λ t begun r. r;
+    past = λ t begun r past. past;
+    checks = checks;
+  }
 
   honest_to : IsHonestTo w.tc.log w.tc.stable leaf
   honest_to = record {
     honest = honest_performed w.tc.log old n o (own_leaf w (key_of o) k).honest next_on;
-    within = λ m h. elim (or_cases (captures old.ab m) (m == n) (sym (noted_captures old.ab n (key_of o) (answer_in old.rows o) m) ∙ h)) [
-      | inl before ↦ (own_leaf w (key_of o) k).within m before
-      | inr it ↦ omega (arith, eqb-true m n it, sent.0)
-    ];
+    within = λ m h. elim (or_cases (captures old.ab m) (m == n)
+        (sym (noted_captures old.ab n (key_of o) (answer_in old.rows o) m) ∙ h)) [
+          | inl before ↦ (own_leaf w (key_of o) k).within m before
+          | inr it ↦ omega (arith, eqb-true m n it, sent.0)
+        ];
   }
 
   true_to : IsTrueTo w.tc (performs w.dc n o).system
   true_to = record {
-    leaves = all_changed (IsHonestTo w.tc.log w.tc.stable) (key_of o) (λ (l : LeafView). performed l n o) (leaves w.dc) (λ was. honest_to) k.true_to.leaves;
+    leaves = all_changed (IsHonestTo w.tc.log w.tc.stable) (key_of o) (λ (l : LeafView). performed l n o) (leaves w.dc)
+        (λ was. honest_to) k.true_to.leaves;
     written = k.true_to.written;
-    low = all_changed (IsLowAnswered w.tc) (key_of o) (λ (l : LeafView). performed l n o) (leaves w.dc) (λ low. low) k.true_to.low;
+    low = all_changed (IsLowAnswered w.tc) (key_of o) (λ (l : LeafView). performed l n o) (leaves w.dc) (λ low. low)
+        k.true_to.low;
     written_low = k.true_to.written_low;
   }
 
   pub performs_next : KeepsServing w (Some (says.Answered s n (Some (answer_in old.rows o)))) (performs w.dc n o)
   performs_next = record {
     kept = keeps_dc w (performs w.dc n o) k is carries recoverable true_to (sent.1, k.performed) k.answered
-        (record { begun = k.sessions.begun; served = served_alike w.tc.phase w.tc.session w.tc.log w.dc (performs w.dc n o) refl refl refl captures_more k.sessions.served });
+        (record {
+          begun = k.sessions.begun;
+          served = served_alike w.tc.phase w.tc.session w.tc.log w.dc (performs w.dc n o) refl refl refl captures_more
+              k.sessions.served;
+        });
     given = record {
       op = o;
       requests = sent.1;

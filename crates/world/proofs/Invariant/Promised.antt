@@ -37,7 +37,8 @@ effective_at (r ∷ log) legal right n t u x i at =
           let same : r ≡ is.Comp t u x (Some i) = cc in
           let whole : IsLegal (is.Comp t u x (Some i) ∷ log) = subst (λ q. IsLegal (q ∷ log)) same legal in
           let o : Op = whole.0.inverse.op in
-          let brackets = bracket log t u x o i whole (right_rest r log right) (undone_is log t u x (Some i) whole.1 whole.0) in
+          let brackets = bracket log t u x o i whole (right_rest r log right)
+          (undone_is log t u x (Some i) whole.1 whole.0) in
           let P : Bytes → Type 0 = λ k. IsEffective (answer_at i (value_on k log)) in
           subst Does (sym (before_new r log n e))
           (subst P (sym brackets.same_key) brackets.effective)

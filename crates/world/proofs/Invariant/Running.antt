@@ -103,11 +103,13 @@ redo_goes_on dc on may = by (dc.session == 0) (dc.redo) on may
 
 -- none is later than the transaction component's, if that has one
 pub stored_begun : (w : NodeView) → IsKept w → 0 < w.tc.session → w.dc.stored ≤ w.tc.session
-stored_begun w k some = omega (arith, k.dc.stored, stored_within w.dc.system.log w.dc.system.stable, k.sessions.begun.most some)
+stored_begun w k some = omega
+    (arith, k.dc.stored, stored_within w.dc.system.log w.dc.system.stable, k.sessions.begun.most some)
 
 -- nor than its stable records
 pub stored_recorded : (w : NodeView) → IsKept w → w.dc.stored ≤ w.tc.stable
-stored_recorded w k = omega (arith, k.dc.stored, stored_within w.dc.system.log w.dc.system.stable, k.sessions.begun.recorded)
+stored_recorded w k = omega
+    (arith, k.dc.stored, stored_within w.dc.system.log w.dc.system.stable, k.sessions.begun.recorded)
 
 -- where that was taken and some session runs, it is this one
 pub same_runs : (w : NodeView) (s : ℕ) → IsKept w → 0 < w.tc.session → s ≡ w.tc.session → s ≤ w.dc.stored

@@ -61,9 +61,13 @@ begins w k after =
     let before : AreBefore (is.Session ∷ w.tc.log) (length w.tc.log + 1) =
     λ n o asks. all_before w.tc.log n o (older_at (ARequest o) is.Session w.tc.log n
     (λ e. let none : ARequest o (Some is.Session) = newest_at (ARequest o) is.Session w.tc.log n e asks in cc) asks) in
-    keeps_appended w (reconnected w.tc) is.Session k after k.checked refl (omega (arith, k.tc.within)) (inr (omega (arith, k.tc.within))) (omega arith) (none_same w.tc.reads w.tc.open_txns)
+    keeps_appended w (reconnected w.tc) is.Session k after k.checked refl (omega (arith, k.tc.within))
+    (inr (omega (arith, k.tc.within))) (omega arith) (none_same w.tc.reads w.tc.open_txns)
     (record {
-      begun = record { recorded = omega (arith, k.sessions.begun.recorded, k.tc.within); most = λ some. omega (arith, k.sessions.begun.recorded, k.tc.within) };
+      begun = record {
+        recorded = omega (arith, k.sessions.begun.recorded, k.tc.within);
+        most = λ some. omega (arith, k.sessions.begun.recorded, k.tc.within);
+      };
       served = before;
     })
     k.right (λ some. still_captured w is.Session (λ o h. cc) (λ m. refl))
@@ -71,8 +75,12 @@ begins w k after =
 -- or only its record is logged, since the force failed
 logs_session : (w : NodeView) → IsKept w → IsTc (logged_session w.tc) → IsKept (with_tc w (logged_session w.tc))
 logs_session w k after =
-    keeps_appended w (logged_session w.tc) is.Session k after k.checked refl (omega arith) (inl refl) (omega arith) (none_same w.tc.reads w.tc.open_txns)
-    (record { begun = k.sessions.begun; served = quiet_served w.tc.phase w.tc.session is.Session w.tc.log w.dc (λ o h. cc) k.sessions.served })
+    keeps_appended w (logged_session w.tc) is.Session k after k.checked refl (omega arith) (inl refl) (omega arith)
+    (none_same w.tc.reads w.tc.open_txns)
+    (record {
+      begun = k.sessions.begun;
+      served = quiet_served w.tc.phase w.tc.session is.Session w.tc.log w.dc (λ o h. cc) k.sessions.served;
+    })
     k.right (λ some. still_captured w is.Session (λ o h. cc) (λ m. refl))
 
 -- why no session was started
@@ -82,15 +90,18 @@ module _ (old new : NodeView) (r : Refusal) (k : IsKept old) (left : new ≡ wit
   not_logged h =
       let which = left_refused (spent_refusal old.tc.log) true true old.tc r new.tc h in
       record {
-        leads = no_line old new event.Reconnect (out.Refused r) refl (λ m stands. stands_left old.tc new.tc m which stands);
+        leads = no_line old new event.Reconnect (out.Refused r) refl
+            (λ m stands. stands_left old.tc new.tc m which stands);
         kept = kept_left old new k left which;
       }
 
   was_logged : spent_refusal old.tc.log ≡ None → new.tc ≡ failed (logged_session old.tc)
       → Follows old event.Reconnect (out.Refused r) new
   was_logged unspent same = record {
-    leads = no_line old new event.Reconnect (out.Refused r) refl (λ m stands. subst (λ x. StandsFor (clients x) m) (sym same) (stands_logged old.tc m stands));
-    kept = subst IsKept (sym (left ∙ ap (with_tc old) same)) (keeps_failed (with_tc old (logged_session old.tc)) (logs_session old k (session_keeps old.tc k.tc unspent)));
+    leads = no_line old new event.Reconnect (out.Refused r) refl
+        (λ m stands. subst (λ x. StandsFor (clients x) m) (sym same) (stands_logged old.tc m stands));
+    kept = subst IsKept (sym (left ∙ ap (with_tc old) same))
+        (keeps_failed (with_tc old (logged_session old.tc)) (logs_session old k (session_keeps old.tc k.tc unspent)));
   }
 
 pub follows_reconnect : (old new : NodeView) (output : Out) → IsKept old → ReconnectsTo old output new
@@ -98,17 +109,21 @@ pub follows_reconnect : (old new : NodeView) (output : Out) → IsKept old → R
 follows_reconnect old new (out.Connects i cs) k h =
     let q : Request = asks.Connect (length old.tc.log + 1) in
     let tc : TcView = reconnected old.tc in
-    let after : IsTc tc = subst IsTc h.0.3 (reconnect_keeps old.tc new.tc (Ok (record { request = q; committed = cs })) k.tc h.0) in
-    let same : new ≡ with_request (with_tc old tc) q = h.1.left ∙ ap (λ x. record old { tc = x; requests = old.requests ++ q ∷ [] }) h.0.3 in
+    let after : IsTc tc = subst IsTc h.0.3
+    (reconnect_keeps old.tc new.tc (Ok (record { request = q; committed = cs })) k.tc h.0) in
+    let same : new ≡ with_request (with_tc old tc) q =
+    h.1.left ∙ ap (λ x. record old { tc = x; requests = old.requests ++ q ∷ [] }) h.0.3 in
     at_new old new (with_request (with_tc old tc) q) event.Reconnect (out.Connects i cs) same (record {
       leads = λ m stands.
           let l = stands_reconnected old.tc m (session_keeps old.tc k.tc h.0.0) stands in
           (l.0, subst (λ (ts : List ℕ). Steps m (told_committed ts) l.0) (sym h.0.2) l.1, l.2);
-      kept = keeps_sent (with_tc old tc) q (begins old k after) (record { recorded = omega arith; most = λ some. omega arith });
+      kept = keeps_sent (with_tc old tc) q (begins old k after)
+          (record { recorded = omega arith; most = λ some. omega arith });
     })
 follows_reconnect old new (out.Refused r) k h = by h.0
   where
-    by : Refuses (spent_refusal old.tc.log) true true old.tc r new.tc ⊎ ((spent_refusal old.tc.log ≡ None) × (r ≡ Device) × (new.tc ≡ failed (logged_session old.tc)))
+    by : Refuses (spent_refusal old.tc.log) true true old.tc r new.tc
+        ⊎ ((spent_refusal old.tc.log ≡ None) × (r ≡ Device) × (new.tc ≡ failed (logged_session old.tc)))
         → Follows old event.Reconnect (out.Refused r) new
     by (inl c) = not_logged old new r k h.1 c
     by (inr c) = was_logged old new r k h.1 c.0 c.2
@@ -117,7 +132,8 @@ follows_reconnect old new _ k h = absurd h
 -- redo goes on in the session that the data component took last
 pub redo_served : (w : NodeView) (next : ℕ) (ending : Bool) → IsKept w → w.tc.phase ≡ phase.Redoing next ending
     → IsServed (phase.Redoing next ending) w.tc.session w.tc.log w.dc
-redo_served w next ending k at = let P : Phase → Type 0 = λ p. IsServed p w.tc.session w.tc.log w.dc in subst P at k.sessions.served
+redo_served w next ending k at = let P : Phase → Type 0 = λ p. IsServed p w.tc.session w.tc.log w.dc in
+    subst P at k.sessions.served
 
 -- redo stands at a number up to the session's
 pub keeps_redoing : (w : NodeView) (next : ℕ) (was : Bool) (n : ℕ) (ending : Bool) → IsKept w
@@ -125,7 +141,8 @@ pub keeps_redoing : (w : NodeView) (next : ℕ) (was : Bool) (n : ℕ) (ending :
     → (w.dc.session ≡ w.tc.session → AllAreCaptured w.tc.log w.dc n) → IsKept (with_tc w (redoing w.tc n ending))
 keeps_redoing w next was n ending k at tc captured =
     let was_served = redo_served w next was k at in
-    keeps_same_log w (redoing w.tc n ending) k tc k.checked refl (omega arith) (inl refl) (omega arith) (none_same w.tc.reads w.tc.open_txns)
+    keeps_same_log w (redoing w.tc n ending) k tc k.checked refl (omega arith) (inl refl) (omega arith)
+    (none_same w.tc.reads w.tc.open_txns)
     (record { begun = k.sessions.begun; served = (was_served.0, was_served.1, captured) })
 
 -- the place of redo, and what it sends
@@ -148,7 +165,8 @@ pub redo_found : (w : NodeView) (next : ℕ) (ending : Bool) (found : Option (�
     → FindsRequest w.tc.log next w.tc.session found → IsRedo w found
 redo_found w next ending None k at some most h =
     let served = redo_served w next ending k at in
-    let captured : w.dc.session ≡ w.tc.session → AllAreCaptured w.tc.log w.dc w.tc.session = λ runs. all_further w next w.tc.session h (served.2 runs) in
+    let captured : w.dc.session ≡ w.tc.session → AllAreCaptured w.tc.log w.dc w.tc.session =
+    λ runs. all_further w next w.tc.session h (served.2 runs) in
     record {
       some = omega (arith, some, most);
       most = omega arith;
@@ -160,7 +178,8 @@ redo_found w next ending None k at some most h =
     }
 redo_found w next ending (Some x) k at some most h =
     let served = redo_served w next ending k at in
-    let captured : w.dc.session ≡ w.tc.session → AllAreCaptured w.tc.log w.dc x.0 = λ runs. all_further w next x.0 h.3 (served.2 runs) in
+    let captured : w.dc.session ≡ w.tc.session → AllAreCaptured w.tc.log w.dc x.0 =
+    λ runs. all_further w next x.0 h.3 (served.2 runs) in
     record {
       some = omega (arith, some, h.0);
       most = omega (arith, h.1);
@@ -170,7 +189,8 @@ redo_found w next ending (Some x) k at some most h =
         h.2,
         record {
           begun = omega (arith, served.1);
-          holds = λ r m o asks below on. subst (λ (z : Bytes). captures_at w.dc z m ≡ true) on (captured (run_is w.dc w.tc.session r).is m o asks below);
+          holds = λ r m o asks below on. subst (λ (z : Bytes). captures_at w.dc z m ≡ true) on
+              (captured (run_is w.dc w.tc.session r).is m o asks below);
         },
       );
     }
@@ -188,12 +208,20 @@ earlier_captured w n o k past_redo asks r m p earlier below on =
     let run = run_is w.dc w.tc.session r in
     let past = past_is w.dc w.tc.session run.some run.is (past_redo.past run.is) in
     subst (λ (z : Bytes). captures_at w.dc z m ≡ true) on
-    (k.answered past m p earlier (since (λ x. IsSome (answer_of x m)) (answered_push m) w.tc.log n (one_at_a_time w.tc.log k.tc.legal m n p o earlier below asks (sym on))))
+    (k.answered past m p earlier
+    (since (λ x. IsSome (answer_of x m)) (answered_push m) w.tc.log n
+    (one_at_a_time w.tc.log k.tc.legal m n p o earlier below asks (sym on))))
 
 sent_past : (w : NodeView) (n : ℕ) (o : Op) → IsKept w → IsPastRedo w → n ≤ w.tc.stable → Requests w.tc.log n o
     → IsSent w.tc w.dc (asks.Perform w.tc.session n o)
-sent_past w n o k past stable requests =
-    (stable, requests, record { begun = omega (arith, past.stored); holds = λ runs. earlier_captured w n o k past requests runs })
+sent_past w n o k past stable requests = (
+  stable,
+  requests,
+  record {
+    begun = omega (arith, past.stored);
+    holds = λ runs. earlier_captured w n o k past requests runs;
+  },
+)
 
 -- what recovery sends, by its phase
 pub recovers : (old new : NodeView) (q : Request) (p : Phase) → old.tc.phase ≡ p → IsKept old
@@ -202,31 +230,47 @@ pub recovers : (old new : NodeView) (q : Request) (p : Phase) → old.tc.phase �
     → IsKept new × ((m : Machine) → Stands old m → Stands new m)
 recovers old new q phase.Unconnected at k h after left = absurd h
 recovers old new q phase.Connecting at k h after left =
-    let same : new ≡ with_request old q = left ∙ ap (λ tc. record old { tc = tc; requests = old.requests ++ q ∷ [] }) h.1 in
-    let P : Request → Type 0 = IsSent old.tc old.dc in
-    (subst IsKept (sym same) (keeps_sent old q k (subst P (sym h.0) (record { recorded = k.tc.session; most = λ some. omega arith }))), λ m stands. subst (λ x. StandsFor (clients x) m) (sym h.1) stands)
+    let same : new ≡ with_request old q =
+    left ∙ ap (λ tc. record old { tc = tc; requests = old.requests ++ q ∷ [] }) h.1 in
+    let P : Request → Type 0 = IsSent old.tc old.dc in (
+      subst IsKept (sym same)
+          (keeps_sent old q k (subst P (sym h.0) (record { recorded = k.tc.session; most = λ some. omega arith }))),
+      λ m stands. subst (λ x. StandsFor (clients x) m) (sym h.1) stands,
+    )
 recovers old new q (phase.Redoing next ending) at k h after left =
     let place : ℕ = redo_place old.tc.session h.found in
     let sent_end : Bool = not (is_some h.found) in
     let bounds = redoing_phase old next ending k at in
     let redo = redo_found old next ending h.found k at (omega (arith, bounds.0)) bounds.1 h.finds in
     let mid : NodeView = with_tc old (redoing old.tc place sent_end) in
-    let same : new ≡ with_request mid q = left ∙ ap (λ tc. record old { tc = tc; requests = old.requests ++ q ∷ [] }) h.left in
+    let same : new ≡ with_request mid q =
+    left ∙ ap (λ tc. record old { tc = tc; requests = old.requests ++ q ∷ [] }) h.left in
     let P : Request → Type 0 = IsSent old.tc old.dc in (
       subst IsKept (sym same)
           (keeps_sent mid q (keeps_redoing old next ending place sent_end k at (subst IsTc h.left after) redo.captured)
-          (sent_on old.tc (redoing old.tc place sent_end) old.dc (stays old place sent_end k) (λ some all. all) q (subst P (sym h.request_is) redo.sent))),
+          (sent_on old.tc (redoing old.tc place sent_end) old.dc (stays old place sent_end k) (λ some all. all) q
+          (subst P (sym h.request_is) redo.sent))),
       λ m stands. subst (λ x. StandsFor (clients x) m) (sym h.left) stands,
     )
   where
     stays : (w : NodeView) (n : ℕ) (e : Bool) → IsKept w → GoesOn w.tc (redoing w.tc n e)
-    stays w n e k = record { within = k.tc.within; now_within = k.tc.within; log = inl refl; stable = omega arith; session = inl refl; reads = omega arith; none_anew = none_same w.tc.reads w.tc.open_txns }
+    stays w n e k = record {
+      within = k.tc.within;
+      now_within = k.tc.within;
+      log = inl refl;
+      stable = omega arith;
+      session = inl refl;
+      reads = omega arith;
+      none_anew = none_same w.tc.reads w.tc.open_txns;
+    }
 recovers old new q (phase.Undoing None) at k h after left = absurd h
 recovers old new q (phase.Undoing (Some n)) at k h after left =
-    let same : new ≡ with_request old q = left ∙ ap (λ tc. record old { tc = tc; requests = old.requests ++ q ∷ [] }) h.unchanged in
+    let same : new ≡ with_request old q =
+    left ∙ ap (λ tc. record old { tc = tc; requests = old.requests ++ q ∷ [] }) h.unchanged in
     let P : Request → Type 0 = IsSent old.tc old.dc in
     let past = past_redo old k (ap is_serving at) in (
-      subst IsKept (sym same) (keeps_sent old q k (subst P (sym h.request_is) (sent_past old n h.op k past h.stable h.requests))),
+      subst IsKept (sym same) (keeps_sent old q k
+          (subst P (sym h.request_is) (sent_past old n h.op k past h.stable h.requests))),
       λ m stands. subst (λ x. StandsFor (clients x) m) (sym h.unchanged) stands,
     )
 recovers old new q phase.Running at k h after left = absurd h
@@ -235,7 +279,8 @@ recovers old new q phase.Running at k h after left = absurd h
 losing_on : (w : NodeView) (waiting : Option ℕ) (next : Phase) (log : List Record) → IsKept w
     → w.tc.phase ≡ phase.Undoing waiting → is_serving next ≡ true
     → AreSessions w.tc.stable w.tc.session next log w.dc
-losing_on w waiting next log k at serves = record { begun = k.sessions.begun; served = served_so w log next (past_redo w k (ap is_serving at)) serves }
+losing_on w waiting next log k at serves =
+    record { begun = k.sessions.begun; served = served_so w log next (past_redo w k (ap is_serving at)) serves }
 
 -- a compensation of a loser's operation
 lost_compensates : (old new : NodeView) (n : ℕ) → IsKept old → IsTc new.tc → CompensatesLatest old.tc n new.tc
@@ -248,7 +293,8 @@ lost_compensates old new n k is_tc h left =
     at_tc old new tc event.Recover (out.Compensated n) left h.left (record {
       leads = no_line old (with_tc old tc) event.Recover (out.Compensated n) refl
           (λ m stands. stands_lost_compensated old.tc m h.loser new.tc.losers k.tc after h.same h.next.loser stands);
-      kept = keeps_appended old tc c k after k.checked refl (omega arith) (inl refl) (omega arith) (none_same old.tc.reads old.tc.open_txns)
+      kept = keeps_appended old tc c k after k.checked refl (omega arith) (inl refl) (omega arith)
+          (none_same old.tc.reads old.tc.open_txns)
           (losing_on old None tc.phase tc.log k h.undoing refl) k.right (λ some. asked_captured old c k (λ m. refl));
     })
 
@@ -263,8 +309,10 @@ lost_ends old new t k is_tc h left =
     at_tc old new tc event.Recover (out.Lost t) left h.left (record {
       leads = one_line old (with_tc old tc) event.Recover (out.Lost t) (TellsLost t) refl
           (λ m stands. stands_lost_ended old.tc m t new.tc.losers k.tc after h.same h.least.is.loser stands);
-      kept = keeps_appended old tc e k after k.checked refl (omega arith) (inl refl) (omega arith) (none_same old.tc.reads old.tc.open_txns)
-          (losing_on old None tc.phase tc.log k h.undoing (serves (is_none_lost new.tc.losers))) k.right (λ some. still_captured old e (λ q asks. cc) (λ m. refl));
+      kept = keeps_appended old tc e k after k.checked refl (omega arith) (inl refl) (omega arith)
+          (none_same old.tc.reads old.tc.open_txns)
+          (losing_on old None tc.phase tc.log k h.undoing (serves (is_none_lost new.tc.losers))) k.right
+          (λ some. still_captured old e (λ q asks. cc) (λ m. refl));
     })
   where
     serves : (b : Bool) → is_serving (if b then phase.Running else phase.Undoing None) ≡ true
@@ -273,7 +321,8 @@ lost_ends old new t k is_tc h left =
 
 pub follows_recover : (old new : NodeView) (output : Out) → IsKept old → IsTc new.tc → RecoversTo old output new
     → Follows old event.Recover output new
-follows_recover old new out.Nothing k is h = unchanged old new event.Recover out.Nothing k (h.1 ∙ ap (with_tc old) h.0.1.1) refl
+follows_recover old new out.Nothing k is h =
+    unchanged old new event.Recover out.Nothing k (h.1 ∙ ap (with_tc old) h.0.1.1) refl
 follows_recover old new (out.Sent i) k is h =
     let both = recovers old new h.0 old.tc.phase refl k h.1.1 (recover_keeps old.tc new.tc h.0 k.tc h.1) h.2.left in
     record { leads = no_line old new event.Recover (out.Sent i) refl both.1; kept = both.0 }
@@ -298,10 +347,12 @@ read_of w o r k some at reads = record {
   begun = k.session;
   asked = λ is. (reading_at w o r k at reads).asked;
   holds = λ is t p q found reading.
-      let same : o.txn ≡ t = k.reading.apart o.txn t o p r (record { number = r.number; span = q }) at found reads reading refl in
+      let same : o.txn ≡ t = k.reading.apart o.txn t o p r (record { number = r.number; span = q }) at found reads
+      reading refl in
       let F : ℕ → Type 0 = λ u. find u w.open_txns ≡ Some o in
       let one : Some o ≡ Some p = sym (subst F same at) ∙ found in
-      let both : Some r ≡ Some (record { number = r.number; span = q }) = sym reads ∙ ap (λ (x : OpenTxn). x.reading) (let e : o ≡ p = cc in e) ∙ reading in
+      let both : Some r ≡ Some (record { number = r.number; span = q }) =
+      sym reads ∙ ap (λ (x : OpenTxn). x.reading) (let e : o ≡ p = cc in e) ∙ reading in
       sym (span_same (Some r) (Some (record { number = r.number; span = q })) both);
 }
   where
@@ -325,13 +376,19 @@ sent_of old t q k past (inl r) =
     subst P (sym r.is) (sent_past old r.number r.op k past r.stable r.requests)
 sent_of old t q k past (inr r) =
     let P : Request → Type 0 = IsSent old.tc old.dc in
-    subst P (sym r.is) (sent_read old.tc old.dc r.read.number r.read.span (read_of old.tc r.open_txn r.read k.tc past.some r.at.is r.reading))
+    subst P (sym r.is) (sent_read old.tc old.dc r.read.number r.read.span
+    (read_of old.tc r.open_txn r.read k.tc past.some r.at.is r.reading))
 
 pub follows_send : (old new : NodeView) (t : ℕ) (output : Out) → IsKept old → SendsTo old t output new
     → Follows old (event.Send t) output new
 follows_send old new t (out.Sent i) k h =
     at_new old new (with_request old h.0) (event.Send t) (out.Sent i) h.2.left
-    (record { leads = no_line old (with_request old h.0) (event.Send t) (out.Sent i) refl (λ m stands. stands); kept = keeps_sent old h.0 k (sent_of old t h.0 k (past_redo old k (serves_open old.tc t (both_none (open_refusal old.tc t) _ h.1.0).0)) h.1.1) })
+    (record {
+      leads = no_line old (with_request old h.0) (event.Send t) (out.Sent i) refl (λ m stands. stands);
+      kept = keeps_sent old h.0 k
+          (sent_of old t h.0 k (past_redo old k (serves_open old.tc t (both_none (open_refusal old.tc t) _ h.1.0).0))
+          h.1.1);
+    })
 follows_send old new t (out.Refused r) k h = unchanged old new (event.Send t) (out.Refused r) k h.1 refl
 follows_send old new t _ k h = absurd h
 
@@ -340,7 +397,8 @@ announces : (w : NodeView) (announced : ℕ) (asked : Option ℕ) → IsKept w
     → IsTc (record w.tc { announced = announced; checkpointing = asked })
     → IsKept (with_tc w (record w.tc { announced = announced; checkpointing = asked }))
 announces w announced asked k after =
-    keeps_same_log w (record w.tc { announced = announced; checkpointing = asked }) k after k.checked refl (omega arith) (inl refl) (omega arith)
+    keeps_same_log w (record w.tc { announced = announced; checkpointing = asked }) k after k.checked refl (omega arith)
+    (inl refl) (omega arith)
     (none_same w.tc.reads w.tc.open_txns) k.sessions
 
 pub follows_low_water : (old new : NodeView) (l : ℕ) (output : Out) → IsKept old → LowersTo old l output new
@@ -348,11 +406,13 @@ pub follows_low_water : (old new : NodeView) (l : ℕ) (output : Out) → IsKept
 follows_low_water old new l (out.Sent i) k h =
     let q : Request = asks.LowWater old.tc.session l in
     let tc : TcView = announced old.tc l in
-    let same : new ≡ with_request (with_tc old tc) q = h.1.left ∙ ap (λ x. record old { tc = x; requests = old.requests ++ q ∷ [] }) h.0.2 in
+    let same : new ≡ with_request (with_tc old tc) q =
+    h.1.left ∙ ap (λ x. record old { tc = x; requests = old.requests ++ q ∷ [] }) h.0.2 in
     let after : IsTc tc = subst IsTc h.0.2 (low_water_keeps old.tc new.tc l (Ok q) k.tc h.0) in
     at_new old new (with_request (with_tc old tc) q) (event.LowWater l) (out.Sent i) same (record {
       leads = no_line old (with_request (with_tc old tc) q) (event.LowWater l) (out.Sent i) refl (λ m stands. stands);
-      kept = keeps_sent (with_tc old tc) q (announces old (announced old.tc l).announced old.tc.checkpointing k after) h.0.0.allowed;
+      kept = keeps_sent (with_tc old tc) q (announces old (announced old.tc l).announced old.tc.checkpointing k after)
+          h.0.0.allowed;
     })
 follows_low_water old new l (out.Refused r) k h = unchanged old new (event.LowWater l) (out.Refused r) k h.1 refl
 follows_low_water old new l _ k h = absurd h
@@ -362,11 +422,13 @@ pub follows_checkpoint : (old new : NodeView) (output : Out) → IsKept old → 
 follows_checkpoint old new (out.Sent i) k h =
     let q : Request = asks.Checkpoint old.tc.session old.tc.announced in
     let tc : TcView = asked_checkpoint old.tc in
-    let same : new ≡ with_request (with_tc old tc) q = h.1.left ∙ ap (λ x. record old { tc = x; requests = old.requests ++ q ∷ [] }) h.0.2 in
+    let same : new ≡ with_request (with_tc old tc) q =
+    h.1.left ∙ ap (λ x. record old { tc = x; requests = old.requests ++ q ∷ [] }) h.0.2 in
     let after : IsTc tc = subst IsTc h.0.2 (checkpoint_keeps old.tc new.tc (Ok q) k.tc h.0) in
     at_new old new (with_request (with_tc old tc) q) event.Checkpoint (out.Sent i) same (record {
       leads = no_line old (with_request (with_tc old tc) q) event.Checkpoint (out.Sent i) refl (λ m stands. stands);
-      kept = keeps_sent (with_tc old tc) q (announces old old.tc.announced (Some old.tc.announced) k after) k.tc.low.announced;
+      kept = keeps_sent (with_tc old tc) q (announces old old.tc.announced (Some old.tc.announced) k after)
+          k.tc.low.announced;
     })
 follows_checkpoint old new (out.Refused r) k h = unchanged old new event.Checkpoint (out.Refused r) k h.1 refl
 follows_checkpoint old new _ k h = absurd h

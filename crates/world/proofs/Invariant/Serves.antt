@@ -68,7 +68,8 @@ begins_over : (at : Phase) (c session : ℕ) (log : List Record) (dc : DcView) (
     → (0 < session → s ≤ session) → IsServed at session log (connected dc s)
 begins_over phase.Unconnected c session log dc s is h less most = tt
 begins_over phase.Connecting c session log dc s is h less most = h
-begins_over (phase.Redoing next ending) c session log dc s is h less most = absurd (omega (arith, h.1, less, most (omega (arith, is.0, is.1))))
+begins_over (phase.Redoing next ending) c session log dc s is h less most =
+    absurd (omega (arith, h.1, less, most (omega (arith, is.0, is.1))))
 begins_over (phase.Undoing waiting) c session log dc s is h less most = absurd (omega (arith, h.0, less, most is))
 begins_over phase.Running c session log dc s is h less most = absurd (omega (arith, h.0, less, most is))
 
@@ -85,9 +86,17 @@ accepted_true : (w : TcView) (v : SystemView) (s stable failures : ℕ) → IsTr
     → IsTrueTo w (record v { log = dc_record.Accept s ∷ v.log; stable = stable; failures = failures })
 accepted_true w v s stable failures h = record {
   leaves = h.leaves;
-  written = record { first_leaf = h.written.first_leaf; page = h.written.page; logged = (λ leaf is. absurd (cc), h.written.logged) };
+  written = record {
+    first_leaf = h.written.first_leaf;
+    page = h.written.page;
+    logged = (λ leaf is. absurd (cc), h.written.logged);
+  };
   low = h.low;
-  written_low = record { first_leaf = h.written_low.first_leaf; page = h.written_low.page; logged = (λ leaf is. absurd (cc), h.written_low.logged) };
+  written_low = record {
+    first_leaf = h.written_low.first_leaf;
+    page = h.written_low.page;
+    logged = (λ leaf is. absurd (cc), h.written_low.logged);
+  };
 }
 
 connects : (w : NodeView) (s : ℕ) → IsKept w → IsDc (connected w.dc s) → IsRecoverable (connected w.dc s).system
@@ -95,7 +104,8 @@ connects : (w : NodeView) (s : ℕ) → IsKept w → IsDc (connected w.dc s) →
     → IsKept (with_dc w (connected w.dc s))
 connects w s k is recoverable checks most less =
     let dc : DcView = connected w.dc s in
-    let other : (t : ℕ) → t ≤ w.dc.stored → runs dc t ≡ true → ⊥ = λ t before r. omega (arith, (run_is dc t r).is, before, less) in
+    let other : (t : ℕ) → t ≤ w.dc.stored → runs dc t ≡ true → ⊥ =
+    λ t before r. omega (arith, (run_is dc t r).is, before, less) in
     keeps_dc w dc k is
     (record {
       captured = λ some n o asks h. h;
@@ -104,11 +114,13 @@ connects w s k is recoverable checks most less =
       past = λ t before r past. absurd (other t before r);
       checks = checks;
     })
-    recoverable (accepted_true w.tc w.dc.system s (length (dc_record.Accept s ∷ w.dc.system.log)) w.dc.system.failures k.true_to) k.performed
+    recoverable (accepted_true w.tc w.dc.system s (length (dc_record.Accept s ∷ w.dc.system.log)) w.dc.system.failures
+    k.true_to) k.performed
     (λ may. absurd (redo_goes_on dc refl may))
     (record {
       begun = later_begun w.tc.stable w.tc.session s (stored_session w.dc.system.log) most k.sessions.begun;
-      served = begins_over w.tc.phase w.tc.checkpointed w.tc.session w.tc.log w.dc s k.tc.phase k.sessions.served less most.most;
+      served = begins_over w.tc.phase w.tc.checkpointed w.tc.session w.tc.log w.dc s k.tc.phase k.sessions.served less
+          most.most;
     })
 
 redo_ends : (w : NodeView) (s : ℕ) → IsKept w → IsDc (record w.dc { redo = false }) → runs w.dc s ≡ true
@@ -116,7 +128,13 @@ redo_ends : (w : NodeView) (s : ℕ) → IsKept w → IsDc (record w.dc { redo =
     → IsKept (with_dc w (record w.dc { redo = false }))
 redo_ends w s k is running sent =
     keeps_dc w (record w.dc { redo = false }) k is
-    (record { captured = λ some n o asks h. h; stored = omega arith; ran = λ t before r. r; past = λ t before r past. refl; checks = λ l h. h })
+    (record {
+      captured = λ some n o asks h. h;
+      stored = omega arith;
+      ran = λ t before r. r;
+      past = λ t before r past. refl;
+      checks = λ l h. h;
+    })
     k.recoverable k.true_to k.performed (λ may. sent.holds running)
     (record { begun = k.sessions.begun; served = past_redo w.tc.phase w.tc.session w.tc.log w.dc k.sessions.served })
 
@@ -134,7 +152,8 @@ lowers_all : (w : NodeView) (l : ℕ) → IsKept w → IsDc (lowers w.dc l) → 
     → Checks w.dc.system (lowers w.dc l).system → may_merge w.dc ≡ true → IsAnsweredTo w.tc l
     → IsKept (with_dc w (lowers w.dc l))
 lowers_all w l k is recoverable checks past to =
-    keeps_system w (lowered w.dc.system l) k is recoverable checks (lowered_carries w l k (k.answered past) to) (lowered_true w l k (k.answered past) to) k.sessions.begun
+    keeps_system w (lowered w.dc.system l) k is recoverable checks (lowered_carries w l k (k.answered past) to)
+    (lowered_true w l k (k.answered past) to) k.sessions.begun
 
 -- and written
 checkpoints : (w : NodeView) (l : ℕ) (dc : DcView) → IsKept w → IsDc dc → IsRecoverable dc.system
@@ -145,11 +164,14 @@ checkpoints w l dc k is recoverable checks past to images same =
     let v : SystemView = lowered w.dc.system l in
     let t : IsTrueTo w.tc v = lowered_true w l k (k.answered past) to in
     subst (λ (x : DcView). IsKept (with_dc w x)) (sym same)
-    (keeps_system w (written_all v v.leaves) k (subst IsDc same is) (subst (λ (x : DcView). IsRecoverable x.system) same recoverable)
+    (keeps_system w (written_all v v.leaves) k (subst IsDc same is)
+    (subst (λ (x : DcView). IsRecoverable x.system) same recoverable)
     (subst (λ (x : DcView). Checks w.dc.system x.system) same checks)
-    (subst (LeavesCarry w.tc.log (leaves w.dc)) (sym (written_all_leaves v v.leaves)) (lowered_carries w l k (k.answered past) to))
+    (subst (LeavesCarry w.tc.log (leaves w.dc)) (sym (written_all_leaves v v.leaves))
+    (lowered_carries w l k (k.answered past) to))
     (written_all_true w.tc v v.leaves t images t.leaves t.low)
-    (subst (λ log. IsBegun w.tc.stable w.tc.session (stored_session log)) (sym (written_all_log v v.leaves)) k.sessions.begun))
+    (subst (λ log. IsBegun w.tc.stable w.tc.session (stored_session log)) (sym (written_all_log v v.leaves))
+    k.sessions.begun))
 
 -- what a read is replied is what the log gives
 reads_row : (w : NodeView) (s n : ℕ) (key : Bytes) → IsKept w → may_merge w.dc ≡ true
@@ -177,8 +199,10 @@ reads_rows w s n low high k past sent = record {
   holds = λ is t x q found reading.
       let same : q ≡ Range low high = sent.holds is t x q found reading in
       let P : Span → Type 0 = AreRows w.tc.log (rows_in (range low high) (rows_of (leaves w.dc))) in
-      let Q : Span → Type 0 = λ z. (key : Bytes) → is_within (shared z) key ≡ true → value_at w.dc key ≡ value_on key w.tc.log in
-      let there : Q q = read_logged w x (record { number = n; span = q }) k (found_own t w.tc.open_txns x found) reading past in
+      let Q : Span → Type 0 = λ z. (key : Bytes) → is_within (shared z) key ≡ true → value_at w.dc key
+      ≡ value_on key w.tc.log in
+      let there : Q q = read_logged w x (record { number = n; span = q }) k (found_own t w.tc.open_txns x found) reading
+      past in
       subst P (sym same) (record {
         table = rows_of (leaves w.dc);
         rows_are = refl;
@@ -192,39 +216,60 @@ pub serves : (w : NodeView) (q : Request) (reply : Option Reply) (dc : DcView) �
 serves w (asks.Connect s) reply dc k is rec checks sent allowed h = pick (runs w.dc s) refl h.1
   where
     pick : (b : Bool) → runs w.dc s ≡ b → MatchBool b (dc ≡ w.dc) (dc ≡ connected w.dc s) → KeepsServing w reply dc
-    pick true running same = stays w dc reply (Some (says.Connected s)) k h.0 same (omega (arith, run_stored w.dc s k.dc running))
+    pick true running same =
+        stays w dc reply (Some (says.Connected s)) k h.0 same (omega (arith, run_stored w.dc s k.dc running))
     pick false isnt same =
-        let flag : nat_lt w.dc.stored s ≡ true = connect_allowed (runs w.dc s) (nat_lt w.dc.stored s) _ _ allowed isnt in
+        let flag : nat_lt w.dc.stored s ≡ true =
+        connect_allowed (runs w.dc s) (nat_lt w.dc.stored s) _ _ allowed isnt in
         let less : w.dc.stored < s = grind (arith, nat_tests, flag) in
         goes w dc (connected w.dc s) reply (Some (says.Connected s)) h.0 same
-        (record { kept = connects w s k (subst IsDc same is) (subst (λ (x : DcView). IsRecoverable x.system) same rec) (subst (λ (x : DcView). Checks w.dc.system x.system) same checks) sent less; given = omega arith })
+        (record {
+          kept = connects w s k (subst IsDc same is) (subst (λ (x : DcView). IsRecoverable x.system) same rec)
+              (subst (λ (x : DcView). Checks w.dc.system x.system) same checks) sent less;
+          given = omega arith;
+        })
 serves w (asks.Perform s n o) reply dc k is rec checks sent allowed h = pick (captures_at w.dc (key_of o) n) refl h
   where
     pick : (b : Bool) → captures_at w.dc (key_of o) n ≡ b
-        → MatchBool b ((reply ≡ Some (says.Answered s n (saved_in (leaf_at (leaves w.dc) (key_of o)).ab.entries n))) × (dc ≡ w.dc))
-        ((reply ≡ Some (says.Answered s n (Some (answer_in (leaf_at (leaves w.dc) (key_of o)).rows o)))) × (dc ≡ performs w.dc n o)) → KeepsServing w reply dc
+        → MatchBool b ((reply ≡ Some (says.Answered s n (saved_in (leaf_at (leaves w.dc) (key_of o)).ab.entries n)))
+        × (dc ≡ w.dc))
+        ((reply ≡ Some (says.Answered s n (Some (answer_in (leaf_at (leaves w.dc) (key_of o)).rows o))))
+        × (dc ≡ performs w.dc n o)) → KeepsServing w reply dc
     pick true captured h =
-        stays w dc reply (Some (says.Answered s n (saved_in (leaf_at (leaves w.dc) (key_of o)).ab.entries n))) k h.0 h.1 (repeated w s n o k sent captured)
+        stays w dc reply (Some (says.Answered s n (saved_in (leaf_at (leaves w.dc) (key_of o)).ab.entries n))) k h.0 h.1
+        (repeated w s n o k sent captured)
     pick false isnt h =
-        goes w dc (performs w.dc n o) reply (Some (says.Answered s n (Some (answer_in (leaf_at (leaves w.dc) (key_of o)).rows o)))) h.0 h.1
-        (performs_next w s n o k (subst IsDc h.1 is) (subst (λ (x : DcView). IsRecoverable x.system) h.1 rec) (subst (λ (x : DcView). Checks w.dc.system x.system) h.1 checks) (let_runs w.dc s allowed) sent isnt)
+        goes w dc (performs w.dc n o) reply
+        (Some (says.Answered s n (Some (answer_in (leaf_at (leaves w.dc) (key_of o)).rows o)))) h.0 h.1
+        (performs_next w s n o k (subst IsDc h.1 is) (subst (λ (x : DcView). IsRecoverable x.system) h.1 rec)
+        (subst (λ (x : DcView). Checks w.dc.system x.system) h.1 checks) (let_runs w.dc s allowed) sent isnt)
 serves w (asks.Get s n key) reply dc k is rec checks sent allowed h =
-    stays w dc reply (Some (says.Row s n (value_at w.dc key))) k h.0 h.1 (reads_row w s n key k (let_past w.dc s allowed).past sent)
+    stays w dc reply (Some (says.Row s n (value_at w.dc key))) k h.0 h.1
+    (reads_row w s n key k (let_past w.dc s allowed).past sent)
 serves w (asks.Scan s n low high) reply dc k is rec checks sent allowed h =
-    stays w dc reply (Some (says.Rows s n (rows_in (range low high) (rows_of (leaves w.dc))))) k h.0 h.1 (reads_rows w s n low high k (let_past w.dc s allowed).past sent)
+    stays w dc reply (Some (says.Rows s n (rows_in (range low high) (rows_of (leaves w.dc))))) k h.0 h.1
+    (reads_rows w s n low high k (let_past w.dc s allowed).past sent)
 serves w (asks.LowWater s l) reply dc k is rec checks sent allowed h =
     goes w dc (lowers w.dc l) reply None h.0 h.1
-    (record { kept = lowers_all w l k (subst IsDc h.1 is) (subst (λ (x : DcView). IsRecoverable x.system) h.1 rec) (subst (λ (x : DcView). Checks w.dc.system x.system) h.1 checks) (let_past w.dc s allowed).past sent; given = tt })
+    (record {
+      kept = lowers_all w l k (subst IsDc h.1 is) (subst (λ (x : DcView). IsRecoverable x.system) h.1 rec)
+          (subst (λ (x : DcView). Checks w.dc.system x.system) h.1 checks) (let_past w.dc s allowed).past sent;
+      given = tt;
+    })
 serves w (asks.Checkpoint s l) reply dc k is rec checks sent allowed h =
     goes w dc dc reply (Some (says.Checkpointed s l)) h.0 refl
     (record {
-      kept = checkpoints w l dc k is rec checks (let_past w.dc s allowed).past sent h.1.0 (h.2 ∙ ap (with_system w.dc) h.1.1);
+      kept = checkpoints w l dc k is rec checks (let_past w.dc s allowed).past sent h.1.0
+          (h.2 ∙ ap (with_system w.dc) h.1.1);
       given = checkpoint_checked w.dc s l reply dc k.dc k.recoverable h;
     })
 serves w (asks.RedoEnd s) reply dc k is rec checks sent allowed h =
     let running : runs w.dc s ≡ true = let_runs w.dc s allowed in
     goes w dc (record w.dc { redo = false }) reply (Some (says.RedoEnded s)) h.0 h.1
-    (record { kept = redo_ends w s k (subst IsDc h.1 is) running sent; given = record { begun = sent.begun; holds = λ r. refl } })
+    (record {
+      kept = redo_ends w s k (subst IsDc h.1 is) running sent;
+      given = record { begun = sent.begun; holds = λ r. refl };
+    })
 
 -- ---- a request that isn't served
 
@@ -233,24 +278,33 @@ stops_accepting : (w : NodeView) (s : ℕ) (r : Refusal) (v : SystemView) → Is
     → IsKept (with_dc w (with_system w.dc v))
 stops_accepting w s r v k is rec checks most h = elim h.1 [
   | inl same ↦
-      keeps_system w v k is rec checks (subst (λ (x : SystemView). LeavesCarry w.tc.log (leaves w.dc) x.leaves) (sym same) (same_leaves w.tc.log (leaves w.dc)))
+      keeps_system w v k is rec checks
+      (subst (λ (x : SystemView). LeavesCarry w.tc.log (leaves w.dc) x.leaves) (sym same)
+      (same_leaves w.tc.log (leaves w.dc)))
       (subst (IsTrueTo w.tc) (sym same) (refused_true w.tc w.dc.system r k.true_to))
       (subst (λ (x : SystemView). IsBegun w.tc.stable w.tc.session (stored_session x.log)) (sym same) k.sessions.begun)
   | inr more ↦
-      keeps_system w v k is rec checks (subst (λ (x : SystemView). LeavesCarry w.tc.log (leaves w.dc) x.leaves) (sym more.2) (same_leaves w.tc.log (leaves w.dc)))
-      (subst (IsTrueTo w.tc) (sym more.2) (accepted_true w.tc w.dc.system s w.dc.system.stable (w.dc.system.failures + failures_of r) k.true_to))
-      (subst (λ (x : SystemView). IsBegun w.tc.stable w.tc.session (stored_session x.log)) (sym more.2) (later_begun w.tc.stable w.tc.session s (stored_session w.dc.system.log) most k.sessions.begun))
+      keeps_system w v k is rec checks
+      (subst (λ (x : SystemView). LeavesCarry w.tc.log (leaves w.dc) x.leaves) (sym more.2)
+      (same_leaves w.tc.log (leaves w.dc)))
+      (subst (IsTrueTo w.tc) (sym more.2)
+      (accepted_true w.tc w.dc.system s w.dc.system.stable (w.dc.system.failures + failures_of r) k.true_to))
+      (subst (λ (x : SystemView). IsBegun w.tc.stable w.tc.session (stored_session x.log)) (sym more.2)
+      (later_begun w.tc.stable w.tc.session s (stored_session w.dc.system.log) most k.sessions.begun))
 ]
 
 stops_checkpoint : (w : NodeView) (l : ℕ) (r : Refusal) (v : SystemView) → IsKept w → IsDc (with_system w.dc v)
     → IsRecoverable v → Checks w.dc.system v → may_merge w.dc ≡ true → IsAnsweredTo w.tc l
     → CheckpointGives w.dc.system l (Err r) v → IsKept (with_dc w (with_system w.dc v))
-stops_checkpoint w l r v k is rec checks past to (inl h) = subst (λ (x : SystemView). IsKept (with_dc w (with_system w.dc x))) (sym h.1) k
+stops_checkpoint w l r v k is rec checks past to (inl h) =
+    subst (λ (x : SystemView). IsKept (with_dc w (with_system w.dc x))) (sym h.1) k
 stops_checkpoint w l r v k is rec checks past to (inr h) =
     let u : SystemView = lowered w.dc.system l in
     let t : IsTrueTo w.tc u = lowered_true w l k (k.answered past) to in
     let stopped = stops_among w.tc u u.leaves r v t t.leaves t.low h in
-    keeps_system w v k is rec checks (subst (LeavesCarry w.tc.log (leaves w.dc)) (sym stopped.leaves) (lowered_carries w l k (k.answered past) to)) stopped.true_to
+    keeps_system w v k is rec checks
+    (subst (LeavesCarry w.tc.log (leaves w.dc)) (sym stopped.leaves) (lowered_carries w l k (k.answered past) to))
+    stopped.true_to
     (subst (λ log. IsBegun w.tc.stable w.tc.session (stored_session log)) (sym stopped.log) k.sessions.begun)
 
 at_system : (w : NodeView) (dc : DcView) → dc ≡ with_system w.dc dc.system
@@ -260,13 +314,17 @@ at_system w dc same h = subst (λ (x : DcView). IsKept (with_dc w x)) (sym same)
 stops_keep : (w : NodeView) (q : Request) (r : Refusal) (dc : DcView) → IsKept w → IsDc dc → IsRecoverable dc.system
     → Checks w.dc.system dc.system → IsSent w.tc w.dc q → serve_refusal w.dc q ≡ None → Stops w.dc q r dc
     → IsKept (with_dc w dc)
-stops_keep w (asks.Connect s) r dc k is rec checks sent allowed h = at_system w dc h.2 (stops_accepting w s r dc.system k (subst IsDc h.2 is) rec checks sent h.1)
-stops_keep w (asks.Perform s n o) r dc k is rec checks sent allowed h = subst (λ (x : DcView). IsKept (with_dc w x)) (sym h.1.1) k
+stops_keep w (asks.Connect s) r dc k is rec checks sent allowed h =
+    at_system w dc h.2 (stops_accepting w s r dc.system k (subst IsDc h.2 is) rec checks sent h.1)
+stops_keep w (asks.Perform s n o) r dc k is rec checks sent allowed h =
+    subst (λ (x : DcView). IsKept (with_dc w x)) (sym h.1.1) k
 stops_keep w (asks.Get s n key) r dc k is rec checks sent allowed h = absurd h
-stops_keep w (asks.Scan s n low high) r dc k is rec checks sent allowed h = subst (λ (x : DcView). IsKept (with_dc w x)) (sym h.1) k
+stops_keep w (asks.Scan s n low high) r dc k is rec checks sent allowed h =
+    subst (λ (x : DcView). IsKept (with_dc w x)) (sym h.1) k
 stops_keep w (asks.LowWater s l) r dc k is rec checks sent allowed h = absurd h
 stops_keep w (asks.Checkpoint s l) r dc k is rec checks sent allowed h =
-    at_system w dc h.1 (stops_checkpoint w l r dc.system k (subst IsDc h.1 is) rec checks (let_past w.dc s allowed).past sent h.0)
+    at_system w dc h.1 (stops_checkpoint w l r dc.system k (subst IsDc h.1 is) rec checks (let_past w.dc s allowed).past
+    sent h.0)
 stops_keep w (asks.RedoEnd s) r dc k is rec checks sent allowed h = absurd h
 
 pub stops_serving : (w : NodeView) (q : Request) (r : Refusal) (dc : DcView) → IsKept w → IsDc dc → IsSent w.tc w.dc q
@@ -275,4 +333,5 @@ stops_serving w q r dc k is sent h = by (serve_refusal w.dc q) refl h
   where
     by : (x : Option Refusal) → serve_refusal w.dc q ≡ x → StopsUnless x w.dc q r dc → IsKept (with_dc w dc)
     by (Some cause) refuses g = subst (λ (x : DcView). IsKept (with_dc w x)) (sym g.1) k
-    by None allowed g = stops_keep w q r dc k is (recoverable_served w.dc q (Err r) dc k.dc k.recoverable h) (checked_served w.dc q (Err r) dc k.dc k.recoverable h) sent allowed g
+    by None allowed g = stops_keep w q r dc k is (recoverable_served w.dc q (Err r) dc k.dc k.recoverable h)
+        (checked_served w.dc q (Err r) dc k.dc k.recoverable h) sent allowed g

@@ -33,7 +33,8 @@ read_numbers w n (Range low high) tc few = (session_number w tc, omega (arith, f
 
 request_numbers : (w : TcView) (t : ℕ) (request : Request) → IsTc w → IsRequestOf w t request
     → HasRequestNumbers request
-request_numbers w t request k (inl r) = subst HasRequestNumbers (sym r.is) (session_number w k, omega (arith, r.stable, k.within, k.few.records))
+request_numbers w t request k (inl r) =
+    subst HasRequestNumbers (sym r.is) (session_number w k, omega (arith, r.stable, k.within, k.few.records))
 request_numbers w t request k (inr r) =
     let asked = (k.reading.each r.open_txn.txn r.open_txn r.read r.at.is r.reading).asked in
     subst HasRequestNumbers (sym r.is) (read_numbers w r.read.number r.read.span k asked)
@@ -65,12 +66,15 @@ reply_ordered (asks.Connect s) reply old new fits h = subst IsOrdered (sym (repl
 reply_ordered (asks.Perform s n o) reply old new fits h = pick (captures_at old (key_of o) n) h
   where
     pick : (b : Bool)
-        → MatchBool b ((Some reply ≡ Some (says.Answered s n (saved_in (leaf_at (leaves old) (key_of o)).ab.entries n))) × (new ≡ old))
-        ((Some reply ≡ Some (says.Answered s n (Some (answer_in (leaf_at (leaves old) (key_of o)).rows o)))) × (new ≡ performs old n o)) → IsOrdered reply
+        → MatchBool b ((Some reply ≡ Some (says.Answered s n (saved_in (leaf_at (leaves old) (key_of o)).ab.entries n)))
+        × (new ≡ old))
+        ((Some reply ≡ Some (says.Answered s n (Some (answer_in (leaf_at (leaves old) (key_of o)).rows o))))
+        × (new ≡ performs old n o)) → IsOrdered reply
     pick true h = subst IsOrdered (sym (reply_is h.0)) (fits.0, fits.1.0)
     pick false h = subst IsOrdered (sym (reply_is h.0)) (fits.0, fits.1.0)
 reply_ordered (asks.Get s n k) reply old new fits h = subst IsOrdered (sym (reply_is h.0)) (fits.0, fits.1.0)
-reply_ordered (asks.Scan s n lo hi) reply old new fits h = subst IsOrdered (sym (reply_is h.0)) (fits.0, fits.1.0, rows_rise lo hi (rows_of (leaves old)))
+reply_ordered (asks.Scan s n lo hi) reply old new fits h =
+    subst IsOrdered (sym (reply_is h.0)) (fits.0, fits.1.0, rows_rise lo hi (rows_of (leaves old)))
 reply_ordered (asks.LowWater s l) reply old new fits h = let e : Some reply ≡ None = h.0 in absurd (cc)
 reply_ordered (asks.Checkpoint s l) reply old new fits h = subst IsOrdered (sym (reply_is h.0)) fits
 reply_ordered (asks.RedoEnd s) reply old new fits h = subst IsOrdered (sym (reply_is h.0)) fits

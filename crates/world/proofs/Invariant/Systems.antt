@@ -32,6 +32,16 @@ pub keeps_system : (w : NodeView) (v : SystemView) → IsKept w → IsDc (with_s
     → IsBegun w.tc.stable w.tc.session (stored_session v.log) → IsKept (with_dc w (with_system w.dc v))
 keeps_system w v k is recoverable checks c true_to begun =
     keeps_dc w (with_system w.dc v) k is
-    (record { captured = λ some. c.captured; stored = omega arith; ran = λ s begun r. r; past = λ s begun r past. past; checks = checks })
+    (record {
+      captured = λ some. c.captured;
+      stored = omega arith;
+      ran = λ s begun r. r;
+      past = λ s begun r past. past;
+      checks = checks;
+    })
     recoverable true_to k.performed k.answered
-    (record { begun = begun; served = served_alike w.tc.phase w.tc.session w.tc.log w.dc (with_system w.dc v) refl refl refl c.captured k.sessions.served })
+    (record {
+      begun = begun;
+      served = served_alike w.tc.phase w.tc.session w.tc.log w.dc (with_system w.dc v) refl refl refl c.captured
+          k.sessions.served;
+    })

@@ -34,19 +34,23 @@ Keeps w v = IsDc (with_system w.dc v) → IsRecoverable v → Checks w.dc.system
 keeps_split : (w : NodeView) (p : ℕ) (pair : Neighbours) (v : SystemView) → IsKept w → Splits w.dc.system p pair v
     → Keeps w v
 keeps_split w p pair v k h =
-    subst (Keeps w) (sym h.after) (λ is recoverable checks. keeps_system w (split_to w.dc.system p) k is recoverable checks (split_carries w p k h.may) (split_true w p k h.may) k.sessions.begun)
+    subst (Keeps w) (sym h.after)
+    (λ is recoverable checks. keeps_system w (split_to w.dc.system p) k is recoverable checks
+    (split_carries w p k h.may) (split_true w p k h.may) k.sessions.begun)
 
 keeps_merge : (w : NodeView) (p : ℕ) (pair : Neighbours) (v : SystemView) → IsKept w → may_merge w.dc ≡ true
     → Merges w.dc.system p pair v → Keeps w v
 keeps_merge w p pair v k let_merge h =
     subst (Keeps w) (sym h.after) (λ is recoverable checks.
-    keeps_system w (merged_to w.dc.system p) k is recoverable checks (merged_carries w p k (k.answered let_merge) h.may) (merged_true w p k (k.answered let_merge) h.may)
+    keeps_system w (merged_to w.dc.system p) k is recoverable checks (merged_carries w p k (k.answered let_merge) h.may)
+    (merged_true w p k (k.answered let_merge) h.may)
     k.sessions.begun)
 
 keeps_refused : (w : NodeView) (r : Refusal) (v : SystemView) → IsKept w → v ≡ refused_so w.dc.system r → Keeps w v
 keeps_refused w r v k same =
     subst (Keeps w) (sym same)
-    (λ is recoverable checks. keeps_system w (refused_so w.dc.system r) k is recoverable checks (same_leaves w.tc.log (leaves w.dc)) (refused_true w.tc w.dc.system r k.true_to)
+    (λ is recoverable checks. keeps_system w (refused_so w.dc.system r) k is recoverable checks
+    (same_leaves w.tc.log (leaves w.dc)) (refused_true w.tc w.dc.system r k.true_to)
     k.sessions.begun)
 
 split_keeps : (w : NodeView) (key : Bytes) (given : Result Neighbours Refusal) (v : SystemView) → IsKept w
@@ -90,24 +94,32 @@ tend_keeps w (Err r) v k h = keeps_refused w r v k h.1
 flush_keeps : (w : NodeView) (key : Bytes) (given : Result ℕ Refusal) (v : SystemView) → IsKept w
     → FlushGives w.dc.system key given v → Keeps w v
 flush_keeps w key (Ok id) v k h =
-    subst (Keeps w) (sym h.2) (λ is recoverable checks. keeps_system w (written_to w.dc.system (leaf_at (leaves w.dc) key)) k is recoverable checks
-    (subst (LeavesCarry w.tc.log (leaves w.dc)) (sym (covered_leaves w.dc.system (leaf_at (leaves w.dc) key))) (same_leaves w.tc.log (leaves w.dc)))
+    subst (Keeps w) (sym h.2)
+    (λ is recoverable checks. keeps_system w (written_to w.dc.system (leaf_at (leaves w.dc) key)) k is recoverable
+    checks
+    (subst (LeavesCarry w.tc.log (leaves w.dc)) (sym (covered_leaves w.dc.system (leaf_at (leaves w.dc) key)))
+    (same_leaves w.tc.log (leaves w.dc)))
     (written_true w.tc w.dc.system (leaf_at (leaves w.dc) key) k.true_to h.1 (own_leaf w key k) (own_low w key k))
-    (subst (λ log. IsBegun w.tc.stable w.tc.session (stored_session log)) (sym (covered_log w.dc.system (leaf_at (leaves w.dc) key))) k.sessions.begun))
+    (subst (λ log. IsBegun w.tc.stable w.tc.session (stored_session log))
+    (sym (covered_log w.dc.system (leaf_at (leaves w.dc) key))) k.sessions.begun))
 flush_keeps w key (Err r) v k h =
     let stopped = stops_true w.tc w.dc.system (leaf_at (leaves w.dc) key) r v k.true_to h in
-    λ is recoverable checks. keeps_system w v k is recoverable checks (subst (LeavesCarry w.tc.log (leaves w.dc)) (sym stopped.leaves) (same_leaves w.tc.log (leaves w.dc))) stopped.true_to
+    λ is recoverable checks. keeps_system w v k is recoverable checks
+    (subst (LeavesCarry w.tc.log (leaves w.dc)) (sym stopped.leaves) (same_leaves w.tc.log (leaves w.dc)))
+    stopped.true_to
     (subst (λ log. IsBegun w.tc.stable w.tc.session (stored_session log)) (sym stopped.log) k.sessions.begun)
 
 -- the data component's calls
 at_dc : (w : NodeView) (dc : DcView) → IsDc dc → IsRecoverable dc.system → Checks w.dc.system dc.system
     → dc ≡ with_system w.dc dc.system → Keeps w dc.system → IsKept (with_dc w dc)
-at_dc w dc is recoverable checks same keeps = subst (λ (x : DcView). IsKept (with_dc w x)) (sym same) (keeps (subst IsDc same is) recoverable checks)
+at_dc w dc is recoverable checks same keeps =
+    subst (λ (x : DcView). IsKept (with_dc w x)) (sym same) (keeps (subst IsDc same is) recoverable checks)
 
 pub splits_keep : (w : NodeView) (key : Bytes) (given : Result Neighbours Refusal) (dc : DcView) → IsKept w → IsDc dc
     → SplitsTo w.dc key given dc → IsKept (with_dc w dc)
 splits_keep w key given dc k is h =
-    at_dc w dc is (recoverable_split w.dc key given dc k.dc k.recoverable h) (checked_split w.dc key given dc k.dc k.recoverable h) h.1 (split_keeps w key given dc.system k h.0)
+    at_dc w dc is (recoverable_split w.dc key given dc k.dc k.recoverable h)
+    (checked_split w.dc key given dc k.dc k.recoverable h) h.1 (split_keeps w key given dc.system k h.0)
 
 pub merges_keep : (w : NodeView) (key : Bytes) (given : Result Neighbours Refusal) (dc : DcView) → IsKept w → IsDc dc
     → MergesTo w.dc key given dc → IsKept (with_dc w dc)
@@ -116,15 +128,18 @@ merges_keep w key given dc k is h = by (may_merge w.dc) refl h
     by : (b : Bool) → may_merge w.dc ≡ b
         → MatchBool b (Changes (MergeGives w.dc.system key given) w.dc dc) (IsNotNow w.dc given dc)
         → IsKept (with_dc w dc)
-    by true may g = at_dc w dc is (recoverable_merge w.dc key given dc k.dc k.recoverable h) (checked_merge w.dc key given dc k.dc k.recoverable h) g.1 (merge_keeps w key given dc.system k may g.0)
+    by true may g = at_dc w dc is (recoverable_merge w.dc key given dc k.dc k.recoverable h)
+        (checked_merge w.dc key given dc k.dc k.recoverable h) g.1 (merge_keeps w key given dc.system k may g.0)
     by false may g = subst (λ (x : DcView). IsKept (with_dc w x)) (sym g.1) k
 
 pub tends_keep : (w : NodeView) (given : Result Tended Refusal) (dc : DcView) → IsKept w → IsDc dc
     → TendsTo w.dc given dc → IsKept (with_dc w dc)
 tends_keep w given dc k is h =
-    at_dc w dc is (recoverable_tend w.dc given dc k.dc k.recoverable h) (checked_tend w.dc given dc k.dc k.recoverable h) h.1 (tend_keeps w given dc.system k h.0)
+    at_dc w dc is (recoverable_tend w.dc given dc k.dc k.recoverable h)
+    (checked_tend w.dc given dc k.dc k.recoverable h) h.1 (tend_keeps w given dc.system k h.0)
 
 pub flushes_keep : (w : NodeView) (key : Bytes) (given : Result ℕ Refusal) (dc : DcView) → IsKept w → IsDc dc
     → FlushesTo w.dc key given dc → IsKept (with_dc w dc)
 flushes_keep w key given dc k is h =
-    at_dc w dc is (recoverable_flush w.dc key given dc k.dc k.recoverable h) (checked_flush w.dc key given dc k.dc k.recoverable h) h.1 (flush_keeps w key given dc.system k h.0)
+    at_dc w dc is (recoverable_flush w.dc key given dc k.dc k.recoverable h)
+    (checked_flush w.dc key given dc k.dc k.recoverable h) h.1 (flush_keeps w key given dc.system k h.0)

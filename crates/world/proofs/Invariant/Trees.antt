@@ -47,7 +47,8 @@ captured_leaf : (w : NodeView) (l : ℕ) (leaf : LeafView) → AnsweredAreCaptur
     → ((key : Bytes) → is_in_fences leaf key ≡ true → leaf_at (leaves w.dc) key ≡ leaf) → IsAnsweredTo w.tc l
     → IsCapturedTo w.tc.log leaf l
 captured_leaf w l leaf all own to = record {
-  all = λ n o asks within below. subst (λ (x : LeafView). captures x.ab n ≡ true) (own (key_of o) within) (all n o asks (all_answered w.tc l to n o below asks));
+  all = λ n o asks within below. subst (λ (x : LeafView). captures x.ab n ≡ true) (own (key_of o) within)
+      (all n o asks (all_answered w.tc l to n o below asks));
 }
 
 abbrev IsOwn : NodeView → LeafView → Type 0
@@ -58,28 +59,33 @@ all_own w k = own_leaves (leaves w.dc) k.dc.system.leaves
 
 are_captured : (w : NodeView) → IsKept w → AnsweredAreCaptured w.tc.log w.dc → AreCaptured w.tc.log (leaves w.dc)
 are_captured w k all =
-    all_from (IsOwn w) (λ (leaf : LeafView). AllByRecursion (λ (other : LeafView). IsCapturedTo w.tc.log leaf other.ab.low) (leaves w.dc))
-    (λ leaf own. all_from (λ (other : LeafView). IsAnsweredTo w.tc other.ab.low) (λ (other : LeafView). IsCapturedTo w.tc.log leaf other.ab.low)
+    all_from (IsOwn w) (λ (leaf : LeafView). AllByRecursion
+    (λ (other : LeafView). IsCapturedTo w.tc.log leaf other.ab.low) (leaves w.dc))
+    (λ leaf own. all_from (λ (other : LeafView). IsAnsweredTo w.tc other.ab.low)
+    (λ (other : LeafView). IsCapturedTo w.tc.log leaf other.ab.low)
     (λ other to. captured_leaf w other.ab.low leaf all own to) (leaves w.dc) k.true_to.low)
     (leaves w.dc) (all_own w k)
 
 -- ---- parts of what is true to a log
 
 are_honest : (w : NodeView) → IsKept w → AreHonest w.tc.log (leaves w.dc)
-are_honest w k = all_from (IsHonestTo w.tc.log w.tc.stable) (IsHonestLeaf w.tc.log) (λ leaf h. h.honest) (leaves w.dc) k.true_to.leaves
+are_honest w k = all_from (IsHonestTo w.tc.log w.tc.stable) (IsHonestLeaf w.tc.log) (λ leaf h. h.honest) (leaves w.dc)
+    k.true_to.leaves
 
 -- whatever the leaf has captured is stable
 abbrev HasStable : ℕ → LeafView → Type 0
 HasStable stable leaf = (n : ℕ) → captures leaf.ab n ≡ true → n ≤ stable
 
 have_stable : (w : NodeView) → IsKept w → AllByRecursion (HasStable w.tc.stable) (leaves w.dc)
-have_stable w k = all_from (IsHonestTo w.tc.log w.tc.stable) (HasStable w.tc.stable) (λ leaf h. h.within) (leaves w.dc) k.true_to.leaves
+have_stable w k = all_from (IsHonestTo w.tc.log w.tc.stable) (HasStable w.tc.stable) (λ leaf h. h.within) (leaves w.dc)
+    k.true_to.leaves
 
 honest_to_all : (log : List Record) (stable : ℕ) (ls : List LeafView) → AllByRecursion (IsHonestLeaf log) ls
     → AllByRecursion (HasStable stable) ls
     → AllByRecursion (IsHonestTo log stable) ls
 honest_to_all log stable ls honest within =
-    all_both (IsHonestLeaf log) (HasStable stable) (IsHonestTo log stable) (λ leaf h s. record { honest = h; within = s }) ls honest within
+    all_both (IsHonestLeaf log) (HasStable stable) (IsHonestTo log stable)
+    (λ leaf h s. record { honest = h; within = s }) ls honest within
 
 -- a record more, whose leaf is one of these
 have_logged : (P : LeafView → Type 0) (pages : Pages) (r : DcRecord) (log : List DcRecord) → AllHave P pages log
@@ -94,8 +100,10 @@ in_image P leaf x h e = subst P (let same : leaf_of (image_of leaf) ≡ x = cc i
 
 stable_split : (stable : ℕ) (leaf : LeafView) (k : Bytes) (id d : ℕ) → HasStable stable leaf
     → HasStable stable (lower_of leaf k d) × HasStable stable (upper_of leaf k id d)
-stable_split stable leaf k id d h =
-    (λ n captured. h n (captures_fewer leaf.ab (is_under k) n captured), λ n captured. h n (captures_fewer leaf.ab (is_from k) n captured))
+stable_split stable leaf k id d h = (
+  λ n captured. h n (captures_fewer leaf.ab (is_under k) n captured),
+  λ n captured. h n (captures_fewer leaf.ab (is_from k) n captured),
+)
 
 module _ (w : NodeView) (p : ℕ) (k : IsKept w) (may : may_split_at (leaves w.dc) p ≡ true) where
   abbrev v : SystemView
@@ -106,28 +114,34 @@ module _ (w : NodeView) (p : ℕ) (k : IsKept w) (may : may_split_at (leaves w.d
 
   split_honest_to : AllByRecursion (IsHonestTo w.tc.log w.tc.stable) split_leaves
   split_honest_to =
-      honest_to_all w.tc.log w.tc.stable split_leaves (split_honest w.tc.log (leaves w.dc) p (next_id v) (next_number v) k.dc.system.leaves may (are_honest w k))
-      (all_split (HasStable w.tc.stable) (next_id v) (next_number v) (λ leaf is may h. stable_split w.tc.stable leaf (middle leaf) (next_id v) (next_number v) h)
+      honest_to_all w.tc.log w.tc.stable split_leaves
+      (split_honest w.tc.log (leaves w.dc) p (next_id v) (next_number v) k.dc.system.leaves may (are_honest w k))
+      (all_split (HasStable w.tc.stable) (next_id v) (next_number v)
+      (λ leaf is may h. stable_split w.tc.stable leaf (middle leaf) (next_id v) (next_number v) h)
       (leaves w.dc) p k.dc.system.leaves.each may (have_stable w k))
 
   split_low : AllByRecursion (IsLowAnswered w.tc) split_leaves
-  split_low = lows_split (IsAnsweredTo w.tc) (leaves w.dc) p (next_id v) (next_number v) k.dc.system.leaves may k.true_to.low
+  split_low = lows_split (IsAnsweredTo w.tc) (leaves w.dc) p (next_id v) (next_number v) k.dc.system.leaves may
+      k.true_to.low
 
   pub split_true : IsTrueTo w.tc (split_to v p)
   split_true = record {
     leaves = split_honest_to;
     written = have_logged (IsHonestTo w.tc.log w.tc.stable) (pages_of v.pages) _ v.log k.true_to.written
         (λ leaf is. in_image (IsHonestTo w.tc.log w.tc.stable) _ leaf
-        (the_upper (IsHonestTo w.tc.log w.tc.stable) (leaves w.dc) p (next_id v) (next_number v) may split_honest_to) is);
+        (the_upper (IsHonestTo w.tc.log w.tc.stable) (leaves w.dc) p (next_id v) (next_number v) may split_honest_to)
+        is);
     low = split_low;
     written_low = have_logged (IsLowAnswered w.tc) (pages_of v.pages) _ v.log k.true_to.written_low
-        (λ leaf is. in_image (IsLowAnswered w.tc) _ leaf (the_upper (IsLowAnswered w.tc) (leaves w.dc) p (next_id v) (next_number v) may split_low) is);
+        (λ leaf is. in_image (IsLowAnswered w.tc) _ leaf
+        (the_upper (IsLowAnswered w.tc) (leaves w.dc) p (next_id v) (next_number v) may split_low) is);
   }
 
   pub split_carries : LeavesCarry w.tc.log (leaves w.dc) split_leaves
   split_carries = record {
     captured = λ n o asks h.
-        captured_split (leaves w.dc) k.dc.system.leaves p (next_id v) (next_number v) may (key_of o) w.tc.log (are_honest w k) n o asks refl ∙ h;
+        captured_split (leaves w.dc) k.dc.system.leaves p (next_id v) (next_number v) may (key_of o) w.tc.log
+        (are_honest w k) n o asks refl ∙ h;
   }
 
 -- ---- merges
@@ -135,9 +149,11 @@ module _ (w : NodeView) (p : ℕ) (k : IsKept w) (may : may_split_at (leaves w.d
 stable_joined : (stable : ℕ) (left right : LeafView) (d : ℕ) → HasStable stable left → HasStable stable right
     → HasStable stable (joined_of left right d)
 stable_joined stable left right d h g n captured =
-    elim (or_cases (captures left.ab n) (captures right.ab n) (sym (joined_captures left.ab right.ab n) ∙ captured)) [ inl l ↦ h n l | inr r ↦ g n r ]
+    elim (or_cases (captures left.ab n) (captures right.ab n) (sym (joined_captures left.ab right.ab n) ∙ captured))
+    [ inl l ↦ h n l | inr r ↦ g n r ]
 
-module _ (w : NodeView) (p : ℕ) (k : IsKept w) (all : AnsweredAreCaptured w.tc.log w.dc) (may : may_merge_at (leaves w.dc) p ≡ true) where
+module _ (w : NodeView) (p : ℕ) (k : IsKept w) (all : AnsweredAreCaptured w.tc.log w.dc)
+    (may : may_merge_at (leaves w.dc) p ≡ true) where
   abbrev u : SystemView
   u = w.dc.system
 
@@ -152,9 +168,13 @@ module _ (w : NodeView) (p : ℕ) (k : IsKept w) (all : AnsweredAreCaptured w.tc
 
   merged_honest_to : AllByRecursion (IsHonestTo w.tc.log w.tc.stable) merged_leaves
   merged_honest_to =
-      honest_to_all w.tc.log w.tc.stable merged_leaves (merged_honest w.tc.log (leaves w.dc) p (next_number u) k.dc.system.leaves (are_honest w k) (are_captured w k all))
+      honest_to_all w.tc.log w.tc.stable merged_leaves
+      (merged_honest w.tc.log (leaves w.dc) p (next_number u) k.dc.system.leaves (are_honest w k)
+      (are_captured w k all))
       (all_merged (HasStable w.tc.stable) (next_number u) (leaves w.dc) p
-      (pair_with AreStable AreStable _ (λ left right both again. stable_joined w.tc.stable left right (next_number u) both.0 both.1) (leaves w.dc) p stable_pair stable_pair)
+      (pair_with AreStable AreStable
+      _ (λ left right both again. stable_joined w.tc.stable left right (next_number u) both.0 both.1) (leaves w.dc)
+      p stable_pair stable_pair)
       (have_stable w k))
 
   merged_low : AllByRecursion (IsLowAnswered w.tc) merged_leaves
@@ -164,16 +184,19 @@ module _ (w : NodeView) (p : ℕ) (k : IsKept w) (all : AnsweredAreCaptured w.tc
   merged_true = record {
     leaves = merged_honest_to;
     written = have_logged (IsHonestTo w.tc.log w.tc.stable) (pages_of u.pages) _ u.log k.true_to.written
-        (λ leaf is. in_image (IsHonestTo w.tc.log w.tc.stable) _ leaf (the_merged (IsHonestTo w.tc.log w.tc.stable) (leaves w.dc) p (next_number u) may merged_honest_to) is);
+        (λ leaf is. in_image (IsHonestTo w.tc.log w.tc.stable) _ leaf
+        (the_merged (IsHonestTo w.tc.log w.tc.stable) (leaves w.dc) p (next_number u) may merged_honest_to) is);
     low = merged_low;
     written_low = have_logged (IsLowAnswered w.tc) (pages_of u.pages) _ u.log k.true_to.written_low
-        (λ leaf is. in_image (IsLowAnswered w.tc) _ leaf (the_merged (IsLowAnswered w.tc) (leaves w.dc) p (next_number u) may merged_low) is);
+        (λ leaf is. in_image (IsLowAnswered w.tc) _ leaf
+        (the_merged (IsLowAnswered w.tc) (leaves w.dc) p (next_number u) may merged_low) is);
   }
 
   pub merged_carries : LeavesCarry w.tc.log (leaves w.dc) merged_leaves
   merged_carries = record {
     captured = λ n o asks h.
-        captured_merged w.tc.log (leaves w.dc) k.dc.system.leaves (are_honest w k) (are_captured w k all) p (next_number u) (key_of o) n o asks refl ∙ h;
+        captured_merged w.tc.log (leaves w.dc) k.dc.system.leaves (are_honest w k) (are_captured w k all) p
+        (next_number u) (key_of o) n o asks refl ∙ h;
   }
 
 -- ---- low water
@@ -181,21 +204,26 @@ module _ (w : NodeView) (p : ℕ) (k : IsKept w) (all : AnsweredAreCaptured w.tc
 abbrev IsOwnHonest : NodeView → LeafView → Type 0
 IsOwnHonest w leaf = IsOwn w leaf × IsHonestTo w.tc.log w.tc.stable leaf
 
-module _ (w : NodeView) (l : ℕ) (k : IsKept w) (all : AnsweredAreCaptured w.tc.log w.dc) (to : IsAnsweredTo w.tc l) where
+module _ (w : NodeView) (l : ℕ) (k : IsKept w) (all : AnsweredAreCaptured w.tc.log w.dc)
+    (to : IsAnsweredTo w.tc l) where
   raised_honest_to : (leaf : LeafView) → IsOwn w leaf → IsHonestTo w.tc.log w.tc.stable leaf
       → IsHonestTo w.tc.log w.tc.stable (raised_to leaf l)
   raised_honest_to leaf own h = record {
     honest = honest_raised w.tc.log leaf l h.honest (captured_leaf w l leaf all own to);
-    within = λ n captured. elim (or_cases (captures leaf.ab n) (nat_le n l) (sym (raised_captures leaf.ab l n) ∙ captured)) [
-      | inl before ↦ h.within n before
-      | inr below ↦ let less : n ≤ l = grind (arith, nat_tests, below) in omega (arith, less, most_stable w.tc l k.tc.within to)
-    ];
+    within = λ n captured. elim (or_cases (captures leaf.ab n) (nat_le n l)
+        (sym (raised_captures leaf.ab l n) ∙ captured)) [
+          | inl before ↦ h.within n before
+          | inr below ↦ let less : n ≤ l = grind (arith, nat_tests, below) in
+              omega (arith, less, most_stable w.tc l k.tc.within to)
+        ];
   }
 
   pub lowered_true : IsTrueTo w.tc (lowered w.dc.system l)
   lowered_true = record {
-    leaves = all_mapped (IsOwnHonest w) (IsHonestTo w.tc.log w.tc.stable) (λ leaf. raised_to leaf l) (λ leaf both. raised_honest_to leaf both.0 both.1) (leaves w.dc)
-        (all_both (IsOwn w) (IsHonestTo w.tc.log w.tc.stable) (IsOwnHonest w) (λ leaf own h. (own, h)) (leaves w.dc) (all_own w k) k.true_to.leaves);
+    leaves = all_mapped (IsOwnHonest w) (IsHonestTo w.tc.log w.tc.stable) (λ leaf. raised_to leaf l)
+        (λ leaf both. raised_honest_to leaf both.0 both.1) (leaves w.dc)
+        (all_both (IsOwn w) (IsHonestTo w.tc.log w.tc.stable) (IsOwnHonest w) (λ leaf own h. (own, h)) (leaves w.dc)
+        (all_own w k) k.true_to.leaves);
     written = k.true_to.written;
     low = lows_raised (IsAnsweredTo w.tc) (leaves w.dc) l to k.true_to.low;
     written_low = k.true_to.written_low;
@@ -203,5 +231,6 @@ module _ (w : NodeView) (l : ℕ) (k : IsKept w) (all : AnsweredAreCaptured w.tc
 
   pub lowered_carries : LeavesCarry w.tc.log (leaves w.dc) (map (λ leaf. raised_to leaf l) (leaves w.dc))
   lowered_carries = record {
-    captured = λ n o asks h. captured_raised (leaves w.dc) k.dc.system.leaves l (key_of o) n ∙ ap (λ (b : Bool). b || nat_le n l) h;
+    captured = λ n o asks h. captured_raised (leaves w.dc) k.dc.system.leaves l (key_of o) n
+        ∙ ap (λ (b : Bool). b || nat_le n l) h;
   }

@@ -28,11 +28,15 @@ unread w o r n q k at reads requests unanswered =
           let F : ℕ → Type 0 = λ t. find t w.open_txns ≡ Some a.open_txn in
           let same : Some a.open_txn ≡ Some o = sym (subst F e a.is) ∙ at in
           let none : o.waiting ≡ None = (reading_at w o r k at reads).idle in
-          let waits : Some n ≡ None = sym a.waiting ∙ ap (λ (x : OpenTxn). x.waiting) (let p : a.open_txn ≡ o = cc in p) ∙ none in
+          let waits : Some n ≡ None =
+          sym a.waiting ∙ ap (λ (x : OpenTxn). x.waiting) (let p : a.open_txn ≡ o = cc in p) ∙ none in
           cc in
-          ap (is_within (shared r.span)) own.key ∙ held_apart w o r own.number a.open_txn.txn own.op k at reads own.is (open_at w a.open_txn k a.is).is other
+          ap (is_within (shared r.span)) own.key
+          ∙ held_apart w o r own.number a.open_txn.txn own.op k at reads own.is (open_at w a.open_txn k a.is).is
+          other
       | inr (inr due) ↦
           let own = own_key w.log n due.txn q k.legal due.step requests in
           let other : due.txn ≢ o.txn = λ e. omega (arith, e, due.loser.early, late_at w o k at) in
-          ap (is_within (shared r.span)) own.key ∙ held_apart w o r own.number due.txn own.op k at reads own.is due.loser.open_txn other
+          ap (is_within (shared r.span)) own.key
+          ∙ held_apart w o r own.number due.txn own.op k at reads own.is due.loser.open_txn other
     ]

@@ -25,7 +25,8 @@ pub have_all : (P Q : LeafView → Type 0) → ((leaf : LeafView) → P leaf →
 have_all P Q from pages log h = record {
   first_leaf = from first h.first_leaf;
   page = λ id page is. from page (h.page id page is);
-  logged = all_from (λ (r : DcRecord). (leaf : LeafView) → leaf_in r ≡ Some leaf → P leaf) (λ (r : DcRecord). (leaf : LeafView) → leaf_in r ≡ Some leaf → Q leaf)
+  logged = all_from (λ (r : DcRecord). (leaf : LeafView) → leaf_in r ≡ Some leaf → P leaf)
+      (λ (r : DcRecord). (leaf : LeafView) → leaf_in r ≡ Some leaf → Q leaf)
       (λ r each leaf is. from leaf (each leaf is)) log h.logged;
 }
 
@@ -65,10 +66,12 @@ pub written_true : (w : TcView) (v : SystemView) (leaf : LeafView) → IsTrueTo 
 written_true w v leaf h image honest low = record {
   leaves = subst (AllByRecursion (IsHonestTo w.log w.stable)) (sym (covered_leaves v leaf)) h.leaves;
   written = subst (AllHave (IsHonestTo w.log w.stable) (pages_of (written_to v leaf).pages)) (sym (covered_log v leaf))
-      (have_written (IsHonestTo w.log w.stable) (pages_of v.pages) (pages_of (written_to v leaf).pages) v.log leaf (pages_written v.pages leaf image) honest h.written);
+      (have_written (IsHonestTo w.log w.stable) (pages_of v.pages) (pages_of (written_to v leaf).pages) v.log leaf
+      (pages_written v.pages leaf image) honest h.written);
   low = subst (AllByRecursion (IsLowAnswered w)) (sym (covered_leaves v leaf)) h.low;
   written_low = subst (AllHave (IsLowAnswered w) (pages_of (written_to v leaf).pages)) (sym (covered_log v leaf))
-      (have_written (IsLowAnswered w) (pages_of v.pages) (pages_of (written_to v leaf).pages) v.log leaf (pages_written v.pages leaf image) low h.written_low);
+      (have_written (IsLowAnswered w) (pages_of v.pages) (pages_of (written_to v leaf).pages) v.log leaf
+      (pages_written v.pages leaf image) low h.written_low);
 }
 
 pub covered_true : (w : TcView) (v : SystemView) (leaf : LeafView) → IsTrueTo w v → IsTrueTo w (covered v leaf)
@@ -87,7 +90,8 @@ pub written_all_true : (w : TcView) (v : SystemView) (leaves : List LeafView) �
     → AllByRecursion (IsLowAnswered w) leaves → IsTrueTo w (written_all v leaves)
 written_all_true w v [] h images honest low = h
 written_all_true w v (leaf ∷ leaves) h images honest low =
-    written_all_true w (written_to v leaf) leaves (written_true w v leaf h images.0 honest.0 low.0) images.1 honest.1 low.1
+    written_all_true w (written_to v leaf) leaves (written_true w v leaf h images.0 honest.0 low.0) images.1 honest.1
+    low.1
 
 pub written_all_leaves : (v : SystemView) (leaves : List LeafView) → (written_all v leaves).leaves ≡ v.leaves
 written_all_leaves v [] = refl
@@ -107,7 +111,12 @@ pub stops_true : (w : TcView) (v : SystemView) (leaf : LeafView) (r : Refusal) (
     → StopsWriting v leaf r new → IsStopped w v new
 stops_true w v leaf r new h stops = elim stops.1 [
   | inl same ↦ subst (IsStopped w v) (sym same) (record { true_to = refused_true w v r h; leaves = refl; log = refl })
-  | inr more ↦ subst (IsStopped w v) (sym more) (record { true_to = refused_true w (covered v leaf) r (covered_true w v leaf h); leaves = covered_leaves v leaf; log = covered_log v leaf })
+  | inr more ↦ subst (IsStopped w v) (sym more)
+      (record {
+        true_to = refused_true w (covered v leaf) r (covered_true w v leaf h);
+        leaves = covered_leaves v leaf;
+        log = covered_log v leaf;
+      })
 ]
 
 pub stops_among : (w : TcView) (v : SystemView) (leaves : List LeafView) (r : Refusal) (new : SystemView)
@@ -116,5 +125,6 @@ pub stops_among : (w : TcView) (v : SystemView) (leaves : List LeafView) (r : Re
 stops_among w v [] r new h honest low stops = absurd stops
 stops_among w v (leaf ∷ leaves) r new h honest low (inl stops) = stops_true w v leaf r new h stops
 stops_among w v (leaf ∷ leaves) r new h honest low (inr later) =
-    let rest = stops_among w (written_to v leaf) leaves r new (written_true w v leaf h later.0 honest.0 low.0) honest.1 low.1 later.1 in
+    let rest = stops_among w (written_to v leaf) leaves r new (written_true w v leaf h later.0 honest.0 low.0) honest.1
+    low.1 later.1 in
     record { true_to = rest.true_to; leaves = rest.leaves ∙ covered_leaves v leaf; log = rest.log ∙ covered_log v leaf }

@@ -17,7 +17,8 @@ pub record IsOpOf (log : List Record) (o : OpenTxn) (n : ℕ) : Type 0 where
   pub is : IsOpBy log n o.txn op
 
 op_at : (b : Bool) (log : List Record) (o : OpenTxn) (n : ℕ) → b ≡ false
-    → MatchBool b ((u : ℕ) × (x : ℕ) × (i : Op) × (record_at log n ≡ Some (is.Comp o.txn u x (Some i)))) ((p : ℕ) × (op : Op) × (record_at log n ≡ Some (is.Op o.txn p op)))
+    → MatchBool b ((u : ℕ) × (x : ℕ) × (i : Op) × (record_at log n ≡ Some (is.Comp o.txn u x (Some i))))
+    ((p : ℕ) × (op : Op) × (record_at log n ≡ Some (is.Op o.txn p op)))
     → IsOpOf log o n
 op_at true log o n flat h = absurd (true≢false flat)
 op_at false log o n flat h = record { op = h.1; is = rw h.2 refl }
@@ -26,10 +27,12 @@ pub op_waited : (log : List Record) (o : OpenTxn) (n : ℕ) → rolls_back o ≡
 op_waited log o n flat h = op_at (rolls_back o) log o n flat h
 
 no_op_at : (b : Bool) (log : List Record) (o : OpenTxn) (n : ℕ) → b ≡ true
-    → MatchBool b ((u : ℕ) × (x : ℕ) × (i : Op) × (record_at log n ≡ Some (is.Comp o.txn u x (Some i)))) ((p : ℕ) × (op : Op) × (record_at log n ≡ Some (is.Op o.txn p op)))
+    → MatchBool b ((u : ℕ) × (x : ℕ) × (i : Op) × (record_at log n ≡ Some (is.Comp o.txn u x (Some i))))
+    ((p : ℕ) × (op : Op) × (record_at log n ≡ Some (is.Op o.txn p op)))
     → (t : ℕ) (q : Op) → IsOpBy log n t q → ⊥
 no_op_at false log o n rolling h t q by = true≢false (sym rolling)
-no_op_at true log o n rolling h t q by = let there : op_in (Some (is.Comp o.txn h.0 h.1 (Some h.2))) ≡ Some (t, q) = subst (λ r. op_in r ≡ Some (t, q)) h.3 by in cc
+no_op_at true log o n rolling h t q by = let there : op_in (Some (is.Comp o.txn h.0 h.1 (Some h.2))) ≡ Some (t, q) =
+    subst (λ r. op_in r ≡ Some (t, q)) h.3 by in cc
 
 -- in a rollback it is a compensation
 pub comp_waited : (log : List Record) (o : OpenTxn) (n : ℕ) → rolls_back o ≡ true → IsRequest log o n

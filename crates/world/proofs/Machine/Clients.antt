@@ -25,7 +25,8 @@ put_is f g t x here there u = elim (cases_eq u t) [
 
 -- the same function where the value is the same
 pub same_is : {A : Type 0} → (f g : ℕ → A) (t : ℕ) → g t ≡ f t → ((u : ℕ) → u ≢ t → g u ≡ f u) → (u : ℕ) → f u ≡ g u
-same_is f g t here there u = elim (cases_eq u t) [ inl e ↦ ap f e ∙ sym here ∙ ap g (sym e) | inr apart ↦ sym (there u apart) ]
+same_is f g t here there u =
+    elim (cases_eq u t) [ inl e ↦ ap f e ∙ sym here ∙ ap g (sym e) | inr apart ↦ sym (there u apart) ]
 
 -- a transaction that was found is found in its new state
 module _ (os : List OpenTxn) (new o : OpenTxn) (at : find new.txn os ≡ Some o) where
@@ -38,7 +39,8 @@ module _ (os : List OpenTxn) (new o : OpenTxn) (at : find new.txn os ≡ Some o)
   pub doing_kept : doing_of new ≡ doing_of o → (u : ℕ) → doing_in (find u os) ≡ doing_in (find u (replace new os))
   doing_kept same =
       same_is (λ t. doing_in (find t os)) (λ t. doing_in (find t (replace new os))) new.txn
-      (ap doing_in (replaced_same new o os at) ∙ ap Some same ∙ sym (ap doing_in at)) (λ u apart. ap doing_in (replaced_other new os u apart))
+      (ap doing_in (replaced_same new o os at) ∙ ap Some same ∙ sym (ap doing_in at))
+      (λ u apart. ap doing_in (replaced_other new os u apart))
 
   pub saves_replaced : (u : ℕ)
       → put (λ t. saves_of (find t os)) new.txn new.saves u ≡ saves_of (find u (replace new os))
@@ -49,7 +51,8 @@ module _ (os : List OpenTxn) (new o : OpenTxn) (at : find new.txn os ≡ Some o)
   pub saves_kept : new.saves ≡ o.saves → (u : ℕ) → saves_of (find u os) ≡ saves_of (find u (replace new os))
   saves_kept same =
       same_is (λ t. saves_of (find t os)) (λ t. saves_of (find t (replace new os))) new.txn
-      (ap saves_of (replaced_same new o os at) ∙ same ∙ sym (ap saves_of at)) (λ u apart. ap saves_of (replaced_other new os u apart))
+      (ap saves_of (replaced_same new o os at) ∙ same ∙ sym (ap saves_of at))
+      (λ u apart. ap saves_of (replaced_other new os u apart))
 
 -- one that is gone does nothing
 pub doing_without : (os : List OpenTxn) (t u : ℕ)
@@ -60,7 +63,8 @@ doing_without os t =
 
 -- and others keep their savepoints
 pub saves_without : (os : List OpenTxn) (t u : ℕ) → (saves_of (find u (without t os)) ≡ saves_of (find u os)) ⊎ (u ≡ t)
-saves_without os t u = elim (cases_eq u t) [ inl e ↦ inr e | inr apart ↦ inl (ap saves_of (without_other t os u apart)) ]
+saves_without os t u = elim (cases_eq u t)
+    [ inl e ↦ inr e | inr apart ↦ inl (ap saves_of (without_other t os u apart)) ]
 
 -- one that takes spans, and one that lets go of all
 pub spans_put : (locks : LocksView) (t : ℕ) (ss : List Span) → IsTable locks → (u : ℕ)
@@ -72,15 +76,18 @@ spans_put locks t ss table =
 -- what an idle, a waiting and a reading transaction does
 pub rests : (o : OpenTxn) → o.rolling ≡ None → o.reading ≡ None → o.waiting ≡ None → doing_of o ≡ Ready
 rests o flat none still =
-    ap (λ r. rolling_as r (reading_as o.reading (waiting_as o.waiting))) flat ∙ ap (λ r. reading_as r (waiting_as o.waiting)) none ∙ ap waiting_as still
+    ap (λ r. rolling_as r (reading_as o.reading (waiting_as o.waiting))) flat
+    ∙ ap (λ r. reading_as r (waiting_as o.waiting)) none ∙ ap waiting_as still
 
 pub awaits : (o : OpenTxn) (n : ℕ) → o.rolling ≡ None → o.reading ≡ None → o.waiting ≡ Some n → doing_of o ≡ Awaits n
 awaits o n flat none some =
-    ap (λ r. rolling_as r (reading_as o.reading (waiting_as o.waiting))) flat ∙ ap (λ r. reading_as r (waiting_as o.waiting)) none ∙ ap waiting_as some
+    ap (λ r. rolling_as r (reading_as o.reading (waiting_as o.waiting))) flat
+    ∙ ap (λ r. reading_as r (waiting_as o.waiting)) none ∙ ap waiting_as some
 
 pub looks : (o : OpenTxn) (r : Read) → o.rolling ≡ None → o.reading ≡ Some r → doing_of o ≡ Looks (query_of r.span)
 looks o r flat some =
-    ap (λ x. rolling_as x (reading_as o.reading (waiting_as o.waiting))) flat ∙ ap (λ x. reading_as x (waiting_as o.waiting)) some
+    ap (λ x. rolling_as x (reading_as o.reading (waiting_as o.waiting))) flat
+    ∙ ap (λ x. reading_as x (waiting_as o.waiting)) some
 
 pub rolls : (o : OpenTxn) (r : Rollback) → o.rolling ≡ Some r → doing_of o ≡ Rolls r.savepoint r.above
 rolls o r some = ap (λ x. rolling_as x (reading_as o.reading (waiting_as o.waiting))) some

@@ -82,11 +82,13 @@ one_line old new e output line is h m stands =
 -- nothing changes
 pub unchanged : (old new : NodeView) (e : Event) (output : Out) → IsKept old → new ≡ old → lines_of e output ≡ Some []
     → Follows old e output new
-unchanged old new e output k same none = at_new old new old e output same (record { leads = no_line old old e output none (λ m stands. stands); kept = k })
+unchanged old new e output k same none =
+    at_new old new old e output same (record { leads = no_line old old e output none (λ m stands. stands); kept = k })
 
 -- a device that failed is counted, and that is all
 pub keeps_failed : (w : NodeView) → IsKept w → IsKept (with_tc w (failed w.tc))
-keeps_failed w k = keeps_same_log w (failed w.tc) k (tc_failed w.tc k.tc) k.checked refl (omega arith) (inl refl) (omega arith) (none_same w.tc.reads w.tc.open_txns) k.sessions
+keeps_failed w k = keeps_same_log w (failed w.tc) k (tc_failed w.tc k.tc) k.checked refl (omega arith) (inl refl)
+    (omega arith) (none_same w.tc.reads w.tc.open_txns) k.sessions
 
 -- what a refused call leaves: all as it was, but for the count of failures
 abbrev pub IsLeft : TcView → TcView → Type 0
@@ -115,7 +117,8 @@ refused : (old new : NodeView) (e : Event) (call : Call) (r : Refusal) → IsKep
     → IsLeft old.tc new.tc → ((m : Machine) → Stands old m → RefusesSo m call r new.tc)
     → Follows old e (out.Refused r) new
 refused old new e call r k line left which h = record {
-  leads = one_line old new e (out.Refused r) (IsRefused call r) line (λ m stands. let s = h m stands in (m, s.line, s.stands));
+  leads = one_line old new e (out.Refused r) (IsRefused call r) line
+      (λ m stands. let s = h m stands in (m, s.line, s.stands));
   kept = kept_left old new k left which;
 }
 
@@ -126,14 +129,18 @@ next_unfound w k = by (find (length w.log + 1) w.open_txns) refl
     by : (x : Option OpenTxn) → find (length w.log + 1) w.open_txns ≡ x → x ≡ None
     by None none = refl
     by (Some o) some =
-        let bounded = (begun_number w.log (length w.log + 1) (subst (λ (t : ℕ). record_at w.log t ≡ Some is.Begin) (found_number (length w.log + 1) w.open_txns o some) (k.open_txns.each (length w.log + 1) o some).is.begun)).bounded in
+        let bounded = (begun_number w.log (length w.log + 1)
+        (subst (λ (t : ℕ). record_at w.log t ≡ Some is.Begin) (found_number (length w.log + 1) w.open_txns o some)
+        (k.open_txns.each (length w.log + 1) o some).is.begun)).bounded in
         absurd (omega (arith, bounded))
 
 next_unlisted : (w : TcView) → IsTc w → is_listed w.committing (length w.log + 1) ≡ false
 next_unlisted w k = elim (cases_Bool (is_listed w.committing (length w.log + 1))) [
   | inl listed ↦
-      let over = committing_ended w.log w.stable (length w.log + 1) (sym (ap (λ (ts : List ℕ). is_listed ts (length w.log + 1)) k.committing) ∙ listed) in
-      let bounded = (begun_number w.log (length w.log + 1) (ended_begun w.log (length w.log + 1) k.legal over)).bounded in
+      let over = committing_ended w.log w.stable (length w.log + 1)
+      (sym (ap (λ (ts : List ℕ). is_listed ts (length w.log + 1)) k.committing) ∙ listed) in
+      let bounded = (begun_number w.log (length w.log + 1)
+      (ended_begun w.log (length w.log + 1) k.legal over)).bounded in
       absurd (omega (arith, bounded))
   | inr free ↦ free
 ]
@@ -148,11 +155,14 @@ follows_begin old new (out.Begun t) k h =
       leads = one_line old (with_tc old (begun old.tc)) event.Begin (out.Begun t) (Begins t) refl
           (λ m stands. subst (λ (x : ℕ). LeadsTo (clients old.tc) m (Begins x) (clients (begun old.tc))) (sym h.0.1)
           (stands_begun old.tc m k.tc (next_unfound old.tc k.tc) (next_unlisted old.tc k.tc) stands));
-      kept = keeps_appended old (begun old.tc) is.Begin k after k.checked refl (omega arith) (inl refl) (omega arith) (none_begun old.tc.reads old.tc.open_txns number)
-          (logs_on old (begun old.tc).log k (serves_serving old.tc (both_none (serving_refusal old.tc) _ h.0.0).0)) k.right (λ some. still_captured old is.Begin (λ o h. cc) (λ m. refl));
+      kept = keeps_appended old (begun old.tc) is.Begin k after k.checked refl (omega arith) (inl refl) (omega arith)
+          (none_begun old.tc.reads old.tc.open_txns number)
+          (logs_on old (begun old.tc).log k (serves_serving old.tc (both_none (serving_refusal old.tc) _ h.0.0).0))
+          k.right (λ some. still_captured old is.Begin (λ o h. cc) (λ m. refl));
     })
 follows_begin old new (out.Refused r) k h =
-    refused old new event.Begin ToBegin r k refl h.1 (left_refused (begin_refusal old.tc) true true old.tc r new.tc h.0) (λ m stands. begin_refused old.tc new.tc m r k.tc stands h.0)
+    refused old new event.Begin ToBegin r k refl h.1 (left_refused (begin_refusal old.tc) true true old.tc r new.tc h.0)
+    (λ m stands. begin_refused old.tc new.tc m r k.tc stands h.0)
 follows_begin old new _ k h = absurd h
 
 -- act
@@ -163,7 +173,8 @@ follows_act old new t op (out.Logged n) k h =
     let o : OpenTxn = a.open_txn in
     let tc : TcView = acted old.tc o op in
     let idle = idle_found old.tc t o a.at a.allowed in
-    let free : IsFree old.tc.locks o.txn (at_key Exclusive (key_of op)) = subst (λ (x : ℕ). IsFree old.tc.locks x (at_key Exclusive (key_of op))) (sym a.at.number) a.free in
+    let free : IsFree old.tc.locks o.txn (at_key Exclusive (key_of op)) =
+    subst (λ (x : ℕ). IsFree old.tc.locks x (at_key Exclusive (key_of op))) (sym a.at.number) a.free in
     let after : IsTc tc = subst IsTc a.acted (act_keeps old.tc new.tc t op (Ok n) k.tc a) in
     at_tc old new tc (event.Act t op) (out.Logged n) h.1 a.acted (record {
       leads = one_line old (with_tc old tc) (event.Act t op) (out.Logged n) (acts t op n) refl
@@ -171,23 +182,29 @@ follows_act old new t op (out.Logged n) k h =
           (subst (λ (x : ℕ). LeadsTo (clients old.tc) m (acts x op (length old.tc.log + 1)) (clients tc)) a.at.number
           (stands_acted old.tc m o k.tc a.at.is stands op idle after free)));
       kept = keeps_appended old tc (is.Op o.txn o.last op) k after k.checked refl (omega arith) (inl refl) (omega arith)
-          (none_replaced old.tc.reads old.tc.open_txns o (acted_txn o (length old.tc.log + 1)) a.at.is (reads_same old.tc.reads o (acted_txn o (length old.tc.log + 1)) refl))
-          (logs_on old tc.log k (serves_idle old.tc t a.allowed)) k.right (λ some. asked_captured old (is.Op o.txn o.last op) k (λ m. refl));
+          (none_replaced old.tc.reads old.tc.open_txns o (acted_txn o (length old.tc.log + 1)) a.at.is
+          (reads_same old.tc.reads o (acted_txn o (length old.tc.log + 1)) refl))
+          (logs_on old tc.log k (serves_idle old.tc t a.allowed)) k.right
+          (λ some. asked_captured old (is.Op o.txn o.last op) k (λ m. refl));
     })
 follows_act old new t op (out.Refused r) k h =
-    refused old new (event.Act t op) (ToAct t op) r k refl h.1 (left_taking (idle_refusal old.tc t) _ true old.tc t (at_key Exclusive (key_of op)) r new.tc h.0)
+    refused old new (event.Act t op) (ToAct t op) r k refl h.1
+    (left_taking (idle_refusal old.tc t) _ true old.tc t (at_key Exclusive (key_of op)) r new.tc h.0)
     (λ m stands. act_refused old.tc new.tc m t op r k.tc stands h.0)
 follows_act old new t op _ k h = absurd h
 
 -- a call of a transaction that logs nothing: one line, and the same log
-module _ (old : NodeView) (k : IsKept old) (o : OpenTxn) (new : OpenTxn) (tc : TcView) (at : find new.txn old.tc.open_txns ≡ Some o) (after : IsTc tc)
+module _ (old : NodeView) (k : IsKept old) (o : OpenTxn) (new : OpenTxn) (tc : TcView)
+    (at : find new.txn old.tc.open_txns ≡ Some o) (after : IsTc tc)
     (only : ReadsOnly old.tc.reads o new) where
   kept_same : tc.log ≡ old.tc.log → tc.stable ≡ old.tc.stable → tc.session ≡ old.tc.session → tc.phase ≡ old.tc.phase
       → tc.checkpointed ≡ old.tc.checkpointed → old.tc.reads ≤ tc.reads
       → tc.open_txns ≡ replace new old.tc.open_txns → IsKept (with_tc old tc)
   kept_same log stable session phases checkpointed reads opens =
-      keeps_same_log old tc k after (subst (λ (l : ℕ). IsChecked l old.dc.system) (sym checkpointed) k.checked) log (omega (arith, stable)) (inl session) reads
-      (subst (NoneAnew old.tc.reads old.tc.open_txns) (sym opens) (none_replaced old.tc.reads old.tc.open_txns o new at only))
+      keeps_same_log old tc k after (subst (λ (l : ℕ). IsChecked l old.dc.system) (sym checkpointed) k.checked) log
+      (omega (arith, stable)) (inl session) reads
+      (subst (NoneAnew old.tc.reads old.tc.open_txns) (sym opens)
+      (none_replaced old.tc.reads old.tc.open_txns o new at only))
       (rw (log, stable, session, phases) k.sessions)
 
 -- get, scan
@@ -199,12 +216,16 @@ follows_read old new t s n e k line h =
     let o : OpenTxn = a.open_txn in
     let tc : TcView = asked_read old.tc o s in
     let mine : OpenTxn = reading_txn o (old.tc.reads + 1) s in
-    let allowed = both_none (first_of ((not (ends_above (shared s).hi (shared s).lo), BadRange) ∷ [])) (idle_refusal old.tc t) a.allowed in
+    let allowed = both_none (first_of ((not (ends_above (shared s).hi (shared s).lo), BadRange) ∷ []))
+    (idle_refusal old.tc t) a.allowed in
     let idle = idle_found old.tc t o a.at allowed.1 in
     let is_range : IsRange (asked_span (query_of s)) =
-    ap (λ (x : Span). ends_above x.hi x.lo) (same_span s) ∙ not_not (ends_above (shared s).hi (shared s).lo) (one_false (not (ends_above (shared s).hi (shared s).lo)) BadRange allowed.0) in
+    ap (λ (x : Span). ends_above x.hi x.lo) (same_span s)
+    ∙ not_not (ends_above (shared s).hi (shared s).lo)
+    (one_false (not (ends_above (shared s).hi (shared s).lo)) BadRange allowed.0) in
     let free : IsFree old.tc.locks o.txn (asked_span (query_of s)) =
-    subst (λ (x : Span). IsFree old.tc.locks o.txn x) (sym (same_span s)) (subst (λ (x : ℕ). IsFree old.tc.locks x (shared s)) (sym a.at.number) a.free) in
+    subst (λ (x : Span). IsFree old.tc.locks o.txn x) (sym (same_span s))
+    (subst (λ (x : ℕ). IsFree old.tc.locks x (shared s)) (sym a.at.number) a.free) in
     let after : IsTc tc = subst IsTc a.asked (read_keeps old.tc new.tc t s (Ok n) k.tc a) in
     at_tc old new tc e (out.Asked n) h.1 a.asked (record {
       leads = one_line old (with_tc old tc) e (out.Asked n) (Reads t (query_of s)) line
@@ -220,8 +241,10 @@ follows_read old new t s n e k line h =
     -- the number of the read is above all before it
     reads_later : (o : OpenTxn) → ReadsOnly old.tc.reads o (reading_txn o (old.tc.reads + 1) s)
     reads_later o m q reading most =
-        let same : Some (record { number = old.tc.reads + 1; span = s }) ≡ Some (record { number = m; span = q }) = reading in
-        let number : old.tc.reads + 1 ≡ m = ap (λ (x : Option Read). number_of x) same in absurd (omega (arith, number, most))
+        let same : Some (record { number = old.tc.reads + 1; span = s }) ≡ Some (record { number = m; span = q }) =
+        reading in
+        let number : old.tc.reads + 1 ≡ m = ap (λ (x : Option Read). number_of x) same in
+        absurd (omega (arith, number, most))
       where
         number_of : Option Read → ℕ
         number_of None = 0
@@ -231,7 +254,8 @@ refused_read : (old new : NodeView) (t : ℕ) (s : Keys) (r : Refusal) (e : Even
     → lines_of e (out.Refused r) ≡ Some (IsRefused (ToRead t (query_of s)) r ∷ [])
     → Calls (ReadGives old.tc t s (Err r)) old new → Follows old e (out.Refused r) new
 refused_read old new t s r e k line h =
-    refused old new e (ToRead t (query_of s)) r k line h.1 (left_taking (read_refusal old.tc t (shared s)) _ false old.tc t (shared s) r new.tc h.0)
+    refused old new e (ToRead t (query_of s)) r k line h.1
+    (left_taking (read_refusal old.tc t (shared s)) _ false old.tc t (shared s) r new.tc h.0)
     (λ m stands. read_refused old.tc new.tc m t s r k.tc stands h.0)
 
 pub follows_get : (old new : NodeView) (t : ℕ) (key : Bytes) (output : Out) → IsKept old
@@ -243,8 +267,10 @@ follows_get old new t key _ k h = absurd h
 pub follows_scan : (old new : NodeView) (t : ℕ) (low : Bytes) (high : Option Bytes) (output : Out) → IsKept old
     → ReadsTo old t (Range low high) output new
     → Follows old (event.Scan t low high) output new
-follows_scan old new t low high (out.Asked n) k h = follows_read old new t (Range low high) n (event.Scan t low high) k refl h
-follows_scan old new t low high (out.Refused r) k h = refused_read old new t (Range low high) r (event.Scan t low high) k refl h
+follows_scan old new t low high (out.Asked n) k h =
+    follows_read old new t (Range low high) n (event.Scan t low high) k refl h
+follows_scan old new t low high (out.Refused r) k h =
+    refused_read old new t (Range low high) r (event.Scan t low high) k refl h
 follows_scan old new t low high _ k h = absurd h
 
 -- save
@@ -258,19 +284,25 @@ follows_save old new t (out.Saved s) k h =
     let o : OpenTxn = a.open_txn in
     let tc : TcView = saved old.tc o in
     let mine : OpenTxn = saved_txn o (length old.tc.log) in
-    let allowed = both_none (idle_refusal old.tc t) (first_of ((nat_le 16 (length (saves_of (find t old.tc.open_txns))), Full) ∷ [])) a.allowed in
+    let allowed = both_none (idle_refusal old.tc t)
+    (first_of ((nat_le 16 (length (saves_of (find t old.tc.open_txns))), Full) ∷ [])) a.allowed in
     let idle = idle_found old.tc t o a.at allowed.0 in
     let few : nat_le 16 (length o.saves) ≡ false =
-    sym (ap (λ (x : Option OpenTxn). nat_le 16 (length (saves_of x))) (at_number old.tc t o a.at)) ∙ one_false (nat_le 16 (length (saves_of (find t old.tc.open_txns)))) Full allowed.1 in
+    sym (ap (λ (x : Option OpenTxn). nat_le 16 (length (saves_of x))) (at_number old.tc t o a.at))
+    ∙ one_false (nat_le 16 (length (saves_of (find t old.tc.open_txns)))) Full allowed.1 in
     let after : IsTc tc = subst IsTc a.saved (save_keeps old.tc new.tc t (Ok s) k.tc a) in
     at_tc old new tc (event.Save t) (out.Saved s) h.1 a.saved (record {
       leads = one_line old (with_tc old tc) (event.Save t) (out.Saved s) (saves_line t s) refl
           (λ m stands. subst (λ (x : ℕ). LeadsTo (clients old.tc) m (saves_line x s) (clients tc)) a.at.number
-          (stands_saved old.tc m o k.tc a.at.is stands s idle (sym a.number_is) (omega (arith, few_saves (length o.saves) few, a.number_is))));
-      kept = kept_same old k o mine tc a.at.is after (reads_same old.tc.reads o mine refl) refl refl refl refl refl (omega arith) refl;
+          (stands_saved old.tc m o k.tc a.at.is stands s idle (sym a.number_is)
+          (omega (arith, few_saves (length o.saves) few, a.number_is))));
+      kept = kept_same old k o mine tc a.at.is after (reads_same old.tc.reads o mine refl) refl refl refl refl refl
+          (omega arith) refl;
     })
 follows_save old new t (out.Refused r) k h =
-    refused old new (event.Save t) (ToSave t) r k refl h.1 (left_refused (save_refusal old.tc t) true false old.tc r new.tc h.0) (λ m stands. save_refused old.tc new.tc m t r k.tc stands h.0)
+    refused old new (event.Save t) (ToSave t) r k refl h.1
+    (left_refused (save_refusal old.tc t) true false old.tc r new.tc h.0)
+    (λ m stands. save_refused old.tc new.tc m t r k.tc stands h.0)
 follows_save old new t _ k h = absurd h
 
 -- back to a savepoint
@@ -288,18 +320,23 @@ follows_go_back old new t s out.RollingBack k h =
     let o : OpenTxn = a.open_txn in
     let tc : TcView = going_back old.tc o s a.end in
     let mine : OpenTxn = going_back_txn o s a.end in
-    let allowed = both_none (idle_refusal old.tc t) (first_of ((not (has_savepoint (saves_of (find t old.tc.open_txns)) s), BadSavepoint) ∷ [])) a.allowed in
+    let allowed = both_none (idle_refusal old.tc t)
+    (first_of ((not (has_savepoint (saves_of (find t old.tc.open_txns)) s), BadSavepoint) ∷ [])) a.allowed in
     let idle = idle_found old.tc t o a.at allowed.0 in
-    let some = from_one (length (saves_of (find t old.tc.open_txns))) s (one_false (not (has_savepoint (saves_of (find t old.tc.open_txns)) s)) BadSavepoint allowed.1) in
+    let some = from_one (length (saves_of (find t old.tc.open_txns))) s
+    (one_false (not (has_savepoint (saves_of (find t old.tc.open_txns)) s)) BadSavepoint allowed.1) in
     let after : IsTc tc = subst IsTc a.going (back_keeps old.tc new.tc t s (Ok tt) k.tc a) in
     at_tc old new tc (event.GoBack t s) out.RollingBack h.1 a.going (record {
       leads = one_line old (with_tc old tc) (event.GoBack t s) out.RollingBack (goes_back t s) refl
           (λ m stands. subst (λ (x : ℕ). LeadsTo (clients old.tc) m (goes_back x s) (clients tc)) a.at.number
           (stands_going_back old.tc m o k.tc a.at.is stands s a.end idle some a.savepoint));
-      kept = kept_same old k o mine tc a.at.is after (reads_same old.tc.reads o mine refl) refl refl refl refl refl (omega arith) refl;
+      kept = kept_same old k o mine tc a.at.is after (reads_same old.tc.reads o mine refl) refl refl refl refl refl
+          (omega arith) refl;
     })
 follows_go_back old new t s (out.Refused r) k h =
-    refused old new (event.GoBack t s) (ToGoBack t s) r k refl h.1 (left_refused (back_refusal old.tc t s) false false old.tc r new.tc h.0) (λ m stands. back_refused old.tc new.tc m t s r k.tc stands h.0)
+    refused old new (event.GoBack t s) (ToGoBack t s) r k refl h.1
+    (left_refused (back_refusal old.tc t s) false false old.tc r new.tc h.0)
+    (λ m stands. back_refused old.tc new.tc m t s r k.tc stands h.0)
 follows_go_back old new t s _ k h = absurd h
 
 -- roll back
@@ -314,11 +351,15 @@ follows_rollback old new t out.RollingBack k h =
     let after : IsTc tc = subst IsTc a.rolled (rollback_keeps old.tc new.tc t (Ok tt) k.tc a) in
     at_tc old new tc (event.Rollback t) out.RollingBack h.1 a.rolled (record {
       leads = one_line old (with_tc old tc) (event.Rollback t) out.RollingBack (rolls_back_line t) refl
-          (λ m stands. subst (λ (x : ℕ). LeadsTo (clients old.tc) m (rolls_back_line x) (clients tc)) a.at.number (stands_rolled old.tc m o k.tc a.at.is stands idle));
-      kept = kept_same old k o mine tc a.at.is after (reads_same old.tc.reads o mine refl) refl refl refl refl refl (omega arith) refl;
+          (λ m stands. subst (λ (x : ℕ). LeadsTo (clients old.tc) m (rolls_back_line x) (clients tc)) a.at.number
+          (stands_rolled old.tc m o k.tc a.at.is stands idle));
+      kept = kept_same old k o mine tc a.at.is after (reads_same old.tc.reads o mine refl) refl refl refl refl refl
+          (omega arith) refl;
     })
 follows_rollback old new t (out.Refused r) k h =
-    refused old new (event.Rollback t) (ToRollBack t) r k refl h.1 (left_refused (idle_refusal old.tc t) false false old.tc r new.tc h.0) (λ m stands. rollback_refused old.tc new.tc m t r k.tc stands h.0)
+    refused old new (event.Rollback t) (ToRollBack t) r k refl h.1
+    (left_refused (idle_refusal old.tc t) false false old.tc r new.tc h.0)
+    (λ m stands. rollback_refused old.tc new.tc m t r k.tc stands h.0)
 follows_rollback old new t _ k h = absurd h
 
 -- commit
@@ -332,14 +373,20 @@ follows_commit old new t (out.CommitLogged n) k h =
     let r : Record = is.Commit t in
     at_tc old new tc (event.Commit t) (out.CommitLogged n) h.1 h.0.2 (record {
       leads = one_line old (with_tc old tc) (event.Commit t) (out.CommitLogged n) (Commits t) refl
-          (λ m stands. subst (λ (x : ℕ). LeadsTo (clients old.tc) m (Commits x) (clients (committed old.tc x))) found.at.number
-          (stands_committed old.tc m o k.tc found.at.is stands found.idle (subst (λ (x : ℕ). IsTc (committed old.tc x)) (sym found.at.number) after)));
-      kept = keeps_appended old tc r k after k.checked refl (omega arith) (inl refl) (omega arith) (none_without old.tc.reads old.tc.open_txns t)
-          (logs_on old tc.log k (serves_idle old.tc t (both_none (idle_refusal old.tc t) (spent_refusal old.tc.log) h.0.0).0)) k.right
+          (λ m stands. subst (λ (x : ℕ). LeadsTo (clients old.tc) m (Commits x) (clients (committed old.tc x)))
+          found.at.number
+          (stands_committed old.tc m o k.tc found.at.is stands found.idle
+          (subst (λ (x : ℕ). IsTc (committed old.tc x)) (sym found.at.number) after)));
+      kept = keeps_appended old tc r k after k.checked refl (omega arith) (inl refl) (omega arith)
+          (none_without old.tc.reads old.tc.open_txns t)
+          (logs_on old tc.log k (serves_idle old.tc t
+          (both_none (idle_refusal old.tc t) (spent_refusal old.tc.log) h.0.0).0)) k.right
           (λ some. still_captured old r (λ q asks. cc) (λ m. refl));
     })
 follows_commit old new t (out.Refused r) k h =
-    refused old new (event.Commit t) (ToCommit t) r k refl h.1 (left_refused (commit_refusal old.tc t) true true old.tc r new.tc h.0) (λ m stands. commit_refused old.tc new.tc m t r k.tc stands h.0)
+    refused old new (event.Commit t) (ToCommit t) r k refl h.1
+    (left_refused (commit_refusal old.tc t) true true old.tc r new.tc h.0)
+    (λ m stands. commit_refused old.tc new.tc m t r k.tc stands h.0)
 follows_commit old new t _ k h = absurd h
 
 -- force
@@ -347,14 +394,24 @@ pub follows_force : (old new : NodeView) (output : Out) → IsKept old → Force
     → Follows old event.Force output new
 follows_force old new (out.Stable end cs) k h =
     let tc : TcView = forced old.tc in
-    let after : IsTc tc = subst IsTc h.0.2 (force_keeps old.tc new.tc (Ok (record { end = end; committed = cs })) k.tc h.0) in
+    let after : IsTc tc = subst IsTc h.0.2
+    (force_keeps old.tc new.tc (Ok (record { end = end; committed = cs })) k.tc h.0) in
     at_tc old new tc event.Force (out.Stable end cs) h.1 h.0.2 (record {
-      leads = λ m stands. let l = stands_forced old.tc m k.tc stands in (l.0, subst (λ (ts : List ℕ). Steps m (told_committed ts) l.0) (sym h.0.1) l.1, l.2);
-      kept = keeps_same_log old tc k after k.checked refl k.tc.within (inl refl) (omega arith) (none_same old.tc.reads old.tc.open_txns)
-          (record { begun = record { recorded = omega (arith, k.sessions.begun.recorded, k.tc.within); most = k.sessions.begun.most }; served = k.sessions.served });
+      leads = λ m stands. let l = stands_forced old.tc m k.tc stands in
+          (l.0, subst (λ (ts : List ℕ). Steps m (told_committed ts) l.0) (sym h.0.1) l.1, l.2);
+      kept = keeps_same_log old tc k after k.checked refl k.tc.within (inl refl) (omega arith)
+          (none_same old.tc.reads old.tc.open_txns)
+          (record {
+            begun = record {
+              recorded = omega (arith, k.sessions.begun.recorded, k.tc.within);
+              most = k.sessions.begun.most;
+            };
+            served = k.sessions.served;
+          });
     })
 follows_force old new (out.Refused r) k h = record {
-  leads = no_line old new event.Force (out.Refused r) refl (λ m stands. subst (λ x. StandsFor (clients x) m) (sym h.0.1) stands);
+  leads = no_line old new event.Force (out.Refused r) refl
+      (λ m stands. subst (λ x. StandsFor (clients x) m) (sym h.0.1) stands);
   kept = kept_left old new k h.1 (inr h.0.1);
 }
 follows_force old new _ k h = absurd h
@@ -381,11 +438,13 @@ module _ (old : NodeView) (t : ℕ) (k : IsKept old) where
       → Undoes old.tc o (Some r) (undo.Compensated n) new.tc → Follows old (event.Undo t) (out.Compensated n) new
   compensates new n o r at allowed rolling left is_tc h =
       let tc : TcView = compensated old.tc o in
-      let mine : OpenTxn = compensated_txn o (length old.tc.log + 1) (next_of old.tc.log o.undo) (inverse_at old.tc.log o.undo) in
+      let mine : OpenTxn = compensated_txn o (length old.tc.log + 1) (next_of old.tc.log o.undo)
+      (inverse_at old.tc.log o.undo) in
       let after : IsTc tc = subst IsTc h.2 is_tc in
       let c : Record = is.Comp o.txn o.undo (next_of old.tc.log o.undo) (inverse_at old.tc.log o.undo) in
       at_tc old new tc (event.Undo t) (out.Compensated n) left h.2 (record {
-        leads = no_line old (with_tc old tc) (event.Undo t) (out.Compensated n) refl (λ m stands. stands_compensated old.tc m o k.tc at.is stands r rolling h.0 after);
+        leads = no_line old (with_tc old tc) (event.Undo t) (out.Compensated n) refl
+            (λ m stands. stands_compensated old.tc m o k.tc at.is stands r rolling h.0 after);
         kept = keeps_appended old tc c k after k.checked refl (omega arith) (inl refl) (omega arith)
             (none_replaced old.tc.reads old.tc.open_txns o mine at.is (reads_same old.tc.reads o mine refl))
             (logs_on old tc.log k (serves_undo old.tc t allowed)) k.right (λ some. asked_captured old c k (λ m. refl));
@@ -401,9 +460,12 @@ module _ (old : NodeView) (t : ℕ) (k : IsKept old) where
       let e : Record = is.End o.txn in
       at_tc old new tc (event.Undo t) (out.RolledBack u) left h.3 (record {
         leads = one_line old (with_tc old tc) (event.Undo t) (out.RolledBack u) (TellsRolledBack u) refl
-            (λ m stands. subst (λ (x : ℕ). LeadsTo (clients old.tc) m (TellsRolledBack x) (clients tc)) (sym h.2) (stands_ended old.tc m o k.tc at.is stands r rolling h.1 after));
-        kept = keeps_appended old tc e k after k.checked refl (omega arith) (inl refl) (omega arith) (none_without old.tc.reads old.tc.open_txns o.txn)
-            (logs_on old tc.log k (serves_undo old.tc t allowed)) k.right (λ some. still_captured old e (λ q asks. cc) (λ m. refl));
+            (λ m stands. subst (λ (x : ℕ). LeadsTo (clients old.tc) m (TellsRolledBack x) (clients tc)) (sym h.2)
+            (stands_ended old.tc m o k.tc at.is stands r rolling h.1 after));
+        kept = keeps_appended old tc e k after k.checked refl (omega arith) (inl refl) (omega arith)
+            (none_without old.tc.reads old.tc.open_txns o.txn)
+            (logs_on old tc.log k (serves_undo old.tc t allowed)) k.right
+            (λ some. still_captured old e (λ q asks. cc) (λ m. refl));
       })
 
   -- the end of a rollback to a savepoint
@@ -418,40 +480,49 @@ module _ (old : NodeView) (t : ℕ) (k : IsKept old) where
       at_tc old new tc (event.Undo t) (out.Back u s) left h.3 (record {
         leads = one_line old (with_tc old tc) (event.Undo t) (out.Back u s) (TellsBack u s) refl
             (λ m stands. subst (λ (x : ℕ). LeadsTo (clients old.tc) m (TellsBack x s) (clients tc)) (sym h.2)
-            (stands_back old.tc m o k.tc at.is stands r s rolling h.1 none.0 none.1 (undone_above old.tc o r k.tc at.is h.0)));
-        kept = kept_same old k o mine tc at.is after (reads_same old.tc.reads o mine refl) refl refl refl refl refl (omega arith) refl;
+            (stands_back old.tc m o k.tc at.is stands r s rolling h.1 none.0 none.1
+            (undone_above old.tc o r k.tc at.is h.0)));
+        kept = kept_same old k o mine tc at.is after (reads_same old.tc.reads o mine refl) refl refl refl refl refl
+            (omega arith) refl;
       })
 
 answered_first : (w : TcView) (t : ℕ) → undo_refusal w t ≡ None → answered_refusal w t ≡ None
-answered_first w t h = (both_none (answered_refusal w t) (first_of ((undo_logs (find t w.open_txns) && is_spent w.log, NumbersSpent) ∷ [])) h).0
+answered_first w t h = (both_none (answered_refusal w t)
+    (first_of ((undo_logs (find t w.open_txns) && is_spent w.log, NumbersSpent) ∷ [])) h).0
 
 pub follows_undo : (old new : NodeView) (t : ℕ) (output : Out) → IsKept old → UndoesTo old t output new
     → Follows old (event.Undo t) output new
 follows_undo old new t out.Nothing k h =
     let u : UndoesStep old.tc t undo.Idle new.tc = h.0 in
-    unchanged old new (event.Undo t) out.Nothing k (h.1 ∙ ap (with_tc old) (undoes_idle old t k new u.open_txn u.open_txn.rolling u.undoes)) refl
+    unchanged old new (event.Undo t) out.Nothing k
+    (h.1 ∙ ap (with_tc old) (undoes_idle old t k new u.open_txn u.open_txn.rolling u.undoes)) refl
 follows_undo old new t (out.Compensated n) k h = by h.0.open_txn.rolling refl h.0.undoes
   where
     by : (x : Option Rollback) → h.0.open_txn.rolling ≡ x → Undoes old.tc h.0.open_txn x (undo.Compensated n) new.tc
         → Follows old (event.Undo t) (out.Compensated n) new
     by None is u = absurd u
-    by (Some r) is u = compensates old t k new n h.0.open_txn r h.0.at (answered_first old.tc t h.0.allowed) is h.1 (kept_undo old t k new (Ok (undo.Compensated n)) h.0) u
+    by (Some r) is u = compensates old t k new n h.0.open_txn r h.0.at (answered_first old.tc t h.0.allowed) is h.1
+        (kept_undo old t k new (Ok (undo.Compensated n)) h.0) u
 follows_undo old new t (out.RolledBack v) k h = by h.0.open_txn.rolling refl h.0.undoes
   where
     by : (x : Option Rollback) → h.0.open_txn.rolling ≡ x → Undoes old.tc h.0.open_txn x (undo.RolledBack v) new.tc
         → Follows old (event.Undo t) (out.RolledBack v) new
     by None is u = absurd u
-    by (Some r) is u = ends old t k new v h.0.open_txn r h.0.at (answered_first old.tc t h.0.allowed) is h.1 (kept_undo old t k new (Ok (undo.RolledBack v)) h.0) u
+    by (Some r) is u = ends old t k new v h.0.open_txn r h.0.at (answered_first old.tc t h.0.allowed) is h.1
+        (kept_undo old t k new (Ok (undo.RolledBack v)) h.0) u
 follows_undo old new t (out.Back v s) k h = by h.0.open_txn.rolling refl h.0.undoes
   where
     by : (x : Option Rollback) → h.0.open_txn.rolling ≡ x → Undoes old.tc h.0.open_txn x (undo.Back v s) new.tc
         → Follows old (event.Undo t) (out.Back v s) new
     by None is u = absurd u
-    by (Some r) is u = is_back_there old t k new v s h.0.open_txn r h.0.at (answered_first old.tc t h.0.allowed) is h.1 (kept_undo old t k new (Ok (undo.Back v s)) h.0) u
+    by (Some r) is u = is_back_there old t k new v s h.0.open_txn r h.0.at (answered_first old.tc t h.0.allowed) is h.1
+        (kept_undo old t k new (Ok (undo.Back v s)) h.0) u
 follows_undo old new t (out.Refused r) k h =
-    let which = left_refused (undo_refusal old.tc t) (undo_logs (find t old.tc.open_txns)) (undo_logs (find t old.tc.open_txns)) old.tc r new.tc h.0 in
+    let which = left_refused (undo_refusal old.tc t) (undo_logs (find t old.tc.open_txns))
+    (undo_logs (find t old.tc.open_txns)) old.tc r new.tc h.0 in
     record {
-      leads = no_line old new (event.Undo t) (out.Refused r) refl (λ m stands. stands_left old.tc new.tc m which stands);
+      leads = no_line old new (event.Undo t) (out.Refused r) refl
+          (λ m stands. stands_left old.tc new.tc m which stands);
       kept = kept_left old new k h.1 which;
     }
 follows_undo old new t _ k h = absurd h

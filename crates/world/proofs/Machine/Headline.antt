@@ -60,13 +60,15 @@ served : (old : NodeView) (i : ℕ) (reply : Option Reply) (dc : DcView) → IsK
     → Served old i (Ok reply) dc → KeepsServing old reply dc
 served old i reply dc k is h =
     serves old h.request reply dc k is (recoverable_served old.dc h.request (Ok reply) dc k.dc k.recoverable h.gives)
-    (checked_served old.dc h.request (Ok reply) dc k.dc k.recoverable h.gives) (sent_there old i (Ok reply) dc k h) h.gives.0 h.gives.1
+    (checked_served old.dc h.request (Ok reply) dc k.dc k.recoverable h.gives) (sent_there old i (Ok reply) dc k h)
+    h.gives.0 h.gives.1
 
 -- the data component goes on, and no client is told anything
 follows_dc : (old new : NodeView) (e : Event) (output : Out) → lines_of e output ≡ Some []
     → IsKept (with_dc old new.dc) → new ≡ with_dc old new.dc → Follows old e output new
 follows_dc old new e output quiet kept same =
-    at_new old new (with_dc old new.dc) e output same (record { leads = no_line old (with_dc old new.dc) e output quiet (λ m stands. stands); kept = kept })
+    at_new old new (with_dc old new.dc) e output same
+    (record { leads = no_line old (with_dc old new.dc) e output quiet (λ m stands. stands); kept = kept })
 
 follows_request : (old new : NodeView) (i : ℕ) (output : Out) → IsKept old → IsDc new.dc → ServesTo old i output new
     → Follows old (event.Request i) output new
@@ -74,8 +76,12 @@ follows_request old new i (out.Replied j) k is h =
     let s = served old i (Some h.0) new.dc k is h.1 in
     let next : NodeView = with_reply (with_dc old new.dc) h.0 in
     at_new old new next (event.Request i) (out.Replied j) h.3
-    (record { leads = no_line old next (event.Request i) (out.Replied j) refl (λ m stands. stands); kept = keeps_given (with_dc old new.dc) h.0 s.kept s.given })
-follows_request old new i out.Noted k is h = follows_dc old new (event.Request i) out.Noted refl (served old i None new.dc k is h.0).kept h.1
+    (record {
+      leads = no_line old next (event.Request i) (out.Replied j) refl (λ m stands. stands);
+      kept = keeps_given (with_dc old new.dc) h.0 s.kept s.given;
+    })
+follows_request old new i out.Noted k is h =
+    follows_dc old new (event.Request i) out.Noted refl (served old i None new.dc k is h.0).kept h.1
 follows_request old new i (out.Refused r) k is (inl h) = unchanged old new (event.Request i) (out.Refused r) k h.1 refl
 follows_request old new i (out.Refused r) k is (inr h) =
     follows_dc old new (event.Request i) (out.Refused r) refl
@@ -84,28 +90,38 @@ follows_request old new i _ k is h = absurd h
 
 follows_split : (old new : NodeView) (key : Bytes) (output : Out) → IsKept old → IsDc new.dc
     → PartsTo old key output new → Follows old (event.Split key) output new
-follows_split old new key (out.Split pair) k is h = follows_dc old new (event.Split key) (out.Split pair) refl (splits_keep old key (Ok pair) new.dc k is h.0) h.1
-follows_split old new key (out.Refused r) k is h = follows_dc old new (event.Split key) (out.Refused r) refl (splits_keep old key (Err r) new.dc k is h.0) h.1
+follows_split old new key (out.Split pair) k is h =
+    follows_dc old new (event.Split key) (out.Split pair) refl (splits_keep old key (Ok pair) new.dc k is h.0) h.1
+follows_split old new key (out.Refused r) k is h =
+    follows_dc old new (event.Split key) (out.Refused r) refl (splits_keep old key (Err r) new.dc k is h.0) h.1
 follows_split old new key _ k is h = absurd h
 
 follows_merge : (old new : NodeView) (key : Bytes) (output : Out) → IsKept old → IsDc new.dc
     → JoinsTo old key output new → Follows old (event.Merge key) output new
-follows_merge old new key (out.Merged pair) k is h = follows_dc old new (event.Merge key) (out.Merged pair) refl (merges_keep old key (Ok pair) new.dc k is h.0) h.1
-follows_merge old new key (out.Refused r) k is h = follows_dc old new (event.Merge key) (out.Refused r) refl (merges_keep old key (Err r) new.dc k is h.0) h.1
+follows_merge old new key (out.Merged pair) k is h =
+    follows_dc old new (event.Merge key) (out.Merged pair) refl (merges_keep old key (Ok pair) new.dc k is h.0) h.1
+follows_merge old new key (out.Refused r) k is h =
+    follows_dc old new (event.Merge key) (out.Refused r) refl (merges_keep old key (Err r) new.dc k is h.0) h.1
 follows_merge old new key _ k is h = absurd h
 
 follows_tend : (old new : NodeView) (output : Out) → IsKept old → IsDc new.dc → KeepsUpTo old output new
     → Follows old event.Tend output new
-follows_tend old new (out.Split pair) k is h = follows_dc old new event.Tend (out.Split pair) refl (tends_keep old (Ok (tended.Split pair)) new.dc k is h.0) h.1
-follows_tend old new (out.Merged pair) k is h = follows_dc old new event.Tend (out.Merged pair) refl (tends_keep old (Ok (tended.Merged pair)) new.dc k is h.0) h.1
-follows_tend old new out.Nothing k is h = follows_dc old new event.Tend out.Nothing refl (tends_keep old (Ok tended.Nothing) new.dc k is h.0) h.1
-follows_tend old new (out.Refused r) k is h = follows_dc old new event.Tend (out.Refused r) refl (tends_keep old (Err r) new.dc k is h.0) h.1
+follows_tend old new (out.Split pair) k is h =
+    follows_dc old new event.Tend (out.Split pair) refl (tends_keep old (Ok (tended.Split pair)) new.dc k is h.0) h.1
+follows_tend old new (out.Merged pair) k is h =
+    follows_dc old new event.Tend (out.Merged pair) refl (tends_keep old (Ok (tended.Merged pair)) new.dc k is h.0) h.1
+follows_tend old new out.Nothing k is h =
+    follows_dc old new event.Tend out.Nothing refl (tends_keep old (Ok tended.Nothing) new.dc k is h.0) h.1
+follows_tend old new (out.Refused r) k is h =
+    follows_dc old new event.Tend (out.Refused r) refl (tends_keep old (Err r) new.dc k is h.0) h.1
 follows_tend old new _ k is h = absurd h
 
 follows_flush : (old new : NodeView) (key : Bytes) (output : Out) → IsKept old → IsDc new.dc
     → WritesTo old key output new → Follows old (event.Flush key) output new
-follows_flush old new key (out.Flushed id) k is h = follows_dc old new (event.Flush key) (out.Flushed id) refl (flushes_keep old key (Ok id) new.dc k is h.0) h.1
-follows_flush old new key (out.Refused r) k is h = follows_dc old new (event.Flush key) (out.Refused r) refl (flushes_keep old key (Err r) new.dc k is h.0) h.1
+follows_flush old new key (out.Flushed id) k is h =
+    follows_dc old new (event.Flush key) (out.Flushed id) refl (flushes_keep old key (Ok id) new.dc k is h.0) h.1
+follows_flush old new key (out.Refused r) k is h =
+    follows_dc old new (event.Flush key) (out.Refused r) refl (flushes_keep old key (Err r) new.dc k is h.0) h.1
 follows_flush old new key _ k is h = absurd h
 
 -- an event of a component that doesn't run is refused, and that is no step or a line of its own
@@ -115,7 +131,8 @@ if_up : (old new : NodeView) (up : Bool) (r : Refusal) (e : Event) (output : Out
 if_up old new true r e output Does k line does h = does h
 if_up old new false r e output Does k line does h =
     let P : Out → Type 0 = λ o. Follows old e o new in
-    subst P (sym h.0) (at_new old new old e (out.Refused r) h.1 (record { leads = λ m stands. (m, line m, stands); kept = k }))
+    subst P (sym h.0) (at_new old new old e (out.Refused r) h.1
+    (record { leads = λ m stands. (m, line m, stands); kept = k }))
 
 if_tc_up : (old new : NodeView) (e : Event) (output : Out) (Does : Type 0) → IsKept old
     → ((m : Machine) → StepsIf m (lines_of e (out.Refused NotConnected)) m) → (Does → Follows old e output new)
@@ -146,31 +163,38 @@ follows_crash : (old new : NodeView) (frames bytes : ℕ) (output : Out) → IsK
 follows_crash old new frames bytes out.Down k h =
     let n : ℕ = h.0.1.0 in
     let dc : DcView = restarted (crashed old.dc.system n) in
-    let same : new ≡ record old { dc_up = false; dc = dc } = h.1 ∙ ap (λ (s : DcSide). record old { dc_up = s.up; dc = s.dc }) h.0.1.2 in
+    let same : new ≡ record old { dc_up = false; dc = dc } =
+    h.1 ∙ ap (λ (s : DcSide). record old { dc_up = s.up; dc = s.dc }) h.0.1.2 in
     at_new old new (record old { dc_up = false; dc = dc }) (event.CrashDc frames bytes) out.Down same (record {
-      leads = no_line old (record old { dc_up = false; dc = dc }) (event.CrashDc frames bytes) out.Down refl (λ m stands. stands);
+      leads = no_line old (record old { dc_up = false; dc = dc }) (event.CrashDc frames bytes) out.Down refl
+          (λ m stands. stands);
       kept = keeps_up (with_dc old dc) old.tc_up false (crash_keeps old n k h.0.1.1.stable);
     })
 follows_crash old new frames bytes out.Nothing k h =
-    unchanged old new (event.CrashDc frames bytes) out.Nothing k (h.1 ∙ ap (λ (s : DcSide). record old { dc_up = s.up; dc = s.dc }) h.0.1) refl
+    unchanged old new (event.CrashDc frames bytes) out.Nothing k
+    (h.1 ∙ ap (λ (s : DcSide). record old { dc_up = s.up; dc = s.dc }) h.0.1) refl
 follows_crash old new frames bytes _ k h = absurd h
 
 follows_restart : (old new : NodeView) (output : Out) → IsKept old → IsDc new.dc → RestartsDcTo old output new
     → Follows old event.RestartDc output new
 follows_restart old new (out.Up count) k is h =
-    let same : new ≡ record old { dc_up = true } = h.1 ∙ ap (λ (s : DcSide). record old { dc_up = s.up; dc = s.dc }) h.0.2 in
+    let same : new ≡ record old { dc_up = true } =
+    h.1 ∙ ap (λ (s : DcSide). record old { dc_up = s.up; dc = s.dc }) h.0.2 in
     at_new old new (record old { dc_up = true }) event.RestartDc (out.Up count) same (record {
       leads = no_line old (record old { dc_up = true }) event.RestartDc (out.Up count) refl (λ m stands. stands);
       kept = keeps_up old old.tc_up true k;
     })
 follows_restart old new out.Nothing k is h =
-    unchanged old new event.RestartDc out.Nothing k (h.1 ∙ ap (λ (s : DcSide). record old { dc_up = s.up; dc = s.dc }) h.0.1) refl
+    unchanged old new event.RestartDc out.Nothing k
+    (h.1 ∙ ap (λ (s : DcSide). record old { dc_up = s.up; dc = s.dc }) h.0.1) refl
 follows_restart old new (out.Refused r) k is h =
     let dc : DcView = with_system old.dc (refused_so old.dc.system r) in
     let same : new ≡ record old { dc_up = false; dc = dc } =
-    h.1 ∙ ap (λ (s : DcSide). record old { dc_up = s.up; dc = s.dc }) (h.0.1 ∙ ap (λ (x : DcView). record { up = false; dc = x }) h.0.2.1) in
+    h.1 ∙ ap (λ (s : DcSide). record old { dc_up = s.up; dc = s.dc })
+    (h.0.1 ∙ ap (λ (x : DcView). record { up = false; dc = x }) h.0.2.1) in
     at_new old new (record old { dc_up = false; dc = dc }) event.RestartDc (out.Refused r) same (record {
-      leads = no_line old (record old { dc_up = false; dc = dc }) event.RestartDc (out.Refused r) refl (λ m stands. stands);
+      leads = no_line old (record old { dc_up = false; dc = dc }) event.RestartDc (out.Refused r) refl
+          (λ m stands. stands);
       kept = keeps_up (with_dc old dc) old.tc_up false (refused_keeps old r k (subst IsDc h.0.2.1 is));
     })
 follows_restart old new _ k is h = absurd h
@@ -186,7 +210,8 @@ follows old new event.Begin output k tc is h =
 follows old new (event.Act t op) output k tc is h =
     if_tc_up old new (event.Act t op) output _ k (call_down (ToAct t op)) (follows_act old new t op output k) h
 follows old new (event.Get t key) output k tc is h =
-    if_tc_up old new (event.Get t key) output _ k (call_down (ToRead t (OfKey key))) (follows_get old new t key output k) h
+    if_tc_up old new (event.Get t key) output _ k (call_down (ToRead t (OfKey key)))
+    (follows_get old new t key output k) h
 follows old new (event.Scan t low high) output k tc is h =
     if_up old new old.tc_up (down_refusal low high) (event.Scan t low high) output _ k (scan_down t low high)
     (follows_scan old new t low high output k) h
@@ -282,19 +307,23 @@ pub leads_more : (old : NodeView) (es : List Event) (i : ℕ) (os : List Out) (m
     (new : NodeView)
     → i < length es → e ≡ get_or es i e → LeadsAll old (take i es) os mid → Leads mid e o new
     → LeadsAll old (take (i + 1) es) (os ++ o ∷ []) new
-leads_more old es i os mid e o new lt at all one = rw (take_more es i e lt, ← at) (leads_push old (take i es) os mid e o new all one)
+leads_more old es i os mid e o new lt at all one =
+    rw (take_more es i e lt, ← at) (leads_push old (take i es) os mid e o new all one)
 
 -- a chain too
 chain_push : (w : NodeView) (es : List Event) (os : List Out) (mid : NodeView) (e : Event) (o : Out) (new : NodeView)
     → Chain w es os mid → StepsTo mid e o new
     → Chain w (es ++ e ∷ []) (os ++ o ∷ []) new
-chain_push w [] [] mid e o new chain step = let P : NodeView → Type 0 = λ x. StepsTo x e o new in (new, subst P chain step, refl)
+chain_push w [] [] mid e o new chain step = let P : NodeView → Type 0 = λ x. StepsTo x e o new in
+    (new, subst P chain step, refl)
 chain_push w [] (p ∷ os) mid e o new chain step = absurd chain
 chain_push w (d ∷ es) [] mid e o new chain step = absurd chain
-chain_push w (d ∷ es) (p ∷ os) mid e o new chain step = (chain.0, chain.1, chain_push chain.0 es os mid e o new chain.2 step)
+chain_push w (d ∷ es) (p ∷ os) mid e o new chain step =
+    (chain.0, chain.1, chain_push chain.0 es os mid e o new chain.2 step)
 
 pub chain_more : (w : NodeView) (es : List Event) (i : ℕ) (os : List Out) (mid : NodeView) (e : Event) (o : Out)
     (new : NodeView)
     → i < length es → e ≡ get_or es i e → Chain w (take i es) os mid → StepsTo mid e o new
     → Chain w (take (i + 1) es) (os ++ o ∷ []) new
-chain_more w es i os mid e o new lt at chain step = rw (take_more es i e lt, ← at) (chain_push w (take i es) os mid e o new chain step)
+chain_more w es i os mid e o new lt at chain step =
+    rw (take_more es i e lt, ← at) (chain_push w (take i es) os mid e o new chain step)

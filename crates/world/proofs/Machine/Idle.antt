@@ -48,7 +48,9 @@ pub idle_found : (w : TcView) (t : ℕ) (o : OpenTxn) → IsAt w t o → idle_re
 idle_found w t o at allowed =
     let found = at_number w t o at in
     let both = two_false (is_rolling (find t w.open_txns)) (is_waiting (find t w.open_txns)) RollingBack Unanswered
-    (both_none (open_refusal w t) (first_of ((is_rolling (find t w.open_txns), RollingBack) ∷ (is_waiting (find t w.open_txns), Unanswered) ∷ [])) allowed).1 in
+    (both_none (open_refusal w t)
+    (first_of ((is_rolling (find t w.open_txns), RollingBack) ∷ (is_waiting (find t w.open_txns), Unanswered) ∷ []))
+    allowed).1 in
     let none = none_waits o.waiting o.reading (sym (ap is_waiting found) ∙ both.1) in
     record { rolling = none_rolls o.rolling (sym (ap is_rolling found) ∙ both.0); waiting = none.0; reading = none.1 }
 
@@ -59,16 +61,20 @@ not_not false h = absurd (true≢false h)
 -- and found it
 pub found_idle : (w : TcView) (t : ℕ) → idle_refusal w t ≡ None → is_some (find t w.open_txns) ≡ true
 found_idle w t h =
-    let opened = (both_none (open_refusal w t) (first_of ((is_rolling (find t w.open_txns), RollingBack) ∷ (is_waiting (find t w.open_txns), Unanswered) ∷ [])) h).0 in
+    let opened = (both_none (open_refusal w t)
+    (first_of ((is_rolling (find t w.open_txns), RollingBack) ∷ (is_waiting (find t w.open_txns), Unanswered) ∷ []))
+    h).0 in
     not_not (is_some (find t w.open_txns))
-    (one_false (not (is_some (find t w.open_txns))) NotOpen (both_none (serving_refusal w) (first_of ((not (is_some (find t w.open_txns)), NotOpen) ∷ [])) opened).1)
+    (one_false (not (is_some (find t w.open_txns))) NotOpen
+    (both_none (serving_refusal w) (first_of ((not (is_some (find t w.open_txns)), NotOpen) ∷ [])) opened).1)
 
 pub waits_for_none : (w : TcView) (t : ℕ) (o : OpenTxn) → IsAt w t o → answered_refusal w t ≡ None
     → (o.waiting ≡ None) × (o.reading ≡ None)
 waits_for_none w t o at allowed =
     none_waits o.waiting o.reading
     (sym (ap is_waiting (at_number w t o at))
-    ∙ one_false (is_waiting (find t w.open_txns)) Unanswered (both_none (open_refusal w t) (first_of ((is_waiting (find t w.open_txns), Unanswered) ∷ [])) allowed).1)
+    ∙ one_false (is_waiting (find t w.open_txns)) Unanswered
+    (both_none (open_refusal w t) (first_of ((is_waiting (find t w.open_txns), Unanswered) ∷ [])) allowed).1)
 
 -- the component runs where it tells the other what to forget
 pub serves_clients : (w : TcView) → running_refusal w ≡ None → w.phase ≡ phase.Running
@@ -84,15 +90,20 @@ serves_clients w h = by w.phase h
 
 -- clients are served where a call of one is let
 pub serves_serving : (w : TcView) → serving_refusal w ≡ None → is_serving w.phase ≡ true
-serves_serving w h = not_not (is_serving w.phase) (two_false (is_unconnected w.phase) (not (is_serving w.phase)) NotConnected Redoing h).1
+serves_serving w h = not_not (is_serving w.phase)
+    (two_false (is_unconnected w.phase) (not (is_serving w.phase)) NotConnected Redoing h).1
 
 pub serves_open : (w : TcView) (t : ℕ) → open_refusal w t ≡ None → is_serving w.phase ≡ true
-serves_open w t h = serves_serving w (both_none (serving_refusal w) (first_of ((not (is_some (find t w.open_txns)), NotOpen) ∷ [])) h).0
+serves_open w t h = serves_serving w
+    (both_none (serving_refusal w) (first_of ((not (is_some (find t w.open_txns)), NotOpen) ∷ [])) h).0
 
 pub serves_idle : (w : TcView) (t : ℕ) → idle_refusal w t ≡ None → is_serving w.phase ≡ true
 serves_idle w t h =
     serves_open w t
-    (both_none (open_refusal w t) (first_of ((is_rolling (find t w.open_txns), RollingBack) ∷ (is_waiting (find t w.open_txns), Unanswered) ∷ [])) h).0
+    (both_none (open_refusal w t)
+    (first_of ((is_rolling (find t w.open_txns), RollingBack) ∷ (is_waiting (find t w.open_txns), Unanswered) ∷ []))
+    h).0
 
 pub serves_undo : (w : TcView) (t : ℕ) → answered_refusal w t ≡ None → is_serving w.phase ≡ true
-serves_undo w t h = serves_open w t (both_none (open_refusal w t) (first_of ((is_waiting (find t w.open_txns), Unanswered) ∷ [])) h).0
+serves_undo w t h = serves_open w t
+    (both_none (open_refusal w t) (first_of ((is_waiting (find t w.open_txns), Unanswered) ∷ [])) h).0

@@ -24,5 +24,6 @@ pub plain_at : (log : List Record) (key : Bytes) (cap : ℕ → Bool) → IsLega
 plain_at log key cap legal right answered captured =
     value_of-captured log key cap (all_done (λ n. cap n ≡ true) key log captured) ∙ cancel log legal right key
     ∙ values_alike key (λ n. not (is_crossed log n)) (λ n. is_some (answer_of log n) && not (is_crossed log n)) log
-    (λ n t o by on. ap (λ b. b && not (is_crossed log n)) (sym (answered n o (op_request t o (record_at log n) by) (key_on key o on))))
+    (λ n t o by on. ap (λ b. b && not (is_crossed log n))
+    (sym (answered n o (op_request t o (record_at log n) by) (key_on key o on))))
     ∙ sym (plain_of_history log key)

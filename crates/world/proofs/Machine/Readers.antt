@@ -28,7 +28,8 @@ none_same reads os t o n s found reading most = record { txn = t; open_txn = o; 
 
 -- what the new one waits for, the old one did
 abbrev pub ReadsOnly : ℕ → OpenTxn → OpenTxn → Type 0
-ReadsOnly reads o new = (n : ℕ) (s : Span) → new.reading ≡ Some (record { number = n; span = s }) → n ≤ reads → o.reading ≡ Some (record { number = n; span = s })
+ReadsOnly reads o new = (n : ℕ) (s : Span) → new.reading ≡ Some (record { number = n; span = s }) → n ≤ reads
+    → o.reading ≡ Some (record { number = n; span = s })
 
 pub none_replaced : (reads : ℕ) (os : List OpenTxn) (o new : OpenTxn) → find new.txn os ≡ Some o
     → ReadsOnly reads o new → NoneAnew reads os (replace new os)
@@ -36,9 +37,20 @@ none_replaced reads os o new at only t p n s found reading most =
     elim (cases_eq t new.txn) [
       | inl e ↦
           let F : ℕ → Type 0 = λ u. find u (replace new os) ≡ Some p in
-          let same : p ≡ new = some_txn (find new.txn (replace new os)) p new (subst F e found) (replaced_same new o os at) in
-          record { txn = new.txn; open_txn = o; is = at; reading = only n s (sym (ap (λ (x : OpenTxn). x.reading) same) ∙ reading) most }
-      | inr apart ↦ record { txn = t; open_txn = p; is = sym (replaced_other new os t apart) ∙ found; reading = reading }
+          let same : p ≡ new = some_txn (find new.txn (replace new os)) p new (subst F e found)
+          (replaced_same new o os at) in
+          record {
+            txn = new.txn;
+            open_txn = o;
+            is = at;
+            reading = only n s (sym (ap (λ (x : OpenTxn). x.reading) same) ∙ reading) most;
+          }
+      | inr apart ↦ record {
+        txn = t;
+        open_txn = p;
+        is = sym (replaced_other new os t apart) ∙ found;
+        reading = reading;
+      }
     ]
 
 pub none_without : (reads : ℕ) (os : List OpenTxn) (t : ℕ) → NoneAnew reads os (without t os)
@@ -54,9 +66,16 @@ pub none_begun : (reads : ℕ) (os : List OpenTxn) (t : ℕ) → NoneAnew reads 
 none_begun reads os t u p n s found reading most =
     elim (cases_eq u t) [
       | inl e ↦
-          let same : p ≡ begun_txn t = some_txn (find u (begun_txn t ∷ os)) p (begun_txn t) found (find_here (begun_txn t) os u (sym e)) in
-          let no : None ≡ Some (record { number = n; span = s }) = sym (ap (λ (x : OpenTxn). x.reading) same) ∙ reading in cc
-      | inr apart ↦ record { txn = u; open_txn = p; is = sym (find_there (begun_txn t) os u (λ e. apart (sym e))) ∙ found; reading = reading }
+          let same : p ≡ begun_txn t =
+          some_txn (find u (begun_txn t ∷ os)) p (begun_txn t) found (find_here (begun_txn t) os u (sym e)) in
+          let no : None ≡ Some (record { number = n; span = s }) =
+          sym (ap (λ (x : OpenTxn). x.reading) same) ∙ reading in cc
+      | inr apart ↦ record {
+        txn = u;
+        open_txn = p;
+        is = sym (find_there (begun_txn t) os u (λ e. apart (sym e))) ∙ found;
+        reading = reading;
+      }
     ]
 
 -- a transaction that waits for the same read, or for none
@@ -64,4 +83,5 @@ pub reads_same : (reads : ℕ) (o new : OpenTxn) → new.reading ≡ o.reading �
 reads_same reads o new same n s reading most = sym same ∙ reading
 
 pub reads_none : (reads : ℕ) (o new : OpenTxn) → new.reading ≡ None → ReadsOnly reads o new
-reads_none reads o new none n s reading most = let no : None ≡ Some (record { number = n; span = s }) = sym none ∙ reading in absurd (cc)
+reads_none reads o new none n s reading most = let no : None ≡ Some (record { number = n; span = s }) =
+    sym none ∙ reading in absurd (cc)

@@ -42,10 +42,12 @@ nothing_to_undo (Some r) y n = refl
 
 pub flat_undoes_none : (o : OpenTxn) (n : ℕ) → o.rolling ≡ None → is_to_undo (Some (doing_of o)) n ≡ false
 flat_undoes_none o n flat =
-    ap (λ r. is_to_undo (Some (rolling_as r (reading_as o.reading (waiting_as o.waiting)))) n) flat ∙ nothing_to_undo o.reading o.waiting n
+    ap (λ r. is_to_undo (Some (rolling_as r (reading_as o.reading (waiting_as o.waiting)))) n) flat
+    ∙ nothing_to_undo o.reading o.waiting n
 
 -- a read that is waited for
-module _ (w : NodeView) (o : OpenTxn) (r : Read) (k : IsKept w) (at : find o.txn w.tc.open_txns ≡ Some o) (reads : o.reading ≡ Some r) where
+module _ (w : NodeView) (o : OpenTxn) (r : Read) (k : IsKept w) (at : find o.txn w.tc.open_txns ≡ Some o)
+    (reads : o.reading ≡ Some r) where
   abbrev log : List Record
   log = w.tc.log
 
@@ -56,7 +58,8 @@ module _ (w : NodeView) (o : OpenTxn) (r : Read) (k : IsKept w) (at : find o.txn
   unshared : (key : Bytes) (n u : ℕ) (q : Op) → is_within (shared r.span) key ≡ true → IsOpBy log n u q → IsOpen log u
       → u ≢ o.txn → key_of q ≡ key → ⊥
   unshared key n u q within by is_open other on =
-      true≢false (sym within ∙ ap (is_within (shared r.span)) (sym on) ∙ held_apart w.tc o r n u q k.tc at reads by is_open other)
+      true≢false (sym within ∙ ap (is_within (shared r.span)) (sym on)
+      ∙ held_apart w.tc o r n u q k.tc at reads by is_open other)
 
   -- all requests on the key are answered
   answered_there : (key : Bytes) → is_within (shared r.span) key ≡ true → (n : ℕ) (q : Op) → Requests log n q
@@ -65,7 +68,8 @@ module _ (w : NodeView) (o : OpenTxn) (r : Read) (k : IsKept w) (at : find o.txn
     where
       by : (a : Option Answer) → answer_of log n ≡ a → IsSome a
       by (Some a) is = refl
-      by None is = absurd (true≢false (sym within ∙ ap (is_within (shared r.span)) (sym on) ∙ unread w.tc o r n q k.tc at reads asks is))
+      by None is = absurd (true≢false
+          (sym within ∙ ap (is_within (shared r.span)) (sym on) ∙ unread w.tc o r n q k.tc at reads asks is))
 
   -- of no loser is an operation there
   not_lost : (key : Bytes) (n t : ℕ) (q : Op) → is_within (shared r.span) key ≡ true → IsOpBy log n t q
@@ -73,7 +77,8 @@ module _ (w : NodeView) (o : OpenTxn) (r : Read) (k : IsKept w) (at : find o.txn
   not_lost key n t q within by on = elim (cases_Bool ((clients w.tc).loses t)) [
     | inl listed ↦
         let loser = listed_loser log w.tc.losers k.tc.lost.losers t listed in
-        absurd (unshared key n t q within by loser.open_txn (λ e. omega (arith, e, loser.early, late_at w.tc o k.tc at)) on)
+        absurd (unshared key n t q within by loser.open_txn (λ e. omega (arith, e, loser.early, late_at w.tc o k.tc at))
+        on)
     | inr stays ↦ stays
   ]
 
@@ -85,14 +90,17 @@ module _ (w : NodeView) (o : OpenTxn) (r : Read) (k : IsKept w) (at : find o.txn
       differs : (p : OpenTxn) (b : Rollback) → find t w.tc.open_txns ≡ Some p → p.rolling ≡ Some b → t ≢ o.txn
       differs p b found rolling e =
           let same : Some p ≡ Some o = sym found ∙ ap (λ (u : ℕ). find u w.tc.open_txns) e ∙ at in
-          let none : Some b ≡ None = sym rolling ∙ ap (λ (x : OpenTxn). x.rolling) (let f : p ≡ o = cc in f) ∙ is_reading.flat in
+          let none : Some b ≡ None =
+          sym rolling ∙ ap (λ (x : OpenTxn). x.rolling) (let f : p ≡ o = cc in f) ∙ is_reading.flat in
           cc
 
       by_rolling : (p : OpenTxn) → find t w.tc.open_txns ≡ Some p → (x : Option Rollback) → p.rolling ≡ x
           → is_to_undo (Some (doing_of p)) n ≡ false
       by_rolling p found None flat = flat_undoes_none p n flat
       by_rolling p found (Some b) rolling =
-          let is_open : IsOpen log t = subst (λ (u : ℕ). IsOpen log u) (found_number t w.tc.open_txns p found) (k.tc.open_txns.each t p found).is in
+          let is_open : IsOpen log t =
+          subst (λ (u : ℕ). IsOpen log u) (found_number t w.tc.open_txns p found)
+          (k.tc.open_txns.each t p found).is in
           absurd (unshared key n t q within by is_open (differs p b found rolling) on)
 
       by_txn : (x : Option OpenTxn) → find t w.tc.open_txns ≡ x
@@ -107,11 +115,15 @@ module _ (w : NodeView) (o : OpenTxn) (r : Read) (k : IsKept w) (at : find o.txn
       (honest_at w key k).right
       ∙ value_of-captured log key (captures_at w.dc key)
       (all_done (λ n. captures_at w.dc key n ≡ true) key log (λ n q asks on.
-      subst (λ (z : Bytes). captures_at w.dc z n ≡ true) on (k.answered past n q asks (answered_there key within n q asks on))))
+      subst (λ (z : Bytes). captures_at w.dc z n ≡ true) on
+      (k.answered past n q asks (answered_there key within n q asks on))))
 
   -- and that is what the plain map has
   pub logged_plain : (m : Machine) → Stands w m → (key : Bytes) → is_within (shared r.span) key ≡ true
       → value_on key log ≡ get (plain m.h) key
   logged_plain m stands key within =
-      sym (plain_is_the_logs (clients w.tc) m key k.tc.legal k.right stands (λ n t q by on uncrossed.
-      (answered_there key within n q (op_request t q (record_at log n) by) (sym on), not_lost key n t q within by (sym on), not_undone key n t q within by (sym on))))
+      sym (plain_is_the_logs (clients w.tc) m key k.tc.legal k.right stands (λ n t q by on uncrossed. (
+        answered_there key within n q (op_request t q (record_at log n) by) (sym on),
+        not_lost key n t q within by (sym on),
+        not_undone key n t q within by (sym on),
+      )))

@@ -63,7 +63,8 @@ Goes w i x = IsTc x.1 → Follows w (event.Reply i) (as_out x.0) (with_tc w x.1)
 quietly : (w : NodeView) (i : ℕ) (x : Outcome) → lines_of (event.Reply i) (as_out x.0) ≡ Some []
     → ((m : Machine) → Stands w m → StandsFor (clients x.1) m) → IsKept (with_tc w x.1)
     → Follows w (event.Reply i) (as_out x.0) (with_tc w x.1)
-quietly w i x none stands kept = record { leads = no_line w (with_tc w x.1) (event.Reply i) (as_out x.0) none stands; kept = kept }
+quietly w i x none stands kept =
+    record { leads = no_line w (with_tc w x.1) (event.Reply i) (as_out x.0) none stands; kept = kept }
 
 nothing : (w : NodeView) (i : ℕ) → IsKept w → Goes w i (told.Nothing, w.tc)
 nothing w i k after = quietly w i (told.Nothing, w.tc) refl (λ m stands. stands) k
@@ -108,7 +109,8 @@ pub record IsTaken (w : NodeView) (s n : ℕ) (a : Option Answer) : Type 0 where
 taken_captured : (w : NodeView) (s n : ℕ) (a : Option Answer) (k : IsKept w) (t : IsTaken w s n a) → w.dc.session ≢ 0
     → captures_at w.dc (key_of t.given.op) n ≡ true
 taken_captured w s n a k t some =
-    t.given.captured.holds (same_runs w s k (some_taken w.tc.phase w.tc.checkpointed n w.tc.session t.taken k.tc.phase) t.same t.given.captured.begun some)
+    t.given.captured.holds (same_runs w s k (some_taken w.tc.phase w.tc.checkpointed n w.tc.session t.taken k.tc.phase)
+    t.same t.given.captured.begun some)
 
 taken_there : (w : NodeView) (s n : ℕ) (a : Option Answer) → IsKept w → IsTaken w s n a → w.dc.session ≡ w.tc.session
     → (o : Op) → Requests w.tc.log n o
@@ -122,8 +124,13 @@ taken_there w s n a k t runs o asks =
 passes : (w : NodeView) (s n : ℕ) (a : Option Answer) → IsKept w → IsTaken w s n a → IsTc (passed w.tc n)
     → IsKept (with_tc w (passed w.tc n))
 passes w s n a k t after =
-    keeps_same_log w (passed w.tc n) k after k.checked refl (omega arith) (inl refl) (omega arith) (none_same w.tc.reads w.tc.open_txns)
-    (record { begun = k.sessions.begun; served = next_served w.tc.phase n w.tc.session w.tc.log w.dc t.taken (taken_there w s n a k t) k.sessions.served })
+    keeps_same_log w (passed w.tc n) k after k.checked refl (omega arith) (inl refl) (omega arith)
+    (none_same w.tc.reads w.tc.open_txns)
+    (record {
+      begun = k.sessions.begun;
+      served = next_served w.tc.phase n w.tc.session w.tc.log w.dc t.taken (taken_there w s n a k t)
+          k.sessions.served;
+    })
 
 answer_sessions : (w : NodeView) (s n : ℕ) (a : Answer) → IsKept w → IsTaken w s n (Some a)
     → AreSessions w.tc.stable w.tc.session (next_phase w.tc.phase n) (is.Answer n a ∷ w.tc.log) w.dc
@@ -138,7 +145,8 @@ answers : (w : NodeView) (o : OpenTxn) (s n : ℕ) (a : Answer) → IsKept w →
     → IsTc (passed (answered w.tc o n a) n) → IsTaken w s n (Some a)
     → IsKept (with_tc w (passed (answered w.tc o n a) n))
 answers w o s n a k at after t =
-    keeps_appended w (passed (answered w.tc o n a) n) (is.Answer n a) k after k.checked refl (omega arith) (inl refl) (omega arith)
+    keeps_appended w (passed (answered w.tc o n a) n) (is.Answer n a) k after k.checked refl (omega arith) (inl refl)
+    (omega arith)
     (none_replaced w.tc.reads w.tc.open_txns o (answered_txn o) at (reads_same w.tc.reads o (answered_txn o) refl))
     (answer_sessions w s n a k t)
     (t.given.answer, k.right)
@@ -148,21 +156,25 @@ answers w o s n a k at after t =
 tells : (w : NodeView) (i : ℕ) (o : OpenTxn) (s n : ℕ) (a : Answer) → IsKept w → find o.txn w.tc.open_txns ≡ Some o
     → o.waiting ≡ Some n → IsAnswered w.tc w.dc s n (Some a)
     → IsTc (passed (answered w.tc o n a) n) → (x : Option Rollback) → o.rolling ≡ x
-    → Leads w (event.Reply i) (as_out (if is_some x then told.Undone n else told.Answered o.txn a)) (with_tc w (passed (answered w.tc o n a) n))
+    → Leads w (event.Reply i) (as_out (if is_some x then told.Undone n else told.Answered o.txn a))
+    (with_tc w (passed (answered w.tc o n a) n))
 tells w i o s n a k at waiting given after (Some r) rolling =
     no_line w (with_tc w (passed (answered w.tc o n a) n)) (event.Reply i) (out.Undone n) refl (λ m stands.
     stands_undone w.tc m o k.tc at stands r n a rolling after.legal
     (comp_waited w.tc.log o n (ap is_some rolling) (waits_at w.tc.log o n (open_at w.tc o k.tc at) waiting).request))
 tells w i o s n a k at waiting given after None flat =
-    one_line w (with_tc w (passed (answered w.tc o n a) n)) (event.Reply i) (out.Answered o.txn a) (TellsAnswer o.txn a) refl (λ m stands.
-    stands_answered w.tc m o k.tc at stands n a flat (reads_nothing w.tc o n k.tc at waiting) waiting after.legal (given.answer, k.right) given.stable)
+    one_line w (with_tc w (passed (answered w.tc o n a) n)) (event.Reply i) (out.Answered o.txn a) (TellsAnswer o.txn a)
+    refl (λ m stands.
+    stands_answered w.tc m o k.tc at stands n a flat (reads_nothing w.tc o n k.tc at waiting) waiting after.legal
+    (given.answer, k.right) given.stable)
 
 -- the answer of a loser's request
 lost_answers : (w : NodeView) (s n : ℕ) (a : Answer) → IsKept w → IsTc (passed (answered_lost w.tc n a) n)
     → IsTaken w s n (Some a)
     → IsKept (with_tc w (passed (answered_lost w.tc n a) n))
 lost_answers w s n a k after t =
-    keeps_appended w (passed (answered_lost w.tc n a) n) (is.Answer n a) k after k.checked refl (omega arith) (inl refl) (omega arith)
+    keeps_appended w (passed (answered_lost w.tc n a) n) (is.Answer n a) k after k.checked refl (omega arith) (inl refl)
+    (omega arith)
     (none_same w.tc.reads w.tc.open_txns) (answer_sessions w s n a k t)
     (t.given.answer, k.right)
     (λ some. answer_captured w n a t.given.op t.given.requests (taken_captured w s n (Some a) k t some))
@@ -170,7 +182,8 @@ lost_answers w s n a k after t =
 -- is told to nobody
 lost_answered : (w : NodeView) (i s n : ℕ) (a : Answer) → IsKept w → IsDue w.tc.log w.tc.losers.below n
     → IsTaken w s n (Some a) → Goes w i (told_lost (record_at w.tc.log n) n, passed (answered_lost w.tc n a) n)
-lost_answered w i s n a k due t after = quietly w i (told_lost (record_at w.tc.log n) n, passed (answered_lost w.tc n a) n) (by (record_at w.tc.log n))
+lost_answered w i s n a k due t after =
+    quietly w i (told_lost (record_at w.tc.log n) n, passed (answered_lost w.tc n a) n) (by (record_at w.tc.log n))
     (λ m stands. stands_lost_answered w.tc m n a k.tc after.legal due stands) (lost_answers w s n a k after t)
   where
     by : (r : Option Record) → lines_of (event.Reply i) (as_out (told_lost r n)) ≡ Some []
@@ -184,13 +197,17 @@ awaited_goes w i s n a None k none t after =
     by (lacks w.tc n) refl a t after
   where
     by : (b : Bool) → lacks w.tc n ≡ b → (a : Option Answer) → IsTaken w s n a → Goes w i (lost_if w.tc n a b)
-    by false lacks_none a t after = quietly w i (told.Nothing, passed w.tc n) refl (λ m stands. stands) (passes w s n a k t after)
+    by false lacks_none a t after =
+        quietly w i (told.Nothing, passed w.tc n) refl (λ m stands. stands) (passes w s n a k t after)
     by true lacking None t after = nothing w i k after
     by true lacking (Some a) t after = lost_answered w i s n a k (lacking_due w.tc n k.tc lacking none) t after
 awaited_goes w i s n None (Some o) k some t after = nothing w i k after
 awaited_goes w i s n (Some a) (Some o) k some t after =
     let at = awaited_is w.tc n o some in
-    record { leads = tells w i o s n a k at.0 at.1 t.given after o.rolling refl; kept = answers w o s n a k at.0 after t }
+    record {
+      leads = tells w i o s n a k at.0 at.1 t.given after o.rolling refl;
+      kept = answers w o s n a k at.0 after t;
+    }
 
 answered_goes : (w : NodeView) (i s n : ℕ) (a : Option Answer) → IsKept w → s ≡ w.tc.session
     → IsAnswered w.tc w.dc s n a → Goes w i (on_answered w.tc n a)
@@ -198,7 +215,8 @@ answered_goes w i s n a k same given = pick (takes w.tc.session w.tc.phase n) re
   where
     pick : (b : Bool) → takes w.tc.session w.tc.phase n ≡ b
         → Goes w i (if b then on_awaited w.tc n a (awaiting w.tc n) else (told.Nothing, w.tc))
-    pick true taken = awaited_goes w i s n a (awaiting w.tc n) k refl (record { taken = taken; same = same; given = given })
+    pick true taken = awaited_goes w i s n a (awaiting w.tc n) k refl
+        (record { taken = taken; same = same; given = given })
     pick false not_taken = nothing w i k
 
 -- the reply to Connect is of a session that was taken
@@ -211,7 +229,8 @@ connected_goes w i s phase.Connecting at k same given after =
     let Q : Phase → Type 0 = IsPhase w.tc.checkpointed w.tc.session in
     let some : 0 < w.tc.session = let least = subst Q at k.tc.phase in omega (arith, least) in
     quietly w i (told.Connected w.tc.session, tc) refl (λ m stands. stands)
-    (keeps_same_log w tc k after k.checked refl (omega arith) (inl refl) (omega arith) (none_same w.tc.reads w.tc.open_txns)
+    (keeps_same_log w tc k after k.checked refl (omega arith) (inl refl) (omega arith)
+    (none_same w.tc.reads w.tc.open_txns)
     (record {
       begun = k.sessions.begun;
       served = (
@@ -233,13 +252,18 @@ redo_ended_goes w i s (phase.Redoing next false) at k same past after = nothing 
 redo_ended_goes w i s (phase.Redoing next true) at k same past after =
     let served = redo_served w next true k at in
     let bounds = redoing_phase w next true k at in
-    quietly w i (told.RedoEnded w.tc.session, record w.tc { phase = undoing_or_running w.tc.losers }) refl (λ m stands. stands)
-    (keeps_same_log w (record w.tc { phase = undoing_or_running w.tc.losers }) k after k.checked refl (omega arith) (inl refl) (omega arith) (none_same w.tc.reads w.tc.open_txns)
+    quietly w i (told.RedoEnded w.tc.session, record w.tc { phase = undoing_or_running w.tc.losers }) refl
+    (λ m stands. stands)
+    (keeps_same_log w (record w.tc { phase = undoing_or_running w.tc.losers }) k after k.checked refl (omega arith)
+    (inl refl) (omega arith) (none_same w.tc.reads w.tc.open_txns)
     (record {
       begun = k.sessions.begun;
       served =
-          ended_served (is_none_lost w.tc.losers)
-          (served.1, λ runs. past.holds (is_run w.dc s (λ zero. absurd (omega (arith, zero, same, bounds.0, bounds.1))) (runs ∙ sym same)));
+          ended_served (is_none_lost w.tc.losers) (
+            served.1,
+            λ runs. past.holds
+                (is_run w.dc s (λ zero. absurd (omega (arith, zero, same, bounds.0, bounds.1))) (runs ∙ sym same)),
+          );
     }))
   where
     ended_served : (b : Bool) → (w.dc.stored ≡ w.tc.session) × (w.dc.session ≡ w.tc.session → w.dc.redo ≡ false)
@@ -254,8 +278,12 @@ checkpoint_logged : (w : NodeView) (l : ℕ) → IsKept w → IsChecked l w.dc.s
     → IsKept (with_tc w (checkpointed w.tc l))
 checkpoint_logged w l k given after =
     let r : Record = is.Checkpoint l in
-    keeps_appended w (checkpointed w.tc l) r k after (pick (nat_lt w.tc.checkpointed l)) refl (omega arith) (inl refl) (omega arith) (none_same w.tc.reads w.tc.open_txns)
-    (record { begun = k.sessions.begun; served = quiet_served w.tc.phase w.tc.session r w.tc.log w.dc (λ o h. cc) k.sessions.served })
+    keeps_appended w (checkpointed w.tc l) r k after (pick (nat_lt w.tc.checkpointed l)) refl (omega arith) (inl refl)
+    (omega arith) (none_same w.tc.reads w.tc.open_txns)
+    (record {
+      begun = k.sessions.begun;
+      served = quiet_served w.tc.phase w.tc.session r w.tc.log w.dc (λ o h. cc) k.sessions.served;
+    })
     k.right (λ some. still_captured w r (λ o h. cc) (λ m. refl))
   where
     pick : (b : Bool) → IsChecked (if b then l else w.tc.checkpointed) w.dc.system
@@ -266,9 +294,11 @@ checkpointed_goes : (w : NodeView) (i l : ℕ) → IsKept w → IsChecked l w.dc
 checkpointed_goes w i l k given = pick (is_number w.tc.checkpointing l)
   where
     pick : (b : Bool)
-        → Goes w i (if b then (told.CheckpointLogged (length w.tc.log + 1), checkpointed w.tc l) else (told.Nothing, w.tc))
+        → Goes w i (if b then (told.CheckpointLogged (length w.tc.log + 1), checkpointed w.tc l) else
+        (told.Nothing, w.tc))
     pick true after =
-        quietly w i (told.CheckpointLogged (length w.tc.log + 1), checkpointed w.tc l) refl (stands_checkpointed w.tc l) (checkpoint_logged w l k given after)
+        quietly w i (told.CheckpointLogged (length w.tc.log + 1), checkpointed w.tc l) refl (stands_checkpointed w.tc l)
+        (checkpoint_logged w l k given after)
     pick false after = nothing w i k after
 
 -- a reply that isn't refused is of the session
@@ -305,10 +335,12 @@ row_goes w i n v (Some o) k is given =
         let P : Option Read → Type 0 = λ x. Goes w i (told_if (is_key (span_read x))) in
         let at = (reader_is w.tc n o k.tc is).0 in
         subst P (sym reads) (λ after. record {
-          leads = one_line w (with_tc w (was_told w.tc o)) (event.Reply i) (out.Row o.txn v) (TellsRow o.txn v) refl (tells_row w o n key k at reads v value);
+          leads = one_line w (with_tc w (was_told w.tc o)) (event.Reply i) (out.Row o.txn v) (TellsRow o.txn v) refl
+              (tells_row w o n key k at reads v value);
           kept = kept_told w o k at after;
         })
-    by (Range low high) reads value = let P : Option Read → Type 0 = λ x. Goes w i (told_if (is_key (span_read x))) in subst P (sym reads) (nothing w i k)
+    by (Range low high) reads value = let P : Option Read → Type 0 = λ x. Goes w i (told_if (is_key (span_read x))) in
+        subst P (sym reads) (nothing w i k)
 
 rows_goes : (w : NodeView) (i n : ℕ) (rows : List (Bytes × Bytes)) (x : Option OpenTxn) → IsKept w → reader w.tc n ≡ x
     → IsTrueOfReader w.tc n (AreRows w.tc.log rows) → Goes w i (on_rows w.tc rows x)
@@ -322,28 +354,35 @@ rows_goes w i n rows (Some o) k is given =
 
     by : (q : Span) → o.reading ≡ Some (record { number = n; span = q }) → AreRows w.tc.log rows q
         → Goes w i (told_if (is_range (span_read o.reading)))
-    by (Key key) reads these = let P : Option Read → Type 0 = λ x. Goes w i (told_if (is_range (span_read x))) in subst P (sym reads) (nothing w i k)
+    by (Key key) reads these = let P : Option Read → Type 0 = λ x. Goes w i (told_if (is_range (span_read x))) in
+        subst P (sym reads) (nothing w i k)
     by (Range low high) reads these =
         let P : Option Read → Type 0 = λ x. Goes w i (told_if (is_range (span_read x))) in
         let at = (reader_is w.tc n o k.tc is).0 in
         subst P (sym reads) (λ after. record {
-          leads = one_line w (with_tc w (was_told w.tc o)) (event.Reply i) (out.Rows o.txn rows) (TellsRows o.txn rows) refl (tells_rows w o n low high k at reads rows these);
+          leads = one_line w (with_tc w (was_told w.tc o)) (event.Reply i) (out.Rows o.txn rows) (TellsRows o.txn rows)
+              refl (tells_rows w o n low high k at reads rows these);
           kept = kept_told w o k at after;
         })
 
 replied : (w : NodeView) (i : ℕ) (reply : Reply) → IsKept w → IsGiven w.tc w.dc reply
     → reply_refusal w.tc reply ≡ None → Goes w i (on_reply w.tc reply)
 replied w i (says.Connected s) k given allowed =
-    connected_goes w i s w.tc.phase refl k (fresh_session s w.tc.session (logs w.tc (says.Connected s) && is_spent w.tc.log) allowed) given
+    connected_goes w i s w.tc.phase refl k
+    (fresh_session s w.tc.session (logs w.tc (says.Connected s) && is_spent w.tc.log) allowed) given
 replied w i (says.Answered s n a) k given allowed =
-    answered_goes w i s n a k (fresh_session s w.tc.session (logs w.tc (says.Answered s n a) && is_spent w.tc.log) allowed) given
+    answered_goes w i s n a k
+    (fresh_session s w.tc.session (logs w.tc (says.Answered s n a) && is_spent w.tc.log) allowed) given
 replied w i (says.Row s n v) k given allowed =
-    row_goes w i n v (reader w.tc n) k refl (given.holds (fresh_session s w.tc.session (logs w.tc (says.Row s n v) && is_spent w.tc.log) allowed))
+    row_goes w i n v (reader w.tc n) k refl
+    (given.holds (fresh_session s w.tc.session (logs w.tc (says.Row s n v) && is_spent w.tc.log) allowed))
 replied w i (says.Rows s n rows) k given allowed =
-    rows_goes w i n rows (reader w.tc n) k refl (given.holds (fresh_session s w.tc.session (logs w.tc (says.Rows s n rows) && is_spent w.tc.log) allowed))
+    rows_goes w i n rows (reader w.tc n) k refl
+    (given.holds (fresh_session s w.tc.session (logs w.tc (says.Rows s n rows) && is_spent w.tc.log) allowed))
 replied w i (says.Checkpointed s l) k given allowed = checkpointed_goes w i l k given
 replied w i (says.RedoEnded s) k given allowed =
-    redo_ended_goes w i s w.tc.phase refl k (fresh_session s w.tc.session (logs w.tc (says.RedoEnded s) && is_spent w.tc.log) allowed) given
+    redo_ended_goes w i s w.tc.phase refl k
+    (fresh_session s w.tc.session (logs w.tc (says.RedoEnded s) && is_spent w.tc.log) allowed) given
 
 pub taken : (old new : NodeView) (i : ℕ) (output : Out) → IsKept old → Taken old i output new
     → Follows old (event.Reply i) output new
@@ -353,14 +392,17 @@ taken old new i output k t =
     let after : IsTc x.1 = subst IsTc t.taken.1.left (reply_keeps old.tc new.tc t.reply (Ok t.what) k.tc t.taken) in
     let P : Out → Type 0 = λ o. Follows old (event.Reply i) o new in
     subst P (sym (t.output_is ∙ ap as_out t.taken.1.told))
-    (at_new old new (with_tc old x.1) (event.Reply i) (as_out x.0) (t.left ∙ ap (with_tc old) t.taken.1.left) (replied old i t.reply k given t.taken.0 after))
+    (at_new old new (with_tc old x.1) (event.Reply i) (as_out x.0) (t.left ∙ ap (with_tc old) t.taken.1.left)
+    (replied old i t.reply k given t.taken.0 after))
 
 untaken : (old new : NodeView) (i : ℕ) (r : Refusal) → IsKept old → Untaken old i r new
     → Follows old (event.Reply i) (out.Refused r) new
 untaken old new i r k u =
-    let which = left_refused (reply_refusal old.tc u.reply) (takes_memory old.tc u.reply) (logs old.tc u.reply) old.tc r new.tc u.refused in
+    let which = left_refused (reply_refusal old.tc u.reply) (takes_memory old.tc u.reply) (logs old.tc u.reply) old.tc r
+    new.tc u.refused in
     record {
-      leads = no_line old new (event.Reply i) (out.Refused r) refl (λ m stands. stands_left old.tc new.tc m which stands);
+      leads = no_line old new (event.Reply i) (out.Refused r) refl
+          (λ m stands. stands_left old.tc new.tc m which stands);
       kept = kept_left old new k u.left which;
     }
 

@@ -34,7 +34,7 @@ use Rattle.simulation.proofs.Leftovers.{leftovers_are_no_step, let_go_is_no_step
 use Rattle.simulation.proofs.Equal.{stands_along}
 use Rattle.range_locks.specs.declared.span.Span.{Span as Keys}
 use Rattle.range_locks.specs.declared.span.Span.TheVariants.{Key, Range}
-use Rattle.range_locks.specs.Locks.{LocksView, spans_of, set_spans}
+use Rattle.range_locks.specs.Locks.{spans_of}
 use Rattle.range_locks.specs.Locks as locks
 use Rattle.tc_core.specs.declared.open_txn.OpenTxn.{OpenTxn}
 use Rattle.tc_core.specs.declared.open_txn.Read.{Read}
@@ -68,8 +68,10 @@ does_nothing (Some o) h = absurd (cc)
 pub true_spans : (w : TcView) → IsTc w → HasTrueSpans (clients w)
 true_spans w k = record {
   let_go = λ t none stays told. k.locks.others t
-      (holder_more w.open_txns w.committing (txns w.losers) t ∙ rw (unheld t (does_nothing (find t w.open_txns) none) told, stays) refl);
-  losers = λ t loses. let P : List Span → Type 0 = AreItsKeys w.log t in subst P (sym (losers_hold w k t loses)) (its_keys w.log t);
+      (holder_more w.open_txns w.committing (txns w.losers) t
+      ∙ rw (unheld t (does_nothing (find t w.open_txns) none) told, stays) refl);
+  losers = λ t loses. let P : List Span → Type 0 = AreItsKeys w.log t in
+      subst P (sym (losers_hold w k t loses)) (its_keys w.log t);
 }
   where
     unlisted : (t : ℕ) → IsUncommitting (clients w) t → is_listed w.committing t ≡ false
@@ -106,27 +108,34 @@ stands_begun w m k unfound unlisted stands =
     let new : OpenTxn = begun_txn t in
     let l = begin_is_a_step (clients w) m k.legal stands in
     let here : find t (new ∷ w.open_txns) ≡ Some new = find_here new w.open_txns t refl in
-    let there : (u : ℕ) → u ≢ t → find u (new ∷ w.open_txns) ≡ find u w.open_txns = λ u apart. find_there new w.open_txns u (λ e. apart (sym e)) in (
+    let there : (u : ℕ) → u ≢ t → find u (new ∷ w.open_txns) ≡ find u w.open_txns =
+    λ u apart. find_there new w.open_txns u (λ e. apart (sym e)) in (
       l.0,
       l.1,
       stands_along (after_begin (clients w)) (clients (begun w)) l.0 refl refl (λ u. refl)
-          (put_is (clients w).doing (clients (begun w)).doing t (Some Ready) (ap doing_in here) (λ u apart. ap doing_in (there u apart)))
-          (put_is (clients w).saves (clients (begun w)).saves t [] (ap saves_of here) (λ u apart. ap saves_of (there u apart)))
+          (put_is (clients w).doing (clients (begun w)).doing t (Some Ready) (ap doing_in here)
+          (λ u apart. ap doing_in (there u apart)))
+          (put_is (clients w).saves (clients (begun w)).saves t [] (ap saves_of here)
+          (λ u apart. ap saves_of (there u apart)))
           (put_is (clients w).spans (clients (begun w)).spans t []
-          (k.locks.others t (holder_more w.open_txns w.committing (txns w.losers) t ∙ rw (unfound, unlisted, unlisted_late w.log w.losers k.lost.losers t k.lost.losers.bound) refl)) (λ u apart. refl)) l.2,
+          (k.locks.others t (holder_more w.open_txns w.committing (txns w.losers) t
+          ∙ rw (unfound, unlisted, unlisted_late w.log w.losers k.lost.losers t k.lost.losers.bound) refl))
+          (λ u apart. refl)) l.2,
     )
 
 -- no Commit of an open transaction stands, nor does its End make one
 no_commit : (log : List Record) (t n : ℕ) → IsOpen log t → IsCommitAt (is.End t ∷ log) t n → ⊥
 no_commit log t n is_open is_commit = elim (cases_eq n (length log + 1)) [
-  | inl e ↦ let last : Some (is.End t) ≡ Some (is.Commit t) = newest_at (λ x. x ≡ Some (is.Commit t)) (is.End t) log n e is_commit in cc
+  | inl e ↦ let last : Some (is.End t) ≡ Some (is.Commit t) =
+      newest_at (λ x. x ≡ Some (is.Commit t)) (is.End t) log n e is_commit in cc
   | inr apart ↦
       let older = older_at (λ x. x ≡ Some (is.Commit t)) (is.End t) log n apart is_commit in
       true≢false (sym (end_ends log t n (inl older)) ∙ is_open.goes_on)
 ]
 
 -- a transaction that was found
-module _ (w : TcView) (m : Machine) (o : OpenTxn) (k : IsTc w) (at : find o.txn w.open_txns ≡ Some o) (stands : StandsFor (clients w) m) where
+module _ (w : TcView) (m : Machine) (o : OpenTxn) (k : IsTc w) (at : find o.txn w.open_txns ≡ Some o)
+    (stands : StandsFor (clients w) m) where
   -- acts
   pub stands_acted : (op : Op) → IsIdleTxn o → IsTc (acted w o op)
       → locks.IsFree w.locks o.txn (at_key Exclusive (key_of op))
@@ -135,11 +144,13 @@ module _ (w : TcView) (m : Machine) (o : OpenTxn) (k : IsTc w) (at : find o.txn 
       let s : Span = at_key Exclusive (key_of op) in
       let n : ℕ = length w.log + 1 in
       let new : OpenTxn = acted_txn o n in
-      let l = act_is_a_step (clients w) m o.txn o.last op after.legal stands (does_this w o Ready at (idle_rests o idle)) (free_there w m o.txn s k stands free) in (
+      let l = act_is_a_step (clients w) m o.txn o.last op after.legal stands
+      (does_this w o Ready at (idle_rests o idle)) (free_there w m o.txn s k stands free) in (
         l.0,
         l.1,
         stands_along (after_act (clients w) o.txn o.last op) (clients (acted w o op)) l.0 refl refl (λ u. refl)
-            (doing_now w.open_txns new o at (Awaits n) (awaits new n idle.rolling idle.reading refl)) (saves_kept w.open_txns new o at refl)
+            (doing_now w.open_txns new o at (Awaits n) (awaits new n idle.rolling idle.reading refl))
+            (saves_kept w.open_txns new o at refl)
             (spans_put w.locks o.txn (s ∷ spans_of w.locks o.txn) k.locks.table) l.2,
       )
 
@@ -150,11 +161,13 @@ module _ (w : TcView) (m : Machine) (o : OpenTxn) (k : IsTc w) (at : find o.txn 
   stands_asked s idle range free same =
       let n : ℕ = w.reads + 1 in
       let new : OpenTxn = reading_txn o n s in
-      let l = read_is_a_step (clients w) m o.txn (query_of s) stands (does_this w o Ready at (idle_rests o idle)) range (free_there w m o.txn (asked_span (query_of s)) k stands free) in (
+      let l = read_is_a_step (clients w) m o.txn (query_of s) stands (does_this w o Ready at (idle_rests o idle)) range
+      (free_there w m o.txn (asked_span (query_of s)) k stands free) in (
         l.0,
         l.1,
         stands_along (after_read (clients w) o.txn (query_of s)) (clients (asked_read w o s)) l.0 refl refl (λ u. refl)
-            (doing_now w.open_txns new o at (Looks (query_of s)) (looks new (record { number = n; span = s }) idle.rolling refl)) (saves_kept w.open_txns new o at refl)
+            (doing_now w.open_txns new o at (Looks (query_of s))
+            (looks new (record { number = n; span = s }) idle.rolling refl)) (saves_kept w.open_txns new o at refl)
             (λ u. ap (λ (x : Span). put (λ t. spans_of w.locks t) o.txn (x ∷ spans_of w.locks o.txn) u) same
             ∙ spans_put w.locks o.txn (shared s ∷ spans_of w.locks o.txn) k.locks.table u) l.2,
       )
@@ -164,13 +177,15 @@ module _ (w : TcView) (m : Machine) (o : OpenTxn) (k : IsTc w) (at : find o.txn 
       → StandsFor (clients (was_told w o)) n
   told_view n idle told =
       stands_along (does (clients w) o.txn (Some Ready)) (clients (was_told w o)) n refl refl (λ u. refl)
-      (doing_now w.open_txns (told_txn o) o at Ready (idle_rests (told_txn o) idle)) (saves_kept w.open_txns (told_txn o) o at refl) (λ u. refl) told
+      (doing_now w.open_txns (told_txn o) o at Ready (idle_rests (told_txn o) idle))
+      (saves_kept w.open_txns (told_txn o) o at refl) (λ u. refl) told
 
   pub stands_row : (r : Read) (key : Bytes) (value : Option Bytes) → o.rolling ≡ None → o.waiting ≡ None
       → o.reading ≡ Some r → r.span ≡ Key key → value ≡ get (plain m.h) key
       → Leads (clients w) m (TellsRow o.txn value) (clients (was_told w o))
   stands_row r key value flat still reads is right =
-      let l = row_is_told (clients w) m o.txn key value stands (does_this w o (Looks (OfKey key)) at (looks o r flat reads ∙ ap (λ s. Looks (query_of s)) is)) right in
+      let l = row_is_told (clients w) m o.txn key value stands
+      (does_this w o (Looks (OfKey key)) at (looks o r flat reads ∙ ap (λ s. Looks (query_of s)) is)) right in
       (l.0, l.1, told_view l.0 (record { rolling = flat; waiting = still; reading = refl }) l.2)
 
   pub stands_rows : (r : Read) (lo : Bytes) (hi : Option Bytes) (rows : List (Bytes × Bytes)) → o.rolling ≡ None
@@ -178,7 +193,8 @@ module _ (w : TcView) (m : Machine) (o : OpenTxn) (k : IsTc w) (at : find o.txn 
       → rows ≡ rows_in (asked_span (OfRange lo hi)) (plain m.h)
       → Leads (clients w) m (TellsRows o.txn rows) (clients (was_told w o))
   stands_rows r lo hi rows flat still reads is right =
-      let l = rows_are_told (clients w) m o.txn lo hi rows stands (does_this w o (Looks (OfRange lo hi)) at (looks o r flat reads ∙ ap (λ s. Looks (query_of s)) is)) right in
+      let l = rows_are_told (clients w) m o.txn lo hi rows stands
+      (does_this w o (Looks (OfRange lo hi)) at (looks o r flat reads ∙ ap (λ s. Looks (query_of s)) is)) right in
       (l.0, l.1, told_view l.0 (record { rolling = flat; waiting = still; reading = refl }) l.2)
 
   -- sets a savepoint
@@ -187,12 +203,14 @@ module _ (w : TcView) (m : Machine) (o : OpenTxn) (k : IsTc w) (at : find o.txn 
   stands_saved s idle number few =
       let new : OpenTxn = saved_txn o (length w.log) in
       let mine : saves_of (find o.txn w.open_txns) ≡ o.saves = ap saves_of at in
-      let l = save_is_a_step (clients w) m o.txn s stands (does_this w o Ready at (idle_rests o idle)) (ap (λ (x : List ℕ). length x + 1) mine ∙ number) few in (
+      let l = save_is_a_step (clients w) m o.txn s stands (does_this w o Ready at (idle_rests o idle))
+      (ap (λ (x : List ℕ). length x + 1) mine ∙ number) few in (
         l.0,
         l.1,
         stands_along (after_save (clients w) o.txn) (clients (saved w o)) l.0 refl refl (λ u. refl)
             (doing_kept w.open_txns new o at refl)
-            (λ u. ap (λ (x : List ℕ). put (λ t. saves_of (find t w.open_txns)) o.txn (x ++ length w.log ∷ []) u) mine ∙ saves_replaced w.open_txns new o at u) (λ u. refl) l.2,
+            (λ u. ap (λ (x : List ℕ). put (λ t. saves_of (find t w.open_txns)) o.txn (x ++ length w.log ∷ []) u) mine
+            ∙ saves_replaced w.open_txns new o at u) (λ u. refl) l.2,
       )
 
   -- goes back to a savepoint
@@ -201,12 +219,15 @@ module _ (w : TcView) (m : Machine) (o : OpenTxn) (k : IsTc w) (at : find o.txn 
   stands_going_back s end idle some found =
       let new : OpenTxn = going_back_txn o s end in
       let mine : saves_of (find o.txn w.open_txns) ≡ o.saves = ap saves_of at in
-      let l = go_back_is_a_step (clients w) m o.txn s end stands (does_this w o Ready at (idle_rests o idle)) some (ap (λ (x : List ℕ). slice_get x (s - 1)) mine ∙ found) in (
+      let l = go_back_is_a_step (clients w) m o.txn s end stands (does_this w o Ready at (idle_rests o idle)) some
+      (ap (λ (x : List ℕ). slice_get x (s - 1)) mine ∙ found) in (
         l.0,
         l.1,
         stands_along (after_go_back (clients w) o.txn s end) (clients (going_back w o s end)) l.0 refl refl (λ u. refl)
-            (doing_now w.open_txns new o at (Rolls (Some s) end) (rolls new (record { savepoint = Some s; above = end }) refl))
-            (λ u. ap (λ (x : List ℕ). put (λ t. saves_of (find t w.open_txns)) o.txn (take s x) u) mine ∙ saves_replaced w.open_txns new o at u) (λ u. refl) l.2,
+            (doing_now w.open_txns new o at (Rolls (Some s) end)
+            (rolls new (record { savepoint = Some s; above = end }) refl))
+            (λ u. ap (λ (x : List ℕ). put (λ t. saves_of (find t w.open_txns)) o.txn (take s x) u) mine
+            ∙ saves_replaced w.open_txns new o at u) (λ u. refl) l.2,
       )
 
   -- rolls back wholly
@@ -217,24 +238,39 @@ module _ (w : TcView) (m : Machine) (o : OpenTxn) (k : IsTc w) (at : find o.txn 
         l.0,
         l.1,
         stands_along (does (clients w) o.txn (Some (Rolls None 0))) (clients (rolled w o)) l.0 refl refl (λ u. refl)
-            (doing_now w.open_txns new o at (Rolls None 0) (rolls new (record { savepoint = None; above = 0 }) refl)) (saves_kept w.open_txns new o at refl) (λ u. refl) l.2,
+            (doing_now w.open_txns new o at (Rolls None 0) (rolls new (record { savepoint = None; above = 0 }) refl))
+            (saves_kept w.open_txns new o at refl) (λ u. refl) l.2,
       )
 
   -- one that is open no more: its savepoints are forgotten
   gone_view : (r : Record) (n : Machine)
       → StandsFor (record (clients w) { log = r ∷ w.log; doing = put (clients w).doing o.txn None }) n
-      → StandsFor (record (clients w) { log = r ∷ w.log; doing = λ t. doing_in (find t (without o.txn w.open_txns)); saves = λ t. saves_of (find t (without o.txn w.open_txns)) }) n
+      → StandsFor (record (clients w) {
+        log = r ∷ w.log;
+        doing = λ t. doing_in (find t (without o.txn w.open_txns));
+        saves = λ t. saves_of (find t (without o.txn w.open_txns));
+      }) n
   gone_view r n left =
-      let gone : View = record (clients w) { log = r ∷ w.log; doing = λ t. doing_in (find t (without o.txn w.open_txns)) } in
+      let gone : View = record (clients w) {
+        log = r ∷ w.log;
+        doing = λ t. doing_in (find t (without o.txn w.open_txns));
+      } in
       leftovers_are_no_step gone n (λ t. saves_of (find t (without o.txn w.open_txns))) (clients w).spans
-      (stands_along (record (clients w) { log = r ∷ w.log; doing = put (clients w).doing o.txn None }) gone n refl refl (λ u. refl) (doing_without w.open_txns o.txn) (λ u. refl) (λ u. refl) left)
-      (λ u. elim (saves_without w.open_txns o.txn u) [ inl same ↦ inl same | inr e ↦ inr (ap (λ (t : ℕ). doing_in (find t (without o.txn w.open_txns))) e ∙ ap doing_in (without_same o.txn w.open_txns)) ]) (λ u. inl refl)
+      (stands_along (record (clients w) { log = r ∷ w.log; doing = put (clients w).doing o.txn None }) gone n refl refl
+      (λ u. refl) (doing_without w.open_txns o.txn) (λ u. refl) (λ u. refl) left)
+      (λ u. elim (saves_without w.open_txns o.txn u) [
+        | inl same ↦ inl same
+        | inr e ↦
+            inr (ap (λ (t : ℕ). doing_in (find t (without o.txn w.open_txns))) e
+            ∙ ap doing_in (without_same o.txn w.open_txns))
+      ]) (λ u. inl refl)
 
   -- logs its Commit
   pub stands_committed : IsIdleTxn o → IsTc (committed w o.txn)
       → Leads (clients w) m (Commits o.txn) (clients (committed w o.txn))
   stands_committed idle after =
-      let l = commit_is_a_step (clients w) m o.txn after.legal stands (does_this w o Ready at (idle_rests o idle)) k.within in
+      let l = commit_is_a_step (clients w) m o.txn after.legal stands (does_this w o Ready at (idle_rests o idle))
+      k.within in
       (l.0, l.1, gone_view (is.Commit o.txn) l.0 l.2)
 
   -- has a compensation
@@ -243,22 +279,34 @@ module _ (w : TcView) (m : Machine) (o : OpenTxn) (k : IsTc w) (at : find o.txn 
   stands_compensated r rolling above after =
       let u : ℕ = o.undo in
       let new : OpenTxn = compensated_txn o (length w.log + 1) (next_of w.log u) (inverse_at w.log u) in
-      let undoes : is_to_undo ((clients w).doing o.txn) u ≡ true = ap (λ d. is_to_undo d u) (does_this w o (Rolls r.savepoint r.above) at (rolls o r rolling)) ∙ grind (arith, nat_tests) in
-      stands_along (record (clients w) { log = is.Comp o.txn u (next_of w.log u) (inverse_at w.log u) ∷ w.log }) (clients (compensated w o)) m refl refl (λ t. refl)
-      (doing_kept w.open_txns new o at (rolls new r rolling ∙ sym (rolls o r rolling))) (saves_kept w.open_txns new o at refl) (λ t. refl)
+      let undoes : is_to_undo ((clients w).doing o.txn) u ≡ true =
+      ap (λ d. is_to_undo d u) (does_this w o (Rolls r.savepoint r.above) at (rolls o r rolling))
+      ∙ grind (arith, nat_tests) in
+      stands_along (record (clients w) { log = is.Comp o.txn u (next_of w.log u) (inverse_at w.log u) ∷ w.log })
+      (clients (compensated w o)) m refl refl (λ t. refl)
+      (doing_kept w.open_txns new o at (rolls new r rolling ∙ sym (rolls o r rolling)))
+      (saves_kept w.open_txns new o at refl) (λ t. refl)
       (comp_is_no_step (clients w) m o.txn u (next_of w.log u) (inverse_at w.log u) after.legal stands (inr undoes))
 
   -- is rolled back
   pub stands_ended : (r : Rollback) → o.rolling ≡ Some r → r.savepoint ≡ None → IsTc (ended w o.txn)
       → Leads (clients w) m (TellsRolledBack o.txn) (clients (ended w o.txn))
   stands_ended r rolling whole after =
-      let l = rolled_back_is_told (clients w) m o.txn r.above after.legal stands (does_this w o (Rolls None r.above) at (rolls o r rolling ∙ ap (λ s. Rolls s r.above) whole)) in
-      let left : View = record (clients w) { log = is.End o.txn ∷ w.log; doing = λ t. doing_in (find t (without o.txn w.open_txns)); saves = λ t. saves_of (find t (without o.txn w.open_txns)) } in (
+      let l = rolled_back_is_told (clients w) m o.txn r.above after.legal stands
+      (does_this w o (Rolls None r.above) at (rolls o r rolling ∙ ap (λ s. Rolls s r.above) whole)) in
+      let left : View = record (clients w) {
+        log = is.End o.txn ∷ w.log;
+        doing = λ t. doing_in (find t (without o.txn w.open_txns));
+        saves =
+            λ t. saves_of (find t (without o.txn w.open_txns));
+      } in (
         l.0,
         l.1,
-        stands_along (record left { spans = put (clients w).spans o.txn [] }) (clients (ended w o.txn)) l.0 refl refl (λ u. refl) (λ u. refl) (λ u. refl)
+        stands_along (record left { spans = put (clients w).spans o.txn [] }) (clients (ended w o.txn)) l.0 refl refl
+            (λ u. refl) (λ u. refl) (λ u. refl)
             (spans_put w.locks o.txn [] k.locks.table)
-            (let_go_is_no_step left l.0 o.txn (gone_view (is.End o.txn) l.0 l.2) (ap doing_in (without_same o.txn w.open_txns))
+            (let_go_is_no_step left l.0 o.txn (gone_view (is.End o.txn) l.0 l.2)
+            (ap doing_in (without_same o.txn w.open_txns))
             (λ n is_commit. absurd (no_commit w.log o.txn n (k.open_txns.each o.txn o at).is is_commit))),
       )
 
@@ -268,11 +316,13 @@ module _ (w : TcView) (m : Machine) (o : OpenTxn) (k : IsTc w) (at : find o.txn 
       → Leads (clients w) m (TellsBack o.txn s) (clients (is_back w o))
   stands_back r s rolling to still unread undone =
       let new : OpenTxn = back_txn o in
-      let l = back_is_told (clients w) m o.txn s r.above stands (does_this w o (Rolls (Some s) r.above) at (rolls o r rolling ∙ ap (λ x. Rolls x r.above) to)) undone in (
+      let l = back_is_told (clients w) m o.txn s r.above stands
+      (does_this w o (Rolls (Some s) r.above) at (rolls o r rolling ∙ ap (λ x. Rolls x r.above) to)) undone in (
         l.0,
         l.1,
         stands_along (does (clients w) o.txn (Some Ready)) (clients (is_back w o)) l.0 refl refl (λ u. refl)
-            (doing_now w.open_txns new o at Ready (rests new refl unread still)) (saves_kept w.open_txns new o at refl) (λ u. refl) l.2,
+            (doing_now w.open_txns new o at Ready (rests new refl unread still)) (saves_kept w.open_txns new o at refl)
+            (λ u. refl) l.2,
       )
 
   -- has its answer
@@ -281,11 +331,13 @@ module _ (w : TcView) (m : Machine) (o : OpenTxn) (k : IsTc w) (at : find o.txn 
       → Leads (clients w) m (TellsAnswer o.txn a) (clients (answered w o n a))
   stands_answered n a flat none waiting legal right stable =
       let new : OpenTxn = answered_txn o in
-      let l = answer_is_told (clients w) m o.txn n a legal right stands (does_this w o (Awaits n) at (awaits o n flat none waiting)) stable in (
+      let l = answer_is_told (clients w) m o.txn n a legal right stands
+      (does_this w o (Awaits n) at (awaits o n flat none waiting)) stable in (
         l.0,
         l.1,
         stands_along (after_answer (clients w) o.txn n a) (clients (answered w o n a)) l.0 refl refl (λ u. refl)
-            (doing_now w.open_txns new o at Ready (rests new flat none refl)) (saves_kept w.open_txns new o at refl) (λ u. refl) l.2,
+            (doing_now w.open_txns new o at Ready (rests new flat none refl)) (saves_kept w.open_txns new o at refl)
+            (λ u. refl) l.2,
       )
 
   -- the answer of its compensation comes
@@ -293,8 +345,10 @@ module _ (w : TcView) (m : Machine) (o : OpenTxn) (k : IsTc w) (at : find o.txn 
       → ((t : ℕ) (q : Op) → IsOpBy w.log n t q → ⊥) → StandsFor (clients (answered w o n a)) m
   stands_undone r n a rolling legal no_op =
       let new : OpenTxn = answered_txn o in
-      stands_along (record (clients w) { log = is.Answer n a ∷ w.log }) (clients (answered w o n a)) m refl refl (λ u. refl)
-      (doing_kept w.open_txns new o at (rolls new r rolling ∙ sym (rolls o r rolling))) (saves_kept w.open_txns new o at refl) (λ u. refl)
+      stands_along (record (clients w) { log = is.Answer n a ∷ w.log }) (clients (answered w o n a)) m refl refl
+      (λ u. refl)
+      (doing_kept w.open_txns new o at (rolls new r rolling ∙ sym (rolls o r rolling)))
+      (saves_kept w.open_txns new o at refl) (λ u. refl)
       (undone_is_no_step (clients w) m n a legal stands (λ t q by. absurd (no_op t q by)))
 
 -- a loser's operation has a compensation
@@ -309,8 +363,10 @@ stands_lost_compensated w m x l k after same loser stands =
     subst P (sym same) (loser_kept comp w.log after.legal w.losers.below u (λ e. cc) (λ e. cc) was))
     (λ now. let P : ℕ → Type 0 = λ b. IsLoser (comp ∷ w.log) b u in
     loser_had comp w.log after.legal w.losers.below u k.lost.losers.bound (subst P same now)) in
-    stands_along (record (clients w) { log = comp ∷ w.log }) (clients (lost_compensated w x l)) m refl refl (λ u. sym (listed u)) (λ u. refl) (λ u. refl) (λ u. refl)
-    (comp_is_no_step (clients w) m x.txn x.left (next_of w.log x.left) (inverse_at w.log x.left) after.legal stands (inl (loser_listed w.log w.losers k.lost.losers x.txn loser)))
+    stands_along (record (clients w) { log = comp ∷ w.log }) (clients (lost_compensated w x l)) m refl refl
+    (λ u. sym (listed u)) (λ u. refl) (λ u. refl) (λ u. refl)
+    (comp_is_no_step (clients w) m x.txn x.left (next_of w.log x.left) (inverse_at w.log x.left) after.legal stands
+    (inl (loser_listed w.log w.losers k.lost.losers x.txn loser)))
 
 -- its End is logged
 pub stands_lost_ended : (w : TcView) (m : Machine) (t : ℕ) (l : LosersView) → IsTc w → IsTc (lost_ended w t l)
@@ -321,9 +377,11 @@ stands_lost_ended w m t l k after same loser stands =
     let told = losers_are_told (clients w) m t after.legal stands (loser_listed w.log w.losers k.lost.losers t loser) in (
       told.0,
       told.1,
-      stands_along (record (after_lost (clients w) t) { spans = put (clients w).spans t [] }) (clients (lost_ended w t l)) told.0 refl refl loses (λ u. refl) (λ u. refl)
+      stands_along (record (after_lost (clients w) t) { spans = put (clients w).spans t [] })
+          (clients (lost_ended w t l)) told.0 refl refl loses (λ u. refl) (λ u. refl)
           (spans_put w.locks t [] k.locks.table)
-          (let_go_is_no_step (after_lost (clients w) t) told.0 t told.2 (ap doing_in not_open) (λ n is_commit. absurd (no_commit w.log t n loser.open_txn is_commit))),
+          (let_go_is_no_step (after_lost (clients w) t) told.0 t told.2 (ap doing_in not_open)
+          (λ n is_commit. absurd (no_commit w.log t n loser.open_txn is_commit))),
     )
   where
     not_open : find t w.open_txns ≡ None
@@ -383,11 +441,13 @@ stands_forced w m k stands =
     unlisted : (t : ℕ) (o : OpenTxn) → find t w.open_txns ≡ Some o → is_listed w.committing t ≡ false
     unlisted t o at =
         let is_open = (k.open_txns.each t o at).is in
-        ap (λ (ts : List ℕ). is_listed ts t) k.committing ∙ ap (λ (u : ℕ). is_listed (commits_in w.log w.stable) u) (sym (found_number t w.open_txns o at))
+        ap (λ (ts : List ℕ). is_listed ts t) k.committing
+        ∙ ap (λ (u : ℕ). is_listed (commits_in w.log w.stable) u) (sym (found_number t w.open_txns o at))
         ∙ open_unlisted w.log w.stable o.txn is_open.goes_on
 
     freed : (t : ℕ) (x : Option OpenTxn) → find t w.open_txns ≡ x
-        → (spans_of (let_go w.committing w.locks) t ≡ spans_of w.locks t) ⊎ ((doing_in (find t w.open_txns) ≡ None) × IsUncommitting (record (clients w) { stable = length w.log }) t)
+        → (spans_of (let_go w.committing w.locks) t ≡ spans_of w.locks t)
+        ⊎ ((doing_in (find t w.open_txns) ≡ None) × IsUncommitting (record (clients w) { stable = length w.log }) t)
     freed t None none = inr (ap doing_in none, λ n is_commit. (end_number w.log t n (inl is_commit)).bounded)
     freed t (Some o) at = inl (let_go_other w.committing w.locks t k.locks.table (unlisted t o at))
 

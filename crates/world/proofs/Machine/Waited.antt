@@ -45,7 +45,8 @@ answered_or_due w n o k requests =
       | inr e ↦
           let open_t : IsOpen w.log found.0 = record { begun = begun w.log found.0 n k.legal found.1; goes_on = e } in
           elim (cases_lt found.0 w.losers.below) [
-            | inl early ↦ by_answer found.0 found.1 (record { open_txn = open_t; early = early }) (answer_of w.log n) refl
+            | inl early ↦ by_answer found.0 found.1 (record { open_txn = open_t; early = early }) (answer_of w.log n)
+                refl
             | inr late ↦ by_open found.0 found.1 (find found.0 w.open_txns) refl (k.open_txns.all found.0 open_t late)
           ]
     ]
@@ -69,7 +70,8 @@ answered_or_due w n o k requests =
     by_open t step None at some = absurd (true≢false (sym some ∙ ap is_some at))
     by_open t step (Some x) at some =
         let P : ℕ → Type 0 = λ u. IsStepOf w.log u n in
-        by_waiting x (found_own t w.open_txns x at) (subst P (sym (found_number t w.open_txns x at)) step) x.waiting refl
+        by_waiting x (found_own t w.open_txns x at) (subst P (sym (found_number t w.open_txns x at)) step) x.waiting
+        refl
 
 -- where nobody has lost an open transaction waits for it
 pub answered_or : (w : TcView) (n : ℕ) (o : Op) → IsTc w → is_none_lost w.losers ≡ true → Requests w.log n o
@@ -86,7 +88,8 @@ lacking_due w n k lacking nobody =
     let fits = fits_lacking w n lacking in
     elim (answered_or_due w n fits.op k fits.requested) [
       | inl some ↦ absurd (true≢false (sym some ∙ ap is_some fits.unanswered))
-      | inr (inl a) ↦ let clash : None ≡ Some a.open_txn = sym nobody ∙ awaits w a.open_txn n k a.is a.waiting in absurd (cc)
+      | inr (inl a) ↦ let clash : None ≡ Some a.open_txn = sym nobody ∙ awaits w a.open_txn n k a.is a.waiting in
+          absurd (cc)
       | inr (inr due) ↦ due
     ]
 
@@ -94,7 +97,8 @@ lacking_due w n k lacking nobody =
 abbrev pub lost_if : TcView → ℕ → Option Answer → Bool → Outcome
 lost_if w n a b = if b then on_lost w n a else (told.Nothing, passed w n)
 
--- a request of a transaction is on the key of one of its operations: a compensation is on that of the one that it undoes
+-- a request of a transaction is on the key of one of its operations: a compensation is on that of the one that it
+-- undoes
 pub record IsOnOwnKey (log : List Record) (t : ℕ) (q : Op) : Type 0 where
   pub number : ℕ
   pub op : Op
@@ -109,13 +113,20 @@ own_key log n t q legal step requests = by (record_at log n) refl step requests
     by None at s asks = absurd (cc)
     by (Some (is.Op u p o)) at s asks =
         let same : u ≡ t = cc in
-        record { number = n; op = o; is = ap op_in at ∙ ap (λ (v : ℕ). Some (v, o)) same; key = ap key_of (let e : q ≡ o = cc in e) }
+        record {
+          number = n;
+          op = o;
+          is = ap op_in at ∙ ap (λ (v : ℕ). Some (v, o)) same;
+          key = ap key_of (let e : q ≡ o = cc in e);
+        }
     by (Some (is.Comp u m x i)) at s asks =
         let fits = fits_at log n (is.Comp u m x i) legal at in
         let stands = fits.latest.is in
         let undone = fits.inverse in
-        let below : m < n = number_before log n m (step_number log n t step) (stands_number (before log n) u m stands) in
-        let own : IsOpBy log m u stands.op = subst (AnOp u stands.op) (record_before log m n (step_number log n t step) below) stands.is in
+        let below : m < n = number_before log n m (step_number log n t step)
+        (stands_number (before log n) u m stands) in
+        let own : IsOpBy log m u stands.op =
+        subst (AnOp u stands.op) (record_before log m n (step_number log n t step) below) stands.is in
         let P : ℕ → Type 0 = λ v. IsOpBy log m v stands.op in
         let same : u ≡ t = cc in
         record {

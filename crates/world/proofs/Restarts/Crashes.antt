@@ -50,7 +50,8 @@ restarted_kept v is all = record {
 -- of a log's beginnings the longer accepted the later session
 stored_longer : (v : SystemView) (n : ℕ) → v.stable ≤ n
     → stored_session (beginning v.log v.stable) ≤ stored_session (beginning v.log n)
-stored_longer v n le = subst (λ log. stored_session log ≤ stored_session (beginning v.log n)) (twice v.log n v.stable le) (stored_within (beginning v.log n) v.stable)
+stored_longer v n le = subst (λ log. stored_session log ≤ stored_session (beginning v.log n))
+    (twice v.log n v.stable le) (stored_within (beginning v.log n) v.stable)
 
 -- no session runs
 no_run : (v : SystemView) (s : ℕ) → runs (restarted v) s ≡ true → ⊥
@@ -63,8 +64,10 @@ crash_served phase.Unconnected c session log old v is most least h = tt
 crash_served phase.Connecting c session log old v is most least h = h
 crash_served (phase.Redoing next ending) c session log old v is most least h =
     (h.0, omega (arith, h.1, most (omega (arith, is.0, is.1)), least), λ runs. absurd (omega (arith, runs, is.0, is.1)))
-crash_served (phase.Undoing waiting) c session log old v is most least h = (omega (arith, h.0, most is, least), λ runs. absurd (omega (arith, runs, is)))
-crash_served phase.Running c session log old v is most least h = (omega (arith, h.0, most is, least), λ runs. absurd (omega (arith, runs, is)))
+crash_served (phase.Undoing waiting) c session log old v is most least h =
+    (omega (arith, h.0, most is, least), λ runs. absurd (omega (arith, runs, is)))
+crash_served phase.Running c session log old v is most least h =
+    (omega (arith, h.0, most is, least), λ runs. absurd (omega (arith, runs, is)))
 
 -- ---- a crash
 
@@ -80,14 +83,17 @@ cuts_low w leaf d cut less inside h = h
 pub crash_true : (w : NodeView) (n : ℕ) → IsKept w → w.dc.system.stable ≤ n → IsTrueTo w.tc (crashed w.dc.system n)
 crash_true w n k le =
     let v : SystemView = w.dc.system in record {
-      leaves = all_recovered (IsHonestTo w.tc.log w.tc.stable) (pages_of v.pages) v.log v.stable n (cuts_honest w.tc) k.recoverable.legal k.recoverable.fit le k.true_to.written;
+      leaves = all_recovered (IsHonestTo w.tc.log w.tc.stable) (pages_of v.pages) v.log v.stable n (cuts_honest w.tc)
+          k.recoverable.legal k.recoverable.fit le k.true_to.written;
       written = have_beginning (IsHonestTo w.tc.log w.tc.stable) (pages_of v.pages) v.log n k.true_to.written;
-      low = all_recovered (IsLowAnswered w.tc) (pages_of v.pages) v.log v.stable n (cuts_low w.tc) k.recoverable.legal k.recoverable.fit le k.true_to.written_low;
+      low = all_recovered (IsLowAnswered w.tc) (pages_of v.pages) v.log v.stable n (cuts_low w.tc) k.recoverable.legal
+          k.recoverable.fit le k.true_to.written_low;
       written_low = have_beginning (IsLowAnswered w.tc) (pages_of v.pages) v.log n k.true_to.written_low;
     }
 
 pub crash_kept : (w : NodeView) (n : ℕ) → IsKept w → w.dc.system.stable ≤ n → IsDc (restarted (crashed w.dc.system n))
-crash_kept w n k le = restarted_kept (crashed w.dc.system n) (crashed_kept w.dc.system n k.dc.system k.recoverable le) refl
+crash_kept w n k le = restarted_kept (crashed w.dc.system n) (crashed_kept w.dc.system n k.dc.system k.recoverable le)
+    refl
 
 pub crash_keeps : (w : NodeView) (n : ℕ) → IsKept w → w.dc.system.stable ≤ n
     → IsKept (with_dc w (restarted (crashed w.dc.system n)))
@@ -109,7 +115,11 @@ crash_keeps w n k le =
     })
     (crashed_recoverable w.dc.system n k.recoverable le) (crash_true w n k le) tt
     (λ may. absurd (some_session (restarted v) may refl))
-    (record { begun = begun; served = crash_served w.tc.phase w.tc.checkpointed w.tc.session w.tc.log w.dc v k.tc.phase begun.most least k.sessions.served })
+    (record {
+      begun = begun;
+      served = crash_served w.tc.phase w.tc.checkpointed w.tc.session w.tc.log w.dc v k.tc.phase begun.most least
+          k.sessions.served;
+    })
 
 -- whether the components run is nothing that is kept
 pub keeps_up : (w : NodeView) (tc_up dc_up : Bool) → IsKept w → IsKept (record w { tc_up = tc_up; dc_up = dc_up })
@@ -133,4 +143,5 @@ pub refused_keeps : (w : NodeView) (r : Refusal) → IsKept w → IsDc (with_sys
 refused_keeps w r k is =
     keeps_system w (refused_so w.dc.system r) k is
     (record { legal = k.recoverable.legal; current = k.recoverable.current; fit = k.recoverable.fit })
-    (refused_checked w.dc.system r) (same_leaves w.tc.log (leaves w.dc)) (refused_true w.tc w.dc.system r k.true_to) k.sessions.begun
+    (refused_checked w.dc.system r) (same_leaves w.tc.log (leaves w.dc)) (refused_true w.tc w.dc.system r k.true_to)
+    k.sessions.begun

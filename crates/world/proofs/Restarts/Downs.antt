@@ -42,7 +42,13 @@ opened_system : (bytes : List ℕ) (pages : Pages) (failures : ℕ) (log : List 
 opened_system bytes pages failures log v r holds recovers count =
     let is = restarts bytes pages log (length log) v r.legal r.fit holds recovers in
     let stable : v.stable ≡ length log = recovers.stable ∙ ap length is.log_is in
-    λ i. record { leaves = is.leaves_are i; log = is.log_is i; stable = stable i; pages = recovers.pages_are i; failures = count i }
+    λ i. record {
+      leaves = is.leaves_are i;
+      log = is.log_is i;
+      stable = stable i;
+      pages = recovers.pages_are i;
+      failures = count i;
+    }
 
 -- the component is the one that was seen while it was down
 pub opened_is : (device : LogState) (pages : PagesState) (log : List DcRecord) (dc : DcView)
@@ -51,20 +57,24 @@ pub opened_is : (device : LogState) (pages : PagesState) (log : List DcRecord) (
     → dc ≡ restarted dc.system
     → dc.system.failures ≡ device.failures + pages.failures → dc ≡ found_on device pages log
 opened_is device pages log dc holds r recovers is count =
-    is ∙ ap restarted (opened_system device.forced pages.pages (device.failures + pages.failures) log dc.system r holds recovers count)
+    is ∙ ap restarted (opened_system device.forced pages.pages (device.failures + pages.failures) log dc.system r holds
+    recovers count)
 
 -- ---- what isn't opened
 
 -- the same records stand on the device
 same_records : (old new : List ℕ) (log later : List DcRecord) → HoldsFrames old log → LeavesFrames old new
     → HoldsFrames new later → later ≡ log
-same_records old new log later holds left again = frames_read_once.once new later log again (frames_read_once.cut old new log holds left)
+same_records old new log later holds left again =
+    frames_read_once.once new later log again (frames_read_once.cut old new log holds left)
 
 same_down : (device device' : LogState) (pages pages' : PagesState) (log later : List DcRecord) (r : Refusal)
     → later ≡ log → pages'.pages ≡ pages.pages
     → device'.failures + pages'.failures ≡ device.failures + pages.failures + failures_of r
-    → found_on device' pages' later ≡ with_system (found_on device pages log) (refused_so (found_on device pages log).system r)
-same_down device device' pages pages' log later r records same count = λ i. restarted (found (same i) (count i) (records i))
+    → found_on device' pages' later
+    ≡ with_system (found_on device pages log) (refused_so (found_on device pages log).system r)
+same_down device device' pages pages' log later r records same count =
+    λ i. restarted (found (same i) (count i) (records i))
 
 pub down_with : (device device' : LogState) (pages pages' : PagesState) (log later : List DcRecord) (r : Refusal)
     → IsDc (found_on device pages log)
@@ -75,8 +85,10 @@ pub down_with : (device device' : LogState) (pages pages' : PagesState) (log lat
     → RefusesRecovery device.forced pages.pages r
     → IsDownWith (found_on device pages log) r (found_on device' pages' later)
 down_with device device' pages pages' log later r is rec holds left again same count refuses = (
-  never_bad device.forced pages.pages log (length log) r rec.legal rec.fit is.system.pages is.system.numbered holds refuses,
-  same_down device device' pages pages' log later r (same_records device.forced device'.forced log later holds left again) same count,
+  never_bad device.forced pages.pages log (length log) r rec.legal rec.fit is.system.pages is.system.numbered holds
+      refuses,
+  same_down device device' pages pages' log later r
+      (same_records device.forced device'.forced log later holds left again) same count,
 )
 
 -- one failure more leaves it as it must be
@@ -97,7 +109,8 @@ pub down_kept : (device device' : LogState) (pages pages' : PagesState) (log lat
     → pages'.pages ≡ pages.pages → device'.failures + pages'.failures ≡ device.failures + pages.failures + failures_of r
     → IsDc (found_on device' pages' later)
 down_kept device device' pages pages' log later r is holds left again same count =
-    subst IsDc (sym (same_down device device' pages pages' log later r (same_records device.forced device'.forced log later holds left again) same count))
+    subst IsDc (sym (same_down device device' pages pages' log later r
+    (same_records device.forced device'.forced log later holds left again) same count))
     (failures_kept (found_on device pages log) r is)
 
 -- ---- a crash
@@ -135,7 +148,8 @@ pub room_left : (v : SystemView) (more kept : ℕ) (log : LogState) → log.forc
     → HasRoom v more kept
     → HasRoom v more (length (log.forced ++ take (kept - length log.forced) log.pending))
 room_left v more kept log holds room n few within =
-    let all : length log.forced + length log.pending ≡ length (spelled v.log) = sym (length-append log.forced log.pending) ∙ ap length holds in
+    let all : length log.forced + length log.pending ≡ length (spelled v.log) =
+    sym (length-append log.forced log.pending) ∙ ap length holds in
     let most = spelled_longer v.log n (length v.log) within in
     cut_length (kept - length log.forced) log.forced log.pending (length (spelled (beginning v.log n)))
     (omega (arith, all, most, whole_length v)) (omega (arith, room n few within))
@@ -144,13 +158,18 @@ crash_left : (v : SystemView) (more : ℕ) (log : LogState) (pages : PagesState)
     → IsRecoverable v → IsStopped v log pages → MayLeave log.forced log.pending left
     → HasRoom v more (length left) → IsLeft v more left
 crash_left v more log pages left is rec stopped may room =
-    let l = crashes_leave_frames v.log v.stable log.forced log.pending left is.records (record { within = rec.fit.kept; stored = stopped.holds; covered = stopped.forced }) may in
+    let l = crashes_leave_frames v.log v.stable log.forced log.pending left is.records
+    (record { within = rec.fit.kept; stored = stopped.holds; covered = stopped.forced }) may in
     record {
       count = l.count;
       keeps = record {
         stable = l.stable_left;
         counted = elim (cases_lt (length v.log) (v.stable + more)) [
-          | inl past ↦ inr (omega (arith, l.within, l.most (length v.log) (omega arith) (room (length v.log) (omega (arith, past)) (omega arith))))
+          | inl past ↦ inr (omega (
+            arith,
+            l.within,
+            l.most (length v.log) (omega arith) (room (length v.log) (omega (arith, past)) (omega arith)),
+          ))
           | inr few ↦ inl (l.most (v.stable + more) few (room (v.stable + more) (omega arith) few))
         ];
         within = l.within;
@@ -163,7 +182,8 @@ crash_seen : (v : SystemView) (more : ℕ) (log log' : LogState) (pages : PagesS
     → IsStopped v log pages → log'.failures ≡ log.failures → (l : IsLeft v more log'.forced)
     → HoldsFrames log'.forced later → found_on log' pages later ≡ restarted (crashed v l.count)
 crash_seen v more log log' pages later stopped same l again =
-    let records : later ≡ beginning v.log l.count = frames_read_once.once log'.forced later (beginning v.log l.count) again l.holds in
+    let records : later ≡ beginning v.log l.count =
+    frames_read_once.once log'.forced later (beginning v.log l.count) again l.holds in
     let failures : log'.failures + pages.failures ≡ v.failures = ap (λ n. n + pages.failures) same ∙ stopped.failures in
     λ i. restarted (found (stopped.pages i) (failures i) (records i))
 
@@ -179,7 +199,8 @@ pub log_length : (v : SystemView) (log : LogState) (end records : ℕ) → log.f
     → records ≡ length v.log → end ≡ length (spelled (beginning v.log records))
     → end ≡ length log.forced + length log.pending
 log_length v log end records holds all is =
-    is ∙ ap (λ n. length (spelled (beginning v.log n))) all ∙ whole_length v ∙ sym (ap length holds) ∙ length-append log.forced log.pending
+    is ∙ ap (λ n. length (spelled (beginning v.log n))) all ∙ whole_length v ∙ sym (ap length holds)
+    ∙ length-append log.forced log.pending
 
 pub crash_of : (v : SystemView) (more kept end cut : ℕ) (log log' : LogState) (written : PagesState)
     → end ≡ length log.forced + length log.pending → cut ≡ kept - (end - length log.pending)
@@ -188,7 +209,12 @@ pub crash_of : (v : SystemView) (more kept end cut : ℕ) (log log' : LogState) 
     → IsCrash v more kept log log' written
 crash_of v more kept end cut log log' written all is stopped left may room =
     let so : cut ≡ kept - length log.forced = omega (arith, all, is) in
-    record { stopped = stopped; left = left ∙ ap (λ n. with_bytes log (log.forced ++ take n log.pending) []) so; law = may; room = room }
+    record {
+      stopped = stopped;
+      left = left ∙ ap (λ n. with_bytes log (log.forced ++ take n log.pending) []) so;
+      law = may;
+      room = room;
+    }
 
 -- reading the pages' device changes nothing
 pub same_pages : (v : SystemView) (log : LogState) (old new : PagesState) → new ≡ old → IsStopped v log old
@@ -199,15 +225,23 @@ pub crash_leaves : (v : SystemView) (more kept : ℕ) (log log' : LogState) (pag
     → IsRecoverable v → IsCrash v more kept log log' pages → IsLeft v more log'.forced
 crash_leaves v more kept log log' pages is rec c =
     crash_left v more log pages log'.forced is rec c.stopped c.law
-    (λ n few within. omega (arith, room_left v more kept log c.stopped.holds c.room n few within, ap (λ (l : LogState). length l.forced) c.left))
+    (λ n few within. omega (
+      arith,
+      room_left v more kept log c.stopped.holds c.room n few within,
+      ap (λ (l : LogState). length l.forced) c.left,
+    ))
 
 pub crash_is : (v : SystemView) (more kept : ℕ) (log log' : LogState) (pages : PagesState) (later : List DcRecord)
     → IsSystem v → IsRecoverable v → IsCrash v more kept log log' pages
     → HoldsFrames log'.forced later
     → (n : ℕ) × MayKeep v.stable (length v.log) more n × (found_on log' pages later ≡ restarted (crashed v n))
 crash_is v more kept log log' pages later is rec c again =
-    let l = crash_leaves v more kept log log' pages is rec c in
-    (l.count, l.keeps, crash_seen v more log log' pages later c.stopped (ap (λ (l : LogState). l.failures) c.left) l again)
+    let l = crash_leaves v more kept log log' pages is rec c in (
+      l.count,
+      l.keeps,
+      crash_seen v more log log' pages later c.stopped (ap (λ (l : LogState). l.failures) c.left) l
+          again,
+    )
 
 pub crash_found : (v : SystemView) (more kept : ℕ) (log log' : LogState) (pages : PagesState) (later : List DcRecord)
     → IsSystem v → IsRecoverable v → IsCrash v more kept log log' pages
@@ -236,6 +270,7 @@ pub empty_found : (log : LogState) (pages : PagesState) (later : List DcRecord) 
 empty_found log pages later none blank again =
     let failures : ℕ = log.failures + pages.failures in
     let records : later ≡ [] = frames_read_once.once log.forced later [] again (no_frames log.forced none) in
-    let same : found pages.pages failures later ≡ fresh failures = ap (found pages.pages failures) records ∙ first_found pages.pages failures blank in
+    let same : found pages.pages failures later ≡ fresh failures =
+    ap (found pages.pages failures) records ∙ first_found pages.pages failures blank in
     let P : SystemView → Type 0 = λ v. IsDc (restarted v) in
     subst P (sym same) (restarted_kept (fresh failures) (fresh_kept failures) refl)

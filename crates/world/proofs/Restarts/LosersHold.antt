@@ -43,10 +43,12 @@ losers_hold w k t listed =
     let holds : is_holder w.open_txns (closing w) t ≡ true =
     holder_more w.open_txns w.committing (txns w.losers) t ∙ ap (λ b. is_holder w.open_txns w.committing t || b) listed
     ∙ or-true (is_holder w.open_txns w.committing t) in
-    sym (k.early t (listed_loser w.log w.losers k.lost.losers t listed).early) ∙ k.locks.exclusive t ∙ held_is w.log w.open_txns (closing w) t holds
+    sym (k.early t (listed_loser w.log w.losers k.lost.losers t listed).early) ∙ k.locks.exclusive t
+    ∙ held_is w.log w.open_txns (closing w) t holds
 
 has_longer : (r : Record) (log : List Record) (t : ℕ) (s : Span) → IsItsKey log t s → IsItsKey (r ∷ log) t s
-has_longer r log t s h = (h.0, h.1, at_older (AnOp t h.1) r log h.0 (not_newest log h.0 (op_number log h.0 t h.1 h.2)) h.2, h.3)
+has_longer r log t s h =
+    (h.0, h.1, at_older (AnOp t h.1) r log h.0 (not_newest log h.0 (op_number log h.0 t h.1 h.2)) h.2, h.3)
 
 span_has : (log : List Record) (t : ℕ) (s : Span) → IsAmong s (op_spans log t) → IsItsKey log t s
 span_has [] t s among = absurd among
@@ -84,7 +86,8 @@ among_newest (is.Op u p op) log t o by = pick (t == u) (eq-eqb t u (sym same.0))
     same = both_same u t op o by
 
     pick : (b : Bool) → b ≡ true
-        → IsAmong (at_key Exclusive (key_of o)) (if b then at_key Exclusive (key_of op) ∷ op_spans log t else op_spans log t)
+        → IsAmong (at_key Exclusive (key_of o))
+        (if b then at_key Exclusive (key_of op) ∷ op_spans log t else op_spans log t)
     pick true h = inl (ap (λ x. at_key Exclusive (key_of x)) (sym same.1))
     pick false h = absurd (cc)
 among_newest _ log t o by = absurd (cc)
@@ -95,7 +98,8 @@ has_span [] t n o by = absurd (cc)
 has_span (r ∷ log) t n o by =
     elim (cases_eq n (length log + 1)) [
       | inl e ↦ among_newest r log t o (newest_at (AnOp t o) r log n e by)
-      | inr e ↦ among_longer (at_key Exclusive (key_of o)) r log t (has_span log t n o (older_at (AnOp t o) r log n e by))
+      | inr e ↦ among_longer (at_key Exclusive (key_of o)) r log t
+          (has_span log t n o (older_at (AnOp t o) r log n e by))
     ]
 
 -- those are the keys of its operations

@@ -1,4 +1,5 @@
--- A crash of the transaction component is a crash of the list machine, its restart no step, and both keep what holds of a
+-- A crash of the transaction component is a crash of the list machine, its restart no step, and both keep what holds of
+-- a
 -- node.
 use Rattle.std.proofs.Common.{◌≡◌, ℕ, ◌+◌, ◌-◌, ◌≤◌, Bool, true, false, List, length, take, Option, Some, None, refl, sym, ap, ◌∙◌, subst, arith, inl, inr, true≢false}
 use Rattle.std.specs.Prelude.{◌&&◌, not}
@@ -99,7 +100,8 @@ stands_again old new m k is again stands =
     let was : TcView = opened_tc old.log old.failures old.checkpointed old.losers old.locks in
     let now : TcView = opened_tc old.log old.failures old.checkpointed new.losers new.locks in
     let spans : ℕ → List Span = λ t. spans_of new.locks t in
-    let same : (t : ℕ) → is_listed (txns new.losers) t ≡ is_listed (txns old.losers) t = same_are_lost old new k is again in
+    let same : (t : ℕ) → is_listed (txns new.losers) t ≡ is_listed (txns old.losers) t =
+    same_are_lost old new k is again in
     let path : record (clients was) { spans = spans } ≡ clients now =
     λ i. record (clients was) { spans = spans; loses = λ t. sym (same t) i } in
     let there : StandsFor (clients was) m = subst (λ x. StandsFor (clients x) m) again.was stands in
@@ -166,7 +168,8 @@ restart_falls old new again le = record {
   session = ap (λ (w : TcView). w.session) again.is;
   unconnected = ap (λ (w : TcView). w.phase) again.is;
   nobody = ap (λ (w : TcView). w.open_txns) again.is;
-  checkpointed = let same : new.checkpointed ≡ old.checkpointed = ap (λ (w : TcView). w.checkpointed) again.is in omega (arith, same);
+  checkpointed = let same : new.checkpointed ≡ old.checkpointed = ap (λ (w : TcView). w.checkpointed) again.is in
+      omega (arith, same);
 }
 
 left_unopened : (w : TcView) (r : Refusal) → LacksDevice r → IsLeft w (unopened w r)

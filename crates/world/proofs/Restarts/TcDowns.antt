@@ -100,7 +100,11 @@ module _ (w : TcView) (device : LogState) where
       let left = crash_leaves w.log w.stable device.forced device.pending device'.forced is.legal c.halted.spellable
       (omega (arith, is.few.records)) is.within c.halted.holds c.halted.forced c.law in
       let room : HasRoom w more (length device'.forced) = λ n few within.
-      omega (arith, room_kept more kept c.halted.holds c.room n few within, ap (λ (l : LogState). length l.forced) c.left) in
+      omega (
+        arith,
+        room_kept more kept c.halted.holds c.room n few within,
+        ap (λ (l : LogState). length l.forced) c.left,
+      ) in
       record {
         count = left.kept;
         keeps = record {

@@ -100,4 +100,5 @@ recover_asked w recovers _ mid h d = absurd h
 
 pub asks_recover : (w : NodeView) → AreUp w → IsRecovering w.tc.stable w.tc.phase → IsExchange w event.Recover
 asks_recover w up recovers =
-    is_exchange w event.Recover (λ o mid step done. recover_asked w recovers o mid (MatchBool-at_true _ _ up.tc step) done)
+    is_exchange w event.Recover
+    (λ o mid step done. recover_asked w recovers o mid (MatchBool-at_true _ _ up.tc step) done)

@@ -26,7 +26,8 @@ pub fewer_later : (a b below : ℕ) (log : List Record) → a ≤ b → requests
 fewer_later a b below [] le = omega arith
 fewer_later a b below (r ∷ log) le =
     let rest = fewer_later a b below log le in
-    let here = flag_le a b (length log + 1) (nat_lt (length log + 1) below) (asked (request_of r)) le in omega (arith, rest, here)
+    let here = flag_le a b (length log + 1) (nat_lt (length log + 1) below) (asked (request_of r)) le in
+    omega (arith, rest, here)
 
 -- the request itself counts
 pub one_fewer : (from n below : ℕ) (o : Op) (log : List Record) → from ≤ n → n < below → Requests log n o
@@ -43,7 +44,8 @@ one_fewer from n below o (r ∷ log) le lt asks =
           rw (a, b, c, here) (omega (arith, rest))
       | inr apart ↦
           let rest = one_fewer from n below o log le lt (older_at (ARequest o) r log n apart asks) in
-          let here = flag_le from (n + 1) (length log + 1) (nat_lt (length log + 1) below) (asked (request_of r)) (omega (arith, le)) in omega (arith, rest, here)
+          let here = flag_le from (n + 1) (length log + 1) (nat_lt (length log + 1) below) (asked (request_of r))
+          (omega (arith, le)) in omega (arith, rest, here)
     ]
 
 -- a record at or above the bound doesn't count, nor one that asks for nothing
@@ -76,7 +78,8 @@ fewer_left : (a b : List Record) (t above : ℕ) (log : List Record)
     → ((n : ℕ) → is_crossed b n ≡ true → is_crossed a n ≡ true) → left_in a t above log ≤ left_in b t above log
 fewer_left a b t above [] more = omega arith
 fewer_left a b t above (is.Op u p o ∷ log) more =
-    let here = flag_left (u == t) (nat_lt above (length log + 1)) (is_crossed a (length log + 1)) (is_crossed b (length log + 1)) (more (length log + 1)) in
+    let here = flag_left (u == t) (nat_lt above (length log + 1)) (is_crossed a (length log + 1))
+    (is_crossed b (length log + 1)) (more (length log + 1)) in
     omega (arith, here, fewer_left a b t above log more)
 fewer_left a b t above (is.Session ∷ log) more = fewer_left a b t above log more
 fewer_left a b t above (is.Begin ∷ log) more = fewer_left a b t above log more
@@ -90,13 +93,19 @@ fewer_left a b t above (is.Checkpoint l ∷ log) more = fewer_left a b t above l
 pub left_later : (r : Record) (log : List Record) (t above : ℕ) → op_of r ≡ None
     → left_in (r ∷ log) t above (r ∷ log) ≤ left_in log t above log
 left_later (is.Op u p o) log t above none = absurd (cc)
-left_later is.Session log t above none = fewer_left (is.Session ∷ log) log t above log (λ n. crossed_push n is.Session log)
+left_later is.Session log t above none =
+    fewer_left (is.Session ∷ log) log t above log (λ n. crossed_push n is.Session log)
 left_later is.Begin log t above none = fewer_left (is.Begin ∷ log) log t above log (λ n. crossed_push n is.Begin log)
-left_later (is.Answer m x) log t above none = fewer_left (is.Answer m x ∷ log) log t above log (λ n. crossed_push n (is.Answer m x) log)
-left_later (is.Comp u m x i) log t above none = fewer_left (is.Comp u m x i ∷ log) log t above log (λ n. crossed_push n (is.Comp u m x i) log)
-left_later (is.Commit u) log t above none = fewer_left (is.Commit u ∷ log) log t above log (λ n. crossed_push n (is.Commit u) log)
-left_later (is.End u) log t above none = fewer_left (is.End u ∷ log) log t above log (λ n. crossed_push n (is.End u) log)
-left_later (is.Checkpoint l) log t above none = fewer_left (is.Checkpoint l ∷ log) log t above log (λ n. crossed_push n (is.Checkpoint l) log)
+left_later (is.Answer m x) log t above none =
+    fewer_left (is.Answer m x ∷ log) log t above log (λ n. crossed_push n (is.Answer m x) log)
+left_later (is.Comp u m x i) log t above none =
+    fewer_left (is.Comp u m x i ∷ log) log t above log (λ n. crossed_push n (is.Comp u m x i) log)
+left_later (is.Commit u) log t above none =
+    fewer_left (is.Commit u ∷ log) log t above log (λ n. crossed_push n (is.Commit u) log)
+left_later (is.End u) log t above none =
+    fewer_left (is.End u ∷ log) log t above log (λ n. crossed_push n (is.End u) log)
+left_later (is.Checkpoint l) log t above none =
+    fewer_left (is.Checkpoint l ∷ log) log t above log (λ n. crossed_push n (is.Checkpoint l) log)
 
 -- and a bound takes none more in
 pub flag_above : (t l c : Bool) → (if t && (l && c) then 1 else 0) ≤ (if t && c then 1 else 0)
@@ -114,14 +123,17 @@ module _ (whole : List Record) (t above v u x : ℕ) (i : Option Op) where
       → (if w == t && (nat_lt above (length log + 1) && not (is_crossed crossed (length log + 1))) then 1 else 0) + n
       ≡ (if w == t && (nat_lt above (length log + 1) && not (is_crossed whole (length log + 1))) then 1 else 0) + n
   op_apart w p o log n apart =
-      ap (λ (b : Bool). (if w == t && (nat_lt above (length log + 1) && not (b || is_crossed whole (length log + 1))) then 1 else 0) + n)
+      ap (λ (b : Bool). (if w == t
+      && (nat_lt above (length log + 1) && not (b || is_crossed whole (length log + 1))) then 1 else 0) + n)
       (ne_eqb (length log + 1) u (λ e. apart (sym e)))
 
   below_left : (log : List Record) → length log < u → left_in crossed t above log ≡ left_in whole t above log
   below_left [] lt = refl
   below_left (is.Op w p o ∷ log) lt =
       op_apart w p o log (left_in crossed t above log) (λ e. omega (arith, e, lt))
-      ∙ ap (λ (n : ℕ). (if w == t && (nat_lt above (length log + 1) && not (is_crossed whole (length log + 1))) then 1 else 0) + n) (below_left log (omega arith))
+      ∙ ap (λ (n : ℕ). (if w == t
+      && (nat_lt above (length log + 1) && not (is_crossed whole (length log + 1))) then 1 else 0) + n)
+      (below_left log (omega arith))
   below_left (is.Session ∷ log) lt = below_left log (omega arith)
   below_left (is.Begin ∷ log) lt = below_left log (omega arith)
   below_left (is.Answer n a ∷ log) lt = below_left log (omega arith)
@@ -179,7 +191,8 @@ one_less_left log t above u x i o by stands bound = one_crossed log t above t u 
 -- each request is a step
 pub requests_are_steps : (from below : ℕ) (log : List Record) → requests_in from below log ≤ steps_in log
 requests_are_steps from below [] = omega arith
-requests_are_steps from below (r ∷ log) = by r (nat_le from (length log + 1) && nat_lt (length log + 1) below) (requests_are_steps from below log)
+requests_are_steps from below (r ∷ log) =
+    by r (nat_le from (length log + 1) && nat_lt (length log + 1) below) (requests_are_steps from below log)
   where
     one : (q : Option Op) (b : Bool) → (if b then asked q else 0) ≤ 1
     one None true = omega arith

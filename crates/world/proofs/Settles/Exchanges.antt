@@ -48,7 +48,9 @@ pub served_last : (w : NodeView) (tc : TcView) (q : Request) (given : Result (Op
     → Served (asked w tc q) (length w.requests + 1) given dc
     → ServeGives w.dc q given dc
 served_last w tc q given dc h =
-    let same : h.request ≡ q = some_one (message_at (w.requests ++ q ∷ []) (length w.requests + 1)) h.request q h.found (last_at w.requests q) in
+    let same : h.request ≡ q =
+    some_one (message_at (w.requests ++ q ∷ []) (length w.requests + 1)) h.request q h.found
+    (last_at w.requests q) in
     let P : Request → Type 0 = λ x. ServeGives w.dc x given dc in
     subst P same h.gives
 
@@ -61,7 +63,9 @@ record IsTook (w : NodeView) (tc : TcView) (dc : DcView) (reply : Reply) (new : 
 taken_last : (w : NodeView) (tc : TcView) (q : Request) (dc : DcView) (reply : Reply) (output : Out) (new : NodeView)
     → Taken (told w tc q dc reply) (length w.replies + 1) output new → IsTook w tc dc reply new
 taken_last w tc q dc reply output new h =
-    let same : h.reply ≡ reply = some_one (message_at (w.replies ++ reply ∷ []) (length w.replies + 1)) h.reply reply h.found (last_at w.replies reply) in
+    let same : h.reply ≡ reply =
+    some_one (message_at (w.replies ++ reply ∷ []) (length w.replies + 1)) h.reply reply h.found
+    (last_at w.replies reply) in
     record {
       tc_is = h.taken.1.left ∙ ap (λ x. (on_reply tc x).1) same;
       dc_is = ap (λ (x : NodeView). x.dc) h.left;
@@ -111,7 +115,8 @@ HasReply q = (old new : DcView) → Serves old q None new → ⊥
 served_once : (w : NodeView) (tc : TcView) (q : Request) (output : Out) (new : NodeView) → HasReply q
     → ServesTo (asked w tc q) (length w.requests + 1) output new → IsDone output
     → length new.replies ≡ length w.replies + 1
-served_once w tc q (out.Replied j) new has s d = ap (λ (x : NodeView). length x.replies) s.3 ∙ length-append w.replies (s.0 ∷ [])
+served_once w tc q (out.Replied j) new has s d =
+    ap (λ (x : NodeView). length x.replies) s.3 ∙ length-append w.replies (s.0 ∷ [])
 served_once w tc q out.Noted new has s d = absurd (has w.dc new.dc (served_last w tc q (Ok None) new.dc s.0).1)
 served_once w tc q (out.Refused r) new has s d = absurd d
 served_once w tc q _ new has s d = absurd s
@@ -170,14 +175,17 @@ pub exchanged : (w mid : NodeView) (tc : TcView) (q : Request) (i : ℕ) (os : L
     → Plays mid (event.Request (length w.requests + 1) ∷ event.Reply (length w.replies + 1) ∷ []) os new
     → Exchanged w tc q new
 exchanged w mid tc q i os new up has sends h =
-    let P : NodeView → Type 0 = λ m. Plays m (event.Request (length w.requests + 1) ∷ event.Reply (length w.replies + 1) ∷ []) os new in
+    let P : NodeView → Type 0 =
+    λ m. Plays m (event.Request (length w.requests + 1) ∷ event.Reply (length w.replies + 1) ∷ []) os new in
     rest_of w tc q os new up has (subst P sends.left h)
 
 -- why an exchange stops after its request was sent: as the data component refuses it, or the reply is refused
 abbrev pub Stops : NodeView → TcView → Request → Refusal → Type 0
 Stops w tc q r =
-    (r ≡ NoMemory) ⊎ LacksRoom (serve_refusal w.dc q) (is_replied_to q) r ⊎ ((dc : DcView) × ServeGives w.dc q (Err r) dc)
-    ⊎ ((dc : DcView) × (reply : Reply) × (left : TcView) × Serves w.dc q (Some reply) dc × ReplyGives tc reply (Err r) left)
+    (r ≡ NoMemory) ⊎ LacksRoom (serve_refusal w.dc q) (is_replied_to q) r
+    ⊎ ((dc : DcView) × ServeGives w.dc q (Err r) dc)
+    ⊎ ((dc : DcView) × (reply : Reply) × (left : TcView) × Serves w.dc q (Some reply) dc
+    × ReplyGives tc reply (Err r) left)
 
 -- the request was refused
 unserved : (w : NodeView) (tc : TcView) (q : Request) (r : Refusal) (new : NodeView)
@@ -185,7 +193,9 @@ unserved : (w : NodeView) (tc : TcView) (q : Request) (r : Refusal) (new : NodeV
 unserved w tc q r new (inl h) = elim h.0 [
   | inl none ↦ absurd (no_message w.requests q none.1)
   | inr refused ↦
-      let same : refused.request ≡ q = some_one (message_at (w.requests ++ q ∷ []) (length w.requests + 1)) refused.request q refused.found (last_at w.requests q) in
+      let same : refused.request ≡ q =
+      some_one (message_at (w.requests ++ q ∷ []) (length w.requests + 1)) refused.request q refused.found
+      (last_at w.requests q) in
       let P : Request → Type 0 = λ x. LacksRoom (serve_refusal w.dc x) (is_replied_to x) r in
       inr (inl (subst P same refused.refused))
 ]
@@ -211,9 +221,12 @@ stops_of w tc q (o ∷ []) r new up has h = by o (MatchBool-at_true _ _ up.dc h.
         elim (subst rest s.3 h.3) [
           | inl memory ↦ inl memory.0
           | inr refused ↦ elim (MatchBool-at_true _ _ up.tc refused) [
-            | inl left ↦ elim left.0 [ inl none ↦ absurd (no_message w.replies s.0 none.1) | inr unread ↦ inl unread.memory ]
+            | inl left ↦ elim left.0
+                [ inl none ↦ absurd (no_message w.replies s.0 none.1) | inr unread ↦ inl unread.memory ]
             | inr found ↦
-                let same : found.reply ≡ s.0 = some_one (message_at (w.replies ++ s.0 ∷ []) (length w.replies + 1)) found.reply s.0 found.found (last_at w.replies s.0) in
+                let same : found.reply ≡ s.0 =
+                some_one (message_at (w.replies ++ s.0 ∷ []) (length w.replies + 1)) found.reply s.0 found.found
+                (last_at w.replies s.0) in
                 let P : Reply → Type 0 = λ x. ReplyGives tc x (Err r) new.tc in
                 inr (inr (inr (h.0.dc, s.0, new.tc, served.1, subst P same found.refused)))
           ]
@@ -227,5 +240,6 @@ pub stops : (w mid : NodeView) (tc : TcView) (q : Request) (i : ℕ) (os : List 
     → StopsAt mid (event.Request (length w.requests + 1) ∷ event.Reply (length w.replies + 1) ∷ []) os r new
     → Stops w tc q r
 stops w mid tc q i os r new up has sends h =
-    let P : NodeView → Type 0 = λ m. StopsAt m (event.Request (length w.requests + 1) ∷ event.Reply (length w.replies + 1) ∷ []) os r new in
+    let P : NodeView → Type 0 =
+    λ m. StopsAt m (event.Request (length w.requests + 1) ∷ event.Reply (length w.replies + 1) ∷ []) os r new in
     stops_of w tc q os r new up has (subst P sends.left h)

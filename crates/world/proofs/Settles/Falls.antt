@@ -90,13 +90,15 @@ falls_together old new up on same up_too session f =
 
 -- a session that begins leaves no more to do besides
 begins_session : (w : NodeView) → IsKept w
-    → tc_rounds (record (reconnected w.tc) { phase = phase.Redoing (w.tc.checkpointed + 1) false }) < tc_rounds (without_session w.tc)
+    → tc_rounds (record (reconnected w.tc) { phase = phase.Redoing (w.tc.checkpointed + 1) false })
+    < tc_rounds (without_session w.tc)
 begins_session w k =
     let log : List Record = is.Session ∷ w.tc.log in
     let os : List OpenTxn = w.tc.open_txns in
     let above = none_above (w.tc.checkpointed + 1) (length w.tc.log + 1) is.Session w.tc.log (omega arith) in
     let later = fewer_later 1 (w.tc.checkpointed + 1) (length w.tc.log + 1) w.tc.log (omega arith) in
-    let txns = total_most (txn_rounds log (length log)) (txn_rounds w.tc.log w.tc.stable) os (λ o. txn_later is.Session w.tc.log w.tc.stable (length log) o refl (omega (arith, k.tc.within))) in
+    let txns = total_most (txn_rounds log (length log)) (txn_rounds w.tc.log w.tc.stable) os
+    (λ o. txn_later is.Session w.tc.log w.tc.stable (length log) o refl (omega (arith, k.tc.within))) in
     let lost = lost_later is.Session w.tc.log w.tc.losers.below refl refl in
     omega (arith, above, later, txns, lost)
 
@@ -120,7 +122,8 @@ falls_connected old new q k up apart same h =
     let tc : TcView = record (reconnected old.tc) { phase = phase.Redoing (old.tc.checkpointed + 1) false } in
     let left : new.tc ≡ tc = h.left ∙ ap (λ x. (on_reply (reconnected old.tc) x).1) reply in
     let session : new.dc.session ≡ new.tc.session =
-    ap (λ (x : DcView). x.session) h.dc_is ∙ connect_runs old.dc s (Some h.reply) h.dc served ∙ sym (ap (λ (x : TcView). x.session) left) in
+    ap (λ (x : DcView). x.session) h.dc_is ∙ connect_runs old.dc s (Some h.reply) h.dc served
+    ∙ sym (ap (λ (x : TcView). x.session) left) in
     omega (
       arith,
       apart_rounds old up apart,
@@ -136,8 +139,10 @@ served_session old (asks.Connect s) reply new other h = absurd (other s refl)
 served_session old (asks.Perform s n o) reply new other h = by (captures_at old (key_of o) n) h
   where
     by : (b : Bool)
-        → MatchBool b ((reply ≡ Some (says.Answered s n (saved_in (leaf_at (leaves old) (key_of o)).ab.entries n))) × (new ≡ old))
-        ((reply ≡ Some (says.Answered s n (Some (answer_in (leaf_at (leaves old) (key_of o)).rows o)))) × (new ≡ performs old n o)) → new.session ≡ old.session
+        → MatchBool b ((reply ≡ Some (says.Answered s n (saved_in (leaf_at (leaves old) (key_of o)).ab.entries n)))
+        × (new ≡ old))
+        ((reply ≡ Some (says.Answered s n (Some (answer_in (leaf_at (leaves old) (key_of o)).rows o))))
+        × (new ≡ performs old n o)) → new.session ≡ old.session
     by true h = ap (λ (x : DcView). x.session) h.1
     by false h = ap (λ (x : DcView). x.session) h.1
 served_session old (asks.Get s n k) reply new other h = ap (λ (x : DcView). x.session) h.1
@@ -193,7 +198,8 @@ falls_within : (old new : NodeView) (tc : TcView) (q : Request) → IsTogether o
     → Exchanged old tc q new → FallsTo old.tc new.tc
     → rounds_left new < rounds_left old
 falls_within old new tc q t other h f =
-    falls_together old new t.up t.on t.session (h.up t.up) (ap (λ (x : DcView). x.session) h.dc_is ∙ served_session old.dc q (Some h.reply) h.dc other h.served) f
+    falls_together old new t.up t.on t.session (h.up t.up)
+    (ap (λ (x : DcView). x.session) h.dc_is ∙ served_session old.dc q (Some h.reply) h.dc other h.served) f
 
 redo_other : (s : ℕ) (found : Option (ℕ × Op)) (t : ℕ) → redo_request s found ≡ asks.Connect t → ⊥
 redo_other s None t e = cc
@@ -220,7 +226,8 @@ falls_redo old new next ending None q k at finds is h =
     let s : ℕ = old.tc.session in
     let P : Request → Type 0 = λ x. Serves old.dc x (Some h.reply) h.dc in
     let reply : h.reply ≡ says.RedoEnded s = some_reply h.reply (says.RedoEnded s) (subst P is h.served).0 in
-    falls_by old.tc new.tc _ (h.left ∙ ap (λ x. (on_reply (redoing old.tc s true) x).1) reply) (falls_redo_ended old.tc next ending at) refl (ended_on old.tc.losers)
+    falls_by old.tc new.tc _ (h.left ∙ ap (λ x. (on_reply (redoing old.tc s true) x).1) reply)
+    (falls_redo_ended old.tc next ending at) refl (ended_on old.tc.losers)
 falls_redo old new next ending (Some x) q k at finds is h =
     let s : ℕ = old.tc.session in
     let n : ℕ = x.0 in
@@ -229,8 +236,12 @@ falls_redo old new next ending (Some x) q k at finds is h =
     let sound = sound_reply old s n x.1 h.reply h.dc k finds.2 (subst P is h.served) in
     let taken : takes s (phase.Redoing n false) n ≡ true = rw (eq-eqb n n refl) (unstable_now n s finds.1) in
     let left : new.tc ≡ (on_awaited w n sound.answer (awaiting old.tc n)).1 =
-    h.left ∙ ap (λ y. (on_reply w y).1) sound.reply_is ∙ ap (λ (b : Bool). (if b then on_awaited w n sound.answer (awaiting old.tc n) else (told.Nothing, w)).1) taken in
-    falls_by old.tc new.tc _ left (falls_redone old.tc next ending n x.1 k.tc at finds.0 finds.1 finds.2 sound.answer (awaiting old.tc n) refl sound.sound)
+    h.left ∙ ap (λ y. (on_reply w y).1) sound.reply_is
+    ∙ ap (λ (b : Bool). (if b then on_awaited w n sound.answer (awaiting old.tc n) else (told.Nothing, w)).1)
+    taken in
+    falls_by old.tc new.tc _ left
+    (falls_redone old.tc next ending n x.1 k.tc at finds.0 finds.1 finds.2 sound.answer (awaiting old.tc n) refl
+    sound.sound)
     (awaited_session w n sound.answer (awaiting old.tc n)) (awaited_on w n sound.answer (awaiting old.tc n) refl)
 
 -- the compensation that undo awaits is served and answered
@@ -244,9 +255,11 @@ falls_resent old new n o q k at requests is h =
     let taken : takes s old.tc.phase n ≡ true = ap (λ (p : Phase). takes s p n) at in
     let left : new.tc ≡ (on_awaited old.tc n sound.answer (awaiting old.tc n)).1 =
     h.left ∙ ap (λ y. (on_reply old.tc y).1) sound.reply_is
-    ∙ ap (λ (b : Bool). (if b then on_awaited old.tc n sound.answer (awaiting old.tc n) else (told.Nothing, old.tc)).1) taken in
+    ∙ ap (λ (b : Bool). (if b then on_awaited old.tc n sound.answer (awaiting old.tc n) else (told.Nothing, old.tc)).1)
+    taken in
     falls_by old.tc new.tc _ left (falls_compensated old.tc n k.tc at sound.answer (awaiting old.tc n) refl sound.sound)
-    (awaited_session old.tc n sound.answer (awaiting old.tc n)) (awaited_on old.tc n sound.answer (awaiting old.tc n) (ap is_apart at))
+    (awaited_session old.tc n sound.answer (awaiting old.tc n))
+    (awaited_on old.tc n sound.answer (awaiting old.tc n) (ap is_apart at))
 
 -- an unanswered request is served and answered
 falls_exchange : (old new : NodeView) (n : ℕ) (o : Op) (x : OpenTxn) (q : Request) → IsKept old
@@ -260,7 +273,8 @@ falls_exchange old new n o x q k running at some requests is h =
     let waits : awaiting old.tc n ≡ Some x = awaits old.tc x n k.tc at some in
     let left : new.tc ≡ (on_awaited old.tc n sound.answer (Some x)).1 =
     h.left ∙ ap (λ y. (on_reply old.tc y).1) sound.reply_is
-    ∙ ap (λ (b : Bool). (if b then on_awaited old.tc n sound.answer (awaiting old.tc n) else (told.Nothing, old.tc)).1) taken
+    ∙ ap (λ (b : Bool). (if b then on_awaited old.tc n sound.answer (awaiting old.tc n) else (told.Nothing, old.tc)).1)
+    taken
     ∙ ap (λ (y : Option OpenTxn). (on_awaited old.tc n sound.answer y).1) waits in
     falls_by old.tc new.tc _ left (falls_answered old.tc n sound.answer x k.tc running at some sound.sound)
     (awaited_session old.tc n sound.answer (Some x)) (awaited_on old.tc n sound.answer (Some x) (ap is_apart running))
@@ -273,7 +287,8 @@ falls_read old new o r q k running at some is h =
     let s : ℕ = old.tc.session in
     let P : Request → Type 0 = λ x. Serves old.dc x (Some h.reply) h.dc in
     let reply = read_reply s r.number r.span old.dc h.dc h.reply (subst P is h.served) in
-    falls_by old.tc new.tc _ (h.left ∙ told_read old.tc o s r.number r.span h.reply k.tc at some reply) (falls_told old.tc o r k.tc at some) refl (ap is_apart running)
+    falls_by old.tc new.tc _ (h.left ∙ told_read old.tc o s r.number r.span h.reply k.tc at some reply)
+    (falls_told old.tc o r k.tc at some) refl (ap is_apart running)
 
 -- what a round's first event sent, and the rest of the round
 falls_connect_round : (old new mid : NodeView) (o : Out) (os : List Out) → IsKept old → AreUp old → IsApart old
@@ -296,14 +311,18 @@ falls_recover_round old new mid (out.Sent i) os next ending k t at h d rest =
     let P : Phase → Type 0 = λ p. SendsAt old.tc p h.0 mid.tc in
     let redo = subst P at h.1.1 in
     let Q : Request → Type 0 = HasReply in
-    let exchange = exchanged old mid mid.tc h.0 i os new t.up (subst Q (sym redo.request_is) (redo_replied old.tc.session redo.found)) h.2 rest in
+    let exchange = exchanged old mid mid.tc h.0 i os new t.up
+    (subst Q (sym redo.request_is) (redo_replied old.tc.session redo.found)) h.2 rest in
     let E : TcView → Type 0 = λ tc. Exchanged old tc h.0 new in
     let there = subst E redo.left exchange in
     falls_within old new _ h.0 t (λ s e. redo_other old.tc.session redo.found s (sym redo.request_is ∙ e)) there
     (falls_redo old new next ending redo.found h.0 k at redo.finds redo.request_is there)
-falls_recover_round old new mid out.Nothing os next ending k t at h d rest = let no : phase.Redoing next ending ≡ phase.Running = sym at ∙ h.0.1.0 in absurd (cc)
-falls_recover_round old new mid (out.Compensated n) os next ending k t at h d rest = let no : phase.Redoing next ending ≡ phase.Undoing None = sym at ∙ h.0.1.undoing in absurd (cc)
-falls_recover_round old new mid (out.Lost u) os next ending k t at h d rest = let no : phase.Redoing next ending ≡ phase.Undoing None = sym at ∙ h.0.1.undoing in absurd (cc)
+falls_recover_round old new mid out.Nothing os next ending k t at h d rest =
+    let no : phase.Redoing next ending ≡ phase.Running = sym at ∙ h.0.1.0 in absurd (cc)
+falls_recover_round old new mid (out.Compensated n) os next ending k t at h d rest =
+    let no : phase.Redoing next ending ≡ phase.Undoing None = sym at ∙ h.0.1.undoing in absurd (cc)
+falls_recover_round old new mid (out.Lost u) os next ending k t at h d rest =
+    let no : phase.Redoing next ending ≡ phase.Undoing None = sym at ∙ h.0.1.undoing in absurd (cc)
 falls_recover_round old new mid (out.Refused r) os next ending k t at h d rest = absurd d
 falls_recover_round old new mid _ os next ending k t at h d rest = absurd h
 
@@ -316,14 +335,19 @@ falls_resend_round old new mid (out.Sent i) os n k t at h d rest =
     let P : Phase → Type 0 = λ p. SendsAt old.tc p h.0 mid.tc in
     let undo : ResendsUndo old.tc n h.0 mid.tc = subst P at h.1.1 in
     let Q : Request → Type 0 = HasReply in
-    let exchange = exchanged old mid mid.tc h.0 i os new t.up (subst Q (sym undo.request_is) (perform_replied old.tc.session n undo.op)) h.2 rest in
+    let exchange = exchanged old mid mid.tc h.0 i os new t.up
+    (subst Q (sym undo.request_is) (perform_replied old.tc.session n undo.op)) h.2 rest in
     let E : TcView → Type 0 = λ tc. Exchanged old tc h.0 new in
     let there = subst E undo.unchanged exchange in
-    falls_within old new _ h.0 t (λ s e. let no : asks.Perform old.tc.session n undo.op ≡ asks.Connect s = sym undo.request_is ∙ e in cc) there
+    falls_within old new _ h.0 t
+    (λ s e. let no : asks.Perform old.tc.session n undo.op ≡ asks.Connect s = sym undo.request_is ∙ e in cc) there
     (falls_resent old new n undo.op h.0 k at undo.requests undo.request_is there)
-falls_resend_round old new mid out.Nothing os n k t at h d rest = let no : phase.Undoing (Some n) ≡ phase.Running = sym at ∙ h.0.1.0 in absurd (cc)
-falls_resend_round old new mid (out.Compensated m) os n k t at h d rest = let no : phase.Undoing (Some n) ≡ phase.Undoing None = sym at ∙ h.0.1.undoing in absurd (cc)
-falls_resend_round old new mid (out.Lost u) os n k t at h d rest = let no : phase.Undoing (Some n) ≡ phase.Undoing None = sym at ∙ h.0.1.undoing in absurd (cc)
+falls_resend_round old new mid out.Nothing os n k t at h d rest = let no : phase.Undoing (Some n) ≡ phase.Running =
+    sym at ∙ h.0.1.0 in absurd (cc)
+falls_resend_round old new mid (out.Compensated m) os n k t at h d rest =
+    let no : phase.Undoing (Some n) ≡ phase.Undoing None = sym at ∙ h.0.1.undoing in absurd (cc)
+falls_resend_round old new mid (out.Lost u) os n k t at h d rest =
+    let no : phase.Undoing (Some n) ≡ phase.Undoing None = sym at ∙ h.0.1.undoing in absurd (cc)
 falls_resend_round old new mid (out.Refused r) os n k t at h d rest = absurd d
 falls_resend_round old new mid _ os n k t at h d rest = absurd h
 
@@ -336,10 +360,13 @@ falls_exchange_round old new mid (out.Sent i) os t k serving h d rest =
     let on = serving_together old serving in
     elim h.1.1 [
       | inl r ↦
-          falls_within old new old.tc h.0 on (λ s e. let no : asks.Perform old.tc.session r.number r.op ≡ asks.Connect s = sym r.is ∙ e in cc) exchange
-          (falls_exchange old new r.number r.op r.open_txn h.0 k serving.running r.at.is r.waiting r.requests r.is exchange)
+          falls_within old new old.tc h.0 on
+          (λ s e. let no : asks.Perform old.tc.session r.number r.op ≡ asks.Connect s = sym r.is ∙ e in cc) exchange
+          (falls_exchange old new r.number r.op r.open_txn h.0 k serving.running r.at.is r.waiting r.requests r.is
+          exchange)
       | inr r ↦
-          falls_within old new old.tc h.0 on (λ s e. read_other old.tc.session r.read.number r.read.span s (sym r.is ∙ e)) exchange
+          falls_within old new old.tc h.0 on
+          (λ s e. read_other old.tc.session r.read.number r.read.span s (sym r.is ∙ e)) exchange
           (falls_read old new r.open_txn r.read h.0 k serving.running r.at.is r.reading r.is exchange)
     ]
 falls_exchange_round old new mid (out.Refused r) os t k serving h d rest = absurd d
@@ -358,7 +385,8 @@ falls_alone old new mid on left same f =
 falls_restarted : (old new : NodeView) (o : Out) → old.dc_up ≡ false → RestartsDcTo old o new → IsDone o
     → rounds_left new < rounds_left old
 falls_restarted old new (out.Up count) down h d =
-    let same : new ≡ record old { dc_up = true } = h.1 ∙ ap (λ (s : DcSide). record old { dc_up = s.up; dc = s.dc }) h.0.2 in
+    let same : new ≡ record old { dc_up = true } =
+    h.1 ∙ ap (λ (s : DcSide). record old { dc_up = s.up; dc = s.dc }) h.0.2 in
     let P : NodeView → Type 0 = λ x. rounds_left x < rounds_left old in
     subst P (sym same) (let one : down_rounds old.dc_up ≡ 1 = ap down_rounds down in omega (arith, one))
 falls_restarted old new out.Nothing down h d = absurd (true≢false (sym h.0.0 ∙ down))
@@ -387,7 +415,8 @@ falls_tc_restarted old new _ down h d = absurd h
 
 -- redo sends, or a compensation that undo awaits is sent
 pub recovering_at : (w : NodeView) (p : Phase) → w.tc.phase ≡ p → IsRecovering w.tc.stable p
-    → ((next : ℕ) × (ending : Bool) × (w.tc.phase ≡ phase.Redoing next ending)) ⊎ ((n : ℕ) × (w.tc.phase ≡ phase.Undoing (Some n)) × (n ≤ w.tc.stable))
+    → ((next : ℕ) × (ending : Bool) × (w.tc.phase ≡ phase.Redoing next ending))
+    ⊎ ((n : ℕ) × (w.tc.phase ≡ phase.Undoing (Some n)) × (n ≤ w.tc.stable))
 recovering_at w phase.Unconnected at h = absurd h
 recovering_at w phase.Connecting at h = absurd h
 recovering_at w (phase.Redoing next ending) at h = inl (next, ending, at)
@@ -412,7 +441,9 @@ force_left old new _ h d = absurd h
 falls_force_undoing : (old new : NodeView) (n : ℕ) (o : Out) → IsKept old → old.tc.phase ≡ phase.Undoing (Some n)
     → old.tc.stable < n → ForcesTo old o new → IsDone o → FallsTo old.tc new.tc
 falls_force_undoing old new n (out.Stable m cs) k at less h d =
-    falls_by old.tc new.tc (forced old.tc) h.0.2 (falls_force_lost old.tc n k.tc at less (request_number old.tc.log n due.op due.requests).bounded) refl (ap is_apart at)
+    falls_by old.tc new.tc (forced old.tc) h.0.2
+    (falls_force_lost old.tc n k.tc at less (request_number old.tc.log n due.op due.requests).bounded) refl
+    (ap is_apart at)
   where
     due : IsDueLost old.tc.log old.tc.losers.below n
     due = k.tc.lost.due n at
@@ -423,7 +454,8 @@ falls_force_undoing old new n _ k at less h d = absurd h
 lose_left : (old new : NodeView) (o : Out) → old.tc.phase ≡ phase.Undoing None → RecoversTo old o new → IsDone o
     → (new ≡ with_tc old new.tc) × FallsTo old.tc new.tc
 lose_left old new out.Nothing at h d = let no : phase.Undoing None ≡ phase.Running = sym at ∙ h.0.1.0 in absurd (cc)
-lose_left old new (out.Sent i) at h d = let P : Phase → Type 0 = λ p. SendsAt old.tc p h.0 new.tc in absurd (subst P at h.1.1)
+lose_left old new (out.Sent i) at h d = let P : Phase → Type 0 = λ p. SendsAt old.tc p h.0 new.tc in
+    absurd (subst P at h.1.1)
 lose_left old new (out.Compensated n) at h d = (
   h.1,
   record {
@@ -457,18 +489,22 @@ falls old new r [] k next h = none r h
     none (round.Undo t) h = absurd h
     none round.Force h = absurd h
 falls old new round.RestartDc (o ∷ []) k next h =
-    let P : NodeView → Type 0 = λ x. rounds_left x < rounds_left old in subst P (sym h.3) (falls_restarted old h.0 o next h.1 h.2)
+    let P : NodeView → Type 0 = λ x. rounds_left x < rounds_left old in
+    subst P (sym h.3) (falls_restarted old h.0 o next h.1 h.2)
 falls old new round.RestartDc (o ∷ p ∷ os) k next h = absurd h.3
 falls old new round.RestartTc (o ∷ []) k next h =
-    let P : NodeView → Type 0 = λ x. rounds_left x < rounds_left old in subst P (sym h.3) (falls_tc_restarted old h.0 o next.1 h.1 h.2)
+    let P : NodeView → Type 0 = λ x. rounds_left x < rounds_left old in
+    subst P (sym h.3) (falls_tc_restarted old h.0 o next.1 h.1 h.2)
 falls old new round.RestartTc (o ∷ p ∷ os) k next h = absurd h.3
 falls old new round.Connect (o ∷ os) k next h =
     falls_connect_round old new h.0 o os k next.0 next.1 (MatchBool-at_true _ _ next.0.tc h.1) h.2 h.3
 falls old new round.Recover (o ∷ os) k next h =
     let step = MatchBool-at_true _ _ next.0.tc h.1 in
     elim (recovering_at old old.tc.phase refl next.1) [
-      | inl at ↦ falls_recover_round old new h.0 o os at.0 at.1 k (record { up = next.0; on = ap is_apart at.2; session = next.2 }) at.2 step h.2 h.3
-      | inr at ↦ falls_resend_round old new h.0 o os at.0 k (record { up = next.0; on = ap is_apart at.1; session = next.2 }) at.1 step h.2 h.3
+      | inl at ↦ falls_recover_round old new h.0 o os at.0 at.1 k
+          (record { up = next.0; on = ap is_apart at.2; session = next.2 }) at.2 step h.2 h.3
+      | inr at ↦ falls_resend_round old new h.0 o os at.0 k
+          (record { up = next.0; on = ap is_apart at.1; session = next.2 }) at.1 step h.2 h.3
     ]
 falls old new round.Lose (o ∷ []) k next h =
     let lost = lose_left old h.0 o next.undoing (MatchBool-at_true _ _ next.up.tc h.1) h.2 in
@@ -478,11 +514,13 @@ falls old new (round.Exchange t) (o ∷ os) k next h =
     falls_exchange_round old new h.0 o os t k next.0 (MatchBool-at_true _ _ next.0.up.tc h.1) h.2 h.3
 falls old new (round.Undo t) (o ∷ []) k next h =
     let step = MatchBool-at_true _ _ next.0.up.tc h.1 in
-    falls_alone old new h.0 (serving_together old next.0) (undo_left old h.0 t o step h.2) h.3 (falls_undo old h.0 t o k next.0.running next.1 step h.2)
+    falls_alone old new h.0 (serving_together old next.0) (undo_left old h.0 t o step h.2) h.3
+    (falls_undo old h.0 t o k next.0.running next.1 step h.2)
 falls old new (round.Undo t) (o ∷ p ∷ os) k next h = absurd h.3
 falls old new round.Force (o ∷ []) k (inl next) h =
     let step = MatchBool-at_true _ _ next.0.up.tc h.1 in
-    falls_alone old new h.0 (serving_together old next.0) (force_left old h.0 o step h.2) h.3 (falls_force old h.0 o k next.0.running next.1 step h.2)
+    falls_alone old new h.0 (serving_together old next.0) (force_left old h.0 o step h.2) h.3
+    (falls_force old h.0 o k next.0.running next.1 step h.2)
 falls old new round.Force (o ∷ []) k (inr next) h =
     let step = MatchBool-at_true _ _ next.1.up.tc h.1 in
     falls_alone old new h.0 (undoing_together old (Some next.0) next.1) (force_left old h.0 o step h.2) h.3
@@ -498,14 +536,16 @@ waits_left : (w : NodeView) (t n : ℕ) → IsKept w → IsDue w.tc t n → 0 < 
 waits_left w t n k due =
     let o : OpenTxn = due.open_txn in
     let e = txn_waiting w.tc.log w.tc.stable n o due.waiting in
-    let share = total_share (txn_rounds w.tc.log w.tc.stable) o w.tc.open_txns k.tc.open_txns.order (found_own t w.tc.open_txns o due.is) in
+    let share = total_share (txn_rounds w.tc.log w.tc.stable) o w.tc.open_txns k.tc.open_txns.order
+    (found_own t w.tc.open_txns o due.is) in
     omega (arith, e, share, some_round w.tc.stable n)
 
 read_left : (w : NodeView) (t : ℕ) → IsKept w → IsReader w.tc t → 0 < tc_rounds w.tc
 read_left w t k reader =
     let o : OpenTxn = reader.open_txn in
     let e = txn_reading w.tc.log w.tc.stable reader.read o reader.reading in
-    let share = total_share (txn_rounds w.tc.log w.tc.stable) o w.tc.open_txns k.tc.open_txns.order (found_own t w.tc.open_txns o reader.is) in
+    let share = total_share (txn_rounds w.tc.log w.tc.stable) o w.tc.open_txns k.tc.open_txns.order
+    (found_own t w.tc.open_txns o reader.is) in
     omega (arith, e, share)
 
 -- what is left of the session is left
@@ -517,7 +557,8 @@ undoing_left : (w : NodeView) (waiting : Option ℕ) → IsUndoing w waiting →
 undoing_left w waiting u =
     let goes_on : is_running w.tc.phase ≡ false = ap is_running u.undoing in
     let e : force_rounds w.tc ≡ 1 =
-    ap (λ (b : Bool). if not b || (list_any is_busy w.tc.open_txns || nat_lt w.tc.stable (length w.tc.log)) then 1 else 0) goes_on in
+    ap (λ (b : Bool). if not b
+    || (list_any is_busy w.tc.open_txns || nat_lt w.tc.stable (length w.tc.log)) then 1 else 0) goes_on in
     some_together w (undoing_together w waiting u) (omega (arith, e))
 
 -- where a round applies, one at least is left
@@ -527,24 +568,32 @@ some_left w round.RestartTc k next = let one : down_rounds w.tc_up ≡ 1 = ap do
 some_left w round.Connect k next = let e = apart_rounds w next.0 next.1 in omega (arith, e)
 some_left w round.Recover k next = elim (recovering_at w w.tc.phase refl next.1) [
   | inl at ↦
-      let e : phase_rounds w.tc.log w.tc.session w.tc.phase ≡ requests_in at.0 w.tc.session w.tc.log + 1 = ap (phase_rounds w.tc.log w.tc.session) at.2 in
+      let e : phase_rounds w.tc.log w.tc.session w.tc.phase ≡ requests_in at.0 w.tc.session w.tc.log + 1 =
+      ap (phase_rounds w.tc.log w.tc.session) at.2 in
       some_together w (record { up = next.0; on = ap is_apart at.2; session = next.2 }) (omega (arith, e))
   | inr at ↦ undoing_left w (Some at.0) (record { undoing = at.1; up = next.0; session = next.2 })
 ]
 some_left w round.Lose k next = undoing_left w None next
 some_left w (round.Exchange t) k next =
-    some_together w (serving_together w next.0) (elim next.1 [ inl due ↦ waits_left w t due.0 k due.1 | inr reader ↦ read_left w t k reader ])
+    some_together w (serving_together w next.0)
+    (elim next.1 [ inl due ↦ waits_left w t due.0 k due.1 | inr reader ↦ read_left w t k reader ])
 some_left w (round.Undo t) k next =
     let o : OpenTxn = next.1.open_txn in
     let e = some_rolling w.tc.log w.tc.stable o next.1.rolling in
     some_together w (serving_together w next.0)
-    (omega (arith, e, total_share (txn_rounds w.tc.log w.tc.stable) o w.tc.open_txns k.tc.open_txns.order (found_own t w.tc.open_txns o next.1.is)))
+    (omega (
+      arith,
+      e,
+      total_share (txn_rounds w.tc.log w.tc.stable) o w.tc.open_txns k.tc.open_txns.order
+          (found_own t w.tc.open_txns o next.1.is),
+    ))
 some_left w round.Force k (inr next) = undoing_left w (Some next.0) next.1
 some_left w round.Force k (inl next) = some_together w (serving_together w next.0) (elim next.1 [
   | inl due ↦ waits_left w due.0 due.1 k due.2
   | inr idle ↦
       let busy : Bool = list_any is_busy w.tc.open_txns in
       let e : force_rounds w.tc ≡ (if not (is_running w.tc.phase) || (busy || true) then 1 else 0) =
-      ap (λ (b : Bool). if not (is_running w.tc.phase) || (busy || b) then 1 else 0) (unstable_now w.tc.stable (length w.tc.log) idle.2) in
+      ap (λ (b : Bool). if not (is_running w.tc.phase) || (busy || b) then 1 else 0)
+      (unstable_now w.tc.stable (length w.tc.log) idle.2) in
       omega (arith, e, forced_once (not (is_running w.tc.phase)) busy)
 ])

@@ -31,9 +31,11 @@ flag_end true true b ended = omega arith
 flag_end true false true ended = absurd (true≢false (sym (ended refl)))
 flag_end true false false ended = omega arith
 
-module _ (a b : List Record) (below : ℕ) (ended : Keeps (has_ended a) (has_ended b)) (crossed : Keeps (is_crossed a) (is_crossed b)) where
+module _ (a b : List Record) (below : ℕ) (ended : Keeps (has_ended a) (has_ended b))
+    (crossed : Keeps (is_crossed a) (is_crossed b)) where
   op_fewer : (n : ℕ) (r : Record) → lost_op a below n r ≤ lost_op b below n r
-  op_fewer n (is.Op t p o) = flag_op (nat_lt t below) (has_ended a t) (has_ended b t) (is_crossed a n) (is_crossed b n) (ended t) (crossed n)
+  op_fewer n (is.Op t p o) =
+      flag_op (nat_lt t below) (has_ended a t) (has_ended b t) (is_crossed a n) (is_crossed b n) (ended t) (crossed n)
   op_fewer n is.Session = omega arith
   op_fewer n is.Begin = omega arith
   op_fewer n (is.Answer m x) = omega arith
@@ -58,24 +60,29 @@ module _ (a b : List Record) (below : ℕ) (ended : Keeps (has_ended a) (has_end
 
   ends_fewer : (log : List Record) → lost_ends a below log ≤ lost_ends b below log
   ends_fewer [] = omega arith
-  ends_fewer (r ∷ log) = let rest = ends_fewer log in let here = end_fewer (length log + 1) r in omega (arith, here, rest)
+  ends_fewer (r ∷ log) = let rest = ends_fewer log in let here = end_fewer (length log + 1) r in
+      omega (arith, here, rest)
 
   -- one that counts no more
   one_op : (log : List Record) (t u : ℕ) (o : Op) → IsOpBy log u t o → is_lost b below t ≡ true
       → is_crossed b u ≡ false → is_crossed a u ≡ true → lost_ops a below log + 1 ≤ lost_ops b below log
   one_op [] t u o by lost stands gone = absurd (cc)
   one_op (r ∷ log) t u o by lost stands gone = elim (cases_eq u (length log + 1)) [
-    | inl e ↦ let rest = ops_fewer log in let here = newest r (newest_at (AnOp t o) r log u e by) e in omega (arith, here, rest)
-    | inr apart ↦ let rest = one_op log t u o (older_at (AnOp t o) r log u apart by) lost stands gone in let here = op_fewer (length log + 1) r in omega (arith, here, rest)
+    | inl e ↦ let rest = ops_fewer log in let here = newest r (newest_at (AnOp t o) r log u e by) e in
+        omega (arith, here, rest)
+    | inr apart ↦ let rest = one_op log t u o (older_at (AnOp t o) r log u apart by) lost stands gone in let here =
+        op_fewer (length log + 1) r in omega (arith, here, rest)
   ]
     where
       newest : (r : Record) → op_of r ≡ Some (t, o) → u ≡ length log + 1
           → lost_op a below (length log + 1) r + 1 ≤ lost_op b below (length log + 1) r
       newest (is.Op v p q) is_by e =
-          let own : is_lost b below v ≡ true = subst (λ (x : ℕ). is_lost b below x ≡ true) (sym (both_same v t q o is_by).0) lost in
+          let own : is_lost b below v ≡ true =
+          subst (λ (x : ℕ). is_lost b below x ≡ true) (sym (both_same v t q o is_by).0) lost in
           let was : is_crossed b (length log + 1) ≡ false = subst (λ (n : ℕ). is_crossed b n ≡ false) e stands in
           let now : is_crossed a (length log + 1) ≡ true = subst (λ (n : ℕ). is_crossed a n ≡ true) e gone in
-          fall (is_lost a below v) (is_lost b below v) (is_crossed a (length log + 1)) (is_crossed b (length log + 1)) own now was
+          fall (is_lost a below v) (is_lost b below v) (is_crossed a (length log + 1)) (is_crossed b (length log + 1))
+          own now was
         where
           fall : (x y c d : Bool) → y ≡ true → c ≡ true → d ≡ false
               → (if x && not c then 1 else 0) + 1 ≤ (if y && not d then 1 else 0)
@@ -102,9 +109,11 @@ module _ (a b : List Record) (below : ℕ) (ended : Keeps (has_ended a) (has_end
         let was : is_lost b below (length log + 1) ≡ true = subst (λ (n : ℕ). is_lost b below n ≡ true) e lost in
         let now : has_ended a (length log + 1) ≡ true = subst (λ (n : ℕ). has_ended a n ≡ true) e gone in
         let rest = ends_fewer log in
-        let here = fall (nat_lt (length log + 1) below) (has_ended a (length log + 1)) (is_lost b below (length log + 1)) was now in
+        let here = fall (nat_lt (length log + 1) below) (has_ended a (length log + 1))
+        (is_lost b below (length log + 1)) was now in
         rw (same) (omega (arith, here, rest))
-    | inr apart ↦ let rest = one_end log t (older_at (λ x. x ≡ Some is.Begin) r log t apart begun) lost gone in let here = end_fewer (length log + 1) r in omega (arith, here, rest)
+    | inr apart ↦ let rest = one_end log t (older_at (λ x. x ≡ Some is.Begin) r log t apart begun) lost gone in
+        let here = end_fewer (length log + 1) r in omega (arith, here, rest)
   ]
     where
       fall : (l x y : Bool) → y ≡ true → x ≡ true → (if l && not x then 1 else 0) + 1 ≤ (if y then 1 else 0)
@@ -133,7 +142,8 @@ pub lost_comp : (log : List Record) (below t u x : ℕ) (i : Option Op) (o : Op)
 lost_comp log below t u x i o loser by stands =
     let r : Record = is.Comp t u x i in
     let gone : is_crossed (r ∷ log) u ≡ true = ap (λ (b : Bool). b || is_crossed log u) (eq-eqb u u refl) in
-    let ops = one_op (r ∷ log) log below (λ v. ended_push v r log) (λ n. crossed_push n r log) log t u o by (loser_counts log below t loser) stands gone in
+    let ops = one_op (r ∷ log) log below (λ v. ended_push v r log) (λ n. crossed_push n r log) log t u o by
+    (loser_counts log below t loser) stands gone in
     let ends = ends_fewer (r ∷ log) log below (λ v. ended_push v r log) (λ n. crossed_push n r log) log in
     omega (arith, ops, ends)
 
@@ -144,5 +154,6 @@ lost_less log below t loser =
     let r : Record = is.End t in
     let gone : has_ended (r ∷ log) t ≡ true = ap (λ (b : Bool). b || has_ended log t) (eq-eqb t t refl) in
     let ops = ops_fewer (r ∷ log) log below (λ v. ended_push v r log) (λ n. crossed_push n r log) log in
-    let ends = one_end (r ∷ log) log below (λ v. ended_push v r log) (λ n. crossed_push n r log) log t loser.open_txn.begun (loser_counts log below t loser) gone in
+    let ends = one_end (r ∷ log) log below (λ v. ended_push v r log) (λ n. crossed_push n r log) log t
+    loser.open_txn.begun (loser_counts log below t loser) gone in
     omega (arith, ops, ends)

@@ -49,7 +49,8 @@ done_if (out.Lost n) h = tt
 -- one event
 pub one_done : (old new : NodeView) (e : Event) (o : Out) (before after : List Out) → StepsTo old e o new → IsDone o
     → after ≡ before ++ o ∷ [] → Performed old (e ∷ []) before after new
-one_done old new e o before after step done appended = record { outs = o ∷ []; appended = appended; steps = (new, step, done, refl) }
+one_done old new e o before after step done appended =
+    record { outs = o ∷ []; appended = appended; steps = (new, step, done, refl) }
 
 -- an event, and those after it
 pub then_done : (old mid new : NodeView) (e : Event) (es : List Event) (before between after : List Out)
@@ -66,7 +67,8 @@ then_done old mid new e es before between after first rest =
         let P : NodeView → Type 0 = λ x. Plays x es rest.outs new in
         record {
           outs = o ∷ rest.outs;
-          appended = rest.appended ∙ ap (λ (xs : List Out). xs ++ rest.outs) appended ∙ append_assoc before (o ∷ []) rest.outs;
+          appended = rest.appended ∙ ap (λ (xs : List Out). xs ++ rest.outs) appended
+              ∙ append_assoc before (o ∷ []) rest.outs;
           steps = (steps.0, steps.1, steps.2, subst P steps.3 rest.steps);
         }
 
@@ -85,7 +87,8 @@ then_stopped old mid new e es before between after r first rest =
         let P : NodeView → Type 0 = λ x. StopsAt x es rest.outs r new in
         record {
           outs = o ∷ rest.outs;
-          appended = rest.appended ∙ ap (λ (xs : List Out). xs ++ rest.outs) appended ∙ append_assoc before (o ∷ []) rest.outs;
+          appended = rest.appended ∙ ap (λ (xs : List Out). xs ++ rest.outs) appended
+              ∙ append_assoc before (o ∷ []) rest.outs;
           stops = (steps.0, steps.1, steps.2, subst P steps.3 rest.stops);
         }
 
@@ -126,7 +129,8 @@ replied_number w mid after e a b c asks h k = by h.outs h.steps k.outs k.steps
     by (o ∷ []) first (p ∷ q ∷ ps) next = absurd next.3
     by (o ∷ []) first (p ∷ []) next =
         let P : NodeView → Type 0 = λ x. StepsTo x (event.Request (length w.requests + 1)) p next.0 in
-        ap (λ (x : NodeView). length x.replies) next.3 ∙ asks.replied o p first.0 next.0 first.1 first.2 (subst P first.3 next.1) next.2
+        ap (λ (x : NodeView). length x.replies) next.3
+        ∙ asks.replied o p first.0 next.0 first.1 first.2 (subst P first.3 next.1) next.2
 
 -- as many rounds are left to play
 abbrev pub LeftAfter : Option ℕ → ℕ → Option ℕ → Type 0
@@ -134,13 +138,19 @@ LeftAfter None n left = left ≡ None
 LeftAfter (Some most) n left = (n ≤ most) × (left ≡ Some (most - n))
 
 -- the rounds so far
-pub record SoFar (old : NodeView) (most : Option ℕ) (before : List Out) (left : Option ℕ) (after : List Out) (now : NodeView) : Type 0 where
+pub record SoFar (old : NodeView) (most : Option ℕ) (before : List Out) (left : Option ℕ) (after : List Out)
+    (now : NodeView) : Type 0 where
   pub played : Played old before after now
   pub count : length played.rounds + rounds_left now ≤ rounds_left old
   pub left_is : LeftAfter most (length played.rounds) left
 
 pub none_yet : (old : NodeView) (most : Option ℕ) (before : List Out) → SoFar old most before most before old
-none_yet old most before = record { played = record { rounds = []; outs = []; appended = sym (append-nil before); played = (refl, refl) }; count = omega arith; left_is = all most }
+none_yet old most before =
+    record {
+      played = record { rounds = []; outs = []; appended = sym (append-nil before); played = (refl, refl) };
+      count = omega arith;
+      left_is = all most;
+    }
   where
     all : (most : Option ℕ) → LeftAfter most 0 most
     all None = refl
@@ -168,7 +178,8 @@ fewer_left : (most : Option ℕ) (n : ℕ) (left : Option ℕ) → LeftAfter mos
     → LeftAfter most (n + 1) (fewer left)
 fewer_left None n left h some = ap fewer h
 fewer_left (Some m) n left h some =
-    let less : n < m = elim_less m n h.0 (λ e. some (h.1 ∙ ap Some (omega (arith, e)))) in (omega (arith, less), ap fewer h.1 ∙ ap Some (omega arith))
+    let less : n < m = elim_less m n h.0 (λ e. some (h.1 ∙ ap Some (omega (arith, e)))) in
+    (omega (arith, less), ap fewer h.1 ∙ ap Some (omega arith))
   where
     elim_less : (m n : ℕ) → n ≤ m → (n ≡ m → ⊥) → n < m
     elim_less m n most apart = omega (arith, most, apart)
@@ -188,7 +199,8 @@ one_more old now new most left before after grown r far some next h less =
         played = rounds_push old now new p.rounds p.outs h.outs r p.played next h.steps;
       };
       count = omega (arith, count, far.count, less);
-      left_is = subst (λ (n : ℕ). LeftAfter most n (fewer left)) (sym count) (fewer_left most (length p.rounds) left far.left_is some);
+      left_is = subst (λ (n : ℕ). LeftAfter most n (fewer left)) (sym count)
+          (fewer_left most (length p.rounds) left far.left_is some);
     }
 
 -- all the rounds that were allowed
@@ -214,7 +226,8 @@ pub broken : (old now new : NodeView) (most left : Option ℕ) (before after gro
     (refusal : Refusal)
     → SoFar old most before left after now → (left ≡ Some 0 → ⊥) → IsKept now
     → IsNext now r → Stopped now (events_of now r) after grown refusal new → rounds_left old < most_rounds old.tc.log
-    → (b : Broken old before grown refusal new) × IsAllowed most (length b.rounds.rounds + 1) × (length b.rounds.rounds < most_rounds old.tc.log)
+    → (b : Broken old before grown refusal new) × IsAllowed most (length b.rounds.rounds + 1)
+    × (length b.rounds.rounds < most_rounds old.tc.log)
 broken old now new most left before after grown r refusal far some kept next h bound = (
   record {
     last = now;

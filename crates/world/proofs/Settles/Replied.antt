@@ -46,8 +46,10 @@ pub sound_reply : (w : NodeView) (s n : ℕ) (o : Op) (reply : Reply) (dc : DcVi
 sound_reply w s n o reply dc k requests h = pick (captures_at w.dc (key_of o) n) refl h
   where
     pick : (b : Bool) → captures_at w.dc (key_of o) n ≡ b
-        → MatchBool b ((Some reply ≡ Some (says.Answered s n (saved_in (leaf_at (leaves w.dc) (key_of o)).ab.entries n))) × (dc ≡ w.dc))
-        ((Some reply ≡ Some (says.Answered s n (Some (answer_in (leaf_at (leaves w.dc) (key_of o)).rows o)))) × (dc ≡ performs w.dc n o)) → IsSoundReply w s n reply
+        → MatchBool b ((Some reply
+        ≡ Some (says.Answered s n (saved_in (leaf_at (leaves w.dc) (key_of o)).ab.entries n))) × (dc ≡ w.dc))
+        ((Some reply ≡ Some (says.Answered s n (Some (answer_in (leaf_at (leaves w.dc) (key_of o)).rows o))))
+        × (dc ≡ performs w.dc n o)) → IsSoundReply w s n reply
     pick true captured h = record {
       answer = saved_in (leaf_at (leaves w.dc) (key_of o)).ab.entries n;
       reply_is = some_reply reply (says.Answered s n (saved_in (leaf_at (leaves w.dc) (key_of o)).ab.entries n)) h.0;
@@ -67,9 +69,11 @@ IsReadReply s n (Range low high) reply = (rows : List (Bytes × Bytes)) × (repl
 
 pub read_reply : (s n : ℕ) (q : Span) (old new : DcView) (reply : Reply)
     → Serves old (read_request s n q) (Some reply) new → IsReadReply s n q reply
-read_reply s n (Key k) old new reply h = let v : Option Bytes = value_at old k in (v, some_reply reply (says.Row s n v) h.0)
+read_reply s n (Key k) old new reply h = let v : Option Bytes = value_at old k in
+    (v, some_reply reply (says.Row s n v) h.0)
 read_reply s n (Range low high) old new reply h =
-    let rows : List (Bytes × Bytes) = rows_in (range low high) (rows_of (leaves old)) in (rows, some_reply reply (says.Rows s n rows) h.0)
+    let rows : List (Bytes × Bytes) = rows_in (range low high) (rows_of (leaves old)) in
+    (rows, some_reply reply (says.Rows s n rows) h.0)
 
 pub read_session : (s n : ℕ) (q : Span) (reply : Reply) → IsReadReply s n q reply → session_of reply ≡ s
 read_session s n (Key k) reply h = ap session_of h.1
@@ -97,10 +101,14 @@ pub perform_replied : (s n : ℕ) (o : Op) → HasReply (asks.Perform s n o)
 perform_replied s n o old new h = pick (captures_at old (key_of o) n) h
   where
     pick : (b : Bool)
-        → MatchBool b ((None ≡ Some (says.Answered s n (saved_in (leaf_at (leaves old) (key_of o)).ab.entries n))) × (new ≡ old))
-        ((None ≡ Some (says.Answered s n (Some (answer_in (leaf_at (leaves old) (key_of o)).rows o)))) × (new ≡ performs old n o)) → ⊥
-    pick true h = let e : None ≡ Some (says.Answered s n (saved_in (leaf_at (leaves old) (key_of o)).ab.entries n)) = h.0 in cc
-    pick false h = let e : None ≡ Some (says.Answered s n (Some (answer_in (leaf_at (leaves old) (key_of o)).rows o))) = h.0 in cc
+        → MatchBool b ((None ≡ Some (says.Answered s n (saved_in (leaf_at (leaves old) (key_of o)).ab.entries n)))
+        × (new ≡ old))
+        ((None ≡ Some (says.Answered s n (Some (answer_in (leaf_at (leaves old) (key_of o)).rows o))))
+        × (new ≡ performs old n o)) → ⊥
+    pick true h = let e : None ≡ Some (says.Answered s n (saved_in (leaf_at (leaves old) (key_of o)).ab.entries n)) =
+        h.0 in cc
+    pick false h = let e : None ≡ Some (says.Answered s n (Some (answer_in (leaf_at (leaves old) (key_of o)).rows o))) =
+        h.0 in cc
 
 pub redo_replied : (s : ℕ) (found : Option (ℕ × Op)) → HasReply (redo_request s found)
 redo_replied s None = redo_end_replied s
@@ -108,8 +116,11 @@ redo_replied s (Some x) = perform_replied s x.0 x.1
 
 pub read_replied : (s n : ℕ) (q : Span) → HasReply (read_request s n q)
 read_replied s n (Key k) old new h = let e : None ≡ Some (says.Row s n (value_at old k)) = h.0 in cc
-read_replied s n (Range low high) old new h = let e : None ≡ Some (says.Rows s n (rows_in (range low high) (rows_of (leaves old)))) = h.0 in cc
+read_replied s n (Range low high) old new h =
+    let e : None ≡ Some (says.Rows s n (rows_in (range low high) (rows_of (leaves old)))) = h.0 in cc
 
 pub request_replied : (w : TcView) (t : ℕ) (q : Request) → IsRequestOf w t q → HasReply q
-request_replied w t q (inl r) = let P : Request → Type 0 = HasReply in subst P (sym r.is) (perform_replied w.session r.number r.op)
-request_replied w t q (inr r) = let P : Request → Type 0 = HasReply in subst P (sym r.is) (read_replied w.session r.read.number r.read.span)
+request_replied w t q (inl r) = let P : Request → Type 0 = HasReply in
+    subst P (sym r.is) (perform_replied w.session r.number r.op)
+request_replied w t q (inr r) = let P : Request → Type 0 = HasReply in
+    subst P (sym r.is) (read_replied w.session r.read.number r.read.span)

@@ -48,7 +48,9 @@ some_waiting os o h = by o.waiting refl o.reading refl
         → ((n : ℕ) × (o.waiting ≡ Some n)) ⊎ ((r : Read) × (o.reading ≡ Some r))
     by (Some n) some r is = inl (n, some)
     by None none (Some r) is = inr (r, is)
-    by None none None is = absurd (true≢false (sym (passes (wants Unanswered) os o h) ∙ ap (λ (m : Option ℕ). is_some m || is_some o.reading) none ∙ ap is_some is))
+    by None none None is = absurd
+        (true≢false (sym (passes (wants Unanswered) os o h) ∙ ap (λ (m : Option ℕ). is_some m || is_some o.reading) none
+        ∙ ap is_some is))
 
 -- and has the least number of them
 least : (w : TcView) (o : OpenTxn) → IsOldest (wants Unanswered) w.open_txns o → (u : ℕ)
@@ -76,7 +78,13 @@ pub rolling_first : (w : TcView) (o : OpenTxn) → IsTc w → oldest (wants Unan
     → oldest (wants Rolling) w.open_txns ≡ Some o → IsRolling w o.txn
 rolling_first w o k none h =
     let first = oldest_found (wants Rolling) w.open_txns o k.open_txns.order h in
-    record { open_txn = o; is = first.found; rolling = first.passes; idle = idle_all w none; least = λ u rolls. by first u (find u w.open_txns) refl rolls }
+    record {
+      open_txn = o;
+      is = first.found;
+      rolling = first.passes;
+      idle = idle_all w none;
+      least = λ u rolls. by first u (find u w.open_txns) refl rolls;
+    }
   where
     by : IsOldest (wants Rolling) w.open_txns o → (u : ℕ) (x : Option OpenTxn) → find u w.open_txns ≡ x
         → is_rolling (find u w.open_txns) ≡ true → o.txn ≤ u

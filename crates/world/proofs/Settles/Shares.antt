@@ -27,7 +27,8 @@ worth false = omega arith
 -- it is of nobody below its own
 none_else : (u : ℕ) (c : Bool) (os : List OpenTxn) → AreBelow u os → total (counts u c) os ≡ 0
 none_else u c [] below = refl
-none_else u c (p ∷ os) below = let rest = none_else u c os below.1 in rw (ne_eqb u p.txn (λ e. omega (arith, e, below.0))) (omega (arith, rest))
+none_else u c (p ∷ os) below = let rest = none_else u c os below.1 in
+    rw (ne_eqb u p.txn (λ e. omega (arith, e, below.0))) (omega (arith, rest))
 
 -- so it is of one at most
 one_at_most : (u : ℕ) (c : Bool) (os : List OpenTxn) → AreFalling os → total (counts u c) os ≤ 1
@@ -61,8 +62,10 @@ none_early u c below (p ∷ os) falls late early =
 one_of_all : (whole : List Record) (below u : ℕ) (c : Bool) (os : List OpenTxn) → AreFalling os → AreLate below os
     → total (counts u c) os + (if is_lost whole below u && c then 1 else 0) ≤ 1
 one_of_all whole below u c os falls late = elim (cases_lt u below) [
-  | inl early ↦ let none = none_early u c below os falls late early in let flag = worth (is_lost whole below u && c) in omega (arith, none, flag)
-  | inr le ↦ let one = one_at_most u c os falls in let not_lost : nat_lt u below ≡ false = grind (arith, nat_tests, le) in rw (not_lost) (omega (arith, one))
+  | inl early ↦ let none = none_early u c below os falls late early in let flag = worth (is_lost whole below u && c) in
+      omega (arith, none, flag)
+  | inr le ↦ let one = one_at_most u c os falls in let not_lost : nat_lt u below ≡ false =
+      grind (arith, nat_tests, le) in rw (not_lost) (omega (arith, one))
 ]
 
 nothing_left : (os : List OpenTxn) → total (λ o. 0) os ≡ 0
@@ -76,9 +79,11 @@ bound_of (Some r) = r.above
 
 -- whose operation it is, above its bound or not
 few_counts : (u number : ℕ) (c : Bool) (os : List OpenTxn)
-    → total (λ (o : OpenTxn). if u == o.txn && (nat_lt (bound_of o.rolling) number && c) then 1 else 0) os ≤ total (counts u c) os
+    → total (λ (o : OpenTxn). if u == o.txn && (nat_lt (bound_of o.rolling) number && c) then 1 else 0) os
+    ≤ total (counts u c) os
 few_counts u number c [] = omega arith
-few_counts u number c (o ∷ os) = let rest = few_counts u number c os in let here = flag_above (u == o.txn) (nat_lt (bound_of o.rolling) number) c in omega (arith, rest, here)
+few_counts u number c (o ∷ os) = let rest = few_counts u number c os in let here =
+    flag_above (u == o.txn) (nat_lt (bound_of o.rolling) number) c in omega (arith, rest, here)
 
 -- the operations that are left to undo, of all of them and of losers
 pub left_are_steps : (whole log : List Record) (below : ℕ) (os : List OpenTxn) → AreFalling os → AreLate below os
@@ -88,14 +93,27 @@ left_are_steps whole (is.Op u p q ∷ log) below os falls late =
     let c : Bool = not (is_crossed whole (length log + 1)) in
     let mine : OpenTxn → ℕ = λ o. if u == o.txn && (nat_lt (bound_of o.rolling) (length log + 1) && c) then 1 else 0 in
     let sum = total_sum mine (λ (o : OpenTxn). left_in whole o.txn (bound_of o.rolling) log) os in
-    omega (arith, sum, few_counts u (length log + 1) c os, one_of_all whole below u c os falls late, left_are_steps whole log below os falls late)
-left_are_steps whole (is.Comp u m n i ∷ log) below os falls late = let rest = left_are_steps whole log below os falls late in omega (arith, rest)
-left_are_steps whole (is.Session ∷ log) below os falls late = let rest = left_are_steps whole log below os falls late in omega (arith, rest)
-left_are_steps whole (is.Begin ∷ log) below os falls late = let rest = left_are_steps whole log below os falls late in omega (arith, rest)
-left_are_steps whole (is.Answer n x ∷ log) below os falls late = let rest = left_are_steps whole log below os falls late in omega (arith, rest)
-left_are_steps whole (is.Commit u ∷ log) below os falls late = let rest = left_are_steps whole log below os falls late in omega (arith, rest)
-left_are_steps whole (is.End u ∷ log) below os falls late = let rest = left_are_steps whole log below os falls late in omega (arith, rest)
-left_are_steps whole (is.Checkpoint l ∷ log) below os falls late = let rest = left_are_steps whole log below os falls late in omega (arith, rest)
+    omega (
+      arith,
+      sum,
+      few_counts u (length log + 1) c os,
+      one_of_all whole below u c os falls late,
+      left_are_steps whole log below os falls late,
+    )
+left_are_steps whole (is.Comp u m n i ∷ log) below os falls late = let rest =
+    left_are_steps whole log below os falls late in omega (arith, rest)
+left_are_steps whole (is.Session ∷ log) below os falls late = let rest = left_are_steps whole log below os falls late in
+    omega (arith, rest)
+left_are_steps whole (is.Begin ∷ log) below os falls late = let rest = left_are_steps whole log below os falls late in
+    omega (arith, rest)
+left_are_steps whole (is.Answer n x ∷ log) below os falls late = let rest =
+    left_are_steps whole log below os falls late in omega (arith, rest)
+left_are_steps whole (is.Commit u ∷ log) below os falls late = let rest =
+    left_are_steps whole log below os falls late in omega (arith, rest)
+left_are_steps whole (is.End u ∷ log) below os falls late = let rest = left_are_steps whole log below os falls late in
+    omega (arith, rest)
+left_are_steps whole (is.Checkpoint l ∷ log) below os falls late = let rest =
+    left_are_steps whole log below os falls late in omega (arith, rest)
 
 -- each has begun
 abbrev pub HaveBegun : List Record → List OpenTxn → Type 0
@@ -115,7 +133,8 @@ begins_longer whole below (is.Checkpoint l) log = omega arith
 
 lost_begun : (whole : List Record) (below : ℕ) (log : List Record) → lost_ends whole below log ≤ begins_in log
 lost_begun whole below [] = omega arith
-lost_begun whole below (r ∷ log) = let rest = lost_begun whole below log in omega (arith, rest, begins_longer whole below r log)
+lost_begun whole below (r ∷ log) = let rest = lost_begun whole below log in
+    omega (arith, rest, begins_longer whole below r log)
 
 below_more : (t u : ℕ) (os : List OpenTxn) → t ≤ u → AreBelow t os → AreBelow u os
 below_more t u [] le below = tt
@@ -125,13 +144,16 @@ below_more t u (o ∷ os) le below = (omega (arith, le, below.0), below_more t u
 older_begun : (r : Record) (log : List Record) (os : List OpenTxn) → AreBelow (length log + 1) os
     → HaveBegun (r ∷ log) os → HaveBegun log os
 older_begun r log os below begun t o h =
-    older_at (λ x. x ≡ Some is.Begin) r log t (λ e. let none : None ≡ Some o = sym (find_above (length log + 1) os below) ∙ ap (λ (u : ℕ). find u os) (sym e) ∙ h in cc) (begun t o h)
+    older_at (λ x. x ≡ Some is.Begin) r log t
+    (λ e. let none : None ≡ Some o = sym (find_above (length log + 1) os below) ∙ ap (λ (u : ℕ). find u os) (sym e)
+    ∙ h in cc) (begun t o h)
 
 -- no more of them are open, or lost, than have begun
 pub are_begun : (whole log : List Record) (below : ℕ) (os : List OpenTxn) → AreFalling os → AreLate below os
     → HaveBegun log os → length os + lost_ends whole below log ≤ begins_in log
 are_begun whole log below [] falls late begun = let rest = lost_begun whole below log in omega (arith, rest)
-are_begun whole [] below (p ∷ os) falls late begun = let none : None ≡ Some is.Begin = begun p.txn p (find_here p os p.txn refl) in absurd (cc)
+are_begun whole [] below (p ∷ os) falls late begun = let none : None ≡ Some is.Begin =
+    begun p.txn p (find_here p os p.txn refl) in absurd (cc)
 are_begun whole (r ∷ log) below (p ∷ os) falls late begun =
     let here : record_at (r ∷ log) p.txn ≡ Some is.Begin = begun p.txn p (find_here p os p.txn refl) in
     elim (cases_eq p.txn (length log + 1)) [
@@ -147,6 +169,11 @@ are_begun whole (r ∷ log) below (p ∷ os) falls late begun =
       | inr apart ↦
           let number = within (λ x. x ≡ Some is.Begin) (λ e. cc) (r ∷ log) p.txn here in
           let less : p.txn < length log + 1 = omega (arith, number.bounded, apart) in
-          let all_below : AreBelow (length log + 1) (p ∷ os) = (less, below_more p.txn (length log + 1) os (omega (arith, less)) falls.0) in
-          omega (arith, are_begun whole log below (p ∷ os) falls late (older_begun r log (p ∷ os) all_below begun), begins_longer whole below r log)
+          let all_below : AreBelow (length log + 1) (p ∷ os) =
+          (less, below_more p.txn (length log + 1) os (omega (arith, less)) falls.0) in
+          omega (
+            arith,
+            are_begun whole log below (p ∷ os) falls late (older_begun r log (p ∷ os) all_below begun),
+            begins_longer whole below r log,
+          )
     ]

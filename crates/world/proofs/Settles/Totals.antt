@@ -12,7 +12,8 @@ use Rattle.world.specs.Bound.{total}
 -- one of the later ones has another number than the first
 found_later : (p : OpenTxn) (os : List OpenTxn) (t : ℕ) (o : OpenTxn) → AreBelow p.txn os → find t os ≡ Some o
     → p.txn ≢ t
-found_later p os t o below h same = let none : None ≡ Some o = sym (find_above p.txn os below) ∙ ap (λ (u : ℕ). find u os) same ∙ h in cc
+found_later p os t o below h same = let none : None ≡ Some o =
+    sym (find_above p.txn os below) ∙ ap (λ (u : ℕ). find u os) same ∙ h in cc
 
 -- so it is found among all
 pub found_still : (p : OpenTxn) (os : List OpenTxn) (t : ℕ) (o : OpenTxn) → AreBelow p.txn os → find t os ≡ Some o
@@ -55,7 +56,8 @@ total_replaced count new o (p ∷ os) falls h = elim (found_where p os new.txn o
       let P : ℕ → Type 0 = λ t. AreBelow t os in
       let rest = (total_absent count new os (subst P here.0 falls.0)).0 in
       rw (eq-eqb p.txn new.txn here.0) (omega (arith, rest, ap count here.1))
-  | inr there ↦ let rest = total_replaced count new o os falls.1 there.1 in rw (ne_eqb p.txn new.txn there.0) (omega (arith, rest))
+  | inr there ↦ let rest = total_replaced count new o os falls.1 there.1 in
+      rw (ne_eqb p.txn new.txn there.0) (omega (arith, rest))
 ]
 
 -- without one
@@ -67,14 +69,20 @@ total_without count o (p ∷ os) falls h = elim (found_where p os o.txn o h) [
       let P : ℕ → Type 0 = λ t. AreBelow t os in
       let rest = (total_absent count o os (subst P here.0 falls.0)).1 in
       rw (eq-eqb p.txn o.txn here.0) (omega (arith, rest, ap count here.1))
-  | inr there ↦ let rest = total_without count o os falls.1 there.1 in rw (ne_eqb p.txn o.txn there.0) (omega (arith, rest))
+  | inr there ↦ let rest = total_without count o os falls.1 there.1 in
+      rw (ne_eqb p.txn o.txn there.0) (omega (arith, rest))
 ]
 
 -- one count falls, and the others don't grow
 pub total_one : (now was : OpenTxn → ℕ) (o : OpenTxn) (os : List OpenTxn) → AreFalling os → find o.txn os ≡ Some o
     → ((p : OpenTxn) → now p ≤ was p) → total now os + was o ≤ total was os + now o
 total_one now was o os falls h most =
-    omega (arith, total_without now o os falls h, total_without was o os falls h, total_most now was (without o.txn os) most)
+    omega (
+      arith,
+      total_without now o os falls h,
+      total_without was o os falls h,
+      total_most now was (without o.txn os) most,
+    )
 
 -- a step of one of them, where the counts of the others don't grow
 pub total_step : (now was : OpenTxn → ℕ) (new o : OpenTxn) (os : List OpenTxn) → AreFalling os
@@ -83,12 +91,19 @@ pub total_step : (now was : OpenTxn → ℕ) (new o : OpenTxn) (os : List OpenTx
 total_step now was new o os falls h same most =
     let P : ℕ → Type 0 = λ t. find t os ≡ Some o in
     let replaced = total_replaced now new o os falls (subst P (sym same) h) in
-    omega (arith, replaced, total_without now o os falls h, total_without was o os falls h, total_most now was (without o.txn os) most)
+    omega (
+      arith,
+      replaced,
+      total_without now o os falls h,
+      total_without was o os falls h,
+      total_most now was (without o.txn os) most,
+    )
 
 -- an end of one of them
 pub total_end : (now was : OpenTxn → ℕ) (o : OpenTxn) (os : List OpenTxn) → AreFalling os → find o.txn os ≡ Some o
     → ((p : OpenTxn) → now p ≤ was p) → total now (without o.txn os) + was o ≤ total was os
-total_end now was o os falls h most = omega (arith, total_without was o os falls h, total_most now was (without o.txn os) most)
+total_end now was o os falls h most =
+    omega (arith, total_without was o os falls h, total_most now was (without o.txn os) most)
 
 -- one that is found has its share
 pub total_share : (count : OpenTxn → ℕ) (o : OpenTxn) (os : List OpenTxn) → AreFalling os → find o.txn os ≡ Some o
@@ -109,4 +124,5 @@ pub none_found : (test : OpenTxn → Bool) (os : List OpenTxn) → AreFalling os
     → ((t : ℕ) (o : OpenTxn) → find t os ≡ Some o → test o ≡ false) → list_any test os ≡ false
 none_found test [] falls none = refl
 none_found test (p ∷ os) falls none =
-    rw (none p.txn p (find_here p os p.txn refl)) (none_found test os falls.1 (λ t o h. none t o (found_still p os t o falls.0 h)))
+    rw (none p.txn p (find_here p os p.txn refl))
+    (none_found test os falls.1 (λ t o h. none t o (found_still p os t o falls.0 h)))

@@ -59,15 +59,19 @@ txn_later r log a b o none le = omega (arith, waiting_later a b o.waiting le, ro
 -- and as many as it waits for, reads, or has to undo
 pub txn_waiting : (log : List Record) (stable n : ℕ) (o : OpenTxn) → o.waiting ≡ Some n
     → txn_rounds log stable o ≡ rolling_rounds log o + (if nat_lt stable n then 2 else 1) + reading_rounds o.reading
-txn_waiting log stable n o some = ap (λ (m : Option ℕ). rolling_rounds log o + waiting_rounds stable m + reading_rounds o.reading) some
+txn_waiting log stable n o some =
+    ap (λ (m : Option ℕ). rolling_rounds log o + waiting_rounds stable m + reading_rounds o.reading) some
 
 pub txn_reading : (log : List Record) (stable : ℕ) (r : Read) (o : OpenTxn) → o.reading ≡ Some r
     → txn_rounds log stable o ≡ rolling_rounds log o + waiting_rounds stable o.waiting + 1
-txn_reading log stable r o some = ap (λ (m : Option Read). rolling_rounds log o + waiting_rounds stable o.waiting + reading_rounds m) some
+txn_reading log stable r o some =
+    ap (λ (m : Option Read). rolling_rounds log o + waiting_rounds stable o.waiting + reading_rounds m) some
 
 pub txn_rolling : (log : List Record) (stable : ℕ) (o : OpenTxn) (r : Rollback) → o.rolling ≡ Some r
-    → txn_rounds log stable o ≡ (3 * left_in log o.txn r.above log + 1) + waiting_rounds stable o.waiting + reading_rounds o.reading
-txn_rolling log stable o r rolling = ap (λ x. rounds_back log o.txn x + waiting_rounds stable o.waiting + reading_rounds o.reading) rolling
+    → txn_rounds log stable o ≡ (3 * left_in log o.txn r.above log + 1) + waiting_rounds stable o.waiting
+    + reading_rounds o.reading
+txn_rolling log stable o r rolling =
+    ap (λ x. rounds_back log o.txn x + waiting_rounds stable o.waiting + reading_rounds o.reading) rolling
 
 -- a rollback has its last round left at least
 pub some_rolling : (log : List Record) (stable : ℕ) (o : OpenTxn) → rolls_back o ≡ true → 0 < txn_rounds log stable o
@@ -81,12 +85,16 @@ some_rolling log stable o rolling = by o.rolling rolling
 -- a last force is left where somebody waits or is being rolled back
 pub busy_waiting : (os : List OpenTxn) (t n : ℕ) (o : OpenTxn) → find t os ≡ Some o → o.waiting ≡ Some n
     → list_any is_busy os ≡ true
-busy_waiting os t n o at some = any_found is_busy os t o at (ap (λ (m : Option ℕ). rolls_back o || (is_some m || is_some o.reading)) some ∙ or-true (rolls_back o))
+busy_waiting os t n o at some =
+    any_found is_busy os t o at
+    (ap (λ (m : Option ℕ). rolls_back o || (is_some m || is_some o.reading)) some ∙ or-true (rolls_back o))
 
 pub busy_reading : (os : List OpenTxn) (t : ℕ) (r : Read) (o : OpenTxn) → find t os ≡ Some o → o.reading ≡ Some r
     → list_any is_busy os ≡ true
 busy_reading os t r o at some =
-    any_found is_busy os t o at (ap (λ (m : Option Read). rolls_back o || (is_some o.waiting || is_some m)) some ∙ ap (λ (b : Bool). rolls_back o || b) (or-true (is_some o.waiting)) ∙ or-true (rolls_back o))
+    any_found is_busy os t o at
+    (ap (λ (m : Option Read). rolls_back o || (is_some o.waiting || is_some m)) some
+    ∙ ap (λ (b : Bool). rolls_back o || b) (or-true (is_some o.waiting)) ∙ or-true (rolls_back o))
 
 pub busy_rolling : (os : List OpenTxn) (t : ℕ) (o : OpenTxn) → find t os ≡ Some o → rolls_back o ≡ true
     → list_any is_busy os ≡ true
@@ -112,7 +120,8 @@ reading_bound (Some r) = omega arith
 
 pub txn_bound : (log : List Record) (stable : ℕ) (o : OpenTxn)
     → txn_rounds log stable o ≤ 3 * left_in log o.txn (bound_of o.rolling) log + 4
-txn_bound log stable o = let rolling = pick o.rolling in omega (arith, rolling, waiting_bound stable o.waiting, reading_bound o.reading)
+txn_bound log stable o = let rolling = pick o.rolling in
+    omega (arith, rolling, waiting_bound stable o.waiting, reading_bound o.reading)
   where
     pick : (x : Option Rollback) → rounds_back log o.txn x ≤ 3 * left_in log o.txn (bound_of x) log + 1
     pick (Some r) = omega arith

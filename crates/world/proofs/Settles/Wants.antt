@@ -78,7 +78,8 @@ reply_want w reply r new same some h =
     fresh (w.session == 0) (session_of reply == w.session) (logs w reply && log_is_spent w.log) a b h
   where
     fresh : (a b c : Bool) → a ≡ false → b ≡ true
-        → Refuses (first_of ((a || not b, Stale) ∷ (c, NumbersSpent) ∷ [])) (takes_memory w reply) (logs w reply) w r new
+        → Refuses (first_of ((a || not b, Stale) ∷ (c, NumbersSpent) ∷ [])) (takes_memory w reply) (logs w reply) w r
+        new
         → IsWant r
     fresh true b c e f h = absurd (true≢false e)
     fresh false false c e f h = absurd (true≢false (sym f))
@@ -95,7 +96,8 @@ serves_session dc s same some =
 connect_causes : (P : Option Refusal → Type 0) (dc : DcView) (s : ℕ) → dc.stored < s → P None → P (Some NumbersSpent)
     → P (connect_refusal dc s)
 connect_causes P dc s less none spent =
-    let greater : nat_lt dc.stored s ≡ true = grind (arith, nat_tests, less) in by (runs dc s) (nat_lt dc.stored s) (is_spent (length dc.system.log)) greater
+    let greater : nat_lt dc.stored s ≡ true = grind (arith, nat_tests, less) in
+    by (runs dc s) (nat_lt dc.stored s) (is_spent (length dc.system.log)) greater
   where
     by : (a b c : Bool) → b ≡ true → P (first_of ((not a && not b, Stale) ∷ (not a && c, NumbersSpent) ∷ []))
     by true b c e = none
@@ -140,21 +142,26 @@ stops_connect : (w : NodeView) (r : Refusal) → IsKept w
     → Stops w (reconnected w.tc) (asks.Connect (length w.tc.log + 1)) r → IsWant r
 stops_connect w r k (inl h) = inl h
 stops_connect w r k (inr (inl h)) =
-    connect_causes (λ x. LacksRoom x true r → IsWant r) w.dc (length w.tc.log + 1) (later_session w k) (λ room. inl room.1) (λ spent. inr (inl spent)) h
+    connect_causes (λ x. LacksRoom x true r → IsWant r) w.dc (length w.tc.log + 1) (later_session w k)
+    (λ room. inl room.1) (λ spent. inr (inl spent)) h
 stops_connect w r k (inr (inr (inl h))) =
-    connect_causes (λ x. StopsUnless x w.dc (asks.Connect (length w.tc.log + 1)) r h.0 → IsWant r) w.dc (length w.tc.log + 1) (later_session w k)
+    connect_causes (λ x. StopsUnless x w.dc (asks.Connect (length w.tc.log + 1)) r h.0 → IsWant r) w.dc
+    (length w.tc.log + 1) (later_session w k)
     (stopped_want w.dc (asks.Connect (length w.tc.log + 1)) r h.0) (λ spent. inr (inl spent.0)) h.1
 stops_connect w r k (inr (inr (inr h))) =
-    let reply : h.1 ≡ says.Connected (length w.tc.log + 1) = some_reply h.1 (says.Connected (length w.tc.log + 1)) h.3.0 in
+    let reply : h.1 ≡ says.Connected (length w.tc.log + 1) =
+    some_reply h.1 (says.Connected (length w.tc.log + 1)) h.3.0 in
     reply_want (reconnected w.tc) h.1 r h.2 (ap session_of reply) (omega arith) h.4
 
 stops_perform : (w : NodeView) (tc : TcView) (n : ℕ) (o : Op) (r : Refusal) → IsKept w → tc.session ≡ w.tc.session
     → w.dc.session ≡ w.tc.session → 0 < w.tc.session
     → Requests w.tc.log n o → Stops w tc (asks.Perform w.tc.session n o) r → IsWant r
 stops_perform w tc n o r k session same some requests (inl h) = inl h
-stops_perform w tc n o r k session same some requests (inr (inl h)) = no_room (session_refusal w.dc w.tc.session) true r (serves_session w.dc w.tc.session same some) h
+stops_perform w tc n o r k session same some requests (inr (inl h)) =
+    no_room (session_refusal w.dc w.tc.session) true r (serves_session w.dc w.tc.session same some) h
 stops_perform w tc n o r k session same some requests (inr (inr (inl h))) =
-    unserved_want (session_refusal w.dc w.tc.session) w.dc (asks.Perform w.tc.session n o) r h.0 (serves_session w.dc w.tc.session same some) h.1
+    unserved_want (session_refusal w.dc w.tc.session) w.dc (asks.Perform w.tc.session n o) r h.0
+    (serves_session w.dc w.tc.session same some) h.1
 stops_perform w tc n o r k session same some requests (inr (inr (inr h))) =
     let sound = sound_reply w w.tc.session n o h.1 h.0 k requests h.3 in
     reply_want tc h.1 r h.2 (ap session_of sound.reply_is ∙ sym session) (omega (arith, some, session)) h.4
@@ -163,9 +170,11 @@ stops_redo_end : (w : NodeView) (tc : TcView) (r : Refusal) → tc.session ≡ w
     → 0 < w.tc.session
     → Stops w tc (asks.RedoEnd w.tc.session) r → IsWant r
 stops_redo_end w tc r session same some (inl h) = inl h
-stops_redo_end w tc r session same some (inr (inl h)) = no_room (session_refusal w.dc w.tc.session) true r (serves_session w.dc w.tc.session same some) h
+stops_redo_end w tc r session same some (inr (inl h)) =
+    no_room (session_refusal w.dc w.tc.session) true r (serves_session w.dc w.tc.session same some) h
 stops_redo_end w tc r session same some (inr (inr (inl h))) =
-    unserved_want (session_refusal w.dc w.tc.session) w.dc (asks.RedoEnd w.tc.session) r h.0 (serves_session w.dc w.tc.session same some) h.1
+    unserved_want (session_refusal w.dc w.tc.session) w.dc (asks.RedoEnd w.tc.session) r h.0
+    (serves_session w.dc w.tc.session same some) h.1
 stops_redo_end w tc r session same some (inr (inr (inr h))) =
     let reply : h.1 ≡ says.RedoEnded w.tc.session = some_reply h.1 (says.RedoEnded w.tc.session) h.3.0 in
     reply_want tc h.1 r h.2 (ap session_of reply ∙ sym session) (omega (arith, some, session)) h.4
@@ -193,11 +202,14 @@ stops_read : (w : NodeView) (n : ℕ) (q : Span) (r : Refusal) → IsKept w → 
     → Stops w w.tc (read_request w.tc.session n q) r → IsWant r
 stops_read w n q r k serving some (inl h) = inl h
 stops_read w n q r k serving some (inr (inl h)) =
-    no_room (serve_refusal w.dc (read_request w.tc.session n q)) (is_replied_to (read_request w.tc.session n q)) r (read_allowed w n q k serving some) h
+    no_room (serve_refusal w.dc (read_request w.tc.session n q)) (is_replied_to (read_request w.tc.session n q)) r
+    (read_allowed w n q k serving some) h
 stops_read w n q r k serving some (inr (inr (inl h))) =
-    unserved_want (serve_refusal w.dc (read_request w.tc.session n q)) w.dc (read_request w.tc.session n q) r h.0 (read_allowed w n q k serving some) h.1
+    unserved_want (serve_refusal w.dc (read_request w.tc.session n q)) w.dc (read_request w.tc.session n q) r h.0
+    (read_allowed w n q k serving some) h.1
 stops_read w n q r k serving some (inr (inr (inr h))) =
-    reply_want w.tc h.1 r h.2 (read_session w.tc.session n q h.1 (read_reply w.tc.session n q w.dc h.0 h.1 h.3)) some h.4
+    reply_want w.tc h.1 r h.2 (read_session w.tc.session n q h.1 (read_reply w.tc.session n q w.dc h.0 h.1 h.3)) some
+    h.4
 
 -- each round
 want_connect : (old new mid : NodeView) (o : Out) (os : List Out) (r : Refusal) → IsKept old → AreUp old
@@ -217,7 +229,8 @@ stops_redo : (w : NodeView) (next : ℕ) (found : Option (ℕ × Op)) (r : Refus
     → Stops w (redoing w.tc (redo_place w.tc.session found) (not (is_some found))) (redo_request w.tc.session found) r
     → IsWant r
 stops_redo w next None r k same some finds h = stops_redo_end w (redoing w.tc w.tc.session true) r refl same some h
-stops_redo w next (Some x) r k same some finds h = stops_perform w (redoing w.tc x.0 false) x.0 x.1 r k refl same some finds.2 h
+stops_redo w next (Some x) r k same some finds h =
+    stops_perform w (redoing w.tc x.0 false) x.0 x.1 r k refl same some finds.2 h
 
 want_recover : (old new mid : NodeView) (o : Out) (os : List Out) (r : Refusal) (next : ℕ) (ending : Bool)
     → IsKept old → AreUp old → old.tc.phase ≡ phase.Redoing next ending → old.dc.session ≡ old.tc.session
@@ -229,13 +242,19 @@ want_recover old new mid (out.Sent i) os r next ending k up at same h d rest =
     let redo = subst P at h.1.1 in
     let Q : Request → Type 0 = HasReply in
     let bounds = redoing_phase old next ending k at in
-    let stop = stops old mid mid.tc h.0 i os r new up (subst Q (sym redo.request_is) (redo_replied old.tc.session redo.found)) h.2 rest in
+    let stop = stops old mid mid.tc h.0 i os r new up
+    (subst Q (sym redo.request_is) (redo_replied old.tc.session redo.found)) h.2 rest in
     let S : TcView → Type 0 = λ tc. Stops old tc h.0 r in
-    let R : Request → Type 0 = λ q. Stops old (redoing old.tc (redo_place old.tc.session redo.found) (not (is_some redo.found))) q r in
-    stops_redo old next redo.found r k same (omega (arith, bounds.0, bounds.1)) redo.finds (subst R redo.request_is (subst S redo.left stop))
-want_recover old new mid out.Nothing os r next ending k up at same h d rest = let no : phase.Redoing next ending ≡ phase.Running = sym at ∙ h.0.1.0 in absurd (cc)
-want_recover old new mid (out.Compensated n) os r next ending k up at same h d rest = let no : phase.Redoing next ending ≡ phase.Undoing None = sym at ∙ h.0.1.undoing in absurd (cc)
-want_recover old new mid (out.Lost t) os r next ending k up at same h d rest = let no : phase.Redoing next ending ≡ phase.Undoing None = sym at ∙ h.0.1.undoing in absurd (cc)
+    let R : Request → Type 0 =
+    λ q. Stops old (redoing old.tc (redo_place old.tc.session redo.found) (not (is_some redo.found))) q r in
+    stops_redo old next redo.found r k same (omega (arith, bounds.0, bounds.1)) redo.finds
+    (subst R redo.request_is (subst S redo.left stop))
+want_recover old new mid out.Nothing os r next ending k up at same h d rest =
+    let no : phase.Redoing next ending ≡ phase.Running = sym at ∙ h.0.1.0 in absurd (cc)
+want_recover old new mid (out.Compensated n) os r next ending k up at same h d rest =
+    let no : phase.Redoing next ending ≡ phase.Undoing None = sym at ∙ h.0.1.undoing in absurd (cc)
+want_recover old new mid (out.Lost t) os r next ending k up at same h d rest =
+    let no : phase.Redoing next ending ≡ phase.Undoing None = sym at ∙ h.0.1.undoing in absurd (cc)
 want_recover old new mid (out.Refused q) os r next ending k up at same h d rest = absurd d
 want_recover old new mid _ os r next ending k up at same h d rest = absurd h
 
@@ -251,13 +270,18 @@ want_resend old new mid (out.Sent i) os r n k up at same h d rest =
     let P : Phase → Type 0 = λ p. SendsAt old.tc p h.0 mid.tc in
     let undo : ResendsUndo old.tc n h.0 mid.tc = subst P at h.1.1 in
     let Q : Request → Type 0 = HasReply in
-    let stop = stops old mid mid.tc h.0 i os r new up (subst Q (sym undo.request_is) (perform_replied old.tc.session n undo.op)) h.2 rest in
+    let stop = stops old mid mid.tc h.0 i os r new up
+    (subst Q (sym undo.request_is) (perform_replied old.tc.session n undo.op)) h.2 rest in
     let S : TcView → Type 0 = λ tc. Stops old tc h.0 r in
     let R : Request → Type 0 = λ q. Stops old old.tc q r in
-    stops_perform old old.tc n undo.op r k refl same (undoing_some old (Some n) k at) undo.requests (subst R undo.request_is (subst S undo.unchanged stop))
-want_resend old new mid out.Nothing os r n k up at same h d rest = let no : phase.Undoing (Some n) ≡ phase.Running = sym at ∙ h.0.1.0 in absurd (cc)
-want_resend old new mid (out.Compensated m) os r n k up at same h d rest = let no : phase.Undoing (Some n) ≡ phase.Undoing None = sym at ∙ h.0.1.undoing in absurd (cc)
-want_resend old new mid (out.Lost t) os r n k up at same h d rest = let no : phase.Undoing (Some n) ≡ phase.Undoing None = sym at ∙ h.0.1.undoing in absurd (cc)
+    stops_perform old old.tc n undo.op r k refl same (undoing_some old (Some n) k at) undo.requests
+    (subst R undo.request_is (subst S undo.unchanged stop))
+want_resend old new mid out.Nothing os r n k up at same h d rest = let no : phase.Undoing (Some n) ≡ phase.Running =
+    sym at ∙ h.0.1.0 in absurd (cc)
+want_resend old new mid (out.Compensated m) os r n k up at same h d rest =
+    let no : phase.Undoing (Some n) ≡ phase.Undoing None = sym at ∙ h.0.1.undoing in absurd (cc)
+want_resend old new mid (out.Lost t) os r n k up at same h d rest =
+    let no : phase.Undoing (Some n) ≡ phase.Undoing None = sym at ∙ h.0.1.undoing in absurd (cc)
 want_resend old new mid (out.Refused q) os r n k up at same h d rest = absurd d
 want_resend old new mid _ os r n k up at same h d rest = absurd h
 
@@ -282,13 +306,16 @@ want_exchange old new mid _ os r t k serving h d rest = absurd h
 -- the first event of a round
 resends : (w : TcView) (t n : ℕ) → w.phase ≡ phase.Running → IsDue w t n → n ≤ w.stable → resend_refusal w t ≡ None
 resends w t n running due stable =
-    let within : nat_lt w.stable n ≡ false = grind (arith, nat_tests, stable) in rw (running, due.is, due.waiting, within) refl
+    let within : nat_lt w.stable n ≡ false = grind (arith, nat_tests, stable) in
+    rw (running, due.is, due.waiting, within) refl
 
 resends_read : (w : TcView) (t : ℕ) → IsTc w → w.phase ≡ phase.Running → IsReader w t → resend_refusal w t ≡ None
 resends_read w t k running reader =
     let o : OpenTxn = reader.open_txn in
-    let idle : o.waiting ≡ None = (reading_at w o reader.read k (found_own t w.open_txns o reader.is) reader.reading).idle in
-    let within : nat_lt w.stable 0 ≡ false = grind (arith, nat_tests) in rw (running, reader.is, idle, reader.reading, within) refl
+    let idle : o.waiting ≡ None =
+    (reading_at w o reader.read k (found_own t w.open_txns o reader.is) reader.reading).idle in
+    let within : nat_lt w.stable 0 ≡ false = grind (arith, nat_tests) in
+    rw (running, reader.is, idle, reader.reading, within) refl
 
 resends_any : (w : TcView) (t : ℕ) → IsTc w → w.phase ≡ phase.Running
     → ((n : ℕ) × IsDue w t n × (n ≤ w.stable)) ⊎ IsReader w t → resend_refusal w t ≡ None
@@ -301,8 +328,10 @@ undo_want w t r new running rolls h =
     let o : OpenTxn = rolls.open_txn in
     let none : waits o ≡ false = sym (ap is_waiting rolls.is) ∙ rolls.idle t in
     let logged : Bool = undo_logs (find t w.open_txns) in
-    let same : undo_refusal w t ≡ first_of ((logged && log_is_spent w.log, NumbersSpent) ∷ []) = rw (running, rolls.is, none) refl in
-    spent_want (logged && log_is_spent w.log) logged logged w r new (subst (λ x. Refuses x logged logged w r new) same h)
+    let same : undo_refusal w t ≡ first_of ((logged && log_is_spent w.log, NumbersSpent) ∷ []) =
+    rw (running, rolls.is, none) refl in
+    spent_want (logged && log_is_spent w.log) logged logged w r new
+    (subst (λ x. Refuses x logged logged w r new) same h)
 
 reconnect_want : (w : TcView) (r : Refusal) (new : TcView) → ReconnectGives w (Err r) new → IsWant r
 reconnect_want w r new (inl h) = spent_want (log_is_spent w.log) true true w r new h
@@ -318,7 +347,8 @@ recover_want : (w : NodeView) (r : Refusal) (new : NodeView) → RecoversTo w (o
     → recover_refusal w.tc ≡ None → IsWant r
 recover_want w r new (inl room) none = no_room (recover_refusal w.tc) (sends_at w.tc.phase) r none room.0
 recover_want w r new (inr refused) none =
-    let logs : Bool = undo_logs_at w.tc.phase in want_refused logs logs w.tc r new.tc (subst (λ x. Refuses x logs logs w.tc r new.tc) none refused.0)
+    let logs : Bool = undo_logs_at w.tc.phase in
+    want_refused logs logs w.tc r new.tc (subst (λ x. Refuses x logs logs w.tc r new.tc) none refused.0)
 
 -- to log needs a number
 spent_only : (w : NodeView) → w.tc.phase ≡ phase.Undoing None
@@ -327,22 +357,26 @@ spent_only w at = rw at refl
 
 lose_want : (w : NodeView) (r : Refusal) (new : NodeView) → w.tc.phase ≡ phase.Undoing None
     → RecoversTo w (out.Refused r) new → IsWant r
-lose_want w r new at (inl room) = room_spent (log_is_spent w.tc.log) (subst (λ x. LacksRoom x (sends_at w.tc.phase) r) (spent_only w at) room.0)
+lose_want w r new at (inl room) =
+    room_spent (log_is_spent w.tc.log) (subst (λ x. LacksRoom x (sends_at w.tc.phase) r) (spent_only w at) room.0)
   where
     room_spent : (b : Bool) → LacksRoom (first_of ((b, NumbersSpent) ∷ [])) (sends_at w.tc.phase) r → IsWant r
     room_spent true h = inr (inl h)
     room_spent false h = inl h.1
 lose_want w r new at (inr refused) =
     let logs : Bool = undo_logs_at w.tc.phase in
-    spent_want (log_is_spent w.tc.log) logs logs w.tc r new.tc (subst (λ x. Refuses x logs logs w.tc r new.tc) (spent_only w at) refused.0)
+    spent_want (log_is_spent w.tc.log) logs logs w.tc r new.tc
+    (subst (λ x. Refuses x logs logs w.tc r new.tc) (spent_only w at) refused.0)
 
 pub wants : (old new : NodeView) (round : Round) (outs : List Out) (r : Refusal) → IsKept old → IsNext old round
     → StopsAt old (events_of old round) outs r new → IsWant r
 wants old new round.RestartDc [] r k next (inl h) = inl h.0
-wants old new round.RestartDc [] r k next (inr h) = elim h.0.2.0 [ inl memory ↦ inl memory | inr device ↦ inr (inr device) ]
+wants old new round.RestartDc [] r k next (inr h) =
+    elim h.0.2.0 [ inl memory ↦ inl memory | inr device ↦ inr (inr device) ]
 wants old new round.RestartDc (o ∷ os) r k next h = absurd h.3
 wants old new round.RestartTc [] r k next (inl h) = inl h.0
-wants old new round.RestartTc [] r k next (inr h) = elim h.0.1 [ inl memory ↦ inl memory | inr device ↦ inr (inr device) ]
+wants old new round.RestartTc [] r k next (inr h) =
+    elim h.0.1 [ inl memory ↦ inl memory | inr device ↦ inr (inr device) ]
 wants old new round.RestartTc (o ∷ os) r k next h = absurd h.3
 wants old new round.Connect [] r k next (inl h) = inl h.0
 wants old new round.Connect [] r k next (inr h) = reconnect_want old.tc r new.tc (MatchBool-at_true _ _ next.0.tc h).0
@@ -362,7 +396,8 @@ wants old new round.Lose [] r k next (inr h) = lose_want old r new next.undoing 
 wants old new round.Lose (o ∷ os) r k next h = absurd h.3
 wants old new (round.Exchange t) [] r k next (inl h) = inl h.0
 wants old new (round.Exchange t) [] r k next (inr h) =
-    no_cause (resend_refusal old.tc t) r (resends_any old.tc t k.tc next.0.running next.1) (MatchBool-at_true _ _ next.0.up.tc h).0
+    no_cause (resend_refusal old.tc t) r (resends_any old.tc t k.tc next.0.running next.1)
+    (MatchBool-at_true _ _ next.0.up.tc h).0
 wants old new (round.Exchange t) (o ∷ os) r k next h =
     want_exchange old new h.0 o os r t k next.0 (MatchBool-at_true _ _ next.0.up.tc h.1) h.2 h.3
 wants old new (round.Undo t) [] r k next (inl h) = inl h.0

@@ -24,5 +24,6 @@ remove-requires c =
 pub returns : goal.returns
 returns c =
     rw (c.remove.ensures.items, add-one)
-    (merge_there leaf_of c.args.leaves.now.items c.args.place c.args.merge.merged.value.last c.args.merge.merged c.requires.may
+    (merge_there leaf_of c.args.leaves.now.items c.args.place c.args.merge.merged.value.last c.args.merge.merged
+    c.requires.may
     (rw add-one at c.requires.both.merged))

@@ -14,17 +14,25 @@ pub perform-requires : goal.perform-requires
 perform-requires c =
     let xs = c.args.leaves.now.items in
     let k = key_of c.args.op.now in
-    let place : c.place_in-place.result ≡ place_at (leaves_in xs) k = rw (c.as_slice.ensures.value, c.key.ensures) at c.place_in-place.ensures.place in
-    ap (λ (l : LeafView). is_in_fences l k) (c.deref_mut.ensures.value ∙ found leaf_of xs k c.place_in-place.result c.index_mut.result.now c.requires place c.index_mut.ensures.value)
+    let place : c.place_in-place.result ≡ place_at (leaves_in xs) k =
+    rw (c.as_slice.ensures.value, c.key.ensures) at c.place_in-place.ensures.place in
+    ap (λ (l : LeafView). is_in_fences l k)
+    (c.deref_mut.ensures.value
+    ∙ found leaf_of xs k c.place_in-place.result c.index_mut.result.now c.requires place c.index_mut.ensures.value)
     ∙ within_at (leaves_in xs) k c.requires
 
 pub returns-in_err-done-clause-repeated : goal.returns-in_err-done-clause-repeated
 returns-in_err-done-clause-repeated c = λ captured.
     let xs = c.args.leaves.now.items in
     let k = key_of c.args.op.now in
-    let place : c.place_in-place.result ≡ place_at (leaves_in xs) k = rw (c.as_slice.ensures.value, c.key.ensures) at c.place_in-place.ensures.place in
-    let leaf : c.deref_mut.result.now ≡ leaf_at (leaves_in xs) k = c.deref_mut.ensures.value ∙ found leaf_of xs k c.place_in-place.result c.index_mut.result.now c.requires place c.index_mut.ensures.value in
-    absurd (true≢false (sym (c.in_err-done.ensures.repeated (ap (λ (l : LeafView). captures l.ab c.args.number) leaf ∙ captured))))
+    let place : c.place_in-place.result ≡ place_at (leaves_in xs) k =
+    rw (c.as_slice.ensures.value, c.key.ensures) at c.place_in-place.ensures.place in
+    let leaf : c.deref_mut.result.now ≡ leaf_at (leaves_in xs) k =
+    c.deref_mut.ensures.value
+    ∙ found leaf_of xs k c.place_in-place.result c.index_mut.result.now c.requires place
+    c.index_mut.ensures.value in
+    absurd (true≢false (sym (c.in_err-done.ensures.repeated
+    (ap (λ (l : LeafView). captures l.ab c.args.number) leaf ∙ captured))))
 
 pub returns-in_err-done-clause-refused : goal.returns-in_err-done-clause-refused
 returns-in_err-done-clause-refused c =
@@ -39,8 +47,14 @@ pub returns-clause-done : goal.returns-clause-done
 returns-clause-done c =
     let xs = c.args.leaves.now.items in
     let k = key_of c.args.op.now in
-    let place : c.place_in-place.result ≡ place_at (leaves_in xs) k = rw (c.as_slice.ensures.value, c.key.ensures) at c.place_in-place.ensures.place in
-    let leaf : c.deref_mut.result.now ≡ leaf_at (leaves_in xs) k = c.deref_mut.ensures.value ∙ found leaf_of xs k c.place_in-place.result c.index_mut.result.now c.requires place c.index_mut.ensures.value in
+    let place : c.place_in-place.result ≡ place_at (leaves_in xs) k =
+    rw (c.as_slice.ensures.value, c.key.ensures) at c.place_in-place.ensures.place in
+    let leaf : c.deref_mut.result.now ≡ leaf_at (leaves_in xs) k =
+    c.deref_mut.ensures.value
+    ∙ found leaf_of xs k c.place_in-place.result c.index_mut.result.now c.requires place
+    c.index_mut.ensures.value in
     rw place
-    (performs_there leaf_of xs c.args.number c.args.op.now c.in_ok-done.done (with_value c.index_mut.result.now c.perform.new.self) (there_in leaf_of xs k c.requires)
-    (subst (λ (l : LeafView). Performs l c.args.number c.args.op.now c.in_ok-done.done c.perform.new.self) leaf c.in_ok-done.ensures.done))
+    (performs_there leaf_of xs c.args.number c.args.op.now c.in_ok-done.done
+    (with_value c.index_mut.result.now c.perform.new.self) (there_in leaf_of xs k c.requires)
+    (subst (λ (l : LeafView). Performs l c.args.number c.args.op.now c.in_ok-done.done c.perform.new.self) leaf
+    c.in_ok-done.ensures.done))

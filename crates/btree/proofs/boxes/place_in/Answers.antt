@@ -12,7 +12,8 @@ place : (c : goal.After-partition_point)
 place c =
     let leaves = c.args.leaves.now in
     place_parted leaf_of None leaves c.args.key.now c.partition_point.result c.requires.tile refl
-    (IsPartitionPoint-from_clause (lies_under leaf_of c.args.key.now) leaves c.partition_point.result c.partition_point.ensures.partitioned
+    (IsPartitionPoint-from_clause (lies_under leaf_of c.args.key.now) leaves c.partition_point.result
+    c.partition_point.ensures.partitioned
     (ends_rise leaf_of None leaves c.args.key.now c.requires.tile) (λ a r g called. search rules))
     c.partition_point.ensures.bound
 
@@ -20,4 +21,5 @@ pub returns-clause-place : goal.returns-clause-place
 returns-clause-place c = place c
 
 pub returns-clause-within : goal.returns-clause-within
-returns-clause-within c = rw (place c) (there_in (λ (b : Box LeafView Global). b.value) c.args.leaves.now c.args.key.now c.requires)
+returns-clause-within c =
+    rw (place c) (there_in (λ (b : Box LeafView Global). b.value) c.args.leaves.now c.args.key.now c.requires)

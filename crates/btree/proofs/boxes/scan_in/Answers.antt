@@ -19,9 +19,11 @@ returns-then-begins_past-clause-rows c =
     let xs = c.args.leaves.now in
     let p = c.place_in.result in
     let past : is_past c.leaf-item.result.value.low_fence s.hi ≡ true =
-    ap (λ (l : LeafView). is_past l.low_fence s.hi) (sym c.deref.ensures) ∙ sym c.begins_past.ensures ∙ c.if-begins_past.true in
+    ap (λ (l : LeafView). is_past l.low_fence s.hi) (sym c.deref.ensures) ∙ sym c.begins_past.ensures
+    ∙ c.if-begins_past.true in
     c.loop-leaf.invariant
-    ∙ found_stopped leaf_of s xs (rest xs p) p c.requires c.place_in.ensures.place (all_left xs p) c.loop-leaf.leaf-index c.leaf-item.result c.place_in.ensures.within
+    ∙ found_stopped leaf_of s xs (rest xs p) p c.requires c.place_in.ensures.place (all_left xs p)
+    c.loop-leaf.leaf-index c.leaf-item.result c.place_in.ensures.within
     c.loop-leaf-test.true c.leaf-item.is past
 
 pub loop-leaf-preserved : goal.loop-leaf-preserved
@@ -29,7 +31,8 @@ loop-leaf-preserved c =
     let s : Span = record { lo = c.args.low.now; hi = option_copied c.args.high; mode = Shared } in
     let ys = rest c.args.leaves.now c.place_in.result in
     rw (c.in_ok-add_rows.ensures.added, c.scan.ensures, c.deref-in-loop-leaf.ensures, c.loop-leaf.invariant, add-one)
-    (sym (found_more leaf_of s ys c.loop-leaf.leaf-index c.leaf-item.result c.leaf-item.result c.loop-leaf-test.true (ap leaf_of c.leaf-item.is)))
+    (sym (found_more leaf_of s ys c.loop-leaf.leaf-index c.leaf-item.result c.leaf-item.result c.loop-leaf-test.true
+    (ap leaf_of c.leaf-item.is)))
 
 pub returns-clause-rows : goal.returns-clause-rows
 returns-clause-rows c =
@@ -37,4 +40,5 @@ returns-clause-rows c =
     let xs = c.args.leaves.now in
     let p = c.place_in.result in
     c.loop-leaf.invariant
-    ∙ found_ended leaf_of s xs (rest xs p) p c.requires c.place_in.ensures.place (all_left xs p) c.loop-leaf.leaf-index c.loop-leaf-test.false
+    ∙ found_ended leaf_of s xs (rest xs p) p c.requires c.place_in.ensures.place (all_left xs p) c.loop-leaf.leaf-index
+    c.loop-leaf-test.false

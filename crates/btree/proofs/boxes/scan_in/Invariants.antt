@@ -7,4 +7,5 @@ use Rattle.btree.proofs.boxes.scan_in.Given as goal
 
 abbrev pub invariant-loop-leaf : goal.invariant-loop-leaf
 invariant-loop-leaf l =
-    l.rows.items ≡ found_in (record { lo = l.low; hi = option_copied l.high; mode = Shared }) (leaves_in (take l.leaf-index l.rest))
+    l.rows.items ≡ found_in (record { lo = l.low; hi = option_copied l.high; mode = Shared })
+    (leaves_in (take l.leaf-index l.rest))

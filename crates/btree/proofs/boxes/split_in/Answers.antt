@@ -31,9 +31,12 @@ returns c =
     let p = c.args.place in
     let leaf : LeafView = get_or (leaves_in xs) p first in
     let within : p < length xs = omega (arith, split_within (leaves_in xs) p c.requires.may, length-map xs leaf_of) in
-    let was : c.deref_mut.result.now ≡ leaf = c.deref_mut.ensures.value ∙ ap leaf_of c.index_mut.ensures.value ∙ sym (get_or-map leaf_of xs p c.index_mut.result.now first within) in
+    let was : c.deref_mut.result.now ≡ leaf =
+    c.deref_mut.ensures.value ∙ ap leaf_of c.index_mut.ensures.value
+    ∙ sym (get_or-map leaf_of xs p c.index_mut.result.now first within) in
     let cut : c.drop_from.new.self ≡ lower_of leaf (middle leaf) c.args.split.right.value.last =
     c.drop_from.ensures ∙ rw (was, c.requires.half.cut, c.last.ensures, c.deref.ensures) refl in
     rw (c.in-Ok.ensures.items, add-one)
-    (split_there leaf_of xs p c.args.split.right.value.id c.args.split.right.value.last (with_value c.index_mut.result.now c.drop_from.new.self) c.args.split.right leaf
+    (split_there leaf_of xs p c.args.split.right.value.id c.args.split.right.value.last
+    (with_value c.index_mut.result.now c.drop_from.new.self) c.args.split.right leaf
     c.requires.may refl cut c.requires.half.right)

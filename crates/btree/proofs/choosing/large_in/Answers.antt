@@ -16,7 +16,8 @@ loop-place-init c = from_start (first_large (leaves_in c.args.leaves.now))
 asked : (c : After-is_large)
     → is_large (get_or (leaves_in c.args.leaves.now) c.loop-place.place first) ≡ c.is_large.result
 asked c =
-    ap is_large (in_box c.args.leaves.now c.loop-place.place c.index-leaves-place.result c.loop-place-test.true c.index-leaves-place.is ∙ sym c.deref.ensures)
+    ap is_large (in_box c.args.leaves.now c.loop-place.place c.index-leaves-place.result c.loop-place-test.true
+    c.index-leaves-place.is ∙ sym c.deref.ensures)
     ∙ ap (λ rows. is_many (length rows)) (sym c.rows.ensures)
     ∙ sym c.is_large.ensures
 

@@ -13,7 +13,8 @@ overflow_add-place g c = let fits = c.may_merge.ensures.next c.if-not-may_merge.
 
 pub leaf-right-requires : goal.leaf-right-requires
 leaf-right-requires g c =
-    merge_within (g.L.LeafSet.leaves c.args.leaves.now) c.args.place (sym c.may_merge.ensures.may ∙ c.if-not-may_merge.false)
+    merge_within (g.L.LeafSet.leaves c.args.leaves.now) c.args.place
+    (sym c.may_merge.ensures.may ∙ c.if-not-may_merge.false)
 
 pub join-requires : goal.join-requires
 join-requires g c =

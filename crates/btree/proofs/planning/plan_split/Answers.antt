@@ -9,13 +9,16 @@ use Rattle.btree.proofs.Places.{split_within, split_here}
 use Rattle.btree.proofs.planning.plan_split.Goals as goal
 
 pub leaf-leaf-requires : goal.leaf-leaf-requires
-leaf-leaf-requires g c = split_within (g.L.LeafSet.leaves c.args.leaves.now) c.args.place (sym c.may_split.ensures ∙ c.if-not-may_split.false)
+leaf-leaf-requires g c =
+    split_within (g.L.LeafSet.leaves c.args.leaves.now) c.args.place
+    (sym c.may_split.ensures ∙ c.if-not-may_split.false)
 
 pub bounds-rows-rows : goal.bounds-rows-rows
 bounds-rows-rows g c =
     let leaves = g.L.LeafSet.leaves c.args.leaves.now in
     let may = sym c.may_split.ensures ∙ c.if-not-may_split.false in
-    let two = leb-true 2 (count (get_or leaves c.args.place first)) (sym (split_here leaves c.args.place (split_within leaves c.args.place may)) ∙ may) in
+    let two = leb-true 2 (count (get_or leaves c.args.place first))
+    (sym (split_here leaves c.args.place (split_within leaves c.args.place may)) ∙ may) in
     rw (c.rows.ensures, c.rows-2.ensures, c.leaf-leaf.ensures) (omega (arith, two))
 
 -- the key of a row that is there
@@ -29,12 +32,15 @@ returns-clause-half g c =
     let leaves = g.L.LeafSet.leaves c.args.leaves.now in
     let leaf : LeafView = get_or leaves c.args.place first in
     let may = sym c.may_split.ensures ∙ c.if-not-may_split.false in
-    let two = leb-true 2 (count leaf) (sym (split_here leaves c.args.place (split_within leaves c.args.place may)) ∙ may) in
+    let two = leb-true 2 (count leaf)
+    (sym (split_here leaves c.args.place (split_within leaves c.args.place may)) ∙ may) in
     let cut : c.copied-cut.result ≡ middle leaf =
     c.copied-cut.ensures
-    ∙ rw (c.rows.ensures, c.rows-2.ensures, c.leaf-leaf.ensures) (key_there (map.entries leaf.rows) (count leaf / 2) c.index-rows-rows.result (omega (arith, two))) in
+    ∙ rw (c.rows.ensures, c.rows-2.ensures, c.leaf-leaf.ensures)
+    (key_there (map.entries leaf.rows) (count leaf / 2) c.index-rows-rows.result (omega (arith, two))) in
     record {
       left = c.id.ensures ∙ ap (λ (l : LeafView). l.id) c.leaf-leaf.ensures;
       cut = cut;
-      right = c.in_ok-right.ensures.ok ∙ c.in_ok-upper.ensures.upper ∙ (λ i. upper_of (c.leaf-leaf.ensures i) (cut i) c.args.id c.args.number);
+      right = c.in_ok-right.ensures.ok ∙ c.in_ok-upper.ensures.upper
+          ∙ (λ i. upper_of (c.leaf-leaf.ensures i) (cut i) c.args.id c.args.number);
     }

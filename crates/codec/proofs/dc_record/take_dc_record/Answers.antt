@@ -18,7 +18,8 @@ returns c =
       found = frames.found DcRecord dc_record_bytes IsDcRecord dc_record_at dc_record_reads any_length at left taken
           (IsBytes-drop at c.args.bytes.now (λ i. omega (arith, c.type_inv.bytes i))) exact;
       only = λ r rest fits e. exact
-          ∙ frames.only_any DcRecord dc_record_bytes IsDcRecord dc_record_at dc_record_reads at left r rest fits (dc_record_not_empty r)
+          ∙ frames.only_any DcRecord dc_record_bytes IsDcRecord dc_record_at dc_record_reads at left r rest fits
+          (dc_record_not_empty r)
           (omega (arith, length-drop at c.args.bytes.now, c.take_framed.ensures.fits)) e;
       short = frames.short DcRecord dc_record_at any_length at left taken exact;
       bad = frames.bad DcRecord dc_record_at any_length at left taken exact;

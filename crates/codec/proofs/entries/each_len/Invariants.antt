@@ -6,4 +6,5 @@ use Rattle.codec.proofs.ItemLoops.{LenSoFar}
 use Rattle.codec.proofs.entries.each_len.Given as goal
 
 abbrev pub invariant-loop-at : goal.invariant-loop-at
-invariant-loop-at l = LenSoFar Entry entry_bytes IsEntry l.entries l.at l.len × AllByRecursion HasEntryNumber (drop l.at l.entries)
+invariant-loop-at l = LenSoFar Entry entry_bytes IsEntry l.entries l.at l.len
+    × AllByRecursion HasEntryNumber (drop l.at l.entries)

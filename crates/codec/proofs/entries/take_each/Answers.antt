@@ -3,11 +3,16 @@ use Rattle.codec.proofs.Items.{goes_on, ends, is_done}
 use Rattle.codec.proofs.entries.take_each.Goals as goal
 
 pub returns-in_default : goal.returns-in_default
-returns-in_default c = ends entry_at c.loop.entries c.args.count c.loop.counter c.loop.rest.now (items_at entry_at c.args.count c.args.bytes.now) c.loop-test.true c.in_default.ensures c.loop.invariant
+returns-in_default c = ends entry_at c.loop.entries c.args.count c.loop.counter c.loop.rest.now
+    (items_at entry_at c.args.count c.args.bytes.now) c.loop-test.true c.in_default.ensures c.loop.invariant
 
 pub loop-preserved : goal.loop-preserved
 loop-preserved c =
-    rw c.in-Ok.ensures.pushed (goes_on entry_at c.loop.entries c.args.count c.loop.counter c.loop.rest.now c.in-Some.part.0 c.in-Some.part.1.now (items_at entry_at c.args.count c.args.bytes.now) c.loop-test.true c.in-Some.ensures c.loop.invariant)
+    rw c.in-Ok.ensures.pushed
+    (goes_on entry_at c.loop.entries c.args.count c.loop.counter c.loop.rest.now c.in-Some.part.0
+    c.in-Some.part.1.now (items_at entry_at c.args.count c.args.bytes.now) c.loop-test.true c.in-Some.ensures
+    c.loop.invariant)
 
 pub returns : goal.returns
-returns c = is_done entry_at c.loop.entries c.args.count c.loop.counter c.loop.rest.now (items_at entry_at c.args.count c.args.bytes.now) c.loop-test.false c.loop.invariant
+returns c = is_done entry_at c.loop.entries c.args.count c.loop.counter c.loop.rest.now
+    (items_at entry_at c.args.count c.args.bytes.now) c.loop-test.false c.loop.invariant

@@ -18,11 +18,16 @@ returns c =
     let value = c.take_page.ensures.value in
     record {
       found = on_ok result exact (λ t. IfTaken t (IsWhole LeafImage image_bytes IsImage bytes)) value
-          (λ t e. whole_found LeafImage image_bytes IsImage image_at image_reads bytes t (λ i. omega (arith, c.type_inv.bytes i)) e);
-      only = on_ok result exact (λ t. (image : LeafImage) → IsImage image → bytes ≡ image_bytes image → t ≡ took.Record image (length bytes)) value
+          (λ t e. whole_found LeafImage image_bytes IsImage image_at image_reads bytes t
+          (λ i. omega (arith, c.type_inv.bytes i)) e);
+      only = on_ok result exact
+          (λ t. (image : LeafImage) → IsImage image → bytes ≡ image_bytes image → t ≡ took.Record image (length bytes))
+          value
           (λ t e image fits is. e ∙ whole_only LeafImage image_bytes IsImage image_at image_reads bytes image fits is);
-      never_short = on_ok result exact (λ t. t ≡ took.Short → ⊥) value (λ t e. whole_never_short LeafImage bytes (all_of image_at bytes) t e);
-      bad = on_ok result exact (λ t. IfBad t (λ place. place ≡ 0)) value (λ t e. whole_bad LeafImage bytes (all_of image_at bytes) t e);
+      never_short = on_ok result exact (λ t. t ≡ took.Short → ⊥) value
+          (λ t e. whole_never_short LeafImage bytes (all_of image_at bytes) t e);
+      bad = on_ok result exact (λ t. IfBad t (λ place. place ≡ 0)) value
+          (λ t e. whole_bad LeafImage bytes (all_of image_at bytes) t e);
       cause = c.take_page.ensures.cause;
       memory = c.take_page.ensures.memory;
     }

@@ -9,5 +9,6 @@ use Rattle.codec.proofs.record.record_spelling_law.Goals as goal
 pub returns : goal.returns
 returns c = record {
   one = one_frame Record record_bytes IsRecord record_at record_reads 181 record_length (omega arith);
-  all = one_list Record record_bytes IsRecord record_at record_reads 181 (omega arith) IsRecord (λ r fits. fits) record_length;
+  all = one_list Record record_bytes IsRecord record_at record_reads 181 (omega arith) IsRecord (λ r fits. fits)
+      record_length;
 }

@@ -12,8 +12,11 @@ returns c =
     let at = c.args.at in
     let left = drop c.args.at c.args.bytes.now in
     record {
-      found = frames.found Record record_bytes IsRecord record_at record_reads 181 at left c.in-Ok.taken (IsBytes-drop at c.args.bytes.now (λ i. omega (arith, c.type_inv.bytes i))) c.in-Ok.ensures.value;
-      only = λ r rest fits e. c.in-Ok.ensures.value ∙ frames.only Record record_bytes IsRecord record_at record_reads 181 at left r rest fits (record_length r fits).0 (record_length r fits).1 (omega arith) e;
+      found = frames.found Record record_bytes IsRecord record_at record_reads 181 at left c.in-Ok.taken
+          (IsBytes-drop at c.args.bytes.now (λ i. omega (arith, c.type_inv.bytes i))) c.in-Ok.ensures.value;
+      only = λ r rest fits e. c.in-Ok.ensures.value
+          ∙ frames.only Record record_bytes IsRecord record_at record_reads 181 at left r rest fits
+          (record_length r fits).0 (record_length r fits).1 (omega arith) e;
       short = frames.short Record record_at 181 at left c.in-Ok.taken c.in-Ok.ensures.value;
       bad = frames.bad Record record_at 181 at left c.in-Ok.taken c.in-Ok.ensures.value;
     }

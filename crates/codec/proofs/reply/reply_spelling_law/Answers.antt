@@ -9,4 +9,5 @@ use Rattle.codec.proofs.reply.reply_spelling_law.Goals as goal
 
 pub returns : goal.returns
 returns c = λ a b x y p q small_a small_b e.
-    one_frame_of Reply reply_bytes IsReply reply_at reply_reads any_length (omega arith) a b x y p q (reply_not_empty a, omega arith) (reply_not_empty b, omega arith) e
+    one_frame_of Reply reply_bytes IsReply reply_at reply_reads any_length (omega arith) a b x y p q
+    (reply_not_empty a, omega arith) (reply_not_empty b, omega arith) e

@@ -13,8 +13,11 @@ returns c =
     let at = c.args.at in
     let left = drop c.args.at c.args.bytes.now in
     record {
-      found = frames.found Request request_bytes IsRequest request_at request_reads any_length at left c.in-Ok.taken (IsBytes-drop at c.args.bytes.now (λ i. omega (arith, c.type_inv.bytes i))) c.in-Ok.ensures.value;
-      only = λ r rest fits e. c.in-Ok.ensures.value ∙ frames.only Request request_bytes IsRequest request_at request_reads any_length at left r rest fits (request_fits r fits).0 (request_fits r fits).1 (omega arith) e;
+      found = frames.found Request request_bytes IsRequest request_at request_reads any_length at left c.in-Ok.taken
+          (IsBytes-drop at c.args.bytes.now (λ i. omega (arith, c.type_inv.bytes i))) c.in-Ok.ensures.value;
+      only = λ r rest fits e. c.in-Ok.ensures.value
+          ∙ frames.only Request request_bytes IsRequest request_at request_reads any_length at left r rest fits
+          (request_fits r fits).0 (request_fits r fits).1 (omega arith) e;
       short = frames.short Request request_at any_length at left c.in-Ok.taken c.in-Ok.ensures.value;
       bad = frames.bad Request request_at any_length at left c.in-Ok.taken c.in-Ok.ensures.value;
     }

@@ -4,4 +4,5 @@ use Rattle.codec.proofs.Items.{with_front}
 use Rattle.codec.proofs.rows.take_each.Given as goal
 
 abbrev pub invariant-loop : goal.invariant-loop
-invariant-loop l = with_front l.rows.items (items_at row_at (l.count - l.counter) l.rest) ≡ items_at row_at l.count l.bytes
+invariant-loop l = with_front l.rows.items (items_at row_at (l.count - l.counter) l.rest)
+    ≡ items_at row_at l.count l.bytes

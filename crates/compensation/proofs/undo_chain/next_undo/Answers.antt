@@ -4,12 +4,14 @@ use Rattle.compensation.proofs.undo_chain.next_undo.Goals as goal
 
 pub returns-then-undoes-above : goal.returns-then-undoes-above
 returns-then-undoes-above g c =
-    undone c.args.log.now.records c.args.chain c.requires c.left_to_undo-undoes.result c.left_to_undo-undoes.ensures c.args.above c.if-undoes-above.true
+    undone c.args.log.now.records c.args.chain c.requires c.left_to_undo-undoes.result c.left_to_undo-undoes.ensures
+    c.args.above c.if-undoes-above.true
 
 pub undoing-next-requires : goal.undoing-next-requires
 undoing-next-requires g c =
     let some : 0 < c.left_to_undo-undoes.result = omega (arith, c.if-undoes-above.false) in
-    undoable c.args.log.now.records c.args.chain c.requires c.left_to_undo-undoes.result c.left_to_undo-undoes.ensures some
+    undoable c.args.log.now.records c.args.chain c.requires c.left_to_undo-undoes.result c.left_to_undo-undoes.ensures
+    some
 
 pub returns : goal.returns
 returns g c =
@@ -20,6 +22,8 @@ returns g c =
       inverse = c.undoing-next.result.1;
       is = refl;
       above_bound = omega (arith, c.if-undoes-above.false);
-      fits = fits_comp c.args.log.now.records c.args.chain c.requires c.left_to_undo-undoes.result c.left_to_undo-undoes.ensures
-          c.undoing-next.result.0 c.undoing-next.result.1 some c.undoing-next.ensures.next c.undoing-next.ensures.inverse;
+      fits = fits_comp c.args.log.now.records c.args.chain c.requires c.left_to_undo-undoes.result
+          c.left_to_undo-undoes.ensures
+          c.undoing-next.result.0 c.undoing-next.result.1 some c.undoing-next.ensures.next
+          c.undoing-next.ensures.inverse;
     }

@@ -10,7 +10,8 @@ returns-then-not-is_on c =
     let entries = c.args.entries.now in
     let entry = c.entry-entry.result in
     let there : slice_get entries c.loop-place.place ≡ Some entry =
-    slice_get_read entries (length entries) c.loop-place.place entry refl (omega (arith, c.loop-place-test.true, c.len-place-end.ensures))
+    slice_get_read entries (length entries) c.loop-place.place entry refl
+    (omega (arith, c.loop-place-test.true, c.len-place-end.ensures))
     c.entry-entry.ensures in (
       λ wrong. absurd (cc),
       λ all.
@@ -24,12 +25,14 @@ loop-place-preserved c =
     let entries = c.args.entries.now in
     let entry = c.entry-entry.result in
     all_more (λ (e : Entry). e.number ≡ c.args.number → e.key ≡ c.args.key.now) entries c.loop-place.place entry
-    (slice_get_read entries (length entries) c.loop-place.place entry refl (omega (arith, c.loop-place-test.true, c.len-place-end.ensures))
+    (slice_get_read entries (length entries) c.loop-place.place entry refl
+    (omega (arith, c.loop-place-test.true, c.len-place-end.ensures))
     c.entry-entry.ensures) c.loop-place.invariant (c.is_on.ensures.0 c.if-not-is_on.false)
 
 pub returns : goal.returns
 returns c =
     let IsOn : Entry → Type 0 = λ e. e.number ≡ c.args.number → e.key ≡ c.args.key.now in (
-      λ _. all_through IsOn c.args.entries.now c.loop-place.place (omega (arith, c.loop-place-test.false, c.len-place-end.ensures)) c.loop-place.invariant,
+      λ _. all_through IsOn c.args.entries.now c.loop-place.place
+          (omega (arith, c.loop-place-test.false, c.len-place-end.ensures)) c.loop-place.invariant,
       λ all. refl,
     )

@@ -7,4 +7,8 @@ pub loop-place-init : goal.loop-place-init
 loop-place-init c = λ n none h. omega (arith, (waits_number (reverse c.args.log.now) c.args.txn n h).positive)
 
 pub returns : goal.returns
-returns c = (λ _. idle_from (reverse c.args.log.now) c.args.txn (λ n within. c.loop-place.invariant n (omega (arith, length-reverse c.args.log.now))), λ _. refl)
+returns c = (
+  λ _. idle_from (reverse c.args.log.now) c.args.txn
+      (λ n within. c.loop-place.invariant n (omega (arith, length-reverse c.args.log.now))),
+  λ _. refl,
+)

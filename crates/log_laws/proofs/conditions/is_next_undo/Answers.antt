@@ -6,7 +6,8 @@ use Rattle.log_laws.proofs.conditions.is_next_undo.Goals as goal
 
 pub returns-then-number-ne0 : goal.returns-then-number-ne0
 returns-then-number-ne0 c =
-    is_the_next (Stands (reverse c.args.log.now) c.args.txn) c.next_undo.result c.args.number c.if-number-ne0.true c.next_undo.ensures
+    is_the_next (Stands (reverse c.args.log.now) c.args.txn) c.next_undo.result c.args.number c.if-number-ne0.true
+    c.next_undo.ensures
 
 pub returns-else-number-ne0 : goal.returns-else-number-ne0
 returns-else-number-ne0 c =

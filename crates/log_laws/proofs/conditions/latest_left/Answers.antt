@@ -13,11 +13,21 @@ loop-place-init c =
 
 pub returns : goal.returns
 returns c =
-    latest_all (λ n. Stands (reverse c.args.log.now) c.args.txn n × (n < c.args.below)) c.loop-place.place c.loop-place.latest
-    (λ n h. omega (arith, (stands_number (reverse c.args.log.now) c.args.txn n h.0).bounded, length-reverse c.args.log.now)) c.loop-place.invariant
+    latest_all (λ n. Stands (reverse c.args.log.now) c.args.txn n × (n < c.args.below)) c.loop-place.place
+    c.loop-place.latest
+    (λ n h. omega (
+      arith,
+      (stands_number (reverse c.args.log.now) c.args.txn n h.0).bounded,
+      length-reverse c.args.log.now,
+    )) c.loop-place.invariant
 
 pub loop-place-preserved : goal.loop-place-preserved
 loop-place-preserved c =
-    latest_more (λ n. Stands (reverse c.args.log.now) c.args.txn n × (n < c.args.below)) c.loop-place.place c.loop-place.latest c.if-is_left.latest
+    latest_more (λ n. Stands (reverse c.args.log.now) c.args.txn n × (n < c.args.below)) c.loop-place.place
+    c.loop-place.latest c.if-is_left.latest
     c.is_left.result c.loop-place.invariant c.is_left.ensures
-    (elim c.if-is_left.branch [ then-is_left w ↦ inl (w.if-is_left.true, w.latest-is) | else-is_left w ↦ inr (w.if-is_left.false, w.latest-is) ])
+    (elim c.if-is_left.branch [
+      | then-is_left w ↦ inl (w.if-is_left.true, w.latest-is)
+      | else-is_left w ↦
+          inr (w.if-is_left.false, w.latest-is)
+    ])

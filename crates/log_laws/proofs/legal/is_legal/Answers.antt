@@ -8,5 +8,6 @@ returns-then-not-fits c = (
   λ f. absurd (true≢false (sym f)),
   λ legal. absurd (true≢false (sym (c.fits.ensures.1
       (subst (Fits (reverse (take c.loop-place.place c.args.log.now))) (sym c.index-log-place.is)
-      (fits_taken c.args.log.now c.loop-place.place c.index-log-place.result c.loop-place-test.true legal))) ∙ c.if-not-fits.true)),
+      (fits_taken c.args.log.now c.loop-place.place c.index-log-place.result c.loop-place-test.true legal)))
+      ∙ c.if-not-fits.true)),
 )

@@ -1,6 +1,6 @@
 //! The plain slow model of a node's clients: what each call answers and what each client is told. It has one list of
-//! operations with the undone ones crossed out, and neither messages nor anything to undo. Of a crash of the transaction
-//! component it knows what the log that was kept says.
+//! operations with the undone ones crossed out, and neither messages nor anything to undo. Of a crash of the
+//! transaction component it knows what the log that was kept says.
 use super::holds::Holds;
 use super::lines::Lines;
 use super::open::{Doing, Open};

@@ -5,4 +5,5 @@ use Rattle.page.proofs.rows.drop_rows_from.Goals as goal
 pub returns : goal.returns
 returns c =
     c.truncate.ensures.items
-    ∙ (parts_of c.args.key.now c.args.rows.now.items c.start_of-start.result c.requires (rw c.as_slice.ensures.value at c.start_of-start.ensures.start)).under
+    ∙ (parts_of c.args.key.now c.args.rows.now.items c.start_of-start.result c.requires
+    (rw c.as_slice.ensures.value at c.start_of-start.ensures.start)).under

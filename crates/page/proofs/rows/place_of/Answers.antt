@@ -8,4 +8,5 @@ use Rattle.page.proofs.rows.place_of.Goals as goal
 pub returns-clause-place : goal.returns-clause-place
 returns-clause-place c =
     rows_searched c.args.rows.now c.requires c.args.key.now c.binary_search_by.result c.binary_search_by.ensures.bound
-    (c.binary_search_by.ensures.position (λ (row : Row). key_cmp row.0 c.args.key.now) (always_returns_same _ _ _ (λ a r g called. search rules)))
+    (c.binary_search_by.ensures.position (λ (row : Row). key_cmp row.0 c.args.key.now)
+    (always_returns_same _ _ _ (λ a r g called. search rules)))

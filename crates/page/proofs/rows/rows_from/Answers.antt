@@ -8,7 +8,9 @@ rest rows p = take_all (length rows - p) (drop p rows) (omega (arith, length-dro
 
 pub returns-clause-rows : goal.returns-clause-rows
 returns-clause-rows c =
-    rest c.args.rows.now c.start_of.result ∙ (parts_of c.args.key.now c.args.rows.now c.start_of.result c.requires c.start_of.ensures.start).from
+    rest c.args.rows.now c.start_of.result
+    ∙ (parts_of c.args.key.now c.args.rows.now c.start_of.result c.requires c.start_of.ensures.start).from
 
 pub returns-clause-ordered : goal.returns-clause-ordered
-returns-clause-ordered c = rw (rest c.args.rows.now c.start_of.result) (ordered_drop c.args.rows.now c.start_of.result c.requires)
+returns-clause-ordered c =
+    rw (rest c.args.rows.now c.start_of.result) (ordered_drop c.args.rows.now c.start_of.result c.requires)

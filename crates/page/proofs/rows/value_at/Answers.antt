@@ -5,7 +5,9 @@ use Rattle.page.proofs.rows.value_at.Goals as goal
 pub returns-in-Ok : goal.returns-in-Ok
 returns-in-Ok c =
     ap Some c.copied.ensures
-    ∙ sym (found c.args.rows.now c.requires.ordered c.args.key.now c.in-Ok.at c.index-rows-at.result (rw c.in-Ok.is at c.requires.place))
+    ∙ sym (found c.args.rows.now c.requires.ordered c.args.key.now c.in-Ok.at c.index-rows-at.result
+    (rw c.in-Ok.is at c.requires.place))
 
 pub returns-in-Err : goal.returns-in-Err
-returns-in-Err c = sym (absent c.args.rows.now c.requires.ordered c.args.key.now c.in-Err.field-0 (rw c.in-Err.is at c.requires.place))
+returns-in-Err c = sym (absent c.args.rows.now c.requires.ordered c.args.key.now c.in-Err.field-0
+    (rw c.in-Err.is at c.requires.place))

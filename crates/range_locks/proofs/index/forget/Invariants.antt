@@ -8,4 +8,5 @@ use Rattle.range_locks.specs.Index.{is_entry_of}
 use Rattle.range_locks.proofs.index.forget.Given as goal
 
 abbrev pub invariant-loop-lock : goal.invariant-loop-lock
-invariant-loop-lock l = (e : Entry) → contains entry_cmp l.index e ≡ (contains entry_cmp l.fn.index e && not (list_any (is_entry_of l.txn e) (take l.lock-index l.locks)))
+invariant-loop-lock l = (e : Entry) → contains entry_cmp l.index e
+    ≡ (contains entry_cmp l.fn.index e && not (list_any (is_entry_of l.txn e) (take l.lock-index l.locks)))

@@ -6,4 +6,7 @@ use Rattle.range_locks.specs.Index.{txn_of, stops}
 use Rattle.range_locks.proofs.index.search.Given as goal
 
 abbrev pub invariant-loop-entry : goal.invariant-loop-entry
-invariant-loop-entry l = least_of txn_of (stops l.txn l.lock) l.least l.entry-iterator ≡ least_of txn_of (stops l.txn l.lock) l.fn.before (filter (range_contains entry_cmp l.fn.from l.fn.to) l.fn.index.keys)
+invariant-loop-entry l =
+    least_of txn_of (stops l.txn l.lock) l.least l.entry-iterator
+    ≡ least_of txn_of (stops l.txn l.lock) l.fn.before
+    (filter (range_contains entry_cmp l.fn.from l.fn.to) l.fn.index.keys)

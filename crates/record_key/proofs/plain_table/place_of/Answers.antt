@@ -35,9 +35,11 @@ returns-in-Greater-clause-gap c =
     let row = c.index-rows-place.result in
     belongs_from (order k) c.args.rows.now c.loop-place.place row (omega arith)
     (passed k c.args.rows.now c.loop-place.place row c.loop-place.invariant)
-    (λ _. turned k _ _ (ap (λ (r : Row). key_cmp r.0 k) (sym c.index-rows-place.is) ∙ sym c.cmp.ensures ∙ c.in-Greater.is))
+    (λ _. turned k _ _ (ap (λ (r : Row). key_cmp r.0 k) (sym c.index-rows-place.is) ∙ sym c.cmp.ensures
+    ∙ c.in-Greater.is))
 
 pub returns-clause-gap : goal.returns-clause-gap
 returns-clause-gap c =
     belongs_from (order c.args.key.now) c.args.rows.now _ ([], []) (omega arith)
-    (λ j lt. passed c.args.key.now c.args.rows.now c.loop-place.place ([], []) c.loop-place.invariant j (omega arith)) (λ lt. absurd (omega arith))
+    (λ j lt. passed c.args.key.now c.args.rows.now c.loop-place.place ([], []) c.loop-place.invariant j (omega arith))
+    (λ lt. absurd (omega arith))

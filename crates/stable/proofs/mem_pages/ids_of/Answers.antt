@@ -15,4 +15,6 @@ pub returns-clause-rising : goal.returns-clause-rising
 returns-clause-rising c =
     let es = c.args.pages.now.entries in
     let read : IfOk c.collect.result (λ ids. ids.items ≡ keys_of es) = search rules in
-    IfOk-map c.collect.result _ _ (λ ids e. subst IsStrictlyIncreasing (sym e) (IsStrictlyIncreasing-from_sorted (keys_of es) c.keys.ensures.ordered)) read
+    IfOk-map c.collect.result
+    _ _ (λ ids e. subst IsStrictlyIncreasing (sym e)
+    (IsStrictlyIncreasing-from_sorted (keys_of es) c.keys.ensures.ordered)) read

@@ -16,23 +16,27 @@ loop-end-init g c =
     let start = c.first_open-end.result in
     let P : List (ℕ × Bytes) → Type 0 = λ keys. AreNoted c.args.log.now.records start keys noted in
     subst P (sym c.new-keys.ensures.items)
-    (noted_none c.args.log.now.records start noted c.len-records.ensures.legal (omega (arith, c.first_open-end.ensures.within, c.len-records.ensures.count)) c.first_open-end.ensures.first)
+    (noted_none c.args.log.now.records start noted c.len-records.ensures.legal
+    (omega (arith, c.first_open-end.ensures.within, c.len-records.ensures.count)) c.first_open-end.ensures.first)
 
 pub unreachable-requires : goal.unreachable-requires
 unreachable-requires g c =
-    let there : c.loop-end.end < length c.args.log.now.records = omega (arith, c.loop-end-test.true, c.len-records.ensures.count) in
+    let there : c.loop-end.end < length c.args.log.now.records =
+    omega (arith, c.loop-end-test.true, c.len-records.ensures.count) in
     none_past c.args.log.now.records c.loop-end.end there (sym c.record.ensures ∙ c.in-None.is)
 
 pub loop-end-preserved : goal.loop-end-preserved
 loop-end-preserved g c =
-    noted_more c.args.log.now.records c.loop-end.end c.in-Some.found c.loop-end.keys.items c.note_key.new.keys.items (get nat_cmp c.args.open_txns.now)
+    noted_more c.args.log.now.records c.loop-end.end c.in-Some.found c.loop-end.keys.items c.note_key.new.keys.items
+    (get nat_cmp c.args.open_txns.now)
     (sym c.record.ensures ∙ c.in-Some.is) c.in_ok-note_key-in-Some.ensures c.loop-end.invariant
 
 pub returns : goal.returns
 returns g c t =
     let log = c.args.log.now.records in
     let noted = get nat_cmp c.args.open_txns.now in
-    let e : c.loop-end.end ≡ length log = omega (arith, c.loop-end-test.false, c.len-records.ensures.count, c.loop-end.auto.end-end) in
+    let e : c.loop-end.end ≡ length log =
+    omega (arith, c.loop-end-test.false, c.len-records.ensures.count, c.loop-end.auto.end-end) in
     let P : ℕ → Type 0 = λ n. AreNoted log n c.loop-end.keys.items noted in
     let Q : List Record → Type 0 = λ p. listed_spans c.loop-end.keys.items t ≡ spans_if (noted t) (op_spans p t) in
     subst Q (part_whole log) (subst P e c.loop-end.invariant t)

@@ -4,7 +4,8 @@ use super::refusing::{
 };
 use super::*;
 
-/// A session is past its redo. Where the device fails at its force, a second one is begun: the first one's record stays.
+/// A session is past its redo. Where the device fails at its force, a second one is begun: the first one's record
+/// stays.
 fn session_on(tc: &mut Tc<MemLog>) -> Result<u64, Fail> {
     let session = match reconnect(tc) {
         Err(Refusal::Device) => reconnect(tc)?,

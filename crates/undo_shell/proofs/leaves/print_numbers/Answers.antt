@@ -18,8 +18,10 @@ returns-in_err-print_next g c =
     let es = drop 1 c.args.entries.now in
     let within : c.loop-at.at - 1 < length es =
     omega (arith, c.loop-at-test.true, c.len-at-end.ensures, c.loop-at.invariant.0, length-drop 1 c.args.entries.now) in
-    prints_err _ _ _ c.from_residual.result c.from_residual.ensures.0 (cut_at_item next_number _ _ _ es (c.loop-at.at - 1) c.entry.result c.entry.result within
-    (behind c.args.entries.now c.loop-at.at c.entry.result c.loop-at.invariant.0 c.entry.ensures) c.loop-at.invariant.1 c.in_err-print_next.ensures)
+    prints_err _ _ _ c.from_residual.result c.from_residual.ensures.0
+    (cut_at_item next_number _ _ _ es (c.loop-at.at - 1) c.entry.result c.entry.result within
+    (behind c.args.entries.now c.loop-at.at c.entry.result c.loop-at.invariant.0 c.entry.ensures) c.loop-at.invariant.1
+    c.in_err-print_next.ensures)
 
 pub loop-at-preserved : goal.loop-at-preserved
 loop-at-preserved g c =
@@ -28,10 +30,13 @@ loop-at-preserved g c =
     let within : i < length es =
     omega (arith, c.loop-at-test.true, c.len-at-end.ensures, c.loop-at.invariant.0, length-drop 1 c.args.entries.now) in
     let next : i + 1 ≡ c.loop-at.at + 1 - 1 = omega (arith, c.loop-at.invariant.0) in
-    let Written : ℕ → Type 0 = λ n. Appends (g.W.Write.contents c.args.writer.now) (g.W.Write.contents c.print_next.new.writer) (flat_map next_number (take n es)) in (
+    let Written : ℕ → Type 0 =
+    λ n. Appends (g.W.Write.contents c.args.writer.now) (g.W.Write.contents c.print_next.new.writer)
+    (flat_map next_number (take n es)) in (
       omega arith,
       subst Written next (item_more next_number _ _ _ es i c.entry.result c.entry.result within
-          (behind c.args.entries.now c.loop-at.at c.entry.result c.loop-at.invariant.0 c.entry.ensures) c.loop-at.invariant.1
+          (behind c.args.entries.now c.loop-at.at c.entry.result c.loop-at.invariant.0 c.entry.ensures)
+          c.loop-at.invariant.1
           c.in_ok-print_next.ensures),
     )
 

@@ -5,7 +5,8 @@ use Rattle.undo_shell.proofs.leaves.print_rest.Goals as goal
 
 pub returns-in_err-print_counts : goal.returns-in_err-print_counts
 returns-in_err-print_counts g c =
-    stops_first _ _ _ (set_line c.args.leaf.now.ab.entries) _ c.from_residual.result c.from_residual.ensures.0 c.in_err-print_counts.ensures refl
+    stops_first _ _ _ (set_line c.args.leaf.now.ab.entries) _ c.from_residual.result c.from_residual.ensures.0
+    c.in_err-print_counts.ensures refl
 
 pub returns : goal.returns
 returns g c =

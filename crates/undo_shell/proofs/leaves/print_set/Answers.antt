@@ -12,7 +12,8 @@ from_first (e ∷ es) first lt is = ap (λ v. v ++ more_line es)
 
 pub returns-in_err-print : goal.returns-in_err-print
 returns-in_err-print g c =
-    stops_first _ _ _ (more_line (drop 1 c.args.entries.now)) _ c.from_residual.result c.from_residual.ensures.0 c.in_err-print.ensures
+    stops_first _ _ _ (more_line (drop 1 c.args.entries.now)) _ c.from_residual.result c.from_residual.ensures.0
+    c.in_err-print.ensures
     (from_first c.args.entries.now c.entry.result (omega (arith, c.if-len-eq0.false, c.len.ensures)) c.entry.ensures)
 
 pub returns : goal.returns

@@ -5,4 +5,6 @@ use Rattle.undo_shell.proofs.line_result.print_all_told.Given as goal
 
 -- those so far are written
 abbrev pub invariant-loop-out : goal.invariant-loop-out
-invariant-loop-out g l = Appends (g.W.Write.contents l.initial.writer) (g.W.Write.contents l.writer) (flat_map told_text (take l.out-index l.outs))
+invariant-loop-out g l =
+    Appends (g.W.Write.contents l.initial.writer) (g.W.Write.contents l.writer)
+    (flat_map told_text (take l.out-index l.outs))

@@ -5,7 +5,8 @@ use Rattle.undo_shell.proofs.line_result.print_settled.Goals as goal
 
 pub returns-in_err-print_all_told : goal.returns-in_err-print_all_told
 returns-in_err-print_all_told g c =
-    stops_first _ _ _ (end_line c.args.end.now) _ c.from_residual.result c.from_residual.ensures.0 c.in_err-print_all_told.ensures refl
+    stops_first _ _ _ (end_line c.args.end.now) _ c.from_residual.result c.from_residual.ensures.0
+    c.in_err-print_all_told.ensures refl
 
 pub returns : goal.returns
 returns g c = prints_both _ _ _ _ _ _ c.print_end.result c.in_ok-print_all_told.ensures c.print_end.ensures refl

@@ -5,4 +5,6 @@ use Rattle.undo_shell.proofs.pieces.print.Given as goal
 
 -- the pieces so far are written
 abbrev pub invariant-loop-piece : goal.invariant-loop-piece
-invariant-loop-piece g l = Appends (g.W.Write.contents l.initial.writer) (g.W.Write.contents l.writer) (flat_map piece_text (take l.piece-index l.pieces))
+invariant-loop-piece g l =
+    Appends (g.W.Write.contents l.initial.writer) (g.W.Write.contents l.writer)
+    (flat_map piece_text (take l.piece-index l.pieces))

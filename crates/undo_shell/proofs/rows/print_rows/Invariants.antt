@@ -5,4 +5,6 @@ use Rattle.undo_shell.proofs.rows.print_rows.Given as goal
 
 -- those so far are written
 abbrev pub invariant-loop-row : goal.invariant-loop-row
-invariant-loop-row g l = Appends (g.W.Write.contents l.initial.writer) (g.W.Write.contents l.writer) (flat_map row_line (take l.row-index l.rows))
+invariant-loop-row g l =
+    Appends (g.W.Write.contents l.initial.writer) (g.W.Write.contents l.writer)
+    (flat_map row_line (take l.row-index l.rows))

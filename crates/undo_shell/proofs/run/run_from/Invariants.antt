@@ -11,8 +11,10 @@ invariant-loop-left g l = record {
   so_far : List ℕ;
   appended : Appends (g.W.Write.contents l.initial.writer) (g.W.Write.contents l.writer) so_far;
   goes_on : (text : List ℕ) (status : ℕ)
-      → Runs (commands_of (parts_left 10 (option_map (λ s. s.now) l.left))) l.shell.world (number_in l.shell.labels) text status
-      → Runs (commands_of (lines_of l.fn.script)) l.initial.shell.world (number_in l.initial.shell.labels) (so_far ++ text) status;
+      → Runs (commands_of (parts_left 10 (option_map (λ s. s.now) l.left))) l.shell.world (number_in l.shell.labels)
+      text status
+      → Runs (commands_of (lines_of l.fn.script)) l.initial.shell.world (number_in l.initial.shell.labels)
+      (so_far ++ text) status;
 }
 
 abbrev pub decreases-loop-left : goal.decreases-loop-left

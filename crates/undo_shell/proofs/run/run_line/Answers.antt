@@ -6,5 +6,7 @@ use Rattle.undo_shell.proofs.run.run_line.Goals as goal
 
 pub returns : goal.returns
 returns g c =
-    shows_line c.show.result (asked c.args.line.now) (meaning c.in-Some.line) c.args.shell.now.world (number_in c.args.shell.now.labels) c.perform-came.result c.perform-came.new.self.world (number_in c.perform-came.new.self.labels) _ _
+    shows_line c.show.result (asked c.args.line.now) (meaning c.in-Some.line) c.args.shell.now.world
+    (number_in c.args.shell.now.labels) c.perform-came.result c.perform-came.new.self.world
+    (number_in c.perform-came.new.self.labels) _ _
     (sym c.request.ensures ∙ ap (option_map meaning) c.in-Some.is) c.perform-came.ensures c.show.ensures

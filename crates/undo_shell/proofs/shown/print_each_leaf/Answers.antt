@@ -10,13 +10,15 @@ returns-in_err-print_leaf g c =
     let leaves = leaves_of c.args.world.now in
     let within : c.loop-place.place < length leaves = omega (arith, c.loop-place-test.true, c.requires.all) in
     prints_err _ _ _ c.from_residual.result c.from_residual.ensures.0
-    (cut_at_item leaf_line _ _ _ leaves c.loop-place.place c.leaf.result.now first within c.leaf.ensures c.loop-place.invariant c.in_err-print_leaf.ensures)
+    (cut_at_item leaf_line _ _ _ leaves c.loop-place.place c.leaf.result.now first within c.leaf.ensures
+    c.loop-place.invariant c.in_err-print_leaf.ensures)
 
 pub loop-place-preserved : goal.loop-place-preserved
 loop-place-preserved g c =
     let leaves = leaves_of c.args.world.now in
     let within : c.loop-place.place < length leaves = omega (arith, c.loop-place-test.true, c.requires.all) in
-    item_more leaf_line _ _ _ leaves c.loop-place.place c.leaf.result.now first within c.leaf.ensures c.loop-place.invariant c.in_ok-print_leaf.ensures
+    item_more leaf_line _ _ _ leaves c.loop-place.place c.leaf.result.now first within c.leaf.ensures
+    c.loop-place.invariant c.in_ok-print_leaf.ensures
 
 pub returns : goal.returns
 returns g c =

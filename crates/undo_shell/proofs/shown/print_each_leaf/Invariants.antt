@@ -6,4 +6,6 @@ use Rattle.undo_shell.proofs.shown.print_each_leaf.Given as goal
 
 -- the leaves so far are written
 abbrev pub invariant-loop-place : goal.invariant-loop-place
-invariant-loop-place g l = Appends (g.W.Write.contents l.initial.writer) (g.W.Write.contents l.writer) (flat_map leaf_line (take l.place (leaves_of l.world)))
+invariant-loop-place g l =
+    Appends (g.W.Write.contents l.initial.writer) (g.W.Write.contents l.writer)
+    (flat_map leaf_line (take l.place (leaves_of l.world)))

@@ -8,6 +8,7 @@ pub returns-in-Err : goal.returns-in-Err
 returns-in-Err g c =
     let old = g.W.Write.contents c.args.writer.now in
     let new = g.W.Write.contents c.print_refusal.new.writer in
-    let P : Bool → Type 0 = λ up. Prints old new c.print_refusal.result (log_if_up up (log_of c.args.world.now) (stable_of c.args.world.now)) in
+    let P : Bool → Type 0 = λ up. Prints old new c.print_refusal.result
+    (log_if_up up (log_of c.args.world.now) (stable_of c.args.world.now)) in
     let Q : Refusal → Type 0 = λ r. Prints old new c.print_refusal.result (refusal_line r) in
     subst P (sym c.in-Err.ensures.down) (subst Q c.in-Err.ensures.refused c.print_refusal.ensures)

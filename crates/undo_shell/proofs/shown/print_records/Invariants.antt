@@ -5,4 +5,5 @@ use Rattle.undo_shell.proofs.shown.print_records.Given as goal
 
 -- the records so far are written
 abbrev pub invariant-loop-before : goal.invariant-loop-before
-invariant-loop-before g l = Appends (g.W.Write.contents l.initial.writer) (g.W.Write.contents l.writer) (lines_to (log_of l.world) l.before)
+invariant-loop-before g l =
+    Appends (g.W.Write.contents l.initial.writer) (g.W.Write.contents l.writer) (lines_to (log_of l.world) l.before)

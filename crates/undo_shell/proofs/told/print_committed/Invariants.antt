@@ -5,4 +5,6 @@ use Rattle.undo_shell.proofs.told.print_committed.Given as goal
 
 -- those so far are written
 abbrev pub invariant-loop-txn : goal.invariant-loop-txn
-invariant-loop-txn g l = Appends (g.W.Write.contents l.initial.writer) (g.W.Write.contents l.writer) (flat_map committed_line (take l.txn-index l.committed))
+invariant-loop-txn g l =
+    Appends (g.W.Write.contents l.initial.writer) (g.W.Write.contents l.writer)
+    (flat_map committed_line (take l.txn-index l.committed))

@@ -5,5 +5,6 @@ use Rattle.world.proofs.crashing.bytes_kept_of.Goals as goal
 pub returns : goal.returns
 returns c n few within =
     let whole = c.whole_of-whole in
-    let kept = whole.ensures.all n (omega (arith, few, c.stable_end.ensures)) (omega (arith, within, c.records-records.ensures)) in
+    let kept = whole.ensures.all n (omega (arith, few, c.stable_end.ensures))
+    (omega (arith, within, c.records-records.ensures)) in
     omega (arith, records_longer c.args.tc.now.log n whole.result kept, c.end_of-end.ensures, c.with_part.ensures)

@@ -8,8 +8,10 @@ use Rattle.world.proofs.message.reply_at.Goals as goal
 
 pub returns-in_err-reply-clause-refused : goal.returns-in_err-reply-clause-refused
 returns-in_err-reply-clause-refused c =
-    let rows : has_rows (reply_there c.args.bytes.now c.args.place) ≡ true = ap has_rows (reply_reads c.args.bytes.now c.args.place c.requires)
-    ∙ rows_framed (drop c.args.place c.args.bytes.now) c.requires.message c.requires.rest c.requires.fits.1 c.requires.parts c.in_err-reply.ensures.memory in
+    let rows : has_rows (reply_there c.args.bytes.now c.args.place) ≡ true =
+    ap has_rows (reply_reads c.args.bytes.now c.args.place c.requires)
+    ∙ rows_framed (drop c.args.place c.args.bytes.now) c.requires.message c.requires.rest c.requires.fits.1
+    c.requires.parts c.in_err-reply.ensures.memory in
     search rules
 
 pub returns-clause-found : goal.returns-clause-found

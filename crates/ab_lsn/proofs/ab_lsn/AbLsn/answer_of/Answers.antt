@@ -16,4 +16,5 @@ pub returns-in-Err : goal.returns-in-Err
 returns-in-Err c =
     rw (← c.self.view_is)
     (sym (unsaved c.args.number c.self.inside.entries
-    (gap_stands c.args.number c.self.inside.low c.self.inside.entries c.in-Err.field-0 c.self.invariant c.in-Err.ensures.place)))
+    (gap_stands c.args.number c.self.inside.low c.self.inside.entries c.in-Err.field-0 c.self.invariant
+    c.in-Err.ensures.place)))

@@ -15,15 +15,18 @@ place_of-requires c = rises c.self.inside.low c.self.inside.entries c.self.invar
 pub unreachable-requires : goal.unreachable-requires
 unreachable-requires c =
     let v : AbLsnView = record { low = c.self.inside.low; entries = c.self.inside.entries } in
-    let out : captures v c.args.number ≡ false = ap (λ (v : AbLsnView). captures v c.args.number) c.self.view_is ∙ c.requires in
+    let out : captures v c.args.number ≡ false =
+    ap (λ (v : AbLsnView). captures v c.args.number) c.self.view_is ∙ c.requires in
     no_place c.args.number v.entries c.in-Ok.field-0 (uncaptured v c.args.number out).1 c.in-Ok.ensures.place
 
 pub invariant_of-self : goal.invariant_of-self
 invariant_of-self c =
     let v : AbLsnView = record { low = c.self.inside.low; entries = c.self.inside.entries } in
-    let out : captures v c.args.number ≡ false = ap (λ (v : AbLsnView). captures v c.args.number) c.self.view_is ∙ c.requires in
+    let out : captures v c.args.number ≡ false =
+    ap (λ (v : AbLsnView). captures v c.args.number) c.self.view_is ∙ c.requires in
     rw c.in_ok-insert-in-Err.ensures.inserted
-    (noted_rises v (record { number = c.args.number; key = c.args.key.now; answer = c.args.answer.now }) c.in-Err.gap c.self.invariant out
+    (noted_rises v (record { number = c.args.number; key = c.args.key.now; answer = c.args.answer.now }) c.in-Err.gap
+    c.self.invariant out
     c.in-Err.ensures.place)
 
 put : (v : AbLsnView) (n : ℕ) (k : Bytes) (a : Answer) (p : ℕ) (es : List Entry)
@@ -36,10 +39,12 @@ pub returns-clause-noted : goal.returns-clause-noted
 returns-clause-noted c =
     let f : Entry = record { number = c.args.number; key = c.args.key.now; answer = c.args.answer.now } in
     rw (← c.self.view_is)
-    (put (record { low = c.self.inside.low; entries = c.self.inside.entries }) c.args.number c.args.key.now c.args.answer.now c.in-Err.gap c.insert.new.self
+    (put (record { low = c.self.inside.low; entries = c.self.inside.entries }) c.args.number c.args.key.now
+    c.args.answer.now c.in-Err.gap c.insert.new.self
     c.in_ok-insert-in-Err.ensures.inserted
     (sym (gap_placed f c.self.inside.entries c.in-Err.gap c.in-Err.ensures.place)))
 
 pub returns-clause-captured : goal.returns-clause-captured
 returns-clause-captured c = λ m.
-    ap (λ (v : AbLsnView). captures v m) (returns-clause-noted c) ∙ noted_captures c.args.self.now c.args.number c.args.key.now c.args.answer.now m
+    ap (λ (v : AbLsnView). captures v m) (returns-clause-noted c)
+    ∙ noted_captures c.args.self.now c.args.number c.args.key.now c.args.answer.now m

@@ -7,7 +7,8 @@ use Rattle.ab_lsn.proofs.ab_lsn.AbLsn.upper.Goals as goal
 pub invariant_of-result : goal.invariant_of-result
 invariant_of-result c =
     rw c.in_ok-upper.ensures.copied
-    (filtered_rises (λ (e : Entry). is_from c.args.key.now e.key) c.self.inside.low c.self.inside.entries c.self.invariant)
+    (filtered_rises (λ (e : Entry). is_from c.args.key.now e.key) c.self.inside.low c.self.inside.entries
+    c.self.invariant)
 
 pub returns-clause-captured : goal.returns-clause-captured
 returns-clause-captured c =

@@ -3,4 +3,5 @@ use Rattle.btree.proofs.Stays.{raised_stays}
 use Rattle.btree.proofs.list.LeafListLeafSet.raise.Goals as goal
 
 pub invariant_of-self : goal.invariant_of-self
-invariant_of-self c = rw c.raise_in.ensures (raised_stays (leaves_in c.self.inside.leaves.items) c.args.low c.self.invariant).leaves
+invariant_of-self c = rw c.raise_in.ensures
+    (raised_stays (leaves_in c.self.inside.leaves.items) c.args.low c.self.invariant).leaves

@@ -11,5 +11,6 @@ returns c =
     let k = c.args.key.now in
     let leaf = c.leaf_of.ensures in
     c.get.ensures
-    ∙ ap (λ (l : LeafView). map.get l.rows k) (leaf.is ∙ leaf_found c.self.inside.root.leaves k leaf.place c.self.invariant.0 leaf.at)
+    ∙ ap (λ (l : LeafView). map.get l.rows k)
+    (leaf.is ∙ leaf_found c.self.inside.root.leaves k leaf.place c.self.invariant.0 leaf.at)
     ∙ ap (λ (t : ListView). map.get (leaf_at t.leaves k).rows k) c.self.view_is

@@ -23,13 +23,15 @@ done : (c : goal.After-perform)
     (λ done. PerformsAt c.self.inside.root.leaves c.args.number c.args.op.now done c.perform.new.self.leaves)
 done c =
     let below = c.perform.ensures.asked in
-    performs_among below.place c.self.inside.root c.perform.new.self c.args.number c.args.op.now c.perform.result c.self.invariant.0 below.at below.changed below.asked.done
+    performs_among below.place c.self.inside.root c.perform.new.self c.args.number c.args.op.now c.perform.result
+    c.self.invariant.0 below.at below.changed below.asked.done
 
 pub invariant_of-self : goal.invariant_of-self
 invariant_of-self c =
     let below = c.perform.ensures.asked in
     let refused =
-    unchanged_among below.place c.self.inside.root c.perform.new.self c.perform.result below.changed below.asked.refused in (
+    unchanged_among below.place c.self.inside.root c.perform.new.self c.perform.result below.changed
+    below.asked.refused in (
       asked_leaves c.self.inside.root.leaves c.perform.new.self.leaves c.args.number c.args.op.now c.perform.result
           (done c) refused c.self.invariant.0,
       still_whole below.place c.self.inside.root c.perform.new.self below.changed c.self.invariant.1,

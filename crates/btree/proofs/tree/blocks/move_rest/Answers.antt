@@ -14,9 +14,12 @@ loop-children-preserved c =
     let within : i < length xs = search rules in
     let left = length-remove xs i within in
     let grown = length-append ys (x ∷ []) in
-    let moved : drop i xs ≡ x ∷ drop i (remove xs i) = drop_removed xs i x within ∙ ap (λ (y : NodeView). y ∷ drop i (remove xs i)) (sym c.remove-node.ensures.value) in
+    let moved : drop i xs ≡ x ∷ drop i (remove xs i) =
+    drop_removed xs i x within
+    ∙ ap (λ (y : NodeView). y ∷ drop i (remove xs i)) (sym c.remove-node.ensures.value) in
     rw (c.push_reserved.ensures.items, c.remove-node.ensures.items) (
-      append_assoc ys (x ∷ []) (drop i (remove xs i)) ∙ ap (λ (zs : List NodeView). ys ++ zs) (sym moved) ∙ c.loop-children.invariant.0,
+      append_assoc ys (x ∷ []) (drop i (remove xs i)) ∙ ap (λ (zs : List NodeView). ys ++ zs) (sym moved)
+          ∙ c.loop-children.invariant.0,
       take_removed xs i ∙ c.loop-children.invariant.1,
       omega (arith, within, left),
       omega (arith, within, left, grown, c.loop-children.invariant.2, c.loop-children.invariant.3),

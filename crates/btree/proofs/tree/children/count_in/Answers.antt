@@ -23,4 +23,5 @@ loop-node-preserved c = so_far c
 pub returns : goal.returns
 returns c =
     c.loop-node.invariant
-    ∙ ap (λ ns. length (under ns)) (take_all c.loop-node.node-index c.args.nodes.now (omega (arith, c.loop-node-test.false)))
+    ∙ ap (λ ns. length (under ns))
+    (take_all c.loop-node.node-index c.args.nodes.now (omega (arith, c.loop-node-test.false)))

@@ -13,7 +13,13 @@ taken c = c.count-before.ensures
 
 pub overflow_add-before : goal.overflow_add-before
 overflow_add-before c =
-    omega (arith, taken c, count_parts c.args.nodes.now c.loop-before.i nothing c.loop-before.invariant.0, c.loop-before.invariant.1, c.requires.counted)
+    omega (
+      arith,
+      taken c,
+      count_parts c.args.nodes.now c.loop-before.i nothing c.loop-before.invariant.0,
+      c.loop-before.invariant.1,
+      c.requires.counted,
+    )
 
 pub loop-before-preserved : goal.loop-before-preserved
 loop-before-preserved c =
@@ -30,4 +36,5 @@ returns c =
     let ns = c.args.nodes.now in
     let within = c.loop-before.invariant.0 in
     large_here_node ns c.loop-before.i c.loop-before.before within c.loop-before.invariant.2
-    (large_asked ns c.loop-before.i c.index-nodes-i.result c.summary.result _ within c.index-nodes-i.is c.summary.ensures (not-false c.summary.result.large c.loop-before-test.false))
+    (large_asked ns c.loop-before.i c.index-nodes-i.result c.summary.result _ within c.index-nodes-i.is
+    c.summary.ensures (not-false c.summary.result.large c.loop-before-test.false))

@@ -1,4 +1,4 @@
-use Rattle.std.proofs.Common.{◌≡◌, ◌+◌, ◌<◌, suc, get_or, length, sym, ap, ◌∙◌, arith, add-one, subst, ℕ}
+use Rattle.std.proofs.Common.{◌≡◌, ◌+◌, ◌<◌, suc, get_or, length, sym, ap, ◌∙◌, arith, add-one, ℕ}
 use Rattle.std.proofs.lemmas.Bool.{not-true, not-false}
 use Rattle.btree.specs.Choosing.{count_first, count_last}
 use Rattle.btree.specs.Nodes.{NodeView, nothing}
@@ -22,7 +22,13 @@ met ns i x y within next here there = rw (stands ns i x within here, stands ns (
 
 pub overflow_add-before : goal.overflow_add-before
 overflow_add-before c =
-    omega (arith, taken c, count_parts c.args.nodes.now c.loop-before.i nothing c.loop-before.invariant.0, c.loop-before.invariant.1, c.requires.counted)
+    omega (
+      arith,
+      taken c,
+      count_parts c.args.nodes.now c.loop-before.i nothing c.loop-before.invariant.0,
+      c.loop-before.invariant.1,
+      c.requires.counted,
+    )
 
 pub loop-before-preserved : goal.loop-before-preserved
 loop-before-preserved c =

@@ -9,5 +9,6 @@ over_two-requires-clause-counted c =
     let all = ap length c.in-Some.ensures.leaves in
     let both = length-append c.insert.new.self.leaves (c.in-Some.right.leaves ++ []) in
     let right = length-append c.in-Some.right.leaves [] in
-    let one = length-insert c.args.root.now.leaves (suc c.args.place) c.args.leaf.value (omega (arith, c.requires.there)) in
+    let one = length-insert c.args.root.now.leaves (suc c.args.place) c.args.leaf.value
+    (omega (arith, c.requires.there)) in
     omega (arith, left, all, both, right, one, c.requires.counted)

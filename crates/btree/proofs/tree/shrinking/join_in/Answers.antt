@@ -5,7 +5,8 @@ use Rattle.btree.proofs.tree.shrinking.join_in.Goals as goal
 
 pub returns-then-len-le-MOST-clause-leaves : goal.returns-then-len-le-MOST-clause-leaves
 returns-then-len-le-MOST-clause-leaves c =
-    append-nil (under c.append.new.self.items) ∙ ap under c.in-Ok.ensures.items ∙ under_append c.args.children.now.items c.args.right.items
+    append-nil (under c.append.new.self.items) ∙ ap under c.in-Ok.ensures.items
+    ∙ under_append c.args.children.now.items c.args.right.items
 
 pub divide-requires-clause-counted : goal.divide-requires-clause-counted
 divide-requires-clause-counted c =

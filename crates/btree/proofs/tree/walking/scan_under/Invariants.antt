@@ -6,4 +6,5 @@ use Rattle.btree.proofs.tree.walking.scan_under.Given as goal
 
 abbrev pub invariant-loop-place : goal.invariant-loop-place
 invariant-loop-place l =
-    l.rows.items ≡ found_in (record { lo = l.low; hi = option_copied l.high; mode = Shared }) (take (l.place - l.initial.place) (drop l.initial.place l.root.leaves))
+    l.rows.items ≡ found_in (record { lo = l.low; hi = option_copied l.high; mode = Shared })
+    (take (l.place - l.initial.place) (drop l.initial.place l.root.leaves))

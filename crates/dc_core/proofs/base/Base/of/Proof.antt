@@ -55,7 +55,8 @@ meets : {M : Type 1} {𝓤 : Ura M} (𝓛 : Logic 𝓤) → (at_mem : Memory →
     → Meets 𝓛 it.signature (WpFn 𝓤 𝓛.H 𝓣.C 𝓣.Λ code.function) (it.spec 𝓛 at_mem run)
 meets {𝓤 = 𝓤} 𝓛 at_mem run 𝓣 =
     let c = it.clauses 𝓛 at_mem run in
-    walk_Meets 𝓛 it.ended stayed (Goes-dropped 𝓛 1 (RefOf (0 ∷ []) tt (plain (λ _. Sy)) (λ _. tt)) yes (λ κs x f. refl), tt) c
+    walk_Meets 𝓛 it.ended stayed
+    (Goes-dropped 𝓛 1 (RefOf (0 ∷ []) tt (plain (λ _. Sy)) (λ _. tt)) yes (λ κs x f. refl), tt) c
     (WpFn 𝓤 𝓛.H 𝓣.C 𝓣.Λ code.function)
     (WpFn-mono 𝓤 𝓛.H 𝓛.laws 𝓣 code.function)
     (walked 𝓛 it.ended stayed c (WpFn 𝓤 𝓛.H 𝓣.C 𝓣.Λ code.function) (λ κs. (shr_vals, tt))
@@ -64,12 +65,14 @@ meets {𝓤 = 𝓤} 𝓛 at_mem run 𝓣 =
     qed 𝓛 (((‵ (flft κs.0 qs.0) ⊛ ‵ ftrue) ⊛ ‵ (owns (ShrRef (named 0) κs.0 Sy ∷ []) a (shr_vals a.0, tt)))
     ∷ raw ((c κs a).requires g) ∷ []) ∵ split ! $ split ! $ keep ! (0 ∷ []) $
     enter ! 𝓣.C 𝓣.Λ code.function (shr_vals a.0) _ $ alloc_all ! (λ l. pass_all ! refl ((tt, tt), tt) $
-    sets ! (agg ! (no_more !)) refl (tt, tt) $ sets ! (agg ! (and_then ! (get ! refl) (no_more !))) refl (tt, (tt, tt)) $
+    sets ! (agg ! (no_more !)) refl (tt, tt) $ sets ! (agg ! (and_then ! (get ! refl) (no_more !))) refl (tt, (tt, tt))
+    $
     returns ! (look_at ! 0 refl) $ free_all ! refl $
     pure_i ! ((T.the_row).own_val r (v ∷ [])) ((λ vss. (tt, ((λ uss. (tt, tt)), tt))), tt)
     (((vstruct vnil ∷ [], tt), (refl, ((tt, (refl, tt)), tt))), tt) $
     suffices ! _ (ends_at 𝓛 it.ended stayed c ((κs, qs, bounds, a, (shr_vals a.0, tt)), g) v r (tt, tt) (tt, tt)) $
-    says ! refl $ nothing ! $ nothing ! $ fjoin ! $ join ! $ nothing ! $ move ! (2 ∷ 0 ∷ []) $ join ! $ join ! $ done !)))
+    says ! refl $ nothing ! $ nothing ! $ fjoin ! $ join ! $ nothing ! $ move ! (2 ∷ 0 ∷ []) $ join ! $ join ! $ done
+    !)))
 
 pub of_spec : {M : Type 1} → stated.statement M
 unfolding tables_of

@@ -13,7 +13,8 @@ unreachable-requires c =
     let places = c.self.inside.places.items in
     let place = c.index.result.now in
     let there : slice_get places c.args.place ≡ Some place =
-    place_read bytes places c.args.self.now c.args.place place c.self.view_is (omega (arith, c.len.ensures, c.if-len-place.false)) c.index.ensures in
+    place_read bytes places c.args.self.now c.args.place place c.self.view_is
+    (omega (arith, c.len.ensures, c.if-len-place.false)) c.index.ensures in
     let stands : StandsAt bytes place (read bytes place) =
     all_get (λ at. StandsAt bytes at (read bytes at)) places c.args.place place c.self.invariant there in
     not_unread bytes place (read bytes place) stands (rw c.deref.ensures.value at c.in-None.ensures)
@@ -24,7 +25,8 @@ returns c =
     let places = c.self.inside.places.items in
     let place = c.index.result.now in
     let there : slice_get places c.args.place ≡ Some place =
-    place_read bytes places c.args.self.now c.args.place place c.self.view_is (omega (arith, c.len.ensures, c.if-len-place.false)) c.index.ensures in
+    place_read bytes places c.args.self.now c.args.place place c.self.view_is
+    (omega (arith, c.len.ensures, c.if-len-place.false)) c.index.ensures in
     let parts : Performed × List ℕ = ((c.in-Some.number, (c.in-Some.op, c.in-Some.answer)), c.in-Some.field-0-1.now) in
     let found : performed_at (drop place bytes) ≡ Some parts = rw c.deref.ensures.value at c.in-Some.ensures in
     rw (← c.self.view_is)

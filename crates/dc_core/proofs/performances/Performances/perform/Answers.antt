@@ -13,11 +13,22 @@ ends c =
     c.len.ensures ∙ counted ∙ ap length c.in_ok-reserve.ensures.items
 
 pub invariant_of-self-in-Performed : goal.invariant_of-self-in-Performed
-invariant_of-self-in-Performed c = rw (c.put_performed.ensures.spelling, c.in_ok-reserve.ensures.items, c.push_reserved.ensures.items, c.in_ok-reserve-2.ensures.items)
+invariant_of-self-in-Performed c =
+    rw (
+      c.put_performed.ensures.spelling,
+      c.in_ok-reserve.ensures.items,
+      c.push_reserved.ensures.items,
+      c.in_ok-reserve-2.ensures.items,
+    )
     (spelled_longer _ _ c.self.invariant (noted c) c.put_performed.ensures.has_spelling c.len.result (ends c))
 
 pub returns-in-Performed-clause-noted : goal.returns-in-Performed-clause-noted
 returns-in-Performed-clause-noted c =
-    rw (c.put_performed.ensures.spelling, c.in_ok-reserve.ensures.items, c.push_reserved.ensures.items, c.in_ok-reserve-2.ensures.items)
+    rw (
+      c.put_performed.ensures.spelling,
+      c.in_ok-reserve.ensures.items,
+      c.push_reserved.ensures.items,
+      c.in_ok-reserve-2.ensures.items,
+    )
     (listed_longer _ _ c.self.invariant (noted c) c.put_performed.ensures.has_spelling c.len.result (ends c))
     ∙ ap (λ (performed : List Performance). noted c ∷ performed) c.self.view_is

@@ -8,7 +8,8 @@ use Rattle.log_tests.proofs.tests.devices.written.Goals as goal
 
 get-insert_same : (m : Pages) (k : ℕ) (bytes : List ℕ) → get (insert m k bytes) k ≡ Some bytes
 get-insert_same m k bytes =
-    get-insert nat_cmp_total m k bytes k ∙ ap (λ b. cond b (Some bytes) (get m k)) ((eq_by_cmp_equiv nat_cmp_total).refl k)
+    get-insert nat_cmp_total m k bytes k
+    ∙ ap (λ b. cond b (Some bytes) (get m k)) ((eq_by_cmp_equiv nat_cmp_total).refl k)
 
 pub unreachable-requires : goal.unreachable-requires
 unreachable-requires g c =

@@ -54,7 +54,8 @@ now c =
     let bytes : m.bytes.items ≡ spelled log ++ (f ++ drop (length f) left) = c.self.invariant.frames.bytes_are
     ∙ ap (λ (l : List ℕ). spelled log ++ l) stands.parts in
     let marks : c.push_reserved.new.self.marks ≡ marked m.index.marks m.index.count m.end =
-    c.push_reserved.ensures.marks ∙ λ i. marked (c.in_ok-reserve.ensures.marks i) (c.in_ok-reserve.ensures.count i) m.end in
+    c.push_reserved.ensures.marks
+    ∙ λ i. marked (c.in_ok-reserve.ensures.marks i) (c.in_ok-reserve.ensures.count i) m.end in
     let count : c.push_reserved.new.self.count ≡ m.index.count + 1 = c.push_reserved.ensures.count
     ∙ ap (λ (n : ℕ). n + 1) c.in_ok-reserve.ensures.count in
     let answers : c.note.new.answers.items ≡ noted r (length log + 1) m.answers.items =

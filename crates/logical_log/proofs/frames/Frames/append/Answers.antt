@@ -56,7 +56,8 @@ now g c =
     let bytes : c.write.new.bytes.items ≡ spelled log ++ (f ++ []) = c.in_ok-write.ensures.copied
     ∙ ap (λ (b : List ℕ). b ++ f) whole ∙ ap (λ (b : List ℕ). spelled log ++ b) (sym (append-nil f)) in
     let marks : c.push_reserved.new.self.marks ≡ marked m.index.marks m.index.count m.end =
-    c.push_reserved.ensures.marks ∙ λ i. marked (c.in_ok-reserve.ensures.marks i) (c.in_ok-reserve.ensures.count i) m.end in
+    c.push_reserved.ensures.marks
+    ∙ λ i. marked (c.in_ok-reserve.ensures.marks i) (c.in_ok-reserve.ensures.count i) m.end in
     let count : c.push_reserved.new.self.count ≡ m.index.count + 1 = c.push_reserved.ensures.count
     ∙ ap (λ (n : ℕ). n + 1) c.in_ok-reserve.ensures.count in
     let answers : c.note.new.answers.items ≡ noted r (length log + 1) m.answers.items =
@@ -68,7 +69,8 @@ now g c =
     ∙ ap (λ (n : ℕ). n + length f) (ap length whole ∙ sym c.self.invariant.frames.end_is) in
     rw (marks, count, answers, end)
     (indexed_longer log m.bytes.items left m.index.marks m.index.count m.answers.items m.end r
-    c.write.new.bytes.items [] c.self.invariant (rw (← c.self.view_is) at c.requires.fits) c.in_ok-write.ensures.has_spelling room bytes)
+    c.write.new.bytes.items [] c.self.invariant (rw (← c.self.view_is) at c.requires.fits)
+    c.in_ok-write.ensures.has_spelling room bytes)
 
 pub invariant_of-self-2 : goal.invariant_of-self-2
 invariant_of-self-2 g c = indexed_so _ _ _ _ _ _ _ (now g c)

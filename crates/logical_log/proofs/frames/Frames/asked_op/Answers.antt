@@ -11,6 +11,7 @@ returns-in_err-place c =
 pub returns : goal.returns
 returns c =
     let t = tells_kept request_of _ _ _ _ _ _ c.self.invariant.frames c.args.number c.in_ok-place.place
-    c.deref-2.result.now c.asked_op.result c.deref-2.ensures.value (rw c.deref.ensures.value at c.in_ok-place.ensures.some)
+    c.deref-2.result.now c.asked_op.result c.deref-2.ensures.value
+    (rw c.deref.ensures.value at c.in_ok-place.ensures.some)
     c.asked_op.ensures in
     rw (← c.self.view_is) (t.told_is ∙ ap request_in (sym t.is))

@@ -14,4 +14,5 @@ returns-in-Some c =
 pub returns-in-None : goal.returns-in-None
 returns-in-None c =
     rw (← c.self.view_is) (ap (λ (o : Option Record). undo_from o c.args.number)
-    (sym (none_kept _ _ _ _ _ _ c.self.invariant.frames c.args.number (rw c.deref.ensures.value at c.in-None.ensures.none))))
+    (sym (none_kept _ _ _ _ _ _ c.self.invariant.frames c.args.number
+    (rw c.deref.ensures.value at c.in-None.ensures.none))))

@@ -16,10 +16,13 @@ invariant_of-self c =
     rw (c.drop_rows_from.ensures, c.drop_from.ensures.lower, c.copied.ensures) (
       (retained rows (is_under k) c.self.invariant.0).0,
       (
-        all_kept (λ (row : Row). IsTrue (is_between low high row.0)) (λ (row : Row). IsTrue (is_between low (Some k) row.0)) (λ (row : Row). is_under k row.0)
+        all_kept (λ (row : Row). IsTrue (is_between low high row.0))
+            (λ (row : Row). IsTrue (is_between low (Some k) row.0)) (λ (row : Row). is_under k row.0)
             (λ row inside under. between_lower low high k row.0 inside under) rows c.self.invariant.1.0,
-        all_kept (λ (e : Entry). IsTrue (is_between low high e.key)) (λ (e : Entry). IsTrue (is_between low (Some k) e.key)) (λ (e : Entry). is_under k e.key)
-            (λ e inside under. between_lower low high k e.key inside under) c.self.inside.ab.entries c.self.invariant.1.1,
+        all_kept (λ (e : Entry). IsTrue (is_between low high e.key))
+            (λ (e : Entry). IsTrue (is_between low (Some k) e.key)) (λ (e : Entry). is_under k e.key)
+            (λ e inside under. between_lower low high k e.key inside under) c.self.inside.ab.entries
+            c.self.invariant.1.1,
       ),
     )
 

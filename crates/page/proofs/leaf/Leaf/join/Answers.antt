@@ -16,14 +16,21 @@ invariant_of-result c =
     let low = c.self.inside.low_fence in
     let high = c.right.inside.high_fence in
     let fence = c.requires.fence in
-    let ends : c.self.inside.high_fence ≡ Some fence = ap (λ (v : LeafView). v.high_fence) c.self.view_is ∙ c.requires.ends in
-    let begins : c.right.inside.low_fence ≡ Some fence = ap (λ (v : LeafView). v.low_fence) c.right.view_is ∙ c.requires.begins in
-    let above = subst (λ (v : LeafView). starts_at_most v.low_fence fence ≡ true) (sym c.self.view_is) c.requires.above in
+    let ends : c.self.inside.high_fence ≡ Some fence =
+    ap (λ (v : LeafView). v.high_fence) c.self.view_is ∙ c.requires.ends in
+    let begins : c.right.inside.low_fence ≡ Some fence =
+    ap (λ (v : LeafView). v.low_fence) c.right.view_is ∙ c.requires.begins in
+    let above = subst (λ (v : LeafView). starts_at_most v.low_fence fence ≡ true) (sym c.self.view_is)
+    c.requires.above in
     let below = subst (λ (v : LeafView). ends_above v.high_fence fence ≡ true) (sym c.right.view_is) c.requires.below in
-    let one : LieBetween low (Some fence) c.self.inside.rows.items = subst (λ (f : Option Bytes). LieBetween low f c.self.inside.rows.items) ends c.self.invariant.1.0 in
-    let two : LieBetween (Some fence) high c.right.inside.rows.items = subst (λ (f : Option Bytes). LieBetween f high c.right.inside.rows.items) begins c.right.invariant.1.0 in
-    let three : StandBetween low (Some fence) c.self.inside.ab.entries = subst (λ (f : Option Bytes). StandBetween low f c.self.inside.ab.entries) ends c.self.invariant.1.1 in
-    let four : StandBetween (Some fence) high c.right.inside.ab.entries = subst (λ (f : Option Bytes). StandBetween f high c.right.inside.ab.entries) begins c.right.invariant.1.1 in
+    let one : LieBetween low (Some fence) c.self.inside.rows.items =
+    subst (λ (f : Option Bytes). LieBetween low f c.self.inside.rows.items) ends c.self.invariant.1.0 in
+    let two : LieBetween (Some fence) high c.right.inside.rows.items =
+    subst (λ (f : Option Bytes). LieBetween f high c.right.inside.rows.items) begins c.right.invariant.1.0 in
+    let three : StandBetween low (Some fence) c.self.inside.ab.entries =
+    subst (λ (f : Option Bytes). StandBetween low f c.self.inside.ab.entries) ends c.self.invariant.1.1 in
+    let four : StandBetween (Some fence) high c.right.inside.ab.entries =
+    subst (λ (f : Option Bytes). StandBetween f high c.right.inside.ab.entries) begins c.right.invariant.1.1 in
     let P : Entry → Type 0 = λ (e : Entry). IsTrue (is_between low high e.key) in
     rw (
       c.in_ok-add_rows-2.ensures.added,
@@ -38,14 +45,20 @@ invariant_of-result c =
       c.as_ref.ensures.value,
       c.as_ref-2.ensures.value,
     ) (
-      ordered_both fence c.self.inside.rows.items c.right.inside.rows.items c.self.invariant.0 c.right.invariant.0 (apart_of low high fence _ _ one two),
+      ordered_both fence c.self.inside.rows.items c.right.inside.rows.items c.self.invariant.0 c.right.invariant.0
+          (apart_of low high fence _ _ one two),
       (
-        all_appended (λ (row : Row). IsTrue (is_between low high row.0)) c.self.inside.rows.items c.right.inside.rows.items
-            (all_from _ _ (λ (row : Row) inside. lower_between low high fence row.0 below inside) c.self.inside.rows.items one)
-            (all_from _ _ (λ (row : Row) inside. upper_between low high fence row.0 above inside) c.right.inside.rows.items two),
+        all_appended (λ (row : Row). IsTrue (is_between low high row.0)) c.self.inside.rows.items
+            c.right.inside.rows.items
+            (all_from _ _ (λ (row : Row) inside. lower_between low high fence row.0 below inside)
+            c.self.inside.rows.items one)
+            (all_from _ _ (λ (row : Row) inside. upper_between low high fence row.0 above inside)
+            c.right.inside.rows.items two),
         all_joined P c.self.inside.ab c.right.inside.ab
-            (all_from _ _ (λ (e : Entry) inside. lower_between low high fence e.key below inside) c.self.inside.ab.entries three)
-            (all_from _ _ (λ (e : Entry) inside. upper_between low high fence e.key above inside) c.right.inside.ab.entries four),
+            (all_from _ _ (λ (e : Entry) inside. lower_between low high fence e.key below inside)
+            c.self.inside.ab.entries three)
+            (all_from _ _ (λ (e : Entry) inside. upper_between low high fence e.key above inside)
+            c.right.inside.ab.entries four),
       ),
     )
 

@@ -25,8 +25,10 @@ invariant_of-self-2 c =
     rw (c.write_at.ensures, c.in_ok-reserve.ensures.items, c.in_ok-note.ensures.noted, c.key-3.ensures) (
       (writes c.self.inside.rows.items c.args.op.now c.place_of-place.result c.self.invariant.0 place).ordered,
       (
-        all_written (λ (k : Bytes). IsTrue (is_between low high k)) c.self.inside.rows.items c.args.op.now c.place_of-place.result c.self.invariant.1.0 inside,
-        all_placed (λ (e : Entry). IsTrue (is_between low high e.key)) (record { number = c.args.number; key = key_of c.args.op.now; answer = c.answer_at-answer.result })
+        all_written (λ (k : Bytes). IsTrue (is_between low high k)) c.self.inside.rows.items c.args.op.now
+            c.place_of-place.result c.self.invariant.1.0 inside,
+        all_placed (λ (e : Entry). IsTrue (is_between low high e.key))
+            (record { number = c.args.number; key = key_of c.args.op.now; answer = c.answer_at-answer.result })
             c.self.inside.ab.entries inside c.self.invariant.1.1,
       ),
     )
@@ -35,12 +37,14 @@ invariant_of-self-2 c =
 anew : (old : LeafView) (n : ℕ) (o : Op) (a : Answer) (rows : Table) (ab : AbLsnView) → a ≡ answer_in old.rows o
     → rows ≡ after old.rows o
     → ab ≡ noted old.ab n (key_of o) a → ◌≡◌ {A = LeafView} (record old { rows = rows; ab = ab }) (performed old n o)
-anew old n o a rows ab right table more = λ i. record old { rows = table i; ab = (more ∙ ap (noted old.ab n (key_of o)) right) i }
+anew old n o a rows ab right table more =
+    λ i. record old { rows = table i; ab = (more ∙ ap (noted old.ab n (key_of o)) right) i }
 
 pub returns-clause-answer : goal.returns-clause-answer
 returns-clause-answer c =
     rw (← c.self.view_is)
-    (ap Performed (c.answer_at-answer.ensures ∙ ap (answer_at c.args.op.now) (c.value_at.ensures ∙ rw (c.as_slice-2.ensures.value, c.key-2.ensures) refl)))
+    (ap Performed (c.answer_at-answer.ensures
+    ∙ ap (answer_at c.args.op.now) (c.value_at.ensures ∙ rw (c.as_slice-2.ensures.value, c.key-2.ensures) refl)))
 
 pub returns-clause-performed : goal.returns-clause-performed
 returns-clause-performed c =
@@ -50,8 +54,10 @@ returns-clause-performed c =
     rw (c.write_at.ensures, c.in_ok-reserve.ensures.items)
     (writes c.self.inside.rows.items c.args.op.now c.place_of-place.result c.self.invariant.0 place) in
     let answer : c.answer_at-answer.result ≡ answer_in (table_of c.self.inside.rows.items) c.args.op.now =
-    c.answer_at-answer.ensures ∙ ap (answer_at c.args.op.now) (c.value_at.ensures ∙ rw (c.as_slice-2.ensures.value, c.key-2.ensures) refl) in
+    c.answer_at-answer.ensures
+    ∙ ap (answer_at c.args.op.now) (c.value_at.ensures ∙ rw (c.as_slice-2.ensures.value, c.key-2.ensures) refl) in
     let more : c.note.new.self ≡ noted c.self.inside.ab c.args.number (key_of c.args.op.now) c.answer_at-answer.result =
     rw (c.key-3.ensures) at c.in_ok-note.ensures.noted in
     rw (← c.self.view_is)
-    (anew _ c.args.number c.args.op.now c.answer_at-answer.result (table_of c.write_at.new.rows.items) c.note.new.self answer written.table more)
+    (anew _ c.args.number c.args.op.now c.answer_at-answer.result (table_of c.write_at.new.rows.items) c.note.new.self
+    answer written.table more)

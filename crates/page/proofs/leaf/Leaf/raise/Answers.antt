@@ -10,6 +10,7 @@ invariant_of-self c =
       c.self.invariant.0,
       (
         c.self.invariant.1.0,
-        all_raised (λ (e : Entry). IsTrue (is_between c.self.inside.low_fence c.self.inside.high_fence e.key)) c.self.inside.ab c.args.low c.self.invariant.1.1,
+        all_raised (λ (e : Entry). IsTrue (is_between c.self.inside.low_fence c.self.inside.high_fence e.key))
+            c.self.inside.ab c.args.low c.self.invariant.1.1,
       ),
     )

@@ -25,9 +25,11 @@ invariant_of-result c =
     ) (
       (retained rows (is_from k) c.self.invariant.0).0,
       (
-        all_kept (λ (row : Row). IsTrue (is_between low high row.0)) (λ (row : Row). IsTrue (is_between (Some k) high row.0)) (λ (row : Row). is_from k row.0)
+        all_kept (λ (row : Row). IsTrue (is_between low high row.0))
+            (λ (row : Row). IsTrue (is_between (Some k) high row.0)) (λ (row : Row). is_from k row.0)
             (λ row inside from. between_upper low high k row.0 inside from) rows c.self.invariant.1.0,
-        all_kept (λ (e : Entry). IsTrue (is_between low high e.key)) (λ (e : Entry). IsTrue (is_between (Some k) high e.key)) (λ (e : Entry). is_from k e.key)
+        all_kept (λ (e : Entry). IsTrue (is_between low high e.key))
+            (λ (e : Entry). IsTrue (is_between (Some k) high e.key)) (λ (e : Entry). is_from k e.key)
             (λ e inside from. between_upper low high k e.key inside from) c.self.inside.ab.entries c.self.invariant.1.1,
       ),
     )

@@ -12,7 +12,8 @@ use Rattle.range_locks.proofs.held.Held.least_holder.Goals as goal
 ended : (c : goal.In-None) → IsLeast (StandsInWay c.args.self.now c.args.txn c.args.lock.now) c.loop-holder.least
 ended c =
     let m = c.args.self.now.by_txn in
-    let found : All (λ (e : ℕ × Vec Lock). get nat_cmp m e.0 ≡ Some e.1) m.entries = c.into_iter-holder-iterator.ensures.into_iter_gives.6 in
+    let found : All (λ (e : ℕ × Vec Lock). get nat_cmp m e.0 ≡ Some e.1) m.entries =
+    c.into_iter-holder-iterator.ensures.into_iter_gives.6 in
     let same = rw (c.in-None.ensures.steps.0) at c.loop-holder.invariant in
     subst (IsLeast (StandsInWay c.args.self.now c.args.txn c.args.lock.now)) (sym same)
     (searched c.args.self.now c.args.txn c.args.lock.now (all_listed _ m.entries found))

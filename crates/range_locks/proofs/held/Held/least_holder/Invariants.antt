@@ -6,4 +6,6 @@ use Rattle.range_locks.specs.Least.{least_of}
 use Rattle.range_locks.proofs.held.Held.least_holder.Given as goal
 
 abbrev pub invariant-loop-holder : goal.invariant-loop-holder
-invariant-loop-holder l = least_of (λ (e : ℕ × Vec Lock). e.0) (blocks l.txn l.lock) l.least l.holder-iterator ≡ least_of (λ (e : ℕ × Vec Lock). e.0) (blocks l.txn l.lock) None l.self.by_txn.entries
+invariant-loop-holder l =
+    least_of (λ (e : ℕ × Vec Lock). e.0) (blocks l.txn l.lock) l.least l.holder-iterator
+    ≡ least_of (λ (e : ℕ × Vec Lock). e.0) (blocks l.txn l.lock) None l.self.by_txn.entries

@@ -9,8 +9,10 @@ use Rattle.range_locks.proofs.parts.Parts.add.Goals as goal
 pub returns-in-Ok-clause-kept : goal.returns-in-Ok-clause-kept
 returns-in-Ok-clause-kept c =
     let e : Entry = record { lock = c.args.lock; txn = c.args.txn } in
-    let is : c.copied-2.result ≡ e = c.copied-2.ensures ∙ ap (λ (l : Lock). record { lock = l; txn = c.args.txn }) c.copied.ensures in
-    added_index c.args.self.now.held c.push.new.self c.args.txn c.args.self.now.index c.insert.new.self c.requires c.args.lock c.ranges.txn.fits c.in-Ok.ensures.listed
+    let is : c.copied-2.result ≡ e =
+    c.copied-2.ensures ∙ ap (λ (l : Lock). record { lock = l; txn = c.args.txn }) c.copied.ensures in
+    added_index c.args.self.now.held c.push.new.self c.args.txn c.args.self.now.index c.insert.new.self c.requires
+    c.args.lock c.ranges.txn.fits c.in-Ok.ensures.listed
     (changed true c.args.self.now.index c.insert.new.self c.copied-2.result e c.in_ok-added.ensures.updates.0 is)
 
 pub returns-then-added-clause-kept : goal.returns-then-added-clause-kept

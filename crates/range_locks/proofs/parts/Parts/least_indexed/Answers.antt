@@ -5,13 +5,16 @@ use Rattle.range_locks.proofs.Searching.{places_searched}
 use Rattle.range_locks.proofs.parts.Parts.least_indexed.Goals as goal
 
 pub search-requires : goal.search-requires
-search-requires c = forward_as c.args.lock.now.span c.low.result.now c.first_at.result c.keys_to.result c.first_at.ensures c.low.ensures c.keys_to.ensures c.requires.range
+search-requires c = forward_as c.args.lock.now.span c.low.result.now c.first_at.result c.keys_to.result
+    c.first_at.ensures c.low.ensures c.keys_to.ensures c.requires.range
 
 least : (c : goal.After-search) → IsLeast (StandsInWay c.args.self.now.held c.args.txn c.args.lock.now) c.search.result
 least c =
     let now = c.args.self.now in
-    places_searched now.held now.index c.args.txn c.args.lock.now c.requires.indexed c.low.result.now c.ranges_to.result c.keys_to.result c.first_at.result
-    c.search-of_ranges.result c.search.result c.ranges_to.ensures c.first_at.ensures c.low.ensures c.keys_to.ensures c.search-of_ranges.ensures c.search.ensures
+    places_searched now.held now.index c.args.txn c.args.lock.now c.requires.indexed c.low.result.now c.ranges_to.result
+    c.keys_to.result c.first_at.result
+    c.search-of_ranges.result c.search.result c.ranges_to.ensures c.first_at.ensures c.low.ensures c.keys_to.ensures
+    c.search-of_ranges.ensures c.search.ensures
 
 pub returns-clause-free : goal.returns-clause-free
 returns-clause-free c = free_where_none c.args.self.now.held c.args.txn c.args.lock.now c.search.result (least c)

@@ -14,5 +14,7 @@ pub returns-in-Some-clause-kept : goal.returns-in-Some-clause-kept
 returns-in-Some-clause-kept c =
     let old = c.args.self.now in
     let all : c.as_slice.result.now ≡ locks_in old.held c.args.txn = c.as_slice.ensures.value ∙ c.in-Some.ensures.was in
-    released_index old.held c.drop_all.new.self c.args.txn old.index c.forget.new.index c.requires c.ranges.txn.fits c.in-Some.ensures.listed
-    (subst (λ (locks : List Lock). (q : Entry) → contains entry_cmp c.forget.new.index q ≡ (contains entry_cmp old.index q && not (list_any (is_entry_of c.args.txn q) locks))) all c.forget.ensures)
+    released_index old.held c.drop_all.new.self c.args.txn old.index c.forget.new.index c.requires c.ranges.txn.fits
+    c.in-Some.ensures.listed
+    (subst (λ (locks : List Lock). (q : Entry) → contains entry_cmp c.forget.new.index q
+    ≡ (contains entry_cmp old.index q && not (list_any (is_entry_of c.args.txn q) locks))) all c.forget.ensures)

@@ -7,11 +7,13 @@ use Rattle.range_locks.proofs.parts.Parts.untake.Goals as goal
 pub returns-then-not-has-clause-kept : goal.returns-then-not-has-clause-kept
 returns-then-not-has-clause-kept c =
     let e : Entry = record { lock = c.pop-lock.result; txn = c.args.txn } in
-    removed_index c.args.self.now.held c.pop-lock.new.self c.args.txn c.args.self.now.index c.remove.new.self c.requires.indexed c.pop-lock.result c.ranges.txn.fits
+    removed_index c.args.self.now.held c.pop-lock.new.self c.args.txn c.args.self.now.index c.remove.new.self
+    c.requires.indexed c.pop-lock.result c.ranges.txn.fits
     c.pop-lock.ensures.was c.pop-lock.ensures.others (sym c.has.ensures ∙ c.if-not-has.true)
     (changed false c.args.self.now.index c.remove.new.self e e c.remove.ensures.updates.0 refl)
 
 pub returns-else-not-has-clause-kept : goal.returns-else-not-has-clause-kept
 returns-else-not-has-clause-kept c =
-    kept_index c.args.self.now.held c.pop-lock.new.self c.args.txn c.args.self.now.index c.args.self.now.index c.requires.indexed c.pop-lock.result c.ranges.txn.fits
+    kept_index c.args.self.now.held c.pop-lock.new.self c.args.txn c.args.self.now.index c.args.self.now.index
+    c.requires.indexed c.pop-lock.result c.ranges.txn.fits
     c.pop-lock.ensures.was c.pop-lock.ensures.others (sym c.has.ensures ∙ c.if-not-has.false)

@@ -6,10 +6,12 @@ use Rattle.record_key.proofs.entries.Entries.drop_from.Goals as goal
 
 pub invariant_of-self : goal.invariant_of-self
 invariant_of-self c =
-    (dropped c.self.inside.bytes.items (λ (e : Entry). is_below e.key c.args.key.now) _ _ (λ s b g t filled called. search rules)
+    (dropped c.self.inside.bytes.items (λ (e : Entry). is_below e.key c.args.key.now)
+    _ _ (λ s b g t filled called. search rules)
     c.self.inside.slots.items c.retain.new.self.items c.self.invariant c.retain.ensures.filtered).0
 
 pub returns : goal.returns
 returns c = rw (← c.self.view_is, c.forget_bytes.ensures)
-    ((dropped c.self.inside.bytes.items (λ (e : Entry). is_below e.key c.args.key.now) _ _ (λ s b g t filled called. search rules)
+    ((dropped c.self.inside.bytes.items (λ (e : Entry). is_below e.key c.args.key.now)
+    _ _ (λ s b g t filled called. search rules)
     c.self.inside.slots.items c.retain.new.self.items c.self.invariant c.retain.ensures.filtered).1)

@@ -12,7 +12,8 @@ some_slot = record { number = 0; place = 0 }
 pub returns-clause-place : goal.returns-clause-place
 returns-clause-place c =
     rw (← c.self.view_is)
-    (entries_searched (entry_in c.self.inside.bytes.items) c.self.inside.slots.items 0 (rw (← c.self.view_is) at c.requires)
+    (entries_searched (entry_in c.self.inside.bytes.items) c.self.inside.slots.items 0
+    (rw (← c.self.view_is) at c.requires)
     c.args.number some_slot c.binary_search_by.result (rw c.as_slice.ensures at c.binary_search_by.ensures.bound)
     (rw c.as_slice.ensures at (c.binary_search_by.ensures.position (λ (s : Slot). nat_cmp s.number c.args.number)
     (always_returns_same _ _ _ (λ a r g called. search rules)))))

@@ -14,9 +14,11 @@ returns c =
     let m : a.len ≡ length c.args.self.now = sym c.self.invariant.0 ∙ ap length c.self.view_is in
     let n : b.len ≡ length c.args.other.now = sym c.other.invariant.0 ∙ ap length c.other.view_is in
     let first : length c.args.self.now ≤ 32 =
-    subst (λ l. length c.args.self.now ≤ l) c.self.told (subst (λ l. length l ≤ length a.bytes) c.self.view_is (take_short a.len a.bytes)) in
+    subst (λ l. length c.args.self.now ≤ l) c.self.told
+    (subst (λ l. length l ≤ length a.bytes) c.self.view_is (take_short a.len a.bytes)) in
     let second : length c.args.other.now ≤ 32 =
-    subst (λ l. length c.args.other.now ≤ l) c.other.told (subst (λ l. length l ≤ length b.bytes) c.other.view_is (take_short b.len b.bytes)) in
+    subst (λ l. length c.args.other.now ≤ l) c.other.told
+    (subst (λ l. length l ≤ length b.bytes) c.other.view_is (take_short b.len b.bytes)) in
     c.then.ensures ∙ (λ i. ordering_then (c.order.ensures i) (c.cmp.ensures i))
     ∙ (λ i. ordering_then (slice_cmp nat_cmp (xs i) (ys i)) (nat_cmp (m i) (n i)))
     ∙ padded_order 32 c.args.self.now c.args.other.now first second

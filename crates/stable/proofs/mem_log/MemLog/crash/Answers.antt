@@ -11,11 +11,18 @@ returns-clause-left c =
     let all : end ≡ length left = grind (arith, common_steps) in
     let same_end : min end (length m.bytes.items) ≡ min (m.forced + c.args.kept) (length m.bytes.items) = omega arith in
     let Left : LogState → Type 0 = λ old.
-    record { forced = take end left; pending = drop end left; countdown = m.faults.countdown; failures = m.faults.failures.count }
+    record {
+      forced = take end left;
+      pending = drop end left;
+      countdown = m.faults.countdown;
+      failures = m.faults.failures.count;
+    }
     ≡ with_bytes old (old.forced ++ take c.args.kept old.pending) [] in
-    subst Left c.self.view_is (crash_state m.bytes.items left m.forced c.args.kept end _ _ c.truncate.ensures.items all same_end)
+    subst Left c.self.view_is
+    (crash_state m.bytes.items left m.forced c.args.kept end _ _ c.truncate.ensures.items all same_end)
 
 pub returns-clause-law : goal.returns-clause-law
 returns-clause-law c =
     let old = c.args.self.now in
-    subst (MayLeave old.forced old.pending) (sym (ap (λ log. log.forced) (returns-clause-left c))) (crash_leaves old.forced old.pending c.args.kept)
+    subst (MayLeave old.forced old.pending) (sym (ap (λ log. log.forced) (returns-clause-left c)))
+    (crash_leaves old.forced old.pending c.args.kept)

@@ -5,4 +5,5 @@ use Rattle.tc_core.proofs.open_txns.OpenTxns.oldest.Given as goal
 
 -- none of those seen is wanted
 abbrev pub invariant-loop-slot : goal.invariant-loop-slot
-invariant-loop-slot l = oldest (wants l.wanted) (in_slots l.self-inside.txns l.slot-iterator) ≡ oldest (wants l.wanted) l.self
+invariant-loop-slot l = oldest (wants l.wanted) (in_slots l.self-inside.txns l.slot-iterator)
+    ≡ oldest (wants l.wanted) l.self

@@ -39,10 +39,13 @@ returns-in-Ok-clause-kept g c =
     let P : Bytes → Type 0 = λ k. IsFree w.locks t (at_key Exclusive k) in
     let Q : Bytes → Type 0 = λ k. c.take.new.locks ≡ set_spans t (at_key Exclusive k ∷ spans_of w.locks t) w.locks in
     let key = c.copied.ensures ∙ c.key.ensures in
-    let free : IsFree w.locks o.txn (at_key Exclusive (key_of op)) = rw found.at.number (subst P key c.in_ok-take.ensures.free) in
-    let taken : c.take.new.locks ≡ set_spans t (at_key Exclusive (key_of op) ∷ spans_of w.locks t) w.locks = subst Q key c.in_ok-take.ensures.taken in
+    let free : IsFree w.locks o.txn (at_key Exclusive (key_of op)) =
+    rw found.at.number (subst P key c.in_ok-take.ensures.free) in
+    let taken : c.take.new.locks ≡ set_spans t (at_key Exclusive (key_of op) ∷ spans_of w.locks t) w.locks =
+    subst Q key c.in_ok-take.ensures.taken in
     rw (
-      happened w t o (Stepped c.in-Ok.number c.in-Ok.number (Some c.in-Ok.number)) c.change.new.self found.at c.change.ensures,
+      happened w t o (Stepped c.in-Ok.number c.in-Ok.number (Some c.in-Ok.number)) c.change.new.self found.at
+          c.change.ensures,
       taken,
       appended.log,
       appended.number_is,
@@ -53,15 +56,19 @@ returns-in-Ok-clause-kept g c =
 
 pub untake-requires : goal.untake-requires
 untake-requires g c =
-    holds_some c.args.self.now.locks c.take.new.locks c.args.txn (at_key Exclusive c.copied.result) c.requires.locks.table c.in_ok-take.ensures.taken
+    holds_some c.args.self.now.locks c.take.new.locks c.args.txn (at_key Exclusive c.copied.result)
+    c.requires.locks.table c.in_ok-take.ensures.taken
 
 left : (g : _) (c : goal.After-untake g) → c.untake.new.self ≡ c.args.self.now.locks
 left g c =
-    untaken c.args.self.now.locks c.take.new.locks c.args.txn (at_key Exclusive c.copied.result) c.requires.locks.table c.in_ok-take.ensures.taken
+    untaken c.args.self.now.locks c.take.new.locks c.args.txn (at_key Exclusive c.copied.result) c.requires.locks.table
+    c.in_ok-take.ensures.taken
     c.untake.new.self c.untake.ensures
 
 pub returns-in-Err-clause-kept : goal.returns-in-Err-clause-kept
-returns-in-Err-clause-kept g c = rw (left g c) (keeps_refused (seen c.args.self.now) c.in-Err.refusal c.append.new.self c.requires c.in-Err.ensures.left)
+returns-in-Err-clause-kept g c =
+    rw (left g c) (keeps_refused (seen c.args.self.now) c.in-Err.refusal c.append.new.self c.requires
+    c.in-Err.ensures.left)
 
 pub returns-in-Err-clause-gives : goal.returns-in-Err-clause-gives
 returns-in-Err-clause-gives g c =
@@ -69,4 +76,8 @@ returns-in-Err-clause-gives g c =
     let P : Bytes → Type 0 = λ k. IsFree w.locks c.args.txn (at_key Exclusive k) in
     let free = subst P (c.copied.ensures ∙ c.key.ensures) c.in_ok-take.ensures.free in
     rw (c.in_ok-prev.ensures.found.allowed, left g c)
-    (inr (free, refuses w (is_spent w.log) c.in-Err.refusal c.append.new.self c.in-Err.ensures.refused c.in-Err.ensures.left))
+    (inr (
+      free,
+      refuses w (is_spent w.log) c.in-Err.refusal c.append.new.self c.in-Err.ensures.refused
+          c.in-Err.ensures.left,
+    ))

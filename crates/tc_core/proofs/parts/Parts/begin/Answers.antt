@@ -18,13 +18,16 @@ returns-in-Ok-clause-kept g c =
 left : (g : _) (c : goal.After-remove g) → c.remove.new.self ≡ c.args.self.now.open_txns
 left g c =
     let old = c.args.self.now in
-    let below : AreBelow c.begun.result.txn old.open_txns = rw (c.begun.ensures, c.len-txn.ensures.count) (all_below (seen old) c.requires) in
+    let below : AreBelow c.begun.result.txn old.open_txns =
+    rw (c.begun.ensures, c.len-txn.ensures.count) (all_below (seen old) c.requires) in
     let number : c.len-txn.result + 1 ≡ c.begun.result.txn = rw c.begun.ensures refl in
     c.remove.ensures ∙ ap (without (c.len-txn.result + 1)) c.in_ok-add.ensures.added
     ∙ ap (λ t. without t (c.begun.result ∷ old.open_txns)) number ∙ without_new c.begun.result old.open_txns below
 
 pub returns-in-Err-clause-kept : goal.returns-in-Err-clause-kept
-returns-in-Err-clause-kept g c = rw (left g c) (keeps_refused (seen c.args.self.now) c.in-Err.refusal c.append.new.self c.requires c.in-Err.ensures.left)
+returns-in-Err-clause-kept g c =
+    rw (left g c) (keeps_refused (seen c.args.self.now) c.in-Err.refusal c.append.new.self c.requires
+    c.in-Err.ensures.left)
 
 pub returns-in-Err-clause-gives : goal.returns-in-Err-clause-gives
 returns-in-Err-clause-gives g c =

@@ -9,7 +9,11 @@ returns-then-low-greatest_low-clause-refused g c =
     let n = c.greatest_low.result in
     let P : Bool → Type 0 = λ b. MatchBool b (IsGreatestLow w.log w.stable n) (n ≡ 0) in
     let greatest = subst P c.in_ok-running.ensures.ok c.greatest_low.ensures in
-    inr (c.in_ok-running.ensures.allowed, refl, λ may. omega (arith, greatest.greatest c.args.low may, c.if-low-greatest_low.true))
+    inr (
+      c.in_ok-running.ensures.allowed,
+      refl,
+      λ may. omega (arith, greatest.greatest c.args.low may, c.if-low-greatest_low.true),
+    )
 
 pub returns-clause-allowed : goal.returns-clause-allowed
 returns-clause-allowed g c =

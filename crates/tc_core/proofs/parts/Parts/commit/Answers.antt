@@ -11,7 +11,10 @@ append-requires g c =
     let o = c.in_ok-idle.field-0.now in
     let found = c.in_ok-idle.ensures.found in
     let fits = fits_commit w o c.requires found.at.is found.waiting in
-    rw (← found.at.number) (record { fits = fits; numbers = fits_numbers w.log (Commit o.txn) c.requires.few.records fits })
+    rw (← found.at.number) (record {
+      fits = fits;
+      numbers = fits_numbers w.log (Commit o.txn) c.requires.few.records fits;
+    })
 
 pub returns-clause-kept : goal.returns-clause-kept
 returns-clause-kept g c =

@@ -43,7 +43,8 @@ unreachable-requires g c =
 -- the compensation is of the loser that was found
 of_loser : (log : List Record) (x : Loser) (k : Chain) (r : Record) → k ≡ record { txn = x.txn; last = x.last }
     → Compensates log k.txn 0 r → Compensates log x.txn 0 r
-of_loser log x k r same h = let P : ℕ → Type 0 = λ t. Compensates log t 0 r in subst P (ap (λ (c : Chain). c.txn) same) h
+of_loser log x k r same h = let P : ℕ → Type 0 = λ t. Compensates log t 0 r in
+    subst P (ap (λ (c : Chain). c.txn) same) h
 
 pub append-requires : goal.append-requires
 append-requires g c =
@@ -58,10 +59,15 @@ it_is g c =
     let w = seen c.args.self.now in
     let x = c.args.loser in
     let r = c.in-Write.compensation in
-    lost_is w c.requires.kept c.requires.undoing x r c.requires.next (of_loser w.log x c.chain.result r c.chain.ensures c.in-Write.ensures)
+    lost_is w c.requires.kept c.requires.undoing x r c.requires.next
+    (of_loser w.log x c.chain.result r c.chain.ensures c.in-Write.ensures)
 
 now : (g : _) (c : goal.After-self-1 g)
-    → seen (record c.args.self.now { log = c.append.new.self; phase = Undoing c.if-asks.waiting; losers = c.compensated.new.self })
+    → seen (record c.args.self.now {
+      log = c.append.new.self;
+      phase = Undoing c.if-asks.waiting;
+      losers = c.compensated.new.self;
+    })
     ≡ lost_compensated (seen c.args.self.now) c.args.loser c.compensated.new.self
 now g c =
     let w = seen c.args.self.now in
@@ -86,12 +92,16 @@ returns-clause-kept g c =
     let is = it_is g c in
     let P : Record → Type 0 = Fits w.log in
     let fits : Fits w.log (lost_comp w.log x) =
-    subst P is (fits_comp w.log x.txn 0 c.in-Write.compensation (of_loser w.log x c.chain.result c.in-Write.compensation c.chain.ensures c.in-Write.ensures)) in
+    subst P is (fits_comp w.log x.txn 0 c.in-Write.compensation
+    (of_loser w.log x c.chain.result c.in-Write.compensation c.chain.ensures c.in-Write.ensures)) in
     let next : c.left_by-next.result.0 ≡ next_of w.log x.left = c.left_by-next.ensures.next ∙ ap undo_next_in is in
     let Q : ℕ → Type 0 = λ m. TakesComp w.losers c.in_ok-number.number m l in
     let R : ℕ → Type 0 = λ n. TakesComp w.losers n (next_of w.log x.left) l in
-    let taken : TakesComp w.losers (length w.log + 1) (next_of w.log x.left) l = subst R appended.number_is (subst Q next c.compensated.ensures.taken) in
-    subst IsTc (sym (now g c)) (keeps_lost_comp w c.requires.kept c.requires.undoing x l c.requires.next fits taken c.compensated.ensures.same appended.unspent)
+    let taken : TakesComp w.losers (length w.log + 1) (next_of w.log x.left) l =
+    subst R appended.number_is (subst Q next c.compensated.ensures.taken) in
+    subst IsTc (sym (now g c))
+    (keeps_lost_comp w c.requires.kept c.requires.undoing x l c.requires.next fits taken c.compensated.ensures.same
+    appended.unspent)
 
 pub returns-clause-gives : goal.returns-clause-gives
 returns-clause-gives g c =

@@ -14,11 +14,13 @@ pub after_redo-self-requires : goal.after_redo-self-requires
 after_redo-self-requires g c =
     let w = seen c.args.self.now in
     rw c.in_ok-append.ensures.appended.log
-    (losers_ended w c.requires.kept c.requires.undoing c.args.txn c.ended.new.self c.requires.least c.ended.ensures.taken c.ended.ensures.same)
+    (losers_ended w c.requires.kept c.requires.undoing c.args.txn c.ended.new.self c.requires.least
+    c.ended.ensures.taken c.ended.ensures.same)
 
 pub returns-clause-kept : goal.returns-clause-kept
 returns-clause-kept g c =
     let w = seen c.args.self.now in
     let appended = c.in_ok-append.ensures.appended in
     rw (appended.log, c.after_redo-self.ensures, c.release.ensures)
-    (keeps_lost_end w c.requires.kept c.requires.undoing c.args.txn c.ended.new.self c.requires.least c.ended.ensures.taken c.ended.ensures.same appended.unspent)
+    (keeps_lost_end w c.requires.kept c.requires.undoing c.args.txn c.ended.new.self c.requires.least
+    c.ended.ensures.taken c.ended.ensures.same appended.unspent)

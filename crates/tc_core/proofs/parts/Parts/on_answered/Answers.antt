@@ -16,7 +16,11 @@ append-requires g c =
     let o = c.in-Some.opened.now in
     let at = awaited_is w c.args.number o (sym c.awaiting.ensures ∙ ap option_copied c.in-Some.is) in
     let fits = fits_answer w o c.args.number c.copied.result c.requires at.0 at.1 in
-    record { fits = fits; numbers = fits_numbers w.log (Answer c.args.number c.copied.result) c.requires.few.records fits }
+    record {
+      fits = fits;
+      numbers = fits_numbers w.log (Answer c.args.number c.copied.result) c.requires.few.records
+          fits;
+    }
 
 pub pass-requires-clause-kept : goal.pass-requires-clause-kept
 pass-requires-clause-kept g c =
@@ -24,8 +28,12 @@ pass-requires-clause-kept g c =
     let o = c.in-Some.opened.now in
     let at = awaited_is w c.args.number o (sym c.awaiting.ensures ∙ ap option_copied c.in-Some.is) in
     let appended = c.in_ok-append.ensures.appended in
-    rw (happened w o.txn o Answered c.change.new.self (record { is = at.0; number = refl }) c.change.ensures, appended.log)
-    (keeps_passed (answered w o c.args.number c.copied.result) c.args.number (sym c.takes.ensures ∙ c.if-not-takes.false)
+    rw (
+      happened w o.txn o Answered c.change.new.self (record { is = at.0; number = refl }) c.change.ensures,
+      appended.log,
+    )
+    (keeps_passed (answered w o c.args.number c.copied.result) c.args.number
+    (sym c.takes.ensures ∙ c.if-not-takes.false)
     (λ q asks. newly_answered w.log c.args.number c.copied.result)
     (keeps_answer w o c.args.number c.copied.result c.requires at.0 at.1 appended.unspent))
 

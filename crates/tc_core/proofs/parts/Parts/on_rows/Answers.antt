@@ -12,7 +12,8 @@ returns-clause-kept g c =
     let w = seen c.args.self.now in
     let o = c.in-Some.opened.now in
     let at = (reader_is w c.args.read o c.requires (sym c.oldest.ensures ∙ ap option_copied c.in-Some.is)).0 in
-    rw (happened w o.txn o Told c.change.new.self (record { is = at; number = refl }) c.change.ensures) (keeps_told w o c.requires at)
+    rw (happened w o.txn o Told c.change.new.self (record { is = at; number = refl }) c.change.ensures)
+    (keeps_told w o c.requires at)
 
 pub returns-clause-gives : goal.returns-clause-gives
 returns-clause-gives g c =
@@ -20,5 +21,10 @@ returns-clause-gives g c =
     let o = c.in-Some.opened.now in
     let is : reader w c.args.read ≡ Some o = sym c.oldest.ensures ∙ ap option_copied c.in-Some.is in
     let at = (reader_is w c.args.read o c.requires is).0 in
-    rw (happened w o.txn o Told c.change.new.self (record { is = at; number = refl }) c.change.ensures, is, sym c.reads_range.ensures ∙ c.if-not-reads_range.false, c.in_ok-rows.ensures)
+    rw (
+      happened w o.txn o Told c.change.new.self (record { is = at; number = refl }) c.change.ensures,
+      is,
+      sym c.reads_range.ensures ∙ c.if-not-reads_range.false,
+      c.in_ok-rows.ensures,
+    )
     (record { told = refl; left = refl })

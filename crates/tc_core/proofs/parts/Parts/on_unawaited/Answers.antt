@@ -9,17 +9,23 @@ use Rattle.tc_core.proofs.parts.Parts.on_unawaited.Goals as goal
 pub pass-requires-clause-kept : goal.pass-requires-clause-kept
 pass-requires-clause-kept g c =
     let w = seen c.args.self.now in
-    keeps_passed w c.args.number c.requires.taken (not_lacking w c.args.number (sym c.lacks.ensures ∙ c.if-not-lacks.true)) c.requires.kept
+    keeps_passed w c.args.number c.requires.taken
+    (not_lacking w c.args.number (sym c.lacks.ensures ∙ c.if-not-lacks.true)) c.requires.kept
 
 pub append-requires : goal.append-requires
 append-requires g c =
     let w = seen c.args.self.now in
     let fits = fits_lacking w c.args.number (sym c.lacks.ensures ∙ c.if-not-lacks.false) in
-    record { fits = fits; numbers = fits_numbers w.log (Answer c.args.number c.copied.result) c.requires.kept.few.records fits }
+    record {
+      fits = fits;
+      numbers = fits_numbers w.log (Answer c.args.number c.copied.result)
+          c.requires.kept.few.records fits;
+    }
 
 pub pass-requires-2-clause-kept : goal.pass-requires-2-clause-kept
 pass-requires-2-clause-kept g c =
     let w = seen c.args.self.now in
     let appended = c.in_ok-append.ensures.appended in
     rw appended.log
-    (keeps_lost_answer w c.requires.kept c.args.number c.copied.result (sym c.lacks.ensures ∙ c.if-not-lacks.false) c.requires.unawaited c.requires.taken appended.unspent)
+    (keeps_lost_answer w c.requires.kept c.args.number c.copied.result (sym c.lacks.ensures ∙ c.if-not-lacks.false)
+    c.requires.unawaited c.requires.taken appended.unspent)

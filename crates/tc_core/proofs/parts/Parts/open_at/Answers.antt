@@ -19,5 +19,6 @@ finds w t o running allowed is = record {
 
 pub returns-in-Some-clause-found : goal.returns-in-Some-clause-found
 returns-in-Some-clause-found g c =
-    finds (seen c.args.self.now) c.args.txn c.in-Some.opened.now c.in_ok-serving.ensures.ok c.in_ok-serving.ensures.allowed
+    finds (seen c.args.self.now) c.args.txn c.in-Some.opened.now c.in_ok-serving.ensures.ok
+    c.in_ok-serving.ensures.allowed
     (sym c.find.ensures ∙ ap option_copied c.in-Some.is)

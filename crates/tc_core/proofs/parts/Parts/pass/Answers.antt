@@ -16,4 +16,5 @@ pub returns-in-Undoing-clause-kept : goal.returns-in-Undoing-clause-kept
 returns-in-Undoing-clause-kept g c =
     let w = seen c.args.self.now in
     let P : Phase → Type 0 = λ p. IsTc (record w { phase = p }) in
-    subst P (ap (λ p. next_phase p c.args.number) c.in-Undoing.is ∙ ap Undoing (sym c.left_waiting-waiting.ensures)) c.requires.kept
+    subst P (ap (λ p. next_phase p c.args.number) c.in-Undoing.is ∙ ap Undoing (sym c.left_waiting-waiting.ensures))
+    c.requires.kept

@@ -18,7 +18,8 @@ returns-clause-kept g c =
     let free : IsFree w.locks o.txn (shared c.args.span) = rw found.at.number c.in_ok-take.ensures.free in
     let unspent : w.reads < 281474976710655 = grind (arith, nat_tests, c.in_ok-take.ensures.unspent) in
     rw (
-      happened w c.args.txn o (Reads (record { number = w.reads + 1; span = c.args.span })) c.change.new.self found.at c.change.ensures,
+      happened w c.args.txn o (Reads (record { number = w.reads + 1; span = c.args.span })) c.change.new.self found.at
+          c.change.ensures,
       c.in_ok-take.ensures.taken,
       ← found.at.number,
     )

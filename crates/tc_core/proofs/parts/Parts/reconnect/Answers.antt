@@ -8,7 +8,8 @@ use Rattle.tc_core.proofs.parts.Parts.reconnect.Goals as goal
 
 pub force-requires : goal.force-requires
 force-requires g c =
-    let appended = c.in_ok-session.ensures.appended in rw appended.log (keeps_logged (seen c.args.self.now) c.requires appended.unspent)
+    let appended = c.in_ok-session.ensures.appended in
+    rw appended.log (keeps_logged (seen c.args.self.now) c.requires appended.unspent)
 
 pub returns-clause-kept : goal.returns-clause-kept
 returns-clause-kept g c =
@@ -20,4 +21,5 @@ returns-clause-kept g c =
       announced = 0;
       checkpointing = None;
     }) in
-    subst P (sym c.in_ok-committed.ensures.gives.2) (rw (appended.log, appended.number_is) (keeps_session w c.requires appended.unspent))
+    subst P (sym c.in_ok-committed.ensures.gives.2)
+    (rw (appended.log, appended.number_is) (keeps_session w c.requires appended.unspent))

@@ -10,11 +10,13 @@ returns-in-Some-clause-kept g c =
     let w = seen c.args.self.now in
     let found = c.in-Some.ensures in
     let at = c.requires.redoing in
-    keeps_redoing w c.requires.kept c.args.next at.0 c.in-Some.number false at.1 found.0 (omega (arith, found.1)) (λ e. absurd (true≢false (sym e))) found.3
+    keeps_redoing w c.requires.kept c.args.next at.0 c.in-Some.number false at.1 found.0 (omega (arith, found.1))
+    (λ e. absurd (true≢false (sym e))) found.3
 
 pub returns-in-None-clause-kept : goal.returns-in-None-clause-kept
 returns-in-None-clause-kept g c =
     let w = seen c.args.self.now in
     let at = c.requires.redoing in
     let P : Phase → Type 0 = IsPhase w.checkpointed w.session in
-    keeps_redoing w c.requires.kept c.args.next at.0 w.session true at.1 (subst P at.1 c.requires.kept.phase).1 (omega arith) (λ e. refl) c.in-None.ensures
+    keeps_redoing w c.requires.kept c.args.next at.0 w.session true at.1 (subst P at.1 c.requires.kept.phase).1
+    (omega arith) (λ e. refl) c.in-None.ensures

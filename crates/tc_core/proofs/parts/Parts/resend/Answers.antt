@@ -25,7 +25,15 @@ returns-in-Some g c =
     let found = c.in_ok-opened.ensures.found in
     record {
       gives = (
-        allowed w c.args.txn o c.in-Some.read found.allowed (at_number w c.args.txn o found.at) (reading_at w o c.in-Some.read c.requires found.at.is c.in-Some.is).idle c.in-Some.is,
-        inr (record { open_txn = o; read = c.in-Some.read; at = found.at; serving = found.serving; reading = c.in-Some.is; is = c.read_request.ensures }),
+        allowed w c.args.txn o c.in-Some.read found.allowed (at_number w c.args.txn o found.at)
+            (reading_at w o c.in-Some.read c.requires found.at.is c.in-Some.is).idle c.in-Some.is,
+        inr (record {
+          open_txn = o;
+          read = c.in-Some.read;
+          at = found.at;
+          serving = found.serving;
+          reading = c.in-Some.is;
+          is = c.read_request.ensures;
+        }),
       );
     }

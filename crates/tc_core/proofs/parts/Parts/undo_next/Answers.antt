@@ -6,4 +6,5 @@ pub unreachable-requires : goal.unreachable-requires
 unreachable-requires g c =
     let w = seen c.args.self.now in
     let k = c.requires.kept in
-    something_left w k c.requires.undoing (c.in_default.ensures w.log k.lost.losers) (c.in-None.ensures w.log k.lost.losers)
+    something_left w k c.requires.undoing (c.in_default.ensures w.log k.lost.losers)
+    (c.in-None.ensures w.log k.lost.losers)

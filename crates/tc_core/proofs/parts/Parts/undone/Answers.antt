@@ -30,7 +30,8 @@ returns-in-Some-clause-kept g c =
 left : (w : TcView) (t : ℕ) (b : Rollback) (may : MayStep w t b) → IsTc w → IsUndone w.log t b.above
     → may.open_txn.undo ≤ b.above
 left w t b may k undone =
-    let P : ℕ → Type 0 = λ n. IsUndone w.log n b.above in none_left w may.open_txn b.above k may.found.at.is (subst P (sym may.found.at.number) undone)
+    let P : ℕ → Type 0 = λ n. IsUndone w.log n b.above in
+    none_left w may.open_txn b.above k may.found.at.is (subst P (sym may.found.at.number) undone)
 
 pub returns-in-Some-clause-gives : goal.returns-in-Some-clause-gives
 returns-in-Some-clause-gives g c =
@@ -57,7 +58,8 @@ append-requires g c =
     let may = c.requires.may_step in
     let w = seen c.args.self.now in
     let fits = fits w c.args.txn c.args.rollback may c.requires.kept c.requires.undone c.in_default.is in
-    rw (← may.found.at.number) (record { fits = fits; numbers = fits_numbers w.log (End may.open_txn.txn) c.requires.kept.few.records fits })
+    rw (← may.found.at.number)
+    (record { fits = fits; numbers = fits_numbers w.log (End may.open_txn.txn) c.requires.kept.few.records fits })
 
 pub returns-clause-kept : goal.returns-clause-kept
 returns-clause-kept g c =
@@ -65,7 +67,8 @@ returns-clause-kept g c =
     let may = c.requires.may_step in
     let appended = c.in_ok-append.ensures.appended in
     rw (c.remove.ensures, c.release.ensures, appended.log, ← may.found.at.number)
-    (keeps_end w may.open_txn c.requires.kept may.found.at.is (fits w c.args.txn c.args.rollback may c.requires.kept c.requires.undone c.in_default.is) appended.unspent)
+    (keeps_end w may.open_txn c.requires.kept may.found.at.is
+    (fits w c.args.txn c.args.rollback may c.requires.kept c.requires.undone c.in_default.is) appended.unspent)
 
 pub returns-clause-gives : goal.returns-clause-gives
 returns-clause-gives g c =

@@ -9,5 +9,6 @@ pub returns-in_ok-insert-clause-same : goal.returns-in_ok-insert-clause-same
 returns-in_ok-insert-clause-same c =
     let P : List ℕ → Type 0 = λ k. Updates (slice_cmp nat_cmp) c.args.self.now.numbers c.insert.new.self k (Some 0) in
     put_zero c.args.self.now.numbers c.insert.new.self c.args.label.now
-    (none_there (get (slice_cmp nat_cmp) c.args.self.now.numbers c.args.label.now) (sym c.contains_key.ensures ∙ c.if-not-contains_key.true))
+    (none_there (get (slice_cmp nat_cmp) c.args.self.now.numbers c.args.label.now)
+    (sym c.contains_key.ensures ∙ c.if-not-contains_key.true))
     (subst P c.copied.ensures c.in_ok-insert.ensures.updates)

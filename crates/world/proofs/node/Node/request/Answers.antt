@@ -18,10 +18,12 @@ serve-requires-clause-key c =
     let w = seen c.args.self.now in
     let q = c.in-Ok.value in
     let Asks : DataComponent → Type 0 = λ component. MayAsk (dc_of component).dc q in
-    subst Asks c.in-Up.is (may_ask w q c.requires (all_at (IsSent w.tc w.dc) w.requests c.args.number q c.requires.sent c.in-Ok.ensures.found))
+    subst Asks c.in-Up.is (may_ask w q c.requires
+    (all_at (IsSent w.tc w.dc) w.requests c.args.number q c.requires.sent c.in-Ok.ensures.found))
 
 pub push-requires : goal.push-requires
 push-requires c =
     let q = c.in-Ok.value in
     let Served : Option Reply → Type 0 = λ reply. ServeGives c.in-Up.dc q (Ok reply) c.serve.new.self in
-    reply_ordered q c.in-Some.reply c.in-Up.dc c.serve.new.self c.in-Ok.ensures.spelled (subst Served c.in-Some.is c.in-Ok-serve.ensures.gives).1
+    reply_ordered q c.in-Some.reply c.in-Up.dc c.serve.new.self c.in-Ok.ensures.spelled
+    (subst Served c.in-Some.is c.in-Ok-serve.ensures.gives).1

@@ -10,7 +10,8 @@ invariant_of-result c =
     let d = c.self.inside.devices in
     let e = c.in-Err.field-0.devices in
     let is =
-    down_kept d.log e.log d.pages e.pages c.self.inside.found.log c.on-found.result.log c.in-Err.field-0.refusal c.self.invariant.1.1 c.self.invariant.0 c.in-Err.ensures.log_left c.on-found.ensures
+    down_kept d.log e.log d.pages e.pages c.self.inside.found.log c.on-found.result.log c.in-Err.field-0.refusal
+    c.self.invariant.1.1 c.self.invariant.0 c.in-Err.ensures.log_left c.on-found.ensures
     c.in-Err.ensures.pages_left c.in-Err.ensures.failures_left in
     (c.on-found.ensures, (c.in-Err.ensures.none_left, is))
 
@@ -20,7 +21,9 @@ Recovered dc = IsRecoverable dc.system
 pub returns-in-Ok-clause-restarted : goal.returns-in-Ok-clause-restarted
 returns-in-Ok-clause-restarted c =
     let d = c.self.inside.devices in
-    opened_is d.log d.pages c.self.inside.found.log c.in-Ok.dc c.self.invariant.0 (subst Recovered (sym c.self.view_is) c.requires) c.in-Ok.ensures.recovers c.in-Ok.ensures.restarted c.in-Ok.ensures.failures
+    opened_is d.log d.pages c.self.inside.found.log c.in-Ok.dc c.self.invariant.0
+    (subst Recovered (sym c.self.view_is) c.requires) c.in-Ok.ensures.recovers c.in-Ok.ensures.restarted
+    c.in-Ok.ensures.failures
     ∙ c.self.view_is
 
 pub returns-in-Err-clause-refused : goal.returns-in-Err-clause-refused
@@ -30,5 +33,7 @@ returns-in-Err-clause-refused c =
     let left : DcView = found_on e.log e.pages c.on-found.result.log in
     let P : DcView → Type 0 = λ old. IsDownWith old c.in-Err.field-0.refusal left in
     subst P c.self.view_is
-    (down_with d.log e.log d.pages e.pages c.self.inside.found.log c.on-found.result.log c.in-Err.field-0.refusal c.self.invariant.1.1 (subst Recovered (sym c.self.view_is) c.requires) c.self.invariant.0
-    c.in-Err.ensures.log_left c.on-found.ensures c.in-Err.ensures.pages_left c.in-Err.ensures.failures_left c.in-Err.ensures.refused)
+    (down_with d.log e.log d.pages e.pages c.self.inside.found.log c.on-found.result.log c.in-Err.field-0.refusal
+    c.self.invariant.1.1 (subst Recovered (sym c.self.view_is) c.requires) c.self.invariant.0
+    c.in-Err.ensures.log_left c.on-found.ensures c.in-Err.ensures.pages_left c.in-Err.ensures.failures_left
+    c.in-Err.ensures.refused)

@@ -16,7 +16,13 @@ on-found-requires c =
     let device = c.stop-device.result in
     let all = device_length w device c.end_of-end.result c.records.result
     c.stop-device.ensures.holds c.records.ensures c.end_of-end.ensures in
-    let halted : IsHalted w device = record { holds = c.stop-device.ensures.holds; forced = c.stop-device.ensures.forced; spellable = c.stop-device.ensures.spellable; failures = c.stop-device.ensures.failures } in
+    let halted : IsHalted w device =
+    record {
+      holds = c.stop-device.ensures.holds;
+      forced = c.stop-device.ensures.forced;
+      spellable = c.stop-device.ensures.spellable;
+      failures = c.stop-device.ensures.failures;
+    } in
     let crash = tc_crash_of w device c.args.frames c.bytes_kept_of-kept.result c.end_of-end.result
     c.saturating_sub.result c.crash.new.self all (omega (arith, c.saturating_sub.ensures, ap length c.pending.ensures))
     halted c.crash.ensures.left c.crash.ensures.law c.bytes_kept_of-kept.ensures in
@@ -32,7 +38,13 @@ returns c =
     let device = c.stop-device.result in
     let all = device_length w device c.end_of-end.result c.records.result
     c.stop-device.ensures.holds c.records.ensures c.end_of-end.ensures in
-    let halted : IsHalted w device = record { holds = c.stop-device.ensures.holds; forced = c.stop-device.ensures.forced; spellable = c.stop-device.ensures.spellable; failures = c.stop-device.ensures.failures } in
+    let halted : IsHalted w device =
+    record {
+      holds = c.stop-device.ensures.holds;
+      forced = c.stop-device.ensures.forced;
+      spellable = c.stop-device.ensures.spellable;
+      failures = c.stop-device.ensures.failures;
+    } in
     let crash = tc_crash_of w device c.args.frames c.bytes_kept_of-kept.result c.end_of-end.result
     c.saturating_sub.result c.crash.new.self all (omega (arith, c.saturating_sub.ensures, ap length c.pending.ensures))
     halted c.crash.ensures.left c.crash.ensures.law c.bytes_kept_of-kept.ensures in

@@ -12,19 +12,24 @@ returns-in-Ok-clause-restarted c =
     let device = c.self.inside.device in
     let P : TcView → Type 0 = λ old. IsOpenedAgain old c.in-Ok.tc in
     subst P c.self.view_is
-    (opens_again device.forced c.self.inside.found.log device.failures c.in-Ok.tc c.self.invariant.0 c.in-Ok.ensures.opened c.kept.ensures)
+    (opens_again device.forced c.self.inside.found.log device.failures c.in-Ok.tc c.self.invariant.0
+    c.in-Ok.ensures.opened c.kept.ensures)
 
 pub on-found-requires : goal.on-found-requires
 on-found-requires c =
-    let device = c.self.inside.device in
-    (c.self.inside.found.log, left_again device.forced c.in-Err.field-0.device.forced c.self.inside.found.log c.self.invariant.0 c.in-Err.ensures.left)
+    let device = c.self.inside.device in (
+      c.self.inside.found.log,
+      left_again device.forced c.in-Err.field-0.device.forced c.self.inside.found.log c.self.invariant.0
+          c.in-Err.ensures.left,
+    )
 
 pub invariant_of-result : goal.invariant_of-result
 invariant_of-result c = (c.on-found.ensures, c.in-Err.ensures.none_pending)
 
 pub returns-in-Err-clause-refused : goal.returns-in-Err-clause-refused
 returns-in-Err-clause-refused c =
-    never_bad c.self.inside.device.forced c.self.inside.found.log c.in-Err.field-0.refusal c.self.invariant.0 c.in-Err.ensures.refused
+    never_bad c.self.inside.device.forced c.self.inside.found.log c.in-Err.field-0.refusal c.self.invariant.0
+    c.in-Err.ensures.refused
 
 pub returns-in-Err-clause-left : goal.returns-in-Err-clause-left
 returns-in-Err-clause-left c =

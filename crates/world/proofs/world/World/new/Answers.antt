@@ -10,7 +10,9 @@ use Rattle.world.proofs.world.World.new.Goals as goal
 pub invariant_of-result : goal.invariant_of-result
 invariant_of-result c =
     let Dc : NodeView → Type 0 = λ w. IsDc w.dc in
-    subst IsKept (sym c.in_ok-new.ensures.fresh) (kept_fresh (subst Dc c.in_ok-new.ensures.fresh c.in_ok-new.ensures.dc))
+    subst IsKept (sym c.in_ok-new.ensures.fresh)
+    (kept_fresh (subst Dc c.in_ok-new.ensures.fresh c.in_ok-new.ensures.dc))
 
 pub returns-clause-stands : goal.returns-clause-stands
-returns-clause-stands c = let P : NodeView → Type 0 = λ w. Stands w fresh in subst P (sym c.in_ok-new.ensures.fresh) fresh_stands_for
+returns-clause-stands c = let P : NodeView → Type 0 = λ w. Stands w fresh in
+    subst P (sym c.in_ok-new.ensures.fresh) fresh_stands_for

@@ -49,10 +49,12 @@ pub returns-in-Some : goal.returns-in-Some
 returns-in-Some c =
     let w : NodeView = seen c.self.inside.node in
     let t = these c.self.inside.node c.in-Up-tc.tc c.in-Up.dc c.in-Up-tc.is c.in-Up.is in
-    let serving_now = serves w c.in-Up-tc.tc c.in-Up.dc c.is_apart.result c.phase.result t c.is_apart.ensures c.if-is_apart.false c.phase.ensures c.in-Running.is in
+    let serving_now = serves w c.in-Up-tc.tc c.in-Up.dc c.is_apart.result c.phase.result t c.is_apart.ensures
+    c.if-is_apart.false c.phase.ensures c.in-Running.is in
     let o = c.in-Some.open.now in
     let at : oldest (wants Unanswered) w.tc.open_txns ≡ Some o =
-    ap (λ (x : TcView). oldest (wants Unanswered) x.open_txns) t.tc_same ∙ sym c.first_unanswered.ensures ∙ ap option_copied c.in-Some.is in
+    ap (λ (x : TcView). oldest (wants Unanswered) x.open_txns) t.tc_same ∙ sym c.first_unanswered.ensures
+    ∙ ap option_copied c.in-Some.is in
     let stable : w.tc.stable ≡ c.stable_end-stable.result =
     ap (λ (x : TcView). x.stable) t.tc_same ∙ sym c.stable_end-stable.ensures in
     let P : ℕ → Type 0 = λ n. IsNext w (round_for o.txn n o.waiting) in
@@ -62,35 +64,59 @@ pub returns-in-Some-first_rolling : goal.returns-in-Some-first_rolling
 returns-in-Some-first_rolling c =
     let w : NodeView = seen c.self.inside.node in
     let t = these c.self.inside.node c.in-Up-tc.tc c.in-Up.dc c.in-Up-tc.is c.in-Up.is in
-    let serving_now = serves w c.in-Up-tc.tc c.in-Up.dc c.is_apart.result c.phase.result t c.is_apart.ensures c.if-is_apart.false c.phase.ensures c.in-Running.is in
+    let serving_now = serves w c.in-Up-tc.tc c.in-Up.dc c.is_apart.result c.phase.result t c.is_apart.ensures
+    c.if-is_apart.false c.phase.ensures c.in-Running.is in
     let none : oldest (wants Unanswered) w.tc.open_txns ≡ None =
-    ap (λ (x : TcView). oldest (wants Unanswered) x.open_txns) t.tc_same ∙ sym c.first_unanswered.ensures ∙ ap option_copied c.in_default-first_unanswered.is in
+    ap (λ (x : TcView). oldest (wants Unanswered) x.open_txns) t.tc_same ∙ sym c.first_unanswered.ensures
+    ∙ ap option_copied c.in_default-first_unanswered.is in
     let at : oldest (wants Rolling) w.tc.open_txns ≡ Some c.in-Some-first_rolling.open.now =
-    ap (λ (x : TcView). oldest (wants Rolling) x.open_txns) t.tc_same ∙ sym c.first_rolling.ensures ∙ ap option_copied c.in-Some-first_rolling.is in
+    ap (λ (x : TcView). oldest (wants Rolling) x.open_txns) t.tc_same ∙ sym c.first_rolling.ensures
+    ∙ ap option_copied c.in-Some-first_rolling.is in
     rw (← c.self.view_is) (serving_now, rolling_first w.tc c.in-Some-first_rolling.open.now c.self.invariant.tc none at)
 
 pub returns-then-stable-records : goal.returns-then-stable-records
 returns-then-stable-records c =
     let w : NodeView = seen c.self.inside.node in
     let t = these c.self.inside.node c.in-Up-tc.tc c.in-Up.dc c.in-Up-tc.is c.in-Up.is in
-    let serving_now = serves w c.in-Up-tc.tc c.in-Up.dc c.is_apart.result c.phase.result t c.is_apart.ensures c.if-is_apart.false c.phase.ensures c.in-Running.is in
+    let serving_now = serves w c.in-Up-tc.tc c.in-Up.dc c.is_apart.result c.phase.result t c.is_apart.ensures
+    c.if-is_apart.false c.phase.ensures c.in-Running.is in
     let none : oldest (wants Unanswered) w.tc.open_txns ≡ None =
-    ap (λ (x : TcView). oldest (wants Unanswered) x.open_txns) t.tc_same ∙ sym c.first_unanswered.ensures ∙ ap option_copied c.in_default-first_unanswered.is in
+    ap (λ (x : TcView). oldest (wants Unanswered) x.open_txns) t.tc_same ∙ sym c.first_unanswered.ensures
+    ∙ ap option_copied c.in_default-first_unanswered.is in
     let flat : oldest (wants Rolling) w.tc.open_txns ≡ None =
-    ap (λ (x : TcView). oldest (wants Rolling) x.open_txns) t.tc_same ∙ sym c.first_rolling.ensures ∙ ap option_copied c.in_default-first_rolling.is in
+    ap (λ (x : TcView). oldest (wants Rolling) x.open_txns) t.tc_same ∙ sym c.first_rolling.ensures
+    ∙ ap option_copied c.in_default-first_rolling.is in
     let less : w.tc.stable < length w.tc.log =
-    omega (arith, ap (λ (x : TcView). length x.log) t.tc_same, ap (λ (x : TcView). x.stable) t.tc_same, c.records.ensures, c.stable_end-stable.ensures, c.if-stable-records.true) in
+    omega (
+      arith,
+      ap (λ (x : TcView). length x.log) t.tc_same,
+      ap (λ (x : TcView). x.stable) t.tc_same,
+      c.records.ensures,
+      c.stable_end-stable.ensures,
+      c.if-stable-records.true,
+    ) in
     rw (← c.self.view_is) (inl (serving_now, inr (unrolled_all w.tc flat, idle_all w.tc none, less)))
 
 pub returns : goal.returns
 returns c =
     let w : NodeView = seen c.self.inside.node in
     let t = these c.self.inside.node c.in-Up-tc.tc c.in-Up.dc c.in-Up-tc.is c.in-Up.is in
-    let serving_now = serves w c.in-Up-tc.tc c.in-Up.dc c.is_apart.result c.phase.result t c.is_apart.ensures c.if-is_apart.false c.phase.ensures c.in-Running.is in
+    let serving_now = serves w c.in-Up-tc.tc c.in-Up.dc c.is_apart.result c.phase.result t c.is_apart.ensures
+    c.if-is_apart.false c.phase.ensures c.in-Running.is in
     let none : oldest (wants Unanswered) w.tc.open_txns ≡ None =
-    ap (λ (x : TcView). oldest (wants Unanswered) x.open_txns) t.tc_same ∙ sym c.first_unanswered.ensures ∙ ap option_copied c.in_default-first_unanswered.is in
+    ap (λ (x : TcView). oldest (wants Unanswered) x.open_txns) t.tc_same ∙ sym c.first_unanswered.ensures
+    ∙ ap option_copied c.in_default-first_unanswered.is in
     let flat : oldest (wants Rolling) w.tc.open_txns ≡ None =
-    ap (λ (x : TcView). oldest (wants Rolling) x.open_txns) t.tc_same ∙ sym c.first_rolling.ensures ∙ ap option_copied c.in_default-first_rolling.is in
+    ap (λ (x : TcView). oldest (wants Rolling) x.open_txns) t.tc_same ∙ sym c.first_rolling.ensures
+    ∙ ap option_copied c.in_default-first_rolling.is in
     let most : length w.tc.log ≤ w.tc.stable =
-    omega (arith, ap (λ (x : TcView). length x.log) t.tc_same, ap (λ (x : TcView). x.stable) t.tc_same, c.records.ensures, c.stable_end-stable.ensures, c.if-stable-records.false) in
-    rw (← c.self.view_is) (at_rest w c.self.invariant serving_now.running serving_now.up serving_now.session (unrolled_all w.tc flat) (idle_all w.tc none) most)
+    omega (
+      arith,
+      ap (λ (x : TcView). length x.log) t.tc_same,
+      ap (λ (x : TcView). x.stable) t.tc_same,
+      c.records.ensures,
+      c.stable_end-stable.ensures,
+      c.if-stable-records.false,
+    ) in
+    rw (← c.self.view_is) (at_rest w c.self.invariant serving_now.running serving_now.up serving_now.session
+    (unrolled_all w.tc flat) (idle_all w.tc none) most)

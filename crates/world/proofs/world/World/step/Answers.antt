@@ -4,9 +4,11 @@ use Rattle.world.proofs.world.World.step.Goals as goal
 
 pub invariant_of-self : goal.invariant_of-self
 invariant_of-self c =
-    (follows (seen c.self.inside.node) (seen c.step.new.self) c.args.event.now c.step.result c.self.invariant c.step.ensures.tc c.step.ensures.dc c.step.ensures.step).kept
+    (follows (seen c.self.inside.node) (seen c.step.new.self) c.args.event.now c.step.result c.self.invariant
+    c.step.ensures.tc c.step.ensures.dc c.step.ensures.step).kept
 
 pub returns-clause-leads : goal.returns-clause-leads
 returns-clause-leads c =
     rw (← c.self.view_is)
-    (follows (seen c.self.inside.node) (seen c.step.new.self) c.args.event.now c.step.result c.self.invariant c.step.ensures.tc c.step.ensures.dc c.step.ensures.step).leads
+    (follows (seen c.self.inside.node) (seen c.step.new.self) c.args.event.now c.step.result c.self.invariant
+    c.step.ensures.tc c.step.ensures.dc c.step.ensures.step).leads

@@ -20,7 +20,8 @@ change : (t : ℕ) (c : After-summary_in-self-inside t)
 change t c =
     let after : LeafView → LeafView = λ (leaf : LeafView). lower_of leaf c.args.key.now c.args.last in
     let xs = c.in-Inner.children in
-    let kept = subst (IsNode c.self.inside.low c.self.inside.count c.self.inside.summary) c.in-Inner.is c.self.invariant in
+    let kept = subst (IsNode c.self.inside.low c.self.inside.count c.self.inside.summary) c.in-Inner.is
+    c.self.invariant in
     let at : IsIn xs.items c.args.place c.node_at-i.result.0 c.node_at-i.result.1 =
     rw c.as_slice.ensures.value at c.node_at-i.ensures in
     let down = goes_down c.args.self.now c.index_mut.result.now c.args.place _ _ _ _ _ xs
@@ -28,7 +29,8 @@ change t c =
     let new = with_item xs c.node_at-i.result.0 c.drop_from-in-Inner.new.self in
     subst (IsChanged c.args.place c.self.inside.low c.self.inside.count c.summary_in-self-inside.result (Inner xs)
     (Inner new)) (c.drop_from-in-Inner.ensures.lower ∙ ap after (sym down.leaf))
-    (inner_changed c.args.place _ _ _ _ _ _ xs new c.index_mut.result.now c.drop_from-in-Inner.new.self kept at c.index_mut.ensures.value c.drop_from-in-Inner.ensures.changed refl refl
+    (inner_changed c.args.place _ _ _ _ _ _ xs new c.index_mut.result.now c.drop_from-in-Inner.new.self kept at
+    c.index_mut.ensures.value c.drop_from-in-Inner.ensures.changed refl refl
     (c.summary_in-self-inside.ensures ∙ ap (λ ns. summary_of (under ns)) c.as_slice-in-Inner.ensures.value))
 
 pub invariant_of-self-in-Inner : goal.invariant_of-self-in-Inner

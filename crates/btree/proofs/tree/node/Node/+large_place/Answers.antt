@@ -10,7 +10,8 @@ use Rattle.btree.proofs.tree.node.Node.+large_place.Goals as goal
 pub overflow_add-result : goal.overflow_add-result
 overflow_add-result t c =
     let ns = c.in-Inner.children.items in
-    let kept = subst (IsNode c.self.inside.low c.self.inside.count c.self.inside.summary) c.in-Inner.is c.self.invariant in
+    let kept = subst (IsNode c.self.inside.low c.self.inside.count c.self.inside.summary) c.in-Inner.is
+    c.self.invariant in
     let found : IsLargeIn ns c.large_in-i.result.0 c.large_in-i.result.1 =
     rw c.as_slice.ensures.value at c.large_in-i.ensures in
     let child = c.index.ensures ∙ get_or_default ns c.large_in-i.result.0 c.index.result.now nothing found.there in

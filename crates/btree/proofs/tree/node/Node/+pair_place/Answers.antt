@@ -1,4 +1,4 @@
-use Rattle.std.proofs.Common.{◌≡◌, ap, ◌∙◌, sym, subst, arith}
+use Rattle.std.proofs.Common.{ap, ◌∙◌, sym, subst, arith}
 use Rattle.std.specs.Option.{is_some}
 use Rattle.std.proofs.lemmas.List.{get_or_default}
 use Rattle.btree.specs.Choosing.{first_pair}
@@ -12,7 +12,8 @@ use Rattle.btree.proofs.tree.node.Node.+pair_place.Goals as goal
 pub overflow_add-result : goal.overflow_add-result
 overflow_add-result t c =
     let ns = c.in-Inner.children.items in
-    let kept = subst (IsNode c.self.inside.low c.self.inside.count c.self.inside.summary) c.in-Inner.is c.self.invariant in
+    let kept = subst (IsNode c.self.inside.low c.self.inside.count c.self.inside.summary) c.in-Inner.is
+    c.self.invariant in
     let found : IsPairIn ns c.pair_in-i.result.0 c.pair_in-i.result.1 =
     rw c.as_slice.ensures.value at c.pair_in-i.ensures in
     let child =
@@ -24,7 +25,8 @@ overflow_add-result t c =
 pub overflow_add-result-else-summary : goal.overflow_add-result-else-summary
 overflow_add-result-else-summary t c =
     let ns = c.in-Inner.children.items in
-    let kept = subst (IsNode c.self.inside.low c.self.inside.count c.self.inside.summary) c.in-Inner.is c.self.invariant in
+    let kept = subst (IsNode c.self.inside.low c.self.inside.count c.self.inside.summary) c.in-Inner.is
+    c.self.invariant in
     let found : IsPairIn ns c.pair_in-i.result.0 c.pair_in-i.result.1 =
     rw c.as_slice.ensures.value at c.pair_in-i.ensures in
     let child =

@@ -72,11 +72,13 @@ perform_into-requires t c =
 -- what the call leaves where the child's summary is as it was
 after_same : (t : ℕ) (c : Then-not-perform_into t)
     → IsAfter c.self.inside.low c.self.inside.count c.self.inside.summary c.in-Inner.children
-    (with_item c.in-Inner.children c.node_of-i.result c.perform_into.new.self) c.args.number c.args.op.now c.perform_into.new.done
+    (with_item c.in-Inner.children c.node_of-i.result c.perform_into.new.self) c.args.number c.args.op.now
+    c.perform_into.new.done
     × (summary_of (under (set c.in-Inner.children.items c.node_of-i.result c.perform_into.new.self))
     ≡ summary_of (under c.in-Inner.children.items))
 after_same t c =
-    same_asked _ _ _ c.in-Inner.children _ c.node_of-i.result c.index_mut.result.now c.perform_into.new.self c.args.number c.args.op.now c.perform_into.new.done
+    same_asked _ _ _ c.in-Inner.children _ c.node_of-i.result c.index_mut.result.now c.perform_into.new.self
+    c.args.number c.args.op.now c.perform_into.new.done
     (subst (IsNode c.self.inside.low c.self.inside.count c.self.inside.summary) c.in-Inner.is c.self.invariant)
     (rw (c.as_slice.ensures.value, c.key.ensures) at c.node_of-i.ensures)
     c.index_mut.ensures.value c.perform_into.ensures.asked refl refl
@@ -85,9 +87,11 @@ after_same t c =
 -- and where it is another
 after_renewed : (t : ℕ) (c : After-renew-in-Inner t)
     → IsAfter c.self.inside.low c.self.inside.count c.renew-in-Inner.new.self c.in-Inner.children
-    (with_item c.in-Inner.children c.node_of-i.result c.perform_into.new.self) c.args.number c.args.op.now c.perform_into.new.done
+    (with_item c.in-Inner.children c.node_of-i.result c.perform_into.new.self) c.args.number c.args.op.now
+    c.perform_into.new.done
 after_renewed t c =
-    inner_asked _ _ _ _ c.in-Inner.children _ c.node_of-i.result c.index_mut.result.now c.perform_into.new.self c.args.number c.args.op.now c.perform_into.new.done
+    inner_asked _ _ _ _ c.in-Inner.children _ c.node_of-i.result c.index_mut.result.now c.perform_into.new.self
+    c.args.number c.args.op.now c.perform_into.new.done
     (subst (IsNode c.self.inside.low c.self.inside.count c.self.inside.summary) c.in-Inner.is c.self.invariant)
     (rw (c.as_slice.ensures.value, c.key.ensures) at c.node_of-i.ensures)
     c.index_mut.ensures.value c.perform_into.ensures.asked refl refl
@@ -108,7 +112,8 @@ returns-then-not-perform_into-clause-asked t c =
 
 pub returns-then-not-perform_into-clause-same : goal.returns-then-not-perform_into-clause-same
 returns-then-not-perform_into-clause-same t c =
-    λ kept. (after_same t c).1 ∙ ap (λ (n : NodeView). summary_of n.leaves) (ap seen (sym c.in-Inner.is) ∙ c.self.view_is)
+    λ kept. (after_same t c).1
+    ∙ ap (λ (n : NodeView). summary_of n.leaves) (ap seen (sym c.in-Inner.is) ∙ c.self.view_is)
 
 pub returns-else-not-perform_into-clause-asked : goal.returns-else-not-perform_into-clause-asked
 returns-else-not-perform_into-clause-asked t c =

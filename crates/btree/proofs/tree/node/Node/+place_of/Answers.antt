@@ -1,4 +1,4 @@
-use Rattle.std.proofs.Common.{◌≡◌, ◌<◌, ◌^◌, ℕ, length, get_or, take, sym, ap, ◌∙◌, subst, arith, rules}
+use Rattle.std.proofs.Common.{◌≡◌, ◌<◌, ◌^◌, ℕ, length, get_or, take, sym, ap, ◌∙◌, subst, arith}
 use Rattle.std.proofs.lemmas.List.{get_or_default}
 use Rattle.btree.specs.Nodes.{NodeView, nothing, under}
 use Rattle.btree.specs.Finding.{IsNodeOf, IsPlaceOf}
@@ -26,7 +26,8 @@ module _ (t : ℕ) (c : After-place_of t) where
 
 pub count_in-before-requires : goal.count_in-before-requires
 count_in-before-requires t c =
-    let kept = subst (IsNode c.self.inside.low c.self.inside.count c.self.inside.summary) c.in-Inner.is c.self.invariant in
+    let kept = subst (IsNode c.self.inside.low c.self.inside.count c.self.inside.summary) c.in-Inner.is
+    c.self.invariant in
     let counted : length (under (take c.node_of-i.result c.in-Inner.children.items)) < 2 ^ 64 =
     omega (arith, count_halves c.in-Inner.children.items c.node_of-i.result, kept.counted, kept.fits) in
     rw c.deref.ensures.value counted
@@ -34,11 +35,13 @@ count_in-before-requires t c =
 pub overflow_add-result : goal.overflow_add-result
 overflow_add-result t c =
     let before = rw c.deref.ensures.value at c.count_in-before.ensures in
-    let within = place_within _ (ns t c) c.args.key.now c.node_of-i.result c.place_of.result (kept t c).under_it.children (node t c) (at t c) in
+    let within = place_within _ (ns t c) c.args.key.now c.node_of-i.result c.place_of.result
+    (kept t c).under_it.children (node t c) (at t c) in
     omega (arith, before, within, (kept t c).counted, (kept t c).fits)
 
 pub returns-in-Inner : goal.returns-in-Inner
 returns-in-Inner t c =
     let before = rw c.deref.ensures.value at c.count_in-before.ensures in
     let is : seen (Inner c.in-Inner.children) ≡ c.args.self.now = ap seen (sym c.in-Inner.is) ∙ c.self.view_is in
-    rw (before, ← is) (place_of_nodes _ (ns t c) c.args.key.now c.node_of-i.result c.place_of.result (kept t c).under_it.children (node t c) (at t c))
+    rw (before, ← is) (place_of_nodes _ (ns t c) c.args.key.now c.node_of-i.result c.place_of.result
+    (kept t c).under_it.children (node t c) (at t c))

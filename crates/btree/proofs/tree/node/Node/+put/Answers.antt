@@ -12,7 +12,8 @@ use Rattle.btree.proofs.tree.node.Node.+put.Goals.{After-summary_in-self-inside}
 
 pub put-requires : goal.put-requires
 put-requires t c =
-    let kept = subst (IsNode c.self.inside.low c.self.inside.count c.self.inside.summary) c.in-Inner.is c.self.invariant in
+    let kept = subst (IsNode c.self.inside.low c.self.inside.count c.self.inside.summary) c.in-Inner.is
+    c.self.invariant in
     let at : IsIn c.in-Inner.children.items c.args.place c.node_at-i.result.0 c.node_at-i.result.1 =
     rw c.as_slice.ensures.value at c.node_at-i.ensures in
     let down = goes_down c.args.self.now c.index_mut.result.now c.args.place _ _ _ _ _ c.in-Inner.children
@@ -29,13 +30,15 @@ change : (t : ℕ) (c : After-summary_in-self-inside t)
     (Inner (with_item c.in-Inner.children c.node_at-i.result.0 c.put.new.self)) c.args.leaf.value
 change t c =
     let xs = c.in-Inner.children in
-    let kept = subst (IsNode c.self.inside.low c.self.inside.count c.self.inside.summary) c.in-Inner.is c.self.invariant in
+    let kept = subst (IsNode c.self.inside.low c.self.inside.count c.self.inside.summary) c.in-Inner.is
+    c.self.invariant in
     let at : IsIn xs.items c.args.place c.node_at-i.result.0 c.node_at-i.result.1 =
     rw c.as_slice.ensures.value at c.node_at-i.ensures in
     let new = with_item xs c.node_at-i.result.0 c.put.new.self in
     subst (IsChanged c.args.place c.self.inside.low c.self.inside.count c.summary_in-self-inside.result (Inner xs)
     (Inner new)) c.put.ensures.put
-    (inner_changed c.args.place _ _ _ _ _ _ xs new c.index_mut.result.now c.put.new.self kept at c.index_mut.ensures.value c.put.ensures.changed refl refl
+    (inner_changed c.args.place _ _ _ _ _ _ xs new c.index_mut.result.now c.put.new.self kept at
+    c.index_mut.ensures.value c.put.ensures.changed refl refl
     (c.summary_in-self-inside.ensures ∙ ap (λ ns. summary_of (under ns)) c.as_slice-in-Inner.ensures.value))
 
 pub invariant_of-self-in-Inner : goal.invariant_of-self-in-Inner

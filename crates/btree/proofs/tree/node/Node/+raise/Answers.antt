@@ -29,13 +29,15 @@ loop-i-preserved t c =
       c.loop-i.invariant.1,
       (
         length-set ys i c.raise-in-loop-i.new.self ∙ c.loop-i.invariant.2.0,
-        λ k d le. get_or-set_other ys i k c.raise-in-loop-i.new.self d (λ same. absurd (omega (arith, le, same))) ∙ c.loop-i.invariant.2.1 k d (omega (arith, le)),
+        λ k d le. get_or-set_other ys i k c.raise-in-loop-i.new.self d (λ same. absurd (omega (arith, le, same)))
+            ∙ c.loop-i.invariant.2.1 k d (omega (arith, le)),
       ),
     )
 
 -- what the call leaves
 after : (t : ℕ) (c : goal.Joined-self t)
-    → IsRaised c.args.low c.match-self.self-inside.low c.match-self.self-inside.count c.match-self.self-inside.summary c.self.inside.below c.match-self.self-inside.below
+    → IsRaised c.args.low c.match-self.self-inside.low c.match-self.self-inside.count c.match-self.self-inside.summary
+    c.self.inside.below c.match-self.self-inside.below
 after t c =
     let low = c.self.inside.low in
     let count = c.self.inside.count in
@@ -44,13 +46,18 @@ after t c =
       | in-Leaf w ↦
           let kept = subst (IsNode low count summary) w.in-Leaf.is c.self.invariant in
           let is = w.raise.ensures ∙ ap (λ (leaf : LeafView). raised_to leaf c.args.low) w.deref_mut.ensures.value in
-          rw (w.self-inside-is, w.in-Leaf.is) (leaf_raised c.args.low low count summary w.in-Leaf.leaf (with_value w.in-Leaf.leaf w.raise.new.self) kept is)
+          rw (w.self-inside-is, w.in-Leaf.is)
+          (leaf_raised c.args.low low count summary w.in-Leaf.leaf (with_value w.in-Leaf.leaf w.raise.new.self) kept
+          is)
       | in-Inner+else-loop-i-test w ↦
           let xs = w.in-Inner.children in
           let kept = subst (IsNode low count summary) w.in-Inner.is c.self.invariant in
-          let end : w.loop-i.i ≡ length xs.items = omega (arith, w.loop-i-test.false, w.loop-i.auto.i-end, w.len-i-end.ensures) in
-          let all = w.loop-i.invariant.0 ∙ ap (λ (i : ℕ). each_below (raised_node c.args.low) i xs.items) end ∙ each_all (raised_node c.args.low) xs.items in
-          rw (w.self-inside-is, w.in-Inner.is) (inner_raised c.args.low low count summary xs w.loop-i.children kept all w.loop-i.invariant.1)
+          let end : w.loop-i.i ≡ length xs.items =
+          omega (arith, w.loop-i-test.false, w.loop-i.auto.i-end, w.len-i-end.ensures) in
+          let all = w.loop-i.invariant.0 ∙ ap (λ (i : ℕ). each_below (raised_node c.args.low) i xs.items) end
+          ∙ each_all (raised_node c.args.low) xs.items in
+          rw (w.self-inside-is, w.in-Inner.is)
+          (inner_raised c.args.low low count summary xs w.loop-i.children kept all w.loop-i.invariant.1)
     ]
 
 pub invariant_of-self : goal.invariant_of-self

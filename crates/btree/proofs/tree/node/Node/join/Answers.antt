@@ -18,4 +18,5 @@ pub returns-clause-child : goal.returns-clause-child
 returns-clause-child c =
     let height = ap (λ (n : NodeView). n.height) (ap seen (sym c.in-Inner.is) ∙ c.self.view_is) in
     subst (λ (h : ℕ). IsChild h (over_nodes c.join_in-more.new.children.items)) height
-    (child_over _ c.join_in-more.new.children.items c.join_in-more.ensures.children c.join_in-more.ensures.two c.join_in-more.ensures.most)
+    (child_over _ c.join_in-more.new.children.items c.join_in-more.ensures.children c.join_in-more.ensures.two
+    c.join_in-more.ensures.most)

@@ -1,5 +1,6 @@
 //! What no clause says of system transactions: that the calls succeed, what the bytes are, and which device call fails.
-//! Each call stands in a small function of its own without a contract, so that a test of several calls is cheap to check.
+//! Each call stands in a small function of its own without a contract, so that a test of several calls is cheap to
+//! check.
 ghost use Rattle.std.specs.Prelude.{◌≡◌, []};
 ghost use Rattle.std.specs.FinMap as map;
 

@@ -1,5 +1,5 @@
-//! Savepoints that are set and gone back to. What a rollback writes is compared by the tests of the components, whose log
-//! meets the conditions.
+//! Savepoints that are set and gone back to. What a rollback writes is compared by the tests of the components, whose
+//! log meets the conditions.
 use compensation::Saves;
 use record_key::Refusal;
 use std::test::Fail;

@@ -4,7 +4,7 @@ use Rattle.std.proofs.lemmas.Bool.{true≢false}
 use Rattle.record_key.specs.Table.{Bytes}
 use Rattle.record_key.specs.Order.{starts_at_most, ends_above}
 use Rattle.page.specs.Leaf.{LeafView}
-use Rattle.part_tests.proofs.tests.leaves.halves.Goals as goal
+use Rattle.leaf_tests.proofs.tests.leaves.halves.Goals as goal
 
 no_low : (fence : Option Bytes) (k : Bytes) → is_some fence ≡ false → starts_at_most fence k ≡ true
 no_low None k h = refl
@@ -24,6 +24,8 @@ returns c =
       fence = k;
       ends = ap (λ (v : LeafView). v.high_fence) c.in_ok-upper.ensures.lower;
       begins = ap (λ (v : LeafView). v.low_fence) c.in_ok-upper.ensures.upper;
-      above = ap (λ (v : LeafView). starts_at_most v.low_fence k) c.in_ok-upper.ensures.lower ∙ no_low leaf.low_fence k no_one;
-      below = ap (λ (v : LeafView). ends_above v.high_fence k) c.in_ok-upper.ensures.upper ∙ no_high leaf.high_fence k no_other;
+      above = ap (λ (v : LeafView). starts_at_most v.low_fence k) c.in_ok-upper.ensures.lower
+          ∙ no_low leaf.low_fence k no_one;
+      below = ap (λ (v : LeafView). ends_above v.high_fence k) c.in_ok-upper.ensures.upper
+          ∙ no_high leaf.high_fence k no_other;
     }

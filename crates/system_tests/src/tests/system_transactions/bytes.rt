@@ -8,8 +8,8 @@ pub const SPLIT: [u8; 78] = [
     0, 0, 0, 0, 0, 1, 0, 0, 0, 0, 0, 0, 0, 2, 1, 98, 1,
 ];
 
-/// A frame of 70 bytes: Split, of leaf 2, at c. The new leaf is number 3, made by record 2, with low number 0, from c on,
-/// with the row c v, and entry 3: c was inserted.
+/// A frame of 70 bytes: Split, of leaf 2, at c. The new leaf is number 3, made by record 2, with low number 0, from c
+/// on, with the row c v, and entry 3: c was inserted.
 pub const NEXT_SPLIT: [u8; 78] = [
     0, 0, 0, 0, 0, 0, 0, 70, 2, 0, 0, 0, 0, 0, 0, 0, 2, 1, 99, 0, 0, 0, 0, 0, 0, 0, 3, 0, 0, 0, 0,
     0, 0, 0, 2, 0, 0, 0, 0, 0, 0, 0, 0, 1, 1, 99, 0, 0, 0, 0, 0, 0, 0, 0, 1, 1, 99, 1, 118, 0, 0,

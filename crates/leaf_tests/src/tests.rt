@@ -1,0 +1,5 @@
+//! A module for each crate.
+mod entries;
+mod leaves;
+mod trees;
+mod values;

@@ -1,0 +1,3 @@
+//! A module for each crate.
+mod restarts;
+mod savepoints;

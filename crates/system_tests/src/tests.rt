@@ -1,0 +1,1 @@
+mod system_transactions;
