@@ -3,6 +3,7 @@ pub mod Checked
 pub mod KeepsDc
 pub mod KeepsSystems
 pub mod Leaves
+pub mod Places
 pub mod Recoverable
 pub mod Spelled
 pub mod Stored

@@ -12,7 +12,7 @@ use Rattle.dc_core.specs.declared.performance.Performance.{Performance}
 use Rattle.dc_core.specs.Spelled.{parts_of, StandsAt, taken, read, performances_at, AreSpelled}
 
 -- where a performance stands something is read
-is_read : (bytes : List ℕ) (place : ℕ) (p : Performance) (h : StandsAt bytes place p)
+pub is_read : (bytes : List ℕ) (place : ℕ) (p : Performance) (h : StandsAt bytes place p)
     → performed_at (drop place bytes) ≡ Some (parts_of p, h.rest)
 is_read bytes place p h = ap performed_at h.is ∙ performed_reads.again (parts_of p) h.rest h.fits
 
@@ -52,14 +52,14 @@ read_back bytes places i place is =
 
 -- ---- more bytes
 
-within : (bytes : List ℕ) (place : ℕ) (p : Performance) → StandsAt bytes place p → place ≤ length bytes
+pub within : (bytes : List ℕ) (place : ℕ) (p : Performance) → StandsAt bytes place p → place ≤ length bytes
 within bytes place p h =
     let all = ap length h.is ∙ length-append (performed_bytes (parts_of p)) h.rest in
     let some = numbers_length p.number (op_bytes p.op ++ answer_bytes p.answer) in
     omega (arith, all, some, length-drop place bytes)
 
 -- a performance stands where it stood
-stands_still : (bytes more : List ℕ) (place : ℕ) (p : Performance) → StandsAt bytes place p
+pub stands_still : (bytes more : List ℕ) (place : ℕ) (p : Performance) → StandsAt bytes place p
     → StandsAt (bytes ++ more) place p
 stands_still bytes more place p h = record {
   fits = h.fits;
@@ -98,10 +98,10 @@ module _ (bytes more : List ℕ) where
 module _ (bytes places : List ℕ) (h : AreSpelled bytes places) (p : Performance) (fits : IsPerformed (parts_of p))
     (place : ℕ)
     (ends : place ≡ length bytes) where
-  abbrev longer : List ℕ
+  abbrev pub longer : List ℕ
   longer = bytes ++ performed_bytes (parts_of p)
 
-  stands : StandsAt longer place p
+  pub stands : StandsAt longer place p
   stands = subst (λ (at : ℕ). StandsAt longer at p) (sym ends) (stands_newest bytes p fits)
 
   newest : read longer place ≡ p

@@ -1,5 +1,5 @@
 -- What was performed as bytes: each performance in the codec's spelling, and where it stands.
-use Rattle.std.specs.Prelude.{◌≡◌, ℕ, List, [], ◌++◌, drop, map, reverse, Option, Some, None}
+use Rattle.std.specs.Prelude.{◌≡◌, ℕ, zero, suc, ◌+◌, ◌-◌, ◌*◌, ◌<◌, ◌≤◌, List, [], ◌∷◌, ◌++◌, length, get_or, drop, map, reverse, Option, Some, None}
 use Rattle.std.specs.List.{AllByRecursion}
 use Rattle.record_key.specs.declared.op.Op.TheVariants.{Delete}
 use Rattle.record_key.specs.declared.op.Answer.TheVariants.{Exists}
@@ -32,3 +32,34 @@ performances_at bytes places = reverse (map (read bytes) places)
 -- what is read at each place stands there
 abbrev pub AreSpelled : List ℕ → List ℕ → Type 0
 AreSpelled bytes places = AllByRecursion (λ place. StandsAt bytes place (read bytes place)) places
+
+-- where what is left begins, in so many bytes; another place where nothing was read
+abbrev pub left_from : ℕ → ℕ → Option (Performed × List ℕ) → ℕ
+left_from size other (Some x) = size - length x.1
+left_from size other None = other
+
+-- where the performance after the one at a place begins
+unfoldable pub after : List ℕ → ℕ → ℕ
+after bytes place = left_from (length bytes) place (performed_at (drop place bytes))
+
+-- where the performance begins that has so many before it
+unfoldable pub place_at : List ℕ → ℕ → ℕ
+place_at bytes zero = 0
+place_at bytes (suc n) = after bytes (place_at bytes n)
+
+-- where each of the first begins, so many
+unfoldable pub places_of : List ℕ → ℕ → List ℕ
+places_of bytes zero = []
+places_of bytes (suc n) = places_of bytes n ++ place_at bytes n ∷ []
+
+-- the marks are the first of these places and each eighth after it, of so many
+pub record AreMarks (at : ℕ → ℕ) (marks : List ℕ) (count : ℕ) : Type 0 where
+  pub enough : count ≤ 8 * length marks
+  pub no_more : 8 * length marks < count + 8
+  pub placed : (i : ℕ) → i < length marks → get_or marks i 0 ≡ at (8 * i)
+
+-- so many performances fill the bytes, one after another, and the marks are the places of each eighth of them
+pub record AreKept (bytes marks : List ℕ) (count : ℕ) : Type 0 where
+  pub spelled : AreSpelled bytes (places_of bytes count)
+  pub ends : length bytes ≡ place_at bytes count
+  pub indexed : AreMarks (place_at bytes) marks count

@@ -1,7 +1,9 @@
 //! What was performed, kept as bytes.
-ghost use Rattle.std.specs.Prelude.{◌≡◌, ◌<◌, ◌^◌, [], length, reverse, slice_get, IfOk, IfErr, OnErr};
+ghost use Rattle.std.specs.Prelude.{◌≡◌, ℕ, ◌*◌, ◌/◌, ◌<◌, ◌^◌, [], length, get_or, reverse, slice_get, vec_len, vec_capacity, IfOk, IfErr, OnErr};
 ghost use Rattle.btree.specs.Performs.{PerformsAt};
+ghost use Rattle.codec.specs.FrameIndex.{marked};
 ghost use Rattle.dc_core.specs.DcView.{noted};
+ghost use Rattle.dc_core.specs.Spelled.{after, place_at};
 
 use crate::performance::Performance;
 use crate::system::System;
@@ -11,25 +13,30 @@ use record_key::{Op, Refusal};
 use std::alloc::Global;
 use std::marker::Model;
 
+/// Of so many performances the place of the first is kept.
+const STEP: usize = 8;
+
 /// A clause sees a list of performances, the newest first.
 #[derive(Debug, Drop)]
 pub struct Performances {
     // Of each performance the number, the operation and the answer, the oldest first.
     bytes: Vec<u8>,
-    // Where each begins.
-    places: Vec<usize>,
+    // Where each eighth begins, from the first on.
+    marks: Vec<usize>,
+    // How many there are.
+    count: usize,
 }
 
 impl Model for Performances {
     ghost use Rattle.std.specs.Prelude.{List};
     ghost use Rattle.dc_core.specs.declared.performance.Performance.{Performance};
-    ghost use Rattle.dc_core.specs.Spelled.{performances_at, AreSpelled};
+    ghost use Rattle.dc_core.specs.Spelled.{places_of, performances_at, AreKept};
 
     ghost Value = { List Performance };
 
-    ghost view = { λ p. performances_at p.bytes.items p.places.items };
+    ghost view = { λ p. performances_at p.bytes.items (places_of p.bytes.items p.count) };
 
-    ghost invariant = { λ p. AreSpelled p.bytes.items p.places.items };
+    ghost invariant = { λ p. AreKept p.bytes.items p.marks.items p.count };
 }
 
 impl Performances {
@@ -39,7 +46,8 @@ impl Performances {
     {
         Performances {
             bytes: Vec::new(alloc),
-            places: Vec::new(alloc),
+            marks: Vec::new(alloc),
+            count: 0,
         }
     }
 
@@ -52,17 +60,18 @@ impl Performances {
     pub fn len(&self) -> u64
         ensures { result ≡ length self.now }
     {
-        self.places.len() as u64
+        self.count as u64
     }
 
-    /// The performance at a place, from 0, the oldest first. Takes no memory.
-    pub fn get(&self, place: u64) -> Option<Performance>
-        ensures { result ≡ slice_get (reverse self.now) place }
+    /// The performance that has so many before it, found by reading at most eight. Takes no memory.
+    pub fn get(&self, before: u64) -> Option<Performance>
+        ensures { result ≡ slice_get (reverse self.now) before }
     {
-        if self.len() <= place {
+        if self.len() <= before {
             return None;
         }
-        match take_performed(&self.bytes, self.places[place as usize]) {
+        let place = place_in(&self.bytes, &self.marks, before as usize);
+        match take_performed(&self.bytes, place) {
             Some(((number, op, answer), _)) => Some(Performance { number, op, answer }),
             None => unreachable!(),
         }
@@ -80,14 +89,49 @@ impl Performances {
         ensures unchanged { OnErr result (system.new ≡ system.old) }
     {
         self.bytes.reserve(PERFORMED_LIMIT)?;
-        self.places.reserve(1)?;
+        self.marks.reserve(1)?;
         match system.perform(number, op)? {
             Done::Performed(answer) => {
-                self.places.push_reserved(self.bytes.len());
+                mark(&mut self.marks, self.count, self.bytes.len());
+                self.count += 1;
                 put_performed(&mut self.bytes, number, op, &answer);
                 Ok(Done::Performed(answer))
             }
             repeated => Ok(repeated),
         }
+    }
+}
+
+/// Where the performance begins that has so many before it, told by reading at most seven from a mark on.
+fn place_in(bytes: &[u8], marks: &[usize], before: usize) -> usize
+    requires within { before / 8 < length marks.now }
+    requires placed { (i : ℕ) → i < length marks.now → get_or marks.now i 0 ≡ place_at bytes.now (8 * i) }
+    ensures { result ≡ place_at bytes.now before }
+{
+    let mut place = marks[before / STEP];
+    for _ in 0..before % STEP {
+        place = after(bytes, place);
+    }
+    place
+}
+
+/// Where the performance after the one at a place begins.
+#[tactic(auto, unfolding(crate::specs::Spelled::after))]
+fn after(bytes: &[u8], place: usize) -> usize
+    ensures { result ≡ after bytes.now place }
+{
+    match take_performed(bytes, place) {
+        Some((_, rest)) => bytes.len().saturating_sub(rest.len()),
+        None => place,
+    }
+}
+
+/// Keeps the place of the next performance, where it is an eighth one.
+fn mark(marks: &mut Vec<usize>, count: usize, place: usize)
+    requires { vec_len marks.old < vec_capacity marks.old }
+    ensures { marks.new.items ≡ marked marks.old.items count place }
+{
+    if count % STEP == 0 {
+        marks.push_reserved(place);
     }
 }

@@ -1,7 +1,7 @@
 use Rattle.std.proofs.Common.{◌≡◌, ◌∙◌, List, ◌∷◌, length, ap, vec_len, arith}
 use Rattle.std.proofs.lemmas.Grind.{common_steps}
 use Rattle.dc_core.specs.declared.performance.Performance.{Performance}
-use Rattle.dc_core.proofs.Spelled.{spelled_longer, listed_longer}
+use Rattle.dc_core.proofs.Places.{kept_more, listed_more}
 use Rattle.dc_core.proofs.performances.Performances.perform.Goals as goal
 
 abbrev noted : goal.After-put_performed → Performance
@@ -17,18 +17,16 @@ invariant_of-self-in-Performed c =
     rw (
       c.put_performed.ensures.spelling,
       c.in_ok-reserve.ensures.items,
-      c.push_reserved.ensures.items,
+      c.mark.ensures,
       c.in_ok-reserve-2.ensures.items,
     )
-    (spelled_longer _ _ c.self.invariant (noted c) c.put_performed.ensures.has_spelling c.len.result (ends c))
+    (kept_more _ _ _ c.self.invariant (noted c) c.put_performed.ensures.has_spelling c.len.result (ends c))
 
 pub returns-in-Performed-clause-noted : goal.returns-in-Performed-clause-noted
 returns-in-Performed-clause-noted c =
     rw (
       c.put_performed.ensures.spelling,
       c.in_ok-reserve.ensures.items,
-      c.push_reserved.ensures.items,
-      c.in_ok-reserve-2.ensures.items,
     )
-    (listed_longer _ _ c.self.invariant (noted c) c.put_performed.ensures.has_spelling c.len.result (ends c))
+    (listed_more _ _ _ c.self.invariant (noted c) c.put_performed.ensures.has_spelling c.len.result (ends c))
     ∙ ap (λ (performed : List Performance). noted c ∷ performed) c.self.view_is
