@@ -20,6 +20,12 @@ most_stable w l within h =
     length-drop (length w.log - w.stable) w.log in
     omega (arith, h.within, short, within)
 
+pub answered_less : (w : TcView) (n l : ℕ) → n ≤ l → IsAnsweredTo w l → IsAnsweredTo w n
+answered_less w n l less h = record {
+  within = omega (arith, less, h.within);
+  answered = λ m o below asks. h.answered m o (omega (arith, below, less)) asks;
+}
+
 -- so it stays where more is stable
 pub part_grows : (log : List Record) (s t l : ℕ) → s ≤ t → t ≤ length log → FitsCheckpoint (stable_part log s) l
     → FitsCheckpoint (stable_part log t) l

@@ -1,7 +1,7 @@
 -- A number that is captured is answered as it was.
 use Rattle.std.proofs.Common.{◌≡◌, ℕ, ◌≤◌, Bool, true, false, List, [], ◌∷◌, Option, Some, None, refl, sym, ◌∙◌, arith, true≢false, eqb-true, eq-eqb}
 use Rattle.std.specs.Prelude.{◌==◌, ◌||◌, nat_le, if◌then◌else◌}
-use Rattle.std.specs.List.{list_any}
+use Rattle.std.specs.List.{AllByRecursion, list_any}
 use Rattle.std.proofs.lemmas.Bool.Decides.{nat_tests}
 use Rattle.record_key.specs.declared.op.Answer.{Answer}
 use Rattle.record_key.specs.declared.op.Op.{Op}
@@ -18,6 +18,23 @@ use Rattle.world.specs.Node.{NodeView}
 use Rattle.world.specs.Kept.{IsKept, IsSent, IsRightOrNone, IsAnswered}
 use Rattle.world.proofs.Invariant.Announced.{answered_less}
 use Rattle.world.proofs.Invariant.AtKeys.{own_leaf, own_low}
+
+-- the answer that is saved is one of the entries'
+pub record IsFound (P : Entry → Type 0) (n : ℕ) (a : Answer) : Type 0 where
+  pub entry : Entry
+  pub holds : P entry
+  pub number : entry.number ≡ n
+  pub answer : entry.answer ≡ a
+
+pub saved_found : (P : Entry → Type 0) (n : ℕ) (a : Answer) (es : List Entry) → AllByRecursion P es
+    → saved_in es n ≡ Some a → IsFound P n a
+saved_found P n a [] all found = absurd (cc)
+saved_found P n a (e ∷ es) all found = pick (e.number == n) refl found (saved_found P n a es all.1)
+  where
+    pick : (b : Bool) → (e.number == n) ≡ b → (if b then Some e.answer else saved_in es n) ≡ Some a
+        → (saved_in es n ≡ Some a → IsFound P n a) → IsFound P n a
+    pick true same found rest = record { entry = e; holds = all.0; number = eqb-true e.number n same; answer = cc }
+    pick false apart found rest = rest found
 
 -- what is captured and not saved is at most the low number
 not_listed : (n : ℕ) (es : List Entry) → saved_in es n ≡ None → list_any (λ m. n == m) (numbers es) ≡ true → ⊥

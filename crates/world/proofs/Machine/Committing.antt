@@ -1,17 +1,69 @@
 -- Transactions whose Commit isn't stable: who they are, and how a force tells them.
-use Rattle.std.proofs.Common.{◌≡◌, ◌≢◌, ℕ, zero, suc, ◌+◌, ◌≤◌, true, List, [], ◌∷◌, ◌++◌, length, Option, Some, refl, sym, ap, ◌∙◌, arith, append_assoc, append-nil}
-use Rattle.std.specs.Prelude.{nat_lt, if◌then◌else◌}
+use Rattle.std.proofs.Common.{◌≡◌, ◌≢◌, ℕ, zero, suc, ◌+◌, ◌<◌, ◌≤◌, Bool, true, false, List, [], ◌∷◌, ◌++◌, length, Option, Some, refl, sym, ap, ◌∙◌, arith, inl, inr, true≢false, eqb-true, append_assoc, append-nil}
+use Rattle.std.specs.Prelude.{◌==◌, ◌||◌, ◌⊎◌, nat_lt, if◌then◌else◌}
+use Rattle.std.specs.List.{list_any}
 use Rattle.std.proofs.lemmas.Bool.Decides.{nat_tests}
 use Rattle.std.proofs.lemmas.List.{map-append}
+use Rattle.std.proofs.lemmas.List.Folds.{list_any-append}
 use Rattle.history.specs.declared.record.Record.{Record}
 use Rattle.history.specs.declared.record.Record.TheVariants as is
 use Rattle.history.specs.Log.{record_at}
 use Rattle.history.specs.ListMachine.{Line, TellsCommitted}
 use Rattle.log_laws.proofs.Records.{record_new, record_old}
+use Rattle.log_laws.proofs.Strict.{end_number}
+use Rattle.simulation.specs.View.{IsCommitAt}
 use Rattle.simulation.specs.Laws.{told_at, told_after}
 use Rattle.tc_core.specs.Kept.{commits_in}
+use Rattle.tc_core.specs.Locking.{is_listed}
 use Rattle.world.specs.Simulation.{told_committed}
 use Rattle.tc_core.proofs.Committing.{none_committing}
+
+-- a Commit above the stable records
+pub record IsUnstableCommit (log : List Record) (stable t : ℕ) : Type 0 where
+  pub number : ℕ
+  pub is : IsCommitAt log t number
+  pub above : stable < number
+
+in_longer : (r : Record) (log : List Record) (stable t : ℕ) → IsUnstableCommit log stable t
+    → IsUnstableCommit (r ∷ log) stable t
+in_longer r log stable t c =
+    let bounded = (end_number log t c.number (inl c.is)).bounded in
+    let apart : c.number ≢ length log + 1 = λ e. omega (arith, e, bounded) in
+    record { number = c.number; is = record_old r log c.number apart ∙ c.is; above = c.above }
+
+or_true : (a b : Bool) → (a || b) ≡ true → (a ≡ true) ⊎ (b ≡ true)
+or_true true b h = inl refl
+or_true false b h = inr h
+
+-- the newest Commit, and those before it
+newest_listed : (log : List Record) (stable t u : ℕ)
+    → (is_listed (commits_in log stable) t ≡ true → IsUnstableCommit log stable t) → (b : Bool)
+    → nat_lt stable (length log + 1) ≡ b
+    → list_any (λ v. v == t) (if b then commits_in log stable ++ u ∷ [] else []) ≡ true
+    → IsUnstableCommit (is.Commit u ∷ log) stable t
+newest_listed log stable t u older false test any = absurd (true≢false (sym any))
+newest_listed log stable t u older true test any =
+    let above : stable < length log + 1 = grind (arith, nat_tests, test) in
+    elim (or_true (list_any (λ v. v == t) (commits_in log stable)) ((u == t) || false)
+    (sym (list_any-append (λ v. v == t) (commits_in log stable) (u ∷ [])) ∙ any)) [
+      | inl before ↦ in_longer (is.Commit u) log stable t (older before)
+      | inr last ↦ elim (or_true (u == t) false last) [
+        | inl same ↦ record {
+          number = length log + 1;
+          is = record_new (is.Commit u) log ∙ ap (λ (v : ℕ). Some (is.Commit v)) (eqb-true u t same);
+          above = above;
+        }
+        | inr never ↦ absurd (true≢false (sym never))
+      ]
+    ]
+
+-- whoever is listed has one
+pub listed_commit : (log : List Record) (stable t : ℕ) → is_listed (commits_in log stable) t ≡ true
+    → IsUnstableCommit log stable t
+listed_commit [] stable t h = absurd (true≢false (sym h))
+listed_commit (is.Commit u ∷ log) stable t h =
+    newest_listed log stable t u (listed_commit log stable t) (nat_lt stable (length log + 1)) refl h
+listed_commit (r ∷ log) stable t h = in_longer r log stable t (listed_commit log stable t h)
 
 -- what is told up to a number, and of the next
 told_more : (log : List Record) (stable k : ℕ)

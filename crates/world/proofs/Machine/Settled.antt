@@ -16,7 +16,7 @@ use Rattle.simulation.proofs.Viewing.{calm_entries}
 use Rattle.history.specs.Log.{record_at, before, answer_of, request_of, request_in, Requests, IsOpBy, hist}
 use Rattle.history.specs.Values.{is_on}
 use Rattle.history.specs.Honest.{Numbered, numbered_on, AreCaptured, value_of}
-use Rattle.log_laws.proofs.Records.{ARequest, op_request, at_newest, kept_at, since, record_before, length_before, IsNumber}
+use Rattle.log_laws.proofs.Records.{ARequest, op_request, newest_at, older_at, at_newest, kept_at, since, record_before, length_before, IsNumber}
 use Rattle.log_laws.proofs.LegalLogs.{answered_push, request_number}
 use Rattle.log_laws.proofs.Named.{unanswered_uncrossed}
 use Rattle.log_laws.proofs.Strict.{one_at_a_time}
@@ -59,6 +59,15 @@ record Unanswered (whole log : List Record) (key : Bytes) : Type 0 where
 -- or all of them have answers
 abbrev AllAnswered : List Record → List Record → Bytes → Type 0
 AllAnswered whole log key = (n : ℕ) (o : Op) → Requests log n o → key_of o ≡ key → IsSome (answer_of whole n)
+
+newest_too : (whole log : List Record) (r : Record) (key : Bytes)
+    → ((o : Op) → ARequest o (Some r) → key_of o ≡ key → IsSome (answer_of whole (length log + 1)))
+    → AllAnswered whole log key → AllAnswered whole (r ∷ log) key
+newest_too whole log r key newest each n o asks on = elim (cases_eq n (length log + 1)) [
+  | inl e ↦ let P : ℕ → Type 0 = λ m. IsSome (answer_of whole m) in
+      subst P (sym e) (newest o (newest_at (ARequest o) r log n e asks) on)
+  | inr apart ↦ each n o (older_at (ARequest o) r log n apart asks) on
+]
 
 answered_all : (whole log : List Record) (key : Bytes) → AllAnswered whole log key ⊎ Unanswered whole log key
 answered_all whole [] key = inl (λ n o asks on. absurd (cc))
