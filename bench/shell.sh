@@ -2,7 +2,8 @@
 # Usage: bench/shell.sh. Proves and builds crates/undo_shell and measures it on scripts of 1,000, 10,000 and 100,000
 # operations in transactions of ten, each answered before the next and every transaction rolled back. They are
 # upserts, and then reads where no record is: in each transaction nine keys and a range of nine.
-# Prints operations a second, each the best of five runs, and for both kinds the ratio of the last to the first.
+# Prints operations a second, each the best of five runs, and for both kinds the ratio of the last to the first. Last, how
+# many bytes of resident memory each upsert with its compensation takes: what 400,000 take more than 1,000.
 # The first line is the machine's.
 set -eu
 cd "$(dirname "$0")/../crates/undo_shell"
@@ -54,3 +55,12 @@ for kind in upserts reads; do
     awk -v kind="$kind" -v first="$first" -v last="$rate" \
         'BEGIN { printf "%s, ratio of the last to the first: %.2f\n", kind, last / first }'
 done
+
+resident() {
+    script upserts "$1" >"$folder/script"
+    command time -f %M -o "$folder/memory" ./out/undo_shell run <"$folder/script" >"$folder/text"
+    cat "$folder/memory"
+}
+
+bytes=$(((1024 * ($(resident 400000) - $(resident 1000))) / 399000))
+printf 'resident memory: %s bytes for each upsert with its compensation\n' "$bytes"
