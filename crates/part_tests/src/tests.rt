@@ -2,6 +2,5 @@
 mod abstract_lsns;
 mod entries;
 mod inverses;
-mod locks;
 mod records;
 mod values;

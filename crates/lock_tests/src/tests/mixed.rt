@@ -1,6 +1,11 @@
 //! The table with an index beside the plain one, over calls in a fixed mixed order.
 use super::*;
-use crate::tests::values::next;
+
+/// The next number of a linear congruential sequence.
+fn next(seed: u64) -> u64 {
+    seed.wrapping_mul(6364136223846793005)
+        .wrapping_add(1442695040888963407)
+}
 
 /// One of 64 keys.
 fn key_of(n: u64) -> Result<Key, Fail> {
