@@ -1,7 +1,9 @@
 //! Lengths at their limits, the order of keys, and each row of the table of operations.
 use super::values::{key, value};
 use record_key::{Answer, Key, Op, PlainTable, Refusal, Value, key_order_law, table_law};
+use std::alloc::Global;
 use std::cmp::Ordering;
+use std::process::Abort;
 use std::test::Fail;
 
 #[test]
@@ -75,49 +77,110 @@ fn numbers_and_names(rt: HostRuntime) {
     assert_eq!(rt; Refusal::NumbersSpent.name(), "NumbersSpent");
 }
 
-/// Applies one operation to the table of the record k=old, or to the empty one.
-fn applied(rt: &HostRuntime, present: bool, op: &Op) -> Result<(Answer, PlainTable), Fail> {
-    let mut table = PlainTable::new(rt.alloc());
-    if present {
-        table.apply(&Op::Insert(key(b"k")?, value(b"old")?))?;
-    }
-    let answer = table.apply(op)?;
-    Ok((answer, table))
+fn insert() -> Result<Op, Fail> {
+    Ok(Op::Insert(key(b"k")?, value(b"v")?))
+}
+
+fn update() -> Result<Op, Fail> {
+    Ok(Op::Update(key(b"k")?, value(b"v")?))
+}
+
+fn upsert() -> Result<Op, Fail> {
+    Ok(Op::Upsert(key(b"k")?, value(b"v")?))
+}
+
+fn delete() -> Result<Op, Fail> {
+    Ok(Op::Delete(key(b"k")?))
+}
+
+/// What a table of k alone, or of nothing, answers the operation, and what that leaves at k.
+fn expect_effect(
+    rt: &impl Abort,
+    table: &mut PlainTable,
+    op: &Op,
+    answer: &Answer,
+    left: Option<&Value>,
+) -> Result<(), Fail> {
+    assert_eq!(rt; &table.apply(op)?, answer);
+    assert_eq!(rt; table.rows().first().map(|row| &row.1), left);
+    Ok(())
+}
+
+/// The table of the record k=old.
+fn of_old(alloc: Global) -> Result<PlainTable, Fail> {
+    let put = Op::Insert(key(b"k")?, value(b"old")?);
+    let mut table = PlainTable::new(alloc);
+    table.apply(&put)?;
+    Ok(table)
 }
 
 #[test]
 fn operations_on_an_absent_key(rt: HostRuntime) -> Result<(), Fail> {
-    let (answer, table) = applied(&rt, false, &Op::Insert(key(b"k")?, value(b"v")?))?;
-    assert_eq!(rt; answer, Answer::Inserted);
-    assert_eq!(rt; table.get(&key(b"k")?), Some(&value(b"v")?));
-    let (answer, table) = applied(&rt, false, &Op::Update(key(b"k")?, value(b"v")?))?;
-    assert_eq!(rt; answer, Answer::NoRecord);
-    assert_eq!(rt; table.rows().len(), 0);
-    let (answer, table) = applied(&rt, false, &Op::Upsert(key(b"k")?, value(b"v")?))?;
-    assert_eq!(rt; answer, Answer::Was(None));
-    assert_eq!(rt; table.get(&key(b"k")?), Some(&value(b"v")?));
-    let (answer, table) = applied(&rt, false, &Op::Delete(key(b"k")?))?;
-    assert_eq!(rt; answer, Answer::NoRecord);
-    assert_eq!(rt; table.rows().len(), 0);
-    Ok(())
+    let new = value(b"v")?;
+    let a = rt.alloc();
+    expect_effect(
+        &rt,
+        &mut PlainTable::new(a),
+        &insert()?,
+        &Answer::Inserted,
+        Some(&new),
+    )?;
+    expect_effect(
+        &rt,
+        &mut PlainTable::new(a),
+        &update()?,
+        &Answer::NoRecord,
+        None,
+    )?;
+    expect_effect(
+        &rt,
+        &mut PlainTable::new(a),
+        &upsert()?,
+        &Answer::Was(None),
+        Some(&new),
+    )?;
+    expect_effect(
+        &rt,
+        &mut PlainTable::new(a),
+        &delete()?,
+        &Answer::NoRecord,
+        None,
+    )
 }
 
 #[test]
 fn operations_on_a_present_key(rt: HostRuntime) -> Result<(), Fail> {
+    let a = rt.alloc();
+    kept_or_put_over(&rt, &mut of_old(a)?, &mut of_old(a)?)?;
+    told_and_gone(&rt, &mut of_old(a)?, &mut of_old(a)?)
+}
+
+fn kept_or_put_over(
+    rt: &impl Abort,
+    one: &mut PlainTable,
+    other: &mut PlainTable,
+) -> Result<(), Fail> {
     let old = value(b"old")?;
-    let (answer, table) = applied(&rt, true, &Op::Insert(key(b"k")?, value(b"v")?))?;
-    assert_eq!(rt; answer, Answer::Exists);
-    assert_eq!(rt; table.get(&key(b"k")?), Some(&old));
-    let (answer, table) = applied(&rt, true, &Op::Update(key(b"k")?, value(b"v")?))?;
-    assert_eq!(rt; answer, Answer::Updated(old.copied()));
-    assert_eq!(rt; table.get(&key(b"k")?), Some(&value(b"v")?));
-    let (answer, table) = applied(&rt, true, &Op::Upsert(key(b"k")?, value(b"v")?))?;
-    assert_eq!(rt; answer, Answer::Was(Some(old.copied())));
-    assert_eq!(rt; table.get(&key(b"k")?), Some(&value(b"v")?));
-    let (answer, table) = applied(&rt, true, &Op::Delete(key(b"k")?))?;
-    assert_eq!(rt; answer, Answer::Deleted(old.copied()));
-    assert_eq!(rt; table.rows().len(), 0);
-    Ok(())
+    let new = value(b"v")?;
+    expect_effect(rt, one, &insert()?, &Answer::Exists, Some(&old))?;
+    expect_effect(rt, other, &update()?, &Answer::Updated(old), Some(&new))
+}
+
+fn told_and_gone(
+    rt: &impl Abort,
+    one: &mut PlainTable,
+    other: &mut PlainTable,
+) -> Result<(), Fail> {
+    let new = value(b"v")?;
+    let was = Answer::Was(Some(value(b"old")?));
+    expect_effect(rt, one, &upsert()?, &was, Some(&new))?;
+    expect_effect(
+        rt,
+        other,
+        &delete()?,
+        &Answer::Deleted(value(b"old")?),
+        None,
+    )
 }
 
 #[test]
