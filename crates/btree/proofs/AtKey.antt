@@ -25,7 +25,7 @@ use Rattle.btree.specs.Parting.{middle, may_split_at, split_at, merged_at}
 use Rattle.btree.specs.Performs.{performed_at}
 use Rattle.btree.specs.TreeLaw.{AreHonest, AreCaptured}
 use Rattle.btree.proofs.Tiling.{within_from, there_from, same_from}
-use Rattle.btree.proofs.Kept.{neighbours_apart}
+use Rattle.page.proofs.Sides.{neighbours_apart}
 use Rattle.btree.proofs.Changing.{changed_same, changed_other, leaf_mapped}
 use Rattle.btree.proofs.Splitting.{leaf_split}
 use Rattle.btree.proofs.Merging.{AtPair, AreJoinable, joinable, pair_with, pair_all, pair_each, leaf_merged, under_next, past_next}
@@ -186,7 +186,7 @@ value_in_left left right d k pair held =
     sym (get_retained (joined_of left right d).rows (is_under pair.next.fence) k under)
     ∙ ap (λ (m : Table). table.get m k)
     (first_again pair.next.fence left.rows right.rows
-    (neighbours_apart left right d pair.left_kept pair.right_kept pair.next))
+    (neighbours_apart left right pair.left_kept pair.right_kept pair.next))
 
 value_in_right : (left right : LeafView) (d : ℕ) (k : Bytes) → AreJoinable left right → is_in_fences right k ≡ true
     → table.get (joined_of left right d).rows k ≡ table.get right.rows k
@@ -196,7 +196,7 @@ value_in_right left right d k pair held =
     sym (get_retained (joined_of left right d).rows (is_from pair.next.fence) k from)
     ∙ ap (λ (m : Table). table.get m k)
     (second_again pair.next.fence left.rows right.rows
-    (neighbours_apart left right d pair.left_kept pair.right_kept pair.next))
+    (neighbours_apart left right pair.left_kept pair.right_kept pair.next))
 
 pub value_merged : (leaves : List LeafView) → AreLeaves leaves → (p d : ℕ) (k : Bytes)
     → table.get (leaf_at (merged_at p d leaves) k).rows k ≡ table.get (leaf_at leaves k).rows k

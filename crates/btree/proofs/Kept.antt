@@ -28,7 +28,8 @@ use Rattle.page.specs.Parting.{upper_of, lower_of, joined_of, AreNeighbours}
 use Rattle.page.specs.Tiles.{IsInside, part_of, starts_below}
 use Rattle.page.proofs.Performing.{all_placed}
 use Rattle.page.proofs.Raising.{all_raised}
-use Rattle.page.proofs.Halves.{all_kept, all_joined, below_free, between_lower, between_upper, lower_between, upper_between, retained, table_again, Apart, apart_of, ordered_both}
+use Rattle.page.proofs.Halves.{all_kept, all_joined, below_free, between_lower, between_upper, lower_between, upper_between, retained, table_again, ordered_both}
+use Rattle.page.proofs.Sides.{neighbours_apart}
 use Rattle.btree.specs.Parting.{key_in, count, middle, may_split}
 
 -- ---- keys of a table
@@ -136,14 +137,11 @@ module _ (left right : LeafView) (d : ℕ) (left_kept : IsLeaf left) (right_kept
   rows_from : LieBetween (Some next.fence) high (map.entries right.rows)
   rows_from = subst (λ (f : Option Bytes). LieBetween f high (map.entries right.rows)) next.begins right_kept.rows
 
-  pub neighbours_apart : Apart next.fence (map.entries left.rows) (map.entries right.rows)
-  neighbours_apart = apart_of low high next.fence (map.entries left.rows) (map.entries right.rows) rows_under rows_from
-
   joined_rows : map.entries (joined_of left right d).rows ≡ map.entries left.rows ++ map.entries right.rows
   joined_rows =
       entries-table_of (map.entries left.rows ++ map.entries right.rows)
       (ordered_both next.fence (map.entries left.rows) (map.entries right.rows) (own_rows left.rows)
-      (own_rows right.rows) neighbours_apart)
+      (own_rows right.rows) (neighbours_apart left right left_kept right_kept next))
 
   entries_under : StandBetween low (Some next.fence) left.ab.entries
   entries_under = subst (λ (f : Option Bytes). StandBetween low f left.ab.entries) next.ends left_kept.entries

@@ -57,6 +57,7 @@ pub record UndoneAmongLeaves (leaves new : List LeafView) (steps : List TreeStep
   pub back : HasTable (performed_at new m i) (after_all (rows_of leaves) (ops_of steps))
   pub effective : IsEffective (answer_in (leaf_at new (key_of i)).rows i)
 
+-- steps leave the table that their operations leave, and an inverse takes back just its operation
 pub record TreeUndoLaw : Type 0 where
   pub steps : (leaves : List LeafView) (steps : List TreeStep) → AreLeaves leaves → MayTakeAll leaves steps
       → HasTable (after_steps leaves steps) (after_all (rows_of leaves) (ops_of steps))

@@ -1,11 +1,13 @@
 -- An index of frames: it stays right where the bytes of its frames stay, and with one frame more.
-use Rattle.std.proofs.Common.{◌≡◌, ◌≢◌, ℕ, zero, suc, ◌+◌, ◌-◌, ◌*◌, ◌%◌, ◌<◌, ◌≤◌, ◌^◌, eqb, List, [], ◌∷◌, ◌++◌, length, take, drop, get_or, refl, sym, ap, subst, ◌∙◌, arith, inl, inr, add-one}
-use Rattle.std.proofs.lemmas.Bool.{cases_Bool, cases_lt, eqb-true, eqb-false}
+use Rattle.std.proofs.Common.{◌≡◌, ℕ, zero, suc, ◌+◌, ◌-◌, ◌*◌, ◌<◌, ◌≤◌, ◌^◌, List, [], ◌∷◌, ◌++◌, length, take, drop, get_or, refl, sym, ap, subst, ◌∙◌, arith, inl, inr, add-one}
+use Rattle.std.proofs.lemmas.Bool.{cases_lt}
 use Rattle.std.proofs.lemmas.List.{drop-take, take_at, drop_at, length-append, length-take, get_or_append_left, get_or_at, length_push, append-nil}
 use Rattle.byteorder.specs.Numbers.{big_from-take}
 use Rattle.codec.specs.Fields.{first_number}
 use Rattle.codec.specs.Frames.{frame}
-use Rattle.codec.specs.FrameIndex.{next_at, place_at, places_of, marked, Indexes}
+use Rattle.codec.specs.Marks.{marked}
+use Rattle.codec.specs.FrameIndex.{next_at, place_at, places_of, Indexes}
+use Rattle.codec.proofs.Marks.{no_marks, marks_same, marks_more}
 use Rattle.codec.proofs.Frames.{length_there, length-frame}
 
 -- ---- places
@@ -116,12 +118,7 @@ place_of bytes (suc n) m x lt =
 
 pub indexes_none : (bytes : List ℕ) → Indexes bytes [] 0
 unfolding place_at
-indexes_none bytes = record {
-  enough = omega arith;
-  no_more = omega arith;
-  placed = λ i lt. absurd (omega (arith, lt));
-  whole = omega arith;
-}
+indexes_none bytes = record { indexed = no_marks (place_at bytes); whole = omega arith }
 
 -- there are fewer frames than bytes
 pub indexed_few : (bytes marks : List ℕ) (count : ℕ) → Indexes bytes marks count → 8 * count ≤ length bytes
@@ -137,49 +134,18 @@ long_same bytes other n same within =
 pub indexes_same : (bytes other marks : List ℕ) (count : ℕ) → Indexes bytes marks count
     → take (place_at bytes count) other ≡ take (place_at bytes count) bytes → Indexes other marks count
 indexes_same bytes other marks count h same = record {
-  enough = h.enough;
-  no_more = h.no_more;
-  placed = λ i lt. h.placed i lt ∙ sym (place_same bytes other count same (8 * i) (omega (arith, lt, h.no_more)));
+  indexed = marks_same (place_at bytes) (place_at other) marks count (place_same bytes other count same) h.indexed;
   whole = subst (λ (n : ℕ). n ≤ length other) (sym (place_same bytes other count same count (omega arith)))
       (long_same bytes other (place_at bytes count) same h.whole);
 }
 
--- the next frame is marked
-mark_more : (bytes marks : List ℕ) (count place : ℕ) → Indexes bytes marks count → place ≡ place_at bytes count
-    → count ≡ 8 * length marks → (i : ℕ) → i < length (marks ++ place ∷ [])
-    → get_or (marks ++ place ∷ []) i 0 ≡ place_at bytes (8 * i)
-mark_more bytes marks count place h at full i lt =
-    elim (cases_lt i (length marks)) [
-      | inl older ↦ get_or_append_left marks (place ∷ []) 0 i older ∙ h.placed i older
-      | inr last ↦
-          let e : length marks ≡ i = omega (arith, last, lt, length_push marks place) in
-          get_or_at marks place [] 0 i e ∙ at ∙ ap (place_at bytes) (omega (arith, full, e))
-    ]
-
 -- and with the frame after these, once this is whole
 pub indexes_more : (bytes marks : List ℕ) (count place : ℕ) → Indexes bytes marks count → place ≡ place_at bytes count
     → next_at bytes place ≤ length bytes → Indexes bytes (marked marks count place) (count + 1)
-indexes_more bytes marks count place h at whole =
-    let end : place_at bytes (count + 1) ≤ length bytes =
-    subst (λ (p : ℕ). p ≤ length bytes) (ap (next_at bytes) at ∙ sym (place_next bytes count)) whole in
-    elim (cases_Bool (eqb (count % 8) 0)) [
-      | inl full ↦
-          let all : count ≡ 8 * length marks = omega (arith, eqb-true _ _ full, h.enough, h.no_more) in
-          rw full (record {
-            enough = omega (arith, all, length_push marks place);
-            no_more = omega (arith, all, length_push marks place);
-            placed = mark_more bytes marks count place h at all;
-            whole = end;
-          })
-      | inr amid ↦
-          let some : count % 8 ≢ 0 = eqb-false _ _ amid in
-          rw amid (record {
-            enough = omega (arith, some, h.enough);
-            no_more = omega (arith, h.no_more);
-            placed = h.placed;
-            whole = end;
-          })
-    ]
+indexes_more bytes marks count place h at whole = record {
+  indexed = marks_more (place_at bytes) marks count place h.indexed at;
+  whole = subst (λ (p : ℕ). p ≤ length bytes) (ap (next_at bytes) at ∙ sym (place_next bytes count)) whole;
+}
 
 -- ---- a frame more
 

@@ -10,9 +10,11 @@ pub mod Replies
 pub mod Images
 pub mod DcRecords
 pub mod Frames
+pub mod Marks
 pub mod Indexed
 pub mod Ends
 pub mod Results
 pub mod Numbered
 pub mod Cuts
 mod Told
+mod Sessions

@@ -1,6 +1,7 @@
 -- Where frames begin that stand one after another from the front of bytes, told by marks at each eighth of them.
-use Rattle.std.specs.Prelude.{◌≡◌, ℕ, zero, suc, ◌+◌, ◌*◌, ◌%◌, ◌<◌, ◌≤◌, ◌==◌, if◌then◌else◌, Bool, List, [], ◌∷◌, ◌++◌, length, get_or, drop}
+use Rattle.std.specs.Prelude.{ℕ, zero, suc, ◌+◌, ◌≤◌, Bool, List, [], ◌∷◌, ◌++◌, length, drop}
 use Rattle.codec.specs.Fields.{first_number}
+use Rattle.codec.specs.Marks.{AreMarks}
 
 -- where the frame after the one at a place begins
 unfoldable pub next_at : List ℕ → ℕ → ℕ
@@ -22,13 +23,7 @@ pub record FrameIndexView : Type 0 where
   pub count : ℕ
   pub has_room : Bool
 
--- the marks, once a frame at this place comes after so many
-abbrev pub marked : List ℕ → ℕ → ℕ → List ℕ
-marked marks count place = if count % 8 == 0 then marks ++ place ∷ [] else marks
-
 -- the marks are the places of each eighth of so many frames, and all of these frames are whole
 pub record Indexes (bytes marks : List ℕ) (count : ℕ) : Type 0 where
-  pub enough : count ≤ 8 * length marks
-  pub no_more : 8 * length marks < count + 8
-  pub placed : (i : ℕ) → i < length marks → get_or marks i 0 ≡ place_at bytes (8 * i)
+  pub indexed : AreMarks (place_at bytes) marks count
   pub whole : place_at bytes count ≤ length bytes

@@ -7,6 +7,7 @@ pub mod Entries
 pub mod Images
 pub mod DcRecords
 pub mod Frames
+pub mod Marks
 pub mod FrameIndex
 pub mod Reading
 pub mod Writing

@@ -15,6 +15,15 @@ reply_bytes (is.Rows session read rows) = 20 ∷ number session ++ (number read 
 reply_bytes (is.Checkpointed session low) = 21 ∷ number session ++ number low
 reply_bytes (is.RedoEnded session) = 22 ∷ number session
 
+-- the session that it is of
+abbrev pub session_of : Reply → ℕ
+session_of (is.Connected session) = session
+session_of (is.Answered session n a) = session
+session_of (is.Row session read value) = session
+session_of (is.Rows session read rows) = session
+session_of (is.Checkpointed session low) = session
+session_of (is.RedoEnded session) = session
+
 -- only rows may be of any length
 abbrev pub has_rows : Reply → Bool
 has_rows (is.Rows session read rows) = true

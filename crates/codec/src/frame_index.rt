@@ -1,6 +1,7 @@
 //! Where the frames of a buffer begin, in little memory: each eighth place is kept, and the others are found from it.
 ghost use Rattle.std.specs.Prelude.{◌≡◌, ◌+◌, ◌<◌, ◌≤◌, true, false, [], length, OnOk, OnErr};
-ghost use Rattle.codec.specs.FrameIndex.{next_at, place_at, marked, Indexes};
+ghost use Rattle.codec.specs.FrameIndex.{next_at, place_at, Indexes};
+ghost use Rattle.codec.specs.Marks.{marked};
 
 use crate::frame::HEADER_LEN;
 use byteorder::{BigEndian, ByteOrder};

@@ -33,7 +33,7 @@ pub use image::{
 };
 pub use performed::{PERFORMED_LIMIT, put_performed, take_performed};
 pub use record::{asked_op, left_to_undo, put_record, record_spelling_law, step_txn, take_record};
-pub use reply::{Reply, put_reply, reply_spelling_law, take_reply};
+pub use reply::{Reply, put_reply, reply_session, reply_spelling_law, take_reply};
 pub use request::{Request, put_request, request_spelling_law, take_request};
 pub use rows::Rows;
 pub use taken::Taken;

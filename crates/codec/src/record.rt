@@ -14,7 +14,9 @@ use crate::framed::Framed;
 use crate::lengths::{answer_len, op_len, optional_op_len};
 use crate::reading::{take_answer, take_number, take_op, take_optional_op};
 use crate::taken::Taken;
-use crate::writing::{put_answer, put_byte, put_number, put_op, put_optional_op};
+use crate::writing::{
+    put_answer, put_byte, put_head, put_long_head, put_number, put_op, put_optional_op,
+};
 use history::Record;
 use record_key::{Op, Refusal};
 use std::convert::Infallible;
@@ -139,14 +141,11 @@ fn put_body(out: &mut Vec<u8>, record: &Record)
         Record::Session => put_byte(out, 1),
         Record::Begin => put_byte(out, 2),
         Record::Op { txn, prev, op } => {
-            put_byte(out, 3);
-            put_number(out, *txn);
-            put_number(out, *prev);
+            put_long_head(out, 3, *txn, *prev);
             put_op(out, op);
         }
         Record::Answer { of, answer } => {
-            put_byte(out, 4);
-            put_number(out, *of);
+            put_head(out, 4, *of);
             put_answer(out, answer);
         }
         Record::Comp {
@@ -155,24 +154,13 @@ fn put_body(out: &mut Vec<u8>, record: &Record)
             next,
             inverse,
         } => {
-            put_byte(out, 5);
-            put_number(out, *txn);
-            put_number(out, *undoes);
+            put_long_head(out, 5, *txn, *undoes);
             put_number(out, *next);
             put_optional_op(out, inverse);
         }
-        Record::Commit { txn } => {
-            put_byte(out, 6);
-            put_number(out, *txn);
-        }
-        Record::End { txn } => {
-            put_byte(out, 7);
-            put_number(out, *txn);
-        }
-        Record::Checkpoint { low } => {
-            put_byte(out, 8);
-            put_number(out, *low);
-        }
+        Record::Commit { txn } => put_head(out, 6, *txn),
+        Record::End { txn } => put_head(out, 7, *txn),
+        Record::Checkpoint { low } => put_head(out, 8, *low),
     }
 }
 

@@ -1,20 +1,22 @@
 //! Replies of the data component to the transaction component.
-ghost use Rattle.std.specs.Prelude.{false, ◌≡◌, ◌≢◌, ◌↔◌, ◌+◌, ◌<◌, ◌≤◌, ◌^◌, ◌++◌, ℕ, List, length, drop, vec_len, vec_capacity, slice_index, OnOk, OnErr, IfOk, IfErr, IsErrOf, IfSome, IfNone, OnSome};
+ghost use Rattle.std.specs.Prelude.{Some, false, ◌≡◌, ◌≢◌, ◌↔◌, ◌+◌, ◌<◌, ◌≤◌, ◌^◌, ◌++◌, ℕ, List, length, drop, vec_len, vec_capacity, slice_index, OnOk, OnErr, IfOk, IfErr, IsErrOf, IfSome, IfNone, OnSome};
 ghost use Rattle.codec.specs.declared.reply.Reply.{Reply};
-ghost use Rattle.codec.specs.Replies.{reply_bytes, has_rows, IsOrdered, IsReply};
+ghost use Rattle.codec.specs.Replies.{reply_bytes, session_of, has_rows, IsOrdered, IsReply};
 ghost use Rattle.codec.specs.Frames.{frame, any_length, IfTaken, IfBad, IsThere, IsCut, IsFrameOf, HasKind};
 ghost use Rattle.codec.specs.Writing.{HasRoom, Puts};
 ghost use Rattle.codec.specs.Reading.{Gives, Finds, IfRefused, pair, mapped, optional_at, number_at, answer_at};
 ghost use Rattle.codec.specs.Reading.{choose, reply_choices, reply_at};
 
 use crate::fault::Fault;
-use crate::frame::{HEADER_LEN, take_framed};
+use crate::frame::{HEADER_LEN, left_at, take_framed};
 use crate::framed::Framed;
 use crate::lengths::{optional_answer_len, optional_value_len};
 use crate::reading::{take_number, take_optional_answer, take_optional_value};
 use crate::rows::{Rows, put_rows, rows_len, take_rows};
 use crate::taken::Taken;
-use crate::writing::{put_byte, put_number, put_optional_answer, put_optional_value};
+use crate::writing::{
+    put_head, put_long_head, put_number, put_optional_answer, put_optional_value,
+};
 use record_key::{Answer, Refusal, Value};
 use std::alloc::{AllocError, Global};
 
@@ -52,6 +54,22 @@ pub enum Reply {
     RedoEnded {
         session: u64,
     },
+}
+
+impl Reply {
+    /// The session that it is of.
+    pub fn session(&self) -> u64
+        ensures { result ≡ session_of self.now }
+    {
+        match self {
+            Reply::Connected { session }
+            | Reply::Answered { session, .. }
+            | Reply::Row { session, .. }
+            | Reply::Rows { session, .. }
+            | Reply::Checkpointed { session, .. }
+            | Reply::RedoEnded { session } => *session,
+        }
+    }
 }
 
 /// Appends the reply's frame, its one spelling. Where memory for it is refused nothing is appended.
@@ -93,6 +111,15 @@ pub fn take_reply(alloc: Global, bytes: &[u8], at: usize) -> Result<Taken<Reply>
     Ok(taken)
 }
 
+/// The session of the reply whose frame begins at a place, of any kind. Takes no memory, which the rows of a reply do.
+pub fn reply_session(bytes: &[u8], at: usize) -> Option<u64>
+    ensures { (r : Reply) (rest : List ℕ) → IsReply r → drop at bytes.now ≡ frame (reply_bytes r) ++ rest
+        → result ≡ Some (session_of r) }
+{
+    // One byte of kind stands before it.
+    Some(take_number(left_at(left_at(bytes, at), HEADER_LEN + 1))?.0)
+}
+
 /// How many bytes the reply's frame takes. None where that is 2 to the power of 64 or more.
 #[tactic(auto, unfolding(crate::specs::Replies::reply_bytes), using(crate::proofs::Numbered::number_lengths))]
 fn frame_len(reply: &Reply) -> Option<usize>
@@ -122,18 +149,13 @@ fn put_body(out: &mut Vec<u8>, reply: &Reply)
     ensures { Puts out.old out.new (reply_bytes reply.now) }
 {
     match reply {
-        Reply::Connected { session } => {
-            put_byte(out, 0x11);
-            put_number(out, *session);
-        }
+        Reply::Connected { session } => put_head(out, 0x11, *session),
         Reply::Answered {
             session,
             number,
             answer,
         } => {
-            put_byte(out, 0x12);
-            put_number(out, *session);
-            put_number(out, *number);
+            put_long_head(out, 0x12, *session, *number);
             put_optional_answer(out, answer);
         }
         Reply::Row {
@@ -141,9 +163,7 @@ fn put_body(out: &mut Vec<u8>, reply: &Reply)
             read,
             value,
         } => {
-            put_byte(out, 0x13);
-            put_number(out, *session);
-            put_number(out, *read);
+            put_long_head(out, 0x13, *session, *read);
             put_optional_value(out, value);
         }
         Reply::Rows {
@@ -151,20 +171,11 @@ fn put_body(out: &mut Vec<u8>, reply: &Reply)
             read,
             rows,
         } => {
-            put_byte(out, ROWS);
-            put_number(out, *session);
-            put_number(out, *read);
+            put_long_head(out, ROWS, *session, *read);
             put_rows(out, rows.as_slice());
         }
-        Reply::Checkpointed { session, low } => {
-            put_byte(out, 0x15);
-            put_number(out, *session);
-            put_number(out, *low);
-        }
-        Reply::RedoEnded { session } => {
-            put_byte(out, 0x16);
-            put_number(out, *session);
-        }
+        Reply::Checkpointed { session, low } => put_long_head(out, 0x15, *session, *low),
+        Reply::RedoEnded { session } => put_head(out, 0x16, *session),
     }
 }
 

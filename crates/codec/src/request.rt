@@ -11,7 +11,7 @@ use crate::framed::Framed;
 use crate::lengths::{key_len, op_len, range_len};
 use crate::reading::{take_key, take_number, take_op, take_optional_key};
 use crate::taken::Taken;
-use crate::writing::{put_byte, put_number, put_op, put_optional_key, put_text};
+use crate::writing::{put_head, put_long_head, put_number, put_op, put_optional_key, put_text};
 use record_key::{Key, Op, Refusal};
 use std::convert::Infallible;
 
@@ -117,24 +117,17 @@ fn put_body(out: &mut Vec<u8>, request: &Request)
     ensures { Puts out.old out.new (request_bytes request.now) }
 {
     match request {
-        Request::Connect { session } => {
-            put_byte(out, 1);
-            put_number(out, *session);
-        }
+        Request::Connect { session } => put_head(out, 1, *session),
         Request::Perform {
             session,
             number,
             op,
         } => {
-            put_byte(out, 2);
-            put_number(out, *session);
-            put_number(out, *number);
+            put_long_head(out, 2, *session, *number);
             put_op(out, op);
         }
         Request::Get { session, read, key } => {
-            put_byte(out, 3);
-            put_number(out, *session);
-            put_number(out, *read);
+            put_long_head(out, 3, *session, *read);
             put_text(out, key.as_bytes());
         }
         Request::Scan {
@@ -143,26 +136,13 @@ fn put_body(out: &mut Vec<u8>, request: &Request)
             low,
             high,
         } => {
-            put_byte(out, 4);
-            put_number(out, *session);
-            put_number(out, *read);
+            put_long_head(out, 4, *session, *read);
             put_text(out, low.as_bytes());
             put_optional_key(out, high.as_ref());
         }
-        Request::LowWater { session, low } => {
-            put_byte(out, 5);
-            put_number(out, *session);
-            put_number(out, *low);
-        }
-        Request::Checkpoint { session, low } => {
-            put_byte(out, 6);
-            put_number(out, *session);
-            put_number(out, *low);
-        }
-        Request::RedoEnd { session } => {
-            put_byte(out, 7);
-            put_number(out, *session);
-        }
+        Request::LowWater { session, low } => put_long_head(out, 5, *session, *low),
+        Request::Checkpoint { session, low } => put_long_head(out, 6, *session, *low),
+        Request::RedoEnd { session } => put_head(out, 7, *session),
     }
 }
 

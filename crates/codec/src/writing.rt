@@ -45,6 +45,24 @@ pub(crate) fn put_number(out: &mut Vec<u8>, n: u64)
     put_few(out, &bytes);
 }
 
+/// A kind, then a number.
+pub(crate) fn put_head(out: &mut Vec<u8>, kind: u8, n: u64)
+    requires { HasRoom out.old (kind ∷ number n) }
+    ensures { Puts out.old out.new (kind ∷ number n) }
+{
+    put_byte(out, kind);
+    put_number(out, n);
+}
+
+/// A kind, then two numbers.
+pub(crate) fn put_long_head(out: &mut Vec<u8>, kind: u8, n: u64, m: u64)
+    requires { HasRoom out.old (kind ∷ number n ++ number m) }
+    ensures { Puts out.old out.new (kind ∷ number n ++ number m) }
+{
+    put_head(out, kind, n);
+    put_number(out, m);
+}
+
 /// The text of a key or a value, behind its length.
 pub(crate) fn put_text(out: &mut Vec<u8>, bytes: &[u8])
     requires room { HasRoom out.old (text bytes.now) }

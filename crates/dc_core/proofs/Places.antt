@@ -1,13 +1,14 @@
 -- Where performances begin that stand one after another, and the marks at each eighth of them, also with one more.
-use Rattle.std.proofs.Common.{◌≡◌, ◌≢◌, ℕ, zero, suc, ◌+◌, ◌-◌, ◌*◌, ◌%◌, ◌<◌, ◌≤◌, eqb, List, [], ◌∷◌, ◌++◌, length, get_or, refl, sym, ap, subst, ◌∙◌, arith, inl, inr, add-one}
+use Rattle.std.proofs.Common.{◌≡◌, ℕ, zero, suc, ◌+◌, ◌-◌, ◌<◌, ◌≤◌, List, [], ◌∷◌, ◌++◌, length, get_or, refl, sym, ap, subst, ◌∙◌, arith, inl, inr, add-one}
 use Rattle.std.specs.Prelude.{slice_get, Some}
-use Rattle.std.proofs.lemmas.Bool.{cases_Bool, cases_lt, eqb-true, eqb-false}
+use Rattle.std.proofs.lemmas.Bool.{cases_lt}
 use Rattle.std.proofs.lemmas.List.{length-append, length-drop, length_push, get_or_append_left, get_or_at}
 use Rattle.std.proofs.lemmas.Option.{slice_get-get_or}
-use Rattle.codec.specs.FrameIndex.{marked}
+use Rattle.codec.specs.Marks.{marked, AreMarks}
+use Rattle.codec.proofs.Marks.{no_marks, marks_same, marks_more}
 use Rattle.codec.specs.Performances.{performed_bytes, IsPerformed}
 use Rattle.dc_core.specs.declared.performance.Performance.{Performance}
-use Rattle.dc_core.specs.Spelled.{parts_of, StandsAt, read, performances_at, AreSpelled, left_from, after, place_at, places_of, AreMarks, AreKept}
+use Rattle.dc_core.specs.Spelled.{parts_of, StandsAt, read, performances_at, AreSpelled, left_from, after, place_at, places_of, AreKept}
 use Rattle.dc_core.proofs.Spelled.{length-performances, is_read, within, stands_still, stands, spelled_longer, listed_longer}
 use Rattle.dc_core.proofs.Walks.{all_get}
 
@@ -108,14 +109,7 @@ module _ (bytes more : List ℕ) (n : ℕ) (all : AreSpelled bytes (places_of by
   places_same (suc m) le =
       λ i. places_same m (omega (arith, le)) i ++ place_same m (omega (arith, le)) i ∷ []
 
--- ---- marks
-
-pub no_marks : (at : ℕ → ℕ) → AreMarks at [] 0
-no_marks at = record {
-  enough = omega arith;
-  no_more = omega arith;
-  placed = λ i lt. absurd (omega (arith, lt));
-}
+-- ---- kept with their marks
 
 -- nothing is kept yet
 pub kept_none : (bytes marks : List ℕ) → bytes ≡ [] → marks ≡ [] → AreKept bytes marks 0
@@ -126,47 +120,6 @@ kept_none bytes marks none unmarked = record {
   indexed = let P : List ℕ → Type 0 = λ ms. AreMarks (place_at bytes) ms 0 in
       subst P (sym unmarked) (no_marks (place_at bytes));
 }
-
--- they are marks of other places too, where these are the same
-marks_same : (at other : ℕ → ℕ) (marks : List ℕ) (count : ℕ) → ((m : ℕ) → m ≤ count → other m ≡ at m)
-    → AreMarks at marks count → AreMarks other marks count
-marks_same at other marks count same h = record {
-  enough = h.enough;
-  no_more = h.no_more;
-  placed = λ i lt. h.placed i lt ∙ sym (same (8 * i) (omega (arith, lt, h.no_more)));
-}
-
--- the next place is marked
-mark_more : (at : ℕ → ℕ) (marks : List ℕ) (count place : ℕ) → AreMarks at marks count → place ≡ at count
-    → count ≡ 8 * length marks → (i : ℕ) → i < length (marks ++ place ∷ [])
-    → get_or (marks ++ place ∷ []) i 0 ≡ at (8 * i)
-mark_more at marks count place h here full i lt =
-    elim (cases_lt i (length marks)) [
-      | inl older ↦ get_or_append_left marks (place ∷ []) 0 i older ∙ h.placed i older
-      | inr last ↦
-          let e : length marks ≡ i = omega (arith, last, lt, length_push marks place) in
-          get_or_at marks place [] 0 i e ∙ here ∙ ap at (omega (arith, full, e))
-    ]
-
-marks_more : (at : ℕ → ℕ) (marks : List ℕ) (count place : ℕ) → AreMarks at marks count → place ≡ at count
-    → AreMarks at (marked marks count place) (count + 1)
-marks_more at marks count place h here =
-    elim (cases_Bool (eqb (count % 8) 0)) [
-      | inl full ↦
-          let all : count ≡ 8 * length marks = omega (arith, eqb-true _ _ full, h.enough, h.no_more) in
-          rw full (record {
-            enough = omega (arith, all, length_push marks place);
-            no_more = omega (arith, all, length_push marks place);
-            placed = mark_more at marks count place h here all;
-          })
-      | inr amid ↦
-          let some : count % 8 ≢ 0 = eqb-false _ _ amid in
-          rw amid (record {
-            enough = omega (arith, some, h.enough);
-            no_more = omega (arith, h.no_more);
-            placed = h.placed;
-          })
-    ]
 
 -- ---- one performance more
 

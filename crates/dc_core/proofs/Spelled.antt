@@ -1,8 +1,8 @@
 -- What is read at the places of performances is what was performed, also when there is one more.
-use Rattle.std.proofs.Common.{◌≡◌, ℕ, ◌≤◌, ◌<◌, List, [], ◌∷◌, ◌++◌, length, drop, get_or, reverse, refl, sym, ap, ◌∙◌, subst, arith, append_assoc}
+use Rattle.std.proofs.Common.{◌≡◌, ℕ, ◌≤◌, List, [], ◌∷◌, ◌++◌, length, drop, reverse, refl, sym, ap, ◌∙◌, subst, arith, append_assoc}
 use Rattle.std.specs.Prelude.{map, slice_get, option_map, Some, None}
 use Rattle.std.proofs.lemmas.List.{append-nil, length-append, length-drop, length-reverse, length-map, reverse-append, reverse-reverse, map-append, drop_at, drop-append-le}
-use Rattle.std.proofs.lemmas.Option.{slice_get-map, slice_get_read}
+use Rattle.std.proofs.lemmas.Option.{slice_get-map}
 use Rattle.codec.specs.Fields.{op_bytes, answer_bytes}
 use Rattle.codec.specs.Performances.{Performed, performed_bytes, IsPerformed, performed_at}
 use Rattle.codec.proofs.Fields.{numbers_length}
@@ -35,14 +35,6 @@ read_taken bytes place x is = ap taken is
 -- how many there are, and each by its place
 pub length-performances : (bytes places : List ℕ) → length (performances_at bytes places) ≡ length places
 length-performances bytes places = length-reverse (map (read bytes) places) ∙ length-map places (read bytes)
-
--- a place that is read is one of them
-pub place_read : (bytes places : List ℕ) (performed : List Performance) (i place : ℕ) → performances_at bytes places
-    ≡ performed
-    → i < length performed → place ≡ get_or places i place → slice_get places i ≡ Some place
-place_read bytes places performed i place are lt is =
-    let count : length performed ≡ length places = ap length (sym are) ∙ length-performances bytes places in
-    slice_get_read places (length places) i place refl (omega (arith, lt, count)) is
 
 pub read_back : (bytes places : List ℕ) (i place : ℕ) → slice_get places i ≡ Some place
     → slice_get (reverse (performances_at bytes places)) i ≡ Some (read bytes place)

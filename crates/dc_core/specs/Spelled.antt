@@ -1,8 +1,9 @@
 -- What was performed as bytes: each performance in the codec's spelling, and where it stands.
-use Rattle.std.specs.Prelude.{◌≡◌, ℕ, zero, suc, ◌+◌, ◌-◌, ◌*◌, ◌<◌, ◌≤◌, List, [], ◌∷◌, ◌++◌, length, get_or, drop, map, reverse, Option, Some, None}
+use Rattle.std.specs.Prelude.{◌≡◌, ℕ, zero, suc, ◌-◌, List, [], ◌∷◌, ◌++◌, length, drop, map, reverse, Option, Some, None}
 use Rattle.std.specs.List.{AllByRecursion}
 use Rattle.record_key.specs.declared.op.Op.TheVariants.{Delete}
 use Rattle.record_key.specs.declared.op.Answer.TheVariants.{Exists}
+use Rattle.codec.specs.Marks.{AreMarks}
 use Rattle.codec.specs.Performances.{Performed, performed_bytes, IsPerformed, performed_at}
 use Rattle.dc_core.specs.declared.performance.Performance.{Performance}
 
@@ -51,12 +52,6 @@ place_at bytes (suc n) = after bytes (place_at bytes n)
 unfoldable pub places_of : List ℕ → ℕ → List ℕ
 places_of bytes zero = []
 places_of bytes (suc n) = places_of bytes n ++ place_at bytes n ∷ []
-
--- the marks are the first of these places and each eighth after it, of so many
-pub record AreMarks (at : ℕ → ℕ) (marks : List ℕ) (count : ℕ) : Type 0 where
-  pub enough : count ≤ 8 * length marks
-  pub no_more : 8 * length marks < count + 8
-  pub placed : (i : ℕ) → i < length marks → get_or marks i 0 ≡ at (8 * i)
 
 -- so many performances fill the bytes, one after another, and the marks are the places of each eighth of them
 pub record AreKept (bytes marks : List ℕ) (count : ℕ) : Type 0 where

@@ -85,10 +85,12 @@ impl Dc {
         })
     }
 
-    /// The devices, as a crash finds them: all records of the log stand on it, and the stable ones are forced.
+    /// The devices, as a crash finds them: all records of the log stand on it, and just the stable ones are
+    /// forced.
     pub fn stop(self) -> Devices<MemLog, MemPages>
         ensures holds { result.log.forced ++ result.log.pending ≡ spelled self.system.log }
         ensures forced { BeginsWith result.log.forced (spelled (beginning self.system.log self.system.stable)) }
+        ensures just { result.log.forced ≡ spelled (beginning self.system.log self.system.stable) }
         ensures pages { result.pages.pages ≡ self.system.pages }
         ensures failures { result.log.failures + result.pages.failures ≡ self.system.failures }
     {
@@ -171,13 +173,6 @@ impl Dc {
         ensures { result ≡ self.now.stored }
     {
         self.parts.stored
-    }
-
-    /// Whether the operations of earlier sessions are being sent again.
-    pub fn redoes(&self) -> bool
-        ensures { result ≡ self.now.redo }
-    {
-        self.parts.redo
     }
 
     /// How many records the log of the leaves has.

@@ -96,6 +96,7 @@ impl Parts {
     pub fn stop(self) -> Devices<MemLog, MemPages>
         ensures holds { result.log.forced ++ result.log.pending ≡ spelled self.system.log }
         ensures forced { BeginsWith result.log.forced (spelled (beginning self.system.log self.system.stable)) }
+        ensures just { result.log.forced ≡ spelled (beginning self.system.log self.system.stable) }
         ensures pages { result.pages.pages ≡ self.system.pages }
         ensures failures { result.log.failures + result.pages.failures ≡ self.system.failures }
     {

@@ -1,7 +1,7 @@
 //! What was performed, kept as bytes.
 ghost use Rattle.std.specs.Prelude.{◌≡◌, ℕ, ◌*◌, ◌/◌, ◌<◌, ◌^◌, [], length, get_or, reverse, slice_get, vec_len, vec_capacity, IfOk, IfErr, OnErr};
 ghost use Rattle.btree.specs.Performs.{PerformsAt};
-ghost use Rattle.codec.specs.FrameIndex.{marked};
+ghost use Rattle.codec.specs.Marks.{marked};
 ghost use Rattle.dc_core.specs.DcView.{noted};
 ghost use Rattle.dc_core.specs.Spelled.{after, place_at};
 

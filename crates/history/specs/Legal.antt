@@ -40,17 +40,20 @@ pub record Inverts (log : List Record) (u : ℕ) (i : Option Op) : Type 0 where
   pub answered : answer_of log u ≡ Some answer
   pub inverse : i ≡ inverse_of op answer
 
+-- an operation: its transaction is open and idle, prev is its latest step, and nobody else open has changed the key
 pub record FitsOp (log : List Record) (t p : ℕ) (o : Op) : Type 0 where
   pub open_txn : IsOpen log t
   pub idle : IsIdle log t
   pub prev : IsLatestOrNone (IsStepOf log t) p
   pub free : IsKeyFree log t (key_of o)
 
+-- an answer: to a request that has none yet
 pub record FitsAnswer (log : List Record) (n : ℕ) : Type 0 where
   pub op : Op
   pub requested : Requests log n op
   pub unanswered : answer_of log n ≡ None
 
+-- a compensation: of its transaction's latest operation that stands, with its inverse; undo-next is the one before
 pub record FitsComp (log : List Record) (t u x : ℕ) (i : Option Op) : Type 0 where
   pub open_txn : IsOpen log t
   pub idle : IsIdle log t
@@ -58,10 +61,12 @@ pub record FitsComp (log : List Record) (t u x : ℕ) (i : Option Op) : Type 0 w
   pub next : IsLatestOrNone (λ n. Stands log t n × (n < u)) x
   pub inverse : Inverts log u i
 
+-- a commit: of an open and idle transaction
 pub record FitsCommit (log : List Record) (t : ℕ) : Type 0 where
   pub open_txn : IsOpen log t
   pub idle : IsIdle log t
 
+-- an end: the same, of which no operation stands
 pub record FitsEnd (log : List Record) (t : ℕ) : Type 0 where
   pub open_txn : IsOpen log t
   pub idle : IsIdle log t
@@ -71,6 +76,7 @@ pub record FitsEnd (log : List Record) (t : ℕ) : Type 0 where
 abbrev pub AreAnswered : List Record → ℕ → Type 0
 AreAnswered log low = (n : ℕ) (o : Op) → n ≤ low → Requests log n o → IsSome (answer_of log n)
 
+-- a checkpoint: up to a number that the log has reached, and up to which all is answered
 pub record FitsCheckpoint (log : List Record) (low : ℕ) : Type 0 where
   pub within : low ≤ length log
   pub answered : AreAnswered log low

@@ -42,6 +42,7 @@ pub record Txn : Type 0 where
   pub last : Option (ℕ × Op)
   pub spans : List Span
 
+-- the history of all, and each transaction by its number
 pub record Machine : Type 0 where
   pub h : List Entry
   pub txns : ℕ → Txn

@@ -3,7 +3,8 @@ use Rattle.std.proofs.Common.{◌≡◌, ℕ, ◌+◌, ◌-◌, ◌<◌, List, [
 use Rattle.std.proofs.lemmas.List.{append-nil, length-append, drop_at, take_at}
 use Rattle.std.proofs.lemmas.Grind.{get_or_default_zero}
 use Rattle.codec.specs.Frames.{frame}
-use Rattle.codec.specs.FrameIndex.{place_at, places_of, marked}
+use Rattle.codec.specs.FrameIndex.{place_at, places_of}
+use Rattle.codec.specs.Marks.{marked}
 use Rattle.codec.proofs.Indexed.{GoesOn, goes_on, cut_same, places_same, place_same, indexes_same, indexes_none, length-places_of}
 use Rattle.codec.proofs.Records.{record_length}
 use Rattle.codec.specs.declared.taken.Taken.{Taken}

@@ -1,5 +1,5 @@
 -- A log is kept by each of its calls.
-use Rattle.std.proofs.Common.{◌≡◌, ℕ, List, [], ◌∷◌, ◌++◌, length, refl, sym, ap, ◌∙◌, subst, arith, append_assoc}
+use Rattle.std.proofs.Common.{◌≡◌, ℕ, Bool, List, [], ◌∷◌, ◌++◌, length, refl, sym, ap, ◌∙◌, subst, arith, append_assoc}
 use Rattle.std.proofs.lemmas.List.{append-nil}
 use Rattle.codec.specs.Frames.{frame}
 use Rattle.codec.specs.Records.{record_bytes}
@@ -12,10 +12,10 @@ use Rattle.logical_log.specs.Spelled.{spelled}
 use Rattle.logical_log.proofs.Answered.{part_longer, part_whole}
 
 -- all records of a log are stable, and forced
-pub kept_all : (frames : FramesView) (answered : ℕ) (forced pending : List ℕ) → frames.left ≡ []
+pub kept_all : (w : Bool) (frames : FramesView) (answered : ℕ) (forced pending : List ℕ) → frames.left ≡ []
     → forced ≡ spelled frames.records → pending ≡ []
-    → IsLatest (FitsCheckpoint frames.records) answered → IsKept frames (length frames.records) answered forced pending
-kept_all frames answered forced pending read f p latest = record {
+    → IsLatest (FitsCheckpoint frames.records) answered → IsKept w frames (length frames.records) answered forced pending
+kept_all w frames answered forced pending read f p latest = record {
   all_read = read;
   within = omega arith;
   greatest = let P : List Record → Type 0 = λ x. IsLatest (FitsCheckpoint x) answered in
@@ -26,14 +26,15 @@ kept_all frames answered forced pending read f p latest = record {
     f ∙ ap spelled (sym (part_whole frames.records))
         ∙ sym (append-nil (spelled (stable_part frames.records (length frames.records)))),
   );
+  just = λ _. f ∙ ap spelled (sym (part_whole frames.records));
 }
 
 -- a log of no records
-pub kept_empty : (forced pending : List ℕ) → forced ≡ [] → pending ≡ []
-    → IsKept (record { records = []; left = [] }) 0 0 forced pending
+pub kept_empty : (w : Bool) (forced pending : List ℕ) → forced ≡ [] → pending ≡ []
+    → IsKept w (record { records = []; left = [] }) 0 0 forced pending
 unfolding spelled
-kept_empty forced pending f p =
-    kept_all (record { records = []; left = [] }) 0 forced pending refl f p
+kept_empty w forced pending f p =
+    kept_all w (record { records = []; left = [] }) 0 forced pending refl f p
     (record {
       is = record { within = omega arith; answered = λ n o below asks. absurd (cc) };
       greatest = λ m more.
@@ -41,11 +42,11 @@ kept_empty forced pending f p =
     })
 
 -- a record is appended
-pub kept_longer : (frames : FramesView) (stable answered : ℕ) (forced pending : List ℕ) (r : Record)
-    → IsKept frames stable answered forced pending
-    → IsKept (record frames { records = r ∷ frames.records }) stable answered forced (pending ++ frame (record_bytes r))
+pub kept_longer : (w : Bool) (frames : FramesView) (stable answered : ℕ) (forced pending : List ℕ) (r : Record)
+    → IsKept w frames stable answered forced pending
+    → IsKept w (record frames { records = r ∷ frames.records }) stable answered forced (pending ++ frame (record_bytes r))
 unfolding spelled
-kept_longer frames stable answered forced pending r h = record {
+kept_longer w frames stable answered forced pending r h = record {
   all_read = h.all_read;
   within = omega (arith, h.within);
   greatest = let P : List Record → Type 0 = λ x. IsLatest (FitsCheckpoint x) answered in
@@ -54,4 +55,5 @@ kept_longer frames stable answered forced pending r h = record {
       ∙ ap (λ (b : List ℕ). b ++ frame (record_bytes r)) h.stored;
   covered = let P : List Record → Type 0 = λ x. BeginsWith forced (spelled x) in
       subst P (sym (part_longer r frames.records stable h.within)) h.covered;
+  just = λ is. h.just is ∙ ap spelled (sym (part_longer r frames.records stable h.within));
 }

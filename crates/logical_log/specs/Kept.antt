@@ -1,5 +1,5 @@
 -- What holds of frames, and of a log, as they are kept.
-use Rattle.std.specs.Prelude.{◌≡◌, ℕ, ◌≤◌, ◌<◌, ◌^◌, List, [], ◌++◌, length}
+use Rattle.std.specs.Prelude.{◌≡◌, ℕ, ◌≤◌, ◌<◌, ◌^◌, Bool, true, List, [], ◌++◌, length}
 use Rattle.codec.specs.FrameIndex.{place_at, places_of, Indexes}
 use Rattle.history.specs.declared.record.Record.{Record}
 use Rattle.history.specs.Legal.{IsLegal}
@@ -30,10 +30,12 @@ pub record AreIndexed (log : List Record) (bytes left marks : List ℕ) (count :
   pub indexes : Indexes bytes marks count
   pub ends : end ≡ place_at bytes count
 
--- all bytes are frames, the device holds just these, and the stable records are among what every crash leaves
-pub record IsKept (frames : FramesView) (stable answered : ℕ) (forced pending : List ℕ) : Type 0 where
+-- all bytes are frames, the device holds just these, and the stable records are among what every crash leaves; where the
+-- device forces all or nothing, they are just what it leaves
+pub record IsKept (whole : Bool) (frames : FramesView) (stable answered : ℕ) (forced pending : List ℕ) : Type 0 where
   pub all_read : frames.left ≡ []
   pub within : stable ≤ length frames.records
   pub greatest : IsGreatestLow frames.records stable answered
   pub stored : forced ++ pending ≡ spelled frames.records
   pub covered : BeginsWith forced (spelled (stable_part frames.records stable))
+  pub just : whole ≡ true → forced ≡ spelled (stable_part frames.records stable)

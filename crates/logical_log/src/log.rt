@@ -1,5 +1,5 @@
 //! The log and what is read of it.
-ghost use Rattle.std.specs.Prelude.{◌≡◌, ◌≤◌, ◌<◌, ◌^◌, ◌++◌, [], length};
+ghost use Rattle.std.specs.Prelude.{true, ◌≡◌, ◌≤◌, ◌<◌, ◌^◌, ◌++◌, [], length};
 ghost use Rattle.history.specs.Log.{record_at, answer_of, request_in, step_in};
 ghost use Rattle.history.specs.Legal.{IsLegal, FitsCheckpoint, IsLatest};
 ghost use Rattle.history.specs.Chains.{undo_from};
@@ -37,7 +37,8 @@ impl<D: LogDevice> Model for Log<D> {
       failures = D.failures l.device;
     } };
 
-    ghost invariant = { λ l. IsKept l.frames l.stable l.answered (D.forced l.device) (D.pending l.device) };
+    ghost invariant = { λ l. IsKept D.forces_whole l.frames l.stable l.answered
+        (D.forced l.device) (D.pending l.device) };
 }
 
 impl<D: LogDevice> Log<D> {
@@ -54,10 +55,12 @@ impl<D: LogDevice> Log<D> {
         }
     }
 
-    /// The device, as a crash finds it: all records stand on it, and the stable ones are forced.
+    /// The device, as a crash finds it: all records stand on it, and the stable ones are forced; no others are, where
+    /// it forces all or nothing.
     pub fn stop(self) -> D
         ensures holds { D.forced result ++ D.pending result ≡ spelled self.records }
         ensures forced { BeginsWith (D.forced result) (spelled (stable_part self.records self.stable)) }
+        ensures just { D.forces_whole ≡ true → D.forced result ≡ spelled (stable_part self.records self.stable) }
         ensures spellable { AreRecords self.records }
         ensures failures { D.failures result ≡ self.failures }
     {

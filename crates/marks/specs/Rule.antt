@@ -29,6 +29,7 @@ pub record Fits (words : Pair) (number : ℕ) (v : View) : Type 0 where
   pub raiser_first : IsTrue v.raises → number ≡ 0
   pub raiser_exact : IsTrue v.raises → v.seen ≡ words
 
+-- what holds of the words and of all seats between any two steps
 pub record Holds (s : Marked) : Type 0 where
   pub two_words : length s.words ≡ 2
   pub ordered : (words_of s).low ≤ (words_of s).stable

@@ -1,3 +1,4 @@
-//! Walks of a node.
+//! Walks of a node, and lists of events.
 mod calls;
+mod driving;
 mod walks;

@@ -140,14 +140,20 @@ captured_both log leaf other k kept honest to inside outside n o requests on =
     to.all n o requests (ap (is_in_fences leaf) on ∙ inside)
     (only_low log other n o kept honest requests (ap (is_in_fences other) on ∙ outside) captured))
 
+-- the keys of two neighbours don't meet
+pub neighbours_apart : (left right : LeafView) → IsLeaf left → IsLeaf right → (next : AreNeighbours left right)
+    → Apart next.fence (map.entries left.rows) (map.entries right.rows)
+neighbours_apart left right left_kept right_kept next =
+    apart_of left.low_fence right.high_fence next.fence (map.entries left.rows) (map.entries right.rows)
+    (subst (λ (f : Option Bytes). LieBetween left.low_fence f (map.entries left.rows)) next.ends left_kept.rows)
+    (subst (λ (f : Option Bytes). LieBetween f right.high_fence (map.entries right.rows)) next.begins right_kept.rows)
+
 module _ (log : List Record) (left right : LeafView) (d : ℕ) (left_kept : IsLeaf left) (right_kept : IsLeaf right)
     (next : AreNeighbours left right)
     (left_honest : IsHonestLeaf log left) (right_honest : IsHonestLeaf log right)
     (left_to : IsCapturedTo log left right.ab.low) (right_to : IsCapturedTo log right left.ab.low) where
   apart : Apart next.fence (map.entries left.rows) (map.entries right.rows)
-  apart = apart_of left.low_fence right.high_fence next.fence (map.entries left.rows) (map.entries right.rows)
-      (subst (λ (f : Option Bytes). LieBetween left.low_fence f (map.entries left.rows)) next.ends left_kept.rows)
-      (subst (λ (f : Option Bytes). LieBetween f right.high_fence (map.entries right.rows)) next.begins right_kept.rows)
+  apart = neighbours_apart left right left_kept right_kept next
 
   abbrev new : ℕ → Bool
   new m = captures (joined_of left right d).ab m

@@ -54,12 +54,13 @@ abbrev pub HasEntry : List Entry → ℕ → ℕ → Op → Type 0
 HasEntry [] n t o = ⊥
 HasEntry (e ∷ h) n t o = ((e.number ≡ n) × (e.txn ≡ t) × (e.op ≡ o)) ⊎ HasEntry h n t o
 
--- an open transaction, and one of which the component has nothing but records
+-- an open transaction, which does this
 pub record IsActive (v : View) (t : ℕ) (d : Doing) : Type 0 where
   pub open_txn : IsOpen v.log t
   pub does : v.doing t ≡ Some d
   pub stays : v.loses t ≡ false
 
+-- one of which the component has nothing but records, whether it loses or not
 pub record IsQuiet (v : View) (t : ℕ) (loses : Bool) : Type 0 where
   pub does_none : v.doing t ≡ None
   pub loses_so : v.loses t ≡ loses

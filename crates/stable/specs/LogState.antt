@@ -4,6 +4,7 @@ use Rattle.stable.specs.Countdown.{after_answer}
 use Rattle.stable.specs.Device.{failures_told}
 use Rattle.stable.specs.declared.error.DeviceError.{DeviceError}
 
+-- its bytes, those that are forced first, and how it fails
 pub record LogState : Type 0 where
   -- what every crash leaves
   pub forced : List ℕ

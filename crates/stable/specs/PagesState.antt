@@ -12,6 +12,7 @@ use Rattle.stable.specs.declared.error.DeviceError.{DeviceError}
 abbrev pub Pages : Type 0
 Pages = FinMap nat_cmp (List ℕ)
 
+-- its pages, and how it fails
 pub record PagesState : Type 0 where
   pub pages : Pages
   -- which call from now fails

@@ -1,5 +1,5 @@
 //! What a log device promises.
-ghost use Rattle.std.specs.Prelude.{◌≡◌, ℕ, ◌+◌, ◌≤◌, List, [], ◌++◌, take, length, OnOk, OnErr, IfOk, IsOkUnless};
+ghost use Rattle.std.specs.Prelude.{◌≡◌, ℕ, ◌+◌, ◌≤◌, Bool, true, List, [], ◌++◌, take, length, OnOk, OnErr, IfOk, IsOkUnless};
 ghost use Rattle.std.specs.Borrow.{sem};
 ghost use Rattle.stable.specs.Device.{failures_told, ForcesPart, Rests};
 
@@ -16,6 +16,9 @@ pub trait LogDevice {
     /// How often the device has failed, a number without a last value.
     ghost failures: { Self → ℕ };
 
+    /// Whether a failed force forces nothing; of another device it may force some of the bytes.
+    ghost forces_whole: { Bool };
+
     /// Adds bytes at the end, all of them or none.
     fn append(&mut self, bytes: &[u8]) -> Result<(), DeviceError>
         ensures forced { forced self.new ≡ forced self.old }
@@ -29,6 +32,7 @@ pub trait LogDevice {
         ensures none_pending { OnOk result (pending self.new ≡ []) }
         ensures err { OnErr result (ForcesPart (forced self.old) (pending self.old)
             (forced self.new) (pending self.new)) }
+        ensures whole { OnErr result (forces_whole ≡ true → forced self.new ≡ forced self.old) }
         ensures no_memory { IsOkUnless result DeviceError.Device }
         ensures failures { failures self.new ≡ failures self.old + failures_told result };
 

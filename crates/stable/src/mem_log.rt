@@ -1,5 +1,5 @@
 //! A log device in memory, which a test can make fail and crash.
-ghost use Rattle.std.specs.Prelude.{◌≡◌, ◌≤◌, ◌↔◌, [], ◌++◌, take, length, IsTrue, false, OnOk, OnErr, IfOk, IsErrOf, IsOkUnless};
+ghost use Rattle.std.specs.Prelude.{◌≡◌, ◌≤◌, ◌↔◌, [], ◌++◌, take, length, IsTrue, true, false, OnOk, OnErr, IfOk, IsErrOf, IsOkUnless};
 ghost use Rattle.std.specs.Borrow.{sem};
 ghost use Rattle.stable.specs.Countdown.{fails_next};
 ghost use Rattle.stable.specs.Crash.{MayLeave};
@@ -87,6 +87,8 @@ impl LogDevice for MemLog {
     ghost pending = { λ log. log.pending };
 
     ghost failures = { λ log. log.failures };
+
+    ghost forces_whole = { true };
 
     fn append(&mut self, bytes: &[u8]) -> Result<(), DeviceError>
         ensures fails { IsErrOf result DeviceError.Device → IsTrue (fails_next self.old.countdown) }

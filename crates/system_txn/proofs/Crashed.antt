@@ -101,7 +101,7 @@ frames_left (r ∷ log) left more records e =
 -- ---- the law
 
 pub crashes_leave_frames : CrashesLeaveFrames
-crashes_leave_frames log stable forced pending left records kept leaves =
+crashes_leave_frames whole log stable forced pending left records kept leaves =
     let more : List ℕ = leaves.beginning.0 in
     let e : spelled log ≡ left ++ more = sym kept.stored ∙ leaves.beginning.1 in
     let was : LeavesBeginning log 0 left = frames_left log left more records e in

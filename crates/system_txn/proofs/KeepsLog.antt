@@ -1,5 +1,5 @@
 -- The log of the data component is kept by each of its calls.
-use Rattle.std.proofs.Common.{◌≡◌, ℕ, ◌+◌, List, [], ◌∷◌, ◌++◌, length, refl, sym, ap, ◌∙◌, subst, arith, append_assoc}
+use Rattle.std.proofs.Common.{◌≡◌, ℕ, Bool, ◌+◌, List, [], ◌∷◌, ◌++◌, length, refl, sym, ap, ◌∙◌, subst, arith, append_assoc}
 use Rattle.std.proofs.lemmas.List.{append-nil, length-append}
 use Rattle.codec.specs.declared.dc_record.DcRecord.{DcRecord}
 use Rattle.codec.specs.DcRecords.{dc_record_bytes, FitsFrame}
@@ -12,51 +12,53 @@ use Rattle.system_txn.proofs.Spelled.{read_back}
 use Rattle.recovery_laws.proofs.Beginnings.{whole, shorter}
 
 -- both halves of what holds of the log
-abbrev pub IsKept : List DcRecord → ℕ → List ℕ → List ℕ → List ℕ → ℕ → ℕ → Type 0
-IsKept log stable forced pending begins end next_id =
-    IsStored log stable forced pending × AreFrames log begins end next_id
+abbrev pub IsKept : Bool → List DcRecord → ℕ → List ℕ → List ℕ → List ℕ → ℕ → ℕ → Type 0
+IsKept w log stable forced pending begins end next_id =
+    IsStored w log stable forced pending × AreFrames log begins end next_id
 
 -- the records that are read at the places are those of the log that is kept
-pub same_log : (log : List DcRecord) (stable : ℕ) (forced pending begins : List ℕ) (end next_id : ℕ)
-    → IsKept log stable forced pending begins end next_id → records_at (forced ++ pending) begins ≡ log
-same_log log stable forced pending begins end next_id h =
+pub same_log : (w : Bool) (log : List DcRecord) (stable : ℕ) (forced pending begins : List ℕ) (end next_id : ℕ)
+    → IsKept w log stable forced pending begins end next_id → records_at (forced ++ pending) begins ≡ log
+same_log w log stable forced pending begins end next_id h =
     ap (λ (b : List ℕ). records_at b begins) (h.0.stored ∙ sym (append-nil (spelled log)))
     ∙ ap (records_at (spelled log ++ [])) h.1.begins_are ∙ read_back log [] h.1.spellable
 
 -- so it holds of what is seen
-pub kept_so : (log : List DcRecord) (stable : ℕ) (forced pending begins : List ℕ) (end next_id : ℕ)
-    → IsKept log stable forced pending begins end next_id
-    → IsKept (records_at (forced ++ pending) begins) stable forced pending begins end next_id
-kept_so log stable forced pending begins end next_id h =
-    let Of : List DcRecord → Type 0 = λ l. IsKept l stable forced pending begins end next_id in
-    subst Of (sym (same_log log stable forced pending begins end next_id h)) h
+pub kept_so : (w : Bool) (log : List DcRecord) (stable : ℕ) (forced pending begins : List ℕ) (end next_id : ℕ)
+    → IsKept w log stable forced pending begins end next_id
+    → IsKept w (records_at (forced ++ pending) begins) stable forced pending begins end next_id
+kept_so w log stable forced pending begins end next_id h =
+    let Of : List DcRecord → Type 0 = λ l. IsKept w l stable forced pending begins end next_id in
+    subst Of (sym (same_log w log stable forced pending begins end next_id h)) h
 
 -- a log of no records
-pub kept_empty : (forced pending : List ℕ) → forced ≡ [] → pending ≡ [] → IsKept [] 0 forced pending [] 0 2
+pub kept_empty : (w : Bool) (forced pending : List ℕ) → forced ≡ [] → pending ≡ [] → IsKept w [] 0 forced pending [] 0 2
 unfolding spelled places
-kept_empty forced pending f p = (
+kept_empty w forced pending f p = (
   record {
     within = omega arith;
     stored = ap (λ (x : List ℕ). x ++ pending) f ∙ p;
     covered = (forced, refl);
+    just = λ _. f;
   },
   record { spellable = tt; begins_are = refl; end_is = refl; next_is = refl },
 )
 
 -- a record is appended
-pub kept_longer : (log : List DcRecord) (stable : ℕ) (forced pending begins : List ℕ) (end next_id : ℕ)
+pub kept_longer : (w : Bool) (log : List DcRecord) (stable : ℕ) (forced pending begins : List ℕ) (end next_id : ℕ)
     (r : DcRecord) (next : ℕ)
-    → IsKept log stable forced pending begins end next_id → FitsFrame r → next ≡ named (r ∷ log) + 1
-    → IsKept (r ∷ log) stable forced (pending ++ frame (dc_record_bytes r)) (begins ++ end ∷ [])
+    → IsKept w log stable forced pending begins end next_id → FitsFrame r → next ≡ named (r ∷ log) + 1
+    → IsKept w (r ∷ log) stable forced (pending ++ frame (dc_record_bytes r)) (begins ++ end ∷ [])
     (end + length (frame (dc_record_bytes r))) next
 unfolding spelled places
-kept_longer log stable forced pending begins end next_id r next h fits is = (
+kept_longer w log stable forced pending begins end next_id r next h fits is = (
   record {
     within = omega (arith, h.0.within);
     stored = sym (append_assoc forced pending (frame (dc_record_bytes r)))
         ∙ ap (λ (b : List ℕ). b ++ frame (dc_record_bytes r)) h.0.stored;
     covered = let P : List DcRecord → Type 0 = λ x. BeginsWith forced (spelled x) in
         subst P (sym (shorter r log stable h.0.within)) h.0.covered;
+    just = λ is. h.0.just is ∙ ap spelled (sym (shorter r log stable h.0.within));
   },
   record {
     spellable = (fits, h.1.spellable);
@@ -68,9 +70,9 @@ kept_longer log stable forced pending begins end next_id r next h fits is = (
 )
 
 -- the device holds just the records' frames, all of them forced
-pub kept_stable : (log : List DcRecord) (forced pending begins : List ℕ) (end next_id : ℕ) → forced ≡ spelled log
-    → pending ≡ [] → AreFrames log begins end next_id → IsKept log (length log) forced pending begins end next_id
-kept_stable log forced pending begins end next_id all none frames = (
+pub kept_stable : (w : Bool) (log : List DcRecord) (forced pending begins : List ℕ) (end next_id : ℕ) → forced ≡ spelled log
+    → pending ≡ [] → AreFrames log begins end next_id → IsKept w log (length log) forced pending begins end next_id
+kept_stable w log forced pending begins end next_id all none frames = (
   record {
     within = omega arith;
     stored = ap (λ (x : List ℕ). forced ++ x) none ∙ append-nil forced ∙ all;
@@ -79,13 +81,14 @@ kept_stable log forced pending begins end next_id all none frames = (
       all ∙ ap spelled (sym (whole log (length log) (omega arith)))
           ∙ sym (append-nil (spelled (beginning log (length log)))),
     );
+    just = λ _. all ∙ ap spelled (sym (whole log (length log) (omega arith)));
   },
   frames,
 )
 
 -- all records are forced
-pub kept_forced : (log : List DcRecord) (stable : ℕ) (forced pending forced' pending' begins : List ℕ) (end next_id : ℕ)
-    → IsKept log stable forced pending begins end next_id → forced' ≡ forced ++ pending → pending' ≡ []
-    → IsKept log (length log) forced' pending' begins end next_id
-kept_forced log stable forced pending forced' pending' begins end next_id h f p =
-    kept_stable log forced' pending' begins end next_id (f ∙ h.0.stored) p h.1
+pub kept_forced : (w : Bool) (log : List DcRecord) (stable : ℕ) (forced pending forced' pending' begins : List ℕ) (end next_id : ℕ)
+    → IsKept w log stable forced pending begins end next_id → forced' ≡ forced ++ pending → pending' ≡ []
+    → IsKept w log (length log) forced' pending' begins end next_id
+kept_forced w log stable forced pending forced' pending' begins end next_id h f p =
+    kept_stable w log forced' pending' begins end next_id (f ∙ h.0.stored) p h.1

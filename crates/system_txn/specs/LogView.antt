@@ -1,5 +1,5 @@
 -- The log of the data component: what is seen of it, and what holds of it.
-use Rattle.std.specs.Prelude.{◌≡◌, ℕ, ◌+◌, ◌≤◌, List, ◌++◌, length}
+use Rattle.std.specs.Prelude.{◌≡◌, ℕ, ◌+◌, ◌≤◌, Bool, true, List, ◌++◌, length}
 use Rattle.record_key.specs.declared.refusal.Refusal.{Refusal}
 use Rattle.record_key.specs.declared.refusal.Refusal.TheVariants.{NoMemory, Device}
 use Rattle.codec.specs.declared.dc_record.DcRecord.{DcRecord}
@@ -15,11 +15,13 @@ pub record ChangeLogView : Type 0 where
   pub stable : ℕ
   pub failures : ℕ
 
--- the device holds just the frames of the records, and the stable ones are among what every crash leaves
-pub record IsStored (log : List DcRecord) (stable : ℕ) (forced pending : List ℕ) : Type 0 where
+-- the device holds just the frames of the records, and the stable ones are among what every crash leaves; where it forces
+-- all or nothing, they are just what it leaves
+pub record IsStored (whole : Bool) (log : List DcRecord) (stable : ℕ) (forced pending : List ℕ) : Type 0 where
   pub within : stable ≤ length log
   pub stored : forced ++ pending ≡ spelled log
   pub covered : BeginsWith forced (spelled (beginning log stable))
+  pub just : whole ≡ true → forced ≡ spelled (beginning log stable)
 
 -- the records have spellings, and what is kept of them is right
 pub record AreFrames (log : List DcRecord) (begins : List ℕ) (end next_id : ℕ) : Type 0 where

@@ -1,5 +1,5 @@
 -- What is true of devices after a crash, and of what is opened from them.
-use Rattle.std.specs.Prelude.{◌≡◌, ◌⊎◌, ℕ, ◌<◌, ◌≤◌, ◌^◌, List, Some, Ok, length}
+use Rattle.std.specs.Prelude.{◌≡◌, ◌⊎◌, ℕ, ◌<◌, ◌≤◌, ◌^◌, Bool, List, Some, Ok, length}
 use Rattle.std.specs.FinMap.{get}
 use Rattle.record_key.specs.declared.refusal.Refusal.{Refusal}
 use Rattle.record_key.specs.declared.refusal.Refusal.TheVariants.{NoMemory, Device}
@@ -31,8 +31,8 @@ pub record LeavesBeginning (log : List DcRecord) (stable : ℕ) (left : List ℕ
 -- a crash leaves whole frames, and perhaps a cut one
 abbrev pub CrashesLeaveFrames : Type 0
 CrashesLeaveFrames =
-    (log : List DcRecord) (stable : ℕ) (forced pending left : List ℕ) → AreRecords log
-    → IsStored log stable forced pending → MayLeave forced pending left → LeavesBeginning log stable left
+    (whole : Bool) (log : List DcRecord) (stable : ℕ) (forced pending left : List ℕ) → AreRecords log
+    → IsStored whole log stable forced pending → MayLeave forced pending left → LeavesBeginning log stable left
 
 -- bytes hold the frames of one log, and hold the same once a refused opening has cut off what isn't whole
 pub record FramesReadOnce : Type 0 where

@@ -1,5 +1,5 @@
 //! The log of the data component: splits, merges and accepted sessions, as bytes on a device.
-ghost use Rattle.std.specs.Prelude.{◌≡◌, ◌≤◌, ◌+◌, ◌∷◌, ◌++◌, [], List, None, length, OnOk, OnErr, IfOk, IfErr};
+ghost use Rattle.std.specs.Prelude.{true, ◌≡◌, ◌≤◌, ◌+◌, ◌∷◌, ◌++◌, [], List, None, length, OnOk, OnErr, IfOk, IfErr};
 ghost use Rattle.codec.specs.declared.dc_record.DcRecord.{DcRecord};
 ghost use Rattle.codec.specs.DcRecords.{record_in, dc_record_bytes, IsOrderedDcRecord, FitsFrame};
 ghost use Rattle.codec.specs.Frames.{frame};
@@ -43,7 +43,7 @@ impl<D: LogDevice> Model for ChangeLog<D> {
     } };
 
     ghost invariant = { λ l.
-        IsStored (records_at (D.forced l.device ++ D.pending l.device) l.places.items) l.stable
+        IsStored D.forces_whole (records_at (D.forced l.device ++ D.pending l.device) l.places.items) l.stable
         (D.forced l.device) (D.pending l.device)
         × AreFrames (records_at (D.forced l.device ++ D.pending l.device) l.places.items)
         l.places.items l.end l.next_id };
@@ -90,10 +90,12 @@ impl<D: LogDevice> ChangeLog<D> {
         }
     }
 
-    /// The device, as a crash finds it: all records stand on it, and the stable ones are forced.
+    /// The device, as a crash finds it: all records stand on it, and the stable ones are forced; no others are, where
+    /// it forces all or nothing.
     pub fn stop(self) -> D
         ensures holds { D.forced result ++ D.pending result ≡ spelled self.log }
         ensures forced { BeginsWith (D.forced result) (spelled (beginning self.log self.stable)) }
+        ensures just { D.forces_whole ≡ true → D.forced result ≡ spelled (beginning self.log self.stable) }
         ensures failures { D.failures result ≡ self.failures }
     {
         let ChangeLog {

@@ -63,12 +63,14 @@ impl<L: LeafSet, D: LogDevice, P: PageDevice> SystemTxns<L, D, P> {
         Ok(SystemTxns { parts })
     }
 
-    /// The devices, as a crash finds them: all records stand on the log's, and the stable ones are forced.
+    /// The devices, as a crash finds them: all records stand on the log's, and the stable ones are forced; no others
+    /// are, where it forces all or nothing.
     pub fn stop(self) -> Devices<D, P>
     where
         L: Drop,
         ensures holds { D.forced result.log ++ D.pending result.log ≡ spelled self.log }
         ensures forced { BeginsWith (D.forced result.log) (spelled (beginning self.log self.stable)) }
+        ensures just { D.forces_whole ≡ true → D.forced result.log ≡ spelled (beginning self.log self.stable) }
         ensures pages { P.pages result.pages ≡ self.pages }
         ensures failures { D.failures result.log + P.failures result.pages ≡ self.failures }
     {

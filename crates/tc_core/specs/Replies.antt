@@ -9,6 +9,7 @@ use Rattle.record_key.specs.declared.refusal.Refusal.TheVariants.{Stale, Numbers
 use Rattle.record_key.specs.FirstCause.{first_of}
 use Rattle.codec.specs.declared.reply.Reply.{Reply}
 use Rattle.codec.specs.declared.reply.Reply.TheVariants as says
+use Rattle.codec.specs.Replies.{session_of}
 use Rattle.tc_core.specs.declared.open_txn.OpenTxn.{OpenTxn}
 use Rattle.tc_core.specs.declared.open_txn.Read.{Read}
 use Rattle.tc_core.specs.declared.open_txns.Wanted.TheVariants.{Reader}
@@ -24,14 +25,6 @@ use Rattle.tc_core.specs.OpenTxns.{find, oldest, wants}
 use Rattle.tc_core.specs.TcView.{TcView, rolls_back}
 use Rattle.tc_core.specs.Refusing.{Refuses}
 use Rattle.tc_core.specs.Changes.{answered, answered_lost, was_told, checkpointed, undoing_or_running}
-
-abbrev pub session_of : Reply → ℕ
-session_of (says.Connected s) = s
-session_of (says.Answered s n a) = s
-session_of (says.Row s r v) = s
-session_of (says.Rows s r rows) = s
-session_of (says.Checkpointed s l) = s
-session_of (says.RedoEnded s) = s
 
 -- the reply isn't of the session that runs
 abbrev pub is_stale : TcView → ℕ → Bool

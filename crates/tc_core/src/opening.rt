@@ -1,5 +1,5 @@
 //! Opening what a crash left.
-ghost use Rattle.std.specs.Prelude.{◌≡◌, ◌++◌, ◌+◌, ◌≤◌, ℕ, Some, [], length, IfOk, IfErr, OnOk};
+ghost use Rattle.std.specs.Prelude.{true, ◌≡◌, ◌++◌, ◌+◌, ◌≤◌, ℕ, Some, [], length, IfOk, IfErr, OnOk};
 ghost use Rattle.std.specs.BTreeMap.{get};
 ghost use Rattle.std.specs.Ordering.{nat_cmp};
 ghost use Rattle.record_key.specs.FirstCause.{failures_of};
@@ -68,6 +68,8 @@ impl<D: LogDevice> Parts<D> {
     pub fn stop(self) -> D
         ensures holds { D.forced result ++ D.pending result ≡ spelled self.log.records }
         ensures forced { BeginsWith (D.forced result) (spelled (stable_part self.log.records self.log.stable)) }
+        ensures just { D.forces_whole ≡ true
+            → D.forced result ≡ spelled (stable_part self.log.records self.log.stable) }
         ensures spellable { AreRecords self.log.records }
         ensures failures { D.failures result ≡ self.log.failures }
     {

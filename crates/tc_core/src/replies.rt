@@ -1,28 +1,13 @@
 //! What a reply is to a session and to a transaction.
 ghost use Rattle.std.specs.Prelude.{◌≡◌};
-ghost use Rattle.tc_core.specs.Replies.{session_of as session_named, takes as is_taken, told_of as tells, told_lost as tells_lost, left_awaited, span_read, is_key, is_range};
+ghost use Rattle.tc_core.specs.Replies.{takes as is_taken, told_of as tells, told_lost as tells_lost, left_awaited, span_read, is_key, is_range};
 
 use crate::open_txn::OpenTxn;
 use crate::phase::Phase;
 use crate::told::Told;
-use codec::Reply;
 use history::Record;
 use range_locks::Span;
 use record_key::{Answer, Value};
-
-/// The session that the reply belongs to.
-pub fn session_of(reply: &Reply) -> u64
-    ensures { result ≡ session_named reply.now }
-{
-    match reply {
-        Reply::Connected { session }
-        | Reply::RedoEnded { session }
-        | Reply::Answered { session, .. }
-        | Reply::Row { session, .. }
-        | Reply::Rows { session, .. }
-        | Reply::Checkpointed { session, .. } => *session,
-    }
-}
 
 /// Whether the answer of this number is taken: clients are served, or redo waits for it.
 pub fn takes(session: u64, phase: Phase, number: u64) -> bool

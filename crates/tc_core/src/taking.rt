@@ -1,7 +1,7 @@
 //! What becomes of a reply.
-ghost use Rattle.std.specs.Prelude.{◌≡◌, true, None};
+ghost use Rattle.std.specs.Prelude.{◌≡◌, true, false, None, OnOk, OnErr, IfErr};
 ghost use Rattle.std.specs.Option.{option_copied};
-ghost use Rattle.tc_core.specs.Replies.{ReplyGives, awaiting, lacks, reader, passed, on_row as reads_row, takes as takes_number, on_connected as connects, on_redo_ended as ends_redo};
+ghost use Rattle.tc_core.specs.Replies.{is_stale, ReplyGives, awaiting, lacks, reader, passed, on_row as reads_row, takes as takes_number, on_connected as connects, on_redo_ended as ends_redo};
 ghost use Rattle.tc_core.specs.Answering.{AnsweredGives, RowsGives};
 ghost use Rattle.tc_core.specs.Kept.{IsTc};
 ghost use Rattle.tc_core.specs.Seen.{seen};
@@ -11,9 +11,7 @@ use crate::open_txn::OpenTxn;
 use crate::open_txns::Wanted;
 use crate::parts::Parts;
 use crate::phase::Phase;
-use crate::replies::{
-    copied, left_waiting, reads_key, reads_range, session_of, takes, told_lost, told_of,
-};
+use crate::replies::{copied, left_waiting, reads_key, reads_range, takes, told_lost, told_of};
 use crate::told::Told;
 use codec::{Reply, Rows};
 use history::Record;
@@ -26,10 +24,7 @@ impl<D: LogDevice> Parts<D> {
         ensures kept { IsTc (seen self.new) }
         ensures gives { ReplyGives (seen self.old) reply.now result (seen self.new) }
     {
-        let session = session_of(reply);
-        if self.session == 0 || session != self.session {
-            return Err(Refusal::Stale);
-        }
+        self.in_session(reply.session())?;
         match reply {
             Reply::Connected { .. } => Ok(self.on_connected()),
             Reply::Answered { number, answer, .. } => self.on_answered(*number, answer),
@@ -38,6 +33,18 @@ impl<D: LogDevice> Parts<D> {
             Reply::Rows { read, rows, .. } => self.on_rows(*read, rows),
             Reply::Checkpointed { low, .. } => self.on_checkpointed(*low),
         }
+    }
+
+    /// Whether a reply of this session is taken.
+    pub fn in_session(&self, session: u64) -> Result<(), Refusal>
+        ensures taken { OnOk result (is_stale (seen self.now) session ≡ false) }
+        ensures stale { OnErr result (is_stale (seen self.now) session ≡ true) }
+        ensures refused { IfErr result (λ refusal. refusal ≡ Refusal.Stale) }
+    {
+        if self.session == 0 || session != self.session {
+            return Err(Refusal::Stale);
+        }
+        Ok(())
     }
 
     fn on_connected(&mut self) -> Told

@@ -1,5 +1,5 @@
 //! The transaction component.
-ghost use Rattle.std.specs.Prelude.{◌≡◌, ◌≤◌, ◌++◌, ◌+◌, [], length, Some, None, IfOk, IfErr, OnOk};
+ghost use Rattle.std.specs.Prelude.{◌≡◌, ◌≤◌, ◌++◌, ◌+◌, [], true, false, length, Some, None, IfOk, IfErr, OnOk, OnErr};
 ghost use Rattle.std.specs.Option.{option_copied};
 ghost use Rattle.record_key.specs.FirstCause.{failures_of};
 ghost use Rattle.stable.specs.Crash.{BeginsWith};
@@ -11,7 +11,7 @@ ghost use Rattle.logical_log.specs.LogView.{spent_refusal};
 ghost use Rattle.tc_core.specs.TcView.{TcView, fresh};
 ghost use Rattle.tc_core.specs.OpenTxns.{find, oldest, wants};
 ghost use Rattle.tc_core.specs.Calls.{ReconnectGives, BeginGives, ActGives, ReadGives, SaveGives, BackGives, RollbackGives, CommitGives, UndoGives, ForceGives, ResendGives};
-ghost use Rattle.tc_core.specs.Replies.{ReplyGives};
+ghost use Rattle.tc_core.specs.Replies.{is_stale, ReplyGives};
 ghost use Rattle.tc_core.specs.Recovery.{RecoverGives};
 ghost use Rattle.tc_core.specs.LowWater.{Announces, RefusesLow, LowWaterGives, IsGreatestAnnounced};
 ghost use Rattle.tc_core.specs.Checkpoint.{CheckpointGives};
@@ -79,10 +79,12 @@ impl<D: LogDevice> Tc<D> {
         }
     }
 
-    /// The log's device, as a crash finds it: all records stand on it, and the stable ones are forced.
+    /// The log's device, as a crash finds it: all records stand on it, and the stable ones are forced; no others are, where
+    /// it forces all or nothing.
     pub fn stop(self) -> D
         ensures holds { D.forced result ++ D.pending result ≡ spelled self.log }
         ensures forced { BeginsWith (D.forced result) (spelled (stable_part self.log self.stable)) }
+        ensures just { D.forces_whole ≡ true → D.forced result ≡ spelled (stable_part self.log self.stable) }
         ensures spellable { AreRecords self.log }
         ensures failures { D.failures result ≡ self.failures }
     {
@@ -241,6 +243,15 @@ impl<D: LogDevice> Tc<D> {
         ensures gives { CheckpointGives self.old result self.new }
     {
         self.parts.checkpoint()
+    }
+
+    /// Whether a reply of this session is taken. Refused Stale where another session runs, or none.
+    pub fn in_session(&self, session: u64) -> Result<(), Refusal>
+        ensures taken { OnOk result (is_stale self.now session ≡ false) }
+        ensures stale { OnErr result (is_stale self.now session ≡ true) }
+        ensures refused { IfErr result (λ refusal. refusal ≡ Refusal.Stale) }
+    {
+        self.parts.in_session(session)
     }
 
     /// Takes a reply. The answer of an awaited request is logged and told, what was read is told, the checkpoint that

@@ -5,6 +5,7 @@ pub mod Downs
 pub mod Ends
 pub mod Fallen
 pub mod HonestShorter
+pub mod Keeping
 pub mod LosersHold
 pub mod TcCrashes
 pub mod TcDowns

@@ -1,12 +1,17 @@
 -- What is seen of each component by the node that has it, and what a crash and a restart do to it.
-use Rattle.std.specs.Prelude.{◌≡◌, ◌⊎◌, ℕ, ◌+◌, ◌≤◌, Bool, true, false, List, Option, Some, None, Result, Ok, Err, length}
+use Rattle.std.specs.Prelude.{◌≡◌, ◌⊎◌, ℕ, ◌+◌, ◌≤◌, Bool, true, false, List, Option, Some, None, Result, Ok, Err, length, nat_lt, if◌then◌else◌}
 use Rattle.record_key.specs.FirstCause.{failures_of}
 use Rattle.record_key.specs.declared.refusal.Refusal.{Refusal}
 use Rattle.record_key.specs.declared.refusal.Refusal.TheVariants.{NoMemory, Device}
 use Rattle.codec.specs.declared.dc_record.DcRecord.{DcRecord}
+use Rattle.history.specs.declared.record.Record.{Record}
 use Rattle.stable.specs.LogState.{LogState}
 use Rattle.stable.specs.PagesState.{PagesState}
+use Rattle.logical_log.specs.Low.{stable_part}
+use Rattle.logical_log.specs.Spelled as records
+use Rattle.recovery_laws.specs.Shape.{beginning}
 use Rattle.system_txn.specs.SystemView.{refused_so}
+use Rattle.system_txn.specs.Devices.{spelled}
 use Rattle.system_txn.specs.Crashed.{found, crashed}
 use Rattle.dc_core.specs.DcView.{DcView, leaves}
 use Rattle.dc_core.specs.Restarting.{restarted}
@@ -28,20 +33,34 @@ pub record DcSide : Type 0 where
 abbrev pub LacksDevice : Refusal → Type 0
 LacksDevice r = (r ≡ NoMemory) ⊎ (r ≡ Device)
 
--- a crash keeps the stable records of a log, and of the others the first, so many or more
-pub record MayKeep (stable_end records more n : ℕ) : Type 0 where
+abbrev pub lesser : ℕ → ℕ → ℕ
+lesser a b = if nat_lt a b then a else b
+
+-- how many bytes a crash leaves of a log, by how many its first records have: those of the stable ones and of the first
+-- others, so many, and so many of the next one, or all where there are no more
+abbrev pub bytes_left : (ℕ → ℕ) → ℕ → ℕ → ℕ → ℕ → ℕ
+bytes_left size stable_end records more bytes =
+    lesser (size (lesser (stable_end + more) records) + bytes) (size (lesser (stable_end + more + 1) records))
+
+-- the records whose frames are whole there: no stable one is lost
+pub record Keeps (size : ℕ → ℕ) (stable_end records more bytes n : ℕ) : Type 0 where
   pub stable : stable_end ≤ n
-  pub counted : (stable_end + more ≤ n) ⊎ (n ≡ records)
   pub within : n ≤ records
+  pub whole : size n ≤ bytes_left size stable_end records more bytes
+  pub most : (m : ℕ) → m ≤ records → size m ≤ bytes_left size stable_end records more bytes → m ≤ n
 
 -- ---- the transaction component
 
+-- how many bytes the first records have, so many
+abbrev pub tc_size : List Record → ℕ → ℕ
+tc_size log n = length (records.spelled (stable_part log n))
+
 -- what isn't on the device is gone
-abbrev pub TcCrashesTo : TcSide → ℕ → Bool → TcSide → Type 0
-TcCrashesTo old more true new =
-    (old.up ≡ true) × ((n : ℕ) × MayKeep old.tc.stable (length old.tc.log) more n
+abbrev pub TcCrashesTo : TcSide → ℕ → ℕ → Bool → TcSide → Type 0
+TcCrashesTo old more bytes true new =
+    (old.up ≡ true) × ((n : ℕ) × Keeps (tc_size old.tc.log) old.tc.stable (length old.tc.log) more bytes n
     × (new ≡ record { up = false; tc = crashed_tc old.tc n }))
-TcCrashesTo old more false new = (old.up ≡ false) × (new ≡ old)
+TcCrashesTo old more bytes false new = (old.up ≡ false) × (new ≡ old)
 
 -- its device has failed once more, if that is why it isn't opened
 abbrev pub unopened : TcView → Refusal → TcView
@@ -61,11 +80,16 @@ TcRestartsTo old (Err r) new =
 abbrev pub found_on : LogState → PagesState → List DcRecord → DcView
 found_on device pages log = restarted (found pages.pages (device.failures + pages.failures) log)
 
-abbrev pub DcCrashesTo : DcSide → ℕ → Bool → DcSide → Type 0
-DcCrashesTo old more true new =
-    (old.up ≡ true) × ((n : ℕ) × MayKeep old.dc.system.stable (length old.dc.system.log) more n
+-- how many bytes the first records have, so many
+abbrev pub dc_size : List DcRecord → ℕ → ℕ
+dc_size log n = length (spelled (beginning log n))
+
+abbrev pub DcCrashesTo : DcSide → ℕ → ℕ → Bool → DcSide → Type 0
+DcCrashesTo old more bytes true new =
+    (old.up ≡ true)
+    × ((n : ℕ) × Keeps (dc_size old.dc.system.log) old.dc.system.stable (length old.dc.system.log) more bytes n
     × (new ≡ record { up = false; dc = restarted (crashed old.dc.system n) }))
-DcCrashesTo old more false new = (old.up ≡ false) × (new ≡ old)
+DcCrashesTo old more bytes false new = (old.up ≡ false) × (new ≡ old)
 
 -- nothing else changes
 abbrev pub IsDownWith : DcView → Refusal → DcView → Type 0

@@ -27,7 +27,7 @@ use Rattle.tc_core.specs.declared.phase.Phase.TheVariants as phase
 use Rattle.tc_core.specs.TcView.{TcView, fresh}
 use Rattle.tc_core.specs.Causes.{resend_refusal, running_refusal}
 use Rattle.tc_core.specs.Calls.{ReconnectGives, BeginGives, ActGives, ReadGives, SaveGives, BackGives, RollbackGives, CommitGives, UndoGives, ForceGives, ResendGives}
-use Rattle.tc_core.specs.Replies.{ReplyGives}
+use Rattle.tc_core.specs.Replies.{reply_refusal, ReplyGives}
 use Rattle.tc_core.specs.Recovery.{RecoverGives, recover_refusal}
 use Rattle.tc_core.specs.LowWater.{LowWaterGives, RefusesLow, Announces}
 use Rattle.tc_core.specs.Checkpoint.{CheckpointGives}
@@ -37,7 +37,6 @@ use Rattle.world.specs.declared.event.Out.{Out}
 use Rattle.world.specs.declared.event.Out.TheVariants as out
 use Rattle.world.specs.Component.{TcSide, DcSide, TcCrashesTo, TcRestartsTo, DcCrashesTo, DcRestartsTo}
 use Rattle.world.specs.Messages.{message_at}
-use Rattle.world.specs.Sent.{IsUnread}
 
 -- of each component whether it runs, and what it is, or where it doesn't run will be once it is restarted; every
 -- message
@@ -263,11 +262,12 @@ tc_side w = record { up = w.tc_up; tc = w.tc }
 abbrev pub dc_side : NodeView → DcSide
 dc_side w = record { up = w.dc_up; dc = w.dc }
 
-abbrev pub CrashesTcTo : NodeView → ℕ → Out → NodeView → Type 0
-CrashesTcTo old more out.Down new = TcCrashesTo (tc_side old) more true (tc_side new) × BecomesTc old (tc_side new) new
-CrashesTcTo old more out.Nothing new =
-    TcCrashesTo (tc_side old) more false (tc_side new) × BecomesTc old (tc_side new) new
-CrashesTcTo old more _ new = ⊥
+abbrev pub CrashesTcTo : NodeView → ℕ → ℕ → Out → NodeView → Type 0
+CrashesTcTo old more bytes out.Down new =
+    TcCrashesTo (tc_side old) more bytes true (tc_side new) × BecomesTc old (tc_side new) new
+CrashesTcTo old more bytes out.Nothing new =
+    TcCrashesTo (tc_side old) more bytes false (tc_side new) × BecomesTc old (tc_side new) new
+CrashesTcTo old more bytes _ new = ⊥
 
 abbrev pub RestartsTcTo : NodeView → Out → NodeView → Type 0
 RestartsTcTo old (out.Up count) new =
@@ -277,11 +277,12 @@ RestartsTcTo old (out.Refused r) new =
     TcRestartsTo (tc_side old) (Err r) (tc_side new) × BecomesTc old (tc_side new) new
 RestartsTcTo old _ new = ⊥
 
-abbrev pub CrashesDcTo : NodeView → ℕ → Out → NodeView → Type 0
-CrashesDcTo old more out.Down new = DcCrashesTo (dc_side old) more true (dc_side new) × BecomesDc old (dc_side new) new
-CrashesDcTo old more out.Nothing new =
-    DcCrashesTo (dc_side old) more false (dc_side new) × BecomesDc old (dc_side new) new
-CrashesDcTo old more _ new = ⊥
+abbrev pub CrashesDcTo : NodeView → ℕ → ℕ → Out → NodeView → Type 0
+CrashesDcTo old more bytes out.Down new =
+    DcCrashesTo (dc_side old) more bytes true (dc_side new) × BecomesDc old (dc_side new) new
+CrashesDcTo old more bytes out.Nothing new =
+    DcCrashesTo (dc_side old) more bytes false (dc_side new) × BecomesDc old (dc_side new) new
+CrashesDcTo old more bytes _ new = ⊥
 
 abbrev pub RestartsDcTo : NodeView → Out → NodeView → Type 0
 RestartsDcTo old (out.Up count) new =
@@ -317,9 +318,17 @@ pub record Untaken (old : NodeView) (i : ℕ) (r : Refusal) (new : NodeView) : T
   pub refused : ReplyGives old.tc reply (Err r) new.tc
   pub left : new ≡ with_tc old new.tc
 
+-- it has rows that nothing else refuses, and memory to read them was refused
+pub record Unread (old : NodeView) (i : ℕ) (r : Refusal) : Type 0 where
+  pub reply : Reply
+  pub found : message_at old.replies i ≡ Some reply
+  pub long : has_rows reply ≡ true
+  pub unrefused : reply_refusal old.tc reply ≡ None
+  pub memory : r ≡ NoMemory
+
 abbrev pub TakesTo : NodeView → ℕ → Out → NodeView → Type 0
 TakesTo old i (out.Refused r) new =
-    ((IsUnsent old.replies i r ⊎ IsUnread Reply has_rows old.replies i r) × (new ≡ old)) ⊎ Untaken old i r new
+    ((IsUnsent old.replies i r ⊎ Unread old i r) × (new ≡ old)) ⊎ Untaken old i r new
 TakesTo old i output new = Taken old i output new
 
 -- from old, the event may have this output and leave new
@@ -346,9 +355,9 @@ StepsTo old event.Tend output new = IfDcUp old output new (KeepsUpTo old output 
 StepsTo old (event.Flush k) output new = IfDcUp old output new (WritesTo old k output new)
 StepsTo old (event.Request i) output new = IfDcUp old output new (ServesTo old i output new)
 StepsTo old (event.Reply i) output new = IfTcUp old output new (TakesTo old i output new)
-StepsTo old (event.CrashTc frames bytes) output new = CrashesTcTo old frames output new
+StepsTo old (event.CrashTc frames bytes) output new = CrashesTcTo old frames bytes output new
 StepsTo old event.RestartTc output new = RestartsTcTo old output new
-StepsTo old (event.CrashDc frames bytes) output new = CrashesDcTo old frames output new
+StepsTo old (event.CrashDc frames bytes) output new = CrashesDcTo old frames bytes output new
 StepsTo old event.RestartDc output new = RestartsDcTo old output new
 
 -- events with their outputs, one after another

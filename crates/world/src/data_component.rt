@@ -41,7 +41,7 @@ impl DataComponent {
     /// at most so many bytes. False where it is down already.
     pub fn crash(&mut self, alloc: Global, frames: u64, bytes: u64) -> bool
         requires { IsRecoverable (dc_of self.old).dc.system }
-        ensures { DcCrashesTo (dc_of self.old) frames result (dc_of self.new) }
+        ensures { DcCrashesTo (dc_of self.old) frames bytes result (dc_of self.new) }
     {
         match mem::replace(self, DataComponent::Down(Stopped::empty(alloc))) {
             DataComponent::Up(dc) => {

@@ -2,10 +2,12 @@
 ghost use Rattle.std.specs.Prelude.{◌≡◌, ◌+◌, ◌<◌, ◌≤◌, ◌++◌, ℕ, Bool, true, false, List, length, vec_len, vec_capacity, OnOk, OnErr, IfOk, IfErr};
 ghost use Rattle.codec.specs.Frames.{frame};
 ghost use Rattle.codec.specs.Requests.{request_bytes, IsRequest};
-ghost use Rattle.codec.specs.Replies.{reply_bytes, has_rows};
+ghost use Rattle.codec.specs.Replies.{reply_bytes, session_of, has_rows};
 ghost use Rattle.world.specs.Sent.{StandsAt, request_there, reply_there, IsFramedReply};
 
-use codec::{Reply, Request, Taken, put_reply, put_request, take_reply, take_request};
+use codec::{
+    Reply, Request, Taken, put_reply, put_request, reply_session, take_reply, take_request,
+};
 use record_key::Refusal;
 use std::alloc::Global;
 
@@ -125,5 +127,16 @@ fn reply_at(alloc: Global, bytes: &[u8], place: usize) -> Result<Reply, Refusal>
     match take_reply(alloc, bytes, place)? {
         Taken::Record(reply, _) => Ok(reply),
         Taken::Short | Taken::Bad(_) => unreachable!(),
+    }
+}
+
+/// The session of the reply whose frame stands there. Takes no memory.
+pub(crate) fn session_at(bytes: &[u8], place: usize) -> u64
+    requires { StandsAt Reply reply_bytes IsFramedReply bytes.now place }
+    ensures { result ≡ session_of (reply_there bytes.now place) }
+{
+    match reply_session(bytes, place) {
+        Some(session) => session,
+        None => unreachable!(),
     }
 }

@@ -89,7 +89,7 @@ impl Node {
     }
 
     fn crash_tc(&mut self, frames: u64, bytes: u64) -> Out
-        ensures done { CrashesTcTo (seen self.old) frames result (seen self.new) }
+        ensures done { CrashesTcTo (seen self.old) frames bytes result (seen self.new) }
     {
         if self.tc.crash(self.alloc, frames, bytes) {
             Out::Down
@@ -109,7 +109,7 @@ impl Node {
 
     fn crash_dc(&mut self, frames: u64, bytes: u64) -> Out
         requires { IsKept (seen self.old) }
-        ensures done { CrashesDcTo (seen self.old) frames result (seen self.new) }
+        ensures done { CrashesDcTo (seen self.old) frames bytes result (seen self.new) }
     {
         if self.dc.crash(self.alloc, frames, bytes) {
             Out::Down

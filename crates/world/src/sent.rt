@@ -1,13 +1,14 @@
 //! Messages as they were sent: their frames one after another in one buffer, and an index of places. What was sent
 //! stays: a message may be delivered any number of times, late, or never.
-ghost use Rattle.std.specs.Prelude.{◌≡◌, ◌++◌, ◌∷◌, ◌⊎◌, [], true, false, length, None, Some, IfOk, IfErr, OnOk, OnErr};
+ghost use Rattle.std.specs.Prelude.{◌≡◌, ◌++◌, ◌∷◌, ◌⊎◌, [], true, false, length, None, Some, option_map, IfOk, IfErr, OnOk, OnErr};
 ghost use Rattle.codec.specs.FrameIndex.{places_of, Indexes};
+ghost use Rattle.codec.specs.Replies.{session_of};
 ghost use Rattle.world.specs.Messages.{message_at};
 ghost use Rattle.world.specs.Node.{IsUnsent};
 ghost use Rattle.world.specs.Sent.{IsUnread};
 
-use crate::message::Message;
-use codec::FrameIndex;
+use crate::message::{Message, session_at};
+use codec::{FrameIndex, Reply};
 use record_key::Refusal;
 use std::alloc::Global;
 use std::marker::{Model, PhantomData};
@@ -105,6 +106,18 @@ impl<M: Message> Sent<M> {
     {
         let place = place_of(&self.index, &self.bytes, number)?;
         M::take(*self.bytes.allocator(), &self.bytes, place)
+    }
+}
+
+impl Sent<Reply> {
+    /// The session of the reply of this number, from 1. Refused Unsent where there is none. Takes no memory.
+    pub(crate) fn session(&self, number: u64) -> Result<u64, Refusal>
+        ensures found { IfOk result
+            (λ session. option_map session_of (message_at self.now.messages number) ≡ Some session) }
+        ensures refused { IfErr result (λ refusal. IsUnsent self.now.messages number refusal) }
+    {
+        let place = place_of(&self.index, &self.bytes, number)?;
+        Ok(session_at(&self.bytes, place))
     }
 }
 

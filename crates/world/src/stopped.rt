@@ -8,7 +8,7 @@ ghost use Rattle.dc_core.specs.Kept.{IsDc};
 ghost use Rattle.dc_core.specs.Restarting.{restarted};
 ghost use Rattle.dc_core.specs.Serves.{with_system};
 ghost use Rattle.system_txn.specs.Crashed.{crashed};
-ghost use Rattle.world.specs.Component.{MayKeep, IsDownWith};
+ghost use Rattle.world.specs.Component.{Keeps, dc_size, IsDownWith};
 
 use crate::crashing::kept_of;
 use crate::found::Found;
@@ -68,7 +68,8 @@ impl Stopped {
     /// one at most so many bytes.
     pub fn crashed(dc: Dc, frames: u64, bytes: u64) -> Stopped
         requires { IsRecoverable dc.system }
-        ensures { (kept : ℕ) × MayKeep dc.system.stable (length dc.system.log) frames kept
+        ensures { (kept : ℕ)
+            × Keeps (dc_size dc.system.log) dc.system.stable (length dc.system.log) frames bytes kept
             × (result ≡ restarted (crashed dc.system kept)) }
     {
         dc.kept();

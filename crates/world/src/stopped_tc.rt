@@ -2,7 +2,7 @@
 ghost use Rattle.std.specs.Prelude.{◌≡◌, ℕ, IfOk, IfErr, length};
 ghost use Rattle.tc_core.specs.Kept.{IsTc};
 ghost use Rattle.tc_core.specs.Opened.{crashed, IsOpenedAgain};
-ghost use Rattle.world.specs.Component.{MayKeep, LacksDevice, unopened};
+ghost use Rattle.world.specs.Component.{Keeps, tc_size, LacksDevice, unopened};
 
 use crate::crashing::bytes_kept_of;
 use crate::found_log::FoundLog;
@@ -54,7 +54,8 @@ impl StoppedTc {
     /// What a crash leaves of the component: of the records that aren't stable the first stay, so many, and of the next
     /// one at most so many bytes.
     pub fn crashed(tc: Tc<MemLog>, frames: u64, bytes: u64) -> StoppedTc
-        ensures { (kept : ℕ) × MayKeep tc.stable (length tc.log) frames kept × (result ≡ crashed tc kept) }
+        ensures { (kept : ℕ) × Keeps (tc_size tc.log) tc.stable (length tc.log) frames bytes kept
+            × (result ≡ crashed tc kept) }
     {
         tc.kept();
         let end = tc.end_of(tc.records());

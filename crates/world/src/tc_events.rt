@@ -226,6 +226,7 @@ impl Node {
         let TransactionComponent::Up(tc) = &mut self.tc else {
             return Out::Refused(Refusal::NotConnected);
         };
+        attempt!(tc.in_session(attempt!(self.replies.session(number))));
         let reply = attempt!(self.replies.message(number));
         out_of_told(attempt!(tc.on_reply(&reply)))
     }

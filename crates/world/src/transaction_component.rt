@@ -38,7 +38,7 @@ impl TransactionComponent {
     /// Loses what isn't on the device; of the records that aren't stable the first stay, so many, and of the next one
     /// at most so many bytes. False where it is down already.
     pub fn crash(&mut self, alloc: Global, frames: u64, bytes: u64) -> bool
-        ensures { TcCrashesTo (tc_of self.old) frames result (tc_of self.new) }
+        ensures { TcCrashesTo (tc_of self.old) frames bytes result (tc_of self.new) }
     {
         match mem::replace(self, TransactionComponent::Down(StoppedTc::empty(alloc))) {
             TransactionComponent::Up(tc) => {

@@ -19,15 +19,19 @@ fn only_shared_agree(rt: HostRuntime) -> Result<(), Fail> {
 #[test]
 fn own_locks_never_conflict(rt: HostRuntime) -> Result<(), Fail> {
     let mut locks = RangeLocks::new(rt.alloc());
-    locks.take(1, Mode::Exclusive, &at(b"k")?)?;
-    locks.take(1, Mode::Exclusive, &at(b"k")?)?;
-    locks.take(1, Mode::Shared, &from(b"a")?)?;
+    own_locks_never_conflict_on(&rt, &mut locks)
+}
+
+fn own_locks_never_conflict_on(rt: &impl Abort, locks: &mut RangeLocks) -> Result<(), Fail> {
+    take(locks, 1, Mode::Exclusive, &at(b"k")?)?;
+    take(locks, 1, Mode::Exclusive, &at(b"k")?)?;
+    take(locks, 1, Mode::Shared, &from(b"a")?)?;
     assert_eq!(rt;
-        locks.take(1, Mode::Exclusive, &between(b"j", b"l")?),
+        take(locks, 1, Mode::Exclusive, &between(b"j", b"l")?),
         Ok(())
     );
     assert_eq!(rt;
-        locks.take(2, Mode::Shared, &at(b"k")?),
+        take(locks, 2, Mode::Shared, &at(b"k")?),
         Err(Refusal::Busy(1))
     );
     Ok(())
@@ -36,18 +40,28 @@ fn own_locks_never_conflict(rt: HostRuntime) -> Result<(), Fail> {
 #[test]
 fn the_least_holder_is_named(rt: HostRuntime) -> Result<(), Fail> {
     let mut locks = RangeLocks::new(rt.alloc());
+    the_least_holder_is_named_on(&rt, &mut locks)
+}
+
+fn the_least_holder_is_named_on(rt: &impl Abort, locks: &mut RangeLocks) -> Result<(), Fail> {
     let key = at(b"k")?;
-    locks.take(9, Mode::Shared, &key)?;
-    locks.take(4, Mode::Shared, &from(b"b")?)?;
-    locks.take(7, Mode::Shared, &key)?;
-    assert_eq!(rt; locks.take(5, Mode::Exclusive, &key), Err(Refusal::Busy(4)));
-    assert_eq!(rt; locks.take(4, Mode::Exclusive, &key), Err(Refusal::Busy(7)));
-    locks.take(3, Mode::Shared, &key)?;
+    take(locks, 9, Mode::Shared, &key)?;
+    take(locks, 4, Mode::Shared, &from(b"b")?)?;
+    take(locks, 7, Mode::Shared, &key)?;
     assert_eq!(rt;
-        locks.take(5, Mode::Exclusive, &from(b"a")?),
+        take(locks, 5, Mode::Exclusive, &key),
+        Err(Refusal::Busy(4))
+    );
+    assert_eq!(rt;
+        take(locks, 4, Mode::Exclusive, &key),
+        Err(Refusal::Busy(7))
+    );
+    take(locks, 3, Mode::Shared, &key)?;
+    assert_eq!(rt;
+        take(locks, 5, Mode::Exclusive, &from(b"a")?),
         Err(Refusal::Busy(3))
     );
-    assert_eq!(rt; locks.take(5, Mode::Exclusive, &at(b"a")?), Ok(()));
+    assert_eq!(rt; take(locks, 5, Mode::Exclusive, &at(b"a")?), Ok(()));
     Ok(())
 }
 
@@ -97,12 +111,19 @@ fn ranges_that_touch_or_overlap(rt: HostRuntime) -> Result<(), Fail> {
 #[test]
 fn a_range_goes_up(rt: HostRuntime) -> Result<(), Fail> {
     let mut locks = RangeLocks::new(rt.alloc());
-    locks.take(1, Mode::Exclusive, &from(b"a")?)?;
+    a_range_goes_up_on(&rt, &mut locks)
+}
+
+fn a_range_goes_up_on(rt: &impl Abort, locks: &mut RangeLocks) -> Result<(), Fail> {
+    take(locks, 1, Mode::Exclusive, &from(b"a")?)?;
     let empty = between(b"b", b"b")?;
-    assert_eq!(rt; locks.take(2, Mode::Shared, &empty), Err(Refusal::BadRange));
+    assert_eq!(rt;
+        take(locks, 2, Mode::Shared, &empty),
+        Err(Refusal::BadRange)
+    );
     let reversed = between(b"c", b"b")?;
     assert_eq!(rt;
-        locks.take(2, Mode::Shared, &reversed),
+        take(locks, 2, Mode::Shared, &reversed),
         Err(Refusal::BadRange)
     );
     assert_eq!(rt; locks.holds(2), false);

@@ -14,42 +14,43 @@ fn keys() -> Result<[(u64, Key); 4], Fail> {
 #[test]
 fn just_the_listed_keys(rt: HostRuntime) -> Result<(), Fail> {
     let mut locks = RangeLocks::new(rt.alloc());
-    locks.take(1, Mode::Shared, &from(b"a")?)?;
-    locks.rebuild(&keys()?)?;
-    assert!(rt; !locks.holds(1), "what was held before is gone");
-    let all = from(b"a")?;
-    assert_eq!(rt; locks.take(9, Mode::Shared, &all), Err(Refusal::Busy(2)));
-    locks.release(2);
-    assert_eq!(rt; locks.take(9, Mode::Shared, &all), Err(Refusal::Busy(3)));
-    locks.release(3);
-    assert_eq!(rt; locks.take(9, Mode::Shared, &all), Ok(()));
-    Ok(())
+    just_the_listed_keys_on(&rt, &mut locks)
 }
 
-/// Gives back the newest span of a transaction that has one.
-fn give_back(locks: &mut RangeLocks, txn: u64) {
-    if locks.holds(txn) {
-        locks.untake(txn);
-    }
+fn just_the_listed_keys_on(rt: &impl Abort, locks: &mut RangeLocks) -> Result<(), Fail> {
+    take(locks, 1, Mode::Shared, &from(b"a")?)?;
+    rebuild(locks, &keys()?)?;
+    assert!(rt; !locks.holds(1), "what was held before is gone");
+    let all = from(b"a")?;
+    assert_eq!(rt; take(locks, 9, Mode::Shared, &all), Err(Refusal::Busy(2)));
+    locks.release(2);
+    assert_eq!(rt; take(locks, 9, Mode::Shared, &all), Err(Refusal::Busy(3)));
+    locks.release(3);
+    assert_eq!(rt; take(locks, 9, Mode::Shared, &all), Ok(()));
+    Ok(())
 }
 
 #[test]
 fn in_the_order_of_the_list(rt: HostRuntime) -> Result<(), Fail> {
     let mut locks = RangeLocks::new(rt.alloc());
-    locks.rebuild(&keys()?)?;
-    give_back(&mut locks, 2);
+    in_the_order_of_the_list_on(&rt, &mut locks)
+}
+
+fn in_the_order_of_the_list_on(rt: &impl Abort, locks: &mut RangeLocks) -> Result<(), Fail> {
+    rebuild(locks, &keys()?)?;
+    give_back(locks, 2);
     assert_eq!(rt;
-        locks.take(9, Mode::Shared, &at(b"a")?),
+        take(locks, 9, Mode::Shared, &at(b"a")?),
         Ok(()),
         "a was the newest"
     );
     assert_eq!(rt;
-        locks.take(9, Mode::Shared, &at(b"m")?),
+        take(locks, 9, Mode::Shared, &at(b"m")?),
         Err(Refusal::Busy(2))
     );
-    give_back(&mut locks, 3);
+    give_back(locks, 3);
     assert!(rt; locks.holds(3), "k is listed twice");
-    give_back(&mut locks, 3);
+    give_back(locks, 3);
     assert!(rt; !locks.holds(3));
     Ok(())
 }
@@ -57,15 +58,25 @@ fn in_the_order_of_the_list(rt: HostRuntime) -> Result<(), Fail> {
 #[test]
 fn the_plain_table_too(rt: HostRuntime) -> Result<(), Fail> {
     let mut locks = PlainLocks::new(rt.alloc());
-    locks.take(1, Mode::Shared, &from(b"a")?)?;
-    locks.rebuild(&keys()?)?;
+    the_plain_table_too_on(&rt, &mut locks)
+}
+
+fn the_plain_table_too_on(rt: &impl Abort, locks: &mut PlainLocks) -> Result<(), Fail> {
+    plain_take(locks, 1, Mode::Shared, &from(b"a")?)?;
+    plain_rebuild(locks, &keys()?)?;
     assert!(rt; !locks.holds(1));
     let all = from(b"a")?;
-    assert_eq!(rt; locks.take(9, Mode::Shared, &all), Err(Refusal::Busy(2)));
+    assert_eq!(rt;
+        plain_take(locks, 9, Mode::Shared, &all),
+        Err(Refusal::Busy(2))
+    );
     locks.release(2);
-    assert_eq!(rt; locks.take(9, Mode::Shared, &all), Err(Refusal::Busy(3)));
-    locks.rebuild(&[])?;
-    assert_eq!(rt; locks.take(9, Mode::Shared, &all), Ok(()));
+    assert_eq!(rt;
+        plain_take(locks, 9, Mode::Shared, &all),
+        Err(Refusal::Busy(3))
+    );
+    plain_rebuild(locks, &[])?;
+    assert_eq!(rt; plain_take(locks, 9, Mode::Shared, &all), Ok(()));
     Ok(())
 }
 
@@ -73,10 +84,14 @@ fn the_plain_table_too(rt: HostRuntime) -> Result<(), Fail> {
 #[test]
 fn the_old_table_or_the_new(rt: HostRuntime) -> Result<(), Fail> {
     let mut locks = RangeLocks::new(rt.alloc());
-    if locks.take(1, Mode::Shared, &at(b"z")?).is_err() {
+    the_old_table_or_the_new_on(&rt, &mut locks)
+}
+
+fn the_old_table_or_the_new_on(rt: &impl Abort, locks: &mut RangeLocks) -> Result<(), Fail> {
+    if take(locks, 1, Mode::Shared, &at(b"z")?).is_err() {
         return Ok(());
     }
-    let rebuilt = locks.rebuild(&keys()?);
+    let rebuilt = rebuild(locks, &keys()?);
     assert!(rt; rebuilt == Ok(()) || rebuilt == Err(Refusal::NoMemory));
     assert_eq!(rt; locks.holds(1), rebuilt.is_err());
     assert_eq!(rt; locks.holds(2), rebuilt.is_ok());
@@ -88,10 +103,14 @@ fn the_old_table_or_the_new(rt: HostRuntime) -> Result<(), Fail> {
 #[test]
 fn the_old_plain_table_or_the_new(rt: HostRuntime) -> Result<(), Fail> {
     let mut locks = PlainLocks::new(rt.alloc());
-    if locks.take(1, Mode::Shared, &at(b"z")?).is_err() {
+    the_old_plain_table_or_the_new_on(&rt, &mut locks)
+}
+
+fn the_old_plain_table_or_the_new_on(rt: &impl Abort, locks: &mut PlainLocks) -> Result<(), Fail> {
+    if plain_take(locks, 1, Mode::Shared, &at(b"z")?).is_err() {
         return Ok(());
     }
-    let rebuilt = locks.rebuild(&keys()?);
+    let rebuilt = plain_rebuild(locks, &keys()?);
     assert!(rt; rebuilt == Ok(()) || rebuilt == Err(Refusal::NoMemory));
     assert_eq!(rt; locks.holds(1), rebuilt.is_err());
     assert_eq!(rt; locks.holds(3), rebuilt.is_ok());

@@ -32,6 +32,10 @@ fn connecting(tc: &mut Tc<MemLog>) -> Result<Connecting, Refusal> {
     tc.reconnect()
 }
 
+fn in_session(tc: &Tc<MemLog>, session: u64) -> Result<(), Refusal> {
+    tc.in_session(session)
+}
+
 /// The session that begins.
 fn reconnect(tc: &mut Tc<MemLog>) -> Result<u64, Refusal> {
     match connecting(tc)?.request {

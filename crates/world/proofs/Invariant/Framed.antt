@@ -4,7 +4,8 @@ use Rattle.std.specs.Prelude.{map}
 use Rattle.std.specs.List.{AllByRecursion}
 use Rattle.std.proofs.lemmas.List.{length-append, length-drop, drop-append-le, append-nil, map-append, drop_at}
 use Rattle.codec.specs.Fields.{number}
-use Rattle.codec.specs.FrameIndex.{place_at, places_of, marked, Indexes}
+use Rattle.codec.specs.FrameIndex.{place_at, places_of, Indexes}
+use Rattle.codec.specs.Marks.{marked}
 use Rattle.codec.specs.Frames.{frame}
 use Rattle.codec.specs.declared.taken.Taken.TheVariants as took
 use Rattle.codec.proofs.Fields.{length-number}

@@ -159,7 +159,7 @@ scan_down t low high m = by (ends_above high low) refl
 
 -- a crash of the data component, and its restart
 follows_crash : (old new : NodeView) (frames bytes : ℕ) (output : Out) → IsKept old
-    → CrashesDcTo old frames output new → Follows old (event.CrashDc frames bytes) output new
+    → CrashesDcTo old frames bytes output new → Follows old (event.CrashDc frames bytes) output new
 follows_crash old new frames bytes out.Down k h =
     let n : ℕ = h.0.1.0 in
     let dc : DcView = restarted (crashed old.dc.system n) in

@@ -11,7 +11,6 @@ use Rattle.history.specs.ListMachine.{Machine, TellsAnswer, TellsRow, TellsRows}
 use Rattle.simulation.specs.View.{StandsFor}
 use Rattle.codec.specs.declared.reply.Reply.{Reply}
 use Rattle.codec.specs.declared.reply.Reply.TheVariants as says
-use Rattle.codec.specs.Replies.{has_rows}
 use Rattle.record_key.specs.Table.{Bytes, key_of}
 use Rattle.range_locks.specs.declared.span.Span.{Span}
 use Rattle.range_locks.specs.declared.span.Span.TheVariants.{Key, Range}
@@ -39,8 +38,7 @@ use Rattle.world.proofs.Machine.Waited.{lacking_due, lost_if}
 use Rattle.world.specs.declared.event.Event.TheVariants as event
 use Rattle.world.specs.declared.event.Out.{Out}
 use Rattle.world.specs.declared.event.Out.TheVariants as out
-use Rattle.world.specs.Node.{NodeView, with_tc, as_out, IsUnsent, Taken, Untaken, TakesTo}
-use Rattle.world.specs.Sent.{IsUnread}
+use Rattle.world.specs.Node.{NodeView, with_tc, as_out, IsUnsent, Taken, Untaken, Unread, TakesTo}
 use Rattle.world.specs.Kept.{IsKept, IsTrueOfReader, InSession, IsValue, AreRows, IsAnswered, IsGiven, IsServed, AreSessions}
 use Rattle.world.specs.Simulation.{Leads, Stands, lines_of, clients}
 use Rattle.world.proofs.Invariant.ByNumber.{all_at}
@@ -410,7 +408,7 @@ pub follows_reply : (old new : NodeView) (i : ℕ) (output : Out) → IsKept old
     → Follows old (event.Reply i) output new
 follows_reply old new i (out.Refused r) k h = by h
   where
-    by : ((IsUnsent old.replies i r ⊎ IsUnread Reply has_rows old.replies i r) × (new ≡ old)) ⊎ Untaken old i r new
+    by : ((IsUnsent old.replies i r ⊎ Unread old i r) × (new ≡ old)) ⊎ Untaken old i r new
         → Follows old (event.Reply i) (out.Refused r) new
     by (inl none) = unchanged old new (event.Reply i) (out.Refused r) k none.1 refl
     by (inr u) = untaken old new i r k u

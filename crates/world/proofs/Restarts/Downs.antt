@@ -1,7 +1,6 @@
 -- What a crash leaves of the data component's devices, and what they give again.
-use Rattle.std.proofs.Common.{◌≡◌, ℕ, ◌+◌, ◌-◌, ◌≤◌, List, [], ◌∷◌, ◌++◌, length, take, Option, None, refl, sym, ap, ◌∙◌, subst, arith, inl, inr}
-use Rattle.std.proofs.lemmas.Bool.{cases_lt}
-use Rattle.std.proofs.lemmas.List.{length-append, length-take-le, take_all}
+use Rattle.std.proofs.Common.{true, ◌≡◌, ℕ, ◌+◌, ◌-◌, ◌≤◌, List, [], ◌∷◌, ◌++◌, length, take, Option, None, refl, sym, ap, ◌∙◌, subst, arith}
+use Rattle.std.proofs.lemmas.List.{length-append}
 use Rattle.std.specs.FinMap as map
 use Rattle.record_key.specs.declared.refusal.Refusal.{Refusal}
 use Rattle.record_key.specs.FirstCause.{failures_of}
@@ -29,7 +28,8 @@ use Rattle.dc_core.specs.DcView.{DcView}
 use Rattle.dc_core.specs.Kept.{IsDc}
 use Rattle.dc_core.specs.Restarting.{restarted}
 use Rattle.dc_core.specs.Serves.{with_system}
-use Rattle.world.specs.Component.{MayKeep, found_on, IsDownWith}
+use Rattle.world.specs.Component.{bytes_left, Keeps, dc_size, found_on, IsDownWith}
+use Rattle.world.proofs.Restarts.Keeping.{left_stable, left_within, keeps_of, cut_to}
 use Rattle.world.proofs.Restarts.Crashes.{restarted_kept}
 use Rattle.world.proofs.Restarts.Ends.{spelled_longer}
 
@@ -119,80 +119,35 @@ down_kept device device' pages pages' log later r is holds left again same count
 pub record IsStopped (v : SystemView) (log : LogState) (written : PagesState) : Type 0 where
   pub holds : log.forced ++ log.pending ≡ spelled v.log
   pub forced : BeginsWith log.forced (spelled (beginning v.log v.stable))
+  pub just : log.forced ≡ spelled (beginning v.log v.stable)
   pub pages : written.pages ≡ v.pages
   pub failures : log.failures + written.failures ≡ v.failures
 
--- all that a crash may keep has room in so many bytes
-abbrev pub HasRoom : SystemView → ℕ → ℕ → Type 0
-HasRoom v more bytes = (n : ℕ) → n ≤ v.stable + more → n ≤ length v.log → length (spelled (beginning v.log n)) ≤ bytes
-
 -- what is left on the log's device: the frames of a beginning that the crash may keep
-pub record IsLeft (v : SystemView) (more : ℕ) (left : List ℕ) : Type 0 where
+pub record IsLeft (v : SystemView) (more bytes : ℕ) (left : List ℕ) : Type 0 where
   pub count : ℕ
-  pub keeps : MayKeep v.stable (length v.log) more count
+  pub keeps : Keeps (dc_size v.log) v.stable (length v.log) more bytes count
   pub holds : HoldsFrames left (beginning v.log count)
 
 whole_length : (v : SystemView) → length (spelled (beginning v.log (length v.log))) ≡ length (spelled v.log)
 whole_length v = ap (λ log. length (spelled log)) (whole v.log (length v.log) (omega arith))
 
-pub cut_length : (n : ℕ) (forced pending : List ℕ) (bytes : ℕ) → bytes ≤ length forced + length pending
-    → bytes ≤ length forced + n → bytes ≤ length (forced ++ take n pending)
-cut_length n forced pending bytes all some =
-    let parts = length-append forced (take n pending) in
-    elim (cases_lt n (length pending)) [
-      | inl less ↦ omega (arith, parts, length-take-le n pending (omega (arith, less)), some)
-      | inr whole ↦ omega (arith, parts, ap length (take_all n pending whole), all)
-    ]
-
-pub room_left : (v : SystemView) (more kept : ℕ) (log : LogState) → log.forced ++ log.pending ≡ spelled v.log
-    → HasRoom v more kept
-    → HasRoom v more (length (log.forced ++ take (kept - length log.forced) log.pending))
-room_left v more kept log holds room n few within =
-    let all : length log.forced + length log.pending ≡ length (spelled v.log) =
-    sym (length-append log.forced log.pending) ∙ ap length holds in
-    let most = spelled_longer v.log n (length v.log) within in
-    cut_length (kept - length log.forced) log.forced log.pending (length (spelled (beginning v.log n)))
-    (omega (arith, all, most, whole_length v)) (omega (arith, room n few within))
-
-crash_left : (v : SystemView) (more : ℕ) (log : LogState) (pages : PagesState) (left : List ℕ) → IsSystem v
-    → IsRecoverable v → IsStopped v log pages → MayLeave log.forced log.pending left
-    → HasRoom v more (length left) → IsLeft v more left
-crash_left v more log pages left is rec stopped may room =
-    let l = crashes_leave_frames v.log v.stable log.forced log.pending left is.records
-    (record { within = rec.fit.kept; stored = stopped.holds; covered = stopped.forced }) may in
-    record {
-      count = l.count;
-      keeps = record {
-        stable = l.stable_left;
-        counted = elim (cases_lt (length v.log) (v.stable + more)) [
-          | inl past ↦ inr (omega (
-            arith,
-            l.within,
-            l.most (length v.log) (omega arith) (room (length v.log) (omega (arith, past)) (omega arith)),
-          ))
-          | inr few ↦ inl (l.most (v.stable + more) few (room (v.stable + more) (omega arith) few))
-        ];
-        within = l.within;
-      };
-      holds = l.frames;
-    }
-
 -- what is seen once it has crashed
-crash_seen : (v : SystemView) (more : ℕ) (log log' : LogState) (pages : PagesState) (later : List DcRecord)
-    → IsStopped v log pages → log'.failures ≡ log.failures → (l : IsLeft v more log'.forced)
+crash_seen : (v : SystemView) (more bytes : ℕ) (log log' : LogState) (pages : PagesState) (later : List DcRecord)
+    → IsStopped v log pages → log'.failures ≡ log.failures → (l : IsLeft v more bytes log'.forced)
     → HoldsFrames log'.forced later → found_on log' pages later ≡ restarted (crashed v l.count)
-crash_seen v more log log' pages later stopped same l again =
+crash_seen v more bytes log log' pages later stopped same l again =
     let records : later ≡ beginning v.log l.count =
     frames_read_once.once log'.forced later (beginning v.log l.count) again l.holds in
     let failures : log'.failures + pages.failures ≡ v.failures = ap (λ n. n + pages.failures) same ∙ stopped.failures in
     λ i. restarted (found (stopped.pages i) (failures i) (records i))
 
 -- the component crashed so
-pub record IsCrash (v : SystemView) (more kept : ℕ) (log log' : LogState) (pages : PagesState) : Type 0 where
+pub record IsCrash (v : SystemView) (more bytes kept : ℕ) (log log' : LogState) (pages : PagesState) : Type 0 where
   pub stopped : IsStopped v log pages
   pub left : log' ≡ with_bytes log (log.forced ++ take (kept - length log.forced) log.pending) []
   pub law : MayLeave log.forced log.pending log'.forced
-  pub room : HasRoom v more kept
+  pub kept_is : kept ≡ bytes_left (dc_size v.log) v.stable (length v.log) more bytes
 
 -- so many bytes has the log
 pub log_length : (v : SystemView) (log : LogState) (end records : ℕ) → log.forced ++ log.pending ≡ spelled v.log
@@ -202,18 +157,19 @@ log_length v log end records holds all is =
     is ∙ ap (λ n. length (spelled (beginning v.log n))) all ∙ whole_length v ∙ sym (ap length holds)
     ∙ length-append log.forced log.pending
 
-pub crash_of : (v : SystemView) (more kept end cut : ℕ) (log log' : LogState) (written : PagesState)
+pub crash_of : (v : SystemView) (more bytes kept end cut : ℕ) (log log' : LogState) (written : PagesState)
     → end ≡ length log.forced + length log.pending → cut ≡ kept - (end - length log.pending)
     → IsStopped v log written → log' ≡ with_bytes log (log.forced ++ take cut log.pending) []
-    → MayLeave log.forced log.pending log'.forced → HasRoom v more kept
-    → IsCrash v more kept log log' written
-crash_of v more kept end cut log log' written all is stopped left may room =
+    → MayLeave log.forced log.pending log'.forced
+    → kept ≡ bytes_left (dc_size v.log) v.stable (length v.log) more bytes
+    → IsCrash v more bytes kept log log' written
+crash_of v more bytes kept end cut log log' written all is stopped left may kept_is =
     let so : cut ≡ kept - length log.forced = omega (arith, all, is) in
     record {
       stopped = stopped;
       left = left ∙ ap (λ n. with_bytes log (log.forced ++ take n log.pending) []) so;
       law = may;
-      room = room;
+      kept_is = kept_is;
     }
 
 -- reading the pages' device changes nothing
@@ -221,33 +177,55 @@ pub same_pages : (v : SystemView) (log : LogState) (old new : PagesState) → ne
     → IsStopped v log new
 same_pages v log old new same stopped = let P : PagesState → Type 0 = IsStopped v log in subst P (sym same) stopped
 
-pub crash_leaves : (v : SystemView) (more kept : ℕ) (log log' : LogState) (pages : PagesState) → IsSystem v
-    → IsRecoverable v → IsCrash v more kept log log' pages → IsLeft v more log'.forced
-crash_leaves v more kept log log' pages is rec c =
-    crash_left v more log pages log'.forced is rec c.stopped c.law
-    (λ n few within. omega (
-      arith,
-      room_left v more kept log c.stopped.holds c.room n few within,
-      ap (λ (l : LogState). length l.forced) c.left,
-    ))
+-- as many bytes are left as the crash is to keep
+left_length : (v : SystemView) (more bytes kept : ℕ) (log log' : LogState) (pages : PagesState)
+    → v.stable ≤ length v.log → IsCrash v more bytes kept log log' pages → length log'.forced ≡ kept
+left_length v more bytes kept log log' pages within c =
+    let some : length log.forced ≡ dc_size v.log v.stable = ap length c.stopped.just in
+    let all : length log.forced + length log.pending ≡ dc_size v.log (length v.log) =
+    sym (length-append log.forced log.pending) ∙ ap length c.stopped.holds ∙ sym (whole_length v) in
+    let low = left_stable (dc_size v.log) (spelled_longer v.log) v.stable (length v.log) more bytes within in
+    let high = left_within (dc_size v.log) (spelled_longer v.log) v.stable (length v.log) more bytes in
+    ap (λ (l : LogState). length l.forced) c.left
+    ∙ cut_to kept log.forced log.pending (omega (arith, some, low, c.kept_is)) (omega (arith, all, high, c.kept_is))
 
-pub crash_is : (v : SystemView) (more kept : ℕ) (log log' : LogState) (pages : PagesState) (later : List DcRecord)
-    → IsSystem v → IsRecoverable v → IsCrash v more kept log log' pages
+pub crash_leaves : (v : SystemView) (more bytes kept : ℕ) (log log' : LogState) (pages : PagesState) → IsSystem v
+    → IsRecoverable v → IsCrash v more bytes kept log log' pages → IsLeft v more bytes log'.forced
+crash_leaves v more bytes kept log log' pages is rec c =
+    let l = crashes_leave_frames true v.log v.stable log.forced log.pending log'.forced is.records
+    (record {
+      within = rec.fit.kept;
+      stored = c.stopped.holds;
+      covered = c.stopped.forced;
+      just = λ _. c.stopped.just;
+    }) c.law in
+    let whole : dc_size v.log l.count ≤ length log'.forced =
+    omega (arith, ap length l.frames.parts, length-append (spelled (beginning v.log l.count)) l.frames.left) in
+    record {
+      count = l.count;
+      keeps = keeps_of (dc_size v.log) v.stable (length v.log) more bytes (length log'.forced) l.count
+          (left_length v more bytes kept log log' pages rec.fit.kept c ∙ c.kept_is) l.stable_left l.within whole l.most;
+      holds = l.frames;
+    }
+
+pub crash_is : (v : SystemView) (more bytes kept : ℕ) (log log' : LogState) (pages : PagesState) (later : List DcRecord)
+    → IsSystem v → IsRecoverable v → IsCrash v more bytes kept log log' pages
     → HoldsFrames log'.forced later
-    → (n : ℕ) × MayKeep v.stable (length v.log) more n × (found_on log' pages later ≡ restarted (crashed v n))
-crash_is v more kept log log' pages later is rec c again =
-    let l = crash_leaves v more kept log log' pages is rec c in (
+    → (n : ℕ) × Keeps (dc_size v.log) v.stable (length v.log) more bytes n
+    × (found_on log' pages later ≡ restarted (crashed v n))
+crash_is v more bytes kept log log' pages later is rec c again =
+    let l = crash_leaves v more bytes kept log log' pages is rec c in (
       l.count,
       l.keeps,
-      crash_seen v more log log' pages later c.stopped (ap (λ (l : LogState). l.failures) c.left) l
+      crash_seen v more bytes log log' pages later c.stopped (ap (λ (l : LogState). l.failures) c.left) l
           again,
     )
 
-pub crash_found : (v : SystemView) (more kept : ℕ) (log log' : LogState) (pages : PagesState) (later : List DcRecord)
-    → IsSystem v → IsRecoverable v → IsCrash v more kept log log' pages
+pub crash_found : (v : SystemView) (more bytes kept : ℕ) (log log' : LogState) (pages : PagesState) (later : List DcRecord)
+    → IsSystem v → IsRecoverable v → IsCrash v more bytes kept log log' pages
     → HoldsFrames log'.forced later → IsDc (found_on log' pages later)
-crash_found v more kept log log' pages later is rec c again =
-    let x = crash_is v more kept log log' pages later is rec c again in
+crash_found v more bytes kept log log' pages later is rec c again =
+    let x = crash_is v more bytes kept log log' pages later is rec c again in
     subst IsDc (sym x.2) (restarted_kept (crashed v x.0) (crashed_kept v x.0 is rec x.1.stable) refl)
 
 -- ---- devices that hold nothing

@@ -136,7 +136,7 @@ crash_falls w n k le within = record {
 }
 
 pub follows_tc_crash : (old new : NodeView) (frames bytes : ℕ) (output : Out) → IsKept old
-    → CrashesTcTo old frames output new → Follows old (event.CrashTc frames bytes) output new
+    → CrashesTcTo old frames bytes output new → Follows old (event.CrashTc frames bytes) output new
 follows_tc_crash old new frames bytes out.Down k h =
     let n : ℕ = h.0.1.0 in
     let may = h.0.1.1 in

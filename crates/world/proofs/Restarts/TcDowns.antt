@@ -1,6 +1,5 @@
 -- What a crash leaves of the transaction component's device, and what it opens as.
-use Rattle.std.proofs.Common.{◌≡◌, ℕ, ◌+◌, ◌-◌, ◌≤◌, List, [], ◌++◌, length, take, refl, sym, ap, ◌∙◌, subst, arith, inl, inr}
-use Rattle.std.proofs.lemmas.Bool.{cases_lt}
+use Rattle.std.proofs.Common.{◌≡◌, ℕ, ◌+◌, ◌-◌, ◌≤◌, List, [], ◌++◌, length, take, refl, sym, ap, ◌∙◌, subst, arith, inl}
 use Rattle.std.proofs.lemmas.List.{length-append}
 use Rattle.record_key.specs.declared.refusal.Refusal.{Refusal}
 use Rattle.record_key.specs.FirstCause.{failures_of}
@@ -16,8 +15,8 @@ use Rattle.tc_core.specs.Kept.{IsTc}
 use Rattle.tc_core.specs.Opening.{AreLeft}
 use Rattle.tc_core.specs.Opened.{opens_as, crashed}
 use Rattle.tc_core.proofs.CrashedTc.{left_again}
-use Rattle.world.specs.Component.{MayKeep, unopened}
-use Rattle.world.proofs.Restarts.Downs.{cut_length}
+use Rattle.world.specs.Component.{bytes_left, Keeps, tc_size, unopened}
+use Rattle.world.proofs.Restarts.Keeping.{left_stable, left_within, keeps_of, cut_to}
 use Rattle.world.proofs.Restarts.Ends.{part_all, records_longer}
 
 -- ---- devices that hold nothing
@@ -39,26 +38,22 @@ no_records bytes none = let P : List ℕ → Type 0 = λ b. IsLogOf b [] in subs
 pub record IsHalted (w : TcView) (device : LogState) : Type 0 where
   pub holds : device.forced ++ device.pending ≡ spelled w.log
   pub forced : BeginsWith device.forced (spelled (stable_part w.log w.stable))
+  pub just : device.forced ≡ spelled (stable_part w.log w.stable)
   pub spellable : AreRecords w.log
   pub failures : device.failures ≡ w.failures
 
--- all that a crash may keep has room in so many bytes
-abbrev pub HasRoom : TcView → ℕ → ℕ → Type 0
-HasRoom w more bytes =
-    (n : ℕ) → n ≤ w.stable + more → n ≤ length w.log → length (spelled (stable_part w.log n)) ≤ bytes
-
 -- what is left on the device: the frames of a beginning that the crash may keep
-pub record IsKeptOf (w : TcView) (more : ℕ) (left : List ℕ) : Type 0 where
+pub record IsKeptOf (w : TcView) (more bytes : ℕ) (left : List ℕ) : Type 0 where
   pub count : ℕ
-  pub keeps : MayKeep w.stable (length w.log) more count
+  pub keeps : Keeps (tc_size w.log) w.stable (length w.log) more bytes count
   pub holds : IsLogOf left (stable_part w.log count)
 
 -- the component crashed so
-pub record IsTcCrash (w : TcView) (more kept : ℕ) (device device' : LogState) : Type 0 where
+pub record IsTcCrash (w : TcView) (more bytes kept : ℕ) (device device' : LogState) : Type 0 where
   pub halted : IsHalted w device
   pub left : device' ≡ with_bytes device (device.forced ++ take (kept - length device.forced) device.pending) []
   pub law : MayLeave device.forced device.pending device'.forced
-  pub room : HasRoom w more kept
+  pub kept_is : kept ≡ bytes_left (tc_size w.log) w.stable (length w.log) more bytes
 
 module _ (w : TcView) (device : LogState) where
   -- so many bytes has the log
@@ -69,64 +64,60 @@ module _ (w : TcView) (device : LogState) where
       ∙ ap (λ l. length (spelled l)) (part_all w.log (length w.log) (omega arith))
       ∙ sym (ap length holds) ∙ length-append device.forced device.pending
 
-  pub tc_crash_of : (more kept end cut : ℕ) (device' : LogState) → end ≡ length device.forced + length device.pending
+  pub tc_crash_of : (more bytes kept end cut : ℕ) (device' : LogState) → end ≡ length device.forced + length device.pending
       → cut ≡ kept - (end - length device.pending) → IsHalted w device
       → device' ≡ with_bytes device (device.forced ++ take cut device.pending) []
-      → MayLeave device.forced device.pending device'.forced → HasRoom w more kept
-      → IsTcCrash w more kept device device'
-  tc_crash_of more kept end cut device' all is halted left may room =
+      → MayLeave device.forced device.pending device'.forced
+      → kept ≡ bytes_left (tc_size w.log) w.stable (length w.log) more bytes
+      → IsTcCrash w more bytes kept device device'
+  tc_crash_of more bytes kept end cut device' all is halted left may kept_is =
       let so : cut ≡ kept - length device.forced = omega (arith, all, is) in
       record {
         halted = halted;
         left = left ∙ ap (λ n. with_bytes device (device.forced ++ take n device.pending) []) so;
         law = may;
-        room = room;
+        kept_is = kept_is;
       }
 
-  -- what the crash may keep is kept
-  room_kept : (more kept : ℕ) → device.forced ++ device.pending ≡ spelled w.log → HasRoom w more kept
-      → HasRoom w more (length (device.forced ++ take (kept - length device.forced) device.pending))
-  room_kept more kept holds room n few within =
-      let whole = ap (λ l. length (spelled l)) (part_all w.log (length w.log) (omega arith)) in
-      let all : length device.forced + length device.pending ≡ length (spelled w.log) =
-      sym (length-append device.forced device.pending) ∙ ap length holds in
-      let most = records_longer w.log n (length w.log) within in
-      cut_length (kept - length device.forced) device.forced device.pending (length (spelled (stable_part w.log n)))
-      (omega (arith, all, most, whole)) (omega (arith, room n few within))
+  -- as many bytes are left as the crash is to keep
+  left_length : (more bytes kept : ℕ) (device' : LogState) → w.stable ≤ length w.log
+      → IsTcCrash w more bytes kept device device' → length device'.forced ≡ kept
+  left_length more bytes kept device' within c =
+      let some : length device.forced ≡ tc_size w.log w.stable = ap length c.halted.just in
+      let all : length device.forced + length device.pending ≡ tc_size w.log (length w.log) =
+      sym (length-append device.forced device.pending) ∙ ap length c.halted.holds
+      ∙ sym (ap (λ l. length (spelled l)) (part_all w.log (length w.log) (omega arith))) in
+      let low = left_stable (tc_size w.log) (records_longer w.log) w.stable (length w.log) more bytes within in
+      let high = left_within (tc_size w.log) (records_longer w.log) w.stable (length w.log) more bytes in
+      ap (λ (l : LogState). length l.forced) c.left
+      ∙ cut_to kept device.forced device.pending (omega (arith, some, low, c.kept_is))
+      (omega (arith, all, high, c.kept_is))
 
-  pub kept_left : (more kept : ℕ) (device' : LogState) → IsTc w → IsTcCrash w more kept device device'
-      → IsKeptOf w more device'.forced
-  kept_left more kept device' is c =
+  pub kept_left : (more bytes kept : ℕ) (device' : LogState) → IsTc w → IsTcCrash w more bytes kept device device'
+      → IsKeptOf w more bytes device'.forced
+  kept_left more bytes kept device' is c =
       let left = crash_leaves w.log w.stable device.forced device.pending device'.forced is.legal c.halted.spellable
       (omega (arith, is.few.records)) is.within c.halted.holds c.halted.forced c.law in
-      let room : HasRoom w more (length device'.forced) = λ n few within.
+      let whole : tc_size w.log left.kept ≤ length device'.forced =
       omega (
         arith,
-        room_kept more kept c.halted.holds c.room n few within,
-        ap (λ (l : LogState). length l.forced) c.left,
+        ap length left.is.begins.parts,
+        length-append (spelled (stable_part w.log left.kept)) left.is.left,
       ) in
       record {
         count = left.kept;
-        keeps = record {
-          stable = left.stable_left;
-          counted = elim (cases_lt (length w.log) (w.stable + more)) [
-            | inl past ↦
-                let all = left.most (length w.log) (omega arith)
-                (room (length w.log) (omega (arith, past)) (omega arith)) in
-                inr (omega (arith, left.within, all))
-            | inr few ↦ inl (left.most (w.stable + more) few (room (w.stable + more) (omega arith) few))
-          ];
-          within = left.within;
-        };
+        keeps = keeps_of (tc_size w.log) w.stable (length w.log) more bytes (length device'.forced) left.kept
+            (left_length more bytes kept device' is.within c ∙ c.kept_is) left.stable_left left.within whole left.most;
         holds = left.is;
       }
 
   -- what is seen of it then
-  pub tc_crash_is : (more kept : ℕ) (device' : LogState) (later : List Record) → IsTc w
-      → IsTcCrash w more kept device device' → IsLogOf device'.forced later
-      → (n : ℕ) × MayKeep w.stable (length w.log) more n × (opens_as later device'.failures ≡ crashed w n)
-  tc_crash_is more kept device' later is c again =
-      let left = kept_left more kept device' is c in
+  pub tc_crash_is : (more bytes kept : ℕ) (device' : LogState) (later : List Record) → IsTc w
+      → IsTcCrash w more bytes kept device device' → IsLogOf device'.forced later
+      → (n : ℕ) × Keeps (tc_size w.log) w.stable (length w.log) more bytes n
+      × (opens_as later device'.failures ≡ crashed w n)
+  tc_crash_is more bytes kept device' later is c again =
+      let left = kept_left more bytes kept device' is c in
       let same : later ≡ stable_part w.log left.count =
       opens_once device'.forced later (stable_part w.log left.count) again left.holds in
       let failures : device'.failures ≡ w.failures = ap (λ (l : LogState). l.failures) c.left ∙ c.halted.failures in

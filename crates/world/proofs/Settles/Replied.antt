@@ -20,7 +20,8 @@ use Rattle.tc_core.specs.OpenTxns.{find}
 use Rattle.tc_core.specs.TcView.{TcView}
 use Rattle.tc_core.specs.Changes.{was_told}
 use Rattle.tc_core.specs.Calls.{read_request, IsRequestOf}
-use Rattle.tc_core.specs.Replies.{session_of, is_key, is_range, span_read, on_row, on_rows, on_reply}
+use Rattle.codec.specs.Replies.{session_of}
+use Rattle.tc_core.specs.Replies.{is_key, is_range, span_read, on_row, on_rows, on_reply}
 use Rattle.tc_core.specs.Recovery.{redo_request}
 use Rattle.tc_core.specs.Kept.{IsTc}
 use Rattle.tc_core.proofs.KeepsReads.{reads}

@@ -31,7 +31,8 @@ use Rattle.tc_core.specs.OpenTxns.{find}
 use Rattle.tc_core.specs.Changes.{reconnected}
 use Rattle.tc_core.specs.Calls.{read_request, ReconnectGives, UndoGives}
 use Rattle.tc_core.specs.Recovery.{SendsAt, ResendsUndo, recover_refusal, redo_request, redo_place, redoing, undo_logs_at}
-use Rattle.tc_core.specs.Replies.{session_of, logs, takes_memory, ReplyGives}
+use Rattle.codec.specs.Replies.{session_of}
+use Rattle.tc_core.specs.Replies.{logs, takes_memory, ReplyGives}
 use Rattle.tc_core.specs.Kept.{IsPhase, IsTc}
 use Rattle.tc_core.proofs.Finding.{found_own}
 use Rattle.tc_core.proofs.KeepsTc.{reading_at}

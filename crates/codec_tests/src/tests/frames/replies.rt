@@ -1,7 +1,7 @@
 //! Replies to session 4.
 use super::hex::{bytes_of, joined_again};
 use crate::tests::values::{key, value};
-use codec::{Reply, Taken, put_reply, reply_spelling_law, take_reply};
+use codec::{Reply, Taken, put_reply, reply_session, reply_spelling_law, take_reply};
 use record_key::{Answer, Key, Refusal, Value};
 use std::alloc::Global;
 use std::process::Abort;
@@ -10,10 +10,12 @@ use std::test::Fail;
 /// The reply that these bytes spell. It is written as they stand.
 fn reply_of<A: Abort>(rt: &A, alloc: Global, text: &str) -> Result<Reply, Fail> {
     let bytes = bytes_of(alloc, text)?;
+    assert_eq!(rt; reply_session(&bytes, 0), Some(4));
     let taken = take_reply(alloc, &bytes, 0)?;
     match taken {
         Taken::Record(reply, next) => {
             assert_eq!(rt; next, bytes.len());
+            assert_eq!(rt; reply.session(), 4);
             let mut out = Vec::new(alloc);
             put_reply(&mut out, &reply)?;
             assert_eq!(rt; out.as_slice(), bytes.as_slice());

@@ -1,5 +1,5 @@
 //! A log device written against the trait alone, as one outside this crate is.
-ghost use Rattle.std.specs.Prelude.{◌≡◌, ◌+◌, IsOkUnless};
+ghost use Rattle.std.specs.Prelude.{◌≡◌, ◌+◌, false, IsOkUnless};
 ghost use Rattle.stable.specs.Device.{failures_told};
 
 use stable::{DeviceError, Failures, LogDevice};
@@ -69,6 +69,8 @@ impl LogDevice for ListedLog {
     ghost pending = { λ log. log.pending };
 
     ghost failures = { λ log. log.failures };
+
+    ghost forces_whole = { false };
 
     fn append(&mut self, bytes: &[u8]) -> Result<(), DeviceError> {
         self.bytes.reserve(bytes.len())?;

@@ -20,8 +20,11 @@ fn in_order(rt: HostRuntime) -> Result<(), Fail> {
 
 fn before_clients_are_served_on(rt: &impl Abort, tc: &mut Tc<MemLog>) -> Result<(), Fail> {
     assert_eq!(rt; refusals(tc, 2), [Some(Refusal::NotConnected); 3]);
+    assert_eq!(rt; in_session(tc, 1), Err(Refusal::Stale));
     reconnect(tc)?;
     assert_eq!(rt; refusals(tc, 2), [Some(Refusal::Redoing); 3]);
+    assert_eq!(rt; in_session(tc, 1), Ok(()));
+    assert_eq!(rt; in_session(tc, 2), Err(Refusal::Stale));
     Ok(())
 }
 

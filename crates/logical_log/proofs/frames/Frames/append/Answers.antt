@@ -2,7 +2,7 @@ use Rattle.std.proofs.Common.{◌≡◌, ◌∙◌, ◌<◌, ℕ, ◌+◌, List,
 use Rattle.std.proofs.lemmas.Grind.{common_steps}
 use Rattle.std.proofs.lemmas.List.{append-nil, length-append}
 use Rattle.codec.specs.Frames.{frame}
-use Rattle.codec.specs.FrameIndex.{marked}
+use Rattle.codec.specs.Marks.{marked}
 use Rattle.codec.specs.Records.{record_bytes}
 use Rattle.history.specs.declared.record.Record.{Record}
 use Rattle.logical_log.specs.Index.{noted}

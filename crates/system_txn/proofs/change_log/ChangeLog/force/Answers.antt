@@ -8,7 +8,7 @@ use Rattle.system_txn.proofs.change_log.ChangeLog.force.Goals as goal
 
 -- all records are forced
 now : (g : Rattle.system_txn.proofs.change_log.ChangeLog.force.Given.Over) (c : goal.After-self-1 g)
-    → IsKept (records_at (g.D.LogDevice.forced c.self.inside.device
+    → IsKept g.D.LogDevice.forces_whole (records_at (g.D.LogDevice.forced c.self.inside.device
     ++ g.D.LogDevice.pending c.self.inside.device) c.self.inside.places.items) c.len.result
     (g.D.LogDevice.forced c.force.new.self) (g.D.LogDevice.pending c.force.new.self)
     c.self.inside.places.items c.self.inside.end c.self.inside.next_id
@@ -17,15 +17,15 @@ now g c =
     let items = m.places.items in
     let len : c.len.result ≡ length items = grind (arith, common_steps) in
     rw (len ∙ ap length c.self.invariant.1.begins_are ∙ length-places _)
-    (kept_forced _ m.stable _ _ _ _ items m.end m.next_id c.self.invariant c.in_default.ensures.all_forced
+    (kept_forced g.D.LogDevice.forces_whole _ m.stable _ _ _ _ items m.end m.next_id c.self.invariant c.in_default.ensures.all_forced
     c.in_default.ensures.none_pending)
 
 pub invariant_of-self-2 : goal.invariant_of-self-2
-invariant_of-self-2 g c = kept_so _ _ _ _ _ _ _ (now g c)
+invariant_of-self-2 g c = kept_so _ _ _ _ _ _ _ _ (now g c)
 
 pub returns-clause-forced : goal.returns-clause-forced
 returns-clause-forced g c =
-    let log = same_log _ _ _ _ _ _ _ (now g c) in
+    let log = same_log _ _ _ _ _ _ _ _ (now g c) in
     let items = c.self.inside.places.items in
     let len : c.len.result ≡ length items = grind (arith, common_steps) in
     let count = len ∙ ap length c.self.invariant.1.begins_are ∙ length-places _ in

@@ -8,18 +8,18 @@ use Rattle.system_txn.proofs.change_log.ChangeLog.reopened.Goals as goal
 
 -- the log whose frames the device holds is kept
 now : (g : Rattle.system_txn.proofs.change_log.ChangeLog.reopened.Given.Over) (c : goal.After-new g)
-    → IsKept c.requires.records.0 c.len-stable.result (g.D.LogDevice.forced c.args.device)
+    → IsKept g.D.LogDevice.forces_whole c.requires.records.0 c.len-stable.result (g.D.LogDevice.forced c.args.device)
     (g.D.LogDevice.pending c.args.device) c.args.places.items c.args.end c.args.next_id
 now g c =
     let log : List DcRecord = c.requires.records.0 in
     let count : c.len-stable.result ≡ length c.args.places.items = grind (arith, common_steps) in
     let frames = c.requires.records.2 in
     rw (count ∙ ap length frames.begins_are ∙ length-places log)
-    (kept_stable log _ _ c.args.places.items c.args.end c.args.next_id c.requires.records.1 c.requires.none_pending
+    (kept_stable g.D.LogDevice.forces_whole log _ _ c.args.places.items c.args.end c.args.next_id c.requires.records.1 c.requires.none_pending
     frames)
 
 pub invariant_of-result : goal.invariant_of-result
-invariant_of-result g c = kept_so _ _ _ _ _ _ _ (now g c)
+invariant_of-result g c = kept_so _ _ _ _ _ _ _ _ (now g c)
 
 pub returns : goal.returns
 returns g c = λ log each is.
@@ -27,7 +27,7 @@ returns g c = λ log each is.
     let frames = c.requires.records.2 in
     let one : was ≡ log = spelled_once was log frames.spellable each (sym c.requires.records.1 ∙ is) in
     let bytes = g.D.LogDevice.forced c.args.device ++ g.D.LogDevice.pending c.args.device in
-    let read : records_at bytes c.args.places.items ≡ log = same_log _ _ _ _ _ _ _ (now g c) ∙ one in
+    let read : records_at bytes c.args.places.items ≡ log = same_log _ _ _ _ _ _ _ _ (now g c) ∙ one in
     let items : c.len-stable.result ≡ length c.args.places.items = grind (arith, common_steps) in
     let count : c.len-stable.result ≡ length log = items ∙ ap length frames.begins_are ∙ length-places was
     ∙ ap length one in

@@ -1,6 +1,6 @@
 use Rattle.std.proofs.Common.{◌≡◌, ◌∙◌, ℕ, ◌+◌, ◌<◌, ◌^◌, [], ◌∷◌, ◌++◌, ap, arith, length}
 use Rattle.std.proofs.lemmas.Grind.{common_steps}
-use Rattle.codec.specs.FrameIndex.{marked}
+use Rattle.codec.specs.Marks.{marked}
 use Rattle.codec.proofs.Indexed.{indexed_few}
 use Rattle.world.specs.Sent.{SentView}
 use Rattle.world.proofs.Invariant.Framed.{all_more, all_read_more, body_is_short}

@@ -24,21 +24,22 @@ on-found-requires c =
     record {
       holds = c.stop-log.ensures.holds;
       forced = c.stop-log.ensures.forced;
+      just = c.stop-log.ensures.just;
       pages = c.stop-log.ensures.pages;
       failures = c.stop-log.ensures.failures;
     } in
     let crash =
-    crash_of v c.args.frames c.kept_of-kept.result c.end_of-end.result c.saturating_sub.result log c.crash.new.self
+    crash_of v c.args.frames c.args.bytes c.kept_of-kept.result c.end_of-end.result c.saturating_sub.result log c.crash.new.self
     c.stop-log.result.pages all
     (omega (arith, c.saturating_sub.ensures, ap length c.pending.ensures)) stopped c.crash.ensures.left
     c.crash.ensures.law c.kept_of-kept.ensures in
-    let left = crash_leaves v c.args.frames c.kept_of-kept.result log c.crash.new.self c.stop-log.result.pages
+    let left = crash_leaves v c.args.frames c.args.bytes c.kept_of-kept.result log c.crash.new.self c.stop-log.result.pages
     c.kept.ensures.system c.requires crash in
     (beginning v.log left.count, left.holds)
 
 -- the crash, with the records found after it
 crash_then : (c : goal.After-on-found)
-    → IsCrash c.args.dc.system c.args.frames c.kept_of-kept.result c.stop-log.result.log c.crash.new.self
+    → IsCrash c.args.dc.system c.args.frames c.args.bytes c.kept_of-kept.result c.stop-log.result.log c.crash.new.self
     c.crash-2.new.self
 crash_then c =
     let v = c.args.dc.system in
@@ -49,10 +50,11 @@ crash_then c =
     record {
       holds = c.stop-log.ensures.holds;
       forced = c.stop-log.ensures.forced;
+      just = c.stop-log.ensures.just;
       pages = c.stop-log.ensures.pages;
       failures = c.stop-log.ensures.failures;
     } in
-    crash_of v c.args.frames c.kept_of-kept.result c.end_of-end.result c.saturating_sub.result log c.crash.new.self
+    crash_of v c.args.frames c.args.bytes c.kept_of-kept.result c.end_of-end.result c.saturating_sub.result log c.crash.new.self
     c.crash-2.new.self all
     (omega (arith, c.saturating_sub.ensures, ap length c.pending.ensures))
     (same_pages v log c.stop-log.result.pages c.crash-2.new.self c.crash-2.ensures stopped)
@@ -61,13 +63,13 @@ crash_then c =
 pub invariant_of-result : goal.invariant_of-result
 invariant_of-result c =
     let is =
-    crash_found c.args.dc.system c.args.frames c.kept_of-kept.result c.stop-log.result.log c.crash.new.self
+    crash_found c.args.dc.system c.args.frames c.args.bytes c.kept_of-kept.result c.stop-log.result.log c.crash.new.self
     c.crash-2.new.self c.on-found.result.log c.kept.ensures.system c.requires (crash_then c)
     c.on-found.ensures in
     (c.on-found.ensures, (ap (λ (l : LogState). l.pending) c.crash.ensures.left, is))
 
 pub returns : goal.returns
 returns c =
-    crash_is c.args.dc.system c.args.frames c.kept_of-kept.result c.stop-log.result.log c.crash.new.self
+    crash_is c.args.dc.system c.args.frames c.args.bytes c.kept_of-kept.result c.stop-log.result.log c.crash.new.self
     c.crash-2.new.self c.on-found.result.log c.kept.ensures.system c.requires (crash_then c)
     c.on-found.ensures

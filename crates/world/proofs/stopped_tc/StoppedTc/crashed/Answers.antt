@@ -1,4 +1,4 @@
-use Rattle.std.proofs.Common.{length, ap, arith}
+use Rattle.std.proofs.Common.{length, refl, ap, arith}
 use Rattle.logical_log.specs.Low.{stable_part}
 use Rattle.stable.specs.LogState.{LogState}
 use Rattle.world.proofs.Restarts.TcDowns.{IsHalted, device_length, tc_crash_of, kept_left, tc_crash_is}
@@ -20,13 +20,14 @@ on-found-requires c =
     record {
       holds = c.stop-device.ensures.holds;
       forced = c.stop-device.ensures.forced;
+      just = c.stop-device.ensures.just refl;
       spellable = c.stop-device.ensures.spellable;
       failures = c.stop-device.ensures.failures;
     } in
-    let crash = tc_crash_of w device c.args.frames c.bytes_kept_of-kept.result c.end_of-end.result
+    let crash = tc_crash_of w device c.args.frames c.args.bytes c.bytes_kept_of-kept.result c.end_of-end.result
     c.saturating_sub.result c.crash.new.self all (omega (arith, c.saturating_sub.ensures, ap length c.pending.ensures))
     halted c.crash.ensures.left c.crash.ensures.law c.bytes_kept_of-kept.ensures in
-    let left = kept_left w device c.args.frames c.bytes_kept_of-kept.result c.crash.new.self c.kept.ensures crash in
+    let left = kept_left w device c.args.frames c.args.bytes c.bytes_kept_of-kept.result c.crash.new.self c.kept.ensures crash in
     (stable_part w.log left.count, left.holds)
 
 pub invariant_of-result : goal.invariant_of-result
@@ -42,11 +43,12 @@ returns c =
     record {
       holds = c.stop-device.ensures.holds;
       forced = c.stop-device.ensures.forced;
+      just = c.stop-device.ensures.just refl;
       spellable = c.stop-device.ensures.spellable;
       failures = c.stop-device.ensures.failures;
     } in
-    let crash = tc_crash_of w device c.args.frames c.bytes_kept_of-kept.result c.end_of-end.result
+    let crash = tc_crash_of w device c.args.frames c.args.bytes c.bytes_kept_of-kept.result c.end_of-end.result
     c.saturating_sub.result c.crash.new.self all (omega (arith, c.saturating_sub.ensures, ap length c.pending.ensures))
     halted c.crash.ensures.left c.crash.ensures.law c.bytes_kept_of-kept.ensures in
-    tc_crash_is w device c.args.frames c.bytes_kept_of-kept.result c.crash.new.self
+    tc_crash_is w device c.args.frames c.args.bytes c.bytes_kept_of-kept.result c.crash.new.self
     c.on-found.result.log c.kept.ensures crash c.on-found.ensures
