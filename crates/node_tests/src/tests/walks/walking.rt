@@ -99,9 +99,12 @@ impl Walk {
         Ok(log)
     }
 
-    /// They are a beginning of the log that was noted, with all that had to be kept and all commits that were told.
+    /// They are a beginning of the log that was noted, with all that had to be kept, at most one more, and all commits
+    /// that were told.
     fn assert_found(&self, rt: &impl Abort, log: &[Record]) {
-        assert!(rt; log.len() as u64 >= self.least);
+        let count = log.len() as u64;
+        assert!(rt; count >= self.least);
+        assert!(rt; count - self.least <= 1);
         assert!(rt; self.crashed.as_slice().starts_with(log));
         assert!(rt; self.model.is_durable(log));
     }
