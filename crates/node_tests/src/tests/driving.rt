@@ -57,32 +57,41 @@ fn assert_told(rt: &impl Abort, outs: &[Out]) {
 }
 
 fn driven(alloc: Global, world: &mut World, events: &[Event]) -> Result<Vec<Out>, Refusal> {
-    let outs = drive(alloc, world, events)?;
-    Ok(outs)
+    drive(alloc, world, events)
 }
 
-/// The other node does the events one by one.
+/// Each event by itself has the same output.
+fn assert_same(rt: &impl Abort, other: &mut World, events: &[Event], outs: &[Out]) {
+    assert_eq!(rt; outs.len(), events.len());
+    for (event, out) in events.iter().zip(outs) {
+        let is_same = step(other, event) == *out;
+        assert!(rt; is_same);
+    }
+}
+
 fn driven_beside(
     rt: &impl Abort,
     alloc: Global,
-    world: &mut World,
-    other: &mut World,
+    worlds: (&mut World, &mut World),
+    events: &[Event],
 ) -> Result<(), Fail> {
-    let events = late_messages(alloc)?;
-    let outs = driven(alloc, world, &events)?;
-    assert_eq!(rt; outs.len(), events.len());
-    for (event, out) in events.iter().zip(&outs) {
-        assert_eq!(rt; step(other, event), *out);
-    }
+    let outs = driven(alloc, worlds.0, events)?;
+    assert_same(rt, worlds.1, events, &outs);
     assert_told(rt, &outs);
     Ok(())
+}
+
+/// The other node does the events one by one.
+fn with_another(rt: &impl Abort, alloc: Global, world: &mut World) -> Result<(), Fail> {
+    let events = late_messages(alloc)?;
+    let mut other = World::new(alloc)?;
+    driven_beside(rt, alloc, (world, &mut other), &events)
 }
 
 #[test]
 fn a_list_of_events(rt: HostRuntime) -> Result<(), Fail> {
     let mut world = World::new(rt.alloc())?;
-    let mut other = World::new(rt.alloc())?;
-    driven_beside(&rt, rt.alloc(), &mut world, &mut other)
+    with_another(&rt, rt.alloc(), &mut world)
 }
 
 /// The event once more where memory is refused: nothing has changed then.
@@ -93,24 +102,23 @@ fn step_again(world: &mut World, event: &Event) -> Out {
     }
 }
 
-fn stepped_beside(
-    rt: &impl Abort,
-    alloc: Global,
-    world: &mut World,
-    other: &mut World,
-) -> Result<(), Fail> {
-    let events = late_messages(alloc)?;
-    for event in &events {
-        let out = step_again(world, event);
-        assert_eq!(rt; step_again(other, event), out);
+fn assert_alike(rt: &impl Abort, world: &mut World, other: &mut World, events: &[Event]) {
+    for event in events {
+        let is_same = step_again(world, event) == step_again(other, event);
+        assert!(rt; is_same);
     }
+}
+
+fn beside_another(rt: &impl Abort, alloc: Global, world: &mut World) -> Result<(), Fail> {
+    let events = late_messages(alloc)?;
+    let mut other = World::new(alloc)?;
+    assert_alike(rt, world, &mut other, &events);
     Ok(())
 }
 
-/// Run also with each allocation refused in turn: the two nodes answer alike all the same.
+/// Run also with one allocation refused: the two nodes answer alike all the same.
 #[test]
 fn refused_memory(rt: HostRuntime) -> Result<(), Fail> {
     let mut world = World::new(rt.alloc())?;
-    let mut other = World::new(rt.alloc())?;
-    stepped_beside(&rt, rt.alloc(), &mut world, &mut other)
+    beside_another(&rt, rt.alloc(), &mut world)
 }
