@@ -50,7 +50,12 @@ fn accept(rt: HostRuntime) -> Result<(), Fail> {
 
 #[test]
 fn split(rt: HostRuntime) -> Result<(), Fail> {
-    match dc_record_of(&rt, rt.alloc(), FRAMES[1])? {
+    expect_split(&rt, &dc_record_of(&rt, rt.alloc(), FRAMES[1])?);
+    Ok(())
+}
+
+fn expect_split(rt: &impl Abort, dc_record: &DcRecord) {
+    match dc_record {
         DcRecord::Split {
             left: 3,
             cut,
@@ -61,12 +66,16 @@ fn split(rt: HostRuntime) -> Result<(), Fail> {
         }
         _ => assert!(rt; false),
     }
-    Ok(())
 }
 
 #[test]
 fn merge(rt: HostRuntime) -> Result<(), Fail> {
-    match dc_record_of(&rt, rt.alloc(), FRAMES[2])? {
+    expect_merge(&rt, &dc_record_of(&rt, rt.alloc(), FRAMES[2])?);
+    Ok(())
+}
+
+fn expect_merge(rt: &impl Abort, dc_record: &DcRecord) {
+    match dc_record {
         DcRecord::Merge {
             left: 7,
             right: 9,
@@ -77,7 +86,6 @@ fn merge(rt: HostRuntime) -> Result<(), Fail> {
         }
         _ => assert!(rt; false),
     }
-    Ok(())
 }
 
 /// A frame that ends early is Short, wherever it ends.
@@ -87,12 +95,18 @@ fn cut_frames(rt: HostRuntime) -> Result<(), Fail> {
     for texts in FRAMES {
         let bytes = joined(alloc, texts)?;
         for end in 0..bytes.len() {
-            assert!(rt;
-                matches!(take_dc_record(alloc, &bytes[..end], 0)?, Taken::Short),
-                "cut at {end}"
-            );
+            is_short(&rt, alloc, &bytes[..end])?;
         }
     }
+    Ok(())
+}
+
+fn is_short<A: Abort>(rt: &A, alloc: Global, bytes: &[u8]) -> Result<(), Fail> {
+    assert!(rt;
+        matches!(take_dc_record(alloc, bytes, 0)?, Taken::Short),
+        "cut at {}",
+        bytes.len()
+    );
     Ok(())
 }
 
@@ -118,10 +132,15 @@ fn bad_frames(rt: HostRuntime) -> Result<(), Fail> {
         ],
     ];
     for texts in frames {
-        let mut bytes = joined(alloc, &[ACCEPT])?;
-        bytes.extend_from_slice(&joined(alloc, texts)?)?;
-        assert!(rt; matches!(take_dc_record(alloc, &bytes, 17)?, Taken::Bad(17)));
+        is_bad(&rt, alloc, texts)?;
     }
+    Ok(())
+}
+
+fn is_bad<A: Abort>(rt: &A, alloc: Global, texts: &[&str]) -> Result<(), Fail> {
+    let mut bytes = joined(alloc, &[ACCEPT])?;
+    bytes.extend_from_slice(&joined(alloc, texts)?)?;
+    assert!(rt; matches!(take_dc_record(alloc, &bytes, 17)?, Taken::Bad(17)));
     Ok(())
 }
 

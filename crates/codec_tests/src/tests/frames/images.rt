@@ -2,7 +2,7 @@
 use super::hex::{bytes_of, joined, joined_again};
 use crate::tests::values::{key, value};
 use codec::{LeafImage, Rows, Taken, leaf_image_spelling_law, put_leaf_image, take_leaf_image};
-use record_key::{Answer, Entries, Entry, Refusal};
+use record_key::{Answer, Entries, Entry, Key, Refusal, Value};
 use std::alloc::Global;
 use std::process::Abort;
 use std::test::Fail;
@@ -46,14 +46,16 @@ fn image_of<A: Abort>(rt: &A, alloc: Global, bytes: &[u8]) -> Result<LeafImage, 
 fn without_fences(rt: HostRuntime) -> Result<(), Fail> {
     let alloc = rt.alloc();
     let bytes = bytes_of(alloc, BLANK)?;
-    let image = image_of(&rt, alloc, &bytes)?;
-    assert_eq!(rt; (image.id, image.last, image.low), (7, 0, 0));
-    assert_eq!(rt; image.low_fence, None);
-    assert_eq!(rt; image.high_fence, None);
-    assert!(rt; image.rows.as_slice().is_empty());
-    assert!(rt; image.entries.len() == 0);
+    expect_blank(&rt, &image_of(&rt, alloc, &bytes)?);
     leaf_image_spelling_law();
     Ok(())
+}
+
+fn expect_blank(rt: &impl Abort, image: &LeafImage) {
+    assert_eq!(rt; (image.id, image.last, image.low), (7, 0, 0));
+    assert!(rt; image.low_fence.is_none() && image.high_fence.is_none());
+    assert!(rt; image.rows.as_slice().is_empty());
+    assert!(rt; image.entries.len() == 0);
 }
 
 #[test]
@@ -62,31 +64,39 @@ fn with_fences(rt: HostRuntime) -> Result<(), Fail> {
     let bytes = joined(alloc, &FULL)?;
     let image = image_of(&rt, alloc, &bytes)?;
     assert_eq!(rt; (image.id, image.last, image.low), (7, 5, 2));
+    expect_fences(&rt, &image)?;
+    expect_rows(&rt, image.rows.as_slice())?;
+    expect_entries(&rt, &image.entries)
+}
+
+fn expect_fences(rt: &impl Abort, image: &LeafImage) -> Result<(), Fail> {
     assert_eq!(rt; image.low_fence, Some(key(b"b")?));
     assert_eq!(rt; image.high_fence, Some(key(b"m")?));
-    let rows = [(key(b"b")?, value(b"1")?), (key(b"c")?, value(b"")?)];
-    assert_eq!(rt; image.rows.as_slice(), rows.as_slice());
-    let entries = [
-        Entry {
-            number: 3,
-            key: key(b"b")?,
-            answer: Answer::Inserted,
-        },
-        Entry {
-            number: 9,
-            key: key(b"c")?,
-            answer: Answer::Was(Some(value(b"x")?)),
-        },
-    ];
-    expect_entries(&rt, &image.entries, &entries);
     Ok(())
 }
 
-fn expect_entries(rt: &impl Abort, entries: &Entries, expected: &[Entry]) {
-    assert_eq!(rt; entries.len(), expected.len());
-    for at in 0..entries.len() {
-        assert_eq!(rt; &entries.entry(at), &expected[at]);
-    }
+fn expect_rows(rt: &impl Abort, rows: &[(Key, Value)]) -> Result<(), Fail> {
+    let expected = [(key(b"b")?, value(b"1")?), (key(b"c")?, value(b"")?)];
+    assert_eq!(rt; rows, expected.as_slice());
+    Ok(())
+}
+
+fn expect_entries(rt: &impl Abort, entries: &Entries) -> Result<(), Fail> {
+    assert_eq!(rt; entries.len(), 2);
+    assert_eq!(rt; entries.entry(0), entry(3, b"b", Answer::Inserted)?);
+    assert_eq!(rt;
+        entries.entry(1),
+        entry(9, b"c", Answer::Was(Some(value(b"x")?)))?
+    );
+    Ok(())
+}
+
+fn entry(number: u64, place: &[u8], answer: Answer) -> Result<Entry, Fail> {
+    Ok(Entry {
+        number,
+        key: key(place)?,
+        answer,
+    })
 }
 
 /// An image that was made and not taken.
@@ -166,11 +176,17 @@ fn cut_pages(rt: HostRuntime) -> Result<(), Fail> {
     let bytes = joined(alloc, &FULL)?;
     assert_eq!(rt; bytes.len(), 77);
     for end in 0..bytes.len() {
-        assert!(rt;
-            matches!(take_leaf_image(alloc, &bytes[..end])?, Taken::Bad(0)),
-            "cut at {end}"
-        );
+        is_cut(&rt, alloc, &bytes[..end])?;
     }
+    Ok(())
+}
+
+fn is_cut<A: Abort>(rt: &A, alloc: Global, bytes: &[u8]) -> Result<(), Fail> {
+    assert!(rt;
+        matches!(take_leaf_image(alloc, bytes)?, Taken::Bad(0)),
+        "cut at {}",
+        bytes.len()
+    );
     Ok(())
 }
 

@@ -45,12 +45,16 @@ fn is_spelled<A: Abort>(rt: &A, alloc: Global, record: &Record, text: &str) -> R
 #[test]
 fn ends_of_frames(rt: HostRuntime) -> Result<(), Fail> {
     let log = log_of(rt.alloc())?;
-    assert_eq!(rt; frame_end(&log, 0, 181), FrameEnd::At(9));
-    assert_eq!(rt; frame_end(&log, 18, 181), FrameEnd::At(48));
-    assert_eq!(rt; frame_end(&log, 1, 181), FrameEnd::Bad);
+    ends_at(&rt, &log, 0, FrameEnd::At(9));
+    ends_at(&rt, &log, 18, FrameEnd::At(48));
+    ends_at(&rt, &log, 1, FrameEnd::Bad);
     let cut = bytes_of(rt.alloc(), "0000000000000009 07 00")?;
-    assert_eq!(rt; frame_end(&cut, 0, 181), FrameEnd::Short);
+    ends_at(&rt, &cut, 0, FrameEnd::Short);
     Ok(())
+}
+
+fn ends_at(rt: &impl Abort, bytes: &[u8], at: usize, end: FrameEnd) {
+    assert_eq!(rt; frame_end(bytes, at, 181), end);
 }
 
 #[test]
@@ -130,20 +134,28 @@ fn read_all(bytes: &[u8]) -> (u32, Taken<Record>) {
     (8, Taken::Short)
 }
 
+fn expect_read(rt: &impl Abort, bytes: &[u8], count: u32, end: Taken<Record>) {
+    assert_eq!(rt; read_all(bytes), (count, end));
+}
+
+fn expect_short(rt: &impl Abort, bytes: &[u8], at: usize) {
+    assert_eq!(rt; take_record(bytes, at), Taken::Short);
+}
+
 #[test]
 fn damaged_logs(rt: HostRuntime) -> Result<(), Fail> {
     let mut log = log_of(rt.alloc())?;
     assert_eq!(rt; log.len(), 140);
-    assert_eq!(rt; read_all(&log), (7, Taken::Short));
+    expect_read(&rt, &log, 7, Taken::Short);
     // an Answer to another record, and another Answer: whole records, whether they fit or not
     log[64] = 2;
-    assert_eq!(rt; read_all(&log), (7, Taken::Short));
+    expect_read(&rt, &log, 7, Taken::Short);
     log[65] = 6;
-    assert_eq!(rt; read_all(&log), (7, Taken::Short));
+    expect_read(&rt, &log, 7, Taken::Short);
     log.truncate(103);
-    assert_eq!(rt; read_all(&log), (5, Taken::Short));
+    expect_read(&rt, &log, 5, Taken::Short);
     log.truncate(102);
-    assert_eq!(rt; read_all(&log), (4, Taken::Short));
+    expect_read(&rt, &log, 4, Taken::Short);
     Ok(())
 }
 
@@ -152,13 +164,13 @@ fn a_cut_and_a_bad_frame(rt: HostRuntime) -> Result<(), Fail> {
     let text = "0000000000000001 01 0000000000000001 02 0000000000000009 06 0000000000000002";
     let mut log = bytes_of(rt.alloc(), text)?;
     assert_eq!(rt; log.len(), 35);
-    assert_eq!(rt; take_record(&log, 36), Taken::Short);
+    expect_short(&rt, &log, 36);
     log[17] = 9;
-    assert_eq!(rt; read_all(&log), (1, Taken::Bad(9)));
+    expect_read(&rt, &log, 1, Taken::Bad(9));
     log[17] = 2;
     log.truncate(30);
-    assert_eq!(rt; read_all(&log), (2, Taken::Short));
-    assert_eq!(rt; take_record(&log, 18), Taken::Short);
+    expect_read(&rt, &log, 2, Taken::Short);
+    expect_short(&rt, &log, 18);
     Ok(())
 }
 

@@ -2,6 +2,7 @@
 use codec::Rows;
 use record_key::{Key, Refusal, Value};
 use std::alloc::Global;
+use std::process::Abort;
 use std::test::Fail;
 
 /// Rows of these keys and values.
@@ -40,12 +41,20 @@ fn a_copy_is_equal(rt: HostRuntime) -> Result<(), Fail> {
 fn other_rows_differ(rt: HostRuntime) -> Result<(), Fail> {
     let alloc = rt.alloc();
     let rows = rows_of(alloc, &SEVERAL)?;
-    let key = rows_of(alloc, &[(b"a", b"1"), (b"bb", b""), (b"c", b"three")])?;
-    assert_ne!(rt; rows, key);
-    let value = rows_of(alloc, &[(b"a", b"1"), (b"b", b""), (b"c", b"tree")])?;
-    assert_ne!(rt; rows, value);
-    assert_ne!(rt; rows, rows_of(alloc, &SEVERAL[..2])?);
-    assert_ne!(rt; rows_of(alloc, &[])?, rows);
+    differs(&rt, &rows, &[(b"a", b"1"), (b"bb", b""), (b"c", b"three")])?;
+    differs(&rt, &rows, &[(b"a", b"1"), (b"b", b""), (b"c", b"tree")])?;
+    differs(&rt, &rows, &SEVERAL[..2])?;
+    differs(&rt, &rows, &[])
+}
+
+fn differs<R: Abort + AllocGlobal>(
+    rt: &R,
+    rows: &Rows,
+    texts: &[(&[u8], &[u8])],
+) -> Result<(), Fail> {
+    let others = rows_of(rt.alloc(), texts)?;
+    assert_ne!(rt; rows, &others);
+    assert_ne!(rt; &others, rows);
     Ok(())
 }
 
