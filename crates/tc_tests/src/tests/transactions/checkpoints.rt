@@ -23,31 +23,35 @@ fn causes(tc: &Tc<MemLog>, low: u64) -> [Option<Refusal>; 2] {
     [tc.can_announce(low).err(), tc.can_checkpoint().err()]
 }
 
+/// Each is refused for its cause, in the order of these.
+fn expect_refusals(rt: &impl Abort, tc: &mut Tc<MemLog>, low: u64, want: [Option<Refusal>; 2]) {
+    assert_eq!(rt; causes(tc, low), want);
+    assert_eq!(rt; refusals(tc, low), want);
+}
+
 #[test]
 fn refused_in_order(rt: HostRuntime) -> Result<(), Fail> {
     let mut tc = failing(rt.alloc(), 0);
-    refused_in_order_on(&rt, &mut tc)?;
+    refused_in_order_on(&rt, &mut tc)
+}
+
+fn refused_in_order_on(rt: &impl Abort, tc: &mut Tc<MemLog>) -> Result<(), Fail> {
+    expect_refusals(rt, tc, 9, [Some(Refusal::NotConnected); 2]);
+    reconnect(tc)?;
+    expect_refusals(rt, tc, 9, [Some(Refusal::Redoing); 2]);
+    Ok(())
+}
+
+/// The operation's answer isn't stable.
+#[test]
+fn refused_beyond_stable(rt: HostRuntime) -> Result<(), Fail> {
     let mut tc = failing(rt.alloc(), 0);
     refused_beyond_stable_on(&rt, &mut tc)
 }
 
-fn refused_in_order_on(rt: &impl Abort, tc: &mut Tc<MemLog>) -> Result<(), Fail> {
-    assert_eq!(rt; causes(tc, 9), [Some(Refusal::NotConnected); 2]);
-    assert_eq!(rt; refusals(tc, 9), [Some(Refusal::NotConnected); 2]);
-    reconnect(tc)?;
-    assert_eq!(rt; causes(tc, 9), [Some(Refusal::Redoing); 2]);
-    assert_eq!(rt; refusals(tc, 9), [Some(Refusal::Redoing); 2]);
-    Ok(())
-}
-
 fn refused_beyond_stable_on(rt: &impl Abort, tc: &mut Tc<MemLog>) -> Result<(), Fail> {
     inserted(tc)?;
-    assert_eq!(rt; causes(tc, 3), [Some(Refusal::BeyondStable), None]);
-    assert_eq!(rt;
-        refusals(tc, 3),
-        [Some(Refusal::BeyondStable), None],
-        "its answer isn't stable"
-    );
+    expect_refusals(rt, tc, 3, [Some(Refusal::BeyondStable), None]);
     Ok(())
 }
 

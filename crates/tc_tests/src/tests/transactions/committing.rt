@@ -20,13 +20,11 @@ fn a_commit_is_not_told_when_the_device_fails_on(
     Ok(())
 }
 
-/// The third call of the device appends the Begin record, the fourth the operation.
+/// The third call of the device appends the Begin record.
 #[test]
-fn a_refused_record_leaves_nothing(rt: HostRuntime) -> Result<(), Fail> {
+fn a_refused_begin_leaves_nothing(rt: HostRuntime) -> Result<(), Fail> {
     let mut tc = failing(rt.alloc(), 3);
-    a_refused_begin_on(&rt, &mut tc)?;
-    let mut tc = failing(rt.alloc(), 4);
-    a_refused_operation_on(&rt, &mut tc)
+    a_refused_begin_on(&rt, &mut tc)
 }
 
 fn a_refused_begin_on(rt: &impl Abort, tc: &mut Tc<MemLog>) -> Result<(), Fail> {
@@ -35,6 +33,13 @@ fn a_refused_begin_on(rt: &impl Abort, tc: &mut Tc<MemLog>) -> Result<(), Fail> 
     assert_eq!(rt; begin(tc), Ok(2));
     assert_eq!(rt; tc.open_txn(3), None);
     Ok(())
+}
+
+/// The fourth appends the operation.
+#[test]
+fn a_refused_operation_leaves_nothing(rt: HostRuntime) -> Result<(), Fail> {
+    let mut tc = failing(rt.alloc(), 4);
+    a_refused_operation_on(&rt, &mut tc)
 }
 
 fn a_refused_operation_on(rt: &impl Abort, tc: &mut Tc<MemLog>) -> Result<(), Fail> {

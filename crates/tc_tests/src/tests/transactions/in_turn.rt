@@ -51,6 +51,12 @@ fn after(session: u64, count: u64) -> u64 {
     session.wrapping_add(count)
 }
 
+/// So many records are logged, and all are stable.
+fn expect_stable(rt: &impl Abort, tc: &Tc<MemLog>, end: u64) {
+    assert_eq!(rt; tc.records(), end);
+    assert_eq!(rt; tc.stable_end(), end);
+}
+
 /// An insert is rolled back.
 fn insert_rolled_back_on(rt: &impl Abort, tc: &mut Tc<MemLog>) -> Result<(), Fail> {
     let session = session_on(tc)?;
@@ -61,12 +67,10 @@ fn insert_rolled_back_on(rt: &impl Abort, tc: &mut Tc<MemLog>) -> Result<(), Fai
     let undone = compensated_on(tc, session, txn, &deleted)?;
     assert_eq!(rt; undo_again(tc, txn), Ok(UndoStep::RolledBack(txn)));
     force_again(tc)?;
-    assert_eq!(rt;
-        (txn, number, undone),
-        (after(session, 1), after(session, 2), after(session, 4))
-    );
-    let end = after(session, 6);
-    assert_eq!(rt; (tc.records(), tc.stable_end()), (end, end));
+    assert_eq!(rt; txn, after(session, 1));
+    assert_eq!(rt; number, after(session, 2));
+    assert_eq!(rt; undone, after(session, 4));
+    expect_stable(rt, tc, after(session, 6));
     Ok(())
 }
 
