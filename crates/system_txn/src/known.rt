@@ -1,11 +1,10 @@
 //! Which leaves are there after the records of a log, and which record may come next.
-ghost use Rattle.std.specs.Prelude.{◌≡◌, ◌∷◌, [], List, OnOk, IfOk, IfErr};
+ghost use Rattle.std.specs.Prelude.{◌≡◌, ◌∷◌, [], List, OnOk, IfOk};
+ghost use Rattle.codec.specs.DcRecords.{IsDcRecord};
 ghost use Rattle.codec.specs.declared.dc_record.DcRecord.{DcRecord};
 ghost use Rattle.system_txn.specs.Known.{may_follow, IsKnown};
 
-use crate::parts::LAST_NUMBER;
 use codec::DcRecord;
-use record_key::Refusal;
 use std::alloc::{AllocError, Global};
 use std::collections::BTreeSet;
 
@@ -49,20 +48,16 @@ impl Known {
         }
     }
 
-    /// Takes in a record. Refused NoMemory, also where no leaf after it could have a number.
-    pub(crate) fn follow(&mut self, next: &DcRecord) -> Result<(), Refusal>
-        ensures followed { OnOk result ((log : List DcRecord) → IsKnown log self.old
-            → IsKnown (next.now ∷ log) self.new) }
-        ensures cause { IfErr result (λ refusal. refusal ≡ Refusal.NoMemory) }
+    /// Takes in a record that has a spelling.
+    pub(crate) fn follow(&mut self, next: &DcRecord) -> Result<(), AllocError>
+        requires { IsDcRecord next.now }
+        ensures { OnOk result ((log : List DcRecord) → IsKnown log self.old → IsKnown (next.now ∷ log) self.new) }
     {
         match next {
             DcRecord::Accept { session } => {
                 self.stored_session = (*session).max(self.stored_session);
             }
             DcRecord::Split { right, .. } => {
-                if right.id > LAST_NUMBER {
-                    return Err(Refusal::NoMemory);
-                }
                 self.leaves.insert(right.id)?;
                 self.next_id = right.id + 1;
             }

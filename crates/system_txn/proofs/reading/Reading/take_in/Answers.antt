@@ -20,4 +20,4 @@ returns-clause-taken c =
     let room : length (log_so_far old) < 281474976710655 = grind (arith, common_steps) in
     reading_more old new c.args.found c.requires.right c.requires.fits may room c.in_ok-push.ensures.items
     c.in_ok-push-2.ensures.items c.requires.next
-    (c.in_ok-follow.ensures.followed (log_so_far old) c.requires.right.known)
+    (c.in_ok-follow.ensures (log_so_far old) c.requires.right.known)
