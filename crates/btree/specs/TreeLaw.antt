@@ -40,8 +40,8 @@ AreCaptured log leaves =
     AllByRecursion (λ (leaf : LeafView).
     AllByRecursion (λ (other : LeafView). IsCapturedTo log leaf other.ab.low) leaves) leaves
 
--- what is true of leaves that have every key once among them: they are one table, a new number does to it what it does at
--- its leaf, raised low numbers, splits and merges leave it, and honest leaves stay honest
+-- what is true of leaves that have every key once among them: they are one table, a new number does to it what it does
+-- at its leaf, raised low numbers, splits and merges leave it, and honest leaves stay honest
 pub record TreeLaw : Type 0 where
   pub one : (leaves : List LeafView) → AreLeaves leaves → OneTable leaves
   pub performs : (leaves : List LeafView) (n : ℕ) (o : Op) → AreLeaves leaves

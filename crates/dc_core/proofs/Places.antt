@@ -138,7 +138,8 @@ module _ (bytes marks : List ℕ) (count : ℕ) (h : AreKept bytes marks count) 
   ends_more : length (bytes ++ spelling) ≡ place_at (bytes ++ spelling) (count + 1)
   ends_more =
       length-append bytes spelling ∙ ap (λ (n : ℕ). n + length spelling) (sym ends)
-      ∙ sym (after_stands (bytes ++ spelling) place p (stands bytes (places_of bytes count) h.spelled p fits place ends))
+      ∙ sym (after_stands (bytes ++ spelling) place p
+      (stands bytes (places_of bytes count) h.spelled p fits place ends))
       ∙ ap (after (bytes ++ spelling)) here
       ∙ sym (place_next (bytes ++ spelling) count)
 

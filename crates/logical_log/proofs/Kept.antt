@@ -14,7 +14,8 @@ use Rattle.logical_log.proofs.Answered.{part_longer, part_whole}
 -- all records of a log are stable, and forced
 pub kept_all : (w : Bool) (frames : FramesView) (answered : ℕ) (forced pending : List ℕ) → frames.left ≡ []
     → forced ≡ spelled frames.records → pending ≡ []
-    → IsLatest (FitsCheckpoint frames.records) answered → IsKept w frames (length frames.records) answered forced pending
+    → IsLatest (FitsCheckpoint frames.records) answered
+    → IsKept w frames (length frames.records) answered forced pending
 kept_all w frames answered forced pending read f p latest = record {
   all_read = read;
   within = omega arith;
@@ -44,7 +45,8 @@ kept_empty w forced pending f p =
 -- a record is appended
 pub kept_longer : (w : Bool) (frames : FramesView) (stable answered : ℕ) (forced pending : List ℕ) (r : Record)
     → IsKept w frames stable answered forced pending
-    → IsKept w (record frames { records = r ∷ frames.records }) stable answered forced (pending ++ frame (record_bytes r))
+    → IsKept w (record frames { records = r ∷ frames.records }) stable answered forced
+    (pending ++ frame (record_bytes r))
 unfolding spelled
 kept_longer w frames stable answered forced pending r h = record {
   all_read = h.all_read;

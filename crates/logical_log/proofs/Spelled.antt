@@ -56,7 +56,10 @@ stands_older : (q : Record) (log : List Record) (rest : List ℕ) (place : ℕ) 
     → StandsAt (spelled log ++ (frame (record_bytes q) ++ rest)) place r
     → StandsAt (spelled (q ∷ log) ++ rest) place r
 unfolding spelled
-stands_older q log rest place r h = record { rest = h.rest; is = ap (drop place) (append_assoc (spelled log) (frame (record_bytes q)) rest) ∙ h.is }
+stands_older q log rest place r h = record {
+  rest = h.rest;
+  is = ap (drop place) (append_assoc (spelled log) (frame (record_bytes q)) rest) ∙ h.is;
+}
 
 -- the frame of each number's record stands at its place
 pub stands : (log : List Record) (rest : List ℕ) (n : ℕ) (r : Record) → record_at log n ≡ Some r

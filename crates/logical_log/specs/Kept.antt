@@ -30,8 +30,8 @@ pub record AreIndexed (log : List Record) (bytes left marks : List ℕ) (count :
   pub indexes : Indexes bytes marks count
   pub ends : end ≡ place_at bytes count
 
--- all bytes are frames, the device holds just these, and the stable records are among what every crash leaves; where the
--- device forces all or nothing, they are just what it leaves
+-- all bytes are frames, the device holds just these, and the stable records are among what every crash leaves; where
+-- the device forces all or nothing, they are just what it leaves
 pub record IsKept (whole : Bool) (frames : FramesView) (stable answered : ℕ) (forced pending : List ℕ) : Type 0 where
   pub all_read : frames.left ≡ []
   pub within : stable ≤ length frames.records

@@ -70,8 +70,9 @@ kept_longer w log stable forced pending begins end next_id r next h fits is = (
 )
 
 -- the device holds just the records' frames, all of them forced
-pub kept_stable : (w : Bool) (log : List DcRecord) (forced pending begins : List ℕ) (end next_id : ℕ) → forced ≡ spelled log
-    → pending ≡ [] → AreFrames log begins end next_id → IsKept w log (length log) forced pending begins end next_id
+pub kept_stable : (w : Bool) (log : List DcRecord) (forced pending begins : List ℕ) (end next_id : ℕ)
+    → forced ≡ spelled log → pending ≡ [] → AreFrames log begins end next_id
+    → IsKept w log (length log) forced pending begins end next_id
 kept_stable w log forced pending begins end next_id all none frames = (
   record {
     within = omega arith;
@@ -87,7 +88,8 @@ kept_stable w log forced pending begins end next_id all none frames = (
 )
 
 -- all records are forced
-pub kept_forced : (w : Bool) (log : List DcRecord) (stable : ℕ) (forced pending forced' pending' begins : List ℕ) (end next_id : ℕ)
+pub kept_forced : (w : Bool) (log : List DcRecord) (stable : ℕ) (forced pending forced' pending' begins : List ℕ)
+    (end next_id : ℕ)
     → IsKept w log stable forced pending begins end next_id → forced' ≡ forced ++ pending → pending' ≡ []
     → IsKept w log (length log) forced' pending' begins end next_id
 kept_forced w log stable forced pending forced' pending' begins end next_id h f p =

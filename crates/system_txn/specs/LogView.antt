@@ -15,8 +15,8 @@ pub record ChangeLogView : Type 0 where
   pub stable : ℕ
   pub failures : ℕ
 
--- the device holds just the frames of the records, and the stable ones are among what every crash leaves; where it forces
--- all or nothing, they are just what it leaves
+-- the device holds just the frames of the records, and the stable ones are among what every crash leaves; where it
+-- forces all or nothing, they are just what it leaves
 pub record IsStored (whole : Bool) (log : List DcRecord) (stable : ℕ) (forced pending : List ℕ) : Type 0 where
   pub within : stable ≤ length log
   pub stored : forced ++ pending ≡ spelled log

@@ -79,8 +79,8 @@ impl<D: LogDevice> Tc<D> {
         }
     }
 
-    /// The log's device, as a crash finds it: all records stand on it, and the stable ones are forced; no others are, where
-    /// it forces all or nothing.
+    /// The log's device, as a crash finds it: all records stand on it, and the stable ones are forced; no others are,
+    /// where it forces all or nothing.
     pub fn stop(self) -> D
         ensures holds { D.forced result ++ D.pending result ≡ spelled self.log }
         ensures forced { BeginsWith (D.forced result) (spelled (stable_part self.log self.stable)) }

@@ -374,7 +374,8 @@ pub stands_lost_ended : (w : TcView) (m : Machine) (t : ℕ) (l : LosersView) �
     → StandsFor (clients w) m → Leads (clients w) m (TellsLost t) (clients (lost_ended w t l))
 stands_lost_ended w m t l k after same loser stands =
     let end : Record = is.End t in
-    let told = losers_are_told (clients w) m t after.legal stands (loser_listed w.log w.losers k.lost.losers t loser) in (
+    let listed = loser_listed w.log w.losers k.lost.losers t loser in
+    let told = losers_are_told (clients w) m t after.legal stands listed in (
       told.0,
       told.1,
       stands_along (record (after_lost (clients w) t) { spans = put (clients w).spans t [] })

@@ -221,8 +221,8 @@ crash_is v more bytes kept log log' pages later is rec c again =
           again,
     )
 
-pub crash_found : (v : SystemView) (more bytes kept : ℕ) (log log' : LogState) (pages : PagesState) (later : List DcRecord)
-    → IsSystem v → IsRecoverable v → IsCrash v more bytes kept log log' pages
+pub crash_found : (v : SystemView) (more bytes kept : ℕ) (log log' : LogState) (pages : PagesState)
+    (later : List DcRecord) → IsSystem v → IsRecoverable v → IsCrash v more bytes kept log log' pages
     → HoldsFrames log'.forced later → IsDc (found_on log' pages later)
 crash_found v more bytes kept log log' pages later is rec c again =
     let x = crash_is v more bytes kept log log' pages later is rec c again in

@@ -64,8 +64,9 @@ module _ (w : TcView) (device : LogState) where
       ∙ ap (λ l. length (spelled l)) (part_all w.log (length w.log) (omega arith))
       ∙ sym (ap length holds) ∙ length-append device.forced device.pending
 
-  pub tc_crash_of : (more bytes kept end cut : ℕ) (device' : LogState) → end ≡ length device.forced + length device.pending
-      → cut ≡ kept - (end - length device.pending) → IsHalted w device
+  pub tc_crash_of : (more bytes kept end cut : ℕ) (device' : LogState)
+      → end ≡ length device.forced + length device.pending → cut ≡ kept - (end - length device.pending)
+      → IsHalted w device
       → device' ≡ with_bytes device (device.forced ++ take cut device.pending) []
       → MayLeave device.forced device.pending device'.forced
       → kept ≡ bytes_left (tc_size w.log) w.stable (length w.log) more bytes

@@ -22,6 +22,7 @@ returns c =
     ∙ (λ i. lesser (c.stable_end.ensures i + c.args.frames) (c.records-records.ensures i)) in
     let next : c.after.result ≡ lesser (stable + c.args.frames + 1) count = c.after.ensures.least
     ∙ (λ i. lesser (whole i + 1) (c.records-records.ensures i)) ∙ lesser_next (stable + c.args.frames) count in
-    let end : c.end_of-end.result ≡ size (lesser (stable + c.args.frames) count) = c.end_of-end.ensures ∙ ap size whole in
+    let end : c.end_of-end.result ≡ size (lesser (stable + c.args.frames) count) =
+    c.end_of-end.ensures ∙ ap size whole in
     let last : c.end_of.result ≡ size (lesser (stable + c.args.frames + 1) count) = c.end_of.ensures ∙ ap size next in
     c.with_part.ensures ∙ (λ i. lesser (end i + c.args.bytes) (last i))

@@ -13,5 +13,5 @@ invariant_of-result g c =
     let forced : g.D.LogDevice.forced c.cut_left.new.device ≡ spelled frames.records = c.in_default.ensures.forced
     ∙ ap spelled (sym same) in
     rw c.len-stable.ensures.count
-    (kept_all g.D.LogDevice.forces_whole frames c.answered_from-answered.result _ _ read forced c.in_default.ensures.pending
-    c.answered_from-answered.ensures)
+    (kept_all g.D.LogDevice.forces_whole frames c.answered_from-answered.result _ _ read forced
+    c.in_default.ensures.pending c.answered_from-answered.ensures)

@@ -9,7 +9,8 @@ use Rattle.system_txn.proofs.change_log.ChangeLog.append.Goals as goal
 
 -- one record more
 now : (g : Rattle.system_txn.proofs.change_log.ChangeLog.append.Given.Over) (c : goal.After-self-2-1 g)
-    → IsKept g.D.LogDevice.forces_whole (record_in c.args.change.now ∷ records_at (g.D.LogDevice.forced c.self.inside.device
+    → IsKept g.D.LogDevice.forces_whole
+    (record_in c.args.change.now ∷ records_at (g.D.LogDevice.forced c.self.inside.device
     ++ g.D.LogDevice.pending c.self.inside.device) c.self.inside.places.items) c.self.inside.stable
     (g.D.LogDevice.forced c.append.new.self) (g.D.LogDevice.pending c.append.new.self)
     c.push_reserved.new.self.items c.in-Some.end c.id_after-self-inside.result
@@ -27,8 +28,9 @@ now g c =
     let end : c.in-Some.end ≡ m.end + length f = c.in-Some.ensures.1
     ∙ ap (λ (n : ℕ). m.end + n) c.in_ok-len.ensures.length in
     rw (c.append.ensures.forced, bytes, begins, end)
-    (kept_longer g.D.LogDevice.forces_whole log m.stable forced pending m.places.items m.end m.next_id r c.id_after-self-inside.result
-    c.self.invariant c.in_ok-len.ensures.fits (c.id_after-self-inside.ensures log c.self.invariant.1.next_is))
+    (kept_longer g.D.LogDevice.forces_whole log m.stable forced pending m.places.items m.end m.next_id r
+    c.id_after-self-inside.result c.self.invariant c.in_ok-len.ensures.fits
+    (c.id_after-self-inside.ensures log c.self.invariant.1.next_is))
 
 pub invariant_of-self-2 : goal.invariant_of-self-2
 invariant_of-self-2 g c = kept_so _ _ _ _ _ _ _ _ (now g c)

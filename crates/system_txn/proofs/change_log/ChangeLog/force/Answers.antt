@@ -17,8 +17,8 @@ now g c =
     let items = m.places.items in
     let len : c.len.result ≡ length items = grind (arith, common_steps) in
     rw (len ∙ ap length c.self.invariant.1.begins_are ∙ length-places _)
-    (kept_forced g.D.LogDevice.forces_whole _ m.stable _ _ _ _ items m.end m.next_id c.self.invariant c.in_default.ensures.all_forced
-    c.in_default.ensures.none_pending)
+    (kept_forced g.D.LogDevice.forces_whole _ m.stable _ _ _ _ items m.end m.next_id c.self.invariant
+    c.in_default.ensures.all_forced c.in_default.ensures.none_pending)
 
 pub invariant_of-self-2 : goal.invariant_of-self-2
 invariant_of-self-2 g c = kept_so _ _ _ _ _ _ _ _ (now g c)

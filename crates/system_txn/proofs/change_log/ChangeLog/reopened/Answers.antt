@@ -15,8 +15,8 @@ now g c =
     let count : c.len-stable.result ≡ length c.args.places.items = grind (arith, common_steps) in
     let frames = c.requires.records.2 in
     rw (count ∙ ap length frames.begins_are ∙ length-places log)
-    (kept_stable g.D.LogDevice.forces_whole log _ _ c.args.places.items c.args.end c.args.next_id c.requires.records.1 c.requires.none_pending
-    frames)
+    (kept_stable g.D.LogDevice.forces_whole log _ _ c.args.places.items c.args.end c.args.next_id c.requires.records.1
+    c.requires.none_pending frames)
 
 pub invariant_of-result : goal.invariant_of-result
 invariant_of-result g c = kept_so _ _ _ _ _ _ _ _ (now g c)

@@ -12,5 +12,6 @@ down dc = record { up = false; dc = dc }
 pub returns-in-Up : goal.returns-in-Up
 returns-in-Up c =
     let crash = c.crashed.ensures in
-    let P : DataComponent → Type 0 = λ old. DcCrashesTo (dc_of old) c.args.frames c.args.bytes true (down c.crashed.result) in
+    let P : DataComponent → Type 0 =
+    λ old. DcCrashesTo (dc_of old) c.args.frames c.args.bytes true (down c.crashed.result) in
     subst P c.in-Up.ensures.value (refl, (crash.0, crash.1, ap down crash.2))

@@ -29,12 +29,12 @@ on-found-requires c =
       failures = c.stop-log.ensures.failures;
     } in
     let crash =
-    crash_of v c.args.frames c.args.bytes c.kept_of-kept.result c.end_of-end.result c.saturating_sub.result log c.crash.new.self
-    c.stop-log.result.pages all
+    crash_of v c.args.frames c.args.bytes c.kept_of-kept.result c.end_of-end.result c.saturating_sub.result log
+    c.crash.new.self c.stop-log.result.pages all
     (omega (arith, c.saturating_sub.ensures, ap length c.pending.ensures)) stopped c.crash.ensures.left
     c.crash.ensures.law c.kept_of-kept.ensures in
-    let left = crash_leaves v c.args.frames c.args.bytes c.kept_of-kept.result log c.crash.new.self c.stop-log.result.pages
-    c.kept.ensures.system c.requires crash in
+    let left = crash_leaves v c.args.frames c.args.bytes c.kept_of-kept.result log c.crash.new.self
+    c.stop-log.result.pages c.kept.ensures.system c.requires crash in
     (beginning v.log left.count, left.holds)
 
 -- the crash, with the records found after it
@@ -54,8 +54,8 @@ crash_then c =
       pages = c.stop-log.ensures.pages;
       failures = c.stop-log.ensures.failures;
     } in
-    crash_of v c.args.frames c.args.bytes c.kept_of-kept.result c.end_of-end.result c.saturating_sub.result log c.crash.new.self
-    c.crash-2.new.self all
+    crash_of v c.args.frames c.args.bytes c.kept_of-kept.result c.end_of-end.result c.saturating_sub.result log
+    c.crash.new.self c.crash-2.new.self all
     (omega (arith, c.saturating_sub.ensures, ap length c.pending.ensures))
     (same_pages v log c.stop-log.result.pages c.crash-2.new.self c.crash-2.ensures stopped)
     c.crash.ensures.left c.crash.ensures.law c.kept_of-kept.ensures

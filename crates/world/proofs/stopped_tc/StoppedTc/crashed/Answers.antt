@@ -27,7 +27,8 @@ on-found-requires c =
     let crash = tc_crash_of w device c.args.frames c.args.bytes c.bytes_kept_of-kept.result c.end_of-end.result
     c.saturating_sub.result c.crash.new.self all (omega (arith, c.saturating_sub.ensures, ap length c.pending.ensures))
     halted c.crash.ensures.left c.crash.ensures.law c.bytes_kept_of-kept.ensures in
-    let left = kept_left w device c.args.frames c.args.bytes c.bytes_kept_of-kept.result c.crash.new.self c.kept.ensures crash in
+    let left = kept_left w device c.args.frames c.args.bytes c.bytes_kept_of-kept.result c.crash.new.self
+    c.kept.ensures crash in
     (stable_part w.log left.count, left.holds)
 
 pub invariant_of-result : goal.invariant_of-result
