@@ -1,4 +1,5 @@
 pub mod Words
+pub mod CommandLine
 pub mod Script
 pub mod Labels
 pub mod Printed

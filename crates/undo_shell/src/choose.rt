@@ -1,8 +1,12 @@
 //! The command line.
-ghost use Rattle.std.specs.Prelude.{◌≡◌, IfOk};
+ghost use Rattle.std.specs.Prelude.{◌≡◌, IfOk, map};
+ghost use Rattle.clap.specs.Kinds.{FailsBy};
+ghost use Rattle.clap.specs.Faults.{fault_of};
+ghost use Rattle.clap.specs.Simple.{app_of};
+ghost use Rattle.undo_shell.specs.CommandLine.{command_line};
 
 use clap::{Command, Error};
-use std::alloc::Global;
+use std::alloc::{AllocError, Global};
 use std::convert::AsStr;
 
 /// What the command line asks for.
@@ -60,18 +64,28 @@ first line is run.
 Exit status: 0; 2 for a line or a command line outside the grammar; 3 where memory
 or a device failed.";
 
-/// What these words ask for, the first of them the program's name.
+/// What these words ask for, the first of them the program's name. Refused just where they have a fault or ask for
+/// help, with the kind of that, or where memory runs out.
 pub fn choose<S: AsStr>(alloc: Global, words: &[S]) -> Result<Task, Error>
-    ensures { IfOk result (λ task. task ≡ Task.Run) }
+    ensures task { IfOk result (λ task. task ≡ Task.Run) }
+    ensures fault { FailsBy (fault_of command_line (map S.text words.now)) result }
+{
+    match command_line(alloc)?.try_get_matches_from(words) {
+        Ok(_) => Ok(Task::Run),
+        Err(fault) => Err(fault),
+    }
+}
+
+/// The program and its subcommand.
+fn command_line<'a>(alloc: Global) -> Result<Command<'a>, AllocError>
+    ensures { IfOk result (λ program. app_of program ≡ command_line) }
 {
     let run = Command::new(alloc, "run")
         .about("Reads a script from standard input and prints what its lines came to")
         .after_help(LINES);
-    let shell = Command::new(alloc, "undo_shell")
+    Command::new(alloc, "undo_shell")
         .about("A database kernel in two components that undoes by logged compensations")
         .after_help(LINES)
         .subcommand_required(true)
-        .subcommand(run)?;
-    shell.try_get_matches_from(words)?;
-    Ok(Task::Run)
+        .subcommand(run)
 }
