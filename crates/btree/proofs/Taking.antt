@@ -2,7 +2,7 @@
 use Rattle.std.proofs.Common.{◌≡◌, ℕ, List, [], ◌∷◌, Some, refl, sym, ap, ◌∙◌, subst}
 use Rattle.record_key.specs.declared.op.Op.{Op}
 use Rattle.record_key.specs.Table.{Table, key_of, answer_in, after}
-use Rattle.inverse.specs.Inverse.{inverse_of, IsEffective, after_all, AreElsewhere}
+use Rattle.inverse.specs.Inverse.{inverse_of, IsEffective, after_all, AllPassBy}
 use Rattle.inverse.proofs.Undo.{undone}
 use Rattle.page.specs.Leaf.{LeafView}
 use Rattle.btree.specs.Leaves.{AreLeaves, leaf_at, rows_of}
@@ -35,17 +35,17 @@ all_taken leaves (Raises l ∷ steps) kept may =
     further leaves _ (ops_of steps) _ one.rows (all_taken _ steps one.leaves may.1)
 
 pub undone_among : (leaves : List LeafView) (n m : ℕ) (o i : Op) (steps : List TreeStep) → AreLeaves leaves
-    → MayTakeAll leaves (Performs n o ∷ steps) → AreElsewhere (key_of o) (ops_of steps)
+    → MayTakeAll leaves (Performs n o ∷ steps) → AllPassBy o (ops_of steps)
     → inverse_of o (answer_in (leaf_at leaves (key_of o)).rows o) ≡ Some i
     → MayTake (after_steps (performed_at leaves n o) steps) (Performs m i)
     → UndoneAmongLeaves leaves (after_steps (performed_at leaves n o) steps) steps m i
-undone_among leaves n m o i steps kept may elsewhere inverse free =
+undone_among leaves n m o i steps kept may pass inverse free =
     let new : List LeafView = after_steps (performed_at leaves n o) steps in
     let one : PerformsOne leaves n o = performs_one leaves n o kept may.0 in
     let taken : HasTable new (after_all (after (rows_of leaves) o) (ops_of steps)) =
     all_taken leaves (Performs n o ∷ steps) kept may in
     let last : PerformsOne new m i = performs_one new m i taken.kept free in
-    let back = undone (rows_of leaves) o i (ops_of steps) (ap (inverse_of o) (sym one.answer) ∙ inverse) elsewhere in
+    let back = undone (rows_of leaves) o i (ops_of steps) (ap (inverse_of o) (sym one.answer) ∙ inverse) pass in
     record {
       back = record {
         kept = last.kept;

@@ -2,7 +2,7 @@
 use Rattle.std.specs.Prelude.{◌≡◌, ℕ, false, true, List, [], ◌∷◌, Some, map}
 use Rattle.record_key.specs.declared.op.Op.{Op}
 use Rattle.record_key.specs.Table.{Table, key_of, answer_in}
-use Rattle.inverse.specs.Inverse.{inverse_of, IsEffective, after_all, AreElsewhere}
+use Rattle.inverse.specs.Inverse.{inverse_of, IsEffective, after_all, AllPassBy}
 use Rattle.ab_lsn.specs.AbLsn.{captures}
 use Rattle.page.specs.Leaf.{LeafView, raised_to}
 use Rattle.btree.specs.Leaves.{AreLeaves, leaf_at, rows_of}
@@ -51,8 +51,8 @@ pub record HasTable (leaves : List LeafView) (m : Table) : Type 0 where
   pub kept : AreLeaves leaves
   pub rows : rows_of leaves ≡ m
 
--- leaves on which an operation, then any steps with operations on other keys alone, and then its inverse were
--- done hold the rows of the others alone, and the inverse did something
+-- leaves on which an operation, then any steps with operations that pass it by, and then its inverse were done hold
+-- the rows of the others alone, and the inverse did something
 pub record UndoneAmongLeaves (leaves new : List LeafView) (steps : List TreeStep) (m : ℕ) (i : Op) : Type 0 where
   pub back : HasTable (performed_at new m i) (after_all (rows_of leaves) (ops_of steps))
   pub effective : IsEffective (answer_in (leaf_at new (key_of i)).rows i)
@@ -62,7 +62,7 @@ pub record TreeUndoLaw : Type 0 where
   pub steps : (leaves : List LeafView) (steps : List TreeStep) → AreLeaves leaves → MayTakeAll leaves steps
       → HasTable (after_steps leaves steps) (after_all (rows_of leaves) (ops_of steps))
   pub undone : (leaves : List LeafView) (n m : ℕ) (o i : Op) (steps : List TreeStep) → AreLeaves leaves
-      → MayTakeAll leaves (Performs n o ∷ steps) → AreElsewhere (key_of o) (ops_of steps)
+      → MayTakeAll leaves (Performs n o ∷ steps) → AllPassBy o (ops_of steps)
       → inverse_of o (answer_in (leaf_at leaves (key_of o)).rows o) ≡ Some i
       → MayTake (after_steps (performed_at leaves n o) steps) (Performs m i)
       → UndoneAmongLeaves leaves (after_steps (performed_at leaves n o) steps) steps m i

@@ -10,11 +10,11 @@ use Rattle.byteorder.specs.Endian.{big_number}
 use Rattle.byteorder.specs.Numbers.{big_from-take, big_number-reads_back}
 use Rattle.record_key.specs.Table.{Bytes}
 use Rattle.record_key.specs.declared.op.Op.{Op}
-use Rattle.record_key.specs.declared.op.Op.TheVariants.{Insert, Update, Upsert, Delete}
+use Rattle.record_key.specs.declared.op.Op.TheVariants.{Insert, Update, Upsert, Delete, Add}
 use Rattle.record_key.specs.declared.op.Answer.{Answer}
-use Rattle.record_key.specs.declared.op.Answer.TheVariants.{Inserted, Updated, Was, Deleted, Exists, NoRecord}
-use Rattle.codec.specs.Fields.{number, first_number, IsNumber, text, HasLength, IsKey, IsValue, flag, optional, op_bytes, IsOp, answer_bytes, IsAnswer}
-use Rattle.codec.specs.Reading.{Reader, fixed, mapped, below_at, number_at, count_at, bytes_at, text_at, key_at, value_at, row_at, flag_at, optional_at, op_at, answer_at}
+use Rattle.record_key.specs.declared.op.Answer.TheVariants.{Inserted, Updated, Was, Deleted, Exists, NoRecord, NotNumber, Added}
+use Rattle.codec.specs.Fields.{number, first_number, IsNumber, IsAmount, text, HasLength, IsKey, IsValue, flag, optional, op_bytes, IsOp, answer_bytes, IsAnswer}
+use Rattle.codec.specs.Reading.{Reader, fixed, pair, mapped, below_at, number_at, count_at, bytes_at, text_at, key_at, value_at, row_at, flag_at, optional_at, op_at, answer_at}
 use Rattle.codec.proofs.Readers.{IsBytes, IsBytes-drop, IsBytes-take, Takes, Takes-then, IsReader, bind_some, guard_none, pair_reads, mapped_again, IsChoice, fixed_choice, mapped_choice, one_of_takes}
 
 -- ---- numbers
@@ -186,6 +186,16 @@ row_text r = text r.0 ++ text r.1
 abbrev IsRow : Bytes × Bytes → Type 0
 IsRow r = IsKey r.0 × IsValue r.1
 
+-- a key and an amount
+abbrev sum_text : Bytes × ℕ → List ℕ
+sum_text p = text p.0 ++ number p.1
+
+abbrev IsSum : Bytes × ℕ → Type 0
+IsSum p = IsKey p.0 × IsAmount p.1
+
+sum_reads : IsReader (Bytes × ℕ) sum_text IsSum (pair key_at count_at)
+sum_reads = pair_reads Bytes ℕ text IsKey key_at number IsAmount count_at key_reads count_reads
+
 op_again : (o : Op) (rest : List ℕ) → IsOp o → op_at (op_bytes o ++ rest) ≡ Some (o, rest)
 unfolding op_bytes op_at
 op_again (Insert key value) rest fits =
@@ -195,6 +205,9 @@ op_again (Update key value) rest fits =
 op_again (Upsert key value) rest fits =
     mapped_again (Bytes × Bytes) Op row_text IsRow row_at row_reads (λ p. Upsert p.0 p.1) (key, value) rest fits
 op_again (Delete key) rest fits = mapped_again Bytes Op text IsKey key_at key_reads (λ k. Delete k) key rest fits
+op_again (Add key amount) rest fits =
+    mapped_again (Bytes × ℕ) Op sum_text IsSum (pair key_at count_at) sum_reads (λ p. Add p.0 p.1) (key, amount) rest
+    fits
 
 row_choice : (kind : ℕ) (make : Bytes × Bytes → Op) → ((r : Bytes × Bytes) → op_bytes (make r) ≡ kind ∷ row_text r)
     → ((r : Bytes × Bytes) → IsRow r → IsOp (make r)) → IsChoice Op op_bytes IsOp (kind, mapped make row_at)
@@ -206,7 +219,8 @@ unfolding op_bytes op_at
 op_reads = record {
   takes = one_of_takes Op op_bytes IsOp
       ((1, mapped (λ p. Insert p.0 p.1) row_at) ∷ (2, mapped (λ p. Update p.0 p.1) row_at)
-      ∷ (3, mapped (λ p. Upsert p.0 p.1) row_at) ∷ (4, mapped (λ key. Delete key) key_at) ∷ []) (
+      ∷ (3, mapped (λ p. Upsert p.0 p.1) row_at) ∷ (4, mapped (λ key. Delete key) key_at)
+      ∷ (5, mapped (λ p. Add p.0 p.1) (pair key_at count_at)) ∷ []) (
         row_choice 1 (λ p. Insert p.0 p.1) (λ r. refl) (λ r has. has),
         (
           row_choice 2 (λ p. Update p.0 p.1) (λ r. refl) (λ r has. has),
@@ -215,7 +229,11 @@ op_reads = record {
             (
               mapped_choice Bytes Op text IsKey key_at op_bytes IsOp key_reads 4 (λ key. Delete key) (λ key. refl)
                   (λ key has. has),
-              tt,
+              (
+                mapped_choice (Bytes × ℕ) Op sum_text IsSum (pair key_at count_at) op_bytes IsOp sum_reads 5
+                    (λ p. Add p.0 p.1) (λ p. refl) (λ p has. has),
+                tt,
+              ),
             ),
           ),
         ),
@@ -238,6 +256,9 @@ answer_again (Was (Some value)) rest fits = value_again (λ v. Was (Some v)) val
 answer_again (Deleted value) rest fits = value_again (λ v. Deleted v) value rest fits
 answer_again Exists rest fits = refl
 answer_again NoRecord rest fits = refl
+answer_again NotNumber rest fits = refl
+answer_again (Added amount) rest fits =
+    mapped_again ℕ Answer number IsAmount count_at count_reads (λ x. Added x) amount rest fits
 
 value_choice : (kind : ℕ) (make : Bytes → Answer) → ((v : Bytes) → answer_bytes (make v) ≡ kind ∷ text v)
     → ((v : Bytes) → IsValue v → IsAnswer (make v)) → IsChoice Answer answer_bytes IsAnswer (kind, mapped make value_at)
@@ -254,7 +275,7 @@ answer_reads = record {
   takes = one_of_takes Answer answer_bytes IsAnswer
       ((1, fixed Inserted) ∷ (2, mapped (λ v. Updated v) value_at) ∷ (3, fixed (Was None))
       ∷ (4, mapped (λ v. Was (Some v)) value_at) ∷ (5, mapped (λ v. Deleted v) value_at) ∷ (6, fixed Exists)
-      ∷ (7, fixed NoRecord) ∷ []) (
+      ∷ (7, fixed NoRecord) ∷ (8, fixed NotNumber) ∷ (9, mapped (λ x. Added x) count_at) ∷ []) (
         plain_choice 1 Inserted refl tt,
         (
           value_choice 2 (λ v. Updated v) (λ v. refl) (λ v has. has),
@@ -268,7 +289,14 @@ answer_reads = record {
                   plain_choice 6 Exists refl tt,
                   (
                     plain_choice 7 NoRecord refl tt,
-                    tt,
+                    (
+                      plain_choice 8 NotNumber refl tt,
+                      (
+                        mapped_choice ℕ Answer number IsAmount count_at answer_bytes IsAnswer count_reads 9
+                            (λ x. Added x) (λ x. refl) (λ x has. has),
+                        tt,
+                      ),
+                    ),
                   ),
                 ),
               ),
@@ -287,6 +315,8 @@ op_length (Insert key value) fits = omega (arith, length-append (text key) (text
 op_length (Update key value) fits = omega (arith, length-append (text key) (text value), fits.0.1, fits.1.1)
 op_length (Upsert key value) fits = omega (arith, length-append (text key) (text value), fits.0.1, fits.1.1)
 op_length (Delete key) fits = omega (arith, fits.1)
+op_length (Add key amount) fits =
+    omega (arith, length-append (text key) (number amount), length-number amount, fits.0.1)
 
 pub answer_length : (a : Answer) → IsAnswer a → length (answer_bytes a) ≤ 122
 unfolding answer_bytes
@@ -297,3 +327,5 @@ answer_length (Was (Some value)) fits = omega (arith, fits.1)
 answer_length (Deleted value) fits = omega (arith, fits.1)
 answer_length Exists fits = omega arith
 answer_length NoRecord fits = omega arith
+answer_length NotNumber fits = omega arith
+answer_length (Added amount) fits = omega (arith, length-number amount)

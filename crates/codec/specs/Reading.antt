@@ -3,9 +3,9 @@ use Rattle.std.specs.Prelude.{◌≡◌, ℕ, zero, suc, ◌+◌, ◌^◌, List,
 use Rattle.std.specs.List.{list_all}
 use Rattle.record_key.specs.Table.{Bytes}
 use Rattle.record_key.specs.declared.op.Op.{Op}
-use Rattle.record_key.specs.declared.op.Op.TheVariants.{Insert, Update, Upsert, Delete}
+use Rattle.record_key.specs.declared.op.Op.TheVariants.{Insert, Update, Upsert, Delete, Add}
 use Rattle.record_key.specs.declared.op.Answer.{Answer}
-use Rattle.record_key.specs.declared.op.Answer.TheVariants.{Inserted, Updated, Was, Deleted, Exists, NoRecord}
+use Rattle.record_key.specs.declared.op.Answer.TheVariants.{Inserted, Updated, Was, Deleted, Exists, NoRecord, NotNumber, Added}
 use Rattle.history.specs.declared.record.Record.{Record}
 use Rattle.history.specs.declared.record.Record.TheVariants as is
 use Rattle.codec.specs.declared.request.Request.{Request}
@@ -86,7 +86,7 @@ below_at bound bytes = if nat_lt (length bytes) 8 then None else
 abbrev pub number_at : Reader ℕ
 number_at = below_at (2 ^ 48)
 
--- how many follow
+-- how many follow, or an amount
 abbrev pub count_at : Reader ℕ
 count_at = below_at (2 ^ 64)
 
@@ -129,6 +129,7 @@ op_at = one_of (
     ∷ (2, mapped (λ p. Update p.0 p.1) row_at)
     ∷ (3, mapped (λ p. Upsert p.0 p.1) row_at)
     ∷ (4, mapped (λ key. Delete key) key_at)
+    ∷ (5, mapped (λ p. Add p.0 p.1) (pair key_at count_at))
     ∷ [])
 
 unfoldable pub answer_at : Reader Answer
@@ -140,6 +141,8 @@ answer_at = one_of (
     ∷ (5, mapped (λ value. Deleted value) value_at)
     ∷ (6, fixed Exists)
     ∷ (7, fixed NoRecord)
+    ∷ (8, fixed NotNumber)
+    ∷ (9, mapped (λ amount. Added amount) count_at)
     ∷ [])
 
 unfoldable pub record_at : Reader Record

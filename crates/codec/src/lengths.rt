@@ -1,7 +1,7 @@
 //! How many bytes each part of a frame takes. A value of its type has a spelling, by the lengths that the type keeps.
 ghost use Rattle.std.specs.Prelude.{◌≡◌, ◌≤◌, ◌++◌, length, IfSome};
 ghost use Rattle.std.specs.Option.{option_copied};
-ghost use Rattle.codec.specs.Fields.{text, IsKey, IsValue, optional, op_bytes, IsOp, answer_bytes, IsAnswer};
+ghost use Rattle.codec.specs.Fields.{number, IsAmount, text, IsKey, IsValue, optional, op_bytes, IsOp, answer_bytes, IsAnswer};
 
 use record_key::{Answer, Key, Op, Value};
 
@@ -31,6 +31,25 @@ pub(crate) fn row_len(key: &Key, value: &Value) -> usize
     key_len(key) + value_len(value)
 }
 
+#[tactic(auto, unfolding(crate::specs::Fields::number))]
+fn amount_len(amount: u64) -> usize
+    ensures len { result ≡ length (number amount) }
+    ensures bounded { result ≤ 8 }
+    ensures spelled { IsAmount amount }
+{
+    8
+}
+
+/// A key, then an amount.
+fn sum_len(key: &Key, amount: u64) -> usize
+    ensures len { result ≡ length (text key.now ++ number amount) }
+    ensures bounded { result ≤ 41 }
+    ensures key { IsKey key.now }
+    ensures amount { IsAmount amount }
+{
+    key_len(key) + amount_len(amount)
+}
+
 /// A key, then a key or none.
 pub(crate) fn range_len(low: &Key, high: Option<&Key>) -> usize
     ensures len { result ≡ length (text low.now ++ optional text (option_copied high.entry)) }
@@ -52,6 +71,7 @@ pub(crate) fn op_len(op: &Op) -> usize
             1 + row_len(key, value)
         }
         Op::Delete(key) => 1 + key_len(key),
+        Op::Add(key, amount) => 1 + sum_len(key, *amount),
     }
 }
 
@@ -84,7 +104,12 @@ pub(crate) fn answer_len(answer: &Answer) -> usize
     ensures spelled { IsAnswer answer.now }
 {
     match answer {
-        Answer::Inserted | Answer::Was(None) | Answer::Exists | Answer::NoRecord => 1,
+        Answer::Inserted
+        | Answer::Was(None)
+        | Answer::Exists
+        | Answer::NoRecord
+        | Answer::NotNumber => 1,
+        Answer::Added(amount) => 1 + amount_len(*amount),
         Answer::Updated(value) | Answer::Was(Some(value)) | Answer::Deleted(value) => {
             1 + value_len(value)
         }

@@ -22,7 +22,7 @@ pub(crate) fn take_number(bytes: &[u8]) -> Option<(u64, &[u8])>
     }
 }
 
-/// How many follow. There is no bound on it but what the bytes have room for.
+/// How many follow, or an amount. There is no bound on it but what the bytes have room for.
 #[tactic(auto, unfolding(crate::specs::Reading::below_at, crate::specs::Fields::first_number))]
 pub(crate) fn take_count(bytes: &[u8]) -> Option<(u64, &[u8])>
     ensures { Gives (λ x. (x.0, x.1.now)) result (count_at bytes.now) }
@@ -92,6 +92,11 @@ pub(crate) fn take_op(bytes: &[u8]) -> Option<(Op, &[u8])>
             let (key, rest) = take_key(rest)?;
             Some((Op::Delete(key), rest))
         }
+        5 => {
+            let (key, rest) = take_key(rest)?;
+            let (amount, rest) = take_count(rest)?;
+            Some((Op::Add(key, amount), rest))
+        }
         _ => None,
     }
 }
@@ -152,6 +157,11 @@ pub(crate) fn take_answer(bytes: &[u8]) -> Option<(Answer, &[u8])>
         }
         6 => Some((Answer::Exists, rest)),
         7 => Some((Answer::NoRecord, rest)),
+        8 => Some((Answer::NotNumber, rest)),
+        9 => {
+            let (amount, rest) = take_count(rest)?;
+            Some((Answer::Added(amount), rest))
+        }
         _ => None,
     }
 }

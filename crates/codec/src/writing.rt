@@ -104,6 +104,11 @@ pub(crate) fn put_op(out: &mut Vec<u8>, op: &Op)
             put_byte(out, 4);
             put_text(out, key.as_bytes());
         }
+        Op::Add(key, amount) => {
+            put_byte(out, 5);
+            put_text(out, key.as_bytes());
+            put_number(out, *amount);
+        }
     }
 }
 
@@ -155,6 +160,8 @@ pub(crate) fn put_answer(out: &mut Vec<u8>, answer: &Answer)
         }
         Answer::Exists => put_byte(out, 6),
         Answer::NoRecord => put_byte(out, 7),
+        Answer::NotNumber => put_byte(out, 8),
+        Answer::Added(amount) => put_head(out, 9, *amount),
     }
 }
 

@@ -1,9 +1,9 @@
--- When a leaf is honest for a log: of each of its keys it has captured a beginning of what the log does there.
-use Rattle.std.specs.Prelude.{◌≡◌, ℕ, ◌+◌, Bool, true, List, [], ◌∷◌, Option, Some, None, length, if◌then◌else◌}
+-- When a leaf is honest for a log: of what the log does to each of its keys it has captured a beginning, and leaves out
+-- only Adds among Adds.
+use Rattle.std.specs.Prelude.{◌≡◌, ◌⊎◌, ℕ, ◌+◌, Bool, true, List, [], ◌∷◌, Option, Some, None, length, if◌then◌else◌}
 use Rattle.std.specs.List.{AllByRecursion}
-use Rattle.std.specs.Bool.{MatchBool}
 use Rattle.record_key.specs.declared.op.Op.{Op}
-use Rattle.record_key.specs.Table.{Bytes, value_after}
+use Rattle.record_key.specs.Table.{Bytes, AreAdds, value_after}
 use Rattle.history.specs.declared.record.Record.{Record}
 use Rattle.history.specs.Log.{request_of}
 use Rattle.history.specs.Values.{is_on}
@@ -25,10 +25,14 @@ numbered_on k (r ∷ log) = numbered_with k (length log + 1) (request_of r) (num
 abbrev pub AreCaptured : (ℕ → Bool) → List Numbered → Type 0
 AreCaptured cap done = AllByRecursion (λ d. cap d.number ≡ true) done
 
--- the captured ones are a beginning
-abbrev pub IsBeginning : (ℕ → Bool) → List Numbered → Type 0
-IsBeginning cap [] = Unit {0}
-IsBeginning cap (d ∷ done) = MatchBool (cap d.number) (AreCaptured cap done) (IsBeginning cap done)
+-- each is captured, or it and this operation are Adds
+abbrev pub AreCapturedBut : Op → (ℕ → Bool) → List Numbered → Type 0
+AreCapturedBut o cap done = AllByRecursion (λ d. (cap d.number ≡ true) ⊎ AreAdds o d.op) done
+
+-- where one is left out below a captured one, both are Adds
+abbrev pub LeavesOutAdds : (ℕ → Bool) → List Numbered → Type 0
+LeavesOutAdds cap [] = Unit {0}
+LeavesOutAdds cap (d ∷ done) = (cap d.number ≡ true → AreCapturedBut d.op cap done) × LeavesOutAdds cap done
 
 -- the value, or its absence, that the captured ones give
 abbrev pub value_of : (ℕ → Bool) → List Numbered → Option Bytes
@@ -37,5 +41,5 @@ value_of cap (d ∷ done) = if cap d.number then value_after d.op (value_of cap 
 
 -- honest at one key, where the leaf has this value
 pub record IsHonestAt (log : List Record) (cap : ℕ → Bool) (k : Bytes) (value : Option Bytes) : Type 0 where
-  pub beginning : IsBeginning cap (numbered_on k log)
+  pub left_out : LeavesOutAdds cap (numbered_on k log)
   pub right : value ≡ value_of cap (numbered_on k log)

@@ -2,7 +2,7 @@
 use Rattle.std.specs.Prelude.{◌≡◌, ◌⊎◌, ℕ, ◌<◌, ◌≤◌, false, List, [], ◌∷◌, Option, Some, None, IsSome, length}
 use Rattle.record_key.specs.declared.op.Op.{Op}
 use Rattle.record_key.specs.declared.op.Answer.{Answer}
-use Rattle.record_key.specs.Table.{Bytes, key_of}
+use Rattle.record_key.specs.Table.{key_of, AreAdds}
 use Rattle.inverse.specs.Inverse.{inverse_of}
 use Rattle.history.specs.declared.record.Record.{Record}
 use Rattle.history.specs.declared.record.Record.TheVariants as is
@@ -27,9 +27,10 @@ pub record Stands (log : List Record) (t n : ℕ) : Type 0 where
 abbrev pub IsIdle : List Record → ℕ → Type 0
 IsIdle log t = (n : ℕ) (o : Op) → IsStepOf log t n → Requests log n o → IsSome (answer_of log n)
 
--- no other open transaction has an operation on the key, undone or not
-abbrev pub IsKeyFree : List Record → ℕ → Bytes → Type 0
-IsKeyFree log t k = (n u : ℕ) (o : Op) → IsOpBy log n u o → key_of o ≡ k → IsOpen log u → u ≡ t
+-- no other open transaction has an operation on the operation's key, undone or not, unless both are Adds
+abbrev pub IsKeyFree : List Record → ℕ → Op → Type 0
+IsKeyFree log t o =
+    (n u : ℕ) (q : Op) → IsOpBy log n u q → key_of q ≡ key_of o → IsOpen log u → (u ≡ t) ⊎ AreAdds o q
 
 -- the inverse of an answered operation
 pub record Inverts (log : List Record) (u : ℕ) (i : Option Op) : Type 0 where
@@ -40,12 +41,13 @@ pub record Inverts (log : List Record) (u : ℕ) (i : Option Op) : Type 0 where
   pub answered : answer_of log u ≡ Some answer
   pub inverse : i ≡ inverse_of op answer
 
--- an operation: its transaction is open and idle, prev is its latest step, and nobody else open has changed the key
+-- an operation: its transaction is open and idle, prev is its latest step, and nobody else open has changed the key,
+-- but for Adds where it is one
 pub record FitsOp (log : List Record) (t p : ℕ) (o : Op) : Type 0 where
   pub open_txn : IsOpen log t
   pub idle : IsIdle log t
   pub prev : IsLatestOrNone (IsStepOf log t) p
-  pub free : IsKeyFree log t (key_of o)
+  pub free : IsKeyFree log t o
 
 -- an answer: to a request that has none yet
 pub record FitsAnswer (log : List Record) (n : ℕ) : Type 0 where

@@ -8,9 +8,9 @@ use Rattle.record_key.specs.declared.op.Op.{Op}
 use Rattle.record_key.specs.declared.op.Answer.{Answer}
 use Rattle.record_key.specs.declared.refusal.Refusal.{Refusal}
 use Rattle.record_key.specs.declared.refusal.Refusal.TheVariants as no
-use Rattle.record_key.specs.Table.{Bytes, key_of, answer_in}
+use Rattle.record_key.specs.Table.{Bytes, answer_in}
 use Rattle.history.specs.History.{Entry, plain, placed, cross, numbers_of, entries_of}
-use Rattle.history.specs.Spans.{Span, Shared, Exclusive, IsRange, at_key, AnyConflict, rows_in}
+use Rattle.history.specs.Spans.{Span, Shared, IsRange, at_key, changed_span, AnyConflict, rows_in}
 
 -- what a read asks for: the record of a key, or the records of a range, to the end where it has no upper one
 pub data Query : Type 0 where
@@ -113,11 +113,11 @@ IsAboveAll n m =
 
 -- the keys of the transaction's entries, and by choice of its last operation
 abbrev pub entry_spans : ℕ → List Entry → List Span
-entry_spans t h = map (λ e. at_key Exclusive (key_of e.op)) (entries_of t h)
+entry_spans t h = map (λ e. changed_span e.op) (entries_of t h)
 
 abbrev pub last_spans : Option (ℕ × Op) → List Span
 last_spans None = []
-last_spans (Some last) = at_key Exclusive (key_of last.1) ∷ []
+last_spans (Some last) = changed_span last.1 ∷ []
 
 abbrev pub losing : Machine → ℕ → Bool → Txn
 losing m t kept = record {
@@ -199,7 +199,7 @@ IsRollingBack x = (s : Option ℕ) × (x.status ≡ Rolling s)
 
 -- a call for this span meets a holder
 abbrev pub MeetsHolder : Machine → Call → ℕ → Type 0
-MeetsHolder m (ToAct t o) u = HasStatus m t Open × IsHolder m t (at_key Exclusive (key_of o)) u
+MeetsHolder m (ToAct t o) u = HasStatus m t Open × IsHolder m t (changed_span o) u
 MeetsHolder m (ToRead t q) u = HasStatus m t Open × IsHolder m t (asked_span q) u
 MeetsHolder m _ u = ⊥
 
@@ -238,11 +238,11 @@ HasCause m call _ = ⊥
 abbrev pub Step : Machine → Line → Machine → Type 0
 Step m (Begins t) n = IsAboveAll t m × (n ≡ with_txn m t blank)
 Step m (Acts t o k) n =
-    HasStatus m t Open × IsFree m t (at_key Exclusive (key_of o)) × (t < k) × IsAboveAll k m
+    HasStatus m t Open × IsFree m t (changed_span o) × (t < k) × IsAboveAll k m
     × (n ≡ with_txn m t (record (m.txns t) {
       status = Waiting k o;
       last = Some (k, o);
-      spans = at_key Exclusive (key_of o) ∷ (m.txns t).spans;
+      spans = changed_span o ∷ (m.txns t).spans;
     }))
 Step m (TellsAnswer t a) n =
     (k : ℕ) × (o : Op) × HasStatus m t (Waiting k o) × (a ≡ answer_in (plain m.h) o)

@@ -1,5 +1,5 @@
 -- What a log does to a key.
-use Rattle.std.specs.Prelude.{◌≡◌, ℕ, ◌+◌, ◌&&◌, Bool, not, List, [], ◌∷◌, Option, Some, None, length, if◌then◌else◌}
+use Rattle.std.specs.Prelude.{◌≡◌, ℕ, ◌+◌, ◌==◌, ◌&&◌, ◌||◌, Bool, not, List, [], ◌∷◌, Option, Some, None, length, if◌then◌else◌}
 use Rattle.std.specs.Ordering.{eq_by_cmp}
 use Rattle.record_key.specs.declared.op.Op.{Op}
 use Rattle.record_key.specs.declared.op.Answer.{Answer}
@@ -34,6 +34,10 @@ value_where k p (r ∷ log) = value_kept k (length log + 1) p (op_of r) (value_w
 -- what the operations that no compensation names leave there
 abbrev pub value_standing : Bytes → List Record → Option Bytes
 value_standing k log = value_where k (λ n. not (is_crossed log n)) log
+
+-- and what they leave without this one
+abbrev pub value_without : Bytes → ℕ → List Record → Option Bytes
+value_without k u log = value_where k (λ n. not ((n == u) || is_crossed log n)) log
 
 -- each Answer record holds what its operation gets after the requests before it on its key
 abbrev pub IsRight : List Record → ℕ → Answer → Type 0

@@ -2,8 +2,8 @@
 //!
 //! Knows: the table of operations of `record_key`.
 //! Must not know: who undoes, when, or in which order.
-//! Promises the next crates the inverse law: an operation, then others on other keys, then its inverse
-//! leave what the others alone leave, with the same answers, and the inverse is always effective; an
+//! Promises the next crates the inverse law: an operation, then others on other keys, or Adds where it is one, then
+//! its inverse leave what the others alone leave, with the same answers, and the inverse is always effective; an
 //! operation without an inverse left the table as it was.
 #![tactic(auto)]
 
@@ -21,12 +21,14 @@ pub fn inverse(op: &Op, answer: &Answer) -> Option<Op>
         Answer::Inserted | Answer::Was(None) => Some(Op::Delete(key)),
         Answer::Updated(old) | Answer::Was(Some(old)) => Some(Op::Update(key, old.copied())),
         Answer::Deleted(old) => Some(Op::Insert(key, old.copied())),
-        Answer::Exists | Answer::NoRecord => None,
+        Answer::Added(amount) => Some(Op::Add(key, amount.wrapping_neg())),
+        Answer::Exists | Answer::NoRecord | Answer::NotNumber => None,
     }
 }
 
-/// An operation, any others on other keys, and then its inverse leave what the others alone leave.
-/// The others are answered as if neither had been, and the inverse is answered neither Exists nor NoRecord.
+/// An operation, any others on other keys, or Adds where it is one, and then its inverse leave what the others alone
+/// leave. The others are answered as if neither had been, and the inverse is answered neither Exists nor NoRecord nor
+/// NotNumber.
 pub fn inverse_law()
     ensures { Undone }
 {}

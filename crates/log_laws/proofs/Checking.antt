@@ -1,7 +1,9 @@
 -- What holds of every number of a log, from what was read at each.
 use Rattle.std.proofs.Common.{◌≡◌, ◌≢◌, ℕ, ◌+◌, ◌≤◌, ◌⊎◌, Bool, true, false, List, length, IsSome, is_some, refl, sym, ap, ◌∙◌, subst, arith, inl, inr, true≢false, IsTrue, nat_eq, ◌↔◌, not, eqb-true, eq-eqb}
-use Rattle.std.proofs.lemmas.Bool.{cases_eq, cases_Bool}
-use Rattle.record_key.specs.Table.{Bytes}
+use Rattle.std.specs.Prelude.{◌&&◌}
+use Rattle.std.proofs.lemmas.Bool.{cases_eq, cases_Bool, and_parts}
+use Rattle.record_key.specs.declared.op.Op.{Op}
+use Rattle.record_key.specs.Table.{is_add}
 use Rattle.history.specs.declared.record.Record.{Record}
 use Rattle.history.specs.Log.{answer_of, request_in}
 use Rattle.history.specs.Legal.{IsIdle, IsKeyFree, IsLatest, IsLatestOrNone, AreAnswered}
@@ -14,8 +16,8 @@ use Rattle.log_laws.proofs.Undo.{latest_as}
 pub waits_number : (log : List Record) (t n : ℕ) → Waits log t n → IsNumber log n
 waits_number log t n h = step_number log n t h.step
 
-pub blocks_number : (log : List Record) (t : ℕ) (k : Bytes) (n : ℕ) → Blocks log t k n → IsNumber log n
-blocks_number log t k n h = op_number log n h.txn h.op h.is_op
+pub blocks_number : (log : List Record) (t : ℕ) (o : Op) (n : ℕ) → Blocks log t o n → IsNumber log n
+blocks_number log t o n h = op_number log n h.txn h.op h.is_op
 
 pub lacks_number : (log : List Record) (low n : ℕ) → LacksAnswer log low n → IsNumber log n
 lacks_number log low n h = within (λ r. IsSome (request_in r)) (λ e. cc) log n h.requested
@@ -30,13 +32,24 @@ idle_from log t none n o step asks =
     ]
 
 -- where none blocks, the key is free
-pub free_from : (log : List Record) (t : ℕ) (k : Bytes) → ((n : ℕ) → n ≤ length log → Blocks log t k n → ⊥)
-    → IsKeyFree log t k
-free_from log t k none n u o is_op same goes_on =
+pub free_from : (log : List Record) (t : ℕ) (o : Op) → ((n : ℕ) → n ≤ length log → Blocks log t o n → ⊥)
+    → IsKeyFree log t o
+free_from log t o none n u q is_op same goes_on =
     elim (cases_eq u t) [
-      | inl e ↦ e
-      | inr other ↦ absurd (none n (op_number log n u o is_op).bounded
-          (record { txn = u; op = o; is_op = is_op; same_key = same; is_open = goes_on; other = other }))
+      | inl e ↦ inl e
+      | inr other ↦
+          elim (cases_Bool (is_add o && is_add q)) [
+            | inl both ↦ inr (and_parts (is_add o) (is_add q) both)
+            | inr apart ↦ absurd (none n (op_number log n u q is_op).bounded (record {
+              txn = u;
+              op = q;
+              is_op = is_op;
+              same_key = same;
+              apart = apart;
+              is_open = goes_on;
+              other = other;
+            }))
+          ]
     ]
 
 -- where none lacks its answer, all are answered

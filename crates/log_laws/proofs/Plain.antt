@@ -24,7 +24,7 @@ on_or_off true k m o v same e = ap (value_after o) (ap (get m) (sym (same refl))
 on_or_off false k m o v same e = e
 
 -- the value at a key after an operation on it or on another
-get-after : (k : Bytes) (m : Table) (o : Op) (v : Option Bytes) → get m k ≡ v
+pub get-after : (k : Bytes) (m : Table) (o : Op) (v : Option Bytes) → get m k ≡ v
     → get (after m o) k ≡ (if is_on k o then value_after o v else v)
 get-after k m o v e = get-with_record m (key_of o) (value_after o (get m (key_of o))) k
     ∙ on_or_off (is_on k o) k m o v (is_same-true k (key_of o)) e

@@ -1,17 +1,18 @@
 -- Compensations come latest first, an open transaction has its keys to itself, and requests on a key come one at a
--- time.
+-- time, but for Adds.
 use Rattle.std.proofs.Common.{◌≡◌, ◌≢◌, ℕ, ◌+◌, ◌<◌, true, List, [], ◌∷◌, length, Option, Some, None, IsSome, refl, sym, ap, ◌∙◌, subst, arith, inl, inr, ◌⊎◌, true≢false}
 use Rattle.std.proofs.lemmas.Bool.{cases_eq, cases_Bool, cases_order, eq-eqb}
 use Rattle.record_key.specs.declared.op.Op.{Op}
-use Rattle.record_key.specs.Table.{key_of}
+use Rattle.record_key.specs.Table.{key_of, is_add}
 use Rattle.inverse.proofs.Undo.{inverse_key}
 use Rattle.history.specs.declared.record.Record.{Record}
 use Rattle.history.specs.declared.record.Record.TheVariants as is
 use Rattle.history.specs.Log.{record_at, answer_of, has_ended, IsOpen, Requests, IsStepOf, IsOpBy}
 use Rattle.history.specs.Legal.{Fits, IsLegal, IsIdle}
-use Rattle.history.specs.Chains.{IsWellChained, IsStrict, IsEndOf, EndsBetween}
+use Rattle.history.specs.Chains.{IsWellChained, IsStrict, IsEndOf, EndsBetween, adds_next, adds_at}
 use Rattle.log_laws.specs.Laws.{LegalIsChainedAndStrict, LegalIsOneAtATime}
 use Rattle.log_laws.proofs.Records.{AStep, AnOp, ARequest, op_step, op_request, request_step, op_same, at_newest, newest_at, older_at, had_at, kept_at, IsNumber, which, not_newest, within, before_newest, before_older}
+use Rattle.log_laws.proofs.Adding.{adds_newest, adds_kept, both_kept, op_adds, comp_adds}
 use Rattle.log_laws.proofs.LegalLogs.{ended_push, ended_cases, answered_push, step_open, step_idle, step_ends_none, begun, op_number, request_number, step_number}
 
 -- each compensation fits, so it takes the latest and leaves the next
@@ -117,10 +118,14 @@ between_newest r log t n m e h =
       before = omega (arith, is_number.bounded);
     }
 
+-- an operation that is an Add, and a record that does or undoes one
+abbrev AddsToo : Op → List Record → Record → Type 0
+AddsToo o log r = (is_add o ≡ true) × (adds_next log r ≡ true)
+
 -- what strictness says at the newest record
 abbrev StrictAt : Record → List Record → Type 0
 StrictAt r log = (n t u : ℕ) (o q : Op) → IsOpBy log n t o → AStep u (Some r) → ARequest q (Some r) → key_of q
-    ≡ key_of o → u ≢ t → EndsAfter log t n
+    ≡ key_of o → u ≢ t → AddsToo o log r ⊎ EndsAfter log t n
 
 -- an Op needs a free key; a Comp is on the key of its own operation, which is strict towards the other
 strict_at : (r : Record) (log : List Record) → Fits log r → IsLegal log → IsStrict log → StrictAt r log
@@ -129,8 +134,9 @@ strict_at (is.Op v p q') log fits legal strict n t u o q is_op s asks same other
       | inl goes_on ↦
           let one : v ≡ u = cc in
           let ask : q' ≡ q = cc in
-          absurd (other (sym (fits.free n t o is_op (sym same ∙ ap key_of (sym ask)) goes_on ∙ one)))
-      | inr ended ↦ ended
+          elim (fits.free n t o is_op (sym same ∙ ap key_of (sym ask)) goes_on)
+          [ inl mine ↦ absurd (other (sym (mine ∙ one))) | inr both ↦ inl (both.1, both.0) ]
+      | inr ended ↦ inr ended
     ]
 strict_at (is.Comp v w x i) log fits legal strict n t u o q is_op s asks same other =
     let undone = fits.inverse in
@@ -140,18 +146,25 @@ strict_at (is.Comp v w x i) log fits legal strict n t u o q is_op s asks same ot
     subst (λ (z : ℕ). IsOpBy log w z undone.op)
     ((op_same undone.txn v undone.op latest.op (record_at log w) undone.is latest.is).0 ∙ one) undone.is in
     let key : key_of q ≡ key_of undone.op = inverse_key undone.op q undone.answer (sym undone.inverse ∙ asks) in
+    let adds : adds_next log (is.Comp v w x i) ≡ adds_at log w =
+    comp_adds log v w x u i undone.op is_latest ∙ sym (op_adds log w u undone.op is_latest) in
+    let op_too : is_add o ≡ adds_at log n = sym (op_adds log n t o is_op) in
     elim (cases_order n w) [
       | inl e ↦ absurd (other (op_same u t undone.op o (record_at log w) is_latest
           (subst (λ (z : ℕ). IsOpBy log z t o) e is_op)).0)
       | inr (inl below) ↦
-          let found = strict n w t u o undone.op is_op below (op_step u undone.op (record_at log w) is_latest)
-          (op_request u undone.op (record_at log w) is_latest) (sym key ∙ same) other in
-          record { end = found.end; is_end = found.is; after = found.after }
+          elim (strict n w t u o undone.op is_op below (op_step u undone.op (record_at log w) is_latest)
+          (op_request u undone.op (record_at log w) is_latest) (sym key ∙ same) other) [
+            | inl both ↦ inl (op_too ∙ both.0, adds ∙ both.1)
+            | inr found ↦ inr (record { end = found.end; is_end = found.is; after = found.after })
+          ]
       | inr (inr above) ↦
-          let found = strict w n u t undone.op o is_latest above (op_step t o (record_at log n) is_op)
-          (op_request t o (record_at log n) is_op) (sym same ∙ key) (λ e. other (sym e)) in
-          absurd (true≢false (sym (end_ends log u found.end found.is) ∙ ap (has_ended log) (sym one)
-          ∙ fits.open_txn.goes_on))
+          elim (strict w n u t undone.op o is_latest above (op_step t o (record_at log n) is_op)
+          (op_request t o (record_at log n) is_op) (sym same ∙ key) (λ e. other (sym e))) [
+            | inl both ↦ inl (op_too ∙ both.1, adds ∙ both.0)
+            | inr found ↦ absurd (true≢false (sym (end_ends log u found.end found.is) ∙ ap (has_ended log) (sym one)
+                ∙ fits.open_txn.goes_on))
+          ]
     ]
 strict_at _ log fits legal strict n t u o q is_op s asks same other = absurd (cc)
 
@@ -163,15 +176,23 @@ strict (r ∷ log) legal n m t u o q is_op below s asks same other =
       positive = (op_number (r ∷ log) n t o is_op).positive;
       bounded = omega (arith, (step_number (r ∷ log) m u s).bounded);
     } in
+    let was_op : IsOpBy log n t o = had_at (AnOp t o) r log n older is_op in
     elim (which r log m (step_number (r ∷ log) m u s)) [
       | inl e ↦
-          between_newest r log t n m e (strict_at r log legal.0 legal.1 (strict log legal.1) n t u o q
-          (had_at (AnOp t o) r log n older is_op) (newest_at (AStep u) r log m e s)
-          (newest_at (ARequest q) r log m e asks) same other)
+          elim (strict_at r log legal.0 legal.1 (strict log legal.1) n t u o q was_op
+          (newest_at (AStep u) r log m e s) (newest_at (ARequest q) r log m e asks) same other) [
+            | inl too ↦ inl (
+              adds_kept r log n older ∙ op_adds log n t o was_op ∙ too.0,
+              adds_newest r log m e ∙ too.1,
+            )
+            | inr ended ↦ inr (between_newest r log t n m e ended)
+          ]
       | inr was ↦
-          longer_between r log t n m (strict log legal.1 n m t u o q
-          (had_at (AnOp t o) r log n older is_op) below (had_at (AStep u) r log m was s)
-          (had_at (ARequest q) r log m was asks) same other)
+          elim (strict log legal.1 n m t u o q was_op below (had_at (AStep u) r log m was s)
+          (had_at (ARequest q) r log m was asks) same other) [
+            | inl both ↦ inl (both_kept r log n m older was both)
+            | inr ended ↦ inr (longer_between r log t n m ended)
+          ]
     ]
 
 -- the law
@@ -184,25 +205,29 @@ end_idle r log t fits (inl e) = (subst (Fits log) e fits).idle
 end_idle r log t fits (inr e) = (subst (Fits log) e fits).idle
 
 -- an operation on the key of a step's request, of the same transaction: its own, or the one that it undoes
-record OnKey (log : List Record) (t : ℕ) (o : Op) : Type 0 where
+record OnKey (log : List Record) (t n : ℕ) (o : Op) : Type 0 where
   number : ℕ
   op : Op
   is_op : IsOpBy log number t op
   same_key : key_of op ≡ key_of o
+  adds : adds_at log n ≡ is_add op
 
 -- it stays in a longer log
-kept_key : (r : Record) (log : List Record) (t : ℕ) (o : Op) → OnKey log t o → OnKey (r ∷ log) t o
-kept_key r log t o h = record {
+kept_key : (r : Record) (log : List Record) (t n : ℕ) (o : Op) → IsNumber log n → OnKey log t n o
+    → OnKey (r ∷ log) t n o
+kept_key r log t n o number h = record {
   number = h.number;
   op = h.op;
   is_op = kept_at (AnOp t h.op) r log h.number (op_number log h.number t h.op h.is_op) h.is_op;
   same_key = h.same_key;
+  adds = adds_kept r log n number ∙ h.adds;
 }
 
 -- at the newest record
-on_key_newest : (r : Record) (log : List Record) (t : ℕ) (o : Op) → Fits log r → AStep t (Some r) → ARequest o (Some r)
-    → OnKey (r ∷ log) t o
-on_key_newest (is.Op u p q) log t o fits s asks =
+on_key_newest : (r : Record) (log : List Record) (t n : ℕ) (o : Op) → n ≡ length log + 1 → Fits log r
+    → AStep t (Some r) → ARequest o (Some r)
+    → OnKey (r ∷ log) t n o
+on_key_newest (is.Op u p q) log t n o e fits s asks =
     let one : u ≡ t = cc in
     let ask : q ≡ o = cc in
     record {
@@ -210,28 +235,34 @@ on_key_newest (is.Op u p q) log t o fits s asks =
       op = q;
       is_op = at_newest (AnOp t q) (is.Op u p q) log (length log + 1) refl (ap (λ (z : ℕ). Some (z, q)) one);
       same_key = ap key_of ask;
+      adds = adds_newest (is.Op u p q) log n e;
     }
-on_key_newest (is.Comp u w x i) log t o fits s asks =
+on_key_newest (is.Comp u w x i) log t n o e fits s asks =
     let undone = fits.inverse in
     let one : u ≡ t = cc in
     let latest = fits.latest.is in
-    kept_key (is.Comp u w x i) log t o (record {
+    let is_op : IsOpBy log w t undone.op = subst (λ (z : ℕ). IsOpBy log w z undone.op)
+    ((op_same undone.txn u undone.op latest.op (record_at log w) undone.is latest.is).0 ∙ one) undone.is in
+    record {
       number = w;
       op = undone.op;
-      is_op = subst (λ (z : ℕ). IsOpBy log w z undone.op)
-          ((op_same undone.txn u undone.op latest.op (record_at log w) undone.is latest.is).0 ∙ one) undone.is;
+      is_op = kept_at (AnOp t undone.op) (is.Comp u w x i) log w (op_number log w t undone.op is_op) is_op;
       same_key = sym (inverse_key undone.op o undone.answer (sym undone.inverse ∙ asks));
-    })
-on_key_newest _ log t o fits s asks = absurd (cc)
+      adds = adds_newest (is.Comp u w x i) log n e ∙ comp_adds log u w x t i undone.op is_op;
+    }
+on_key_newest _ log t n o e fits s asks = absurd (cc)
 
 -- at any
-on_key : (log : List Record) → IsLegal log → (n t : ℕ) (o : Op) → IsStepOf log t n → Requests log n o → OnKey log t o
+on_key : (log : List Record) → IsLegal log → (n t : ℕ) (o : Op) → IsStepOf log t n → Requests log n o → OnKey log t n o
 on_key [] h n t o s asks = absurd (cc)
 on_key (r ∷ log) h n t o s asks =
     elim (cases_eq n (length log + 1)) [
-      | inl e ↦ on_key_newest r log t o h.0 (newest_at (AStep t) r log n e s) (newest_at (ARequest o) r log n e asks)
-      | inr e ↦ kept_key r log t o
-          (on_key log h.1 n t o (older_at (AStep t) r log n e s) (older_at (ARequest o) r log n e asks))
+      | inl e ↦ on_key_newest r log t n o e h.0 (newest_at (AStep t) r log n e s)
+          (newest_at (ARequest o) r log n e asks)
+      | inr e ↦
+          let asked : Requests log n o = older_at (ARequest o) r log n e asks in
+          kept_key r log t n o (request_number log n o asked)
+          (on_key log h.1 n t o (older_at (AStep t) r log n e s) asked)
     ]
 
 -- a request of a transaction that has ended is answered
@@ -252,21 +283,23 @@ ended_answered (r ∷ log) t n o h ended s asks =
           ])
     ]
 
--- the older of two requests on a key is answered where the newer one fits
+-- the older of two requests on a key is answered where the newer one fits, unless both add
 answered_at : (r : Record) (log : List Record) → Fits log r → IsLegal log → (n t u : ℕ) (o q : Op)
     → IsStepOf log t n → Requests log n o → AStep u (Some r) → ARequest q (Some r) → key_of q ≡ key_of o
-    → IsSome (answer_of log n)
+    → ((adds_at log n ≡ true) × (adds_next log r ≡ true)) ⊎ IsSome (answer_of log n)
 answered_at r log fits legal n t u o q s asks step ask same =
     elim (cases_eq u t) [
-      | inl e ↦ step_idle log r u fits step n o (subst (λ (z : ℕ). IsStepOf log z n) (sym e) s) asks
+      | inl e ↦ inr (step_idle log r u fits step n o (subst (λ (z : ℕ). IsStepOf log z n) (sym e) s) asks)
       | inr other ↦
           let found = on_key log legal n t o s asks in
-          let end = strict_at r log fits legal (strict log legal) found.number t u found.op q found.is_op step ask
-          (same ∙ sym found.same_key) other in
-          ended_answered log t n o legal (end_ends log t end.end end.is_end) s asks
+          elim (strict_at r log fits legal (strict log legal) found.number t u found.op q found.is_op step ask
+          (same ∙ sym found.same_key) other) [
+            | inl too ↦ inl (found.adds ∙ too.0, too.1)
+            | inr end ↦ inr (ended_answered log t n o legal (end_ends log t end.end end.is_end) s asks)
+          ]
     ]
 
--- so requests on a key come one at a time
+-- so requests on a key come one at a time, but for Adds
 pub one_at_a_time : LegalIsOneAtATime
 one_at_a_time [] legal n m o q asks below ask same = absurd (cc)
 one_at_a_time (r ∷ log) legal n m o q asks below ask same =
@@ -280,9 +313,13 @@ one_at_a_time (r ∷ log) legal n m o q asks below ask same =
           let newest : ARequest q (Some r) = newest_at (ARequest q) r log m e ask in
           let by = request_step o (record_at log n) asked in
           let of = request_step q (Some r) newest in
-          before_newest (λ x. IsSome (answer_of x n)) r log m e
-          (answered_at r log legal.0 legal.1 n by.0 of.0 o q by.1 asked of.1 newest same)
+          elim (answered_at r log legal.0 legal.1 n by.0 of.0 o q by.1 asked of.1 newest same) [
+            | inl too ↦ inl (adds_kept r log n older ∙ too.0, adds_newest r log m e ∙ too.1)
+            | inr answered ↦ inr (before_newest (λ x. IsSome (answer_of x n)) r log m e answered)
+          ]
       | inr was ↦
-          before_older (λ x. IsSome (answer_of x n)) r log m (not_newest log m was)
-          (one_at_a_time log legal.1 n m o q asked below (had_at (ARequest q) r log m was ask) same)
+          elim (one_at_a_time log legal.1 n m o q asked below (had_at (ARequest q) r log m was ask) same) [
+            | inl both ↦ inl (both_kept r log n m older was both)
+            | inr answered ↦ inr (before_older (λ x. IsSome (answer_of x n)) r log m (not_newest log m was) answered)
+          ]
     ]

@@ -1,16 +1,17 @@
 -- What a log leaves at a key: by which numbers, split at an operation, and the answers that it gives.
-use Rattle.std.proofs.Common.{◌≡◌, ℕ, ◌+◌, ◌<◌, Bool, true, false, cond, List, [], ◌∷◌, length, Option, Some, None, is_some, refl, sym, ap, ◌∙◌, subst, arith, inl, inr, true≢false, eq-eqb, ne_eqb}
+use Rattle.std.proofs.Common.{◌≡◌, ◌≢◌, ◌⊎◌, ℕ, ◌+◌, ◌<◌, ◌≤◌, Bool, true, false, cond, List, [], ◌∷◌, length, Option, Some, None, is_some, refl, sym, ap, ◌∙◌, subst, arith, inl, inr, true≢false, eq-eqb, ne_eqb}
 use Rattle.std.specs.Prelude.{◌&&◌, if◌then◌else◌}
-use Rattle.std.proofs.lemmas.Bool.{cases_eq}
+use Rattle.std.proofs.lemmas.Bool.{cases_eq, cases_Bool}
 use Rattle.record_key.specs.declared.op.Op.{Op}
 use Rattle.record_key.specs.declared.op.Answer.{Answer}
-use Rattle.record_key.specs.Table.{Bytes, key_of, answer_at, value_after}
+use Rattle.record_key.specs.Table.{Bytes, key_of, is_add, AreAdds, answer_at, value_after}
+use Rattle.record_key.proofs.Adds.{adds_commute, SeenAlike, seen_after, seen_left, seen_right, answered_alike}
 use Rattle.history.specs.declared.record.Record.{Record}
 use Rattle.history.specs.declared.record.Record.TheVariants as is
 use Rattle.history.specs.Log.{before, answer_of, op_of, IsOpBy}
 use Rattle.history.specs.Legal.{IsLegal}
 use Rattle.history.specs.Values.{is_on, value_on, value_kept, value_where, IsRight, HasRightAnswers}
-use Rattle.log_laws.proofs.Records.{AnOp, ARequest, at_newest, newest_at, kept_at, had_at, which, not_newest, before_newest, before_older, before_old}
+use Rattle.log_laws.proofs.Records.{AnOp, ARequest, IsNumber, at_newest, newest_at, kept_at, had_at, which, not_newest, before_newest, before_older, before_new, before_old}
 use Rattle.log_laws.proofs.LegalLogs.{op_number, request_number, unanswered_next, right_rest}
 
 -- an operation that both tests let through, or neither
@@ -75,6 +76,134 @@ value_split k p (r ∷ log) u t o is none =
           (not_newest log u was)
           (value_split k p log u t o (had_at (AnOp t o) r log u was is)
           (λ n v q above by on. none n v q above (kept_at (AnOp v q) r log n (op_number log n v q by) by) on))
+    ]
+
+-- an operation that commutes with what is left of a record may come after it
+passed : (on p : Bool) (o q : Op) (v w : Option Bytes) → (p ≡ true → on ≡ true → AreAdds o q)
+    → v ≡ value_after o w
+    → (if p && on then value_after q v else v) ≡ value_after o (if p && on then value_after q w else w)
+passed true true o q v w both e = ap (value_after q) e ∙ sym (adds_commute.value o q w (both refl refl))
+passed false true o q v w both e = e
+passed true false o q v w both e = e
+passed false false o q v w both e = e
+
+kept_past : (k : Bytes) (n : ℕ) (p : ℕ → Bool) (by : Option (ℕ × Op)) (o : Op) (v w : Option Bytes)
+    → ((t : ℕ) (q : Op) → by ≡ Some (t, q) → is_on k q ≡ true → p n ≡ true → AreAdds o q) → v ≡ value_after o w
+    → value_kept k n p by v ≡ value_after o (value_kept k n p by w)
+kept_past k n p None o v w both e = e
+kept_past k n p (Some by) o v w both e =
+    passed (is_on k by.1) (p n) o by.1 v w (λ passes on. both by.0 by.1 refl on passes) e
+
+-- those above a number that pass are Adds, as this operation is
+abbrev pub AddsAbove : Bytes → (ℕ → Bool) → List Record → ℕ → Op → Type 0
+AddsAbove k p log u o =
+    (n t : ℕ) (q : Op) → u < n → IsOpBy log n t q → is_on k q ≡ true → p n ≡ true → AreAdds o q
+
+-- so the operation may come last, after what is left without it
+pub value_last : (k : Bytes) (p q : ℕ → Bool) (log : List Record) (u t : ℕ) (o : Op) → IsOpBy log u t o
+    → is_on k o ≡ true → p u ≡ true → q u ≡ false → ((n : ℕ) → n ≢ u → p n ≡ q n) → AddsAbove k p log u o
+    → value_where k p log ≡ value_after o (value_where k q log)
+value_last k p q [] u t o is on here gone same above = absurd (cc)
+value_last k p q (r ∷ log) u t o is on here gone same above =
+    let top : ℕ = length log + 1 in
+    elim (which r log u (op_number (r ∷ log) u t o is)) [
+      | inl e ↦
+          let by : op_of r ≡ Some (t, o) = newest_at (AnOp t o) r log u e is in
+          let alike : value_where k p log ≡ value_where k q log =
+          values_alike k p q log (λ n v x is_op _. same n (λ f. omega (arith, e, f, (op_number log n v x is_op).bounded)))
+          in
+          let now : p top ≡ true = ap p (sym e) ∙ here in
+          let never : q top ≡ false = ap q (sym e) ∙ gone in
+          ap (λ b. value_kept k top p b (value_where k p log)) by
+          ∙ ap (λ b. if b && is_on k o then value_after o (value_where k p log) else value_where k p log) now
+          ∙ ap (λ b. if b then value_after o (value_where k p log) else value_where k p log) on
+          ∙ ap (value_after o) (alike
+          ∙ sym (ap (λ b. value_kept k top q b (value_where k q log)) by
+          ∙ ap (λ b. if b && is_on k o then value_after o (value_where k q log) else value_where k q log) never))
+      | inr was ↦
+          let apart : top ≢ u = λ e. omega (arith, e, was.bounded) in
+          kept_past k top p (op_of r) o (value_where k p log) (value_where k q log)
+          (λ v x by on_it passes. above top v x (omega (arith, was.bounded))
+          (at_newest (AnOp v x) r log top refl by) on_it passes)
+          (value_last k p q log u t o (had_at (AnOp t o) r log u was is) on here gone same
+          (λ n v x higher by. above n v x higher (kept_at (AnOp v x) r log n (op_number log n v x by) by)))
+          ∙ ap (value_after o) (kept_alike k top p q (op_of r) (value_where k q log) (value_where k q log)
+          (λ v x by on_it. same top apart) refl)
+    ]
+
+-- and an operation is answered as before those that commute with it
+answer_past : (on p : Bool) (o q : Op) (v : Option Bytes) → (p ≡ true → on ≡ true → AreAdds o q)
+    → answer_at o (if p && on then value_after q v else v) ≡ answer_at o v
+answer_past true true o q v both = adds_commute.answer o q v (both refl refl)
+answer_past false true o q v both = refl
+answer_past true false o q v both = refl
+answer_past false false o q v both = refl
+
+answer_kept : (k : Bytes) (n : ℕ) (p : ℕ → Bool) (by : Option (ℕ × Op)) (o : Op) (v : Option Bytes)
+    → ((t : ℕ) (q : Op) → by ≡ Some (t, q) → is_on k q ≡ true → p n ≡ true → AreAdds o q)
+    → answer_at o (value_kept k n p by v) ≡ answer_at o v
+answer_kept k n p None o v both = refl
+answer_kept k n p (Some by) o v both =
+    answer_past (is_on k by.1) (p n) o by.1 v (λ passes on. both by.0 by.1 refl on passes)
+
+pub answer_below : (k : Bytes) (p : ℕ → Bool) (log : List Record) (u : ℕ) (o : Op) → IsNumber log u
+    → ((n t : ℕ) (q : Op) → u ≤ n → IsOpBy log n t q → is_on k q ≡ true → p n ≡ true → AreAdds o q)
+    → answer_at o (value_where k p log) ≡ answer_at o (value_where k p (before log u))
+answer_below k p [] u o number above = refl
+answer_below k p (r ∷ log) u o number above =
+    let top : ℕ = length log + 1 in
+    let here : answer_at o (value_where k p (r ∷ log)) ≡ answer_at o (value_where k p log) =
+    answer_kept k top p (op_of r) o (value_where k p log) (λ v x by on passes.
+    above top v x (omega (arith, number.bounded)) (at_newest (AnOp v x) r log top refl by) on passes) in
+    elim (which r log u number) [
+      | inl e ↦ here ∙ ap (λ x. answer_at o (value_where k p x)) (sym (before_new r log u e))
+      | inr was ↦
+          here ∙ answer_below k p log u o was
+          (λ n v x higher by. above n v x higher (kept_at (AnOp v x) r log n (op_number log n v x by) by))
+          ∙ ap (λ x. answer_at o (value_where k p x)) (sym (before_old r log u (not_newest log u was)))
+    ]
+
+-- tests that agree on the operations of a key that aren't Adds leave there what an Add sees alike
+seen_chosen : (on p q : Bool) (o : Op) (v w : Option Bytes) → (on ≡ true → (p ≡ q) ⊎ (is_add o ≡ true))
+    → SeenAlike v w
+    → SeenAlike (if p && on then value_after o v else v) (if q && on then value_after o w else w)
+seen_chosen true true true o v w same h = seen_after o v w h
+seen_chosen true false false o v w same h = h
+seen_chosen true true false o v w same h =
+    elim (same refl) [ inl e ↦ absurd (true≢false e) | inr add ↦ seen_left o v w add h ]
+seen_chosen true false true o v w same h =
+    elim (same refl) [ inl e ↦ absurd (true≢false (sym e)) | inr add ↦ seen_right o v w add h ]
+seen_chosen false true true o v w same h = h
+seen_chosen false true false o v w same h = h
+seen_chosen false false true o v w same h = h
+seen_chosen false false false o v w same h = h
+
+seen_kept : (k : Bytes) (n : ℕ) (p q : ℕ → Bool) (by : Option (ℕ × Op)) (v w : Option Bytes)
+    → ((t : ℕ) (o : Op) → by ≡ Some (t, o) → is_on k o ≡ true → (p n ≡ q n) ⊎ (is_add o ≡ true)) → SeenAlike v w
+    → SeenAlike (value_kept k n p by v) (value_kept k n q by w)
+seen_kept k n p q None v w same h = h
+seen_kept k n p q (Some by) v w same h = seen_chosen (is_on k by.1) (p n) (q n) by.1 v w (same by.0 by.1 refl) h
+
+seen_where : (k : Bytes) (p q : ℕ → Bool) (log : List Record)
+    → ((n t : ℕ) (o : Op) → IsOpBy log n t o → is_on k o ≡ true → (p n ≡ q n) ⊎ (is_add o ≡ true))
+    → SeenAlike (value_where k p log) (value_where k q log)
+seen_where k p q [] same = tt
+seen_where k p q (r ∷ log) same =
+    seen_kept k (length log + 1) p q (op_of r) (value_where k p log) (value_where k q log)
+    (λ t o is on. same (length log + 1) t o (at_newest (AnOp t o) r log (length log + 1) refl is) on)
+    (seen_where k p q log (λ n t o is on. same n t o (kept_at (AnOp t o) r log n (op_number log n t o is) is) on))
+
+-- so an operation is answered alike where they agree but for Adds, where it is one
+pub answers_alike : (k : Bytes) (p q : ℕ → Bool) (log : List Record) (o : Op)
+    → ((n t : ℕ) (x : Op) → IsOpBy log n t x → is_on k x ≡ true → (p n ≡ q n) ⊎ AreAdds o x)
+    → answer_at o (value_where k p log) ≡ answer_at o (value_where k q log)
+answers_alike k p q log o same =
+    elim (cases_Bool (is_add o)) [
+      | inl add ↦ answered_alike o (value_where k p log) (value_where k q log) add (seen_where k p q log
+          (λ n t x is on. elim (same n t x is on) [ inl e ↦ inl e | inr both ↦ inr both.1 ]))
+      | inr none ↦ ap (answer_at o) (values_alike k p q log
+          (λ n t x is on. elim (same n t x is on)
+          [ inl e ↦ e | inr both ↦ absurd (true≢false (sym both.0 ∙ none)) ]))
     ]
 
 -- a request is no answer

@@ -1,17 +1,17 @@
 -- What is true of every legal log.
-use Rattle.std.specs.Prelude.{◌≡◌, ℕ, ◌<◌, ◌&&◌, Bool, not, is_some, List, ◌∷◌, ◌++◌, Option, Some, IsSome}
+use Rattle.std.specs.Prelude.{◌≡◌, ℕ, ◌<◌, ◌&&◌, Bool, false, not, is_some, List, ◌∷◌, ◌++◌, Option, Some, IsSome}
 use Rattle.std.specs.FinMap.{get}
 use Rattle.record_key.specs.declared.op.Op.{Op}
 use Rattle.record_key.specs.declared.op.Answer.{Answer}
-use Rattle.record_key.specs.Table.{Bytes, key_of, answer_at, value_after}
+use Rattle.record_key.specs.Table.{Bytes, key_of, is_add, answer_at, value_after}
 use Rattle.inverse.specs.Inverse.{IsEffective}
 use Rattle.history.specs.declared.record.Record.{Record}
 use Rattle.history.specs.declared.record.Record.TheVariants as is
 use Rattle.history.specs.History.{plain}
 use Rattle.history.specs.Log.{record_at, before, answer_of, is_crossed, Requests, IsStepOf, IsOpBy, hist}
 use Rattle.history.specs.Legal.{IsLatestOrNone, Stands, IsLegal}
-use Rattle.history.specs.Chains.{IsWellChained, IsStrict, IsOneAtATime, undo_from, prev_in}
-use Rattle.history.specs.Values.{value_on, value_where, value_standing, IsRight, HasRightAnswers}
+use Rattle.history.specs.Chains.{IsWellChained, IsStrict, IsOneAtATime, adds_at, undo_from, prev_in}
+use Rattle.history.specs.Values.{value_on, value_where, value_standing, value_without, IsRight, HasRightAnswers}
 use Rattle.history.specs.Honest.{numbered_on, value_of, AreCaptured}
 
 -- a beginning of a legal log is legal, and has right answers where the log has them
@@ -19,7 +19,7 @@ pub record BeginningsAreLegal : Type 0 where
   pub legal : (newer older : List Record) → IsLegal (newer ++ older) → IsLegal older
   pub right : (newer older : List Record) → HasRightAnswers (newer ++ older) → HasRightAnswers older
 
--- compensations come latest first and once, and an open transaction has its keys to itself
+-- compensations come latest first and once, and an open transaction has its keys to itself, but for Adds
 abbrev pub LegalIsChainedAndStrict : Type 0
 LegalIsChainedAndStrict = (log : List Record) → IsLegal log → IsWellChained log × IsStrict log
 
@@ -35,6 +35,7 @@ abbrev pub LegalIsCompensatedOnce : Type 0
 LegalIsCompensatedOnce =
     (log : List Record) (n m undoes : ℕ) → IsLegal log → Names log n undoes → Names log m undoes → n ≡ m
 
+-- of two requests on a key the earlier is answered before the later one stands, unless both add
 abbrev pub LegalIsOneAtATime : Type 0
 LegalIsOneAtATime = (log : List Record) → IsLegal log → IsOneAtATime log
 
@@ -54,11 +55,13 @@ abbrev pub RightAnswersAreUnique : Type 0
 RightAnswersAreUnique = (log : List Record) (n : ℕ) (o : Op) (a b : Answer) → Requests log n o → IsRight log n a
     → IsRight log n b → a ≡ b
 
--- where a compensation fits, its key holds what the operation left, so the inverse gives back what was there
+-- where a compensation fits, its key holds what the operation leaves of what the others that stand leave, so the
+-- inverse gives that back; unless it is an Add that is what was there before
 pub record Brackets (log : List Record) (u : ℕ) (o i : Op) : Type 0 where
   pub same_key : key_of i ≡ key_of o
-  pub left : value_on (key_of o) log ≡ value_after o (value_on (key_of o) (before log u))
-  pub given_back : value_after i (value_on (key_of o) log) ≡ value_on (key_of o) (before log u)
+  pub left : value_on (key_of o) log ≡ value_after o (value_without (key_of o) u log)
+  pub given_back : value_after i (value_on (key_of o) log) ≡ value_without (key_of o) u log
+  pub was : is_add o ≡ false → value_without (key_of o) u log ≡ value_on (key_of o) (before log u)
   pub effective : IsEffective (answer_at i (value_on (key_of o) log))
 
 abbrev pub CompensationsBracket : Type 0
@@ -66,6 +69,12 @@ CompensationsBracket =
     (log : List Record) (t u x : ℕ) (o i : Op) → IsLegal (is.Comp t u x (Some i) ∷ log) → HasRightAnswers log
     → IsOpBy log u t o
     → Brackets log u o i
+
+-- where the answers are right, just what does an Add or undoes one requests an Add
+abbrev pub AddsRequestAdds : Type 0
+AddsRequestAdds =
+    (log : List Record) (n : ℕ) (o : Op) → IsLegal log → HasRightAnswers log → Requests log n o
+    → is_add o ≡ adds_at log n
 
 -- operations and inverses together leave what the operations that stand leave alone
 abbrev pub CompensationsCancel : Type 0
@@ -82,7 +91,18 @@ PlainOfHistory =
 abbrev pub IsAllAnswered : List Record → Type 0
 IsAllAnswered log = (n t : ℕ) (o : Op) → IsOpBy log n t o → IsSome (answer_of log n)
 
--- so where all is answered, a key of which everything is captured holds what the plain map has
+-- each compensation that asks for something has its answer
+abbrev pub OnlyOperationsWait : List Record → Type 0
+OnlyOperationsWait log =
+    (n t u x : ℕ) (i : Op) → record_at log n ≡ Some (is.Comp t u x (Some i)) → IsSome (answer_of log n)
+
+-- so where only operations wait, several on a key where they are Adds, what is answered leaves the plain map
+abbrev pub AnsweredIsPlain : Type 0
+AnsweredIsPlain =
+    (log : List Record) → IsLegal log → HasRightAnswers log → OnlyOperationsWait log
+    → (k : Bytes) → value_of (λ n. is_some (answer_of log n)) (numbered_on k log) ≡ get (plain (hist log)) k
+
+-- and where all is answered, a key of which everything is captured holds what the plain map has
 abbrev pub SettledIsPlain : Type 0
 SettledIsPlain =
     (log : List Record) → IsLegal log → HasRightAnswers log → IsAllAnswered log

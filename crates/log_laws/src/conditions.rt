@@ -1,5 +1,6 @@
 //! What the rules of a legal log ask of a transaction, a key or a number, each read off the whole log.
-ghost use Rattle.std.specs.Prelude.{◌≡◌, ℕ, ◌<◌, ◌↔◌, IsTrue, reverse};
+ghost use Rattle.std.specs.Prelude.{◌≡◌, ℕ, ◌<◌, ◌&&◌, ◌↔◌, IsTrue, reverse};
+ghost use Rattle.record_key.specs.Table.{is_add};
 ghost use Rattle.history.specs.Log.{IsOpen, IsStepOf};
 ghost use Rattle.history.specs.Legal.{IsIdle, IsKeyFree, Stands, IsLatest, IsLatestOrNone, Inverts, AreAnswered};
 ghost use Rattle.log_laws.specs.Reading.{Waits, Blocks, LacksAnswer};
@@ -7,7 +8,7 @@ ghost use Rattle.log_laws.specs.Reading.{Waits, Blocks, LacksAnswer};
 use crate::reader::{answer, is_over, is_undone, numbered, operation_at, request_at, step};
 use history::Record;
 use inverse::inverse;
-use record_key::{Key, Op};
+use record_key::Op;
 
 /// The transaction has begun and goes on.
 pub fn is_open(log: &[Record], txn: u64) -> bool
@@ -42,22 +43,31 @@ pub fn is_idle(log: &[Record], txn: u64) -> bool
     true
 }
 
-/// It is an operation on the key by another transaction that is open.
-pub fn blocks(log: &[Record], txn: u64, key: &Key, number: u64) -> bool
-    ensures { IsTrue result ↔ Blocks (reverse log.now) txn key.now number }
+/// Both are increments.
+fn are_adds(op: &Op, other: &Op) -> bool
+    ensures { result ≡ (is_add op.now && is_add other.now) }
+{
+    op.is_add() && other.is_add()
+}
+
+/// It is an operation on this one's key by another transaction that is open, and they aren't both Adds.
+pub fn blocks(log: &[Record], txn: u64, op: &Op, number: u64) -> bool
+    ensures { IsTrue result ↔ Blocks (reverse log.now) txn op.now number }
 {
     match operation_at(log, number) {
-        Some((by, op)) => by != txn && op.key() == key && is_open(log, by),
+        Some((by, other)) => {
+            by != txn && other.key() == op.key() && !are_adds(op, &other) && is_open(log, by)
+        }
         None => false,
     }
 }
 
-/// No other open transaction has an operation on the key, undone or not.
-pub fn is_free(log: &[Record], txn: u64, key: &Key) -> bool
-    ensures { IsTrue result ↔ IsKeyFree (reverse log.now) txn key.now }
+/// No other open transaction has an operation on this one's key, undone or not, unless both are Adds.
+pub fn is_free(log: &[Record], txn: u64, op: &Op) -> bool
+    ensures { IsTrue result ↔ IsKeyFree (reverse log.now) txn op.now }
 {
     for place in 0..log.len() {
-        if blocks(log, txn, key, place as u64 + 1) {
+        if blocks(log, txn, op, place as u64 + 1) {
             return false;
         }
     }

@@ -13,10 +13,7 @@ use record_key::Op;
 fn fits_op(log: &[Record], txn: u64, prev: u64, op: &Op) -> bool
     ensures { IsTrue result ↔ FitsOp (reverse log.now) txn prev op.now }
 {
-    is_open(log, txn)
-        && is_idle(log, txn)
-        && latest_step(log, txn) == prev
-        && is_free(log, txn, op.key())
+    is_open(log, txn) && is_idle(log, txn) && latest_step(log, txn) == prev && is_free(log, txn, op)
 }
 
 fn fits_answer(log: &[Record], of: u64) -> bool

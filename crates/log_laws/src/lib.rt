@@ -11,15 +11,10 @@ mod laws;
 mod legal;
 mod reader;
 mod replay;
-mod runs;
 
 pub use laws::{
-    answer_law, beginning_law, bracket_law, cancel_law, chain_law, one_at_a_time_law,
-    plain_history_law, settled_law, undo_chain_law,
+    add_request_law, answer_law, answered_law, beginning_law, bracket_law, cancel_law, chain_law,
+    compensated_once_law, one_at_a_time_law, plain_history_law, settled_law, undo_chain_law,
 };
 pub use legal::{fits, is_legal};
 pub use replay::plain_history;
-pub use runs::{
-    busy_read_run, commit_crash_run, held_key_run, rollback_crash_run, rolled_back_run,
-    savepoint_run, second_insert_run,
-};

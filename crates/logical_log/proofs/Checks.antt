@@ -1,11 +1,12 @@
 -- What the index tells of a record that comes next is whether it fits.
-use Rattle.std.proofs.Common.{◌≡◌, ◌≢◌, ℕ, ◌<◌, ◌≤◌, Bool, true, false, List, Option, Some, None, IsSome, is_some, refl, sym, ap, ◌∙◌, subst, arith, inl, inr, true≢false, IsTrue, nat_eq, ◌↔◌, not, eq-eqb}
-use Rattle.std.specs.Prelude.{nat_le}
-use Rattle.std.proofs.lemmas.Bool.{cases_eq, leb-true, le-leb}
+use Rattle.std.proofs.Common.{◌≡◌, ◌≢◌, ℕ, ◌<◌, ◌≤◌, Bool, true, false, List, Option, Some, None, IsSome, is_some, refl, sym, ap, ◌∙◌, subst, arith, inl, inr, true≢false, IsTrue, nat_eq, ◌↔◌, not, eq-eqb, eqb-true, [], ◌∷◌}
+use Rattle.std.specs.Prelude.{nat_le, ◌==◌, ◌||◌, ◌&&◌}
+use Rattle.std.specs.List.{list_all}
+use Rattle.std.proofs.lemmas.Bool.{cases_eq, cases_Bool, and_parts, and_from, and_cases, or_cases, or_left, or_right, leb-true, le-leb}
 use Rattle.record_key.specs.declared.op.Op.{Op}
-use Rattle.record_key.specs.Table.{Bytes}
+use Rattle.record_key.specs.Table.{Bytes, key_of, is_add}
 use Rattle.history.specs.declared.record.Record.{Record}
-use Rattle.history.specs.Log.{record_at, before, answer_of, request_in, request_of, IsOpen, Requests, IsStepOf}
+use Rattle.history.specs.Log.{record_at, before, answer_of, request_in, request_of, IsOpen, Requests, IsStepOf, IsOpBy}
 use Rattle.history.specs.Legal.{IsLegal, IsIdle, IsKeyFree, IsLatest, IsLatestOrNone, Stands, Inverts, FitsAnswer, FitsComp, FitsEnd, FitsCheckpoint}
 use Rattle.log_laws.proofs.Records.{AStep, ARequest, IsNumber, no_step, record_before, since}
 use Rattle.log_laws.proofs.LegalLogs.{answered_push, fits_at, step_idle, step_number, request_number, stands_number}
@@ -13,34 +14,134 @@ use Rattle.history.specs.Chains.{undo_from, prev_in}
 use Rattle.log_laws.proofs.Checking.{is_none, latest_some, latest_unique}
 use Rattle.log_laws.proofs.Undo.{latest_found, earlier_found}
 use Rattle.logical_log.specs.Index.{is_answered}
-use Rattle.logical_log.specs.Replay.{KeptOf, KeptOn, OpenAt, ReadyOf}
+use Rattle.logical_log.specs.declared.replay.Index.{Index}
+use Rattle.logical_log.specs.Replay.{IsIndex, KeptOf, KeptOn, AddsTo, AddedBy, is_among, latest_in, holder_in, adders_of, agrees, agrees_if, is_free, OpenAt, ReadyOf}
 use Rattle.logical_log.proofs.Index.{nothing_answered}
 use Rattle.logical_log.proofs.Answered.{answered_at, test_of}
 
 -- ---- keys
 
-pub free_none : (log : List Record) (t : ℕ) (k : Bytes) → KeptOn log k None → IsTrue true ↔ IsKeyFree log t k
-free_none log t k none = (λ _ n u o op key opened. absurd (none n u o op key), λ _. refl)
+-- one that is no hindrance is this one, or isn't open
+agrees_so : (log : List Record) (index : Index) (t u : ℕ) → IsIndex log index → agrees index t u ≡ true
+    → IsOpen log u → u ≡ t
+agrees_so log index t u h is opened = by (latest_in index u) (h.open_txns u) is
+  where
+    by : (v : Option ℕ) → KeptOf log u v → ((u == t) || not (is_some v)) ≡ true → u ≡ t
+    by None shut e = absurd (shut opened)
+    by (Some s) at e = elim (or_cases (u == t) false e) [ inl same ↦ eqb-true u t same | inr f ↦ absurd (true≢false (sym f)) ]
 
-pub free_own : (log : List Record) (t u : ℕ) (k : Bytes) → KeptOn log k (Some u) → u ≡ t
-    → IsTrue (nat_eq u t) ↔ IsKeyFree log t k
-free_own log t u k held same = (λ _ n v o op key opened. held.only n v o op key opened ∙ same, λ _. eq-eqb u t same)
+-- and one that is open and another is one
+hinders : (log : List Record) (index : Index) (t u : ℕ) → IsIndex log index → agrees index t u ≡ false
+    → IsOpen log u × (u ≢ t)
+hinders log index t u h is = by (latest_in index u) (h.open_txns u) is
+  where
+    by : (v : Option ℕ) → KeptOf log u v → ((u == t) || not (is_some v)) ≡ false → IsOpen log u × (u ≢ t)
+    by None shut e = absurd (true≢false (sym (or_right (u == t) true refl) ∙ e))
+    by (Some s) at e =
+        (at.is_open, λ same. true≢false (sym (ap (λ b. b || false) (eq-eqb u t same)) ∙ e))
 
-pub free_other : (log : List Record) (t u : ℕ) (k : Bytes) (kept : Option ℕ) (b : Bool) → KeptOn log k (Some u)
-    → (u ≡ t → ⊥) → KeptOf log u kept → is_some kept ≡ not b
-    → IsTrue b ↔ IsKeyFree log t k
-free_other log t u k None true held apart shut is = (
-  λ _ n v o op key opened. absurd (shut (let P : ℕ → Type 0 = λ w. IsOpen log w in
-      subst P (held.only n v o op key opened) opened)),
-  λ _. refl,
-)
-free_other log t u k None false held apart shut is = absurd (cc)
-free_other log t u k (Some s) true held apart at is = absurd (cc)
-free_other log t u k (Some s) false held apart at is = (
-  λ e. absurd (true≢false (sym e)),
-  λ free. absurd
-      (apart (free held.number u held.op held.is held.on_key at.is_open)),
-)
+-- one of a list of which all agree does
+all_agree : (index : Index) (t u : ℕ) (us : List ℕ) → list_all (agrees index t) us ≡ true → is_among u us ≡ true
+    → agrees index t u ≡ true
+all_agree index t u [] all among = absurd (true≢false (sym among))
+all_agree index t u (v ∷ us) all among =
+    elim (or_cases (v == u) (is_among u us) among) [
+      | inl same ↦ ap (agrees index t) (sym (eqb-true v u same)) ∙ (and_parts _ _ all).0
+      | inr rest ↦ all_agree index t u us (and_parts _ _ all).1 rest
+    ]
+
+-- and where not all do, one of it doesn't
+pub record Hindered (index : Index) (t : ℕ) (us : List ℕ) : Type 0 where
+  pub by : ℕ
+  pub among : is_among by us ≡ true
+  pub not_agrees : agrees index t by ≡ false
+
+one_hinders : (index : Index) (t : ℕ) (us : List ℕ) → list_all (agrees index t) us ≡ false → Hindered index t us
+one_hinders index t [] none = absurd (true≢false none)
+one_hinders index t (v ∷ us) none =
+    elim (and_cases (agrees index t v) (list_all (agrees index t) us) none) [
+      | inl first ↦ record { by = v; among = or_left (v == v) (is_among v us) (eq-eqb v v refl); not_agrees = first }
+      | inr later ↦
+          let found = one_hinders index t us later in
+          record {
+            by = found.by;
+            among = or_right (v == found.by) (is_among found.by us) found.among;
+            not_agrees = found.not_agrees;
+          }
+    ]
+
+-- the holder agrees just where no other open one has an operation on the key that is no Add
+module _ (log : List Record) (index : Index) (t : ℕ) (o : Op) (h : IsIndex log index) where
+  abbrev k : Bytes
+  k = key_of o
+
+  holder_so : agrees_if index t (holder_in index k) ≡ true → (n u : ℕ) (q : Op) → IsOpBy log n u q → key_of q ≡ k
+      → IsOpen log u → is_add q ≡ false → u ≡ t
+  holder_so is n u q op key opened plain = by (holder_in index k) (h.held_keys k) is
+    where
+      by : (v : Option ℕ) → KeptOn log k v → agrees_if index t v ≡ true → u ≡ t
+      by None none e = absurd (none n u q op key plain)
+      by (Some s) held e =
+          let same : u ≡ s = held.only n u q op key plain opened in
+          agrees_so log index t u h (ap (agrees index t) same ∙ e) opened
+
+  holder_back : IsKeyFree log t o → agrees_if index t (holder_in index k) ≡ true
+  holder_back free = by (holder_in index k) (h.held_keys k)
+    where
+      by : (v : Option ℕ) → KeptOn log k v → agrees_if index t v ≡ true
+      by None none = refl
+      by (Some s) held = elim (cases_Bool (agrees index t s)) [
+        | inl good ↦ good
+        | inr bad_one ↦
+            let bad = hinders log index t s h bad_one in
+            elim (free held.number s held.op held.is held.on_key bad.0) [
+              | inl mine ↦ absurd (bad.1 mine)
+              | inr both ↦ absurd (true≢false (sym both.1 ∙ held.plain))
+            ]
+      ]
+
+  adders_so : agrees_if index t (holder_in index k) ≡ true
+      → list_all (agrees index t) (adders_of index k) ≡ true → (n u : ℕ) (q : Op) → IsOpBy log n u q → key_of q ≡ k
+      → IsOpen log u → is_add q ≡ true → u ≡ t
+  adders_so holder all n u q op key opened add =
+      elim ((h.added_keys k).all u (record { number = n; op = q; is = op; on_key = key; adds = add }) opened) [
+        | inl held ↦ agrees_so log index t u h (ap (agrees_if index t) (sym held) ∙ holder) opened
+        | inr listed ↦ agrees_so log index t u h (all_agree index t u (adders_of index k) all listed) opened
+      ]
+
+  adders_back : IsKeyFree log t o → is_add o ≡ false → list_all (agrees index t) (adders_of index k) ≡ true
+  adders_back free plain = elim (cases_Bool (list_all (agrees index t) (adders_of index k))) [
+    | inl good ↦ good
+    | inr bad_one ↦
+        let bad = one_hinders index t (adders_of index k) bad_one in
+        let has : AddsTo log k bad.by = (h.added_keys k).each bad.by bad.among in
+        let open_and = hinders log index t bad.by h bad.not_agrees in
+        elim (free has.number bad.by has.op has.is has.on_key open_and.0) [
+          | inl mine ↦ absurd (open_and.1 mine)
+          | inr both ↦ absurd (true≢false (sym both.0 ∙ plain))
+        ]
+  ]
+
+  free_so : is_free index t o ≡ true → IsKeyFree log t o
+  free_so is n u q op key opened =
+      let parts = and_parts _ _ is in
+      elim (cases_Bool (is_add q)) [
+        | inr plain ↦ inl (holder_so parts.0 n u q op key opened plain)
+        | inl add ↦ elim (or_cases (is_add o) (list_all (agrees index t) (adders_of index k)) parts.1) [
+          | inl mine ↦ inr (mine, add)
+          | inr all ↦ inl (adders_so parts.0 all n u q op key opened add)
+        ]
+      ]
+
+  free_back : IsKeyFree log t o → is_free index t o ≡ true
+  free_back free = and_from _ _ (holder_back free) (elim (cases_Bool (is_add o)) [
+    | inl add ↦ or_left (is_add o) (list_all (agrees index t) (adders_of index k)) add
+    | inr plain ↦ or_right (is_add o) (list_all (agrees index t) (adders_of index k)) (adders_back free plain)
+  ])
+
+  -- so the index tells whether a key is free
+  pub free_test : IsTrue (is_free index t o) ↔ IsKeyFree log t o
+  free_test = (free_so, free_back)
 
 -- ---- requests
 

@@ -1,12 +1,12 @@
 -- The index by transaction and by key is right again after each record that fits.
-use Rattle.std.proofs.Common.{◌≡◌, ◌≢◌, ℕ, ◌+◌, true, false, List, ◌∷◌, length, Option, Some, None, refl, sym, ap, ◌∙◌, subst, arith, inl, inr, ◌⊎◌, Bool, true≢false, eq-eqb}
+use Rattle.std.proofs.Common.{◌≡◌, ◌≢◌, ℕ, ◌+◌, true, false, List, [], ◌∷◌, ◌++◌, length, Option, Some, None, refl, sym, ap, ◌∙◌, subst, arith, inl, inr, ◌⊎◌, Bool, true≢false, eq-eqb, eqb-true, MatchBool}
 use Rattle.std.specs.Cmp.{Equal-is}
-use Rattle.std.specs.Prelude.{◌||◌, ◌==◌}
-use Rattle.std.proofs.lemmas.Bool.{cases_eq, cases_Bool}
+use Rattle.std.specs.Prelude.{◌||◌, ◌==◌, if◌then◌else◌}
+use Rattle.std.proofs.lemmas.Bool.{cases_eq, cases_Bool, or_cases, or_left, or_right}
 use Rattle.std.specs.Ordering.{is_eq}
 use Rattle.record_key.specs.declared.op.Op.{Op}
 use Rattle.record_key.specs.Laws.{key_cmp}
-use Rattle.record_key.specs.Table.{Bytes, key_of}
+use Rattle.record_key.specs.Table.{Bytes, key_of, is_add}
 use Rattle.history.specs.declared.record.Record.{Record}
 use Rattle.history.specs.declared.record.Record.TheVariants as is
 use Rattle.history.specs.Log.{record_at, has_ended, IsOpen, IsStepOf, IsOpBy}
@@ -18,7 +18,8 @@ use Rattle.log_laws.proofs.Undo.{latest_as}
 use Rattle.std.proofs.lemmas.Cmp.{nat_list_cmp_total, tied_itself}
 use Rattle.std.proofs.lemmas.Map.Lookups.{exact_bytes}
 use Rattle.logical_log.specs.declared.replay.Index.{Index}
-use Rattle.logical_log.specs.Replay.{IsIndex, latest_in, holder_in, KeptOf, KeptOn, Puts, Follows, Holds}
+use Rattle.logical_log.specs.Adders.{PutsAdders}
+use Rattle.logical_log.specs.Replay.{IsIndex, latest_in, holder_in, adders_of, is_among, KeptOf, KeptOn, AddsTo, AddedBy, Puts, Follows, Holds, Gains}
 
 -- the record neither begins nor ends the transaction, and is no step of it
 record Apart (r : Record) (log : List Record) (t : ℕ) : Type 0 where
@@ -194,44 +195,49 @@ module _ (r : Record) (log : List Record) (legal : IsLegal log) where
       open_had r log u number h
 
   -- no operation on the key is new
-  on_other : (k : Bytes) → ((u : ℕ) (o : Op) → AnOp u o (Some r) → key_of o ≢ k) → (v : Option ℕ) → KeptOn log k v
+  on_other : (k : Bytes) → ((u : ℕ) (o : Op) → AnOp u o (Some r) → is_add o ≡ false → key_of o ≢ k) → (v : Option ℕ)
+      → KeptOn log k v
       → KeptOn (r ∷ log) k v
   on_other k none (Some t) h = record {
     number = h.number;
     op = h.op;
     is = kept_at (AnOp t h.op) r log h.number (op_number log h.number t h.op h.is) h.is;
     on_key = h.on_key;
-    only = λ n u o op key opened. elim (cases_eq n (length log + 1)) [
-      | inl e ↦ absurd (none u o (newest_at (AnOp u o) r log n e op) key)
+    plain = h.plain;
+    only = λ n u o op key plain opened. elim (cases_eq n (length log + 1)) [
+      | inl e ↦ absurd (none u o (newest_at (AnOp u o) r log n e op) plain key)
       | inr e ↦ let was : IsOpBy log n u o = older_at (AnOp u o) r log n e op in
-          h.only n u o was key (holder_open n u o was opened)
+          h.only n u o was key plain (holder_open n u o was opened)
     ];
   }
-  on_other k none None h = λ n u o op key. elim (cases_eq n (length log + 1)) [
-    | inl e ↦ none u o (newest_at (AnOp u o) r log n e op) key
-    | inr e ↦ h n u o (older_at (AnOp u o) r log n e op) key
+  on_other k none None h = λ n u o op key plain. elim (cases_eq n (length log + 1)) [
+    | inl e ↦ none u o (newest_at (AnOp u o) r log n e op) plain key
+    | inr e ↦ h n u o (older_at (AnOp u o) r log n e op) key plain
   ]
 
-  same_on : (old new : Bytes → Option ℕ) → ((k : Bytes) → new k ≡ old k) → ((u : ℕ) (o : Op) → AnOp u o (Some r) → ⊥)
+  same_on : (old new : Bytes → Option ℕ) → ((k : Bytes) → new k ≡ old k)
+      → ((u : ℕ) (o : Op) → AnOp u o (Some r) → is_add o ≡ false → ⊥)
       → ((k : Bytes) → KeptOn log k (old k))
       → (k : Bytes) → KeptOn (r ∷ log) k (new k)
   same_on old new same none was k = let Q : Option ℕ → Type 0 = λ v. KeptOn (r ∷ log) k v in
-      subst Q (sym (same k)) (on_other k (λ u o op _. none u o op) (old k) (was k))
+      subst Q (sym (same k)) (on_other k (λ u o op plain _. none u o op plain) (old k) (was k))
 
 -- the transaction of the newest operation on a key is the only one that may hold it
-on_newest : (log : List Record) (t p : ℕ) (o : Op) → IsLegal log → Fits log (is.Op t p o)
+on_newest : (log : List Record) (t p : ℕ) (o : Op) → IsLegal log → Fits log (is.Op t p o) → is_add o ≡ false
     → KeptOn (is.Op t p o ∷ log) (key_of o) (Some t)
-on_newest log t p o legal fits =
+on_newest log t p o legal fits plain =
     let r : Record = is.Op t p o in
     record {
       number = length log + 1;
       op = o;
       is = at_newest (AnOp t o) r log (length log + 1) refl refl;
       on_key = refl;
-      only = λ n u q op key opened. elim (cases_eq n (length log + 1)) [
+      plain = plain;
+      only = λ n u q op key plain_q opened. elim (cases_eq n (length log + 1)) [
         | inl e ↦ sym (op_same t u o q (Some r) refl (newest_at (AnOp u q) r log n e op)).0
         | inr e ↦ let was : IsOpBy log n u q = older_at (AnOp u q) r log n e op in
-            fits.free n u q was key (holder_open r log legal n u q was opened)
+            elim (fits.free n u q was key (holder_open r log legal n u q was opened))
+            [ inl mine ↦ mine | inr both ↦ absurd (true≢false (sym both.0 ∙ plain)) ]
       ];
     }
 
@@ -245,42 +251,222 @@ key_cases a b = elim (cases_Bool (is_eq (key_cmp a b))) [
       ∙ ap (λ (x : Bytes). is_eq (key_cmp a x)) e ∙ other))
 ]
 
-pub holds : (r : Record) (log : List Record) (old new : Bytes → Option ℕ) → IsLegal log → Fits log r → Holds r old new
+-- an operation on a key, and an Add
+held_op : (log : List Record) (t p : ℕ) (o : Op) (old new : Bytes → Option ℕ) → IsLegal log → Fits log (is.Op t p o)
+    → (b : Bool) → is_add o ≡ b
+    → MatchBool b ((k : Bytes) → new k ≡ old k) (Puts Bytes old new (key_of o) (Some t))
     → ((k : Bytes) → KeptOn log k (old k))
-    → (k : Bytes) → KeptOn (r ∷ log) k (new k)
-holds (is.Op t p o) log old new legal fits puts was = λ k.
+    → (k : Bytes) → KeptOn (is.Op t p o ∷ log) k (new k)
+held_op log t p o old new legal fits true add same was =
+    same_on (is.Op t p o) log legal old new same (λ u q op plain. true≢false
+    (sym (ap is_add (sym (op_same t u o q (Some (is.Op t p o)) refl op).1) ∙ add) ∙ plain)) was
+held_op log t p o old new legal fits false plain puts was = λ k.
     elim (key_cases k (key_of o)) [
       | inl e ↦
           let P : Bytes → Type 0 = λ q. KeptOn (is.Op t p o ∷ log) q (new q) in
           let Q : Option ℕ → Type 0 = λ v. KeptOn (is.Op t p o ∷ log) (key_of o) v in
-          subst P (sym e) (subst Q (sym puts.here) (on_newest log t p o legal fits))
+          subst P (sym e) (subst Q (sym puts.here) (on_newest log t p o legal fits plain))
       | inr e ↦
           let Q : Option ℕ → Type 0 = λ v. KeptOn (is.Op t p o ∷ log) k v in
           subst Q (sym (puts.elsewhere k e))
-          (on_other (is.Op t p o) log legal k (λ u q op key. e (sym key
+          (on_other (is.Op t p o) log legal k (λ u q op _ key. e (sym key
           ∙ ap key_of (sym (op_same t u o q (Some (is.Op t p o)) refl op).1))) (old k) (was k))
     ]
-holds is.Session log old new legal fits same was = same_on is.Session log legal old new same (λ u o op. cc) was
-holds is.Begin log old new legal fits same was = same_on is.Begin log legal old new same (λ u o op. cc) was
+
+pub holds : (r : Record) (log : List Record) (old new : Bytes → Option ℕ) → IsLegal log → Fits log r → Holds r old new
+    → ((k : Bytes) → KeptOn log k (old k))
+    → (k : Bytes) → KeptOn (r ∷ log) k (new k)
+holds (is.Op t p o) log old new legal fits puts was =
+    held_op log t p o old new legal fits (is_add o) refl puts was
+holds is.Session log old new legal fits same was = same_on is.Session log legal old new same (λ u o op _. cc) was
+holds is.Begin log old new legal fits same was = same_on is.Begin log legal old new same (λ u o op _. cc) was
 holds (is.Comp u w x i) log old new legal fits same was = same_on (is.Comp u w x i) log legal old new same
-    (λ v o op. cc) was
-holds (is.Answer n a) log old new legal fits same was = same_on (is.Answer n a) log legal old new same (λ v o op. cc)
-    was
-holds (is.Commit u) log old new legal fits same was = same_on (is.Commit u) log legal old new same (λ v o op. cc) was
-holds (is.End u) log old new legal fits same was = same_on (is.End u) log legal old new same (λ v o op. cc) was
+    (λ v o op _. cc) was
+holds (is.Answer n a) log old new legal fits same was = same_on (is.Answer n a) log legal old new same
+    (λ v o op _. cc) was
+holds (is.Commit u) log old new legal fits same was = same_on (is.Commit u) log legal old new same (λ v o op _. cc) was
+holds (is.End u) log old new legal fits same was = same_on (is.End u) log legal old new same (λ v o op _. cc) was
 holds (is.Checkpoint l) log old new legal fits same was = same_on (is.Checkpoint l) log legal old new same
-    (λ v o op. cc) was
+    (λ v o op _. cc) was
+
+-- ---- Adds
+
+among_more : (u t : ℕ) (us : List ℕ) → is_among u us ≡ true → is_among u (us ++ t ∷ []) ≡ true
+among_more u t [] h = absurd (true≢false (sym h))
+among_more u t (v ∷ us) h = elim (or_cases (v == u) (is_among u us) h) [
+  | inl same ↦ or_left (v == u) (is_among u (us ++ t ∷ [])) same
+  | inr rest ↦ or_right (v == u) (is_among u (us ++ t ∷ [])) (among_more u t us rest)
+]
+
+among_last : (t : ℕ) (us : List ℕ) → is_among t (us ++ t ∷ []) ≡ true
+among_last t [] = or_left (t == t) false (eq-eqb t t refl)
+among_last t (v ∷ us) = or_right (v == t) (is_among t (us ++ t ∷ [])) (among_last t us)
+
+among_split : (u t : ℕ) (us : List ℕ) → is_among u (us ++ t ∷ []) ≡ true → (is_among u us ≡ true) ⊎ (t ≡ u)
+among_split u t [] h = elim (or_cases (t == u) false h) [
+  | inl same ↦ inr (eqb-true t u same)
+  | inr none ↦ absurd (true≢false (sym none))
+]
+among_split u t (v ∷ us) h = elim (or_cases (v == u) (is_among u (us ++ t ∷ [])) h) [
+  | inl same ↦ inl (or_left (v == u) (is_among u us) same)
+  | inr rest ↦ elim (among_split u t us rest) [
+    | inl old ↦ inl (or_right (v == u) (is_among u us) old)
+    | inr last ↦ inr last
+  ]
+]
+
+-- an Add stays, and is the newest record's or was there
+adds_longer : (r : Record) (log : List Record) (k : Bytes) (u : ℕ) → AddsTo log k u → AddsTo (r ∷ log) k u
+adds_longer r log k u h = record {
+  number = h.number;
+  op = h.op;
+  is = kept_at (AnOp u h.op) r log h.number (op_number log h.number u h.op h.is) h.is;
+  on_key = h.on_key;
+  adds = h.adds;
+}
+
+-- where no Add on the key is new, who is listed and who has to be is as before
+added_same : (r : Record) (log : List Record) (k : Bytes) (v w : Option ℕ) (us : List ℕ) → IsLegal log
+    → ((u : ℕ) (o : Op) → AnOp u o (Some r) → is_add o ≡ true → key_of o ≢ k)
+    → v ≡ w
+    → AddedBy log k v us → AddedBy (r ∷ log) k w us
+added_same r log k v w us legal none same h = record {
+  each = λ u among. adds_longer r log k u (h.each u among);
+  all = λ u has opened. elim (cases_eq has.number (length log + 1)) [
+    | inl e ↦ absurd (none u has.op (newest_at (AnOp u has.op) r log has.number e has.is) has.adds has.on_key)
+    | inr e ↦
+        let was : IsOpBy log has.number u has.op = older_at (AnOp u has.op) r log has.number e has.is in
+        elim (h.all u (record { number = has.number; op = has.op; is = was; on_key = has.on_key; adds = has.adds })
+        (holder_open r log legal has.number u has.op was opened))
+        [ inl held ↦ inl (sym same ∙ held) | inr listed ↦ inr listed ]
+  ];
+}
+
+-- one Add more
+added_one : (log : List Record) (t p : ℕ) (o : Op) (v w : Option ℕ) (us : List ℕ) → IsLegal log → is_add o ≡ true
+    → v ≡ w
+    → AddedBy log (key_of o) v us → AddedBy (is.Op t p o ∷ log) (key_of o) w (us ++ t ∷ [])
+added_one log t p o v w us legal add same h =
+    let r : Record = is.Op t p o in
+    record {
+      each = λ u among. elim (among_split u t us among) [
+        | inl old ↦ adds_longer r log (key_of o) u (h.each u old)
+        | inr last ↦ subst (AddsTo (r ∷ log) (key_of o)) last (record {
+          number = length log + 1;
+          op = o;
+          is = at_newest (AnOp t o) r log (length log + 1) refl refl;
+          on_key = refl;
+          adds = add;
+        })
+      ];
+      all = λ u has opened. elim (cases_eq has.number (length log + 1)) [
+        | inl e ↦
+            let one : t ≡ u =
+            (op_same t u o has.op (Some r) refl (newest_at (AnOp u has.op) r log has.number e has.is)).0 in
+            inr (subst (λ (z : ℕ). is_among z (us ++ t ∷ []) ≡ true) one (among_last t us))
+        | inr e ↦
+            let was : IsOpBy log has.number u has.op = older_at (AnOp u has.op) r log has.number e has.is in
+            elim (h.all u (record { number = has.number; op = has.op; is = was; on_key = has.on_key; adds = has.adds })
+            (holder_open r log legal has.number u has.op was opened))
+            [ inl held ↦ inl (sym same ∙ held) | inr listed ↦ inr (among_more u t us listed) ]
+      ];
+    }
+
+-- after another operation only its transaction may have Adds on the key and be open
+added_none : (log : List Record) (t p : ℕ) (o : Op) (w : Option ℕ) → IsLegal log → Fits log (is.Op t p o)
+    → is_add o ≡ false → w ≡ Some t
+    → AddedBy (is.Op t p o ∷ log) (key_of o) w []
+added_none log t p o w legal fits plain holder =
+    let r : Record = is.Op t p o in
+    record {
+      each = λ u among. absurd (true≢false (sym among));
+      all = λ u has opened. inl (holder ∙ ap Some (elim (cases_eq has.number (length log + 1)) [
+        | inl e ↦ (op_same t u o has.op (Some r) refl (newest_at (AnOp u has.op) r log has.number e has.is)).0
+        | inr e ↦
+            let was : IsOpBy log has.number u has.op = older_at (AnOp u has.op) r log has.number e has.is in
+            elim (fits.free has.number u has.op was has.on_key
+            (holder_open r log legal has.number u has.op was opened))
+            [ inl mine ↦ sym mine | inr both ↦ absurd (true≢false (sym both.0 ∙ plain)) ]
+      ]));
+    }
+
+-- an operation on a key
+gained_op : (log : List Record) (t p : ℕ) (o : Op) (old new : Bytes → Option ℕ) (had has : Bytes → List ℕ)
+    → IsLegal log → Fits log (is.Op t p o) → (b : Bool) → is_add o ≡ b
+    → MatchBool b ((k : Bytes) → new k ≡ old k) (Puts Bytes old new (key_of o) (Some t))
+    → PutsAdders had has (key_of o) (if b then had (key_of o) ++ t ∷ [] else [])
+    → ((k : Bytes) → AddedBy log k (old k) (had k))
+    → (k : Bytes) → AddedBy (is.Op t p o ∷ log) k (new k) (has k)
+gained_op log t p o old new had has legal fits b adds keeps puts was k =
+    elim (key_cases k (key_of o)) [
+      | inl e ↦
+          let P : Bytes → Type 0 = λ q. AddedBy (is.Op t p o ∷ log) q (new q) (has q) in
+          let Q : List ℕ → Type 0 = λ us. AddedBy (is.Op t p o ∷ log) (key_of o) (new (key_of o)) us in
+          subst P (sym e) (subst Q (sym puts.here) (here b adds keeps))
+      | inr e ↦
+          let Q : List ℕ → Type 0 = λ us. AddedBy (is.Op t p o ∷ log) k (new k) us in
+          subst Q (sym (puts.elsewhere k e))
+          (added_same (is.Op t p o) log k (old k) (new k) (had k) legal
+          (λ u q op _ key. e (sym key ∙ ap key_of (sym (op_same t u o q (Some (is.Op t p o)) refl op).1)))
+          (sym (holder_at b keeps e)) (was k))
+    ]
+  where
+    here : (b : Bool) → is_add o ≡ b
+        → MatchBool b ((k : Bytes) → new k ≡ old k) (Puts Bytes old new (key_of o) (Some t))
+        → AddedBy (is.Op t p o ∷ log) (key_of o) (new (key_of o)) (if b then had (key_of o) ++ t ∷ [] else [])
+    here true add same = added_one log t p o (old (key_of o)) (new (key_of o)) (had (key_of o)) legal add
+        (sym (same (key_of o))) (was (key_of o))
+    here false plain keeps = added_none log t p o (new (key_of o)) legal fits plain keeps.here
+
+    holder_at : (b : Bool) → MatchBool b ((k : Bytes) → new k ≡ old k) (Puts Bytes old new (key_of o) (Some t))
+        → k ≢ key_of o → new k ≡ old k
+    holder_at true same e = same k
+    holder_at false keeps e = keeps.elsewhere k e
+
+-- any record that isn't one
+gained_same : (r : Record) (log : List Record) (old new : Bytes → Option ℕ) (had has : Bytes → List ℕ) → IsLegal log
+    → ((u : ℕ) (o : Op) → AnOp u o (Some r) → ⊥) → ((k : Bytes) → new k ≡ old k) → ((k : Bytes) → has k ≡ had k)
+    → ((k : Bytes) → AddedBy log k (old k) (had k))
+    → (k : Bytes) → AddedBy (r ∷ log) k (new k) (has k)
+gained_same r log old new had has legal none holder same was k =
+    let Q : List ℕ → Type 0 = λ us. AddedBy (r ∷ log) k (new k) us in
+    subst Q (sym (same k)) (added_same r log k (old k) (new k) (had k) legal (λ u o op _ _. none u o op)
+    (sym (holder k)) (was k))
+
+pub gains : (r : Record) (log : List Record) (old new : Bytes → Option ℕ) (had has : Bytes → List ℕ) → IsLegal log
+    → Fits log r → Holds r old new → Gains r had has
+    → ((k : Bytes) → AddedBy log k (old k) (had k))
+    → (k : Bytes) → AddedBy (r ∷ log) k (new k) (has k)
+gains (is.Op t p o) log old new had has legal fits keeps puts was =
+    gained_op log t p o old new had has legal fits (is_add o) refl keeps puts was
+gains is.Session log old new had has legal fits holder same was =
+    gained_same is.Session log old new had has legal (λ u o op. cc) holder same was
+gains is.Begin log old new had has legal fits holder same was =
+    gained_same is.Begin log old new had has legal (λ u o op. cc) holder same was
+gains (is.Comp u w x i) log old new had has legal fits holder same was =
+    gained_same (is.Comp u w x i) log old new had has legal (λ v o op. cc) holder same was
+gains (is.Answer n a) log old new had has legal fits holder same was =
+    gained_same (is.Answer n a) log old new had has legal (λ v o op. cc) holder same was
+gains (is.Commit u) log old new had has legal fits holder same was =
+    gained_same (is.Commit u) log old new had has legal (λ v o op. cc) holder same was
+gains (is.End u) log old new had has legal fits holder same was =
+    gained_same (is.End u) log old new had has legal (λ v o op. cc) holder same was
+gains (is.Checkpoint l) log old new had has legal fits holder same was =
+    gained_same (is.Checkpoint l) log old new had has legal (λ v o op. cc) holder same was
 
 -- ---- both
 
 pub followed : (log : List Record) (r : Record) (number : ℕ) (old new : Index) → IsIndex log old → Fits log r
     → number ≡ length log + 1
     → Follows r number (latest_in old) (latest_in new) → Holds r (holder_in old) (holder_in new)
+    → Gains r (adders_of old) (adders_of new)
     → FitsCheckpoint (r ∷ log) new.answered → IsIndex (r ∷ log) new
-followed log r number old new h fits is txns keys answered = record {
+followed log r number old new h fits is txns keys adders answered = record {
   legal = (fits, h.legal);
   open_txns = let P : ℕ → Type 0 = λ n. Follows r n (latest_in old) (latest_in new) in
       follows r log (latest_in old) (latest_in new) h.legal fits (subst P is txns) h.open_txns;
   held_keys = holds r log (holder_in old) (holder_in new) h.legal fits keys h.held_keys;
+  added_keys = gains r log (holder_in old) (holder_in new) (adders_of old) (adders_of new) h.legal fits keys adders
+      h.added_keys;
   answered = answered;
 }

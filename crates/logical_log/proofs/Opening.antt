@@ -1,5 +1,5 @@
 -- Reading one record after another, from the beginning of the bytes.
-use Rattle.std.proofs.Common.{◌≡◌, ◌⊎◌, ℕ, ◌+◌, ◌<◌, List, [], ◌∷◌, ◌++◌, length, Option, None, refl, sym, ap, ◌∙◌, subst, arith, inl, inr, append_assoc}
+use Rattle.std.proofs.Common.{◌≡◌, ◌⊎◌, ℕ, ◌+◌, ◌<◌, List, [], ◌∷◌, ◌++◌, length, Option, None, refl, sym, ap, ◌∙◌, subst, arith, inl, inr, append_assoc, true≢false}
 use Rattle.std.proofs.lemmas.List.{length-append}
 use Rattle.codec.specs.Fields.{number}
 use Rattle.codec.specs.Frames.{frame}
@@ -11,7 +11,7 @@ use Rattle.record_key.specs.Table.{Bytes}
 use Rattle.history.specs.declared.record.Record.{Record}
 use Rattle.history.specs.Legal.{Fits, IsLegal}
 use Rattle.logical_log.specs.Opening.{BeginsAs, RefusesBytes}
-use Rattle.logical_log.specs.Replay.{IsIndex, KeptOf, KeptOn, latest_in, holder_in}
+use Rattle.logical_log.specs.Replay.{IsIndex, KeptOf, KeptOn, AddedBy, latest_in, holder_in, adders_of}
 use Rattle.logical_log.specs.declared.replay.Index.{Index}
 use Rattle.logical_log.specs.Spelled.{spelled}
 
@@ -45,13 +45,18 @@ shorter left r left' is =
     )
 
 pub index_nothing : (index : Index) → ((t : ℕ) → latest_in index t ≡ None) → ((k : Bytes) → holder_in index k ≡ None)
-    → index.answered ≡ 0 → IsIndex [] index
-index_nothing index txns keys answered = record {
+    → ((k : Bytes) → adders_of index k ≡ []) → index.answered ≡ 0 → IsIndex [] index
+index_nothing index txns keys adders answered = record {
   legal = tt;
   open_txns = λ t. let Of : Option ℕ → Type 0 = λ v. KeptOf [] t v in
       subst Of (sym (txns t)) (λ opened. absurd (let none = opened.begun in cc));
   held_keys = λ k. let On : Option ℕ → Type 0 = λ v. KeptOn [] k v in
       subst On (sym (keys k)) (λ n u o op key. absurd (cc));
+  added_keys = λ k. let On : List ℕ → Type 0 = λ us. AddedBy [] k (holder_in index k) us in
+      subst On (sym (adders k)) (record {
+        each = λ u among. absurd (true≢false (sym among));
+        all = λ u has. absurd (let none = has.is in cc);
+      });
   answered = record { within = omega (arith, answered); answered = λ n o below asks. absurd (cc) };
 }
 

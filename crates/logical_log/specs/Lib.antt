@@ -1,3 +1,4 @@
+pub mod Adders
 pub mod Crashed
 pub mod Index
 pub mod Kept

@@ -49,7 +49,7 @@ fn fits_op(index: &Index, frames: &Frames, txn: u64, prev: u64, op: &Op) -> bool
     ensures { IsTrue result ↔ FitsOp frames.now.records txn prev op.now }
 {
     match index.ready(frames, txn) {
-        Some(latest) => latest == prev && index.is_free(frames, txn, op.key()),
+        Some(latest) => latest == prev && index.is_free(frames, txn, op),
         None => false,
     }
 }

@@ -7,6 +7,7 @@
 //! back as it was appended, without a device call; a refused call leaves the records as they were and names its cause.
 #![tactic(auto)]
 
+mod adders;
 mod fits;
 mod frames;
 mod laws;

@@ -1,11 +1,16 @@
 //! An index by transaction and by key, which tells in one pass whether each record fits those before it.
-ghost use Rattle.std.specs.Prelude.{◌≡◌, ◌↔◌, IsTrue, OnOk, None, List, ℕ};
+ghost use Rattle.std.specs.Prelude.{◌≡◌, ◌↔◌, ◌∷◌, ◌++◌, [], IsTrue, OnOk, Some, None, List, ℕ, if◌then◌else◌};
+ghost use Rattle.std.specs.Bool.{MatchBool};
+ghost use Rattle.std.specs.List.{list_all};
+ghost use Rattle.record_key.specs.Table.{key_of, is_add};
 ghost use Rattle.history.specs.Legal.{IsKeyFree};
-ghost use Rattle.logical_log.specs.Replay.{IsIndex, ReadyOf, latest_in, holder_in, Follows, Holds};
+ghost use Rattle.logical_log.specs.Replay.{IsIndex, ReadyOf, latest_in, holder_in, adders_of, agrees, agrees_if, Follows, Holds, Gains, Puts};
+ghost use Rattle.logical_log.specs.Adders.{PutsAdders};
 
+use crate::adders::Adders;
 use crate::frames::Frames;
 use history::Record;
-use record_key::Key;
+use record_key::{Key, Op};
 use std::alloc::{AllocError, Global};
 use std::collections::BTreeMap;
 
@@ -13,8 +18,10 @@ use std::collections::BTreeMap;
 pub(crate) struct Index {
     // For each open transaction its latest Op or Comp record, 0 if it has none.
     pub(crate) open: BTreeMap<u64, u64>,
-    // For each key the transaction of its latest operation: if another is open, it has none on the key.
+    // For each key the transaction of its latest operation that is no Add: if another is open, it has none on the key.
     pub(crate) holders: BTreeMap<Key, u64>,
+    // For each key the transactions that added to it since.
+    pub(crate) adders: Adders,
     // Up to this number every request is answered.
     pub(crate) answered: u64,
 }
@@ -23,11 +30,13 @@ impl Index {
     pub(crate) fn new(alloc: Global) -> Index
         ensures open { (t : ℕ) → latest_in result t ≡ None }
         ensures holders { (k : List ℕ) → holder_in result k ≡ None }
+        ensures adders { (k : List ℕ) → adders_of result k ≡ [] }
         ensures answered { result.answered ≡ 0 }
     {
         Index {
             open: BTreeMap::new(alloc),
             holders: BTreeMap::new(alloc),
+            adders: Adders::new(alloc),
             answered: 0,
         }
     }
@@ -52,21 +61,46 @@ impl Index {
         }
     }
 
-    /// No other open transaction has an operation on the key.
-    pub(crate) fn is_free(&self, frames: &Frames, txn: u64, key: &Key) -> bool
-        requires { IsIndex frames.now.records self.now }
-        ensures { IsTrue result ↔ IsKeyFree frames.now.records txn key.now }
+    /// The other is no hindrance to the transaction: it is the same, or isn't open.
+    fn agrees(&self, txn: u64, other: u64) -> bool
+        ensures { result ≡ agrees self.now txn other }
     {
-        match self.holders.get(key) {
+        other == txn || self.latest(other).is_none()
+    }
+
+    /// Whoever may hold the key alone is no hindrance.
+    fn holder_agrees(&self, txn: u64, key: &Key) -> bool
+        ensures { result ≡ agrees_if self.now txn (holder_in self.now key.now) }
+    {
+        match self.holders.get(key).copied() {
             None => true,
-            Some(holder) => *holder == txn || self.latest(*holder).is_none(),
+            Some(holder) => self.agrees(txn, holder),
         }
+    }
+
+    /// Nor is any that may hold it for Adds.
+    fn adders_agree(&self, txn: u64, key: &Key) -> bool
+        ensures { result ≡ list_all (agrees self.now txn) (adders_of self.now key.now) }
+    {
+        match self.adders.by_key.get(key) {
+            None => true,
+            Some(adders) => adders.iter().all(|adder| self.agrees(txn, *adder)),
+        }
+    }
+
+    /// No other open transaction has an operation on this one's key, unless both are Adds.
+    pub(crate) fn is_free(&self, frames: &Frames, txn: u64, op: &Op) -> bool
+        requires { IsIndex frames.now.records self.now }
+        ensures { IsTrue result ↔ IsKeyFree frames.now.records txn op.now }
+    {
+        self.holder_agrees(txn, op.key()) && (op.is_add() || self.adders_agree(txn, op.key()))
     }
 
     /// Takes in a record of this number.
     pub(crate) fn follow(&mut self, accepted: &Record, number: u64) -> Result<(), AllocError>
         ensures open { OnOk result (Follows accepted.now number (latest_in self.old) (latest_in self.new)) }
         ensures holders { OnOk result (Holds accepted.now (holder_in self.old) (holder_in self.new)) }
+        ensures adders { OnOk result (Gains accepted.now (adders_of self.old) (adders_of self.new)) }
         ensures answered { self.new.answered ≡ self.old.answered }
     {
         match accepted {
@@ -75,7 +109,7 @@ impl Index {
             }
             Record::Op { txn, op, .. } => {
                 self.open.insert(*txn, number)?;
-                self.holders.insert(op.key().copied(), *txn)?;
+                self.hold(op, *txn)?;
             }
             Record::Comp { txn, .. } => {
                 self.open.insert(*txn, number)?;
@@ -86,5 +120,23 @@ impl Index {
             _ => {}
         }
         Ok(())
+    }
+
+    /// The transaction holds the operation's key from now on, alone or for Adds.
+    fn hold(&mut self, op: &Op, txn: u64) -> Result<(), AllocError>
+        ensures holders { OnOk result (MatchBool (is_add op.now) ((k : List ℕ) → holder_in self.new k ≡ holder_in self.old k)
+            (Puts (List ℕ) (holder_in self.old) (holder_in self.new) (key_of op.now) (Some txn))) }
+        ensures adders { OnOk result (PutsAdders (adders_of self.old) (adders_of self.new) (key_of op.now)
+            (if is_add op.now then adders_of self.old (key_of op.now) ++ txn ∷ [] else [])) }
+        ensures open { (t : ℕ) → latest_in self.new t ≡ latest_in self.old t }
+        ensures answered { self.new.answered ≡ self.old.answered }
+    {
+        if op.is_add() {
+            self.adders.add(op.key(), txn)
+        } else {
+            self.adders.clear(op.key());
+            self.holders.insert(op.key().copied(), txn)?;
+            Ok(())
+        }
     }
 }

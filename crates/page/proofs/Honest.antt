@@ -1,14 +1,14 @@
 -- An honest leaf where the log has one record more.
-use Rattle.std.proofs.Common.{◌≡◌, ℕ, ◌+◌, Bool, true, false, List, [], ◌∷◌, length, Option, Some, None, refl, sym, ap, ◌∙◌}
+use Rattle.std.proofs.Common.{◌≡◌, ℕ, ◌+◌, Bool, true, false, List, [], ◌∷◌, length, Option, Some, None, refl, sym, ap, ◌∙◌, true≢false}
 use Rattle.std.specs.Prelude.{if◌then◌else◌}
 use Rattle.std.specs.List.{AllByRecursion}
 use Rattle.record_key.specs.declared.op.Op.{Op}
 use Rattle.record_key.specs.declared.op.Answer.{Answer}
-use Rattle.record_key.specs.Table.{Bytes, key_of, answer_at}
+use Rattle.record_key.specs.Table.{Bytes, key_of, answer_at, value_after}
 use Rattle.history.specs.declared.record.Record.{Record}
 use Rattle.history.specs.Log.{request_of, Requests}
 use Rattle.history.specs.Values.{is_on, value_on, IsRight}
-use Rattle.history.specs.Honest.{Numbered, numbered_with, numbered_on, IsBeginning, value_of}
+use Rattle.history.specs.Honest.{Numbered, numbered_with, numbered_on, LeavesOutAdds, value_of}
 use Rattle.log_laws.proofs.Records.{ARequest, kept_at, had_at, before_old, not_newest}
 use Rattle.log_laws.proofs.LegalLogs.{request_number}
 use Rattle.record_key.specs.declared.entry.Entry.{Entry}
@@ -41,16 +41,19 @@ saved_longer r log (e ∷ es) all = (
 -- one number more on the key that isn't captured
 more_at : (cap : ℕ → Bool) (k : Bytes) (n : ℕ) (q : Option Op) (rest : List Numbered)
     → ((o : Op) → q ≡ Some o → cap n ≡ false)
-    → (IsBeginning cap rest → IsBeginning cap (numbered_with k n q rest))
+    → (LeavesOutAdds cap rest → LeavesOutAdds cap (numbered_with k n q rest))
     × (value_of cap (numbered_with k n q rest) ≡ value_of cap rest)
 more_at cap k n None rest out = (λ h. h, refl)
 more_at cap k n (Some o) rest out =
     pick (is_on k o)
   where
     pick : (b : Bool)
-        → (IsBeginning cap rest → IsBeginning cap (if b then record { number = n; op = o } ∷ rest else rest))
+        → (LeavesOutAdds cap rest → LeavesOutAdds cap (if b then record { number = n; op = o } ∷ rest else rest))
         × (value_of cap (if b then record { number = n; op = o } ∷ rest else rest) ≡ value_of cap rest)
-    pick true = rw (out o refl) (λ h. h, refl)
+    pick true = (
+      λ h. (λ got. absurd (true≢false (sym got ∙ out o refl)), h),
+      ap (λ b. if b then value_after o (value_of cap rest) else value_of cap rest) (out o refl),
+    )
     pick false = (λ h. h, refl)
 
 pub honest_longer : (r : Record) (log : List Record) (leaf : LeafView)
@@ -59,7 +62,7 @@ pub honest_longer : (r : Record) (log : List Record) (leaf : LeafView)
 honest_longer r log leaf out h = record {
   at = λ k within.
       let more = more_at (λ (m : ℕ). captures leaf.ab m) k (length log + 1) (request_of r) (numbered_on k log) out in
-      record { beginning = more.0 (h.at k within).beginning; right = (h.at k within).right ∙ sym more.1 };
+      record { left_out = more.0 (h.at k within).left_out; right = (h.at k within).right ∙ sym more.1 };
   saved = saved_longer r log leaf.ab.entries h.saved;
 }
 

@@ -1,5 +1,5 @@
 -- What a log does to a key, and captured numbers that are alike there.
-use Rattle.std.proofs.Common.{◌≡◌, ℕ, ◌+◌, ◌<◌, Bool, true, false, List, [], ◌∷◌, length, Option, Some, None, MatchBool, refl, sym, ap, ◌∙◌, subst, arith, inl, inr, true≢false}
+use Rattle.std.proofs.Common.{◌≡◌, ℕ, ◌+◌, ◌<◌, Bool, true, false, List, [], ◌∷◌, length, Option, Some, None, refl, sym, ap, ◌∙◌, subst, arith, inl, inr, true≢false}
 use Rattle.std.specs.Prelude.{if◌then◌else◌}
 use Rattle.std.specs.List.{AllByRecursion}
 use Rattle.record_key.specs.declared.op.Op.{Op}
@@ -8,7 +8,7 @@ use Rattle.record_key.proofs.Tables.{is_same-refl, is_same-true}
 use Rattle.history.specs.declared.record.Record.{Record}
 use Rattle.history.specs.Log.{before, request_of, Requests}
 use Rattle.history.specs.Values.{is_on}
-use Rattle.history.specs.Honest.{Numbered, numbered_with, numbered_on, AreCaptured, IsBeginning, value_of}
+use Rattle.history.specs.Honest.{Numbered, numbered_with, numbered_on, AreCapturedBut, LeavesOutAdds, value_of}
 use Rattle.log_laws.proofs.Records.{ARequest, no_request, at_newest, newest_at, kept_at, had_at, within, which, not_newest, before_new, before_old}
 
 -- the operation stands on the key
@@ -19,27 +19,32 @@ pub key_on : (k : Bytes) (o : Op) → is_on k o ≡ true → key_of o ≡ k
 key_on k o on = sym (is_same-true k (key_of o) on)
 
 -- all of what is done on a key, where it holds of each request there
-all_with : (P : ℕ → Type 0) (k : Bytes) (n : ℕ) (q : Option Op) (rest : List Numbered)
-    → ((o : Op) → q ≡ Some o → key_of o ≡ k → P n)
-    → AllByRecursion (λ d. P d.number) rest → AllByRecursion (λ d. P d.number) (numbered_with k n q rest)
+all_with : (P : ℕ → Op → Type 0) (k : Bytes) (n : ℕ) (q : Option Op) (rest : List Numbered)
+    → ((o : Op) → q ≡ Some o → key_of o ≡ k → P n o)
+    → AllByRecursion (λ d. P d.number d.op) rest → AllByRecursion (λ d. P d.number d.op) (numbered_with k n q rest)
 all_with P k n None rest new all = all
 all_with P k n (Some o) rest new all =
     pick (is_on k o) refl
   where
     pick : (b : Bool) → is_on k o ≡ b
-        → AllByRecursion (λ d. P d.number) (if b then record { number = n; op = o } ∷ rest else rest)
+        → AllByRecursion (λ d. P d.number d.op) (if b then record { number = n; op = o } ∷ rest else rest)
     pick true on = (new o refl (key_on k o on), all)
     pick false on = all
+
+pub all_requests : (P : ℕ → Op → Type 0) (k : Bytes) (log : List Record)
+    → ((n : ℕ) (o : Op) → Requests log n o → key_of o ≡ k → P n o)
+    → AllByRecursion (λ d. P d.number d.op) (numbered_on k log)
+all_requests P k [] each = tt
+all_requests P k (r ∷ log) each =
+    all_with P k (length log + 1) (request_of r) (numbered_on k log)
+    (λ o q on. each (length log + 1) o (at_newest (ARequest o) r log (length log + 1) refl q) on)
+    (all_requests P k log (λ n o requests on. each n o
+    (kept_at (ARequest o) r log n (within (ARequest o) (no_request o) log n requests) requests) on))
 
 pub all_done : (P : ℕ → Type 0) (k : Bytes) (log : List Record)
     → ((n : ℕ) (o : Op) → Requests log n o → key_of o ≡ k → P n)
     → AllByRecursion (λ d. P d.number) (numbered_on k log)
-all_done P k [] each = tt
-all_done P k (r ∷ log) each =
-    all_with P k (length log + 1) (request_of r) (numbered_on k log)
-    (λ o q on. each (length log + 1) o (at_newest (ARequest o) r log (length log + 1) refl q) on)
-    (all_done P k log (λ n o requests on. each n o
-    (kept_at (ARequest o) r log n (within (ARequest o) (no_request o) log n requests) requests) on))
+all_done P k log each = all_requests (λ n o. P n) k log each
 
 -- a request that no later one on its key follows is the newest there
 pub newest_done : (log : List Record) (n : ℕ) (o : Op) → Requests log n o
@@ -77,25 +82,28 @@ newest_done (r ∷ log) n o requests last =
         skip true on = absurd (none p refl (key_on (key_of o) p on))
         skip false on = refl
 
-pub captured_alike : (p q : ℕ → Bool) (done : List Numbered) → AllByRecursion (λ d. p d.number ≡ q d.number) done
-    → AreCaptured p done → AreCaptured q done
-captured_alike p q [] same all = tt
-captured_alike p q (d ∷ done) same all = (sym same.0 ∙ all.0, captured_alike p q done same.1 all.1)
+-- what is captured among what is done may be told in another way, and more may be captured
+pub captured_but_alike : (o : Op) (p q : ℕ → Bool) (done : List Numbered)
+    → AllByRecursion (λ d. p d.number ≡ true → q d.number ≡ true) done → AreCapturedBut o p done
+    → AreCapturedBut o q done
+captured_but_alike o p q [] more all = tt
+captured_but_alike o p q (d ∷ done) more all = (
+  elim all.0 [ inl got ↦ inl (more.0 got) | inr both ↦ inr both ],
+  captured_but_alike o p q done more.1 all.1,
+)
 
-beginning_at : (b c : Bool) (p q : ℕ → Bool) (done : List Numbered) → b ≡ c
-    → AllByRecursion (λ d. p d.number ≡ q d.number) done
-    → (IsBeginning p done → IsBeginning q done) → MatchBool b (AreCaptured p done) (IsBeginning p done)
-    → MatchBool c (AreCaptured q done) (IsBeginning q done)
-beginning_at true true p q done e same rest h = captured_alike p q done same h
-beginning_at false false p q done e same rest h = rest h
-beginning_at true false p q done e same rest h = absurd (true≢false e)
-beginning_at false true p q done e same rest h = absurd (true≢false (sym e))
+one_way : (p q : ℕ → Bool) (done : List Numbered) → AllByRecursion (λ d. p d.number ≡ q d.number) done
+    → AllByRecursion (λ d. p d.number ≡ true → q d.number ≡ true) done
+one_way p q [] same = tt
+one_way p q (d ∷ done) same = (λ got. sym same.0 ∙ got, one_way p q done same.1)
 
-pub beginning_alike : (p q : ℕ → Bool) (done : List Numbered) → AllByRecursion (λ d. p d.number ≡ q d.number) done
-    → IsBeginning p done → IsBeginning q done
-beginning_alike p q [] same h = tt
-beginning_alike p q (d ∷ done) same h =
-    beginning_at (p d.number) (q d.number) p q done same.0 same.1 (beginning_alike p q done same.1) h
+pub left_out_alike : (p q : ℕ → Bool) (done : List Numbered) → AllByRecursion (λ d. p d.number ≡ q d.number) done
+    → LeavesOutAdds p done → LeavesOutAdds q done
+left_out_alike p q [] same h = tt
+left_out_alike p q (d ∷ done) same h = (
+  λ got. captured_but_alike d.op p q done (one_way p q done same.1) (h.0 (same.0 ∙ got)),
+  left_out_alike p q done same.1 h.1,
+)
 
 pub value_alike : (p q : ℕ → Bool) (done : List Numbered) → AllByRecursion (λ d. p d.number ≡ q d.number) done
     → value_of p done ≡ value_of q done

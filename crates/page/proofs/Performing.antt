@@ -1,27 +1,26 @@
--- An honest leaf that performs the log's next number on a key stays honest.
-use Rattle.std.proofs.Common.{◌≡◌, ◌≢◌, ℕ, ◌+◌, ◌<◌, ◌==◌, ◌||◌, Bool, true, false, cond, List, [], ◌∷◌, Some, refl, sym, ap, ◌∙◌, subst, inl, inr, true≢false, eq-eqb, ne_eqb, length, arith}
+-- An honest leaf that performs a number that may be the log's next on its key stays honest.
+use Rattle.std.proofs.Common.{◌≡◌, ◌≢◌, ◌⊎◌, ℕ, ◌+◌, ◌<◌, ◌==◌, ◌||◌, Bool, true, false, cond, List, [], ◌∷◌, Some, refl, sym, ap, ◌∙◌, subst, inl, inr, true≢false, eq-eqb, ne_eqb, length, arith}
 use Rattle.std.specs.Prelude.{nat_lt}
 use Rattle.std.specs.List.{AllByRecursion}
 use Rattle.std.specs.FinMap.{get}
 use Rattle.std.proofs.Math.Bool.{or-true, or-false}
 use Rattle.std.proofs.lemmas.Bool.{cases_Bool}
 use Rattle.record_key.specs.declared.op.Op.{Op}
-use Rattle.record_key.specs.Table.{Bytes, key_of, answer_at, answer_in, value_after}
+use Rattle.record_key.specs.Table.{Bytes, key_of, AreAdds, answer_at, answer_in, value_after}
 use Rattle.record_key.proofs.Tables.{get-with_record_same, get-with_record_other}
 use Rattle.history.specs.declared.record.Record.{Record}
 use Rattle.history.specs.Log.{before, Requests, request_in}
 use Rattle.history.specs.Values.{is_on, value_on, IsRight}
-use Rattle.history.specs.Honest.{numbered_on, AreCaptured, IsHonestAt}
+use Rattle.history.specs.Honest.{numbered_on, IsHonestAt}
 use Rattle.log_laws.proofs.Records.{record_before, length_before}
 use Rattle.log_laws.proofs.LegalLogs.{request_number}
-use Rattle.log_laws.proofs.Plain.{value_of-captured}
 use Rattle.record_key.specs.declared.entry.Entry.{Entry}
 use Rattle.ab_lsn.specs.AbLsn.{captures, placed}
 use Rattle.ab_lsn.proofs.Capturing.{noted_captures}
 use Rattle.page.specs.Leaf.{LeafView, performed}
 use Rattle.page.specs.Honest.{IsSavedRight, IsHonestLeaf, IsNextOn}
-use Rattle.page.proofs.OnKey.{all_done, beginning_alike, value_alike, key_on, on_key}
-use Rattle.page.proofs.Captured.{falls, stands_on, later_uncaptured, value_before}
+use Rattle.page.proofs.OnKey.{all_requests, all_done, left_out_alike, value_alike, key_on, on_key}
+use Rattle.page.proofs.Captured.{falls, stands_on, later_uncaptured, answer_before, answer_captured}
 use Rattle.page.proofs.OneMore.{Grows, one_more}
 
 -- a request is one
@@ -63,39 +62,41 @@ module _ (log : List Record) (leaf : LeafView) (n : ℕ) (o : Op) (honest : IsHo
   here : IsHonestAt log old key (get leaf.rows key)
   here = honest.at key next.within
 
-  -- those before it on its key are captured, those after it aren't
-  older : AllByRecursion (λ d. d.number < n → old d.number ≡ true) (numbered_on key log)
-  older = all_done (λ m. m < n → old m ≡ true) key log (λ m q asks on less. next.others m q asks on less)
+  -- those before it on its key are captured, those after it aren't, but for Adds where it is one
+  older : AllByRecursion (λ d. d.number < n → (old d.number ≡ true) ⊎ AreAdds o d.op) (numbered_on key log)
+  older = all_requests (λ m q. m < n → (old m ≡ true) ⊎ AreAdds o q) key log
+      (λ m q asks on less. next.others m q asks on less)
 
-  later : (m : ℕ) (q : Op) → n < m → Requests log m q → key_of q ≡ key → old m ≡ false
+  later : (m : ℕ) (q : Op) → n < m → Requests log m q → key_of q ≡ key → (old m ≡ false) ⊎ AreAdds o q
   later m q less asks on =
-      later_uncaptured old key log n m o q here.beginning next.requests refl next.uncaptured asks on less
+      later_uncaptured old key log n m o q here.left_out next.requests refl next.uncaptured asks on less
 
-  before_captured : AreCaptured old (numbered_on key (before log n))
-  before_captured = all_done (λ m. old m ≡ true) key (before log n) (λ m q asks on.
+  before_captured : (m : ℕ) (q : Op) → Requests (before log n) m q → key_of q ≡ key
+      → (old m ≡ true) ⊎ AreAdds o q
+  before_captured m q asks on =
       let below : m < n = omega (
         arith,
         (request_number (before log n) m q asks).bounded,
         length_before log n (request_number log n o next.requests),
       ) in
       next.others m q (subst (λ r. request_in r ≡ Some q)
-      (record_before log m n (request_number log n o next.requests) below) asks) on below)
+      (record_before log m n (request_number log n o next.requests) below) asks) on below
 
-  -- what stands at the key is what the requests before it left
-  was : get leaf.rows key ≡ value_on key (before log n)
-  was = here.right ∙ value_before old key log n o next.requests next.uncaptured later
-      ∙ value_of-captured (before log n) key old before_captured
+  -- it is answered as after what the requests before it left
+  was : answer_at o (get leaf.rows key) ≡ answer_at o (value_on key (before log n))
+  was = ap (answer_at o) here.right ∙ answer_before old key log n o next.requests next.uncaptured later
+      ∙ answer_captured old key (before log n) o before_captured
 
   pub right_answer : IsRight log n (answer_in leaf.rows o)
-  right_answer q asks = let same : q ≡ o = one_request log n o q next.requests asks in rw same (ap (answer_at o) was)
+  right_answer q asks = let same : q ≡ o = one_request log n o q next.requests asks in rw same was
 
   grows : Grows old new o (numbered_on key log)
   grows = one_more old new n o next.uncaptured captured_itself captured_other (length log + 1) (numbered_on key log)
-      (falls key log) (stands_on key log n o next.requests refl) older here.beginning
+      (falls key log) (stands_on key log n o next.requests refl) older here.left_out
 
   honest_here : IsHonestAt log new key (get (performed leaf n o).rows key)
   honest_here = record {
-    beginning = grows.beginning;
+    left_out = grows.left_out;
     right = get-with_record_same leaf.rows key (value_after o (get leaf.rows key)) ∙ ap (value_after o) here.right
         ∙ sym grows.value;
   }
@@ -108,7 +109,7 @@ module _ (log : List Record) (leaf : LeafView) (n : ℕ) (o : Op) (honest : IsHo
       sym (captured_other m (λ e. apart
       (sym on ∙ ap key_of (one_request log n o p next.requests (subst (λ (z : ℕ). Requests log z p) e asks)))))) in
       record {
-        beginning = beginning_alike old new (numbered_on q log) alike h.beginning;
+        left_out = left_out_alike old new (numbered_on q log) alike h.left_out;
         right = get-with_record_other leaf.rows key q (value_after o (get leaf.rows key)) apart ∙ h.right
             ∙ value_alike old new (numbered_on q log) alike;
       }

@@ -11,7 +11,7 @@ use Rattle.ab_lsn.specs.AbLsn.{AbLsnView, captures, raised}
 use Rattle.ab_lsn.proofs.Capturing.{raised_captures}
 use Rattle.page.specs.Leaf.{LeafView, is_in_fences, raised_to}
 use Rattle.page.specs.Honest.{IsSavedRight, IsHonestLeaf, IsCapturedTo}
-use Rattle.page.proofs.OnKey.{all_done, beginning_alike, value_alike}
+use Rattle.page.proofs.OnKey.{all_done, left_out_alike, value_alike}
 
 kept : (P : Entry → Type 0) (b : Bool) (e : Entry) (es : List Entry) → P e → AllByRecursion P es
     → AllByRecursion P (cond b (e ∷ es) es)
@@ -57,7 +57,7 @@ honest_raised log leaf l honest to = record {
       (captured_to leaf l m (to.all m q asks (ap (is_in_fences leaf) on ∙ within)))
       ∙ sym (raised_captures leaf.ab l m)) in
       record {
-        beginning = beginning_alike old new (numbered_on k log) alike h.beginning;
+        left_out = left_out_alike old new (numbered_on k log) alike h.left_out;
         right = h.right ∙ value_alike old new (numbered_on k log) alike;
       };
   saved = all_raised (IsSavedRight log) leaf.ab l honest.saved;

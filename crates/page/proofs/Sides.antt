@@ -19,7 +19,7 @@ use Rattle.ab_lsn.proofs.Capturing.{parted_captures, joined_captures}
 use Rattle.page.specs.Leaf.{LeafView, is_in_fences, IsLeaf}
 use Rattle.page.specs.Parting.{upper_of, lower_of, joined_of, AreNeighbours}
 use Rattle.page.specs.Honest.{IsSavedRight, IsHonestLeaf, IsCapturedTo}
-use Rattle.page.proofs.OnKey.{all_done, beginning_alike, value_alike}
+use Rattle.page.proofs.OnKey.{all_done, left_out_alike, value_alike}
 use Rattle.page.proofs.Performing.{one_request}
 use Rattle.page.proofs.Raising.{or_there}
 use Rattle.page.proofs.Halves.{all_kept, all_joined, lower_between, upper_between, get_retained, Apart, apart_of, first_again, second_again}
@@ -32,7 +32,7 @@ honest_alike log old new k m n same value h =
     let alike : AllByRecursion (λ (d : Numbered). old d.number ≡ new d.number) (numbered_on k log) =
     all_done (λ (l : ℕ). old l ≡ new l) k log same in
     record {
-      beginning = beginning_alike old new (numbered_on k log) alike h.beginning;
+      left_out = left_out_alike old new (numbered_on k log) alike h.left_out;
       right = value ∙ h.right ∙ value_alike old new (numbered_on k log) alike;
     }
 

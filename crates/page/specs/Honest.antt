@@ -1,9 +1,9 @@
 -- When a leaf is honest for a log, and what keeps it so.
-use Rattle.std.specs.Prelude.{◌≡◌, ℕ, ◌<◌, ◌≤◌, true, false, List}
+use Rattle.std.specs.Prelude.{◌≡◌, ◌⊎◌, ℕ, ◌<◌, ◌≤◌, true, false, List}
 use Rattle.std.specs.List.{AllByRecursion}
 use Rattle.std.specs.FinMap.{get}
 use Rattle.record_key.specs.declared.op.Op.{Op}
-use Rattle.record_key.specs.Table.{Bytes, key_of}
+use Rattle.record_key.specs.Table.{Bytes, key_of, AreAdds}
 use Rattle.history.specs.declared.record.Record.{Record}
 use Rattle.history.specs.Log.{Requests}
 use Rattle.history.specs.Values.{IsRight}
@@ -20,24 +20,27 @@ pub record IsSavedRight (log : List Record) (e : Entry) : Type 0 where
   pub on_key : key_of op ≡ e.key
   pub right : IsRight log e.number e.answer
 
--- at each of its keys it has captured a beginning of what the log does there, and holds what that gives
+-- at each of its keys it has captured a beginning of what the log does there, but for Adds among Adds, and holds what
+-- that gives
 pub record IsHonestLeaf (log : List Record) (leaf : LeafView) : Type 0 where
   pub at : (k : Bytes) → is_in_fences leaf k ≡ true → IsHonestAt log (captures leaf.ab) k (get leaf.rows k)
   pub saved : AllByRecursion (IsSavedRight log) leaf.ab.entries
 
--- the number is the log's next on its key: it isn't captured, and all before it on the key are
+-- the number may be the log's next on its key: it isn't captured, and all before it on the key are, but for Adds where
+-- it is one
 pub record IsNextOn (log : List Record) (leaf : LeafView) (n : ℕ) (o : Op) : Type 0 where
   pub requests : Requests log n o
   pub within : is_in_fences leaf (key_of o) ≡ true
   pub uncaptured : captures leaf.ab n ≡ false
-  pub others : (m : ℕ) (q : Op) → Requests log m q → key_of q ≡ key_of o → m < n → captures leaf.ab m ≡ true
+  pub others : (m : ℕ) (q : Op) → Requests log m q → key_of q ≡ key_of o → m < n
+      → (captures leaf.ab m ≡ true) ⊎ AreAdds o q
 
 -- the log's numbers up to this one on the leaf's keys are captured
 pub record IsCapturedTo (log : List Record) (leaf : LeafView) (l : ℕ) : Type 0 where
   pub all : (n : ℕ) (o : Op) → Requests log n o → is_in_fences leaf (key_of o) ≡ true → n ≤ l
       → captures leaf.ab n ≡ true
 
--- a leaf stays honest where it performs the log's next number on a key, where the low number rises over captured
+-- a leaf stays honest where it performs a number that may be the log's next on a key, where the low number rises over captured
 -- ones, and on both sides of a cut in its fences; and so is the leaf of two neighbours, each of which has captured
 -- the log's numbers on its keys up to the low number of both
 pub record LeafLaw : Type 0 where

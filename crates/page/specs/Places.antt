@@ -1,7 +1,8 @@
 -- What an operation does to sorted rows, where its key's place is known.
-use Rattle.std.specs.Prelude.{◌≡◌, ℕ, zero, suc, true, false, List, [], ◌∷◌, Result, Ok, Err, insert, remove, slice_set}
+use Rattle.std.specs.Prelude.{◌≡◌, ℕ, zero, suc, true, false, List, [], ◌∷◌, get_or, Option, Some, None, Result, Ok, Err, insert, remove, slice_set}
 use Rattle.record_key.specs.declared.op.Op.{Op}
-use Rattle.record_key.specs.declared.op.Op.TheVariants.{Insert, Update, Upsert, Delete}
+use Rattle.record_key.specs.declared.op.Op.TheVariants.{Insert, Update, Upsert, Delete, Add}
+use Rattle.record_key.specs.Amounts.{summed}
 use Rattle.record_key.specs.Table.{Bytes}
 use Rattle.record_key.specs.Rows.{Row}
 use Rattle.record_key.specs.Order.{is_below}
@@ -12,6 +13,11 @@ IsStartFor k [] p = p ≡ 0
 IsStartFor k (row ∷ rows) zero = is_below row.0 k ≡ false
 IsStartFor k (row ∷ rows) (suc p) = (is_below row.0 k ≡ true) × IsStartFor k rows p
 
+-- with the sum at a place, where there is one
+abbrev pub rows_with_sum : List Row → ℕ → Bytes → Option Bytes → List Row
+rows_with_sum rows at k None = rows
+rows_with_sum rows at k (Some sum) = slice_set rows at (k, sum)
+
 abbrev pub rows_after : Op → Result ℕ ℕ → List Row → List Row
 rows_after (Insert k v) (Ok at) rows = rows
 rows_after (Insert k v) (Err gap) rows = insert rows gap (k, v)
@@ -21,3 +27,5 @@ rows_after (Upsert k v) (Ok at) rows = slice_set rows at (k, v)
 rows_after (Upsert k v) (Err gap) rows = insert rows gap (k, v)
 rows_after (Delete k) (Ok at) rows = remove rows at
 rows_after (Delete k) (Err gap) rows = rows
+rows_after (Add k x) (Ok at) rows = rows_with_sum rows at k (summed (get_or rows at ([], [])).1 x)
+rows_after (Add k x) (Err gap) rows = rows

@@ -1,12 +1,13 @@
 //! The records of a leaf, in key order: where a key stands, and what an operation does there.
-ghost use Rattle.std.specs.Prelude.{◌≡◌, ◌<◌, ◌≤◌, ◌++◌, not, length, filter, insert, vec_len, OnOk, IfOk, IfErr};
+ghost use Rattle.std.specs.Prelude.{◌≡◌, ◌<◌, ◌≤◌, ◌++◌, [], not, length, get_or, filter, insert, vec_len, OnOk, IfOk, IfErr};
 ghost use Rattle.std.specs.Option.{option_copied};
 ghost use Rattle.std.specs.Vec.{vec_capacity};
 ghost use Rattle.std.specs.FinMap.{get};
 ghost use Rattle.record_key.specs.Table.{answer_at as answer_to};
+ghost use Rattle.record_key.specs.Amounts.{summed};
 ghost use Rattle.record_key.specs.Order.{is_below};
 ghost use Rattle.record_key.specs.Rows.{IsPlaceOf, AreInOrder, table_of};
-ghost use Rattle.page.specs.Places.{IsStartFor, rows_after};
+ghost use Rattle.page.specs.Places.{IsStartFor, rows_after, rows_with_sum};
 
 use record_key::{Answer, Key, Op, Refusal, Value};
 
@@ -43,8 +44,13 @@ pub fn answer_at(op: &Op, old: Option<Value>) -> Answer
         (Op::Update(_, _), Some(old)) => Answer::Updated(old),
         (Op::Upsert(_, _), old) => Answer::Was(old),
         (Op::Delete(_), Some(old)) => Answer::Deleted(old),
+        (Op::Add(_, amount), Some(old)) => match old.plus(*amount) {
+            Some(_) => Answer::Added(*amount),
+            None => Answer::NotNumber,
+        },
         (Op::Update(_, _), None) => Answer::NoRecord,
         (Op::Delete(_), None) => Answer::NoRecord,
+        (Op::Add(_, _), None) => Answer::NoRecord,
     }
 }
 
@@ -115,6 +121,18 @@ pub fn write_at(rows: &mut Vec<(Key, Value)>, op: &Op, place: Result<usize, usiz
             rows.remove(at);
         }
         (Op::Delete(_), Err(_)) => {}
+        (Op::Add(key, amount), Ok(at)) => put_sum(rows, at, key, *amount),
+        (Op::Add(_, _), Err(_)) => {}
+    }
+}
+
+/// Adds to the number at a place, where one is there.
+fn put_sum(rows: &mut Vec<(Key, Value)>, at: usize, key: &Key, amount: u64)
+    requires { at < vec_len rows.old }
+    ensures { rows.new.items ≡ rows_with_sum rows.old.items at key.now (summed (get_or rows.old.items at ([], [])).1 amount) }
+{
+    if let Some(sum) = rows[at].1.plus(amount) {
+        rows[at] = (key.copied(), sum);
     }
 }
 

@@ -5,7 +5,7 @@ use Rattle.std.specs.BTreeSet.{BTreeSet, contains}
 use Rattle.std.specs.Ordering.{is_eq}
 use Rattle.std.specs.declared.cmp.Ordering.{Ordering}
 use Rattle.range_locks.specs.declared.span.Mode.{Mode}
-use Rattle.range_locks.specs.declared.span.Mode.TheVariants.{Shared, Exclusive}
+use Rattle.range_locks.specs.declared.span.Mode.TheVariants.{Shared, Increment, Exclusive}
 use Rattle.range_locks.specs.declared.span.Span.{Span}
 use Rattle.range_locks.specs.declared.span.Span.TheVariants.{Key, Range}
 use Rattle.range_locks.specs.declared.entry.Entry.{Entry}
@@ -21,29 +21,64 @@ by_parts (Range low None) (Range lo None) Shared Shared t u = refl
 by_parts (Range low None) (Range lo (Some f)) Shared Shared t u = refl
 by_parts (Range low (Some e)) (Range lo None) Shared Shared t u = refl
 by_parts (Range low (Some e)) (Range lo (Some f)) Shared Shared t u = refl
+by_parts (Range low None) (Range lo None) Shared Increment t u = refl
+by_parts (Range low None) (Range lo (Some f)) Shared Increment t u = refl
+by_parts (Range low (Some e)) (Range lo None) Shared Increment t u = refl
+by_parts (Range low (Some e)) (Range lo (Some f)) Shared Increment t u = refl
 by_parts (Range low None) (Range lo None) Shared Exclusive t u = refl
 by_parts (Range low None) (Range lo (Some f)) Shared Exclusive t u = refl
 by_parts (Range low (Some e)) (Range lo None) Shared Exclusive t u = refl
 by_parts (Range low (Some e)) (Range lo (Some f)) Shared Exclusive t u = refl
+by_parts (Range low None) (Range lo None) Increment Shared t u = refl
+by_parts (Range low None) (Range lo (Some f)) Increment Shared t u = refl
+by_parts (Range low (Some e)) (Range lo None) Increment Shared t u = refl
+by_parts (Range low (Some e)) (Range lo (Some f)) Increment Shared t u = refl
+by_parts (Range low None) (Range lo None) Increment Increment t u = refl
+by_parts (Range low None) (Range lo (Some f)) Increment Increment t u = refl
+by_parts (Range low (Some e)) (Range lo None) Increment Increment t u = refl
+by_parts (Range low (Some e)) (Range lo (Some f)) Increment Increment t u = refl
+by_parts (Range low None) (Range lo None) Increment Exclusive t u = refl
+by_parts (Range low None) (Range lo (Some f)) Increment Exclusive t u = refl
+by_parts (Range low (Some e)) (Range lo None) Increment Exclusive t u = refl
+by_parts (Range low (Some e)) (Range lo (Some f)) Increment Exclusive t u = refl
 by_parts (Range low None) (Range lo None) Exclusive Shared t u = refl
 by_parts (Range low None) (Range lo (Some f)) Exclusive Shared t u = refl
 by_parts (Range low (Some e)) (Range lo None) Exclusive Shared t u = refl
 by_parts (Range low (Some e)) (Range lo (Some f)) Exclusive Shared t u = refl
+by_parts (Range low None) (Range lo None) Exclusive Increment t u = refl
+by_parts (Range low None) (Range lo (Some f)) Exclusive Increment t u = refl
+by_parts (Range low (Some e)) (Range lo None) Exclusive Increment t u = refl
+by_parts (Range low (Some e)) (Range lo (Some f)) Exclusive Increment t u = refl
 by_parts (Range low None) (Range lo None) Exclusive Exclusive t u = refl
 by_parts (Range low None) (Range lo (Some f)) Exclusive Exclusive t u = refl
 by_parts (Range low (Some e)) (Range lo None) Exclusive Exclusive t u = refl
 by_parts (Range low (Some e)) (Range lo (Some f)) Exclusive Exclusive t u = refl
 by_parts (Range low high) (Key k) Shared Shared t u = refl
+by_parts (Range low high) (Key k) Shared Increment t u = refl
 by_parts (Range low high) (Key k) Shared Exclusive t u = refl
+by_parts (Range low high) (Key k) Increment Shared t u = refl
+by_parts (Range low high) (Key k) Increment Increment t u = refl
+by_parts (Range low high) (Key k) Increment Exclusive t u = refl
 by_parts (Range low high) (Key k) Exclusive Shared t u = refl
+by_parts (Range low high) (Key k) Exclusive Increment t u = refl
 by_parts (Range low high) (Key k) Exclusive Exclusive t u = refl
 by_parts (Key j) (Range lo hi) Shared Shared t u = refl
+by_parts (Key j) (Range lo hi) Shared Increment t u = refl
 by_parts (Key j) (Range lo hi) Shared Exclusive t u = refl
+by_parts (Key j) (Range lo hi) Increment Shared t u = refl
+by_parts (Key j) (Range lo hi) Increment Increment t u = refl
+by_parts (Key j) (Range lo hi) Increment Exclusive t u = refl
 by_parts (Key j) (Range lo hi) Exclusive Shared t u = refl
+by_parts (Key j) (Range lo hi) Exclusive Increment t u = refl
 by_parts (Key j) (Range lo hi) Exclusive Exclusive t u = refl
 by_parts (Key j) (Key k) Shared Shared t u = refl
+by_parts (Key j) (Key k) Shared Increment t u = refl
 by_parts (Key j) (Key k) Shared Exclusive t u = refl
+by_parts (Key j) (Key k) Increment Shared t u = refl
+by_parts (Key j) (Key k) Increment Increment t u = refl
+by_parts (Key j) (Key k) Increment Exclusive t u = refl
 by_parts (Key j) (Key k) Exclusive Shared t u = refl
+by_parts (Key j) (Key k) Exclusive Increment t u = refl
 by_parts (Key j) (Key k) Exclusive Exclusive t u = refl
 
 pub same_order : ◌≡◌ {A = Entry → Entry → Ordering} derived.cmp-value.it entry_cmp

@@ -10,7 +10,7 @@ use Rattle.std.proofs.lemmas.Map.Lookups.{exact_bytes, exact_unsigned}
 use Rattle.record_key.specs.Table.{Bytes}
 use Rattle.record_key.specs.Laws.{key_cmp}
 use Rattle.range_locks.specs.declared.span.Mode.{Mode}
-use Rattle.range_locks.specs.declared.span.Mode.TheVariants.{Shared, Exclusive}
+use Rattle.range_locks.specs.declared.span.Mode.TheVariants.{Shared, Increment, Exclusive}
 use Rattle.range_locks.specs.declared.span.Span.{Span}
 use Rattle.range_locks.specs.declared.span.Span.TheVariants.{Key, Range}
 use Rattle.range_locks.specs.declared.span.Lock.{Lock}
@@ -27,8 +27,13 @@ untied o out h = absurd (true≢false (sym (ap is_eq h) ∙ out))
 
 mode_exact : (a b : Mode) → mode_cmp a b ≡ Equal → a ≡ b
 mode_exact Shared Shared h = refl
+mode_exact Shared Increment h = untied Less refl h
 mode_exact Shared Exclusive h = untied Less refl h
+mode_exact Increment Shared h = untied Greater refl h
+mode_exact Increment Increment h = refl
+mode_exact Increment Exclusive h = untied Less refl h
 mode_exact Exclusive Shared h = untied Greater refl h
+mode_exact Exclusive Increment h = untied Greater refl h
 mode_exact Exclusive Exclusive h = refl
 
 end_exact : (a b : Option Bytes) → option_cmp key_cmp a b ≡ Equal → a ≡ b
@@ -63,6 +68,7 @@ entry_exact a b h =
 
 mode_tied : (m : Mode) → mode_cmp m m ≡ Equal
 mode_tied Shared = refl
+mode_tied Increment = refl
 mode_tied Exclusive = refl
 
 end_tied : (e : Option Bytes) → option_cmp key_cmp e e ≡ Equal

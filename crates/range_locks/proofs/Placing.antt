@@ -16,7 +16,7 @@ use Rattle.record_key.specs.Laws.{key_cmp}
 use Rattle.history.specs.Spans as law
 use Rattle.record_key.specs.Order.{is_below, ends_above}
 use Rattle.range_locks.specs.declared.span.Mode.{Mode}
-use Rattle.range_locks.specs.declared.span.Mode.TheVariants.{Shared, Exclusive}
+use Rattle.range_locks.specs.declared.span.Mode.TheVariants.{Shared, Increment, Exclusive}
 use Rattle.range_locks.specs.declared.span.Span.{Span}
 use Rattle.range_locks.specs.declared.span.Span.TheVariants.{Key, Range}
 use Rattle.range_locks.specs.declared.span.Lock.{Lock}
@@ -80,6 +80,7 @@ reaches_first k lo Shared zero Equal e above = refl
 reaches_first k lo Shared (suc u) Equal e above =
     let first : nat_cmp 0 (suc u) ≡ Less = grind (arith, nat_tests) in
     ap is_le first
+reaches_first k lo Increment u Equal e above = refl
 reaches_first k lo Exclusive u Equal e above = refl
 reaches_first k lo m u Greater e above =
     let under : key_cmp k lo ≡ Less = nat_list_cmp_total.antisymm k lo ∙ ap ordering_reverse e in
@@ -99,6 +100,7 @@ up_to_last j k m u Less e small le =
     let over : key_cmp k j ≡ Greater = nat_list_cmp_total.antisymm k j ∙ ap ordering_reverse e in
     absurd (subst (λ o. T (is_le o)) over le)
 up_to_last j k Shared u Equal e small le = refl
+up_to_last j k Increment u Equal e small le = refl
 up_to_last j k Exclusive u Equal e small le = grind (arith, nat_tests)
 up_to_last j k m u Greater e small le = refl
 

@@ -4,33 +4,33 @@ use Rattle.std.specs.Prelude.{filter}
 use Rattle.std.proofs.lemmas.Bool.{cases_eq}
 use Rattle.std.proofs.lemmas.List.{reverse-append, map-append, append-nil}
 use Rattle.std.proofs.lemmas.List.Elements.{filter_more}
-use Rattle.record_key.specs.Table.{Bytes}
-use Rattle.history.specs.Spans.{Span, Exclusive, at_key}
+use Rattle.history.specs.Spans.{Span, at_key}
 use Rattle.range_locks.specs.Locks.{LocksView, spans_of, set_spans, IsTable}
-use Rattle.range_locks.specs.Rebuilt.{IsRebuilt, listed_spans}
+use Rattle.range_locks.specs.Meant.{mode_of}
+use Rattle.range_locks.specs.Rebuilt.{Listed, IsRebuilt, listed_spans}
 use Rattle.range_locks.proofs.Tables.{set_table, set_own, set_other}
 
-abbrev pub span_at : ℕ × Bytes → Span
-span_at e = at_key Exclusive e.1
+abbrev pub span_at : Listed → Span
+span_at e = at_key (mode_of e.2) e.1
 
-module _ (locks : List (ℕ × Bytes)) (i : ℕ) (e : ℕ × Bytes) (within : i < length locks) (is : e ≡ get_or locks i e)
+module _ (locks : List (Listed)) (i : ℕ) (e : Listed) (within : i < length locks) (is : e ≡ get_or locks i e)
   where
-    more : (t : ℕ) → filter (λ (x : ℕ × Bytes). t == x.0) (take (i + 1) locks)
-        ≡ filter (λ (x : ℕ × Bytes). t == x.0) (take i locks) ++ cond (t == e.0) (e ∷ []) []
+    more : (t : ℕ) → filter (λ (x : Listed). t == x.0) (take (i + 1) locks)
+        ≡ filter (λ (x : Listed). t == x.0) (take i locks) ++ cond (t == e.0) (e ∷ []) []
     more t =
-        filter_more (λ (x : ℕ × Bytes). t == x.0) locks i e within
-        ∙ ap (λ (x : ℕ × Bytes). filter (λ (y : ℕ × Bytes). t == y.0) (take i locks) ++ cond (t == x.0) (x ∷ []) [])
+        filter_more (λ (x : Listed). t == x.0) locks i e within
+        ∙ ap (λ (x : Listed). filter (λ (y : Listed). t == y.0) (take i locks) ++ cond (t == x.0) (x ∷ []) [])
         (sym is)
 
     own : (t : ℕ) → t ≡ e.0 → listed_spans (take (i + 1) locks) t ≡ span_at e ∷ listed_spans (take i locks) t
     own t same =
-        let so_far : List (ℕ × Bytes) = filter (λ (x : ℕ × Bytes). t == x.0) (take i locks) in
+        let so_far : List (Listed) = filter (λ (x : Listed). t == x.0) (take i locks) in
         ap (λ es. reverse (map span_at es)) (more t ∙ ap (λ b. so_far ++ cond b (e ∷ []) []) (eq-eqb t e.0 same))
         ∙ ap reverse (map-append span_at so_far (e ∷ [])) ∙ reverse-append (map span_at so_far) (span_at e ∷ [])
 
     other : (t : ℕ) → t ≢ e.0 → listed_spans (take (i + 1) locks) t ≡ listed_spans (take i locks) t
     other t apart =
-        let so_far : List (ℕ × Bytes) = filter (λ (x : ℕ × Bytes). t == x.0) (take i locks) in
+        let so_far : List (Listed) = filter (λ (x : Listed). t == x.0) (take i locks) in
         ap (λ es. reverse (map span_at es))
         (more t ∙ ap (λ b. so_far ++ cond b (e ∷ []) []) (ne_eqb t e.0 apart) ∙ append-nil so_far)
 

@@ -9,7 +9,7 @@ use Rattle.history.specs.Spans as law
 use Rattle.history.specs.Spans.{do_conflict}
 use Rattle.record_key.specs.Order.{ends_above, is_below}
 use Rattle.range_locks.specs.declared.span.Mode.{Mode}
-use Rattle.range_locks.specs.declared.span.Mode.TheVariants.{Shared, Exclusive}
+use Rattle.range_locks.specs.declared.span.Mode.TheVariants.{Shared, Increment, Exclusive}
 use Rattle.range_locks.specs.declared.span.Span.{Span}
 use Rattle.range_locks.specs.declared.span.Span.TheVariants.{Key, Range}
 use Rattle.range_locks.specs.declared.span.Lock.{Lock}
@@ -18,6 +18,7 @@ use Rattle.range_locks.specs.Locks.{LocksView}
 
 abbrev pub mode_of : Mode → law.Mode
 mode_of Shared = law.Shared
+mode_of Increment = law.Increment
 mode_of Exclusive = law.Exclusive
 
 abbrev pub low_of : Span → Bytes

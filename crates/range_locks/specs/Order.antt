@@ -5,7 +5,7 @@ use Rattle.std.specs.declared.cmp.Ordering.{Ordering}
 use Rattle.std.specs.declared.cmp.Ordering.TheVariants.{Less, Equal, Greater}
 use Rattle.record_key.specs.Laws.{key_cmp}
 use Rattle.range_locks.specs.declared.span.Mode.{Mode}
-use Rattle.range_locks.specs.declared.span.Mode.TheVariants.{Shared, Exclusive}
+use Rattle.range_locks.specs.declared.span.Mode.TheVariants.{Shared, Increment, Exclusive}
 use Rattle.range_locks.specs.declared.span.Span.{Span}
 use Rattle.range_locks.specs.declared.span.Span.TheVariants.{Key, Range}
 use Rattle.range_locks.specs.declared.span.Lock.{Lock}
@@ -13,8 +13,13 @@ use Rattle.range_locks.specs.declared.entry.Entry.{Entry}
 
 abbrev pub mode_cmp : Mode → Mode → Ordering
 mode_cmp Shared Shared = Equal
+mode_cmp Shared Increment = Less
 mode_cmp Shared Exclusive = Less
+mode_cmp Increment Shared = Greater
+mode_cmp Increment Increment = Equal
+mode_cmp Increment Exclusive = Less
 mode_cmp Exclusive Shared = Greater
+mode_cmp Exclusive Increment = Greater
 mode_cmp Exclusive Exclusive = Equal
 
 abbrev pub span_cmp : Span → Span → Ordering

@@ -9,7 +9,7 @@ ghost use Rattle.range_locks.specs.Least.{lesser};
 ghost use Rattle.range_locks.specs.Rebuilt.{IsRebuilt};
 
 use crate::entry::Entry;
-use crate::span::Lock;
+use crate::span::{Lock, Mode};
 use record_key::{Key, Refusal};
 use std::alloc::Global;
 use std::collections::BTreeMap;
@@ -30,13 +30,13 @@ impl Held {
     }
 
     /// Where just these keys are held. Refused NoMemory.
-    pub fn of_keys(alloc: Global, locks: &[(u64, Key)]) -> Result<Held, Refusal>
+    pub fn of_keys(alloc: Global, locks: &[(u64, Key, Mode)]) -> Result<Held, Refusal>
         ensures rebuilt { IfOk result (λ held. IsRebuilt locks.now (seen held)) }
         ensures refused { IfErr result (λ refusal. refusal ≡ Refusal.NoMemory) }
     {
         let mut held = Held::new(alloc);
-        for (txn, key) in locks {
-            held.push(alloc, *txn, Lock::exclusive(key))?;
+        for (txn, key, mode) in locks {
+            held.push(alloc, *txn, Lock::of_key(key, *mode))?;
         }
         Ok(held)
     }

@@ -38,14 +38,14 @@ impl Parts {
     }
 
     /// Where just these keys are held. Refused NoMemory.
-    pub fn of_keys(alloc: Global, locks: &[(u64, Key)]) -> Result<Parts, Refusal>
+    pub fn of_keys(alloc: Global, locks: &[(u64, Key, Mode)]) -> Result<Parts, Refusal>
         ensures kept { IfOk result (λ parts. IsIndexed parts.held parts.index) }
         ensures rebuilt { IfOk result (λ parts. IsRebuilt locks.now (seen parts.held)) }
         ensures refused { IfErr result (λ refusal. refusal ≡ Refusal.NoMemory) }
     {
         let mut parts = Parts::new(alloc);
-        for (txn, key) in locks {
-            parts.add(*txn, Lock::exclusive(key))?;
+        for (txn, key, mode) in locks {
+            parts.add(*txn, Lock::of_key(key, *mode))?;
         }
         Ok(parts)
     }

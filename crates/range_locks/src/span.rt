@@ -1,16 +1,16 @@
 //! Spans of keys, and when two locks conflict.
 ghost use Rattle.std.specs.Prelude.{◌≡◌};
-ghost use Rattle.history.specs.Spans as law;
 ghost use Rattle.history.specs.Spans.{at_key, do_conflict};
 ghost use Rattle.record_key.specs.Order.{ends_above};
 ghost use Rattle.range_locks.specs.Meant.{mode_of, low_of, high_of, span_of, later, clash};
 
 use record_key::Key;
 
-/// What a span is held for. Two of different transactions agree only where both are shared.
+/// What a span is held for. Two of different transactions agree only where both are shared, or both for increments.
 #[derive(Debug, Clone, Copy, PartialEq, Eq, PartialOrd, Ord)]
 pub enum Mode {
     Shared,
+    Increment,
     Exclusive,
 }
 
@@ -36,7 +36,11 @@ impl Mode {
     {
         match (self, other) {
             (Mode::Shared, Mode::Shared) => false,
+            (Mode::Increment, Mode::Increment) => false,
+            (Mode::Shared, Mode::Increment) => true,
             (Mode::Shared, Mode::Exclusive) => true,
+            (Mode::Increment, Mode::Shared) => true,
+            (Mode::Increment, Mode::Exclusive) => true,
             (Mode::Exclusive, _) => true,
         }
     }
@@ -82,13 +86,13 @@ impl Span {
 }
 
 impl Lock {
-    /// One key, held alone.
-    pub fn exclusive(key: &Key) -> Lock
-        ensures { span_of result ≡ at_key law.Exclusive key.now }
+    /// One key, held for this.
+    pub fn of_key(key: &Key, mode: Mode) -> Lock
+        ensures { span_of result ≡ at_key (mode_of mode) key.now }
     {
         Lock {
             span: Span::Key(key.copied()),
-            mode: Mode::Exclusive,
+            mode,
         }
     }
 

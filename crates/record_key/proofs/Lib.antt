@@ -9,3 +9,5 @@ pub mod Steps
 pub mod Padding
 pub mod Kept
 pub mod Packing
+pub mod Amounts
+pub mod Adds

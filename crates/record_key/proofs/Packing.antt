@@ -7,21 +7,36 @@ use Rattle.std.proofs.Math.Seq.{take-append_seam}
 use Rattle.std.proofs.lemmas.List.{length-append, length-drop, drop_at, drop-append-le, take-append-le, take_all, get_or_append_left}
 use Rattle.record_key.specs.Table.{Bytes}
 use Rattle.record_key.specs.declared.op.Answer.{Answer}
-use Rattle.record_key.specs.declared.op.Answer.TheVariants.{Inserted, Updated, Was, Deleted, Exists, NoRecord}
+use Rattle.record_key.specs.declared.op.Answer.TheVariants.{Inserted, Updated, Was, Deleted, Exists, NoRecord, NotNumber, Added}
 use Rattle.record_key.specs.declared.entry.Entry.{Entry}
 use Rattle.record_key.specs.declared.slot.Slot.{Slot}
-use Rattle.record_key.specs.Packed.{kind_of, value_of, answer_of, packed, key_len, value_len, key_at, answer_at, IsPacked, HasLengths, entry_in, IsFilled}
+use Rattle.record_key.specs.Packed.{kind_of, value_of, answer_of, packed, key_len, value_len, key_at, answer_at, IsPacked, HasLengths, HasAmount, entry_in, IsFilled}
+use Rattle.record_key.proofs.Amounts.{amount_again, amount_length}
 use Rattle.record_key.proofs.Lists.{all_from}
 use Rattle.record_key.proofs.Kept.{retained, all_filtered, map-filtered}
 
-answer_again : (a : Answer) → answer_of (kind_of a) (value_of a) ≡ a
-answer_again Inserted = refl
-answer_again (Updated value) = refl
-answer_again (Was None) = refl
-answer_again (Was (Some value)) = refl
-answer_again (Deleted value) = refl
-answer_again Exists = refl
-answer_again NoRecord = refl
+answer_again : (a : Answer) → HasAmount a → answer_of (kind_of a) (value_of a) ≡ a
+answer_again Inserted h = refl
+answer_again (Updated value) h = refl
+answer_again (Was None) h = refl
+answer_again (Was (Some value)) h = refl
+answer_again (Deleted value) h = refl
+answer_again Exists h = refl
+answer_again NoRecord h = refl
+answer_again NotNumber h = refl
+answer_again (Added amount) h = ap Added (amount_again amount h)
+
+-- only an Added is of kind 9, and it has eight bytes
+amount_eight : (a : Answer) → kind_of a ≡ 9 → length (value_of a) ≡ 8
+amount_eight Inserted h = absurd (omega arith)
+amount_eight (Updated value) h = absurd (omega arith)
+amount_eight (Was None) h = absurd (omega arith)
+amount_eight (Was (Some value)) h = absurd (omega arith)
+amount_eight (Deleted value) h = absurd (omega arith)
+amount_eight Exists h = absurd (omega arith)
+amount_eight NoRecord h = absurd (omega arith)
+amount_eight NotNumber h = absurd (omega arith)
+amount_eight (Added amount) h = amount_length amount
 
 -- ---- more bytes
 
@@ -69,6 +84,7 @@ module _ (bytes more : List ℕ) (place : ℕ) (h : IsPacked bytes place) where
         some_key = omega (arith, key, h.some_key);
         short_key = omega (arith, key, h.short_key);
         short_value = omega (arith, value, h.short_value);
+        amount = λ nine. value ∙ h.amount (sym (same_head 1 (omega arith)) ∙ nine);
         within = omega (arith, key, value, h.within, longer);
       }
 
@@ -109,7 +125,7 @@ module _ (bytes : List ℕ) (key : Bytes) (answer : Answer) (h : HasLengths key 
       ∙ ap (λ (v : Bytes). answer_of (kind_of answer) (take (length (value_of answer)) v))
       (drop_at key (value_of answer) (length key) refl)
       ∙ ap (answer_of (kind_of answer)) (take_all (length (value_of answer)) (value_of answer) (omega arith))
-      ∙ answer_again answer
+      ∙ answer_again answer h.amount
 
   packed_newest : IsPacked longer (length bytes)
   unfolding packed
@@ -118,12 +134,15 @@ module _ (bytes : List ℕ) (key : Bytes) (answer : Answer) (h : HasLengths key 
       let all : length (drop (length bytes) longer) ≡ suc (suc (suc (length (key ++ value_of answer)))) =
       ap length newest in
       let first : key_len longer (length bytes) ≡ length key = ap (λ (t : List ℕ). get_or t 0 0) newest in
+      let second : get_or (drop (length bytes) longer) 1 0 ≡ kind_of answer =
+      ap (λ (t : List ℕ). get_or t 1 0) newest in
       let third : value_len longer (length bytes) ≡ length (value_of answer) =
       ap (λ (t : List ℕ). get_or t 2 0) newest in
       record {
         some_key = omega (arith, first, h.some_key);
         short_key = omega (arith, first, h.short_key);
         short_value = omega (arith, third, h.short_value);
+        amount = λ nine. third ∙ amount_eight answer (sym second ∙ nine);
         within = omega (arith, first, third, all, lengths);
       }
 

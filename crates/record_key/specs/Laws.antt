@@ -6,7 +6,8 @@ use Rattle.std.specs.Cmp.Lexicographic.{slice_cmp}
 use Rattle.std.specs.declared.cmp.Ordering.{Ordering}
 use Rattle.std.specs.declared.cmp.Ordering.TheVariants.{Less, Equal}
 use Rattle.std.specs.FinMap.{get}
-use Rattle.record_key.specs.Table.{Bytes, Table, with_record}
+use Rattle.record_key.specs.declared.op.Op.{Op}
+use Rattle.record_key.specs.Table.{Bytes, Table, AreAdds, answer_at, value_after, with_record}
 
 -- how two keys compare
 abbrev pub key_cmp : Bytes → Bytes → Ordering
@@ -23,3 +24,10 @@ pub record WritesOneKey : Type 0 where
   pub there : (m : Table) (k : Bytes) (r : Option Bytes) → get (with_record m k r) k ≡ r
   pub elsewhere : (m : Table) (k q : Bytes) (r : Option Bytes) → q ≢ k → get (with_record m k r) q ≡ get m q
   pub same : (m n : Table) → ((q : Bytes) → get m q ≡ get n q) → m ≡ n
+
+-- Adds leave the same in either order, and none changes what another is answered
+pub record AddsCommute : Type 0 where
+  pub value : (o q : Op) (r : Option Bytes) → AreAdds o q
+      → value_after o (value_after q r) ≡ value_after q (value_after o r)
+  pub answer : (o q : Op) (r : Option Bytes) → AreAdds o q
+      → answer_at o (value_after q r) ≡ answer_at o r

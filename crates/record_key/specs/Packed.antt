@@ -1,8 +1,9 @@
 -- A key and an answer as bytes: the key's length, the answer's kind, the length of its value, the key, the value.
-use Rattle.std.specs.Prelude.{ℕ, ◌<◌, ◌≤◌, ◌+◌, ◌==◌, List, [], ◌∷◌, ◌++◌, length, take, drop, get_or, Some, None, if◌then◌else◌}
+use Rattle.std.specs.Prelude.{◌≡◌, ℕ, ◌<◌, ◌≤◌, ◌+◌, ◌^◌, ◌==◌, List, [], ◌∷◌, ◌++◌, length, take, drop, get_or, Some, None, if◌then◌else◌}
 use Rattle.record_key.specs.Table.{Bytes}
 use Rattle.record_key.specs.declared.op.Answer.{Answer}
-use Rattle.record_key.specs.declared.op.Answer.TheVariants.{Inserted, Updated, Was, Deleted, Exists, NoRecord}
+use Rattle.record_key.specs.declared.op.Answer.TheVariants.{Inserted, Updated, Was, Deleted, Exists, NoRecord, NotNumber, Added}
+use Rattle.record_key.specs.Amounts.{amount_bytes, amount_in}
 use Rattle.record_key.specs.declared.entry.Entry.{Entry}
 use Rattle.record_key.specs.declared.slot.Slot.{Slot}
 
@@ -14,8 +15,10 @@ kind_of (Was (Some value)) = 4
 kind_of (Deleted value) = 5
 kind_of Exists = 6
 kind_of NoRecord = 7
+kind_of NotNumber = 8
+kind_of (Added amount) = 9
 
--- the value that an answer tells, no bytes where it tells none
+-- the value or the amount that an answer tells, no bytes where it tells none
 abbrev pub value_of : Answer → Bytes
 value_of Inserted = []
 value_of (Updated value) = value
@@ -24,6 +27,13 @@ value_of (Was (Some value)) = value
 value_of (Deleted value) = value
 value_of Exists = []
 value_of NoRecord = []
+value_of NotNumber = []
+value_of (Added amount) = amount_bytes amount
+
+-- the amount that an answer tells, 0 where it tells none
+abbrev pub amount_of : Answer → ℕ
+amount_of (Added amount) = amount
+amount_of _ = 0
 
 -- the answer of this kind
 abbrev pub answer_of : ℕ → Bytes → Answer
@@ -34,6 +44,8 @@ answer_of kind value =
     else if kind == 4 then Was (Some value)
     else if kind == 5 then Deleted value
     else if kind == 6 then Exists
+    else if kind == 8 then NotNumber
+    else if kind == 9 then Added (amount_in value)
     else NoRecord
 
 unfoldable pub packed : Bytes → Answer → List ℕ
@@ -59,13 +71,20 @@ pub record IsPacked (bytes : List ℕ) (place : ℕ) : Type 0 where
   pub some_key : 0 < key_len bytes place
   pub short_key : key_len bytes place ≤ 32
   pub short_value : value_len bytes place ≤ 120
+  pub amount : get_or (drop place bytes) 1 0 ≡ 9 → value_len bytes place ≡ 8
   pub within : 3 + (key_len bytes place + value_len bytes place) ≤ length (drop place bytes)
+
+-- an amount is of 8 bytes
+abbrev pub HasAmount : Answer → Type 0
+HasAmount (Added amount) = amount < 2 ^ 64
+HasAmount _ = Unit {0}
 
 -- what the types of a key and an answer ensure
 pub record HasLengths (key : Bytes) (answer : Answer) : Type 0 where
   pub some_key : 0 < length key
   pub short_key : length key ≤ 32
   pub short_value : length (value_of answer) ≤ 120
+  pub amount : HasAmount answer
 
 -- the entry whose key and answer stand at its place
 abbrev pub entry_in : List ℕ → Slot → Entry

@@ -1,13 +1,14 @@
 -- A table, and what an operation does to it.
-use Rattle.std.specs.Prelude.{ℕ, List, Option, Some, None}
+use Rattle.std.specs.Prelude.{◌≡◌, ℕ, Bool, true, false, List, Option, Some, None}
 use Rattle.std.specs.Ordering.{nat_cmp}
 use Rattle.std.specs.Cmp.Lexicographic.{slice_cmp}
 use Rattle.std.specs.FinMap as map
 use Rattle.std.specs.Coded.{Coded, coded_ℕ, coded_list}
 use Rattle.record_key.specs.declared.op.Op.{Op}
-use Rattle.record_key.specs.declared.op.Op.TheVariants.{Insert, Update, Upsert, Delete}
+use Rattle.record_key.specs.declared.op.Op.TheVariants.{Insert, Update, Upsert, Delete, Add}
 use Rattle.record_key.specs.declared.op.Answer.{Answer}
-use Rattle.record_key.specs.declared.op.Answer.TheVariants.{Inserted, Updated, Was, Deleted, Exists, NoRecord}
+use Rattle.record_key.specs.declared.op.Answer.TheVariants.{Inserted, Updated, Was, Deleted, Exists, NoRecord, NotNumber, Added}
+use Rattle.record_key.specs.Amounts.{summed}
 
 -- a key or a value, by its bytes
 abbrev pub Bytes : Type 0
@@ -27,6 +28,25 @@ key_of (Insert k v) = k
 key_of (Update k v) = k
 key_of (Upsert k v) = k
 key_of (Delete k) = k
+key_of (Add k x) = k
+
+-- an increment
+abbrev pub is_add : Op → Bool
+is_add (Add k x) = true
+is_add _ = false
+
+-- both are increments
+abbrev pub AreAdds : Op → Op → Type 0
+AreAdds o q = (is_add o ≡ true) × (is_add q ≡ true)
+
+-- what an Add of this amount comes to, where this is the sum
+abbrev pub add_answer : ℕ → Option Bytes → Answer
+add_answer x None = NotNumber
+add_answer x (Some sum) = Added x
+
+abbrev pub add_value : Bytes → Option Bytes → Bytes
+add_value old None = old
+add_value old (Some sum) = sum
 
 -- the answer, where this is the record at the operation's key
 abbrev pub answer_at : Op → Option Bytes → Answer
@@ -37,6 +57,8 @@ answer_at (Update k v) (Some old) = Updated old
 answer_at (Upsert k v) old = Was old
 answer_at (Delete k) None = NoRecord
 answer_at (Delete k) (Some old) = Deleted old
+answer_at (Add k x) None = NoRecord
+answer_at (Add k x) (Some old) = add_answer x (summed old x)
 
 -- the record that stands at the operation's key afterwards
 abbrev pub value_after : Op → Option Bytes → Option Bytes
@@ -46,6 +68,8 @@ value_after (Update k v) None = None
 value_after (Update k v) (Some old) = Some v
 value_after (Upsert k v) old = Some v
 value_after (Delete k) old = None
+value_after (Add k x) None = None
+value_after (Add k x) (Some old) = Some (add_value old (summed old x))
 
 -- the table with this at a key
 abbrev pub with_record : Table → Bytes → Option Bytes → Table

@@ -22,7 +22,7 @@ mod words;
 pub use entries::Entries;
 pub use entry::Entry;
 pub use key::Key;
-pub use laws::{key_order_law, table_law};
+pub use laws::{add_law, key_order_law, table_law};
 pub use op::{Answer, Op};
 pub use plain_table::PlainTable;
 pub use refusal::Refusal;

@@ -1,4 +1,4 @@
-//! The four operations on a record, and what they are answered.
+//! The five operations on a record, and what they are answered.
 ghost use Rattle.std.specs.Prelude.{◌≡◌};
 
 use crate::key::Key;
@@ -15,9 +15,11 @@ pub enum Op {
     Upsert(Key, Value),
     /// Removes the record that is there.
     Delete(Key),
+    /// Adds to the number that is there.
+    Add(Key, u64),
 }
 
-/// What an operation was answered. Exists and NoRecord say that it did nothing.
+/// What an operation was answered. Exists, NoRecord and NotNumber say that it did nothing.
 #[derive(Debug, Clone, PartialEq, Eq, Drop)]
 pub enum Answer {
     /// An Insert put its record.
@@ -30,20 +32,35 @@ pub enum Answer {
     Deleted(Value),
     /// An Insert found a record.
     Exists,
-    /// An Update or a Delete found none.
+    /// An Update, a Delete or an Add found none.
     NoRecord,
+    /// An Add found a value that is no number.
+    NotNumber,
+    /// An Add added this amount.
+    Added(u64),
 }
 
 impl Op {
-    ghost use Rattle.record_key.specs.Table.{key_of};
+    ghost use Rattle.record_key.specs.Table.{key_of, is_add};
 
     /// The key whose record the operation is on.
     pub fn key(&self) -> &Key
         ensures { result.now ≡ key_of self.now }
     {
         match self {
-            Op::Insert(key, _) | Op::Update(key, _) | Op::Upsert(key, _) | Op::Delete(key) => key,
+            Op::Insert(key, _)
+            | Op::Update(key, _)
+            | Op::Upsert(key, _)
+            | Op::Delete(key)
+            | Op::Add(key, _) => key,
         }
+    }
+
+    /// Whether it is an increment.
+    pub fn is_add(&self) -> bool
+        ensures { result ≡ is_add self.now }
+    {
+        matches!(self, Op::Add(_, _))
     }
 
     /// The same operation again. Takes no memory.

@@ -3,11 +3,13 @@
 ghost use Rattle.std.specs.Prelude.{◌≡◌, ◌+◌, ◌≤◌, ◌++◌, length, drop, Some, vec_len};
 ghost use Rattle.std.specs.Vec.{vec_capacity};
 ghost use Rattle.record_key.specs.Order.{is_below};
-ghost use Rattle.record_key.specs.Packed.{kind_of, value_of, answer_of, packed, key_at, answer_at, HasLengths, IsPacked};
+ghost use Rattle.record_key.specs.Amounts.{amount_bytes};
+ghost use Rattle.record_key.specs.Packed.{kind_of, value_of, amount_of, answer_of, packed, key_at, answer_at, HasLengths, IsPacked};
 
 use crate::key::Key;
 use crate::op::Answer;
 use crate::value::Value;
+use byteorder::{BigEndian, ByteOrder};
 
 /// The bytes in front of a key.
 const HEAD_LEN: usize = 3;
@@ -22,7 +24,8 @@ pub(crate) fn put(bytes: &mut Vec<u8>, key: &Key, answer: &Answer)
     ensures packed { bytes.new.items ≡ bytes.old.items ++ packed key.now answer.now }
     ensures lengths { HasLengths key.now answer.now }
 {
-    let (key, value) = (key.as_bytes(), value_of(answer));
+    let amount = amount_of(answer).to_be_bytes();
+    let (key, value) = (key.as_bytes(), value_of(answer, &amount));
     bytes.push_reserved(key.len() as u8);
     bytes.push_reserved(kind_of(answer));
     bytes.push_reserved(value.len() as u8);
@@ -54,11 +57,25 @@ fn kind_of(answer: &Answer) -> u8
         Answer::Deleted(_) => 5,
         Answer::Exists => 6,
         Answer::NoRecord => 7,
+        Answer::NotNumber => 8,
+        Answer::Added(_) => 9,
     }
 }
 
-/// The bytes of the value that an answer tells, none where it tells none.
-fn value_of(answer: &Answer) -> &[u8]
+/// The amount that an answer tells, 0 where it tells none.
+fn amount_of(answer: &Answer) -> u64
+    ensures { result ≡ amount_of answer.now }
+{
+    match answer {
+        Answer::Added(amount) => *amount,
+        _ => 0,
+    }
+}
+
+/// The bytes of the value or the amount that an answer tells, none where it tells none.
+#[tactic(auto, unfolding(crate::specs::Amounts::amount_bytes))]
+fn value_of<'a>(answer: &'a Answer, amount: &'a [u8; 8]) -> &'a [u8]
+    requires { amount.now ≡ amount_bytes (amount_of answer.now) }
     ensures bytes { result.now ≡ value_of answer.now }
     ensures bounded { length result.now ≤ 120 }
 {
@@ -66,7 +83,12 @@ fn value_of(answer: &Answer) -> &[u8]
         Answer::Updated(value) | Answer::Was(Some(value)) | Answer::Deleted(value) => {
             value.as_bytes()
         }
-        Answer::Inserted | Answer::Was(None) | Answer::Exists | Answer::NoRecord => &[],
+        Answer::Added(_) => amount,
+        Answer::Inserted
+        | Answer::Was(None)
+        | Answer::Exists
+        | Answer::NoRecord
+        | Answer::NotNumber => &[],
     }
 }
 
@@ -126,7 +148,9 @@ pub(crate) fn answer_at(bytes: &[u8], place: usize) -> Answer
     }
 }
 
+#[tactic(auto, unfolding(crate::specs::Amounts::amount_in))]
 fn answer_of(kind: u8, value: Value) -> Answer
+    requires { kind ≡ 9 → length value ≡ 8 }
     ensures { result ≡ answer_of kind value }
 {
     match kind {
@@ -136,6 +160,8 @@ fn answer_of(kind: u8, value: Value) -> Answer
         4 => Answer::Was(Some(value)),
         5 => Answer::Deleted(value),
         6 => Answer::Exists,
+        8 => Answer::NotNumber,
+        9 => Answer::Added(BigEndian::read_u64(value.as_bytes())),
         _ => Answer::NoRecord,
     }
 }

@@ -82,8 +82,16 @@ impl PlainTable {
                 remove_row(&mut self.rows, key);
                 Ok(Answer::Deleted(old))
             }
+            (Op::Add(key, amount), Some(old)) => match old.plus(*amount) {
+                Some(sum) => {
+                    put_row(&mut self.rows, key, &sum)?;
+                    Ok(Answer::Added(*amount))
+                }
+                None => Ok(Answer::NotNumber),
+            },
             (Op::Update(_, _), None) => Ok(Answer::NoRecord),
             (Op::Delete(_), None) => Ok(Answer::NoRecord),
+            (Op::Add(_, _), None) => Ok(Answer::NoRecord),
         }
     }
 }

@@ -1,8 +1,10 @@
 //! The value of a record.
 ghost use Rattle.std.specs.Prelude.{◌≡◌, ◌<◌, ◌≤◌, length};
+ghost use Rattle.record_key.specs.Amounts.{summed};
 
 use crate::inline::Inline;
 use crate::refusal::Refusal;
+use byteorder::{BigEndian, ByteOrder};
 use std::marker::Model;
 
 /// A value: 0 to 120 bytes, kept inline.
@@ -54,5 +56,19 @@ impl Value {
         ensures { result ≡ self.now }
     {
         Value { bytes: self.bytes }
+    }
+
+    /// The number that the value is with an amount more, which runs round at 2^64; none where it is no number, which
+    /// just a value of 8 bytes is. Takes no memory.
+    #[tactic(auto, unfolding(crate::specs::Amounts::summed))]
+    pub fn plus(&self, amount: u64) -> Option<Value>
+        ensures { result ≡ summed self.now amount }
+    {
+        let bytes = self.as_bytes();
+        if bytes.len() != 8 {
+            return None;
+        }
+        let sum = BigEndian::read_u64(bytes).wrapping_add(amount);
+        Value::new(&sum.to_be_bytes()).ok()
     }
 }

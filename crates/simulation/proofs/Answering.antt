@@ -3,21 +3,23 @@ use Rattle.std.proofs.Common.{◌≡◌, ◌≢◌, ℕ, ◌+◌, ◌<◌, ◌�
 use Rattle.std.specs.Prelude.{◌==◌, ◌&&◌, not, filter, if◌then◌else◌}
 use Rattle.std.specs.List.{AllByRecursion, list_any}
 use Rattle.std.specs.FinMap.{get}
-use Rattle.std.proofs.lemmas.Bool.{cases_eq, cases_order, or_cases}
+use Rattle.std.proofs.lemmas.Bool.{cases_eq, cases_Bool, or_cases}
 use Rattle.record_key.specs.declared.op.Op.{Op}
 use Rattle.record_key.specs.declared.op.Answer.{Answer}
-use Rattle.record_key.specs.Table.{Bytes, Table, key_of, value_after, answer_at, answer_in, after}
-use Rattle.record_key.proofs.Tables.{is_same, is_same-true, get-with_record, get-with_record_other}
+use Rattle.record_key.specs.Table.{Bytes, Table, key_of, is_add, AreAdds, value_after, answer_at, answer_in, after}
+use Rattle.record_key.proofs.Tables.{is_same, is_same-true, is_same-refl, get-with_record, get-with_record_other}
+use Rattle.record_key.proofs.Adds.{SeenAlike, seen_same, seen_after, seen_right, answered_alike}
 use Rattle.history.specs.declared.record.Record.{Record}
 use Rattle.history.specs.declared.record.Record.TheVariants as is
 use Rattle.history.specs.History.{Entry, plain, placed}
 use Rattle.history.specs.Log.{record_at, answer_of, is_crossed, IsOpen, IsOpBy, hist}
 use Rattle.history.specs.Legal.{IsLegal}
-use Rattle.history.specs.Values.{HasRightAnswers}
+use Rattle.history.specs.Values.{is_on, HasRightAnswers}
 use Rattle.history.specs.ListMachine.{Machine, Txn, Open, Waiting, TellsAnswer, with_txn}
-use Rattle.log_laws.proofs.Records.{AnOp, op_step, op_request, op_same, kept_at, both_same}
+use Rattle.log_laws.proofs.Records.{AnOp, op_same, kept_at, both_same}
 use Rattle.log_laws.proofs.LegalLogs.{op_number, kept_begun}
-use Rattle.log_laws.proofs.Strict.{strict, end_ends}
+use Rattle.log_laws.proofs.Plain.{get-after}
+use Rattle.log_laws.proofs.Sharing.{share_adds}
 use Rattle.log_laws.proofs.Named.{unanswered_uncrossed}
 use Rattle.simulation.specs.View.{View, Doing, Ready, Awaits, Looks, Rolls, counts, is_to_undo, standing, HasStatusOf, HasSaves, HasSavesOf, HoldsAs, HasEntry, IsUntold, IsUnentered, IsRecorded, StandsFor}
 use Rattle.simulation.specs.Running.{Leads, after_answer, AnswerIsTold}
@@ -83,21 +85,93 @@ plain_filtered p k (e ∷ h) all = by (p e) refl (plain_filtered p k h all.1)
         ∙ sym (ap (λ b. get (if b then plain h else after (plain h) e.op) k) c)
     by false drops rest = crossed_rest rest (all.0.out drops)
 
--- operations of two open transactions have two keys
+-- the same where what an Add sees is asked, and the filter may take Adds too
+seen_op : (m n : Table) (o : Op) (k : Bytes) → SeenAlike (get m k) (get n k)
+    → SeenAlike (get (after m o) k) (get (after n o) k)
+seen_op m n o k h =
+    subst (λ v. SeenAlike v (get (after n o) k)) (sym (get-after k m o (get m k) refl))
+    (subst (SeenAlike (if is_on k o then value_after o (get m k) else get m k)) (sym (get-after k n o (get n k) refl))
+    (pick (is_on k o)))
+  where
+    pick : (b : Bool)
+        → SeenAlike (if b then value_after o (get m k) else get m k) (if b then value_after o (get n k) else get n k)
+    pick true = seen_after o (get m k) (get n k) h
+    pick false = h
+
+-- at an operation's key, a filter takes only crossed entries, and those of other keys, and Adds where it is one
+pub record IsHarmlessTo (p : Entry → Bool) (o : Op) (e : Entry) : Type 0 where
+  pub out : p e ≡ false → (e.crossed ≡ true) ⊎ ((key_of o ≢ key_of e.op) ⊎ AreAdds o e.op)
+  pub stays : p e ≡ true → e.crossed ≡ false
+
+-- one entry that is taken
+seen_taken : (v : Option Bytes) (m : Table) (e : Entry) (o : Op)
+    → (e.crossed ≡ true) ⊎ ((key_of o ≢ key_of e.op) ⊎ AreAdds o e.op) → SeenAlike v (get m (key_of o))
+    → SeenAlike v (get (if e.crossed then m else after m e.op) (key_of o))
+seen_taken v m e o why h = pick e.crossed why
+  where
+    on : (b : Bool) → is_on (key_of o) e.op ≡ b → (key_of o ≢ key_of e.op) ⊎ AreAdds o e.op
+        → SeenAlike v (if b then value_after e.op (get m (key_of o)) else get m (key_of o))
+    on true is (inl apart) = absurd (apart (is_same-true (key_of o) (key_of e.op) is))
+    on true is (inr both) = seen_right e.op v (get m (key_of o)) both.1 h
+    on false is _ = h
+
+    pick : (c : Bool) → (c ≡ true) ⊎ ((key_of o ≢ key_of e.op) ⊎ AreAdds o e.op)
+        → SeenAlike v (get (if c then m else after m e.op) (key_of o))
+    pick true why = h
+    pick false (inl c) = absurd (true≢false (sym c))
+    pick false (inr why) =
+        subst (SeenAlike v) (sym (get-after (key_of o) m e.op (get m (key_of o)) refl))
+        (on (is_on (key_of o) e.op) refl why)
+
+seen_filtered : (p : Entry → Bool) (o : Op) (h : List Entry) → AllByRecursion (IsHarmlessTo p o) h
+    → SeenAlike (get (plain (filter p h)) (key_of o)) (get (plain h) (key_of o))
+seen_filtered p o [] all = seen_same (get (plain []) (key_of o))
+seen_filtered p o (e ∷ h) all = by (p e) refl (seen_filtered p o h all.1)
+  where
+    by : (b : Bool) → p e ≡ b → SeenAlike (get (plain (filter p h)) (key_of o)) (get (plain h) (key_of o))
+        → SeenAlike (get (plain (cond b (e ∷ filter p h) (filter p h))) (key_of o))
+        (get (if e.crossed then plain h else after (plain h) e.op) (key_of o))
+    by true keeps rest =
+        let c = all.0.stays keeps in
+        let P : Bool → Type 0 = λ b. SeenAlike
+        (get (if b then plain (filter p h) else after (plain (filter p h)) e.op) (key_of o))
+        (get (if b then plain h else after (plain h) e.op) (key_of o)) in
+        subst P (sym c) (seen_op (plain (filter p h)) (plain h) e.op (key_of o) rest)
+    by false drops rest = seen_taken (get (plain (filter p h)) (key_of o)) (plain h) e o (all.0.out drops) rest
+
+-- so the operation is answered alike
+pub answer_filtered : (p : Entry → Bool) (o : Op) (h : List Entry) → AllByRecursion (IsHarmlessTo p o) h
+    → answer_at o (get (plain (filter p h)) (key_of o)) ≡ answer_at o (get (plain h) (key_of o))
+answer_filtered p o h all =
+    elim (cases_Bool (is_add o)) [
+      | inl add ↦ answered_alike o (get (plain (filter p h)) (key_of o)) (get (plain h) (key_of o)) add
+          (seen_filtered p o h all)
+      | inr none ↦ ap (answer_at o) (plain_filtered p (key_of o) h (all_so (IsHarmlessTo p o) (IsHarmless p (key_of o))
+          (λ e to. record {
+            out = λ drops. elim (to.out drops) [
+              | inl c ↦ inl c
+              | inr why ↦ elim why [
+                | inl apart ↦ inr apart
+                | inr both ↦ absurd (true≢false (sym both.0 ∙ none))
+              ]
+            ];
+            stays = to.stays;
+          }) h all))
+    ]
+  where
+    all_so : (P Q : Entry → Type 0) → ((e : Entry) → P e → Q e) → (h : List Entry) → AllByRecursion P h
+        → AllByRecursion Q h
+    all_so P Q so [] all = tt
+    all_so P Q so (e ∷ h) all = (so e all.0, all_so P Q so h all.1)
+
+-- operations of two open transactions have two keys, or are Adds
 keys_apart : (log : List Record) (n t m u : ℕ) (o q : Op) → IsLegal log → IsOpBy log n t o → IsOpen log t
-    → IsOpBy log m u q → IsOpen log u → u ≢ t → key_of o ≢ key_of q
-keys_apart log n t m u o q legal by open_t is_op open_u other same =
-    elim (cases_order m n) [
-      | inl e ↦ other (op_same u t q o (record_at log n) (let P : ℕ → Type 0 = λ z. IsOpBy log z u q in subst P e is_op)
-          by).0
-      | inr (inl below) ↦
-          let found = strict log legal m n u t q o is_op below (op_step t o (record_at log n) by)
-          (op_request t o (record_at log n) by) same (λ e. other (sym e)) in
-          true≢false (sym (end_ends log u found.end found.is) ∙ open_u.goes_on)
-      | inr (inr above) ↦
-          let found = strict log legal n m t u o q by above (op_step u q (record_at log m) is_op)
-          (op_request u q (record_at log m) is_op) (sym same) other in
-          true≢false (sym (end_ends log t found.end found.is) ∙ open_t.goes_on)
+    → IsOpBy log m u q → IsOpen log u → u ≢ t → (key_of o ≢ key_of q) ⊎ AreAdds o q
+keys_apart log n t m u o q legal by open_t is_op open_u other =
+    elim (cases_Bool (is_same (key_of o) (key_of q))) [
+      | inl same ↦ inr (share_adds log n t m u o q legal by open_t is_op open_u other
+          (is_same-true (key_of o) (key_of q) same))
+      | inr apart ↦ inl (λ same. true≢false (sym (ap (λ z. is_same z (key_of q)) same ∙ is_same-refl (key_of q)) ∙ apart))
     ]
 
 -- flags
@@ -161,7 +235,7 @@ module _ (v : View) (m : Machine) (t n : ℕ) (a : Answer) (legal : IsLegal (is.
     )
 
     harmless : (k u : ℕ) (q : Op) → IsOpBy v.log k u q → (b : Answer)
-        → IsHarmless (counts v) (key_of o)
+        → IsHarmlessTo (counts v) o
         (record { number = k; txn = u; op = q; answer = b; crossed = is_crossed v.log k })
     harmless k u q by b = record {
       out = λ no_count. elim (why_out (is_crossed v.log k) (v.loses u) (is_to_undo (v.doing u) k) no_count) [
@@ -177,9 +251,8 @@ module _ (v : View) (m : Machine) (t n : ℕ) (a : Answer) (legal : IsLegal (is.
     told_so : a ≡ answer_in (plain m.h) o
     told_so =
         told_right v.log n t o legal.1 right.1 waiting.0.open_txn waiting.1 waiting.2 uncrossed_yet a right.0
-        ∙ ap (answer_at o) (sym (ap (λ x. get x (key_of o)) (sym (plain_uncrossed m.h) ∙ ap plain stands.entries)
-        ∙ plain_filtered (counts v) (key_of o) (hist v.log)
-        (all_hist (IsHarmless (counts v) (key_of o)) v.log v.log harmless)))
+        ∙ sym (ap (λ x. answer_at o (get x (key_of o))) (sym (plain_uncrossed m.h) ∙ ap plain stands.entries)
+        ∙ answer_filtered (counts v) o (hist v.log) (all_hist (IsHarmlessTo (counts v) o) v.log v.log harmless))
 
     abbrev entry : Entry
     entry = record { number = n; txn = t; op = o; answer = a; crossed = false }

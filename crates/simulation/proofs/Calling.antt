@@ -9,7 +9,7 @@ use Rattle.record_key.specs.Table.{key_of}
 use Rattle.history.specs.declared.record.Record.{Record}
 use Rattle.history.specs.declared.record.Record.TheVariants as is
 use Rattle.history.specs.History.{Entry}
-use Rattle.history.specs.Spans.{Exclusive, at_key}
+use Rattle.history.specs.Spans.{changed_span}
 use Rattle.history.specs.Log.{record_at, answer_of, is_crossed, IsOpen, IsOpBy, hist_in, entry_with}
 use Rattle.history.specs.Legal.{IsLegal}
 use Rattle.history.specs.ListMachine.{Machine, Txn, Status, Open, Waiting, Begins, Acts, IsFree, IsAbove, IsAboveAll, with_txn, blank}
@@ -111,7 +111,7 @@ begin_is_a_step v m legal stands = begins_so v m legal stands
 -- an operation
 module _ (v : View) (m : Machine) (t p : ℕ) (o : Op) (legal : IsLegal (is.Op t p o ∷ v.log)) (stands : StandsFor v m)
     (idle : v.doing t ≡ Some Ready)
-    (is_free : IsFree m t (at_key Exclusive (key_of o)))
+    (is_free : IsFree m t (changed_span o))
   where
     abbrev act_record : Record
     act_record = is.Op t p o
@@ -149,7 +149,7 @@ module _ (v : View) (m : Machine) (t p : ℕ) (o : Op) (legal : IsLegal (is.Op t
       loses = refl;
       doing = put_other v.doing t (Some (Awaits act_number)) u apart;
       saves = refl;
-      spans = put_other v.spans t (at_key Exclusive (key_of o) ∷ v.spans t) u apart;
+      spans = put_other v.spans t (changed_span o ∷ v.spans t) u apart;
       no_op = λ q e. apart (sym (op_same t u o q (Some act_record) refl e).0);
       no_end = refl;
       no_begin = λ at e. cc;
@@ -168,7 +168,7 @@ module _ (v : View) (m : Machine) (t p : ℕ) (o : Op) (legal : IsLegal (is.Op t
         let new : Txn = record (m.txns t) {
           status = Waiting act_number o;
           last = Some (act_number, o);
-          spans = at_key Exclusive (key_of o) ∷ (m.txns t).spans;
+          spans = changed_span o ∷ (m.txns t).spans;
         } in
         let own_spans : HoldsAs v t Open (m.txns t).spans =
         subst (λ s. HoldsAs v t s (m.txns t).spans) at.is_so x.spans in
@@ -202,8 +202,8 @@ module _ (v : View) (m : Machine) (t p : ℕ) (o : Op) (legal : IsLegal (is.Op t
                     act_next,
                   );
                   saves = own_saves;
-                  spans = subst (AreSpans (at_key Exclusive (key_of o) ∷ (m.txns t).spans))
-                      (sym (put_same v.spans t (at_key Exclusive (key_of o) ∷ v.spans t)))
+                  spans = subst (AreSpans (changed_span o ∷ (m.txns t).spans))
+                      (sym (put_same v.spans t (changed_span o ∷ v.spans t)))
                       (λ s. (
                         λ a. elim a [ inl e ↦ inl e | inr b ↦ inr ((own_spans s).0 b) ],
                         λ a. elim a [ inl e ↦ inl e | inr b ↦ inr ((own_spans s).1 b) ],

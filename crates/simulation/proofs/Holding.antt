@@ -7,7 +7,7 @@ use Rattle.record_key.specs.declared.op.Op.{Op}
 use Rattle.record_key.specs.Table.{key_of}
 use Rattle.history.specs.declared.record.Record.{Record}
 use Rattle.history.specs.History.{Entry, numbers_of}
-use Rattle.history.specs.Spans.{Span, Exclusive, at_key}
+use Rattle.history.specs.Spans.{Span, changed_span}
 use Rattle.history.specs.declared.record.Record.TheVariants as is
 use Rattle.history.specs.Legal.{IsLegal}
 use Rattle.history.specs.Log.{record_at, op_in, IsOpBy}
@@ -18,7 +18,7 @@ use Rattle.simulation.specs.View.{HasEntry, IsAmong, AreItsKeys}
 
 -- it is the key of one of the transaction's operations
 abbrev pub IsItsKey : List Record → ℕ → Span → Type 0
-IsItsKey log t s = (n : ℕ) × (o : Op) × IsOpBy log n t o × (s ≡ at_key Exclusive (key_of o))
+IsItsKey log t s = (n : ℕ) × (o : Op) × IsOpBy log n t o × (s ≡ changed_span o)
 
 -- one of two lists together
 pub among_either : (s : Span) (xs ys : List Span) → IsAmong s (xs ++ ys) → IsAmong s xs ⊎ IsAmong s ys
@@ -37,18 +37,18 @@ among_second s (x ∷ xs) ys h = inr (among_second s xs ys h)
 
 -- an entry's key is held by its transaction
 pub entry_holds : (h : List Entry) (n t : ℕ) (o : Op) → HasEntry h n t o
-    → IsAmong (at_key Exclusive (key_of o)) (entry_spans t h)
+    → IsAmong (changed_span o) (entry_spans t h)
 entry_holds [] n t o has = absurd has
 entry_holds (e ∷ h) n t o (inl is) =
-    subst (λ (b : Bool). IsAmong (at_key Exclusive (key_of o))
-    (map (λ (x : Entry). at_key Exclusive (key_of x.op))
+    subst (λ (b : Bool). IsAmong (changed_span o)
+    (map (λ (x : Entry). changed_span x.op)
     (cond b (e ∷ filter (λ x. x.txn == t) h) (filter (λ x. x.txn == t) h))))
-    (sym (eq-eqb e.txn t is.1)) (inl (ap (λ p. at_key Exclusive (key_of p)) (sym is.2)))
+    (sym (eq-eqb e.txn t is.1)) (inl (ap (λ p. changed_span p) (sym is.2)))
 entry_holds (e ∷ h) n t o (inr has) = by (e.txn == t) (entry_holds h n t o has)
   where
-    by : (b : Bool) → IsAmong (at_key Exclusive (key_of o)) (entry_spans t h)
-        → IsAmong (at_key Exclusive (key_of o))
-        (map (λ (x : Entry). at_key Exclusive (key_of x.op))
+    by : (b : Bool) → IsAmong (changed_span o) (entry_spans t h)
+        → IsAmong (changed_span o)
+        (map (λ (x : Entry). changed_span x.op)
         (cond b (e ∷ filter (λ x. x.txn == t) h) (filter (λ x. x.txn == t) h)))
     by true rest = inr rest
     by false rest = rest
@@ -70,9 +70,9 @@ held_by_entry log t s (e ∷ h) all among =
     ]
   where
     split : (b : Bool) → (e.txn == t) ≡ b
-        → IsAmong s (map (λ (x : Entry). at_key Exclusive (key_of x.op))
+        → IsAmong s (map (λ (x : Entry). changed_span x.op)
         (cond b (e ∷ filter (λ x. x.txn == t) h) (filter (λ x. x.txn == t) h)))
-        → (((e.txn == t) ≡ true) × (s ≡ at_key Exclusive (key_of e.op))) ⊎ IsAmong s (entry_spans t h)
+        → (((e.txn == t) ≡ true) × (s ≡ changed_span e.op)) ⊎ IsAmong s (entry_spans t h)
     split true is (inl same) = inl (is, same)
     split true is (inr rest) = inr rest
     split false is rest = inr rest
@@ -102,7 +102,7 @@ pub record Choice (log : List Record) (h : List Entry) (t : ℕ) (last : Option 
   pub kept : Bool
   pub each : (s : Span) → IsAmong s (if kept then last_spans last else []) → IsItsKey log t s
   pub all : (n : ℕ) (o : Op) → IsOpBy log n t o → HasEntry h n t o
-      ⊎ IsAmong (at_key Exclusive (key_of o)) (if kept then last_spans last else [])
+      ⊎ IsAmong (changed_span o) (if kept then last_spans last else [])
 
 -- each operation in the log has its entry or is the last
 abbrev pub AreEntered : List Record → List Entry → ℕ → Option (ℕ × Op) → Type 0
@@ -143,7 +143,7 @@ choose log h t (Some last) entered = at (op_in (record_at log last.0)) refl
       each = λ s among. elim among [ inl e ↦ (last.0, last.1, by, e) | inr none ↦ absurd none ];
       all = λ n o is. elim (entered n o is) [
         | inl e ↦ inl e
-        | inr e ↦ inr (inl (ap (λ p. at_key Exclusive (key_of p)) (sym (same_pair last.0 n last.1 o e).1)))
+        | inr e ↦ inr (inl (ap (λ p. changed_span p) (sym (same_pair last.0 n last.1 o e).1)))
       ];
     }
 
@@ -176,8 +176,8 @@ chosen log h t last recorded c = record {
     | inr e ↦ c.each s e
   ];
   all = λ n o by. elim (c.all n o by) [
-    | inl e ↦ among_first (at_key Exclusive (key_of o)) (entry_spans t h) (if c.kept then last_spans last else [])
+    | inl e ↦ among_first (changed_span o) (entry_spans t h) (if c.kept then last_spans last else [])
         (entry_holds h n t o e)
-    | inr e ↦ among_second (at_key Exclusive (key_of o)) (entry_spans t h) (if c.kept then last_spans last else []) e
+    | inr e ↦ among_second (changed_span o) (entry_spans t h) (if c.kept then last_spans last else []) e
   ];
 }

@@ -4,7 +4,7 @@ use Rattle.std.specs.List.{AllByRecursion}
 use Rattle.record_key.specs.declared.refusal.Refusal.TheVariants as no
 use Rattle.record_key.specs.Table.{key_of}
 use Rattle.history.specs.declared.record.Record.{Record}
-use Rattle.history.specs.Spans.{Span, Exclusive, at_key}
+use Rattle.history.specs.Spans.{Span, changed_span}
 use Rattle.history.specs.Legal.{IsLegal}
 use Rattle.history.specs.ListMachine.{Query, asked_span, Machine, Txn, Status, Open, Waiting, Reading, Rolling, Committing, Committed, Losing, Gone, Call, ToBegin, ToAct, ToRead, ToSave, ToGoBack, ToRollBack, ToCommit, HasStatus, IsHolder, MeetsHolder, NamesWhere, IsNotOpen, IsUnanswered, IsRollingBack, is_live}
 use Rattle.simulation.specs.View.{View, Ready, Awaits, Looks, Rolls, HasStatusOf, HasSavesOf, HoldsAs, IsAmong, AreSpans, AreItsKeys, StandsFor}
@@ -62,9 +62,9 @@ same_call t u s r e =
 meets : (m : Machine) (call : Call) (t u : ℕ) (s : Span) → wanted call ≡ Some (t, s) → HasStatus m t Open
     → IsHolder m t s u → MeetsHolder m call u
 meets m (ToAct x o) t u s e open_now by =
-    let same = same_call x t (at_key Exclusive (key_of o)) s e in (
+    let same = same_call x t (changed_span o) s e in (
       subst (λ (k : ℕ). HasStatus m k Open) (sym same.0) open_now,
-      subst (λ (k : ℕ). IsHolder m k (at_key Exclusive (key_of o)) u) (sym same.0)
+      subst (λ (k : ℕ). IsHolder m k (changed_span o) u) (sym same.0)
           (subst (λ r. IsHolder m t r u) (sym same.1) by),
     )
 meets m (ToRead x q) t u s e open_now by =

@@ -12,7 +12,7 @@ use Rattle.history.specs.History.{Entry, plain, placed, entries_of}
 use Rattle.history.specs.Values.{is_on}
 use Rattle.history.specs.ListMachine.{Machine, Txn, Status, Open, Waiting, Reading, Rolling, Committing, Committed, Losing, Gone, Line, Begins, Acts, TellsAnswer, Reads, TellsRow, TellsRows, Saves, GoesBack, TellsBack, RollsBack, TellsRolledBack, Commits, TellsCommitted, Crashes, TellsLost, IsRefused, HasStatus, Falls, Survives, Step, Steps, with_txn}
 use Rattle.log_laws.proofs.Plain.{entry_leaves}
-use Rattle.log_laws.proofs.Walking.{same_op}
+use Rattle.log_laws.proofs.Statuses.{same_op}
 use Rattle.simulation.specs.Lasting.{HasCommitted, IsOwned, IsAtRest, ActsElsewhere, ValuesLast}
 use Rattle.simulation.proofs.Entries.{marked, marked_all}
 use Rattle.simulation.proofs.Placing.{all_placed}

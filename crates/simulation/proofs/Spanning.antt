@@ -2,7 +2,7 @@
 use Rattle.std.proofs.Common.{◌≡◌, ℕ, true, List, [], ◌∷◌, refl, subst, inl, inr}
 use Rattle.record_key.specs.declared.op.Op.{Op}
 use Rattle.record_key.specs.Table.{key_of}
-use Rattle.history.specs.Spans.{Span, Exclusive, Conflict, AnyConflict, at_key}
+use Rattle.history.specs.Spans.{Span, Conflict, AnyConflict, changed_span}
 use Rattle.history.specs.Log.{IsOpBy}
 use Rattle.history.specs.ListMachine.{Status, Open, Waiting, Reading, Rolling, Committing, Committed, Losing, Gone}
 use Rattle.simulation.specs.View.{View, HasStatusOf, HoldsAs, IsAmong, AreSpans}
@@ -26,7 +26,7 @@ no_conflict s (x ∷ xs) each (inl c) = each x (inl refl) c
 no_conflict s (x ∷ xs) each (inr h) = no_conflict s xs (λ r among. each r (inr among)) h
 
 module _ (v : View) (s : Span) (u : ℕ) (out : AnyConflict s (v.spans u) → ⊥)
-    (keys : (n : ℕ) (o : Op) → v.loses u ≡ true → IsOpBy v.log n u o → Conflict s (at_key Exclusive (key_of o)) → ⊥)
+    (keys : (n : ℕ) (o : Op) → v.loses u ≡ true → IsOpBy v.log n u o → Conflict s (changed_span o) → ⊥)
   where
     as_held : (xs : List Span) → AreSpans xs (v.spans u) → AnyConflict s xs → ⊥
     as_held xs same h = out (conflicts_same s xs (v.spans u) (λ r. (same r).0) h)
@@ -57,5 +57,5 @@ free_by_true_spans v m t s stands true_spans out u apart h =
     let x = stands.each u in
     free_of v s u (out u apart)
     (λ n o loses by c. out u apart
-    (conflict_among s (at_key Exclusive (key_of o)) (v.spans u) ((true_spans.losers u loses).all n o by) c))
+    (conflict_among s (changed_span o) (v.spans u) ((true_spans.losers u loses).all n o by) c))
     (m.txns u).status (m.txns u).spans x.status x.spans h

@@ -4,7 +4,7 @@ use Rattle.std.specs.List.{AllByRecursion}
 use Rattle.record_key.specs.declared.refusal.Refusal.{Refusal}
 use Rattle.record_key.specs.declared.refusal.Refusal.TheVariants as no
 use Rattle.record_key.specs.Table.{key_of}
-use Rattle.history.specs.Spans.{Span, Exclusive, IsRange, AnyConflict, at_key}
+use Rattle.history.specs.Spans.{Span, IsRange, AnyConflict, changed_span}
 use Rattle.history.specs.Legal.{IsLegal}
 use Rattle.history.specs.ListMachine.{Query, asked_span, Machine, Call, ToBegin, ToAct, ToRead, ToSave, ToGoBack, ToRollBack, ToCommit, AreDifferent, IsRefused, Step}
 use Rattle.simulation.specs.View.{View, Ready, Awaits, Looks, Rolls, StandsFor}
@@ -43,7 +43,7 @@ RollingBackIsALine =
 
 -- what an operation or a read has to find free, for its transaction
 abbrev pub wanted : Call → Option (ℕ × Span)
-wanted (ToAct t o) = Some (t, at_key Exclusive (key_of o))
+wanted (ToAct t o) = Some (t, changed_span o)
 wanted (ToRead t q) = Some (t, asked_span q)
 wanted _ = None
 

@@ -5,7 +5,7 @@ use Rattle.record_key.specs.declared.op.Op.{Op}
 use Rattle.record_key.specs.declared.op.Answer.{Answer}
 use Rattle.record_key.specs.Table.{Bytes, key_of}
 use Rattle.history.specs.declared.record.Record.TheVariants as is
-use Rattle.history.specs.Spans.{Exclusive, IsRange, at_key, rows_in}
+use Rattle.history.specs.Spans.{IsRange, rows_in, changed_span}
 use Rattle.history.specs.History.{plain}
 use Rattle.history.specs.Log.{IsOpBy}
 use Rattle.history.specs.Legal.{IsLegal, Stands}
@@ -40,13 +40,13 @@ abbrev pub after_act : View → ℕ → ℕ → Op → View
 after_act v t p o = record v {
   log = is.Op t p o ∷ v.log;
   doing = put v.doing t (Some (Awaits (length v.log + 1)));
-  spans = put v.spans t (at_key Exclusive (key_of o) ∷ v.spans t);
+  spans = put v.spans t (changed_span o ∷ v.spans t);
 }
 
 abbrev pub ActIsAStep : Type 0
 ActIsAStep =
     (v : View) (m : Machine) (t p : ℕ) (o : Op) → IsLegal (is.Op t p o ∷ v.log) → StandsFor v m → v.doing t ≡ Some Ready
-    → IsFree m t (at_key Exclusive (key_of o))
+    → IsFree m t (changed_span o)
     → Leads v m (Acts t o (length v.log + 1)) (after_act v t p o)
 
 abbrev pub after_commit : View → ℕ → View

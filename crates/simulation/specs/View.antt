@@ -6,7 +6,7 @@ use Rattle.record_key.specs.Table.{key_of}
 use Rattle.history.specs.declared.record.Record.{Record}
 use Rattle.history.specs.declared.record.Record.TheVariants as is
 use Rattle.history.specs.History.{Entry}
-use Rattle.history.specs.Spans.{Span, Exclusive, at_key}
+use Rattle.history.specs.Spans.{Span, changed_span}
 use Rattle.history.specs.Log.{record_at, answer_of, has_ended, IsOpen, IsOpBy, hist}
 use Rattle.history.specs.ListMachine.{Query, Machine, Txn, Status, Open, Waiting, Reading, Rolling, Committing, Committed, Losing, Gone}
 
@@ -125,8 +125,8 @@ AreSpans xs ys = (s : Span) → IsAmong s xs ↔ IsAmong s ys
 
 -- the keys of the transaction's operations in the log, each exclusive
 pub record AreItsKeys (log : List Record) (t : ℕ) (spans : List Span) : Type 0 where
-  pub each : (s : Span) → IsAmong s spans → (n : ℕ) × (o : Op) × IsOpBy log n t o × (s ≡ at_key Exclusive (key_of o))
-  pub all : (n : ℕ) (o : Op) → IsOpBy log n t o → IsAmong (at_key Exclusive (key_of o)) spans
+  pub each : (s : Span) → IsAmong s spans → (n : ℕ) × (o : Op) × IsOpBy log n t o × (s ≡ changed_span o)
+  pub all : (n : ℕ) (o : Op) → IsOpBy log n t o → IsAmong (changed_span o) spans
 
 -- an open or committing one holds what the component has for it, a loser the keys of its operations
 abbrev pub HoldsAs : View → ℕ → Status → List Span → Type 0

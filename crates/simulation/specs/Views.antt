@@ -6,7 +6,7 @@ use Rattle.record_key.specs.Table.{Bytes, key_of}
 use Rattle.history.specs.declared.record.Record.{Record}
 use Rattle.history.specs.declared.record.Record.TheVariants as is
 use Rattle.history.specs.History.{plain}
-use Rattle.history.specs.Spans.{Span, Exclusive, Conflict, AnyConflict, at_key}
+use Rattle.history.specs.Spans.{Span, Conflict, AnyConflict, changed_span}
 use Rattle.history.specs.Log.{answer_of, is_crossed, IsOpBy, hist}
 use Rattle.history.specs.Legal.{IsLegal}
 use Rattle.history.specs.Values.{HasRightAnswers, value_on}
@@ -37,7 +37,7 @@ abbrev pub FreeSpansAreFree : Type 0
 FreeSpansAreFree =
     (v : View) (m : Machine) (t : ℕ) (s : Span) → StandsFor v m
     → ((u : ℕ) → u ≢ t → AnyConflict s (v.spans u) → ⊥)
-    → ((u n : ℕ) (o : Op) → v.loses u ≡ true → IsOpBy v.log n u o → Conflict s (at_key Exclusive (key_of o)) → ⊥)
+    → ((u n : ℕ) (o : Op) → v.loses u ≡ true → IsOpBy v.log n u o → Conflict s (changed_span o) → ⊥)
     → IsFree m t s
 
 -- no Commit of the transaction waits for a force

@@ -1,24 +1,24 @@
 -- What transactions hold by the log, and what a record more makes of it.
-use Rattle.std.proofs.Common.{◌≡◌, ◌≢◌, ℕ, ◌+◌, Bool, true, false, List, [], ◌∷◌, ◌++◌, length, Some, None, IsSome, is_some, refl, sym, ap, ◌∙◌, subst, inl, inr, eq-eqb, ne_eqb}
+use Rattle.std.proofs.Common.{◌≡◌, ◌≢◌, ℕ, ◌+◌, Bool, true, false, List, [], ◌∷◌, ◌++◌, length, Some, None, IsSome, is_some, refl, sym, ap, ◌∙◌, subst, inl, inr, eq-eqb, ne_eqb, cond, filter}
 use Rattle.std.specs.Prelude.{◌==◌, not, ◌&&◌, ◌||◌, if◌then◌else◌}
 use Rattle.std.specs.Ordering.{is_lt}
 use Rattle.std.specs.declared.cmp.Ordering.TheVariants.{Equal}
 use Rattle.std.proofs.lemmas.Bool.{cases_eq}
 use Rattle.std.proofs.lemmas.Cmp.{nat_list_cmp_total, tied_itself}
 use Rattle.record_key.specs.declared.op.Op.{Op}
-use Rattle.record_key.specs.Table.{Bytes, key_of}
+use Rattle.record_key.specs.Table.{Bytes, key_of, is_add}
 use Rattle.record_key.specs.Laws.{key_cmp}
 use Rattle.record_key.proofs.KeyOrder.{key_cmp-beginning}
 use Rattle.history.specs.declared.record.Record.{Record}
 use Rattle.history.specs.declared.record.Record.TheVariants as is
 use Rattle.history.specs.Log.{record_at, op_of, IsOpBy}
 use Rattle.history.specs.Legal.{IsLegal}
-use Rattle.history.specs.Spans.{Span, Exclusive, at_key, is_within, Conflict, AnyConflict}
+use Rattle.history.specs.Spans.{Span, Exclusive, at_key, is_within, Conflict, AnyConflict, changed_span, do_conflict, mode_of, Shared, Increment}
 use Rattle.log_laws.proofs.Records.{AnOp, op_step, both_same, newest_at, older_at, at_newest, at_older, not_newest}
 use Rattle.log_laws.proofs.LegalLogs.{begun, begun_number, op_number}
 use Rattle.tc_core.specs.declared.open_txn.OpenTxn.{OpenTxn}
 use Rattle.tc_core.specs.OpenTxns.{find, replace, without}
-use Rattle.tc_core.specs.Locking.{op_spans, held_spans, is_holder, is_listed}
+use Rattle.tc_core.specs.Locking.{op_spans, held_spans, is_holder, is_listed, excludes, is_exclusive}
 use Rattle.tc_core.proofs.Finding.{find_here, find_there, replaced_same, replaced_other, without_same, without_other}
 
 -- a key conflicts with itself
@@ -31,6 +31,33 @@ within_itself k =
 pub conflicts_itself : (k : Bytes) → Conflict (at_key Exclusive k) (at_key Exclusive k)
 conflicts_itself k = (k, within_itself k, within_itself k, refl)
 
+-- what two operations of one key are held for, where that conflicts
+pub conflict_at : (o q : Op) → key_of o ≡ key_of q → do_conflict (mode_of o) (mode_of q) ≡ true
+    → Conflict (changed_span o) (changed_span q)
+conflict_at o q same clash =
+    let P : Bytes → Type 0 = λ k. is_within (at_key Exclusive k) (key_of o) ≡ true in
+    (key_of o, within_itself (key_of o), subst P same (within_itself (key_of o)), clash)
+
+-- what an operation holds is held against readers, and counts as changed
+pub changed_excludes : (o : Op) → is_exclusive (changed_span o) ≡ true
+changed_excludes o = pick (is_add o)
+  where
+    pick : (b : Bool) → excludes (if b then Increment else Exclusive) ≡ true
+    pick true = refl
+    pick false = refl
+
+pub reader_conflicts : (o : Op) → do_conflict Shared (mode_of o) ≡ true
+reader_conflicts o = pick (is_add o)
+  where
+    pick : (b : Bool) → do_conflict Shared (if b then Increment else Exclusive) ≡ true
+    pick true = refl
+    pick false = refl
+
+pub kept_changed : (o : Op) (spans : List Span)
+    → filter is_exclusive (changed_span o ∷ spans) ≡ changed_span o ∷ filter is_exclusive spans
+kept_changed o spans =
+    ap (λ b. cond b (changed_span o ∷ filter is_exclusive spans) (filter is_exclusive spans)) (changed_excludes o)
+
 -- the keys of the records before are held on
 any_if : (b : Bool) (s x : Span) (xs : List Span) → AnyConflict s xs → AnyConflict s (if b then x ∷ xs else xs)
 any_if true s x xs any = inr any
@@ -38,27 +65,27 @@ any_if false s x xs any = any
 
 any_longer : (s : Span) (r : Record) (log : List Record) (t : ℕ) → AnyConflict s (op_spans log t)
     → AnyConflict s (op_spans (r ∷ log) t)
-any_longer s (is.Op u p op) log t any = any_if (t == u) s (at_key Exclusive (key_of op)) (op_spans log t) any
+any_longer s (is.Op u p op) log t any = any_if (t == u) s (changed_span op) (op_spans log t) any
 any_longer s _ log t any = any
 
 -- and the key of the newest operation
 any_newest : (s : Span) (r : Record) (log : List Record) (t : ℕ) (o : Op) → op_of r ≡ Some (t, o)
-    → Conflict s (at_key Exclusive (key_of o)) → AnyConflict s (op_spans (r ∷ log) t)
+    → Conflict s (changed_span o) → AnyConflict s (op_spans (r ∷ log) t)
 any_newest s (is.Op u p op) log t o by clash = pick (t == u) (eq-eqb t u (sym same.0))
   where
     same : (u ≡ t) × (op ≡ o)
     same = both_same u t op o by
 
     pick : (b : Bool) → b ≡ true
-        → AnyConflict s (if b then at_key Exclusive (key_of op) ∷ op_spans log t else op_spans log t)
-    pick true h = let P : Op → Type 0 = λ x. Conflict s (at_key Exclusive (key_of x)) in
+        → AnyConflict s (if b then changed_span op ∷ op_spans log t else op_spans log t)
+    pick true h = let P : Op → Type 0 = λ x. Conflict s (changed_span x) in
         inl (subst P (sym same.1) clash)
     pick false h = absurd (cc)
 any_newest s _ log t o by clash = absurd (cc)
 
 -- each operation of a transaction holds its key
 pub op_spans_has : (s : Span) (log : List Record) (n t : ℕ) (o : Op) → IsOpBy log n t o
-    → Conflict s (at_key Exclusive (key_of o)) → AnyConflict s (op_spans log t)
+    → Conflict s (changed_span o) → AnyConflict s (op_spans log t)
 op_spans_has s [] n t o by clash = absurd (cc)
 op_spans_has s (r ∷ log) n t o by clash =
     elim (cases_eq n (length log + 1)) [
@@ -88,14 +115,14 @@ op_spans_longer _ log t none = refl
 
 -- an operation takes its key for its transaction, and nothing for another
 op_spans_own : (t p : ℕ) (op : Op) (log : List Record)
-    → op_spans (is.Op t p op ∷ log) t ≡ at_key Exclusive (key_of op) ∷ op_spans log t
+    → op_spans (is.Op t p op ∷ log) t ≡ changed_span op ∷ op_spans log t
 op_spans_own t p op log =
-    ap (λ b. if b then at_key Exclusive (key_of op) ∷ op_spans log t else op_spans log t) (eq-eqb t t refl)
+    ap (λ b. if b then changed_span op ∷ op_spans log t else op_spans log t) (eq-eqb t t refl)
 
 op_spans_other : (t p : ℕ) (op : Op) (log : List Record) (u : ℕ) → u ≢ t
     → op_spans (is.Op t p op ∷ log) u ≡ op_spans log u
 op_spans_other t p op log u apart =
-    ap (λ b. if b then at_key Exclusive (key_of op) ∷ op_spans log u else op_spans log u) (ne_eqb u t apart)
+    ap (λ b. if b then changed_span op ∷ op_spans log u else op_spans log u) (ne_eqb u t apart)
 
 -- who has no operation holds nothing
 pub op_spans_none : (log : List Record) (t : ℕ) → ((n : ℕ) (o : Op) → IsOpBy log n t o → ⊥) → op_spans log t ≡ []
@@ -150,12 +177,12 @@ Holds log os cs t spans log2 os2 =
 -- an operation takes its key
 pub held_acted : (log : List Record) (os : List OpenTxn) (cs : List ℕ) (new o : OpenTxn) (p : ℕ) (op : Op)
     → find new.txn os ≡ Some o
-    → Holds log os cs new.txn (at_key Exclusive (key_of op) ∷ held_spans log os cs new.txn) (is.Op new.txn p op ∷ log)
+    → Holds log os cs new.txn (changed_span op ∷ held_spans log os cs new.txn) (is.Op new.txn p op ∷ log)
     (replace new os)
 held_acted log os cs new o p op at =
     let r : Record = is.Op new.txn p op in (
       held_open (r ∷ log) (replace new os) cs new.txn new (replaced_same new o os at) ∙ op_spans_own new.txn p op log
-          ∙ ap (λ (x : List Span). at_key Exclusive (key_of op) ∷ x) (sym (held_open log os cs new.txn o at)),
+          ∙ ap (λ (x : List Span). changed_span op ∷ x) (sym (held_open log os cs new.txn o at)),
       λ u apart. held_alike log (r ∷ log) os (replace new os) cs cs u (holder_replaced new o os cs at u)
           (op_spans_other new.txn p op log u apart),
     )

@@ -5,7 +5,7 @@ use Rattle.record_key.specs.declared.op.Op.{Op}
 use Rattle.record_key.specs.Table.{key_of}
 use Rattle.history.specs.declared.record.Record.{Record}
 use Rattle.history.specs.Log.{IsOpen, IsOpBy}
-use Rattle.history.specs.Spans.{Exclusive, at_key, is_within, IsRange, Conflict}
+use Rattle.history.specs.Spans.{is_within, IsRange, Conflict, changed_span}
 use Rattle.history.specs.Spans as law
 use Rattle.range_locks.specs.declared.span.Span.{Span}
 use Rattle.range_locks.specs.Locks.{spans_of, IsFree}
@@ -22,7 +22,7 @@ use Rattle.tc_core.specs.Changes.{shared, reading_txn, asked_read, told_txn, was
 use Rattle.tc_core.specs.Replies.{reader}
 use Rattle.tc_core.specs.Kept.{IsTc, closing, IsOpenTxn, Waits, IsReading}
 use Rattle.tc_core.proofs.Finding.{IsOldest, oldest_none, oldest_found}
-use Rattle.tc_core.proofs.HeldSpans.{within_itself}
+use Rattle.tc_core.proofs.HeldSpans.{within_itself, reader_conflicts}
 use Rattle.tc_core.proofs.LocksHeld.{replaced, shares}
 use Rattle.tc_core.proofs.Readings.{reads_replaced, reads_asked}
 use Rattle.tc_core.proofs.KeepsOpen.{replaced_open}
@@ -140,8 +140,8 @@ held_apart w o r n u q k at some by open_u other =
     elim (cases_Bool (is_within (shared r.span) (key_of q))) [
       | inl within ↦
           let h : IsReading w.reads w.locks o r = reading_at w o r k at some in
-          let clash : Conflict (shared r.span) (at_key Exclusive (key_of q)) =
-          (key_of q, within, within_itself (key_of q), refl) in
+          let clash : Conflict (shared r.span) (changed_span q) =
+          (key_of q, within, within_itself (key_of q), reader_conflicts q) in
           let P : List law.Span → Type 0 = λ xs. AreApart xs (spans_of w.locks u) in
           absurd ((subst P h.held (k.locks.apart o.txn u (λ e. other (sym e)))).0
           (held_by w n u q (shared r.span) k by open_u clash))

@@ -14,7 +14,7 @@ use Rattle.history.specs.declared.record.Record.{Record}
 use Rattle.history.specs.declared.record.Record.TheVariants as is
 use Rattle.history.specs.Log.{record_at, answer_of, step_in, has_ended, IsOpen, IsOpBy, IsStepOf, Requests}
 use Rattle.history.specs.Legal.{Fits, IsLegal, IsIdle, IsKeyFree}
-use Rattle.history.specs.Spans.{Exclusive, Span, at_key, Conflict, AnyConflict}
+use Rattle.history.specs.Spans.{Exclusive, Span, at_key, Conflict, AnyConflict, changed_span}
 use Rattle.log_laws.proofs.LegalLogs.{unanswered_next}
 use Rattle.tc_core.specs.declared.open_txn.OpenTxn.{OpenTxn}
 use Rattle.tc_core.specs.declared.open_txn.Read.{Read}
@@ -41,7 +41,8 @@ use Rattle.tc_core.proofs.Low.{may_none, low_within, low_longer, low_forced, low
 use Rattle.tc_core.proofs.KeepsIdle.{own_request}
 use Rattle.tc_core.proofs.KeepsOpen.{open_below, same_open, replaced_open, added_open}
 use Rattle.tc_core.proofs.KeepsSteps.{session_leaves, begin_leaves, step_leaves, answer_leaves, opens, acts, answer_comes}
-use Rattle.tc_core.proofs.HeldSpans.{held_is, open_holds, op_spans_has, conflicts_itself}
+use Rattle.log_laws.proofs.Sharing.{modes_conflict}
+use Rattle.tc_core.proofs.HeldSpans.{conflict_at, held_is, open_holds, op_spans_has, conflicts_itself}
 use Rattle.tc_core.proofs.LocksHeld.{any_held, begins, takes as takes_key, longer, replaced}
 use Rattle.tc_core.proofs.Readings.{no_reading, reads_replaced, reads_begun, reads_kept}
 
@@ -259,28 +260,29 @@ reading_at w o r k at some = k.reading.each o.txn o r at some
 
 -- an operation of an open transaction holds its key
 pub held_by : (w : TcView) (n u : ℕ) (q : Op) (s : Span) → IsTc w → IsOpBy w.log n u q → IsOpen w.log u
-    → Conflict s (at_key Exclusive (key_of q)) → AnyConflict s (spans_of w.locks u)
+    → Conflict s (changed_span q) → AnyConflict s (spans_of w.locks u)
 held_by w n u q s k by open_u clash =
     let P : List Span → Type 0 = AnyConflict s in
     any_held w.log w.open_txns (closing w) w.locks k.locks u s
     (subst P (sym (held_is w.log w.open_txns (closing w) u (open_holder w u k open_u)))
     (op_spans_has s w.log n u q by clash))
 
--- so a key that nobody else holds has no operation of another open transaction
-pub key_free : (w : TcView) (t : ℕ) (op : Op) → IsTc w → IsFree w.locks t (at_key Exclusive (key_of op))
-    → IsKeyFree w.log t (key_of op)
+-- so a key that nobody else holds has no operation of another open transaction, unless both are Adds
+pub key_free : (w : TcView) (t : ℕ) (op : Op) → IsTc w → IsFree w.locks t (changed_span op) → IsKeyFree w.log t op
 key_free w t op k free n u o by key open_u =
     elim (cases_eq u t) [
-      | inl same ↦ same
+      | inl same ↦ inl same
       | inr apart ↦
-          let P : Bytes → Type 0 = λ x. Conflict (at_key Exclusive x) (at_key Exclusive (key_of o)) in
-          absurd (free u apart (held_by w n u o (at_key Exclusive (key_of op)) k by open_u
-          (subst P key (conflicts_itself (key_of o)))))
+          elim (modes_conflict op o) [
+            | inl clash ↦ absurd (free u apart (held_by w n u o (changed_span op) k by open_u
+                (conflict_at op o (sym key) clash)))
+            | inr both ↦ inr both
+          ]
     ]
 
 -- an operation on a key that nobody else holds
 pub fits_op : (w : TcView) (o : OpenTxn) (op : Op) → IsTc w → find o.txn w.open_txns ≡ Some o → o.waiting ≡ None
-    → IsFree w.locks o.txn (at_key Exclusive (key_of op))
+    → IsFree w.locks o.txn (changed_span op)
     → Fits w.log (is.Op o.txn o.last op)
 fits_op w o op k at none free =
     let h = open_at w o k at in
@@ -288,7 +290,7 @@ fits_op w o op k at none free =
 
 pub keeps_act : (w : TcView) (o : OpenTxn) (op : Op) → IsTc w → find o.txn w.open_txns ≡ Some o → o.waiting ≡ None
     → o.reading ≡ None → o.rolling ≡ None
-    → IsFree w.locks o.txn (at_key Exclusive (key_of op)) → is_spent w.log ≡ false → IsTc (acted w o op)
+    → IsFree w.locks o.txn (changed_span op) → is_spent w.log ≡ false → IsTc (acted w o op)
 keeps_act w o op k at none still flat free unspent =
     let r : Record = is.Op o.txn o.last op in
     let h = open_at w o k at in
@@ -308,10 +310,10 @@ keeps_act w o op k at none still flat free unspent =
       lost = lost_more w k r (fits_op w o op k at none free) (late_at w o k at) (λ n. refl);
       locks = takes_key w.log w.open_txns (closing w) w.locks k.locks (acted_txn o (length w.log + 1)) o o.last op at
           free;
-      early = early_taken w.losers.below o.txn (at_key Exclusive (key_of op) ∷ spans_of w.locks o.txn) w.locks
+      early = early_taken w.losers.below o.txn (changed_span op ∷ spans_of w.locks o.txn) w.locks
           k.locks.table (late_at w o k at) k.early;
       reading = reads_replaced w.reads w.open_txns w.locks k.reading (acted_txn o (length w.log + 1)) o _ at still
-          (λ u apart. set_other o.txn (at_key Exclusive (key_of op) ∷ spans_of w.locks o.txn) w.locks u k.locks.table
+          (λ u apart. set_other o.txn (changed_span op ∷ spans_of w.locks o.txn) w.locks u k.locks.table
           apart);
     }
 

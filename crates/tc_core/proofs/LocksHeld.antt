@@ -8,20 +8,25 @@ use Rattle.history.specs.declared.record.Record.{Record}
 use Rattle.history.specs.declared.record.Record.TheVariants as is
 use Rattle.history.specs.Legal.{IsLegal}
 use Rattle.history.specs.Log.{op_of}
-use Rattle.history.specs.Spans.{Mode, Shared, Exclusive, do_conflict, Span, at_key, Conflict, AnyConflict}
+use Rattle.history.specs.Spans.{Mode, Increment, Exclusive, Shared, do_conflict, Span, Conflict, AnyConflict, changed_span}
 use Rattle.range_locks.specs.Locks.{LocksView, spans_of, set_spans, IsFree}
 use Rattle.range_locks.proofs.Tables.{set_table, set_own, set_other}
 use Rattle.tc_core.specs.declared.open_txn.OpenTxn.{OpenTxn}
 use Rattle.tc_core.specs.OpenTxns.{find, replace, without, AreBelow}
 use Rattle.tc_core.specs.Locking.{op_spans, held_spans, is_holder, is_listed, is_exclusive, AreApart, AreHeld}
 use Rattle.tc_core.proofs.Finding.{find_above, find_there, without_other}
-use Rattle.tc_core.proofs.HeldSpans.{Holds, open_holds, same_holder, holder_replaced, held_none, held_same, held_acted, held_begun, held_ended, op_spans_longer}
+use Rattle.tc_core.proofs.HeldSpans.{Holds, open_holds, same_holder, holder_replaced, held_none, held_same, held_acted, held_begun, held_ended, op_spans_longer, kept_changed}
 
 -- conflicts are mutual
 modes_flip : (m n : Mode) → do_conflict m n ≡ true → do_conflict n m ≡ true
 modes_flip Shared Shared h = h
+modes_flip Shared Increment h = h
 modes_flip Shared Exclusive h = h
+modes_flip Increment Shared h = h
+modes_flip Increment Increment h = h
+modes_flip Increment Exclusive h = h
 modes_flip Exclusive Shared h = h
+modes_flip Exclusive Increment h = h
 modes_flip Exclusive Exclusive h = h
 
 flip : (s r : Span) → Conflict s r → Conflict r s
@@ -135,13 +140,16 @@ module _ (log : List Record) (os : List OpenTxn) (cs : List ℕ) (locks : LocksV
 
   -- an operation takes its key
   pub takes : (new o : OpenTxn) (p : ℕ) (op : Op) → find new.txn os ≡ Some o
-      → IsFree locks new.txn (at_key Exclusive (key_of op))
+      → IsFree locks new.txn (changed_span op)
       → AreHeld (is.Op new.txn p op ∷ log) (replace new os) cs
-      (set_spans new.txn (at_key Exclusive (key_of op) ∷ spans_of locks new.txn) locks)
+      (set_spans new.txn (changed_span op ∷ spans_of locks new.txn) locks)
   takes new o p op at free =
       let holds = held_acted log os cs new o p op at in
-      taken new o (at_key Exclusive (key_of op)) (is.Op new.txn p op ∷ log) at free
-      (holds.0 ∙ ap (λ (x : List Span). at_key Exclusive (key_of op) ∷ x) (sym (held.exclusive new.txn)), holds.1)
+      taken new o (changed_span op) (is.Op new.txn p op ∷ log) at free (
+        holds.0 ∙ ap (λ (x : List Span). changed_span op ∷ x) (sym (held.exclusive new.txn))
+            ∙ sym (kept_changed op (spans_of locks new.txn)),
+        holds.1,
+      )
 
   -- a record that is no operation takes nothing, where the same hold
   pub alike : (r : Record) (os2 : List OpenTxn) (cs2 : List ℕ) → op_of r ≡ None

@@ -14,7 +14,8 @@ use Rattle.history.specs.declared.record.Record.{Record}
 use Rattle.history.specs.declared.record.Record.TheVariants as is
 use Rattle.history.specs.Log.{record_at, IsOpen, IsOpBy}
 use Rattle.history.specs.Legal.{IsLatestOrNone, IsLegal, FitsCheckpoint}
-use Rattle.history.specs.Spans.{Exclusive, at_key, is_within, AnyConflict}
+use Rattle.history.specs.Spans.{Exclusive, at_key, is_within, AnyConflict, changed_span, do_conflict, mode_of, Mode}
+use Rattle.log_laws.proofs.Sharing.{share_adds, modes_agree}
 use Rattle.log_laws.proofs.Records.{AnOp, op_same, op_step, op_request, at_newest, at_older, not_newest, since}
 use Rattle.log_laws.proofs.LegalLogs.{begun_number, fits_at, op_number}
 use Rattle.log_laws.proofs.Strict.{end_ends, strict}
@@ -26,6 +27,7 @@ use Rattle.restart.specs.Plan.{IsCheckpointed, IsRedoStart}
 use Rattle.tc_core.specs.Locking.{op_spans, is_listed, is_exclusive, AreApart, AreHeld, HoldOperations}
 use Rattle.tc_core.specs.Opening.{HoldsOpen, opened}
 use Rattle.tc_core.specs.Kept.{IsTc}
+use Rattle.tc_core.proofs.HeldSpans.{kept_changed}
 use Rattle.tc_core.proofs.Committing.{none_committing}
 use Rattle.tc_core.proofs.Losers.{listed_loser, loser_listed}
 use Rattle.tc_core.proofs.LettingGo.{apart_none}
@@ -51,58 +53,38 @@ only_key (b ∷ bs) (a ∷ xs) h = pick (only_key bs xs) (nat_cmp a b) refl h
         let same : xs ≡ bs = rest test in
         let first : a ≡ b = exact_unsigned a b is in cc
 
--- two open transactions have no operations on one key
-one_holder : (log : List Record) (n m t u : ℕ) (o q : Op) → IsLegal log → IsOpen log t → IsOpBy log n t o
-    → IsOpBy log m u q
-    → key_of q ≡ key_of o → u ≢ t → n < m → ⊥
-one_holder log n m t u o q legal open_t by other same apart later =
-    let ends = strict log legal n m t u o q by later (op_step u q (record_at log m) other)
-    (op_request u q (record_at log m) other) same apart in
-    true≢false (sym (end_ends log t ends.end ends.is) ∙ open_t.goes_on)
-
-never_both : (log : List Record) (n m t u : ℕ) (o q : Op) → IsLegal log → IsOpen log t → IsOpen log u → IsOpBy log n t o
-    → IsOpBy log m u q
-    → key_of q ≡ key_of o → u ≢ t → ⊥
-never_both log n m t u o q legal open_t open_u by other same apart =
-    elim (cases_lt n m) [
-      | inl later ↦ one_holder log n m t u o q legal open_t by other same apart later
-      | inr up_to ↦ elim (cases_eq n m) [
-        | inl e ↦ let P : ℕ → Type 0 = λ x. IsOpBy log x t o in
-            apart ((op_same u t q o (record_at log m) other (subst P e by)).0)
-        | inr differ ↦ one_holder log m n u t q o legal open_u other by (sym same) (λ e. apart (sym e))
-            (omega (arith, up_to, differ))
-      ]
-    ]
-
 -- an operation of the transaction on the key
-abbrev HasOp : List Record → ℕ → Bytes → Type 0
-HasOp log t k = (n : ℕ) × (o : Op) × IsOpBy log n t o × (key_of o ≡ k)
+abbrev HasOp : List Record → ℕ → Bytes → Mode → Type 0
+HasOp log t k m =
+    (n : ℕ) × (o : Op) × IsOpBy log n t o × (key_of o ≡ k) × (do_conflict m (mode_of o) ≡ true)
 
 op_longer : (r : Record) (log : List Record) (n t : ℕ) (o : Op) → IsOpBy log n t o → IsOpBy (r ∷ log) n t o
 op_longer r log n t o by = at_older (AnOp t o) r log n (not_newest log n (op_number log n t o by)) by
 
-has_longer : (r : Record) (log : List Record) (t : ℕ) (k : Bytes) → HasOp log t k → HasOp (r ∷ log) t k
-has_longer r log t k h = (h.0, h.1, op_longer r log h.0 t h.1 h.2, h.3)
+has_longer : (r : Record) (log : List Record) (t : ℕ) (k : Bytes) (m : Mode) → HasOp log t k m → HasOp (r ∷ log) t k m
+has_longer r log t k m h = (h.0, h.1, op_longer r log h.0 t h.1 h.2, h.3, h.4)
 
--- what conflicts with a key is an operation on it
-any_op : (log : List Record) (t : ℕ) (k : Bytes) → AnyConflict (at_key Exclusive k) (op_spans log t) → HasOp log t k
-any_op [] t k any = absurd (any)
-any_op (is.Op v p q ∷ log) t k any = pick (any_op log t k) (t == v) refl any
+-- what conflicts with a span of one key is an operation on it, held for what conflicts
+any_op : (log : List Record) (t : ℕ) (k : Bytes) (m : Mode) → AnyConflict (at_key m k) (op_spans log t)
+    → HasOp log t k m
+any_op [] t k m any = absurd (any)
+any_op (is.Op v p q ∷ log) t k m any = pick (any_op log t k m) (t == v) refl any
   where
-    pick : (AnyConflict (at_key Exclusive k) (op_spans log t) → HasOp log t k) → (b : Bool) → (t == v) ≡ b
-        → AnyConflict (at_key Exclusive k) (if b then at_key Exclusive (key_of q) ∷ op_spans log t else op_spans log t)
-        → HasOp (is.Op v p q ∷ log) t k
+    pick : (AnyConflict (at_key m k) (op_spans log t) → HasOp log t k m) → (b : Bool) → (t == v) ≡ b
+        → AnyConflict (at_key m k) (if b then changed_span q ∷ op_spans log t else op_spans log t)
+        → HasOp (is.Op v p q ∷ log) t k m
     pick before true same any = elim any [
       | inl clash ↦ (
         length log + 1,
         q,
         at_newest (AnOp t q) (is.Op v p q) log (length log + 1) refl (ap (λ x. Some (x, q)) (sym (eqb-true t v same))),
         sym (only_key (key_of q) clash.0 clash.2) ∙ only_key k clash.0 clash.1,
+        clash.3,
       )
-      | inr rest ↦ has_longer (is.Op v p q) log t k (before rest)
+      | inr rest ↦ has_longer (is.Op v p q) log t k m (before rest)
     ]
-    pick before false other any = has_longer (is.Op v p q) log t k (before any)
-any_op (r ∷ log) t k any = has_longer r log t k (any_op log t k any)
+    pick before false other any = has_longer (is.Op v p q) log t k m (before any)
+any_op (r ∷ log) t k m any = has_longer r log t k m (any_op log t k m any)
 
 -- so what two open transactions hold by the log is apart
 module _ (log : List Record) (t u : ℕ) (legal : IsLegal log) (open_t : IsOpen log t) (open_u : IsOpen log u)
@@ -114,14 +96,15 @@ module _ (log : List Record) (t u : ℕ) (legal : IsLegal log) (open_t : IsOpen 
       pick (t == v) refl (apart_in part (λ n q by. up n q (op_longer (is.Op v p o) part n t q by)))
     where
       pick : (b : Bool) → (t == v) ≡ b → AreApart (op_spans part t) (op_spans log u)
-          → AreApart (if b then at_key Exclusive (key_of o) ∷ op_spans part t else op_spans part t) (op_spans log u)
+          → AreApart (if b then changed_span o ∷ op_spans part t else op_spans part t) (op_spans log u)
       pick true same rest = (
-        λ any. let other = any_op log u (key_of o) any in
+        λ any. let other = any_op log u (key_of o) (mode_of o) any in
             let mine : IsOpBy log (length part + 1) t o = up (length part + 1) o
             (at_newest (AnOp t o) (is.Op v p o) part (length part + 1) refl
             (ap (λ x. Some (x, o)) (sym (eqb-true t v same)))) in
-            never_both log (length part + 1) other.0 t u o other.1 legal open_t open_u mine other.2 other.3
-            (λ e. differ (sym e)),
+            true≢false (sym other.4 ∙ modes_agree o other.1
+            (share_adds log (length part + 1) t other.0 u o other.1 legal mine open_t other.2 open_u
+            (λ e. differ (sym e)) (sym other.3))),
         rest,
       )
       pick false other rest = rest
@@ -135,9 +118,9 @@ all_exclusive [] t = refl
 all_exclusive (is.Op v p o ∷ log) t = pick (t == v) (all_exclusive log t)
   where
     pick : (b : Bool) → filter is_exclusive (op_spans log t) ≡ op_spans log t
-        → filter is_exclusive (if b then at_key Exclusive (key_of o) ∷ op_spans log t else op_spans log t)
-        ≡ (if b then at_key Exclusive (key_of o) ∷ op_spans log t else op_spans log t)
-    pick true rest = ap (λ spans. at_key Exclusive (key_of o) ∷ spans) rest
+        → filter is_exclusive (if b then changed_span o ∷ op_spans log t else op_spans log t)
+        ≡ (if b then changed_span o ∷ op_spans log t else op_spans log t)
+    pick true rest = kept_changed o (op_spans log t) ∙ ap (λ spans. changed_span o ∷ spans) rest
     pick false rest = rest
 all_exclusive (r ∷ log) t = all_exclusive log t
 

@@ -5,7 +5,7 @@ use Rattle.record_key.specs.declared.refusal.Refusal.{Refusal}
 use Rattle.record_key.specs.declared.refusal.Refusal.TheVariants.{Device}
 use Rattle.record_key.specs.Table.{key_of}
 use Rattle.history.specs.Log.{Requests}
-use Rattle.history.specs.Spans.{Exclusive, at_key}
+use Rattle.history.specs.Spans.{changed_span}
 use Rattle.codec.specs.declared.request.Request.{Request}
 use Rattle.codec.specs.declared.request.Request.TheVariants as asks
 use Rattle.range_locks.specs.declared.span.Span.{Span}
@@ -48,7 +48,7 @@ pub record Acts (old : TcView) (t : ℕ) (op : Op) (number : ℕ) (new : TcView)
   pub open_txn : OpenTxn
   pub at : IsAt old t open_txn
   pub allowed : idle_refusal old t ≡ None
-  pub free : IsFree old.locks t (at_key Exclusive (key_of op))
+  pub free : IsFree old.locks t (changed_span op)
   pub unspent : spent_refusal old.log ≡ None
   pub number_is : number ≡ length old.log + 1
   pub acted : new ≡ acted old open_txn op
@@ -56,7 +56,7 @@ pub record Acts (old : TcView) (t : ℕ) (op : Op) (number : ℕ) (new : TcView)
 abbrev pub ActGives : TcView → ℕ → Op → Result ℕ Refusal → TcView → Type 0
 ActGives old t op (Ok n) new = Acts old t op n new
 ActGives old t op (Err r) new =
-    RefusesTaking (idle_refusal old t) (spent_refusal old.log) true old t (at_key Exclusive (key_of op)) r new
+    RefusesTaking (idle_refusal old t) (spent_refusal old.log) true old t (changed_span op) r new
 
 -- a read is asked
 pub record AsksRead (old : TcView) (t : ℕ) (span : Span) (number : ℕ) (new : TcView) : Type 0 where

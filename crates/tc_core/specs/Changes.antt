@@ -7,7 +7,7 @@ use Rattle.inverse.specs.Inverse.{inverse_of}
 use Rattle.history.specs.declared.record.Record.{Record}
 use Rattle.history.specs.declared.record.Record.TheVariants as is
 use Rattle.history.specs.Log.{record_at, answer_of, op_in}
-use Rattle.history.specs.Spans.{Exclusive, at_key}
+use Rattle.history.specs.Spans.{changed_span}
 use Rattle.history.specs.Spans as law
 use Rattle.history.specs.Chains.{undo_from, prev_in}
 use Rattle.range_locks.specs.declared.span.Mode.TheVariants.{Shared}
@@ -78,7 +78,7 @@ abbrev pub acted : TcView → OpenTxn → Op → TcView
 acted w o op = record w {
   log = is.Op o.txn o.last op ∷ w.log;
   open_txns = replace (acted_txn o (length w.log + 1)) w.open_txns;
-  locks = set_spans o.txn (at_key Exclusive (key_of op) ∷ spans_of w.locks o.txn) w.locks;
+  locks = set_spans o.txn (changed_span op ∷ spans_of w.locks o.txn) w.locks;
 }
 
 -- one that waits for a read of this number

@@ -1,23 +1,30 @@
 -- What transactions hold, and when another may take a span.
 use Rattle.std.specs.Prelude.{◌≡◌, ◌≢◌, ◌⊎◌, ℕ, ◌<◌, ◌==◌, ◌||◌, Bool, true, false, List, [], ◌∷◌, Option, is_some, filter, if◌then◌else◌}
 use Rattle.std.specs.List.{AllByRecursion, list_any}
+use Rattle.record_key.specs.declared.op.Op.{Op}
 use Rattle.record_key.specs.declared.refusal.Refusal.{Refusal}
 use Rattle.record_key.specs.declared.refusal.Refusal.TheVariants.{Busy, NumbersSpent}
 use Rattle.record_key.specs.FirstCause.{first_of, RefusesAs}
-use Rattle.record_key.specs.Table.{key_of}
+use Rattle.record_key.specs.Table.{is_add}
 use Rattle.history.specs.declared.record.Record.{Record}
 use Rattle.history.specs.declared.record.Record.TheVariants as is
-use Rattle.history.specs.Spans.{Mode, Shared, Exclusive, Span, at_key, AnyConflict}
+use Rattle.history.specs.Spans.{Mode, Shared, Increment, Exclusive, Span, AnyConflict, changed_span}
+use Rattle.range_locks.specs.declared.span.Mode as code
+use Rattle.range_locks.specs.declared.span.Mode.TheVariants as held
 use Rattle.range_locks.specs.Locks.{LocksView, spans_of, IsFree, IsLeastHolder, IsTable}
 use Rattle.tc_core.specs.declared.open_txn.OpenTxn.{OpenTxn}
 use Rattle.tc_core.specs.OpenTxns.{find}
 
--- the keys of a transaction's operations, exclusive, the newest first
+-- the keys of a transaction's operations, each for what it is changed for, the newest first
 abbrev pub op_spans : List Record → ℕ → List Span
 op_spans [] t = []
 op_spans (is.Op txn prev op ∷ log) t =
-    if t == txn then at_key Exclusive (key_of op) ∷ op_spans log t else op_spans log t
+    if t == txn then changed_span op ∷ op_spans log t else op_spans log t
 op_spans (r ∷ log) t = op_spans log t
+
+-- what the lock table holds an operation's key for
+abbrev pub held_mode : Op → code.Mode
+held_mode o = if is_add o then held.Increment else held.Exclusive
 
 -- a transaction holds them from its Begin to its End or until its Commit is stable, undone or not (strict
 -- two-phase locking)
@@ -32,6 +39,7 @@ held_spans log os committing t = if is_holder os committing t then op_spans log 
 
 abbrev pub excludes : Mode → Bool
 excludes Shared = false
+excludes Increment = true
 excludes Exclusive = true
 
 abbrev pub is_exclusive : Span → Bool

@@ -1,6 +1,6 @@
 -- What a component is that was opened on what a crash left.
 use Rattle.std.specs.Prelude.{◌≡◌, ◌⊎◌, ℕ, ◌+◌, List, [], ◌∷◌, Option, Some, None, is_some, length, if◌then◌else◌}
-use Rattle.record_key.specs.Table.{Bytes, key_of}
+use Rattle.record_key.specs.Table.{key_of}
 use Rattle.history.specs.declared.record.Record.{Record}
 use Rattle.history.specs.declared.record.Record.TheVariants as is
 use Rattle.history.specs.Log.{IsOpen}
@@ -10,12 +10,13 @@ use Rattle.logical_log.specs.Opening.{IsLogOf}
 use Rattle.logical_log.specs.Spelled.{spelled}
 use Rattle.restart.specs.Losers.{LosersView}
 use Rattle.tc_core.specs.declared.phase.Phase.TheVariants.{Unconnected}
-use Rattle.tc_core.specs.Locking.{op_spans}
+use Rattle.range_locks.specs.Rebuilt.{Listed}
+use Rattle.tc_core.specs.Locking.{op_spans, held_mode}
 use Rattle.tc_core.specs.TcView.{TcView}
 
 -- the key of an operation of a transaction that is noted as open, with that transaction
-abbrev pub key_noted : Record → (ℕ → Option ℕ) → List (ℕ × Bytes)
-key_noted (is.Op t p o) noted = if is_some (noted t) then (t, key_of o) ∷ [] else []
+abbrev pub key_noted : Record → (ℕ → Option ℕ) → List Listed
+key_noted (is.Op t p o) noted = if is_some (noted t) then (t, key_of o, held_mode o) ∷ [] else []
 key_noted _ noted = []
 
 -- who isn't noted holds nothing

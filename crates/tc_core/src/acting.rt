@@ -4,7 +4,7 @@ ghost use Rattle.tc_core.specs.Kept.{IsTc};
 ghost use Rattle.tc_core.specs.Seen.{seen};
 
 use crate::change::Change;
-use crate::locking::take;
+use crate::locking::{mode_for, take};
 use crate::open_txn::Read;
 use crate::parts::{LAST_NUMBER, Parts};
 use history::Record;
@@ -21,7 +21,7 @@ impl<D: LogDevice> Parts<D> {
         let prev = self.idle(txn)?.last;
         let span = Span::Key(op.key().copied());
         let spent = self.log.len() >= LAST_NUMBER;
-        take(&mut self.locks, spent, txn, Mode::Exclusive, &span)?;
+        take(&mut self.locks, spent, txn, mode_for(op), &span)?;
         let op = op.copied();
         match self.log.append(&Record::Op { txn, prev, op }) {
             Ok(number) => {

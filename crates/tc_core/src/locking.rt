@@ -3,10 +3,10 @@ ghost use Rattle.std.specs.Prelude.{◌≡◌, ◌∷◌, false, IfErr, OnOk, On
 ghost use Rattle.history.specs.Spans.{IsRange};
 ghost use Rattle.range_locks.specs.Locks.{spans_of, set_spans, IsFree, IsTable};
 ghost use Rattle.range_locks.specs.Meant.{meant};
-ghost use Rattle.tc_core.specs.Locking.{RefusesLock, spent_of};
+ghost use Rattle.tc_core.specs.Locking.{RefusesLock, held_mode, spent_of};
 
 use range_locks::{Mode, RangeLocks, Span};
-use record_key::Refusal;
+use record_key::{Op, Refusal};
 
 /// Takes the span, which is a range, for the transaction. Refused Busy with the least other holder; where no
 /// number is left for the call NumbersSpent, else NoMemory.
@@ -33,5 +33,16 @@ pub fn take(
             Err(Refusal::NumbersSpent)
         }
         Ok(()) => Ok(()),
+    }
+}
+
+/// What an operation's key is held for.
+pub fn mode_for(op: &Op) -> Mode
+    ensures { result ≡ held_mode op.now }
+{
+    if op.is_add() {
+        Mode::Increment
+    } else {
+        Mode::Exclusive
     }
 }

@@ -17,13 +17,14 @@ ghost use Rattle.tc_core.specs.Opening.{key_noted, spans_if, HoldsOpen, IsOpened
 ghost use Rattle.tc_core.specs.Kept.{IsTc};
 ghost use Rattle.tc_core.specs.Seen.{seen};
 
+use crate::locking::mode_for;
 use crate::lost::Lost;
 use crate::open_txns::OpenTxns;
 use crate::parts::Parts;
 use crate::phase::Phase;
 use history::Record;
 use logical_log::{Log, Refused};
-use range_locks::RangeLocks;
+use range_locks::{Mode, RangeLocks};
 use record_key::{Key, Refusal};
 use restart::{Plan, analyse};
 use stable::LogDevice;
@@ -95,7 +96,7 @@ fn keys_of<D: LogDevice>(
     alloc: Global,
     log: &Log<D>,
     open_txns: &BTreeMap<u64, u64>,
-) -> Result<Vec<(u64, Key)>, AllocError>
+) -> Result<Vec<(u64, Key, Mode)>, AllocError>
     ensures { IfOk result (λ keys. (t : ℕ) → listed_spans keys.items t
         ≡ spans_if (get nat_cmp open_txns.now t) (op_spans log.now.records t)) }
 {
@@ -124,7 +125,7 @@ fn first_open(open_txns: &BTreeMap<u64, u64>, last: u64) -> u64
 
 /// Notes the key that the record's operation is on, where its transaction is open.
 fn note_key(
-    keys: &mut Vec<(u64, Key)>,
+    keys: &mut Vec<(u64, Key, Mode)>,
     open_txns: &BTreeMap<u64, u64>,
     found: &Record,
 ) -> Result<(), AllocError>
@@ -134,7 +135,7 @@ fn note_key(
         return Ok(());
     };
     if open_txns.contains_key(txn) {
-        keys.push((*txn, op.key().copied()))?;
+        keys.push((*txn, op.key().copied(), mode_for(op)))?;
     }
     Ok(())
 }

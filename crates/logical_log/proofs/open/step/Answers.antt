@@ -1,7 +1,7 @@
 use Rattle.std.proofs.Common.{◌≡◌, ◌∙◌, ℕ, ◌+◌, List, ◌∷◌, sym, ap, subst, arith, length}
 use Rattle.history.specs.declared.record.Record.{Record}
 use Rattle.history.specs.Legal.{Fits, FitsCheckpoint}
-use Rattle.logical_log.specs.Replay.{IsIndex, Follows, Holds, latest_in, holder_in}
+use Rattle.logical_log.specs.Replay.{IsIndex, Follows, Holds, Gains, latest_in, holder_in, adders_of}
 use Rattle.logical_log.specs.declared.replay.Index.{Index}
 use Rattle.logical_log.proofs.Answered.{answered_longer}
 use Rattle.logical_log.proofs.Following.{followed}
@@ -11,12 +11,13 @@ use Rattle.logical_log.proofs.open.step.Goals as goal
 index_now : (log log' : List Record) (r : Record) (number : ℕ) (old new : Index) → log' ≡ r ∷ log
     → number ≡ length log' → IsIndex log old → Fits log r
     → Follows r number (latest_in old) (latest_in new) → Holds r (holder_in old) (holder_in new)
+    → Gains r (adders_of old) (adders_of new)
     → FitsCheckpoint log' new.answered → IsIndex log' new
-index_now log log' r number old new grown is h fits txns keys answered =
+index_now log log' r number old new grown is h fits txns keys adders answered =
     let Of : List Record → Type 0 = λ l. IsIndex l new in
     let At : List Record → Type 0 = λ l. FitsCheckpoint l new.answered in
     let n : number ≡ length log + 1 = is ∙ ap length grown ∙ omega arith in
-    subst Of (sym grown) (followed log r number old new h fits n txns keys (subst At grown answered))
+    subst Of (sym grown) (followed log r number old new h fits n txns keys adders (subst At grown answered))
 
 pub returns-in-Checkpoint-clause-index : goal.returns-in-Checkpoint-clause-index
 returns-in-Checkpoint-clause-index c =
@@ -24,11 +25,12 @@ returns-in-Checkpoint-clause-index c =
     (record {
       «open» = c.follow.new.self.open;
       holders = c.follow.new.self.holders;
+      adders = c.follow.new.self.adders;
       answered =
           c.answered_from-index.result;
     })
     c.in_ok-accept.ensures.records c.len-2.ensures.count c.requires.index (c.fits.ensures.0 c.if-not-fits.false)
-    c.in_ok-follow.ensures.open c.in_ok-follow.ensures.holders c.answered_from-index.ensures.is
+    c.in_ok-follow.ensures.open c.in_ok-follow.ensures.holders c.in_ok-follow.ensures.adders c.answered_from-index.ensures.is
 
 pub returns-in_default : goal.returns-in_default
 returns-in_default c = record {
@@ -43,7 +45,7 @@ returns-in_default c = record {
       subst P (sym c.in_ok-follow.ensures.answered) c.requires.index.answered in
       index_now log c.accept.new.self.records r c.len-2.result c.args.index.now c.follow.new.self
       c.in_ok-accept.ensures.records c.len-2.ensures.count c.requires.index (c.fits.ensures.0 c.if-not-fits.false)
-      c.in_ok-follow.ensures.open c.in_ok-follow.ensures.holders
+      c.in_ok-follow.ensures.open c.in_ok-follow.ensures.holders c.in_ok-follow.ensures.adders
       (subst At (sym c.in_ok-accept.ensures.records) (answered_longer r log c.follow.new.self.answered known));
   refused = tt;
 }

@@ -4,7 +4,7 @@ use Rattle.std.specs.Ordering.{nat_cmp}
 use Rattle.record_key.specs.Table.{Bytes}
 use Rattle.history.specs.declared.record.Record.{Record}
 use Rattle.logical_log.proofs.Answered.{part_whole}
-use Rattle.range_locks.specs.Rebuilt.{listed_spans}
+use Rattle.range_locks.specs.Rebuilt.{Listed, listed_spans}
 use Rattle.tc_core.specs.Locking.{op_spans}
 use Rattle.tc_core.specs.Opening.{spans_if}
 use Rattle.tc_core.proofs.Rebuilt.{AreNoted, noted_none, noted_more, none_past}
@@ -14,7 +14,7 @@ pub loop-end-init : goal.loop-end-init
 loop-end-init g c =
     let noted = get nat_cmp c.args.open_txns.now in
     let start = c.first_open-end.result in
-    let P : List (ℕ × Bytes) → Type 0 = λ keys. AreNoted c.args.log.now.records start keys noted in
+    let P : List Listed → Type 0 = λ keys. AreNoted c.args.log.now.records start keys noted in
     subst P (sym c.new-keys.ensures.items)
     (noted_none c.args.log.now.records start noted c.len-records.ensures.legal
     (omega (arith, c.first_open-end.ensures.within, c.len-records.ensures.count)) c.first_open-end.ensures.first)

@@ -1,30 +1,25 @@
-use Rattle.std.proofs.Common.{◌≡◌, ◌∙◌, ℕ, Option, None, Some, sym, ap, subst}
-use Rattle.std.specs.Option.{option_copied}
-use Rattle.logical_log.specs.Replay.{KeptOf, KeptOn, holder_in}
-use Rattle.logical_log.proofs.Checks.{free_none, free_own, free_other}
+use Rattle.std.proofs.Common.{◌≡◌, ◌∙◌, ℕ, Bool, true, false, IsTrue, ◌↔◌, sym, ap, subst}
+use Rattle.std.specs.Prelude.{◌&&◌, ◌||◌}
+use Rattle.std.specs.List.{list_all}
+use Rattle.record_key.specs.Table.{Bytes, key_of, is_add}
+use Rattle.history.specs.Legal.{IsKeyFree}
+use Rattle.logical_log.specs.Replay.{holder_in, adders_of, agrees, agrees_if, is_free}
+use Rattle.logical_log.proofs.Checks.{free_test}
 use Rattle.logical_log.proofs.replay.Index.is_free.Goals as goal
 
-pub returns-in-None : goal.returns-in-None
-returns-in-None c =
-    let On : Option ℕ → Type 0 = λ v. KeptOn c.args.frames.now.records c.args.key.now v in
-    let none : holder_in c.args.self.now c.args.key.now ≡ None = sym c.get.ensures.value
-    ∙ ap option_copied c.in-None.is in
-    free_none _ c.args.txn c.args.key.now (subst On none (c.requires.held_keys c.args.key.now))
-
-pub returns-then-holder-txn : goal.returns-then-holder-txn
-returns-then-holder-txn c =
-    let On : Option ℕ → Type 0 = λ v. KeptOn c.args.frames.now.records c.args.key.now v in
-    let some : holder_in c.args.self.now c.args.key.now ≡ Some c.in-Some.holder.now = sym c.get.ensures.value
-    ∙ ap option_copied c.in-Some.is in
-    free_own _ c.args.txn c.in-Some.holder.now c.args.key.now (subst On some (c.requires.held_keys c.args.key.now))
-    c.if-holder-txn.true
-
-pub returns-else-holder-txn : goal.returns-else-holder-txn
-returns-else-holder-txn c =
-    let On : Option ℕ → Type 0 = λ v. KeptOn c.args.frames.now.records c.args.key.now v in
-    let Of : Option ℕ → Type 0 = λ v. KeptOf c.args.frames.now.records c.in-Some.holder.now v in
-    let some : holder_in c.args.self.now c.args.key.now ≡ Some c.in-Some.holder.now = sym c.get.ensures.value
-    ∙ ap option_copied c.in-Some.is in
-    free_other _ c.args.txn c.in-Some.holder.now c.args.key.now c.latest.result c.is_none.result
-    (subst On some (c.requires.held_keys c.args.key.now)) c.if-holder-txn.false
-    (subst Of (sym c.latest.ensures) (c.requires.open_txns c.in-Some.holder.now)) c.is_none.ensures
+pub returns-else-is_add : goal.returns-else-is_add
+returns-else-is_add c =
+    let index = c.args.self.now in
+    let t : ℕ = c.args.txn in
+    let o = c.args.op.now in
+    let all : Bool = list_all (agrees index t) (adders_of index (key_of o)) in
+    let holder : agrees_if index t (holder_in index (key_of o)) ≡ true =
+    ap (λ (k : Bytes). agrees_if index t (holder_in index k)) (sym c.key.ensures)
+    ∙ sym c.holder_agrees.ensures ∙ c.if-holder_agrees.true in
+    let plain : is_add o ≡ false = sym c.is_add.ensures ∙ c.if-is_add.false in
+    let adders : c.adders_agree.result ≡ all =
+    c.adders_agree.ensures ∙ ap (λ (k : Bytes). list_all (agrees index t) (adders_of index k)) c.key-else-is_add.ensures in
+    let e : is_free index t o ≡ c.adders_agree.result =
+    ap (λ b. b && (is_add o || all)) holder ∙ ap (λ b. b || all) plain ∙ sym adders in
+    let P : Bool → Type 0 = λ b. IsTrue b ↔ IsKeyFree c.args.frames.now.records t o in
+    subst P e (free_test c.args.frames.now.records index t o c.requires)

@@ -11,5 +11,5 @@ loop-txn-preserved c =
     let t : ℕ = c.loop-txn-item.result.0 in
     one_rebuilt c.args.locks.now c.loop-txn.txn-index c.loop-txn-item.result c.loop-txn-test.true c.loop-txn-item.is v
     (seen c.push.new.self)
-    (c.in_ok-push.ensures.taken ∙ ap (λ (s : Span). set_spans t (s ∷ spans_of v t) v) c.exclusive.ensures)
+    (c.in_ok-push.ensures.taken ∙ ap (λ (s : Span). set_spans t (s ∷ spans_of v t) v) c.of_key.ensures)
     c.loop-txn.invariant

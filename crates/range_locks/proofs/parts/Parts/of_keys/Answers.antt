@@ -14,6 +14,6 @@ loop-txn-preserved c =
       rebuilt = one_rebuilt c.args.locks.now c.loop-txn.txn-index c.loop-txn-item.result c.loop-txn-test.true
           c.loop-txn-item.is v
           (seen c.add.new.self.held)
-          (c.in_ok-add.ensures.taken ∙ ap (λ (s : Span). set_spans t (s ∷ spans_of v t) v) c.exclusive.ensures)
+          (c.in_ok-add.ensures.taken ∙ ap (λ (s : Span). set_spans t (s ∷ spans_of v t) v) c.of_key.ensures)
           c.loop-txn.invariant.rebuilt;
     }

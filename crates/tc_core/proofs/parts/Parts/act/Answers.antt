@@ -1,13 +1,15 @@
 use Rattle.std.proofs.Common.{◌≡◌, ◌∷◌, subst, Some, inr, ◌∙◌}
 use Rattle.history.specs.declared.record.Record.TheVariants.{Op}
 use Rattle.record_key.specs.Table.{Bytes, key_of}
-use Rattle.history.specs.Spans.{Exclusive, at_key}
+use Rattle.history.specs.Spans.{Span, at_key, changed_span}
+use Rattle.range_locks.specs.Meant.{mode_of}
 use Rattle.range_locks.specs.Locks.{spans_of, set_spans, IsFree}
 use Rattle.tc_core.specs.declared.change.Change.TheVariants.{Stepped}
 use Rattle.logical_log.specs.LogView.{is_spent}
 use Rattle.tc_core.specs.Seen.{seen}
 use Rattle.tc_core.proofs.LockCauses.{key_range}
 use Rattle.tc_core.proofs.KeepsTc.{fits_op, keeps_act}
+use Rattle.tc_core.proofs.Rebuilt.{taken_span}
 use Rattle.tc_core.proofs.Numbers.{fits_numbers}
 use Rattle.tc_core.proofs.Refused.{keeps_refused, refuses, happened}
 use Rattle.tc_core.proofs.Untaken.{holds_some, untaken}
@@ -21,9 +23,10 @@ append-requires g c =
     let w = seen c.args.self.now in
     let o = c.in_ok-prev.field-0.now in
     let found = c.in_ok-prev.ensures.found in
-    let P : Bytes → Type 0 = λ k. IsFree w.locks c.args.txn (at_key Exclusive k) in
-    let free : IsFree w.locks o.txn (at_key Exclusive (key_of c.args.op.now)) =
-    rw found.at.number (subst P (c.copied.ensures ∙ c.key.ensures) c.in_ok-take.ensures.free) in
+    let P : Span → Type 0 = λ s. IsFree w.locks c.args.txn s in
+    let free : IsFree w.locks o.txn (changed_span c.args.op.now) =
+    rw found.at.number (subst P (taken_span c.mode_for.result c.copied.result c.args.op.now c.mode_for.ensures
+    (c.copied.ensures ∙ c.key.ensures)) c.in_ok-take.ensures.free) in
     let fits = fits_op w o c.args.op.now c.requires found.at.is found.waiting free in
     rw (c.copied-op.ensures, ← found.at.number)
     (record { fits = fits; numbers = fits_numbers w.log (Op o.txn o.last c.args.op.now) c.requires.few.records fits })
@@ -36,12 +39,12 @@ returns-in-Ok-clause-kept g c =
     let op = c.args.op.now in
     let found = c.in_ok-prev.ensures.found in
     let appended = c.in-Ok.ensures.appended in
-    let P : Bytes → Type 0 = λ k. IsFree w.locks t (at_key Exclusive k) in
-    let Q : Bytes → Type 0 = λ k. c.take.new.locks ≡ set_spans t (at_key Exclusive k ∷ spans_of w.locks t) w.locks in
-    let key = c.copied.ensures ∙ c.key.ensures in
-    let free : IsFree w.locks o.txn (at_key Exclusive (key_of op)) =
+    let P : Span → Type 0 = λ s. IsFree w.locks t s in
+    let Q : Span → Type 0 = λ s. c.take.new.locks ≡ set_spans t (s ∷ spans_of w.locks t) w.locks in
+    let key = taken_span c.mode_for.result c.copied.result op c.mode_for.ensures (c.copied.ensures ∙ c.key.ensures) in
+    let free : IsFree w.locks o.txn (changed_span op) =
     rw found.at.number (subst P key c.in_ok-take.ensures.free) in
-    let taken : c.take.new.locks ≡ set_spans t (at_key Exclusive (key_of op) ∷ spans_of w.locks t) w.locks =
+    let taken : c.take.new.locks ≡ set_spans t (changed_span op ∷ spans_of w.locks t) w.locks =
     subst Q key c.in_ok-take.ensures.taken in
     rw (
       happened w t o (Stepped c.in-Ok.number c.in-Ok.number (Some c.in-Ok.number)) c.change.new.self found.at
@@ -56,12 +59,12 @@ returns-in-Ok-clause-kept g c =
 
 pub untake-requires : goal.untake-requires
 untake-requires g c =
-    holds_some c.args.self.now.locks c.take.new.locks c.args.txn (at_key Exclusive c.copied.result)
+    holds_some c.args.self.now.locks c.take.new.locks c.args.txn (at_key (mode_of c.mode_for.result) c.copied.result)
     c.requires.locks.table c.in_ok-take.ensures.taken
 
 left : (g : _) (c : goal.After-untake g) → c.untake.new.self ≡ c.args.self.now.locks
 left g c =
-    untaken c.args.self.now.locks c.take.new.locks c.args.txn (at_key Exclusive c.copied.result) c.requires.locks.table
+    untaken c.args.self.now.locks c.take.new.locks c.args.txn (at_key (mode_of c.mode_for.result) c.copied.result) c.requires.locks.table
     c.in_ok-take.ensures.taken
     c.untake.new.self c.untake.ensures
 
@@ -73,8 +76,9 @@ returns-in-Err-clause-kept g c =
 pub returns-in-Err-clause-gives : goal.returns-in-Err-clause-gives
 returns-in-Err-clause-gives g c =
     let w = seen c.args.self.now in
-    let P : Bytes → Type 0 = λ k. IsFree w.locks c.args.txn (at_key Exclusive k) in
-    let free = subst P (c.copied.ensures ∙ c.key.ensures) c.in_ok-take.ensures.free in
+    let P : Span → Type 0 = λ s. IsFree w.locks c.args.txn s in
+    let free = subst P (taken_span c.mode_for.result c.copied.result c.args.op.now c.mode_for.ensures
+    (c.copied.ensures ∙ c.key.ensures)) c.in_ok-take.ensures.free in
     rw (c.in_ok-prev.ensures.found.allowed, left g c)
     (inr (
       free,

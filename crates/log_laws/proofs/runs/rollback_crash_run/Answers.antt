@@ -1,5 +1,0 @@
-use Rattle.log_laws.proofs.CrashRows.{end_is_lost_is_run, nobody_is_lost_is_none}
-use Rattle.log_laws.proofs.runs.rollback_crash_run.Goals as goal
-
-pub returns : goal.returns
-returns c = record { is_run = end_is_lost_is_run; is_none = nobody_is_lost_is_none }

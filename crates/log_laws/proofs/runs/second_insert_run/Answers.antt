@@ -1,5 +1,0 @@
-use Rattle.log_laws.proofs.Rows.{second_insert_is_run, inserted_twice_is_none}
-use Rattle.log_laws.proofs.runs.second_insert_run.Goals as goal
-
-pub returns : goal.returns
-returns c = record { is_run = second_insert_is_run; is_none = inserted_twice_is_none }

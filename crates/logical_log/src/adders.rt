@@ -1,0 +1,46 @@
+//! Which transactions added to a key.
+ghost use Rattle.std.specs.Prelude.{◌≡◌, ℕ, List, [], ◌∷◌, ◌++◌, OnOk};
+ghost use Rattle.logical_log.specs.Adders.{adders_in, PutsAdders};
+
+use record_key::Key;
+use std::alloc::{AllocError, Global};
+use std::collections::BTreeMap;
+
+/// For each key the transactions of its Adds since its latest other operation, the oldest first.
+#[derive(Drop)]
+pub(crate) struct Adders {
+    pub(crate) by_key: BTreeMap<Key, Vec<u64>>,
+    pub(crate) alloc: Global,
+}
+
+impl Adders {
+    pub(crate) fn new(alloc: Global) -> Adders
+        ensures { (k : List ℕ) → adders_in result k ≡ [] }
+    {
+        Adders {
+            by_key: BTreeMap::new(alloc),
+            alloc,
+        }
+    }
+
+    /// The transaction adds to the key.
+    pub(crate) fn add(&mut self, key: &Key, txn: u64) -> Result<(), AllocError>
+        ensures { OnOk result
+            (PutsAdders (adders_in self.old) (adders_in self.new) key.now (adders_in self.old key.now ++ txn ∷ [])) }
+    {
+        let mut adders = match self.by_key.remove(key) {
+            Some(adders) => adders,
+            None => Vec::new(self.alloc),
+        };
+        adders.push(txn)?;
+        self.by_key.insert(key.copied(), adders)?;
+        Ok(())
+    }
+
+    /// Another operation comes after the Adds on the key.
+    pub(crate) fn clear(&mut self, key: &Key)
+        ensures { PutsAdders (adders_in self.old) (adders_in self.new) key.now [] }
+    {
+        self.by_key.remove(key);
+    }
+}

@@ -1,0 +1,5 @@
+mod Walking
+mod Rows
+mod CrashRows
+mod BackRows
+mod BusyRows

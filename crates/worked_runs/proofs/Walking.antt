@@ -1,0 +1,196 @@
+-- Machines of short runs: what may follow a line, and what must.
+use Rattle.std.proofs.Common.{◌≡◌, ℕ, ◌<◌, Bool, true, false, List, [], ◌∷◌, Some, None, refl, sym, ap, ◌∙◌, subst, arith, inl, inr, ne_eqb, true≢false}
+use Rattle.std.specs.Prelude.{◌==◌, map, if◌then◌else◌}
+use Rattle.std.specs.FinMap.{get-empty}
+use Rattle.std.proofs.lemmas.Bool.{cases_eq}
+use Rattle.record_key.specs.declared.op.Op.{Op}
+use Rattle.record_key.specs.declared.op.Op.TheVariants.{Insert}
+use Rattle.record_key.specs.declared.op.Answer.{Answer}
+use Rattle.record_key.specs.declared.op.Answer.TheVariants.{Inserted, Exists}
+use Rattle.record_key.specs.Table.{Bytes, key_of, answer_at, answer_in, value_after}
+use Rattle.record_key.specs.Laws.{key_cmp}
+use Rattle.record_key.proofs.Tables.{get-with_record_same}
+use Rattle.history.specs.History.{plain, placed, cross}
+use Rattle.history.specs.Spans.{Span, AnyConflict, changed_span}
+use Rattle.history.specs.ListMachine.{Machine, Txn, Open, Waiting, Rolling, Gone, Line, Begins, Acts, TellsAnswer, Crashes, Step, Steps, Survives, IsAbove, IsAboveAll, HasStatus, IsFree, IsHolder, with_txn, with_status, fallen, blank, nobody, ended, fresh}
+use Rattle.log_laws.proofs.Statuses.{same_number, same_op}
+
+-- the machine after a line
+abbrev pub begun : Machine → ℕ → Machine
+begun m t = with_txn m t blank
+
+abbrev pub acted : Machine → ℕ → Op → ℕ → Machine
+acted m t o k =
+    with_txn m t (record (m.txns t) {
+      status = Waiting k o;
+      last = Some (k, o);
+      spans = changed_span o ∷ (m.txns t).spans;
+    })
+
+abbrev pub told : Machine → ℕ → Op → ℕ → Answer → Machine
+told m t o k a =
+    record (with_status m t Open) {
+      h = placed (record { number = k; txn = t; op = o; answer = a; crossed = false })
+          m.h;
+    }
+
+abbrev pub rolling : Machine → Machine
+rolling m = record (with_status m 2 (Rolling None)) { h = cross (λ _. true) 2 m.h }
+
+abbrev pub gone : Machine → Machine
+gone m = with_txn m 2 (ended (m.txns 2) Gone)
+
+-- a crash makes this of transaction 2, and there is no other
+abbrev pub crashed : Machine → Txn → Bool → Machine
+crashed m x fell = record {
+  h = map (fallen (λ u. if u == 2 then fell else false)) m.h;
+  txns = λ u. if u == 2 then x else nobody;
+}
+
+-- after a transaction's first insert
+abbrev pub inserted : Op → Machine
+inserted o = told (acted (begun fresh 2) 2 o 3) 2 o 3 Inserted
+
+-- what an insert of a key is answered that isn't there
+pub first_answer : (a b : Bytes) → Inserted ≡ answer_in (plain []) (Insert a b)
+first_answer a b = ap (answer_at (Insert a b)) (sym (get-empty key_cmp a))
+
+-- and one that is
+pub second_answer : (a b c : Bytes) → Exists ≡ answer_in (plain (inserted (Insert a b)).h) (Insert a c)
+second_answer a b c =
+    let there = get-with_record_same (plain []) a _ ∙ ap (value_after (Insert a b)) (get-empty key_cmp a) in
+    sym (ap (answer_at (Insert a c)) there)
+
+-- nobody else has begun
+abbrev pub IsAlone : Machine → ℕ → Type 0
+IsAlone m t = (u : ℕ) → (u ≡ t → ⊥) → m.txns u ≡ nobody
+
+pub alone_with : (m : Machine) (t : ℕ) (x : Txn) → IsAlone m t → IsAlone (with_txn m t x) t
+alone_with m t x alone u apart = ap (λ (b : Bool). if b then x else m.txns u) (ne_eqb u t apart) ∙ alone u apart
+
+pub alone_acted : (o : Op) (k : ℕ) → IsAlone (acted (begun fresh 2) 2 o k) 2
+alone_acted o k = alone_with (begun fresh 2) 2 _ (alone_with fresh 2 blank (λ u apart. refl))
+
+pub alone_inserted : (o : Op) → IsAlone (inserted o) 2
+alone_inserted o = alone_with (acted (begun fresh 2) 2 o 3) 2 _ (alone_acted o 3)
+
+-- so nobody else holds anything, or waits
+pub alone_free : (m : Machine) (t : ℕ) (s : Span) → IsAlone m t → IsFree m t s
+alone_free m t s alone u apart h = subst (λ x. AnyConflict s x.spans) (alone u apart) h
+
+pub alone_above : (m : Machine) (t k : ℕ) → IsAlone m t → IsAbove k (m.txns t).status → (u : ℕ)
+    → IsAbove k (m.txns u).status
+alone_above m t k alone own u =
+    elim (cases_eq u t) [
+      | inl e ↦ subst (λ (n : ℕ). IsAbove k (m.txns n).status) (sym e) own
+      | inr apart ↦ subst (λ x. IsAbove k x.status) (sym (alone u apart)) tt
+    ]
+
+-- or has begun
+pub alone_below : (m : Machine) (t k : ℕ) → IsAlone m t → t < k → (u : ℕ) → (m.txns u).begun ≡ true → u < k
+alone_below m t k alone below u has_begun =
+    elim (cases_eq u t) [
+      | inl e ↦ omega (arith, e, below)
+      | inr apart ↦ absurd (true≢false (sym has_begun ∙ ap (λ x. x.begun) (alone u apart)))
+    ]
+
+pub fresh_below : (k : ℕ) → IsAboveAll k fresh
+fresh_below k = (tt, λ u has_begun. absurd (true≢false (sym has_begun)), λ u. tt)
+
+-- the first two lines, and three
+pub starts_acting : (o : Op) (lines : List Line) (last : Machine) → Steps (acted (begun fresh 2) 2 o 3) lines last
+    → Steps fresh (Begins 2 ∷ Acts 2 o 3 ∷ lines) last
+starts_acting o lines last rest =
+    let m : Machine = begun fresh 2 in
+    let alone : IsAlone m 2 = alone_with fresh 2 blank (λ u apart. refl) in (
+      m,
+      (fresh_below 2, refl),
+      (
+        acted m 2 o 3,
+        (
+          refl,
+          alone_free m 2 (changed_span o) alone,
+          omega arith,
+          (tt, alone_below m 2 3 alone (omega arith), alone_above m 2 3 alone tt),
+          refl,
+        ),
+        rest,
+      ),
+    )
+
+pub starts : (a b : Bytes) (lines : List Line) (last : Machine) → Steps (inserted (Insert a b)) lines last
+    → Steps fresh (Begins 2 ∷ Acts 2 (Insert a b) 3 ∷ TellsAnswer 2 Inserted ∷ lines) last
+starts a b lines last rest =
+    let o : Op = Insert a b in
+    starts_acting o (TellsAnswer 2 Inserted ∷ lines) last (inserted o, (3, o, refl, first_answer a b, refl), rest)
+
+-- a crash
+pub crashes : (m : Machine) (x : Txn) (fell : Bool) → IsAlone m 2 → Survives m 2 (m.txns 2).status x fell
+    → Step m Crashes (crashed m x fell)
+crashes m x fell alone survives = (λ u. if u == 2 then fell else false, each, refl)
+  where
+    each : (u : ℕ) → Survives m u (m.txns u).status (if u == 2 then x else nobody) (if u == 2 then fell else false)
+    each u =
+        elim (cases_eq u 2) [
+          | inl e ↦ subst (λ (n : ℕ). Survives m n (m.txns n).status (if n == 2 then x else nobody)
+              (if n == 2 then fell else false)) (sym e) survives
+          | inr apart ↦ other (ap (λ y. y.status) (alone u apart))
+              (ap (λ (b : Bool). if b then x else nobody) (ne_eqb u 2 apart) ∙ sym (alone u apart))
+              (ap (λ (b : Bool). if b then fell else false) (ne_eqb u 2 apart))
+        ]
+      where
+        other : (m.txns u).status ≡ Gone → (if u == 2 then x else nobody) ≡ m.txns u
+            → (if u == 2 then fell else false) ≡ false
+            → Survives m u (m.txns u).status (if u == 2 then x else nobody) (if u == 2 then fell else false)
+        other is_gone same stays =
+            subst (λ s. Survives m u s (if u == 2 then x else nobody) (if u == 2 then fell else false)) (sym is_gone)
+            (inl same, stays)
+
+pub alone_crashed : (m : Machine) (x : Txn) (fell : Bool) → IsAlone (crashed m x fell) 2
+alone_crashed m x fell u apart = ap (λ (b : Bool). if b then x else nobody) (ne_eqb u 2 apart)
+
+-- transaction 2 alone may keep transaction 4 from a key
+pub second_holder : (m : Machine) → IsAlone m 2 → (s : Span) → AnyConflict s (m.txns 2).spans
+    → IsHolder (begun m 4) 4 s 2
+second_holder m alone s conflicts = record {
+  other = λ e. omega (arith, e);
+  conflicts = conflicts;
+  least = λ u apart h. elim (cases_eq u 2) [
+    | inl e ↦ omega (arith, e)
+    | inr other ↦ absurd (subst (λ x. AnyConflict s x.spans)
+        (ap (λ (b : Bool). if b then blank else m.txns u) (ne_eqb u 4 apart) ∙ alone u other) h)
+  ];
+}
+
+-- what must follow a line
+pub after_begins : (m : Machine) (t : ℕ) (lines : List Line) (last : Machine) → Steps m (Begins t ∷ lines) last
+    → Steps (begun m t) lines last
+after_begins m t lines last h = subst (λ x. Steps x lines last) h.1.1 h.2
+
+pub after_acts : (m : Machine) (t : ℕ) (o : Op) (k : ℕ) (lines : List Line) (last : Machine)
+    → Steps m (Acts t o k ∷ lines) last → Steps (acted m t o k) lines last
+after_acts m t o k lines last h = subst (λ x. Steps x lines last) h.1.4 h.2
+
+-- a told answer is the right one
+pub after_told : (m : Machine) (o : Op) (k : ℕ) (a : Answer) (lines : List Line) (last : Machine)
+    → HasStatus m 2 (Waiting k o)
+    → Steps m (TellsAnswer 2 a ∷ lines) last → (a ≡ answer_in (plain m.h) o) × Steps (told m 2 o k a) lines last
+after_told m o k a lines last waits h =
+    let e : Waiting h.1.0 h.1.1 ≡ Waiting k o = sym h.1.2 ∙ waits in
+    let number : h.1.0 ≡ k = same_number h.1.0 k h.1.1 o e in
+    let op : h.1.1 ≡ o = same_op h.1.0 k h.1.1 o e in
+    let there : h.0 ≡ told m 2 o k a = h.1.4 ∙ ap (λ (j : ℕ). told m 2 h.1.1 j a) number
+    ∙ ap (λ (q : Op). told m 2 q k a) op in
+    (h.1.3 ∙ ap (answer_in (plain m.h)) op, subst (λ x. Steps x lines last) there h.2)
+
+-- what must follow the first two lines, and three
+pub after_acting : (o : Op) (lines : List Line) (last : Machine) → Steps fresh (Begins 2 ∷ Acts 2 o 3 ∷ lines) last
+    → Steps (acted (begun fresh 2) 2 o 3) lines last
+after_acting o lines last h =
+    after_acts (begun fresh 2) 2 o 3 lines last (after_begins fresh 2 (Acts 2 o 3 ∷ lines) last h)
+
+pub after_insert : (o : Op) (lines : List Line) (last : Machine)
+    → Steps fresh (Begins 2 ∷ Acts 2 o 3 ∷ TellsAnswer 2 Inserted ∷ lines) last → Steps (inserted o) lines last
+after_insert o lines last h =
+    (after_told (acted (begun fresh 2) 2 o 3) o 3 Inserted lines last refl
+    (after_acting o (TellsAnswer 2 Inserted ∷ lines) last h)).1
