@@ -1,8 +1,8 @@
 -- The index by transaction and by key is right again after each record that fits.
-use Rattle.std.proofs.Common.{◌≡◌, ◌≢◌, ℕ, ◌+◌, true, false, List, [], ◌∷◌, ◌++◌, length, Option, Some, None, refl, sym, ap, ◌∙◌, subst, arith, inl, inr, ◌⊎◌, Bool, true≢false, eq-eqb, eqb-true, MatchBool}
+use Rattle.std.proofs.Common.{◌≡◌, ◌≢◌, ℕ, ◌+◌, true, false, List, [], ◌∷◌, ◌++◌, length, Option, Some, None, refl, sym, ap, ◌∙◌, subst, arith, inl, inr, ◌⊎◌, Bool, true≢false, eq-eqb, eqb-true, ne_eqb, cond, filter, not, is_some, MatchBool}
 use Rattle.std.specs.Cmp.{Equal-is}
 use Rattle.std.specs.Prelude.{◌||◌, ◌==◌, if◌then◌else◌}
-use Rattle.std.proofs.lemmas.Bool.{cases_eq, cases_Bool, or_cases, or_left, or_right}
+use Rattle.std.proofs.lemmas.Bool.{cases_eq, cases_Bool, and_from, or_cases, or_left, or_right}
 use Rattle.std.specs.Ordering.{is_eq}
 use Rattle.record_key.specs.declared.op.Op.{Op}
 use Rattle.record_key.specs.Laws.{key_cmp}
@@ -18,7 +18,7 @@ use Rattle.log_laws.proofs.Undo.{latest_as}
 use Rattle.std.proofs.lemmas.Cmp.{nat_list_cmp_total, tied_itself}
 use Rattle.std.proofs.lemmas.Map.Lookups.{exact_bytes}
 use Rattle.logical_log.specs.declared.replay.Index.{Index}
-use Rattle.logical_log.specs.Adders.{PutsAdders}
+use Rattle.logical_log.specs.Adders.{stays, PutsAdders}
 use Rattle.logical_log.specs.Replay.{IsIndex, latest_in, holder_in, adders_of, is_among, KeptOf, KeptOn, AddsTo, AddedBy, Puts, Follows, Holds, Gains}
 
 -- the record neither begins nor ends the transaction, and is no step of it
@@ -315,6 +315,44 @@ among_split u t (v ∷ us) h = elim (or_cases (v == u) (is_among u (us ++ t ∷ 
   ]
 ]
 
+-- what a test leaves of a list was there, and what passes it is left
+unfiltered_one : (b : Bool) (u v : ℕ) (us left : List ℕ) → (is_among u left ≡ true → is_among u us ≡ true)
+    → is_among u (cond b (v ∷ left) left) ≡ true → is_among u (v ∷ us) ≡ true
+unfiltered_one true u v us left was h = elim (or_cases (v == u) (is_among u left) h) [
+  | inl same ↦ or_left (v == u) (is_among u us) same
+  | inr rest ↦ or_right (v == u) (is_among u us) (was rest)
+]
+unfiltered_one false u v us left was h = or_right (v == u) (is_among u us) (was h)
+
+among_unfiltered : (p : ℕ → Bool) (u : ℕ) (us : List ℕ) → is_among u (filter p us) ≡ true → is_among u us ≡ true
+among_unfiltered p u [] h = h
+among_unfiltered p u (v ∷ us) h = unfiltered_one (p v) u v us (filter p us) (among_unfiltered p u us) h
+
+filtered_one : (b : Bool) (u v : ℕ) (left : List ℕ) → ((v ≡ u) × (b ≡ true)) ⊎ (is_among u left ≡ true)
+    → is_among u (cond b (v ∷ left) left) ≡ true
+filtered_one true u v left (inl first) = or_left (v == u) (is_among u left) (eq-eqb v u first.0)
+filtered_one true u v left (inr rest) = or_right (v == u) (is_among u left) rest
+filtered_one false u v left (inl first) = absurd (true≢false (sym first.1))
+filtered_one false u v left (inr rest) = rest
+
+among_filtered : (p : ℕ → Bool) (u : ℕ) (us : List ℕ) → p u ≡ true → is_among u us ≡ true
+    → is_among u (filter p us) ≡ true
+among_filtered p u [] passes h = h
+among_filtered p u (v ∷ us) passes h = filtered_one (p v) u v (filter p us) (elim (or_cases (v == u) (is_among u us) h) [
+  | inl same ↦ let e : v ≡ u = eqb-true v u same in inl (e, ap p e ∙ passes)
+  | inr rest ↦ inr (among_filtered p u us passes rest)
+])
+
+-- another that is open stays
+stays_open : (log : List Record) (latest : ℕ → Option ℕ) (t u : ℕ) → KeptOf log u (latest u) → u ≢ t → IsOpen log u
+    → stays latest t u ≡ true
+stays_open log latest t u kept apart opened =
+    and_from (not (u == t)) (is_some (latest u)) (ap not (ne_eqb u t apart)) (by (latest u) kept)
+  where
+    by : (v : Option ℕ) → KeptOf log u v → is_some v ≡ true
+    by None shut = absurd (shut opened)
+    by (Some s) at = refl
+
 -- an Add stays, and is the newest record's or was there
 adds_longer : (r : Record) (log : List Record) (k : Bytes) (u : ℕ) → AddsTo log k u → AddsTo (r ∷ log) k u
 adds_longer r log k u h = record {
@@ -343,14 +381,16 @@ added_same r log k v w us legal none same h = record {
 }
 
 -- one Add more
-added_one : (log : List Record) (t p : ℕ) (o : Op) (v w : Option ℕ) (us : List ℕ) → IsLegal log → is_add o ≡ true
-    → v ≡ w
-    → AddedBy log (key_of o) v us → AddedBy (is.Op t p o ∷ log) (key_of o) w (us ++ t ∷ [])
-added_one log t p o v w us legal add same h =
+added_one : (log : List Record) (t p : ℕ) (o : Op) (latest : ℕ → Option ℕ) (v w : Option ℕ) (us : List ℕ)
+    → IsLegal log → is_add o ≡ true → ((u : ℕ) → KeptOf (is.Op t p o ∷ log) u (latest u)) → v ≡ w
+    → AddedBy log (key_of o) v us
+    → AddedBy (is.Op t p o ∷ log) (key_of o) w (filter (stays latest t) us ++ t ∷ [])
+added_one log t p o latest v w us legal add kept same h =
     let r : Record = is.Op t p o in
+    let left : List ℕ = filter (stays latest t) us in
     record {
-      each = λ u among. elim (among_split u t us among) [
-        | inl old ↦ adds_longer r log (key_of o) u (h.each u old)
+      each = λ u among. elim (among_split u t left among) [
+        | inl old ↦ adds_longer r log (key_of o) u (h.each u (among_unfiltered (stays latest t) u us old))
         | inr last ↦ subst (AddsTo (r ∷ log) (key_of o)) last (record {
           number = length log + 1;
           op = o;
@@ -363,12 +403,16 @@ added_one log t p o v w us legal add same h =
         | inl e ↦
             let one : t ≡ u =
             (op_same t u o has.op (Some r) refl (newest_at (AnOp u has.op) r log has.number e has.is)).0 in
-            inr (subst (λ (z : ℕ). is_among z (us ++ t ∷ []) ≡ true) one (among_last t us))
+            inr (subst (λ (z : ℕ). is_among z (left ++ t ∷ []) ≡ true) one (among_last t left))
         | inr e ↦
             let was : IsOpBy log has.number u has.op = older_at (AnOp u has.op) r log has.number e has.is in
             elim (h.all u (record { number = has.number; op = has.op; is = was; on_key = has.on_key; adds = has.adds })
             (holder_open r log legal has.number u has.op was opened))
-            [ inl held ↦ inl (sym same ∙ held) | inr listed ↦ inr (among_more u t us listed) ]
+            [ inl held ↦ inl (sym same ∙ held) | inr listed ↦ inr (elim (cases_eq u t) [
+              | inl mine ↦ subst (λ (z : ℕ). is_among z (left ++ t ∷ []) ≡ true) (sym mine) (among_last t left)
+              | inr other ↦ among_more u t left (among_filtered (stays latest t) u us
+                  (stays_open (r ∷ log) latest t u (kept u) other opened) listed)
+            ]) ]
       ];
     }
 
@@ -391,13 +435,14 @@ added_none log t p o w legal fits plain holder =
     }
 
 -- an operation on a key
-gained_op : (log : List Record) (t p : ℕ) (o : Op) (old new : Bytes → Option ℕ) (had has : Bytes → List ℕ)
-    → IsLegal log → Fits log (is.Op t p o) → (b : Bool) → is_add o ≡ b
+gained_op : (log : List Record) (t p : ℕ) (o : Op) (latest : ℕ → Option ℕ) (old new : Bytes → Option ℕ)
+    (had has : Bytes → List ℕ) → IsLegal log → Fits log (is.Op t p o)
+    → ((u : ℕ) → KeptOf (is.Op t p o ∷ log) u (latest u)) → (b : Bool) → is_add o ≡ b
     → MatchBool b ((k : Bytes) → new k ≡ old k) (Puts Bytes old new (key_of o) (Some t))
-    → PutsAdders had has (key_of o) (if b then had (key_of o) ++ t ∷ [] else [])
+    → PutsAdders had has (key_of o) (if b then filter (stays latest t) (had (key_of o)) ++ t ∷ [] else [])
     → ((k : Bytes) → AddedBy log k (old k) (had k))
     → (k : Bytes) → AddedBy (is.Op t p o ∷ log) k (new k) (has k)
-gained_op log t p o old new had has legal fits b adds keeps puts was k =
+gained_op log t p o latest old new had has legal fits kept b adds keeps puts was k =
     elim (key_cases k (key_of o)) [
       | inl e ↦
           let P : Bytes → Type 0 = λ q. AddedBy (is.Op t p o ∷ log) q (new q) (has q) in
@@ -413,8 +458,9 @@ gained_op log t p o old new had has legal fits b adds keeps puts was k =
   where
     here : (b : Bool) → is_add o ≡ b
         → MatchBool b ((k : Bytes) → new k ≡ old k) (Puts Bytes old new (key_of o) (Some t))
-        → AddedBy (is.Op t p o ∷ log) (key_of o) (new (key_of o)) (if b then had (key_of o) ++ t ∷ [] else [])
-    here true add same = added_one log t p o (old (key_of o)) (new (key_of o)) (had (key_of o)) legal add
+        → AddedBy (is.Op t p o ∷ log) (key_of o) (new (key_of o))
+        (if b then filter (stays latest t) (had (key_of o)) ++ t ∷ [] else [])
+    here true add same = added_one log t p o latest (old (key_of o)) (new (key_of o)) (had (key_of o)) legal add kept
         (sym (same (key_of o))) (was (key_of o))
     here false plain keeps = added_none log t p o (new (key_of o)) legal fits plain keeps.here
 
@@ -433,25 +479,26 @@ gained_same r log old new had has legal none holder same was k =
     subst Q (sym (same k)) (added_same r log k (old k) (new k) (had k) legal (λ u o op _ _. none u o op)
     (sym (holder k)) (was k))
 
-pub gains : (r : Record) (log : List Record) (old new : Bytes → Option ℕ) (had has : Bytes → List ℕ) → IsLegal log
-    → Fits log r → Holds r old new → Gains r had has
+pub gains : (r : Record) (log : List Record) (latest : ℕ → Option ℕ) (old new : Bytes → Option ℕ)
+    (had has : Bytes → List ℕ) → IsLegal log → Fits log r → ((u : ℕ) → KeptOf (r ∷ log) u (latest u))
+    → Holds r old new → Gains r latest had has
     → ((k : Bytes) → AddedBy log k (old k) (had k))
     → (k : Bytes) → AddedBy (r ∷ log) k (new k) (has k)
-gains (is.Op t p o) log old new had has legal fits keeps puts was =
-    gained_op log t p o old new had has legal fits (is_add o) refl keeps puts was
-gains is.Session log old new had has legal fits holder same was =
+gains (is.Op t p o) log latest old new had has legal fits kept keeps puts was =
+    gained_op log t p o latest old new had has legal fits kept (is_add o) refl keeps puts was
+gains is.Session log latest old new had has legal fits kept holder same was =
     gained_same is.Session log old new had has legal (λ u o op. cc) holder same was
-gains is.Begin log old new had has legal fits holder same was =
+gains is.Begin log latest old new had has legal fits kept holder same was =
     gained_same is.Begin log old new had has legal (λ u o op. cc) holder same was
-gains (is.Comp u w x i) log old new had has legal fits holder same was =
+gains (is.Comp u w x i) log latest old new had has legal fits kept holder same was =
     gained_same (is.Comp u w x i) log old new had has legal (λ v o op. cc) holder same was
-gains (is.Answer n a) log old new had has legal fits holder same was =
+gains (is.Answer n a) log latest old new had has legal fits kept holder same was =
     gained_same (is.Answer n a) log old new had has legal (λ v o op. cc) holder same was
-gains (is.Commit u) log old new had has legal fits holder same was =
+gains (is.Commit u) log latest old new had has legal fits kept holder same was =
     gained_same (is.Commit u) log old new had has legal (λ v o op. cc) holder same was
-gains (is.End u) log old new had has legal fits holder same was =
+gains (is.End u) log latest old new had has legal fits kept holder same was =
     gained_same (is.End u) log old new had has legal (λ v o op. cc) holder same was
-gains (is.Checkpoint l) log old new had has legal fits holder same was =
+gains (is.Checkpoint l) log latest old new had has legal fits kept holder same was =
     gained_same (is.Checkpoint l) log old new had has legal (λ v o op. cc) holder same was
 
 -- ---- both
@@ -459,14 +506,17 @@ gains (is.Checkpoint l) log old new had has legal fits holder same was =
 pub followed : (log : List Record) (r : Record) (number : ℕ) (old new : Index) → IsIndex log old → Fits log r
     → number ≡ length log + 1
     → Follows r number (latest_in old) (latest_in new) → Holds r (holder_in old) (holder_in new)
-    → Gains r (adders_of old) (adders_of new)
+    → Gains r (latest_in new) (adders_of old) (adders_of new)
     → FitsCheckpoint (r ∷ log) new.answered → IsIndex (r ∷ log) new
-followed log r number old new h fits is txns keys adders answered = record {
-  legal = (fits, h.legal);
-  open_txns = let P : ℕ → Type 0 = λ n. Follows r n (latest_in old) (latest_in new) in
-      follows r log (latest_in old) (latest_in new) h.legal fits (subst P is txns) h.open_txns;
-  held_keys = holds r log (holder_in old) (holder_in new) h.legal fits keys h.held_keys;
-  added_keys = gains r log (holder_in old) (holder_in new) (adders_of old) (adders_of new) h.legal fits keys adders
-      h.added_keys;
-  answered = answered;
-}
+followed log r number old new h fits is txns keys adders answered =
+    let P : ℕ → Type 0 = λ n. Follows r n (latest_in old) (latest_in new) in
+    let kept : (t : ℕ) → KeptOf (r ∷ log) t (latest_in new t) =
+    follows r log (latest_in old) (latest_in new) h.legal fits (subst P is txns) h.open_txns in
+    record {
+      legal = (fits, h.legal);
+      open_txns = kept;
+      held_keys = holds r log (holder_in old) (holder_in new) h.legal fits keys h.held_keys;
+      added_keys = gains r log (latest_in new) (holder_in old) (holder_in new) (adders_of old) (adders_of new) h.legal
+          fits kept keys adders h.added_keys;
+      answered = answered;
+    }

@@ -1,5 +1,5 @@
 -- The transactions that added to a key.
-use Rattle.std.specs.Prelude.{◌≡◌, ◌≢◌, ℕ, List, [], Option, Some, None}
+use Rattle.std.specs.Prelude.{◌≡◌, ◌≢◌, ℕ, ◌==◌, ◌&&◌, Bool, not, List, [], Option, Some, None, is_some}
 use Rattle.std.specs.BTreeMap as tree
 use Rattle.std.specs.Global.{Vec}
 use Rattle.record_key.specs.Laws.{key_cmp}
@@ -17,3 +17,7 @@ adders_in adders k = items_of (tree.get key_cmp adders.by_key k)
 pub record PutsAdders (old new : Bytes → List ℕ) (k : Bytes) (us : List ℕ) : Type 0 where
   pub here : new k ≡ us
   pub elsewhere : (q : Bytes) → q ≢ k → new q ≡ old q
+
+-- one that added before stays listed when another Add comes: it is another transaction, and open
+abbrev pub stays : (ℕ → Option ℕ) → ℕ → ℕ → Bool
+stays latest t u = not (u == t) && is_some (latest u)

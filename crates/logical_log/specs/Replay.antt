@@ -1,6 +1,6 @@
 -- What is kept of a log while its records are read one after another: for each open transaction its latest step, and
 -- for each key the only transaction that may hold it alone, and those that may hold it for Adds.
-use Rattle.std.specs.Prelude.{◌≡◌, ◌≢◌, ◌⊎◌, ℕ, ◌==◌, ◌&&◌, ◌||◌, Bool, true, false, not, List, [], ◌∷◌, ◌++◌, Option, Some, None, is_some, if◌then◌else◌}
+use Rattle.std.specs.Prelude.{◌≡◌, ◌≢◌, ◌⊎◌, ℕ, ◌==◌, ◌&&◌, ◌||◌, Bool, true, false, not, List, [], ◌∷◌, ◌++◌, Option, Some, None, is_some, filter, if◌then◌else◌}
 use Rattle.std.specs.Bool.{MatchBool}
 use Rattle.std.specs.List.{list_any, list_all}
 use Rattle.std.specs.BTreeMap as tree
@@ -13,7 +13,7 @@ use Rattle.history.specs.declared.record.Record.TheVariants as is
 use Rattle.history.specs.Log.{IsOpen, IsStepOf, IsOpBy}
 use Rattle.history.specs.Legal.{IsLegal, IsIdle, IsLatestOrNone, FitsCheckpoint}
 use Rattle.logical_log.specs.declared.replay.Index.{Index}
-use Rattle.logical_log.specs.Adders.{adders_in, PutsAdders}
+use Rattle.logical_log.specs.Adders.{adders_in, stays, PutsAdders}
 
 -- the transaction is open, and this is its latest Op or Comp record, 0 if it has none
 pub record OpenAt (log : List Record) (t s : ℕ) : Type 0 where
@@ -111,7 +111,8 @@ Holds (is.Op t p o) old new =
     MatchBool (is_add o) ((k : Bytes) → new k ≡ old k) (Puts Bytes old new (key_of o) (Some t))
 Holds _ old new = (k : Bytes) → new k ≡ old k
 
--- after an operation that is no Add those before it needn't be kept
-abbrev pub Gains : Record → (Bytes → List ℕ) → (Bytes → List ℕ) → Type 0
-Gains (is.Op t p o) old new = PutsAdders old new (key_of o) (if is_add o then old (key_of o) ++ t ∷ [] else [])
-Gains _ old new = (k : Bytes) → new k ≡ old k
+-- after an Add those before it are kept of other open transactions, and after another operation none
+abbrev pub Gains : Record → (ℕ → Option ℕ) → (Bytes → List ℕ) → (Bytes → List ℕ) → Type 0
+Gains (is.Op t p o) latest old new =
+    PutsAdders old new (key_of o) (if is_add o then filter (stays latest t) (old (key_of o)) ++ t ∷ [] else [])
+Gains _ latest old new = (k : Bytes) → new k ≡ old k

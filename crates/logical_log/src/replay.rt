@@ -1,11 +1,11 @@
 //! An index by transaction and by key, which tells in one pass whether each record fits those before it.
-ghost use Rattle.std.specs.Prelude.{◌≡◌, ◌↔◌, ◌∷◌, ◌++◌, [], IsTrue, OnOk, Some, None, List, ℕ, if◌then◌else◌};
+ghost use Rattle.std.specs.Prelude.{◌≡◌, ◌↔◌, ◌∷◌, ◌++◌, [], IsTrue, OnOk, Some, None, List, ℕ, filter, if◌then◌else◌};
 ghost use Rattle.std.specs.Bool.{MatchBool};
 ghost use Rattle.std.specs.List.{list_all};
 ghost use Rattle.record_key.specs.Table.{key_of, is_add};
 ghost use Rattle.history.specs.Legal.{IsKeyFree};
 ghost use Rattle.logical_log.specs.Replay.{IsIndex, ReadyOf, latest_in, holder_in, adders_of, agrees, agrees_if, Follows, Holds, Gains, Puts};
-ghost use Rattle.logical_log.specs.Adders.{PutsAdders};
+ghost use Rattle.logical_log.specs.Adders.{stays, PutsAdders};
 
 use crate::adders::Adders;
 use crate::frames::Frames;
@@ -20,7 +20,7 @@ pub(crate) struct Index {
     pub(crate) open: BTreeMap<u64, u64>,
     // For each key the transaction of its latest operation that is no Add: if another is open, it has none on the key.
     pub(crate) holders: BTreeMap<Key, u64>,
-    // For each key the transactions that added to it since.
+    // For each key the transactions that added to it since, but for such as were over when the next did.
     pub(crate) adders: Adders,
     // Up to this number every request is answered.
     pub(crate) answered: u64,
@@ -100,7 +100,7 @@ impl Index {
     pub(crate) fn follow(&mut self, accepted: &Record, number: u64) -> Result<(), AllocError>
         ensures open { OnOk result (Follows accepted.now number (latest_in self.old) (latest_in self.new)) }
         ensures holders { OnOk result (Holds accepted.now (holder_in self.old) (holder_in self.new)) }
-        ensures adders { OnOk result (Gains accepted.now (adders_of self.old) (adders_of self.new)) }
+        ensures adders { OnOk result (Gains accepted.now (latest_in self.new) (adders_of self.old) (adders_of self.new)) }
         ensures answered { self.new.answered ≡ self.old.answered }
     {
         match accepted {
@@ -127,12 +127,13 @@ impl Index {
         ensures holders { OnOk result (MatchBool (is_add op.now) ((k : List ℕ) → holder_in self.new k ≡ holder_in self.old k)
             (Puts (List ℕ) (holder_in self.old) (holder_in self.new) (key_of op.now) (Some txn))) }
         ensures adders { OnOk result (PutsAdders (adders_of self.old) (adders_of self.new) (key_of op.now)
-            (if is_add op.now then adders_of self.old (key_of op.now) ++ txn ∷ [] else [])) }
+            (if is_add op.now then filter (stays (latest_in self.new) txn) (adders_of self.old (key_of op.now)) ++ txn ∷ []
+            else [])) }
         ensures open { (t : ℕ) → latest_in self.new t ≡ latest_in self.old t }
         ensures answered { self.new.answered ≡ self.old.answered }
     {
         if op.is_add() {
-            self.adders.add(op.key(), txn)
+            self.adders.add(op.key(), txn, &self.open)
         } else {
             self.adders.clear(op.key());
             self.holders.insert(op.key().copied(), txn)?;

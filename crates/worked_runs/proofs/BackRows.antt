@@ -3,7 +3,6 @@ use Rattle.std.specs.Prelude.{◌==◌, not}
 use Rattle.std.specs.List.{list_any}
 use Rattle.std.proofs.Common.{◌≡◌, ℕ, List, Option, [], ◌∷◌, refl, sym, ap, ◌∙◌, subst, arith, true, Some}
 use Rattle.record_key.specs.declared.op.Answer.TheVariants.{Inserted, Exists}
-use Rattle.record_key.specs.Table.{key_of}
 use Rattle.history.specs.History.{cross}
 use Rattle.history.specs.Spans.{changed_span}
 use Rattle.history.specs.ListMachine.{Machine, Line, Open, Rolling, Acts, TellsAnswer, Saves, GoesBack, TellsBack, Steps, IsRun, with_txn, with_status, fresh}

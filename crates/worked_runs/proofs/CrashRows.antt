@@ -4,7 +4,6 @@ use Rattle.std.proofs.lemmas.Bool.{cases_eq}
 use Rattle.std.specs.Prelude.{if◌then◌else◌}
 use Rattle.record_key.specs.declared.op.Answer.TheVariants.{Exists}
 use Rattle.record_key.specs.declared.refusal.Refusal.TheVariants.{Busy}
-use Rattle.record_key.specs.Table.{key_of}
 use Rattle.history.specs.Spans.{Span, AnyConflict, changed_span}
 use Rattle.history.specs.ListMachine.{Machine, Line, Txn, Committing, Committed, Losing, Gone, Acts, TellsAnswer, Begins, RollsBack, TellsRolledBack, Commits, TellsCommitted, Crashes, TellsLost, IsRefused, ToAct, Steps, Survives, IsRun, IsFree, IsAbove, IsUnbegun, with_txn, with_status, blank, losing, ended, nobody, fresh}
 use Rattle.worked_runs.specs.Rows.{insert_a, commit_stays, commit_falls, told_commit_falls, end_is_lost, nobody_is_lost, key_stays_held, held_key_is_taken}

@@ -3,3 +3,5 @@ mod Rows
 mod CrashRows
 mod BackRows
 mod BusyRows
+mod Following
+mod AddRows

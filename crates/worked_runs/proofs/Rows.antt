@@ -1,7 +1,6 @@
 -- Two runs without crashes, and why their wrong versions are none.
 use Rattle.std.proofs.Common.{◌≡◌, List, [], ◌∷◌, None, refl, sym, ◌∙◌, subst, arith}
 use Rattle.record_key.specs.declared.op.Answer.TheVariants.{Inserted, Exists}
-use Rattle.record_key.specs.Table.{key_of}
 use Rattle.history.specs.Spans.{changed_span}
 use Rattle.history.specs.ListMachine.{fresh, Begins, Machine, Line, Open, Rolling, Acts, TellsAnswer, RollsBack, TellsRolledBack, Steps, IsRun, HasStatus}
 use Rattle.worked_runs.specs.Rows.{insert_a, insert_first, insert_second, insert_rolled_back, never_rolling_back, number_twice, insert_twice, inserted_twice}

@@ -7,7 +7,7 @@ use Rattle.record_key.specs.declared.op.Op.{Op}
 use Rattle.record_key.specs.declared.op.Op.TheVariants.{Insert}
 use Rattle.record_key.specs.declared.op.Answer.{Answer}
 use Rattle.record_key.specs.declared.op.Answer.TheVariants.{Inserted, Exists}
-use Rattle.record_key.specs.Table.{Bytes, key_of, answer_at, answer_in, value_after}
+use Rattle.record_key.specs.Table.{Bytes, answer_at, answer_in, value_after}
 use Rattle.record_key.specs.Laws.{key_cmp}
 use Rattle.record_key.proofs.Tables.{get-with_record_same}
 use Rattle.history.specs.History.{plain, placed, cross}

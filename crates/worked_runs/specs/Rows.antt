@@ -1,11 +1,12 @@
 -- Short runs of the list machine, line by line, and a wrong version of each.
-use Rattle.std.specs.Prelude.{List, [], ◌∷◌}
+use Rattle.std.specs.Prelude.{ℕ, List, [], ◌∷◌, ◌++◌, Some}
 use Rattle.record_key.specs.declared.op.Op.{Op}
-use Rattle.record_key.specs.declared.op.Op.TheVariants.{Insert}
+use Rattle.record_key.specs.declared.op.Op.TheVariants.{Insert, Update, Add}
+use Rattle.record_key.specs.Table.{Bytes}
 use Rattle.record_key.specs.declared.op.Answer.{Answer}
-use Rattle.record_key.specs.declared.op.Answer.TheVariants.{Inserted, Exists}
+use Rattle.record_key.specs.declared.op.Answer.TheVariants.{Inserted, Updated, Exists, NotNumber, Added}
 use Rattle.record_key.specs.declared.refusal.Refusal.TheVariants.{Busy}
-use Rattle.history.specs.ListMachine.{OfKey, ToAct, ToRead, Line, Begins, Acts, TellsAnswer, Reads, Saves, GoesBack, TellsBack, RollsBack, TellsRolledBack, Commits, TellsCommitted, Crashes, TellsLost, IsRefused}
+use Rattle.history.specs.ListMachine.{OfKey, ToAct, ToRead, Line, Begins, Acts, TellsAnswer, Reads, TellsRow, Saves, GoesBack, TellsBack, RollsBack, TellsRolledBack, Commits, TellsCommitted, Crashes, TellsLost, IsRefused}
 
 -- the keys a and k, the values 1 and 2
 abbrev pub insert_a : Op
@@ -98,3 +99,52 @@ read_is_busy = amid_insert (IsRefused (ToRead 4 (OfKey (97 ∷ []))) (Busy 2))
 
 abbrev pub held_key_is_read : List Line
 held_key_is_read = amid_insert (Reads 4 (OfKey (97 ∷ [])))
+
+-- a counter, the key k, and the numbers that it may hold
+abbrev pub number : ℕ → Bytes
+number n = 0 ∷ 0 ∷ 0 ∷ 0 ∷ 0 ∷ 0 ∷ 0 ∷ n ∷ []
+
+abbrev pub insert_five : Op
+insert_five = Insert (107 ∷ []) (number 5)
+
+abbrev pub add_three : Op
+add_three = Add (107 ∷ []) 3
+
+abbrev pub add_ten : Op
+add_ten = Add (107 ∷ []) 10
+
+-- two transactions add to a counter that stands at five, the first 3 and the other 10; the first rolls back, and the
+-- other reads
+abbrev pub first_taken_back : List Line
+first_taken_back =
+    Begins 2 ∷ Acts 2 insert_five 3 ∷ TellsAnswer 2 Inserted ∷ Commits 2 ∷ TellsCommitted 2 ∷ Begins 6 ∷ Begins 7
+    ∷ Acts 6 add_three 8 ∷ Acts 7 add_ten 9 ∷ TellsAnswer 7 (Added 10) ∷ TellsAnswer 6 (Added 3) ∷ RollsBack 6
+    ∷ TellsRolledBack 6 ∷ Reads 7 (OfKey (107 ∷ [])) ∷ []
+
+abbrev pub counter_reads : ℕ → List Line
+counter_reads n = first_taken_back ++ TellsRow 7 (Some (number n)) ∷ []
+
+-- the other's ten stand; and as if the undo had put back what the first found
+abbrev pub increment_undone : List Line
+increment_undone = counter_reads 15
+
+abbrev pub old_value_restored : List Line
+old_value_restored = counter_reads 5
+
+-- a number, a text in its place, and an Add that is answered so
+abbrev pub update_text : Op
+update_text = Update (107 ∷ []) (118 ∷ [])
+
+abbrev pub text_put : List Line
+text_put =
+    Begins 2 ∷ Acts 2 insert_five 3 ∷ TellsAnswer 2 Inserted ∷ Acts 2 update_text 5
+    ∷ TellsAnswer 2 (Updated (number 5)) ∷ Acts 2 add_three 7 ∷ []
+
+abbrev pub add_answered : Answer → List Line
+add_answered answer = text_put ++ TellsAnswer 2 answer ∷ []
+
+abbrev pub add_refused : List Line
+add_refused = add_answered NotNumber
+
+abbrev pub stale_value_added : List Line
+stale_value_added = add_answered (Added 3)

@@ -1,6 +1,6 @@
 //! Short runs of the list machine, line by line, beside wrong versions of them.
 ghost use Rattle.history.specs.ListMachine.{IsRun};
-ghost use Rattle.worked_runs.specs.Rows.{insert_rolled_back, never_rolling_back, number_twice, insert_twice, inserted_twice, commit_stays, commit_falls, told_commit_falls, end_is_lost, nobody_is_lost, key_stays_held, held_key_is_taken, insert_again, crossed_is_seen, read_is_busy, held_key_is_read};
+ghost use Rattle.worked_runs.specs.Rows.{insert_rolled_back, never_rolling_back, number_twice, insert_twice, inserted_twice, commit_stays, commit_falls, told_commit_falls, end_is_lost, nobody_is_lost, key_stays_held, held_key_is_taken, insert_again, crossed_is_seen, read_is_busy, held_key_is_read, increment_undone, old_value_restored, add_refused, stale_value_added};
 
 /// A transaction inserts, is answered and rolls back. It isn't told so before it asks for it, and nobody gets its
 /// number again.
@@ -45,4 +45,17 @@ pub fn savepoint_run()
 pub fn busy_read_run()
     ensures is_run { IsRun read_is_busy }
     ensures is_none { IsRun held_key_is_read → ⊥ }
+{}
+
+/// Two transactions add to one counter at a time. Where one is taken back, what the other added stands, and the
+/// counter isn't what the first found.
+pub fn increment_undone_run()
+    ensures is_run { IsRun increment_undone }
+    ensures is_none { IsRun old_value_restored → ⊥ }
+{}
+
+/// An increment is answered by the value that stands, and not by one that stood before.
+pub fn increment_refused_run()
+    ensures is_run { IsRun add_refused }
+    ensures is_none { IsRun stale_value_added → ⊥ }
 {}

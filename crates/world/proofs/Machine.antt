@@ -5,7 +5,6 @@ pub mod Committing
 pub mod Follows
 pub mod Headline
 pub mod Idle
-pub mod PlainAt
 pub mod Readers
 pub mod Reading
 pub mod Refused

@@ -1,10 +1,10 @@
 -- What holds of a node at every moment. These are the invariants on which the headline rests; docs/PROOF.md
 -- argues why each event keeps them.
-use Rattle.std.specs.Prelude.{◌≡◌, ℕ, ◌<◌, ◌≤◌, true, false, List, Option, Some, None, IsSome}
+use Rattle.std.specs.Prelude.{◌≡◌, ◌⊎◌, ℕ, ◌<◌, ◌≤◌, true, false, List, Option, Some, None, IsSome}
 use Rattle.std.specs.List.{AllByRecursion}
 use Rattle.std.specs.FinMap as map
 use Rattle.record_key.specs.declared.op.Op.{Op}
-use Rattle.record_key.specs.Table.{Table, Bytes, key_of}
+use Rattle.record_key.specs.Table.{Table, Bytes, AreAdds, key_of}
 use Rattle.record_key.specs.declared.op.Answer.{Answer}
 use Rattle.history.specs.declared.record.Record.{Record}
 use Rattle.history.specs.Log.{answer_of, Requests}
@@ -65,10 +65,11 @@ abbrev pub AnsweredAreCaptured : List Record → DcView → Type 0
 AnsweredAreCaptured log dc =
     (n : ℕ) (o : Op) → Requests log n o → IsSome (answer_of log n) → captures_at dc (key_of o) n ≡ true
 
--- so was each request before this number, on this key and on any
-abbrev pub EarlierAreCaptured : List Record → DcView → ℕ → Bytes → Type 0
-EarlierAreCaptured log dc n k =
-    (m : ℕ) (o : Op) → Requests log m o → m < n → key_of o ≡ k → captures_at dc k m ≡ true
+-- so was each request before this operation's number: on its key, unless both are Adds, and on any
+abbrev pub EarlierAreCaptured : List Record → DcView → ℕ → Op → Type 0
+EarlierAreCaptured log dc n o =
+    (m : ℕ) (q : Op) → Requests log m q → m < n → key_of q ≡ key_of o
+    → (captures_at dc (key_of o) m ≡ true) ⊎ AreAdds o q
 
 abbrev pub AllAreCaptured : List Record → DcView → ℕ → Type 0
 AllAreCaptured log dc next = (n : ℕ) (o : Op) → Requests log n o → n < next → captures_at dc (key_of o) n ≡ true
@@ -79,11 +80,11 @@ pub record InSession (dc : DcView) (s : ℕ) (Holds : Type 0) : Type 0 where
   pub holds : runs dc s ≡ true → Holds
 
 -- what was sent stands: an operation is that of its record, which is stable, and where its session still runs each
--- earlier request on its key was performed; where redo was ended all that is answered was performed
+-- earlier request on its key was performed, unless both are Adds; where redo was ended all that is answered was performed
 abbrev pub IsSent : TcView → DcView → Request → Type 0
 IsSent w dc (asks.Connect s) = IsBegun w.stable w.session s
 IsSent w dc (asks.Perform s n o) =
-    (n ≤ w.stable) × Requests w.log n o × InSession dc s (EarlierAreCaptured w.log dc n (key_of o))
+    (n ≤ w.stable) × Requests w.log n o × InSession dc s (EarlierAreCaptured w.log dc n o)
 IsSent w dc (asks.Get s n k) = IsReadTrue w s n (λ q. q ≡ Key k)
 IsSent w dc (asks.Scan s n low high) = IsReadTrue w s n (λ q. q ≡ Range low high)
 IsSent w dc (asks.LowWater s l) = IsAnsweredTo w l

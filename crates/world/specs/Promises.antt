@@ -33,7 +33,7 @@ pub record AreHonest (w : NodeView) : Type 0 where
 abbrev pub IsCompensatedOnce : List Record → Type 0
 IsCompensatedOnce log = (n m undoes : ℕ) → Names log n undoes → Names log m undoes → n ≡ m
 
--- no compensation is answered Exists or NoRecord
+-- no compensation is answered Exists, NoRecord or NotNumber
 abbrev pub IsNoneRefused : List Record → Type 0
 IsNoneRefused log =
     (n t u x : ℕ) (i : Op) (a : Answer) → record_at log n ≡ Some (is.Comp t u x (Some i)) → answer_of log n ≡ Some a

@@ -9,7 +9,7 @@ use Rattle.record_key.specs.declared.refusal.Refusal.TheVariants.{Full, BadRange
 use Rattle.record_key.specs.FirstCause.{first_of}
 use Rattle.record_key.specs.Table.{Bytes, key_of}
 use Rattle.history.specs.declared.record.Record.TheVariants as is
-use Rattle.history.specs.Spans.{Exclusive, IsRange, at_key}
+use Rattle.history.specs.Spans.{IsRange, changed_span}
 use Rattle.record_key.specs.Order.{ends_above}
 use Rattle.history.specs.Legal.{Fits, IsLatestOrNone, Stands, Inverts}
 use Rattle.history.specs.Log.{record_at, answer_of, IsOpBy}
@@ -101,13 +101,13 @@ pub act_keeps : (old new : TcView) (t : ℕ) (op : Op) (x : Result ℕ Refusal) 
 act_keeps old new t op (Ok n) k h =
     let o : OpenTxn = h.open_txn in
     let idle = idle_found old t o h.at h.allowed in
-    let free : IsFree old.locks o.txn (at_key Exclusive (key_of op)) =
-    subst (λ (x : ℕ). IsFree old.locks x (at_key Exclusive (key_of op))) (sym h.at.number) h.free in
+    let free : IsFree old.locks o.txn (changed_span op) =
+    subst (λ (x : ℕ). IsFree old.locks x (changed_span op)) (sym h.at.number) h.free in
     subst IsTc (sym h.acted)
     (keeps_act old o op k h.at.is idle.waiting idle.reading idle.rolling free
     (unspent (is_spent old.log) h.unspent))
 act_keeps old new t op (Err r) k h =
-    taking_keeps (idle_refusal old t) (spent_refusal old.log) true old new t (at_key Exclusive (key_of op)) r k h
+    taking_keeps (idle_refusal old t) (spent_refusal old.log) true old new t (changed_span op) r k h
 
 pub read_keeps : (old new : TcView) (t : ℕ) (s : Span) (x : Result ℕ Refusal) → IsTc old → ReadGives old t s x new
     → IsTc new

@@ -1,5 +1,5 @@
 -- What the data component does by itself keeps what was sent, replied and captured.
-use Rattle.std.proofs.Common.{◌≡◌, ◌≢◌, ℕ, ◌≤◌, true, false, Option, sym, ◌∙◌, subst, arith}
+use Rattle.std.proofs.Common.{◌≡◌, ◌≢◌, ℕ, ◌≤◌, true, false, Option, sym, ◌∙◌, subst, arith, inl, inr}
 use Rattle.std.specs.List.{AllByRecursion}
 use Rattle.record_key.specs.declared.op.Op.{Op}
 use Rattle.record_key.specs.declared.op.Answer.{Answer}
@@ -40,13 +40,16 @@ module _ (w : NodeView) (dc : DcView) (k : IsKept w) (is : IsDc dc) (c : Carries
     holds = λ r. from r (h.holds (c.ran s h.begun r));
   }
 
-  earlier_carried : (s n : ℕ) (key : Bytes) → runs dc s ≡ true → EarlierAreCaptured w.tc.log w.dc n key
-      → EarlierAreCaptured w.tc.log dc n key
-  earlier_carried s n key r h m o asks below on =
+  earlier_carried : (s n : ℕ) (o : Op) → runs dc s ≡ true → EarlierAreCaptured w.tc.log w.dc n o
+      → EarlierAreCaptured w.tc.log dc n o
+  earlier_carried s n o r h m q asks below on =
       let run = run_is dc s r in
-      subst (λ (z : Bytes). captures_at dc z m ≡ true) on
-      (c.captured (λ zero. run.some (sym run.is ∙ zero)) m o asks
-      (subst (λ (z : Bytes). captures_at w.dc z m ≡ true) (sym on) (h m o asks below on)))
+      elim (h m q asks below on) [
+        | inl captured ↦ inl (subst (λ (z : Bytes). captures_at dc z m ≡ true) on
+            (c.captured (λ zero. run.some (sym run.is ∙ zero)) m q asks
+            (subst (λ (z : Bytes). captures_at w.dc z m ≡ true) (sym on) captured)))
+        | inr both ↦ inr both
+      ]
 
   all_carried : dc.session ≢ 0 → AnsweredAreCaptured w.tc.log w.dc → AnsweredAreCaptured w.tc.log dc
   all_carried some h n o asks answered = c.captured some n o asks (h n o asks answered)
@@ -59,8 +62,7 @@ module _ (w : NodeView) (dc : DcView) (k : IsKept w) (is : IsDc dc) (c : Carries
   sent_carried (asks.Perform s n o) h = (
     h.0,
     h.1,
-    carried s (EarlierAreCaptured w.tc.log w.dc n (key_of o)) (EarlierAreCaptured w.tc.log dc n (key_of o))
-        (earlier_carried s n (key_of o)) h.2,
+    carried s (EarlierAreCaptured w.tc.log w.dc n o) (EarlierAreCaptured w.tc.log dc n o) (earlier_carried s n o) h.2,
   )
   sent_carried (asks.Get s n key) h = h
   sent_carried (asks.Scan s n low high) h = h

@@ -120,11 +120,11 @@ abbrev pub Captures : TcView → TcView → DcView → Type 0
 Captures old new dc = dc.session ≢ 0 → AnsweredAreCaptured old.log dc → AnsweredAreCaptured new.log dc
 
 -- a number of the log is older than the next one
-earlier_longer : (r : Record) (log : List Record) (dc : DcView) (n : ℕ) (key : Bytes) → n ≤ length log
-    → EarlierAreCaptured log dc n key
-    → EarlierAreCaptured (r ∷ log) dc n key
-earlier_longer r log dc n key within h m o asks below =
-    h m o (older_at (ARequest o) r log m (λ e. omega (arith, e, within, below)) asks) below
+earlier_longer : (r : Record) (log : List Record) (dc : DcView) (n : ℕ) (o : Op) → n ≤ length log
+    → EarlierAreCaptured log dc n o
+    → EarlierAreCaptured (r ∷ log) dc n o
+earlier_longer r log dc n o within h m q asks below =
+    h m q (older_at (ARequest q) r log m (λ e. omega (arith, e, within, below)) asks) below
 
 pub sent_on : (old new : TcView) (dc : DcView) → GoesOn old new → Captures old new dc → (q : Request)
     → IsSent old dc q → IsSent new dc q
@@ -132,10 +132,9 @@ sent_on old new dc on captured (asks.Connect s) h = begun_on old new s on h
 sent_on old new dc on captured (asks.Perform s n o) h = (
   omega (arith, h.0, on.stable),
   extend (λ log. Requests log n o) old.log new.log on.log (λ r. request_longer r old.log n o) h.1,
-  extend (λ log. InSession dc s (EarlierAreCaptured log dc n (key_of o))) old.log new.log on.log
-      (λ r. in_session dc s (EarlierAreCaptured old.log dc n (key_of o))
-      (EarlierAreCaptured (r ∷ old.log) dc n (key_of o))
-      (λ running. earlier_longer r old.log dc n (key_of o) (omega (arith, h.0, on.within)))) h.2,
+  extend (λ log. InSession dc s (EarlierAreCaptured log dc n o)) old.log new.log on.log
+      (λ r. in_session dc s (EarlierAreCaptured old.log dc n o) (EarlierAreCaptured (r ∷ old.log) dc n o)
+      (λ running. earlier_longer r old.log dc n o (omega (arith, h.0, on.within)))) h.2,
 )
 sent_on old new dc on captured (asks.Get s n k) h =
     told_on old new s n (λ q. q ≡ Key k) (λ q. q ≡ Key k) on (λ t x q found reading is. is) h

@@ -14,6 +14,7 @@ use Rattle.history.specs.Log.{answer_of, Requests}
 use Rattle.log_laws.proofs.Records.{ARequest, older_at, newest_at, since}
 use Rattle.log_laws.proofs.LegalLogs.{answered_push, request_number}
 use Rattle.log_laws.proofs.Strict.{one_at_a_time}
+use Rattle.log_laws.proofs.Cancel.{adds_request}
 use Rattle.dc_core.specs.DcView.{DcView, captures_at}
 use Rattle.dc_core.specs.Serves.{runs}
 use Rattle.tc_core.specs.Causes.{open_refusal}
@@ -189,8 +190,8 @@ redo_found w next ending (Some x) k at some most h =
         h.2,
         record {
           begun = omega (arith, served.1);
-          holds = λ r m o asks below on. subst (λ (z : Bytes). captures_at w.dc z m ≡ true) on
-              (captured (run_is w.dc w.tc.session r).is m o asks below);
+          holds = λ r m o asks below on. inl (subst (λ (z : Bytes). captures_at w.dc z m ≡ true) on
+              (captured (run_is w.dc w.tc.session r).is m o asks below));
         },
       );
     }
@@ -200,17 +201,22 @@ pub redoing_phase : (w : NodeView) (next : ℕ) (ending : Bool) → IsKept w →
 redoing_phase w next ending k at =
     let P : Phase → Type 0 = IsPhase w.tc.checkpointed w.tc.session in let h = subst P at k.tc.phase in (h.0, h.1)
 
--- what is sent past redo: the earlier requests on its key are answered, so captured
+-- what is sent past redo: the earlier requests on its key are answered, so captured, unless both are Adds
 earlier_captured : (w : NodeView) (n : ℕ) (o : Op) → IsKept w → IsPastRedo w → Requests w.tc.log n o
     → runs w.dc w.tc.session ≡ true
-    → EarlierAreCaptured w.tc.log w.dc n (key_of o)
+    → EarlierAreCaptured w.tc.log w.dc n o
 earlier_captured w n o k past_redo asks r m p earlier below on =
     let run = run_is w.dc w.tc.session r in
     let past = past_is w.dc w.tc.session run.some run.is (past_redo.past run.is) in
-    subst (λ (z : Bytes). captures_at w.dc z m ≡ true) on
-    (k.answered past m p earlier
-    (since (λ x. IsSome (answer_of x m)) (answered_push m) w.tc.log n
-    (one_at_a_time w.tc.log k.tc.legal m n p o earlier below asks (sym on))))
+    elim (one_at_a_time w.tc.log k.tc.legal m n p o earlier below asks (sym on)) [
+      | inl both ↦ inr (
+        adds_request w.tc.log n o k.tc.legal k.right asks ∙ both.1,
+        adds_request w.tc.log m p k.tc.legal k.right earlier ∙ both.0,
+      )
+      | inr answered ↦ inl (subst (λ (z : Bytes). captures_at w.dc z m ≡ true) on
+          (k.answered past m p earlier
+          (since (λ x. IsSome (answer_of x m)) (answered_push m) w.tc.log n answered)))
+    ]
 
 sent_past : (w : NodeView) (n : ℕ) (o : Op) → IsKept w → IsPastRedo w → n ≤ w.tc.stable → Requests w.tc.log n o
     → IsSent w.tc w.dc (asks.Perform w.tc.session n o)

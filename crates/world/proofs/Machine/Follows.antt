@@ -8,7 +8,7 @@ use Rattle.record_key.specs.Table.{Bytes, key_of}
 use Rattle.record_key.specs.declared.refusal.Refusal.{Refusal}
 use Rattle.record_key.specs.declared.refusal.Refusal.TheVariants.{Full, BadSavepoint, BadRange, NumbersSpent}
 use Rattle.record_key.specs.FirstCause.{first_of}
-use Rattle.history.specs.Spans.{Exclusive, Span, at_key, IsRange}
+use Rattle.history.specs.Spans.{Span, IsRange, changed_span}
 use Rattle.record_key.specs.Order.{ends_above}
 use Rattle.history.specs.declared.record.Record.{Record}
 use Rattle.history.specs.declared.record.Record.TheVariants as is
@@ -173,8 +173,8 @@ follows_act old new t op (out.Logged n) k h =
     let o : OpenTxn = a.open_txn in
     let tc : TcView = acted old.tc o op in
     let idle = idle_found old.tc t o a.at a.allowed in
-    let free : IsFree old.tc.locks o.txn (at_key Exclusive (key_of op)) =
-    subst (λ (x : ℕ). IsFree old.tc.locks x (at_key Exclusive (key_of op))) (sym a.at.number) a.free in
+    let free : IsFree old.tc.locks o.txn (changed_span op) =
+    subst (λ (x : ℕ). IsFree old.tc.locks x (changed_span op)) (sym a.at.number) a.free in
     let after : IsTc tc = subst IsTc a.acted (act_keeps old.tc new.tc t op (Ok n) k.tc a) in
     at_tc old new tc (event.Act t op) (out.Logged n) h.1 a.acted (record {
       leads = one_line old (with_tc old tc) (event.Act t op) (out.Logged n) (acts t op n) refl
@@ -189,7 +189,7 @@ follows_act old new t op (out.Logged n) k h =
     })
 follows_act old new t op (out.Refused r) k h =
     refused old new (event.Act t op) (ToAct t op) r k refl h.1
-    (left_taking (idle_refusal old.tc t) _ true old.tc t (at_key Exclusive (key_of op)) r new.tc h.0)
+    (left_taking (idle_refusal old.tc t) _ true old.tc t (changed_span op) r new.tc h.0)
     (λ m stands. act_refused old.tc new.tc m t op r k.tc stands h.0)
 follows_act old new t op _ k h = absurd h
 

@@ -9,7 +9,7 @@ use Rattle.record_key.specs.declared.refusal.Refusal.{Refusal}
 use Rattle.record_key.specs.declared.refusal.Refusal.TheVariants as no
 use Rattle.record_key.specs.FirstCause.{first_of, or_else}
 use Rattle.record_key.specs.Table.{key_of}
-use Rattle.history.specs.Spans.{Span, Exclusive, IsRange, at_key}
+use Rattle.history.specs.Spans.{Span, IsRange, changed_span}
 use Rattle.record_key.specs.Order.{ends_above}
 use Rattle.history.specs.ListMachine.{Machine, Call, ToBegin, ToAct, ToRead, ToSave, ToGoBack, ToRollBack, ToCommit, AreDifferent, asked_span}
 use Rattle.simulation.specs.View.{Ready, StandsFor}
@@ -257,7 +257,7 @@ taking_refused w new m call t s spent device r k stands names wants h = by (idle
 pub act_refused : (w new : TcView) (m : Machine) (t : ℕ) (op : Op) (r : Refusal) → IsTc w → StandsFor (clients w) m
     → ActGives w t op (Err r) new → RefusesSo m (ToAct t op) r new
 act_refused w new m t op r k stands h =
-    taking_refused w new m (ToAct t op) t (at_key Exclusive (key_of op)) (is_spent w.log) true r k stands refl refl h
+    taking_refused w new m (ToAct t op) t (changed_span op) (is_spent w.log) true r k stands refl refl h
 
 -- a read looks at the keys of its query
 pub same_span : (s : Keys) → asked_span (query_of s) ≡ shared s

@@ -5,7 +5,7 @@ use Rattle.std.specs.FinMap.{get}
 use Rattle.std.proofs.lemmas.Bool.{cases_eq, cases_lt, cases_Bool}
 use Rattle.record_key.specs.declared.op.Op.{Op}
 use Rattle.record_key.specs.declared.op.Answer.{Answer}
-use Rattle.record_key.specs.Table.{Bytes, key_of, value_after}
+use Rattle.record_key.specs.Table.{Bytes, key_of}
 use Rattle.record_key.proofs.Tables.{same_table}
 use Rattle.history.specs.declared.record.Record.{Record}
 use Rattle.history.specs.History.{plain}
@@ -13,18 +13,14 @@ use Rattle.history.specs.ListMachine.{Machine}
 use Rattle.simulation.specs.View.{is_to_undo}
 use Rattle.simulation.specs.Views.{IsCalm}
 use Rattle.simulation.proofs.Viewing.{calm_entries}
-use Rattle.history.specs.Log.{record_at, before, answer_of, request_of, request_in, Requests, IsOpBy, hist}
-use Rattle.history.specs.Values.{is_on}
-use Rattle.history.specs.Honest.{Numbered, numbered_on, AreCaptured, value_of}
-use Rattle.log_laws.proofs.Records.{ARequest, op_request, newest_at, older_at, at_newest, kept_at, since, record_before, length_before, IsNumber}
-use Rattle.log_laws.proofs.LegalLogs.{answered_push, request_number}
-use Rattle.log_laws.proofs.Named.{unanswered_uncrossed}
-use Rattle.log_laws.proofs.Strict.{one_at_a_time}
-use Rattle.log_laws.proofs.Plain.{value_of-captured}
+use Rattle.history.specs.Log.{answer_of, request_in, op_in, Requests, hist}
+use Rattle.history.specs.Honest.{numbered_on, value_of}
+use Rattle.log_laws.specs.Laws.{OnlyOperationsWait}
+use Rattle.log_laws.proofs.Waiting.{answered_is_plain}
 use Rattle.btree.specs.Leaves.{rows_of}
 use Rattle.btree.proofs.Together.{one_table}
 use Rattle.dc_core.specs.DcView.{leaves, captures_at}
-use Rattle.page.proofs.OnKey.{all_done, newest_done, on_key, key_on}
+use Rattle.page.proofs.OnKey.{all_done, value_alike}
 use Rattle.tc_core.specs.declared.open_txn.OpenTxn.{OpenTxn}
 use Rattle.tc_core.specs.declared.phase.Phase.{Phase}
 use Rattle.tc_core.specs.declared.phase.Phase.TheVariants as phase
@@ -38,124 +34,13 @@ use Rattle.tc_core.specs.Kept.{IsPhase, IsPhaseOf, IsTc}
 use Rattle.dc_core.specs.Tends.{may_merge}
 use Rattle.world.specs.Simulation.{Stands, IsSettled, AreUnrolled, clients, doing_in}
 use Rattle.world.specs.Rounds.{AreIdle, IsAtRest, IsApart, AreRunning}
-use Rattle.simulation.proofs.RightAnswers.{plain_there}
 use Rattle.simulation.proofs.Answering.{plain_uncrossed}
 use Rattle.world.proofs.Machine.Awaited.{IsOpOf, op_waited}
 use Rattle.world.proofs.Machine.Idle.{none_rolls}
 use Rattle.world.proofs.Machine.Reading.{flat_undoes_none}
 use Rattle.world.proofs.Invariant.AtKeys.{honest_at, captured_stable}
-use Rattle.world.proofs.Machine.PlainAt.{plain_at}
 use Rattle.world.proofs.Restarts.LosersHold.{running_unlost, nobody_listed}
 use Rattle.world.proofs.Machine.Waited.{IsAwaited, answered_or}
-
--- a request on the key is without an answer
-record Unanswered (whole log : List Record) (key : Bytes) : Type 0 where
-  number : ℕ
-  op : Op
-  requests : Requests log number op
-  on : key_of op ≡ key
-  unanswered : answer_of whole number ≡ None
-
--- or all of them have answers
-abbrev AllAnswered : List Record → List Record → Bytes → Type 0
-AllAnswered whole log key = (n : ℕ) (o : Op) → Requests log n o → key_of o ≡ key → IsSome (answer_of whole n)
-
-newest_too : (whole log : List Record) (r : Record) (key : Bytes)
-    → ((o : Op) → ARequest o (Some r) → key_of o ≡ key → IsSome (answer_of whole (length log + 1)))
-    → AllAnswered whole log key → AllAnswered whole (r ∷ log) key
-newest_too whole log r key newest each n o asks on = elim (cases_eq n (length log + 1)) [
-  | inl e ↦ let P : ℕ → Type 0 = λ m. IsSome (answer_of whole m) in
-      subst P (sym e) (newest o (newest_at (ARequest o) r log n e asks) on)
-  | inr apart ↦ each n o (older_at (ARequest o) r log n apart asks) on
-]
-
-answered_all : (whole log : List Record) (key : Bytes) → AllAnswered whole log key ⊎ Unanswered whole log key
-answered_all whole [] key = inl (λ n o asks on. absurd (cc))
-answered_all whole (r ∷ log) key = elim (answered_all whole log key) [
-  | inl each ↦ by_request each (request_of r) refl
-  | inr u ↦ inr (record {
-    number = u.number;
-    op = u.op;
-    requests = kept_at (ARequest u.op) r log u.number (request_number log u.number u.op u.requests) u.requests;
-    on = u.on;
-    unanswered = u.unanswered;
-  })
-]
-  where
-    by_answer : AllAnswered whole log key → (p : Op) → request_of r ≡ Some p → key_of p ≡ key → (a : Option Answer)
-        → answer_of whole (length log + 1) ≡ a
-        → AllAnswered whole (r ∷ log) key ⊎ Unanswered whole (r ∷ log) key
-    by_answer each p asks on None none =
-        inr (record {
-          number = length log + 1;
-          op = p;
-          requests = at_newest (ARequest p) r log (length log + 1) refl asks;
-          on = on;
-          unanswered = none;
-        })
-    by_answer each p asks on (Some a) some = inl (newest_too whole log r key (λ o is same. ap is_some some) each)
-
-    by_request : AllAnswered whole log key → (q : Option Op) → request_of r ≡ q
-        → AllAnswered whole (r ∷ log) key ⊎ Unanswered whole (r ∷ log) key
-    by_request each None none =
-        inl (newest_too whole log r key (λ o asks on. let e : None ≡ Some o = sym none ∙ asks in absurd (cc)) each)
-    by_request each (Some p) asks = elim (cases_Bool (is_on key p)) [
-      | inl on ↦ by_answer each p asks (key_on key p on) (answer_of whole (length log + 1)) refl
-      | inr off ↦ inl (newest_too whole log r key (λ o is on.
-          let both : Some p ≡ Some o = sym asks ∙ is in
-          let same : p ≡ o = cc in
-          absurd (true≢false (sym (on_key key p (ap key_of same ∙ on)) ∙ off))) each)
-    ]
-
--- an operation that waits unsent: the leaf has what was there before it, and so has the plain map
-module _ (w : NodeView) (k : IsKept w) (past : may_merge w.dc ≡ true) (x : OpenTxn) (n : ℕ) (o : Op)
-    (at : find x.txn w.tc.open_txns ≡ Some x) (by : IsOpBy w.tc.log n x.txn o) (waiting : x.waiting ≡ Some n)
-    (unstable : w.tc.stable < n) where
-  abbrev log : List Record
-  log = w.tc.log
-
-  abbrev cap : ℕ → Bool
-  cap = captures_at w.dc (key_of o)
-
-  abbrev older : List Numbered
-  older = numbered_on (key_of o) (before log n)
-
-  requests : Requests log n o
-  requests = op_request x.txn o (record_at log n) by
-
-  unanswered : answer_of log n ≡ None
-  unanswered = (waits_at log x n (open_at w.tc x k.tc at) waiting).unanswered
-
-  uncaptured : cap n ≡ false
-  uncaptured = elim (cases_Bool (cap n)) [
-    | inl h ↦ absurd (omega (arith, captured_stable w (key_of o) n k h, unstable))
-    | inr h ↦ h
-  ]
-
-  answered_since : (m : ℕ) → IsSome (answer_of (before log n) m) → IsSome (answer_of log m)
-  answered_since m h = since (λ z. IsSome (answer_of z m)) (answered_push m) log n h
-
-  splits : numbered_on (key_of o) log ≡ record { number = n; op = o } ∷ older
-  splits = newest_done log n o requests (λ m q above asks same.
-      true≢false (sym (since (λ z. IsSome (answer_of z n)) (answered_push n) log m
-      (one_at_a_time log k.tc.legal n m o q requests above asks same)) ∙ ap is_some unanswered))
-
-  older_captured : AreCaptured cap older
-  older_captured = all_done (λ m. cap m ≡ true) (key_of o) (before log n) (λ m q asks same.
-      let number : IsNumber log n = request_number log n o requests in
-      let below : m < n = omega (arith, (request_number (before log n) m q asks).bounded, length_before log n number) in
-      let there : Requests log m q = subst (λ r. request_in r ≡ Some q) (record_before log m n number below) asks in
-      subst (λ (key : Bytes). captures_at w.dc key m ≡ true) same
-      (k.answered past m q there
-      (answered_since m (one_at_a_time log k.tc.legal m n q o there below requests (sym same)))))
-
-  pub waiting_value : value_of cap (numbered_on (key_of o) log) ≡ get (plain (hist log)) (key_of o)
-  waiting_value =
-      ap (value_of cap) splits
-      ∙ ap (λ b. if b then value_after o (value_of cap older) else value_of cap older) uncaptured
-      ∙ value_of-captured (before log n) (key_of o) cap older_captured
-      ∙ sym (plain_there log n x.txn o k.tc.legal k.right (open_at w.tc x k.tc at).is by unanswered
-      (unanswered_uncrossed log n k.tc.legal (ap is_some unanswered)))
 
 -- a settled node is past redo
 settled_past : (w : NodeView) → IsKept w → IsSettled w → may_merge w.dc ≡ true
@@ -170,35 +55,42 @@ settled_past w k settled =
 none_left : (w : NodeView) → IsKept w → w.tc.phase ≡ phase.Running → is_none_lost w.tc.losers ≡ true
 none_left w k running = subst (IsPhaseOf w.tc.losers) running k.tc.lost.phase_of
 
+-- only operations wait for an answer: nobody undoes anything
+comp_answered : (w : NodeView) → IsKept w → IsSettled w → OnlyOperationsWait w.tc.log
+comp_answered w k settled n t u x i is_comp =
+    elim (answered_or w.tc n i k.tc (none_left w k settled.running) (ap request_in is_comp)) [
+      | inl some ↦ some
+      | inr a ↦
+          let o : OpenTxn = a.open_txn in
+          let flat : rolls_back o ≡ false = sym (ap is_rolling a.is) ∙ settled.unrolled o.txn in
+          let found : IsOpOf w.tc.log o n =
+          op_waited w.tc.log o n flat (waits_at w.tc.log o n (open_at w.tc o k.tc a.is) a.waiting).request in
+          let none : None ≡ Some (o.txn, found.op) = ap op_in (sym is_comp) ∙ found.is in
+          absurd (cc)
+    ]
+
+-- what is answered was performed, and what is performed is stable and so answered
+captured_answered : (w : NodeView) → IsKept w → IsSettled w → (key : Bytes) (n : ℕ) (o : Op)
+    → Requests w.tc.log n o → key_of o ≡ key → captures_at w.dc key n ≡ is_some (answer_of w.tc.log n)
+captured_answered w k settled key n o asks on =
+    elim (cases_Bool (is_some (answer_of w.tc.log n))) [
+      | inl some ↦ subst (λ (q : Bytes). captures_at w.dc q n ≡ true) on
+          (k.answered (settled_past w k settled) n o asks some) ∙ sym some
+      | inr none ↦ elim (cases_Bool (captures_at w.dc key n)) [
+        | inl captured ↦ absurd (true≢false
+            (sym (settled.answered n o (captured_stable w key n k captured) asks) ∙ none))
+        | inr uncaptured ↦ uncaptured ∙ sym none
+      ]
+    ]
+
 -- so at each key
 settled_value : (w : NodeView) → IsKept w → IsSettled w → (key : Bytes)
     → value_of (captures_at w.dc key) (numbered_on key w.tc.log) ≡ get (plain (hist w.tc.log)) key
-settled_value w k settled key = elim (answered_all w.tc.log w.tc.log key) [
-  | inl each ↦ plain_at w.tc.log key (captures_at w.dc key) k.tc.legal k.right each
-      (λ n o asks on. subst (λ (q : Bytes). captures_at w.dc q n ≡ true) on
-      (k.answered (settled_past w k settled) n o asks (each n o asks on)))
-  | inr u ↦ elim (answered_or w.tc u.number u.op k.tc (none_left w k settled.running) u.requests) [
-    | inl some ↦ absurd (true≢false (sym some ∙ ap is_some u.unanswered))
-    | inr a ↦
-        let x : OpenTxn = a.open_txn in
-        let flat : rolls_back x ≡ false = sym (ap is_rolling a.is) ∙ settled.unrolled x.txn in
-        let found : IsOpOf w.tc.log x u.number =
-        op_waited w.tc.log x u.number flat
-        (waits_at w.tc.log x u.number (open_at w.tc x k.tc a.is) a.waiting).request in
-        let asks : Requests w.tc.log u.number found.op =
-        op_request x.txn found.op (record_at w.tc.log u.number) found.is in
-        let both : Some found.op ≡ Some u.op = sym asks ∙ u.requests in
-        let same : found.op ≡ u.op = cc in
-        let unstable : w.tc.stable < u.number = elim (cases_lt w.tc.stable u.number) [
-          | inl less ↦ less
-          | inr most ↦ absurd (true≢false
-              (sym (settled.answered u.number u.op most u.requests) ∙ ap is_some u.unanswered))
-        ] in
-        subst (λ q. value_of (captures_at w.dc q) (numbered_on q w.tc.log) ≡ get (plain (hist w.tc.log)) q)
-        (ap key_of same ∙ u.on)
-        (waiting_value w k (settled_past w k settled) x u.number found.op a.is found.is a.waiting unstable)
-  ]
-]
+settled_value w k settled key =
+    value_alike (captures_at w.dc key) (λ n. is_some (answer_of w.tc.log n)) (numbered_on key w.tc.log)
+    (all_done (λ n. captures_at w.dc key n ≡ is_some (answer_of w.tc.log n)) key w.tc.log
+    (captured_answered w k settled key))
+    ∙ answered_is_plain w.tc.log k.tc.legal k.right (comp_answered w k settled) key
 
 -- nobody rolls back, and nobody loses
 pub calm : (w : NodeView) → IsTc w.tc → w.tc.phase ≡ phase.Running → AreUnrolled w.tc.open_txns → IsCalm (clients w.tc)

@@ -10,7 +10,7 @@ use Rattle.record_key.specs.Table.{Bytes, key_of}
 use Rattle.history.specs.declared.record.Record.{Record}
 use Rattle.history.specs.declared.record.Record.TheVariants as is
 use Rattle.history.specs.History.{plain}
-use Rattle.history.specs.Spans.{Span, Exclusive, IsRange, at_key, rows_in}
+use Rattle.history.specs.Spans.{Span, IsRange, rows_in, changed_span}
 use Rattle.history.specs.Log.{record_at, IsOpBy, IsOpen}
 use Rattle.history.specs.Legal.{Stands, IsLegal}
 use Rattle.history.specs.Values.{HasRightAnswers}
@@ -138,10 +138,10 @@ module _ (w : TcView) (m : Machine) (o : OpenTxn) (k : IsTc w) (at : find o.txn 
     (stands : StandsFor (clients w) m) where
   -- acts
   pub stands_acted : (op : Op) → IsIdleTxn o → IsTc (acted w o op)
-      → locks.IsFree w.locks o.txn (at_key Exclusive (key_of op))
+      → locks.IsFree w.locks o.txn (changed_span op)
       → Leads (clients w) m (Acts o.txn op (length w.log + 1)) (clients (acted w o op))
   stands_acted op idle after free =
-      let s : Span = at_key Exclusive (key_of op) in
+      let s : Span = changed_span op in
       let n : ℕ = length w.log + 1 in
       let new : OpenTxn = acted_txn o n in
       let l = act_is_a_step (clients w) m o.txn o.last op after.legal stands

@@ -41,9 +41,9 @@ use Rattle.world.proofs.Invariant.Written.{have_all}
 
 -- ---- with a record less no request is new, and none is answered anew
 
-earlier_less : (dc : DcView) (end n : ℕ) (key : Bytes) → StaysTo end (λ log. EarlierAreCaptured log dc n key)
-earlier_less dc end n key r log within h m o asks below =
-    h m o (kept_at (ARequest o) r log m (request_number log m o asks) asks) below
+earlier_less : (dc : DcView) (end n : ℕ) (o : Op) → StaysTo end (λ log. EarlierAreCaptured log dc n o)
+earlier_less dc end n o r log within h m q asks below =
+    h m q (kept_at (ARequest q) r log m (request_number log m q asks) asks) below
 
 captured_less : (dc : DcView) (end : ℕ) → StaysTo end (λ log. AnsweredAreCaptured log dc)
 captured_less dc end r log within h m o asks some =
@@ -121,8 +121,8 @@ module _ (old new : TcView) (f : IsFallen old new) where
   sent_left dc (asks.Perform s n o) h = (
     omega (arith, h.0, f.stable, f.all),
     requests_left n o h.0 h.1,
-    in_session dc s (EarlierAreCaptured old.log dc n (key_of o)) (EarlierAreCaptured new.log dc n (key_of o))
-        (λ runs. left (λ log. EarlierAreCaptured log dc n (key_of o)) (earlier_less dc old.stable n (key_of o))) h.2,
+    in_session dc s (EarlierAreCaptured old.log dc n o) (EarlierAreCaptured new.log dc n o)
+        (λ runs. left (λ log. EarlierAreCaptured log dc n o) (earlier_less dc old.stable n o)) h.2,
   )
   sent_left dc (asks.Get s n k) h = read_left s n (λ q. q ≡ Key k) (λ q. q ≡ Key k) h
   sent_left dc (asks.Scan s n low high) h = read_left s n (λ q. q ≡ Range low high) (λ q. q ≡ Range low high) h

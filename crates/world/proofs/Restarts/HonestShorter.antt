@@ -5,11 +5,11 @@ use Rattle.std.specs.List.{AllByRecursion}
 use Rattle.std.proofs.lemmas.Bool.{cases_Bool}
 use Rattle.record_key.specs.declared.op.Op.{Op}
 use Rattle.record_key.specs.declared.entry.Entry.{Entry}
-use Rattle.record_key.specs.Table.{Bytes}
+use Rattle.record_key.specs.Table.{Bytes, value_after}
 use Rattle.history.specs.declared.record.Record.{Record}
 use Rattle.history.specs.Log.{request_of}
 use Rattle.history.specs.Values.{is_on}
-use Rattle.history.specs.Honest.{Numbered, numbered_with, numbered_on, IsBeginning, value_of}
+use Rattle.history.specs.Honest.{Numbered, numbered_with, numbered_on, LeavesOutAdds, value_of}
 use Rattle.log_laws.proofs.LegalLogs.{or_right}
 use Rattle.ab_lsn.specs.AbLsn.{captures, stands_in}
 use Rattle.page.specs.Leaf.{LeafView}
@@ -19,15 +19,15 @@ use Rattle.world.proofs.Restarts.Beginnings.{StaysTo, request_less, right_less}
 
 -- one number less on the key that isn't captured
 less_at : (cap : ℕ → Bool) (k : Bytes) (n : ℕ) (q : Option Op) (rest : List Numbered) → cap n ≡ false
-    → (IsBeginning cap (numbered_with k n q rest) → IsBeginning cap rest)
+    → (LeavesOutAdds cap (numbered_with k n q rest) → LeavesOutAdds cap rest)
     × (value_of cap (numbered_with k n q rest) ≡ value_of cap rest)
 less_at cap k n None rest out = (λ h. h, refl)
 less_at cap k n (Some o) rest out = pick (is_on k o)
   where
     pick : (b : Bool)
-        → (IsBeginning cap (if b then record { number = n; op = o } ∷ rest else rest) → IsBeginning cap rest)
+        → (LeavesOutAdds cap (if b then record { number = n; op = o } ∷ rest else rest) → LeavesOutAdds cap rest)
         × (value_of cap (if b then record { number = n; op = o } ∷ rest else rest) ≡ value_of cap rest)
-    pick true = rw out (λ h. h, refl)
+    pick true = (λ h. h.1, ap (λ (b : Bool). if b then value_after o (value_of cap rest) else value_of cap rest) out)
     pick false = (λ h. h, refl)
 
 -- the saved answers, whose numbers are left
@@ -53,7 +53,7 @@ honest_less end leaf r log within h = record {
     at = λ k inside.
         let less = less_at (captures leaf.ab) k (length log + 1) (request_of r) (numbered_on k log) newest in
         record {
-          beginning = less.0 (h.honest.at k inside).beginning;
+          left_out = less.0 (h.honest.at k inside).left_out;
           right = (h.honest.at k inside).right ∙ less.1;
         };
     saved = saved_less r log leaf.ab.entries

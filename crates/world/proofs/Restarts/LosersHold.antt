@@ -8,7 +8,7 @@ use Rattle.record_key.specs.Table.{key_of}
 use Rattle.history.specs.declared.record.Record.{Record}
 use Rattle.history.specs.declared.record.Record.TheVariants as is
 use Rattle.history.specs.Log.{op_of, IsOpBy}
-use Rattle.history.specs.Spans.{Span, Exclusive, at_key}
+use Rattle.history.specs.Spans.{Span, changed_span}
 use Rattle.log_laws.proofs.Records.{AnOp, both_same, newest_at, older_at, at_newest, at_older, not_newest}
 use Rattle.log_laws.proofs.LegalLogs.{op_number}
 use Rattle.range_locks.specs.Locks.{spans_of}
@@ -55,7 +55,7 @@ span_has [] t s among = absurd among
 span_has (is.Op v p q ∷ log) t s among = pick (span_has log t s) (t == v) refl among
   where
     pick : (IsAmong s (op_spans log t) → IsItsKey log t s) → (b : Bool) → (t == v) ≡ b
-        → IsAmong s (if b then at_key Exclusive (key_of q) ∷ op_spans log t else op_spans log t)
+        → IsAmong s (if b then changed_span q ∷ op_spans log t else op_spans log t)
         → IsItsKey (is.Op v p q ∷ log) t s
     pick before true same among = elim among [
       | inl e ↦ (
@@ -75,30 +75,30 @@ among_if false s x xs among = among
 
 among_longer : (s : Span) (r : Record) (log : List Record) (t : ℕ) → IsAmong s (op_spans log t)
     → IsAmong s (op_spans (r ∷ log) t)
-among_longer s (is.Op u p op) log t among = among_if (t == u) s (at_key Exclusive (key_of op)) (op_spans log t) among
+among_longer s (is.Op u p op) log t among = among_if (t == u) s (changed_span op) (op_spans log t) among
 among_longer s _ log t among = among
 
 among_newest : (r : Record) (log : List Record) (t : ℕ) (o : Op) → op_of r ≡ Some (t, o)
-    → IsAmong (at_key Exclusive (key_of o)) (op_spans (r ∷ log) t)
+    → IsAmong (changed_span o) (op_spans (r ∷ log) t)
 among_newest (is.Op u p op) log t o by = pick (t == u) (eq-eqb t u (sym same.0))
   where
     same : (u ≡ t) × (op ≡ o)
     same = both_same u t op o by
 
     pick : (b : Bool) → b ≡ true
-        → IsAmong (at_key Exclusive (key_of o))
-        (if b then at_key Exclusive (key_of op) ∷ op_spans log t else op_spans log t)
-    pick true h = inl (ap (λ x. at_key Exclusive (key_of x)) (sym same.1))
+        → IsAmong (changed_span o)
+        (if b then changed_span op ∷ op_spans log t else op_spans log t)
+    pick true h = inl (ap (λ x. changed_span x) (sym same.1))
     pick false h = absurd (cc)
 among_newest _ log t o by = absurd (cc)
 
 has_span : (log : List Record) (t n : ℕ) (o : Op) → IsOpBy log n t o
-    → IsAmong (at_key Exclusive (key_of o)) (op_spans log t)
+    → IsAmong (changed_span o) (op_spans log t)
 has_span [] t n o by = absurd (cc)
 has_span (r ∷ log) t n o by =
     elim (cases_eq n (length log + 1)) [
       | inl e ↦ among_newest r log t o (newest_at (AnOp t o) r log n e by)
-      | inr e ↦ among_longer (at_key Exclusive (key_of o)) r log t
+      | inr e ↦ among_longer (changed_span o) r log t
           (has_span log t n o (older_at (AnOp t o) r log n e by))
     ]
 

@@ -11,7 +11,7 @@ use Rattle.logical_log.proofs.open.step.Goals as goal
 index_now : (log log' : List Record) (r : Record) (number : ℕ) (old new : Index) → log' ≡ r ∷ log
     → number ≡ length log' → IsIndex log old → Fits log r
     → Follows r number (latest_in old) (latest_in new) → Holds r (holder_in old) (holder_in new)
-    → Gains r (adders_of old) (adders_of new)
+    → Gains r (latest_in new) (adders_of old) (adders_of new)
     → FitsCheckpoint log' new.answered → IsIndex log' new
 index_now log log' r number old new grown is h fits txns keys adders answered =
     let Of : List Record → Type 0 = λ l. IsIndex l new in
