@@ -1,6 +1,6 @@
 -- What the index tells of a record that comes next is whether it fits.
 use Rattle.std.proofs.Common.{◌≡◌, ◌≢◌, ℕ, ◌<◌, ◌≤◌, Bool, true, false, List, Option, Some, None, IsSome, is_some, refl, sym, ap, ◌∙◌, subst, arith, inl, inr, true≢false, IsTrue, nat_eq, ◌↔◌, not, eq-eqb, eqb-true, [], ◌∷◌}
-use Rattle.std.specs.Prelude.{nat_le, ◌==◌, ◌||◌, ◌&&◌}
+use Rattle.std.specs.Prelude.{nat_le, ◌==◌, ◌||◌}
 use Rattle.std.specs.List.{list_all}
 use Rattle.std.proofs.lemmas.Bool.{cases_eq, cases_Bool, and_parts, and_from, and_cases, or_cases, or_left, or_right, leb-true, le-leb}
 use Rattle.record_key.specs.declared.op.Op.{Op}
@@ -15,7 +15,7 @@ use Rattle.log_laws.proofs.Checking.{is_none, latest_some, latest_unique}
 use Rattle.log_laws.proofs.Undo.{latest_found, earlier_found}
 use Rattle.logical_log.specs.Index.{is_answered}
 use Rattle.logical_log.specs.declared.replay.Index.{Index}
-use Rattle.logical_log.specs.Replay.{IsIndex, KeptOf, KeptOn, AddsTo, AddedBy, is_among, latest_in, holder_in, adders_of, agrees, agrees_if, is_free, OpenAt, ReadyOf}
+use Rattle.logical_log.specs.Replay.{IsIndex, KeptOf, KeptOn, AddsTo, is_among, latest_in, holder_in, adders_of, agrees, agrees_if, is_free, OpenAt, ReadyOf}
 use Rattle.logical_log.proofs.Index.{nothing_answered}
 use Rattle.logical_log.proofs.Answered.{answered_at, test_of}
 

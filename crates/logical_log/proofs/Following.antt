@@ -407,12 +407,14 @@ added_one log t p o latest v w us legal add kept same h =
         | inr e ↦
             let was : IsOpBy log has.number u has.op = older_at (AnOp u has.op) r log has.number e has.is in
             elim (h.all u (record { number = has.number; op = has.op; is = was; on_key = has.on_key; adds = has.adds })
-            (holder_open r log legal has.number u has.op was opened))
-            [ inl held ↦ inl (sym same ∙ held) | inr listed ↦ inr (elim (cases_eq u t) [
-              | inl mine ↦ subst (λ (z : ℕ). is_among z (left ++ t ∷ []) ≡ true) (sym mine) (among_last t left)
-              | inr other ↦ among_more u t left (among_filtered (stays latest t) u us
-                  (stays_open (r ∷ log) latest t u (kept u) other opened) listed)
-            ]) ]
+            (holder_open r log legal has.number u has.op was opened)) [
+              | inl held ↦ inl (sym same ∙ held)
+              | inr listed ↦ inr (elim (cases_eq u t) [
+                | inl mine ↦ subst (λ (z : ℕ). is_among z (left ++ t ∷ []) ≡ true) (sym mine) (among_last t left)
+                | inr other ↦ among_more u t left (among_filtered (stays latest t) u us
+                    (stays_open (r ∷ log) latest t u (kept u) other opened) listed)
+              ])
+            ]
       ];
     }
 

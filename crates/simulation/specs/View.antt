@@ -123,7 +123,7 @@ IsAmong s (r ∷ rs) = (s ≡ r) ⊎ IsAmong s rs
 abbrev pub AreSpans : List Span → List Span → Type 0
 AreSpans xs ys = (s : Span) → IsAmong s xs ↔ IsAmong s ys
 
--- the keys of the transaction's operations in the log, each exclusive
+-- the keys of the transaction's operations in the log, each held for a change
 pub record AreItsKeys (log : List Record) (t : ℕ) (spans : List Span) : Type 0 where
   pub each : (s : Span) → IsAmong s spans → (n : ℕ) × (o : Op) × IsOpBy log n t o × (s ≡ changed_span o)
   pub all : (n : ℕ) (o : Op) → IsOpBy log n t o → IsAmong (changed_span o) spans

@@ -18,7 +18,7 @@ use Rattle.log_laws.proofs.Records.{AnOp, op_step, both_same, newest_at, older_a
 use Rattle.log_laws.proofs.LegalLogs.{begun, begun_number, op_number}
 use Rattle.tc_core.specs.declared.open_txn.OpenTxn.{OpenTxn}
 use Rattle.tc_core.specs.OpenTxns.{find, replace, without}
-use Rattle.tc_core.specs.Locking.{op_spans, held_spans, is_holder, is_listed, excludes, is_exclusive}
+use Rattle.tc_core.specs.Locking.{op_spans, held_spans, is_holder, is_listed, is_for_change, is_changing}
 use Rattle.tc_core.proofs.Finding.{find_here, find_there, replaced_same, replaced_other, without_same, without_other}
 
 -- a key conflicts with itself
@@ -39,10 +39,10 @@ conflict_at o q same clash =
     (key_of o, within_itself (key_of o), subst P same (within_itself (key_of o)), clash)
 
 -- what an operation holds is held against readers, and counts as changed
-pub changed_excludes : (o : Op) → is_exclusive (changed_span o) ≡ true
-changed_excludes o = pick (is_add o)
+pub changed_is_for_change : (o : Op) → is_changing (changed_span o) ≡ true
+changed_is_for_change o = pick (is_add o)
   where
-    pick : (b : Bool) → excludes (if b then Increment else Exclusive) ≡ true
+    pick : (b : Bool) → is_for_change (if b then Increment else Exclusive) ≡ true
     pick true = refl
     pick false = refl
 
@@ -54,9 +54,9 @@ reader_conflicts o = pick (is_add o)
     pick false = refl
 
 pub kept_changed : (o : Op) (spans : List Span)
-    → filter is_exclusive (changed_span o ∷ spans) ≡ changed_span o ∷ filter is_exclusive spans
+    → filter is_changing (changed_span o ∷ spans) ≡ changed_span o ∷ filter is_changing spans
 kept_changed o spans =
-    ap (λ b. cond b (changed_span o ∷ filter is_exclusive spans) (filter is_exclusive spans)) (changed_excludes o)
+    ap (λ b. cond b (changed_span o ∷ filter is_changing spans) (filter is_changing spans)) (changed_is_for_change o)
 
 -- the keys of the records before are held on
 any_if : (b : Bool) (s x : Span) (xs : List Span) → AnyConflict s xs → AnyConflict s (if b then x ∷ xs else xs)

@@ -83,7 +83,7 @@ fresh_tc failures = record {
     lacking = λ n due. tt;
     due = λ n e. absurd (cc);
   };
-  locks = record { table = empty_table; exclusive = λ t. refl; others = λ t none. refl; apart = λ t u differ. tt };
+  locks = record { table = empty_table; changing = λ t. refl; others = λ t none. refl; apart = λ t u differ. tt };
   early = λ t below. refl;
   reading = record { each = λ t o r at. absurd (cc); apart = λ t u o p r q at. absurd (cc) };
 }

@@ -10,7 +10,7 @@ use Rattle.range_locks.proofs.Tables.{set_table, set_own, set_other}
 use Rattle.tc_core.specs.declared.open_txn.OpenTxn.{OpenTxn}
 use Rattle.tc_core.specs.OpenTxns.{find}
 use Rattle.tc_core.specs.Changes.{let_go}
-use Rattle.tc_core.specs.Locking.{is_listed, is_holder, op_spans, is_exclusive, AreApart, AreHeld, HoldOperations}
+use Rattle.tc_core.specs.Locking.{is_listed, is_holder, op_spans, is_changing, AreApart, AreHeld, HoldOperations}
 use Rattle.tc_core.proofs.HeldSpans.{held_none}
 
 -- the table stays one
@@ -103,9 +103,9 @@ module _ (log : List Record) (os : List OpenTxn) (cs ls : List ℕ) (locks : Loc
   pub let_go_held : AreHeld log os ls (let_go cs locks)
   let_go_held = record {
     table = gone_table cs locks held.table;
-    exclusive = λ t. elim (cases_Bool (is_listed cs t)) [
-      | inl listed ↦ ap (filter is_exclusive) (own t listed) ∙ sym (held_none log os ls t (closed t listed))
-      | inr unlisted ↦ ap (filter is_exclusive) (other t unlisted) ∙ held.exclusive t
+    changing = λ t. elim (cases_Bool (is_listed cs t)) [
+      | inl listed ↦ ap (filter is_changing) (own t listed) ∙ sym (held_none log os ls t (closed t listed))
+      | inr unlisted ↦ ap (filter is_changing) (other t unlisted) ∙ held.changing t
           ∙ ap (λ b. if b then op_spans log t else []) (sym (same_if t unlisted))
     ];
     others = λ t none. elim (cases_Bool (is_listed cs t)) [

@@ -13,7 +13,7 @@ use Rattle.range_locks.specs.Locks.{LocksView, spans_of, set_spans, IsFree}
 use Rattle.range_locks.proofs.Tables.{set_table, set_own, set_other}
 use Rattle.tc_core.specs.declared.open_txn.OpenTxn.{OpenTxn}
 use Rattle.tc_core.specs.OpenTxns.{find, replace, without, AreBelow}
-use Rattle.tc_core.specs.Locking.{op_spans, held_spans, is_holder, is_listed, is_exclusive, AreApart, AreHeld}
+use Rattle.tc_core.specs.Locking.{op_spans, held_spans, is_holder, is_listed, is_changing, AreApart, AreHeld}
 use Rattle.tc_core.proofs.Finding.{find_above, find_there, without_other}
 use Rattle.tc_core.proofs.HeldSpans.{Holds, open_holds, same_holder, holder_replaced, held_none, held_same, held_acted, held_begun, held_ended, op_spans_longer, kept_changed}
 
@@ -61,7 +61,7 @@ module _ (log : List Record) (os : List OpenTxn) (cs : List ℕ) (locks : LocksV
   pub any_held : (t : ℕ) (s : Span) → AnyConflict s (held_spans log os cs t) → AnyConflict s (spans_of locks t)
   any_held t s any =
       let P : List Span → Type 0 = AnyConflict s in
-      any_of is_exclusive s (spans_of locks t) (subst P (sym (held.exclusive t)) any)
+      any_of is_changing s (spans_of locks t) (subst P (sym (held.changing t)) any)
 
   -- the same is held where the same hold and have the same operations
   stays : (log2 : List Record) (os2 : List OpenTxn) (cs2 : List ℕ)
@@ -69,14 +69,14 @@ module _ (log : List Record) (os : List OpenTxn) (cs : List ℕ) (locks : LocksV
       → ((t : ℕ) → is_holder os2 cs2 t ≡ false → spans_of locks t ≡ []) → AreHeld log2 os2 cs2 locks
   stays log2 os2 cs2 same none = record {
     table = held.table;
-    exclusive = λ t. held.exclusive t ∙ sym (same t);
+    changing = λ t. held.changing t ∙ sym (same t);
     others = none;
     apart = held.apart;
   }
 
   -- one transaction's spans change, in the table as by the log
   change : (t : ℕ) (spans : List Span) (log2 : List Record) (os2 : List OpenTxn) (cs2 : List ℕ)
-      → (held_spans log2 os2 cs2 t ≡ filter is_exclusive spans)
+      → (held_spans log2 os2 cs2 t ≡ filter is_changing spans)
       × ((u : ℕ) → u ≢ t → held_spans log2 os2 cs2 u ≡ held_spans log os cs u)
       → (is_holder os2 cs2 t ≡ false → spans ≡ []) → ((u : ℕ) → u ≢ t → is_holder os2 cs2 u ≡ is_holder os cs u)
       → ((u : ℕ) → u ≢ t → AreApart spans (spans_of locks u))
@@ -88,10 +88,10 @@ module _ (log : List Record) (os : List OpenTxn) (cs : List ℕ) (locks : LocksV
       λ u other. set_other t spans locks u held.table other in
       record {
         table = set_table t spans locks held.table;
-        exclusive = λ u. elim (cases_eq u t) [
-          | inl same ↦ let P : ℕ → Type 0 = λ n. filter is_exclusive (spans_of new n) ≡ held_spans log2 os2 cs2 n in
-              subst P (sym same) (ap (filter is_exclusive) mine ∙ sym holds.0)
-          | inr other ↦ ap (filter is_exclusive) (its u other) ∙ held.exclusive u ∙ sym (holds.1 u other)
+        changing = λ u. elim (cases_eq u t) [
+          | inl same ↦ let P : ℕ → Type 0 = λ n. filter is_changing (spans_of new n) ≡ held_spans log2 os2 cs2 n in
+              subst P (sym same) (ap (filter is_changing) mine ∙ sym holds.0)
+          | inr other ↦ ap (filter is_changing) (its u other) ∙ held.changing u ∙ sym (holds.1 u other)
         ];
         others = λ u none. elim (cases_eq u t) [
           | inl same ↦ let P : ℕ → Type 0 = λ n. is_holder os2 cs2 n ≡ false → spans_of new n ≡ [] in
@@ -129,7 +129,7 @@ module _ (log : List Record) (os : List OpenTxn) (cs : List ℕ) (locks : LocksV
 
   -- a free span is taken for an open transaction
   taken : (new o : OpenTxn) (s : Span) (log2 : List Record) → find new.txn os ≡ Some o → IsFree locks new.txn s
-      → Holds log os cs new.txn (filter is_exclusive (s ∷ spans_of locks new.txn)) log2 (replace new os)
+      → Holds log os cs new.txn (filter is_changing (s ∷ spans_of locks new.txn)) log2 (replace new os)
       → AreHeld log2 (replace new os) cs (set_spans new.txn (s ∷ spans_of locks new.txn) locks)
   taken new o s log2 at free holds =
       let same = holder_replaced new o os cs at in
@@ -146,7 +146,7 @@ module _ (log : List Record) (os : List OpenTxn) (cs : List ℕ) (locks : LocksV
   takes new o p op at free =
       let holds = held_acted log os cs new o p op at in
       taken new o (changed_span op) (is.Op new.txn p op ∷ log) at free (
-        holds.0 ∙ ap (λ (x : List Span). changed_span op ∷ x) (sym (held.exclusive new.txn))
+        holds.0 ∙ ap (λ (x : List Span). changed_span op ∷ x) (sym (held.changing new.txn))
             ∙ sym (kept_changed op (spans_of locks new.txn)),
         holds.1,
       )
@@ -169,13 +169,13 @@ module _ (log : List Record) (os : List OpenTxn) (cs : List ℕ) (locks : LocksV
       (λ t none. held.others t (sym (same t) ∙ none))
 
   -- a read takes its span
-  pub shares : (new o : OpenTxn) (s : Span) → find new.txn os ≡ Some o → is_exclusive s ≡ false → IsFree locks new.txn s
+  pub shares : (new o : OpenTxn) (s : Span) → find new.txn os ≡ Some o → is_changing s ≡ false → IsFree locks new.txn s
       → AreHeld log (replace new os) cs (set_spans new.txn (s ∷ spans_of locks new.txn) locks)
   shares new o s at flat free =
       let same = held_same log log os (replace new os) cs cs (holder_replaced new o os cs at) (λ u. refl) in
       taken new o s log at free (
-        same new.txn ∙ sym (held.exclusive new.txn)
-            ∙ sym (ap (λ b. if b then s ∷ filter is_exclusive (spans_of locks new.txn) else filter is_exclusive
+        same new.txn ∙ sym (held.changing new.txn)
+            ∙ sym (ap (λ b. if b then s ∷ filter is_changing (spans_of locks new.txn) else filter is_changing
             (spans_of locks new.txn)) flat),
         λ u other. same u,
       )

@@ -24,7 +24,7 @@ use Rattle.logical_log.specs.Low.{stable_part}
 use Rattle.range_locks.specs.Locks.{LocksView, spans_of}
 use Rattle.restart.specs.Losers.{LosersView, txns, AreLosers}
 use Rattle.restart.specs.Plan.{IsCheckpointed, IsRedoStart}
-use Rattle.tc_core.specs.Locking.{op_spans, is_listed, is_exclusive, AreApart, AreHeld, HoldOperations}
+use Rattle.tc_core.specs.Locking.{op_spans, is_listed, is_changing, AreApart, AreHeld, HoldOperations}
 use Rattle.tc_core.specs.Opening.{HoldsOpen, opened}
 use Rattle.tc_core.specs.Kept.{IsTc}
 use Rattle.tc_core.proofs.HeldSpans.{kept_changed}
@@ -113,16 +113,16 @@ module _ (log : List Record) (t u : ℕ) (legal : IsLegal log) (open_t : IsOpen 
   apart_ops : AreApart (op_spans log t) (op_spans log u)
   apart_ops = apart_in log (λ n o by. by)
 
-all_exclusive : (log : List Record) (t : ℕ) → filter is_exclusive (op_spans log t) ≡ op_spans log t
-all_exclusive [] t = refl
-all_exclusive (is.Op v p o ∷ log) t = pick (t == v) (all_exclusive log t)
+all_changing : (log : List Record) (t : ℕ) → filter is_changing (op_spans log t) ≡ op_spans log t
+all_changing [] t = refl
+all_changing (is.Op v p o ∷ log) t = pick (t == v) (all_changing log t)
   where
-    pick : (b : Bool) → filter is_exclusive (op_spans log t) ≡ op_spans log t
-        → filter is_exclusive (if b then changed_span o ∷ op_spans log t else op_spans log t)
+    pick : (b : Bool) → filter is_changing (op_spans log t) ≡ op_spans log t
+        → filter is_changing (if b then changed_span o ∷ op_spans log t else op_spans log t)
         ≡ (if b then changed_span o ∷ op_spans log t else op_spans log t)
     pick true rest = kept_changed o (op_spans log t) ∙ ap (λ spans. changed_span o ∷ spans) rest
     pick false rest = rest
-all_exclusive (r ∷ log) t = all_exclusive log t
+all_changing (r ∷ log) t = all_changing log t
 
 -- each loser holds the keys of its operations, and nobody else anything
 module _ (log : List Record) (l : LosersView) (locks : LocksView) (legal : IsLegal log) (losers : AreLosers log l)
@@ -141,10 +141,10 @@ module _ (log : List Record) (l : LosersView) (locks : LocksView) (legal : IsLeg
   held_opened : AreHeld log [] (txns l) locks
   held_opened = record {
     table = holds.table;
-    exclusive = λ t. elim (cases_Bool (is_listed (txns l) t)) [
-      | inl listed ↦ ap (filter is_exclusive) (its t listed) ∙ all_exclusive log t
+    changing = λ t. elim (cases_Bool (is_listed (txns l) t)) [
+      | inl listed ↦ ap (filter is_changing) (its t listed) ∙ all_changing log t
           ∙ sym (ap (λ b. if b then op_spans log t else []) listed)
-      | inr unlisted ↦ ap (filter is_exclusive) (nothing t unlisted)
+      | inr unlisted ↦ ap (filter is_changing) (nothing t unlisted)
           ∙ sym (ap (λ b. if b then op_spans log t else []) unlisted)
     ];
     others = λ t none. nothing t none;
@@ -162,8 +162,8 @@ module _ (log : List Record) (l : LosersView) (locks : LocksView) (legal : IsLeg
 
   holds_operations : HoldOperations l.below locks
   holds_operations t below = elim (cases_Bool (is_listed (txns l) t)) [
-    | inl listed ↦ ap (filter is_exclusive) (its t listed) ∙ all_exclusive log t ∙ sym (its t listed)
-    | inr unlisted ↦ ap (filter is_exclusive) (nothing t unlisted) ∙ sym (nothing t unlisted)
+    | inl listed ↦ ap (filter is_changing) (its t listed) ∙ all_changing log t ∙ sym (its t listed)
+    | inr unlisted ↦ ap (filter is_changing) (nothing t unlisted) ∙ sym (nothing t unlisted)
   ]
 
 -- what was checkpointed is answered

@@ -37,29 +37,30 @@ is_holder os committing t = is_some (find t os) || is_listed committing t
 abbrev pub held_spans : List Record → List OpenTxn → List ℕ → ℕ → List Span
 held_spans log os committing t = if is_holder os committing t then op_spans log t else []
 
-abbrev pub excludes : Mode → Bool
-excludes Shared = false
-excludes Increment = true
-excludes Exclusive = true
+-- held for a change, and not for a read
+abbrev pub is_for_change : Mode → Bool
+is_for_change Shared = false
+is_for_change Increment = true
+is_for_change Exclusive = true
 
-abbrev pub is_exclusive : Span → Bool
-is_exclusive s = excludes s.mode
+abbrev pub is_changing : Span → Bool
+is_changing s = is_for_change s.mode
 
 -- no span of these conflicts with one of those
 abbrev pub AreApart : List Span → List Span → Type 0
 AreApart xs ys = AllByRecursion (λ x. AnyConflict x ys → ⊥) xs
 
--- the lock table: exclusive just the keys of the operations of open transactions and of those that are closing; nobody
--- else holds anything, and no two of them hold what conflicts
+-- the lock table: for a change just the keys of the operations of open transactions and of those that are closing;
+-- nobody else holds anything, and no two of them hold what conflicts
 pub record AreHeld (log : List Record) (os : List OpenTxn) (committing : List ℕ) (locks : LocksView) : Type 0 where
   pub table : IsTable locks
-  pub exclusive : (t : ℕ) → filter is_exclusive (spans_of locks t) ≡ held_spans log os committing t
+  pub changing : (t : ℕ) → filter is_changing (spans_of locks t) ≡ held_spans log os committing t
   pub others : (t : ℕ) → is_holder os committing t ≡ false → spans_of locks t ≡ []
   pub apart : (t u : ℕ) → t ≢ u → AreApart (spans_of locks t) (spans_of locks u)
 
 -- who began below this number, as losers did, holds the keys of its operations only
 abbrev pub HoldOperations : ℕ → LocksView → Type 0
-HoldOperations below locks = (t : ℕ) → t < below → filter is_exclusive (spans_of locks t) ≡ spans_of locks t
+HoldOperations below locks = (t : ℕ) → t < below → filter is_changing (spans_of locks t) ≡ spans_of locks t
 
 -- why a span isn't taken: it is busy; else no number is left for the call, or no memory
 abbrev pub RefusesLock : LocksView → ℕ → Span → Option Refusal → Refusal → Type 0

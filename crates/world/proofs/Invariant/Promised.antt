@@ -48,7 +48,7 @@ effective_at (r ∷ log) legal right n t u x i at =
           (older_at (λ q. q ≡ Some (is.Comp t u x (Some i))) r log n apart at))
     ]
 
--- so it isn't answered Exists or NoRecord
+-- so it isn't answered Exists, NoRecord or NotNumber
 none_refused : (log : List Record) → IsLegal log → HasRightAnswers log → IsNoneRefused log
 none_refused log legal right n t u x i a at answered =
     let asks : Requests log n i = ap request_in at in

@@ -43,7 +43,7 @@ losers_hold w k t listed =
     let holds : is_holder w.open_txns (closing w) t ≡ true =
     holder_more w.open_txns w.committing (txns w.losers) t ∙ ap (λ b. is_holder w.open_txns w.committing t || b) listed
     ∙ or-true (is_holder w.open_txns w.committing t) in
-    sym (k.early t (listed_loser w.log w.losers k.lost.losers t listed).early) ∙ k.locks.exclusive t
+    sym (k.early t (listed_loser w.log w.losers k.lost.losers t listed).early) ∙ k.locks.changing t
     ∙ held_is w.log w.open_txns (closing w) t holds
 
 has_longer : (r : Record) (log : List Record) (t : ℕ) (s : Span) → IsItsKey log t s → IsItsKey (r ∷ log) t s

@@ -1,6 +1,6 @@
-use Rattle.std.proofs.Common.{◌≡◌, ◌∙◌, ℕ, Option, Some, sym, ap, subst}
-use Rattle.record_key.specs.Table.{Bytes, key_of}
-use Rattle.logical_log.specs.Replay.{Puts, holder_in}
+use Rattle.std.proofs.Common.{◌≡◌, ◌∙◌, Some, sym}
+use Rattle.record_key.specs.Table.{key_of}
+use Rattle.logical_log.specs.Replay.{holder_in}
 use Rattle.logical_log.proofs.Puts.{puts_key}
 use Rattle.logical_log.proofs.replay.Index.hold.Goals as goal
 
