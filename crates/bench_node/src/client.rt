@@ -30,10 +30,33 @@ impl Client {
         Ok(())
     }
 
+    /// The transaction of the next calls, which was begun last or is gone on with.
+    pub fn txn(&self) -> u64 {
+        self.txn
+    }
+
+    /// The next calls are of this transaction.
+    pub fn go_on(&mut self, txn: u64) {
+        self.txn = txn;
+    }
+
     pub fn upsert(&mut self, key: Key, value: Value) -> Result<(), Refusal> {
         let (txn, op) = (self.txn, Op::Upsert(key, value));
         self.step(&Event::Act { txn, op })?;
         self.perform()
+    }
+
+    /// Does the operation, unless another transaction is in its way.
+    pub fn try_op(&mut self, op: Op) -> Result<bool, Refusal> {
+        let txn = self.txn;
+        match self.world.step(&Event::Act { txn, op }) {
+            Out::Refused(Refusal::Busy(_)) => Ok(false),
+            Out::Refused(refusal) => Err(refusal),
+            _ => {
+                self.perform()?;
+                Ok(true)
+            }
+        }
     }
 
     /// Whether the key has a value.

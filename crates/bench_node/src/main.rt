@@ -6,6 +6,7 @@
 
 mod client;
 mod draws;
+mod hot;
 mod measure;
 mod work;
 mod workload;
@@ -62,9 +63,9 @@ fn print_outcome(
         .max(1);
     let (whole, part) = (micros / 1_000_000, micros % 1_000_000);
     let rate = done.saturating_mul(1_000_000) / micros;
-    let digest = outcome.digest;
+    let (digest, waits) = (outcome.digest, outcome.waits);
     println!(rt;
-        "{name},{workload},{number},{done},{whole}.{part:06},{rate},0,0,{digest:016x},0,{whole}.{part:06}"
+        "{name},{workload},{number},{done},{whole}.{part:06},{rate},{waits},0,{digest:016x},0,{whole}.{part:06}"
     )?;
     Ok(())
 }

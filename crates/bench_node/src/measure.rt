@@ -6,10 +6,12 @@ use std::alloc::Global;
 use std::io;
 use std::time::{Clock, Duration, Instant};
 
-/// How long the work took, without the load before it, and the digest of the rows after it.
+/// How long the work took, without the load before it, how often a client waited for another, and the digest of the rows
+/// after it.
 #[derive(Drop)]
 pub struct Outcome {
     pub took: Duration,
+    pub waits: u64,
     pub digest: u64,
 }
 
@@ -31,6 +33,7 @@ fn timed<R: Clock>(rt: &R, work: &mut Work) -> io::Result<Outcome> {
     let end = Instant::now(rt)?;
     Ok(Outcome {
         took: end.duration_since(start),
+        waits: work.waits(),
         digest: done(work.digest())?,
     })
 }

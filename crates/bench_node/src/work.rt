@@ -1,6 +1,7 @@
 //! The work of each workload.
 use crate::client::Client;
 use crate::draws::{Values, draw, key_of, mix};
+use crate::hot;
 use crate::workload::Workload;
 use record_key::{Key, Refusal, Value};
 use std::alloc::Global;
@@ -17,10 +18,12 @@ const LOWERED: u64 = 4_000;
 /// A client with its draws.
 #[derive(Drop)]
 pub struct Work {
+    alloc: Global,
     client: Client,
     values: Values,
     workload: Workload,
     operations: u64,
+    waits: u64,
 }
 
 impl Work {
@@ -28,10 +31,12 @@ impl Work {
         // The client comes last: a node that is dropped where something else fails is dear to prove.
         let values = Values::new(alloc)?;
         Ok(Work {
+            alloc,
             client: Client::new(alloc)?,
             values,
             workload,
             operations,
+            waits: 0,
         })
     }
 
@@ -48,6 +53,7 @@ impl Work {
                 self.client.checkpoint()
             }
             Workload::FirstInsert | Workload::Undo => self.load_loser(self.operations),
+            Workload::HotAdds | Workload::HotUpdates => hot::load(&mut self.client),
             _ => Ok(()),
         }
     }
@@ -100,8 +106,20 @@ impl Work {
                 self.client.settle()
             }
             Workload::Scans => self.scans(),
+            Workload::HotAdds | Workload::HotUpdates => self.change_one(),
             _ => self.transactions(),
         }
+    }
+
+    fn change_one(&mut self) -> Result<(), Refusal> {
+        let adds = self.workload == Workload::HotAdds;
+        self.waits = hot::change(&mut self.client, self.alloc, self.operations, adds)?;
+        Ok(())
+    }
+
+    /// How often a client had to wait for another.
+    pub fn waits(&self) -> u64 {
+        self.waits
     }
 
     /// Until a row is read that the open transaction had changed.

@@ -34,6 +34,10 @@ pub enum Workload {
     FirstInsert,
     /// The same until the node is settled.
     Undo,
+    /// Eight clients that add to one record, in transactions of ten.
+    HotAdds,
+    /// Eight clients that update one record, in transactions of ten; each waits until no other holds it.
+    HotUpdates,
 }
 
 impl Workload {
@@ -54,6 +58,8 @@ impl Workload {
             b"scattered" => Workload::Scattered,
             b"first" => Workload::FirstInsert,
             b"undo" => Workload::Undo,
+            b"adds" => Workload::HotAdds,
+            b"updates" => Workload::HotUpdates,
             _ => return None,
         })
     }
@@ -87,7 +93,12 @@ impl Workload {
     pub fn has_rows(self) -> bool {
         !matches!(
             self,
-            Workload::Rising | Workload::Scattered | Workload::FirstInsert | Workload::Undo
+            Workload::Rising
+                | Workload::Scattered
+                | Workload::FirstInsert
+                | Workload::Undo
+                | Workload::HotAdds
+                | Workload::HotUpdates
         )
     }
 }

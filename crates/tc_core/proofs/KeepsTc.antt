@@ -9,12 +9,11 @@ use Rattle.std.proofs.lemmas.Bool.Decides.{nat_tests}
 use Rattle.std.proofs.lemmas.Bool.{cases_eq, cases_Bool, cases_lt}
 use Rattle.record_key.specs.declared.op.Op.{Op}
 use Rattle.record_key.specs.declared.op.Answer.{Answer}
-use Rattle.record_key.specs.Table.{Bytes, key_of}
 use Rattle.history.specs.declared.record.Record.{Record}
 use Rattle.history.specs.declared.record.Record.TheVariants as is
 use Rattle.history.specs.Log.{record_at, answer_of, step_in, has_ended, IsOpen, IsOpBy, IsStepOf, Requests}
 use Rattle.history.specs.Legal.{Fits, IsLegal, IsIdle, IsKeyFree}
-use Rattle.history.specs.Spans.{Exclusive, Span, at_key, Conflict, AnyConflict, changed_span}
+use Rattle.history.specs.Spans.{Span, Conflict, AnyConflict, changed_span}
 use Rattle.log_laws.proofs.LegalLogs.{unanswered_next}
 use Rattle.tc_core.specs.declared.open_txn.OpenTxn.{OpenTxn}
 use Rattle.tc_core.specs.declared.open_txn.Read.{Read}
@@ -42,7 +41,7 @@ use Rattle.tc_core.proofs.KeepsIdle.{own_request}
 use Rattle.tc_core.proofs.KeepsOpen.{open_below, same_open, replaced_open, added_open}
 use Rattle.tc_core.proofs.KeepsSteps.{session_leaves, begin_leaves, step_leaves, answer_leaves, opens, acts, answer_comes}
 use Rattle.log_laws.proofs.Sharing.{modes_conflict}
-use Rattle.tc_core.proofs.HeldSpans.{conflict_at, held_is, open_holds, op_spans_has, conflicts_itself}
+use Rattle.tc_core.proofs.HeldSpans.{conflict_at, held_is, open_holds, op_spans_has}
 use Rattle.tc_core.proofs.LocksHeld.{any_held, begins, takes as takes_key, longer, replaced}
 use Rattle.tc_core.proofs.Readings.{no_reading, reads_replaced, reads_begun, reads_kept}
 

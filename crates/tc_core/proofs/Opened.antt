@@ -1,24 +1,23 @@
 -- What a crash left is a transaction component, when its losers hold their keys.
-use Rattle.std.proofs.Common.{◌≡◌, ◌≢◌, ℕ, ◌+◌, ◌-◌, ◌<◌, ◌≤◌, zero, suc, Bool, true, false, List, [], ◌∷◌, ◌++◌, length, Some, refl, sym, ap, ◌∙◌, subst, arith, inl, inr, eqb-true, true≢false}
+use Rattle.std.proofs.Common.{◌≡◌, ◌≢◌, ℕ, ◌+◌, ◌-◌, ◌≤◌, zero, suc, Bool, true, false, List, [], ◌∷◌, ◌++◌, length, Some, refl, sym, ap, ◌∙◌, subst, arith, inl, inr, eqb-true, true≢false}
 use Rattle.std.specs.Prelude.{◌&&◌, ◌==◌, not, filter, if◌then◌else◌}
 use Rattle.std.specs.Ordering.{is_lt, nat_cmp, ordering_then}
 use Rattle.std.specs.Cmp.{nat_cmp_is}
 use Rattle.std.specs.declared.cmp.Ordering.{Ordering}
 use Rattle.std.specs.declared.cmp.Ordering.TheVariants.{Less, Equal, Greater}
-use Rattle.std.proofs.lemmas.Bool.{cases_eq, cases_lt, cases_Bool}
+use Rattle.std.proofs.lemmas.Bool.{cases_Bool}
 use Rattle.std.proofs.lemmas.Map.Lookups.{exact_unsigned}
 use Rattle.record_key.specs.declared.op.Op.{Op}
 use Rattle.record_key.specs.Table.{Bytes, key_of}
 use Rattle.record_key.specs.Laws.{key_cmp}
 use Rattle.history.specs.declared.record.Record.{Record}
 use Rattle.history.specs.declared.record.Record.TheVariants as is
-use Rattle.history.specs.Log.{record_at, IsOpen, IsOpBy}
+use Rattle.history.specs.Log.{IsOpen, IsOpBy}
 use Rattle.history.specs.Legal.{IsLatestOrNone, IsLegal, FitsCheckpoint}
 use Rattle.history.specs.Spans.{Exclusive, at_key, is_within, AnyConflict, changed_span, do_conflict, mode_of, Mode}
 use Rattle.log_laws.proofs.Sharing.{share_adds, modes_agree}
-use Rattle.log_laws.proofs.Records.{AnOp, op_same, op_step, op_request, at_newest, at_older, not_newest, since}
+use Rattle.log_laws.proofs.Records.{AnOp, at_newest, at_older, not_newest, since}
 use Rattle.log_laws.proofs.LegalLogs.{begun_number, fits_at, op_number}
-use Rattle.log_laws.proofs.Strict.{end_ends, strict}
 use Rattle.logical_log.proofs.Answered.{answered_longer, part_whole}
 use Rattle.logical_log.specs.Low.{stable_part}
 use Rattle.range_locks.specs.Locks.{LocksView, spans_of}

@@ -3,7 +3,6 @@ use Rattle.std.specs.Prelude.{◌≡◌, ◌⊎◌, ℕ, ◌+◌, ◌-◌, ◌<�
 use Rattle.record_key.specs.declared.op.Op.{Op}
 use Rattle.record_key.specs.declared.refusal.Refusal.{Refusal}
 use Rattle.record_key.specs.declared.refusal.Refusal.TheVariants.{Device}
-use Rattle.record_key.specs.Table.{key_of}
 use Rattle.history.specs.Log.{Requests}
 use Rattle.history.specs.Spans.{changed_span}
 use Rattle.codec.specs.declared.request.Request.{Request}

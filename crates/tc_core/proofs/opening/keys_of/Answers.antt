@@ -1,7 +1,6 @@
 use Rattle.std.proofs.Common.{◌≡◌, ◌<◌, ◌∙◌, ℕ, List, length, sym, subst, arith}
 use Rattle.std.specs.BTreeMap.{get}
 use Rattle.std.specs.Ordering.{nat_cmp}
-use Rattle.record_key.specs.Table.{Bytes}
 use Rattle.history.specs.declared.record.Record.{Record}
 use Rattle.logical_log.proofs.Answered.{part_whole}
 use Rattle.range_locks.specs.Rebuilt.{Listed, listed_spans}

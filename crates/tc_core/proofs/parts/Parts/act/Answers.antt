@@ -1,6 +1,5 @@
 use Rattle.std.proofs.Common.{◌≡◌, ◌∷◌, subst, Some, inr, ◌∙◌}
 use Rattle.history.specs.declared.record.Record.TheVariants.{Op}
-use Rattle.record_key.specs.Table.{Bytes, key_of}
 use Rattle.history.specs.Spans.{Span, at_key, changed_span}
 use Rattle.range_locks.specs.Meant.{mode_of}
 use Rattle.range_locks.specs.Locks.{spans_of, set_spans, IsFree}

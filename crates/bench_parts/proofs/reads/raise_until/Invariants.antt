@@ -1,5 +1,5 @@
 use Rattle.std.proofs.Common.{◌≡◌, IsTrue}
-use Rattle.bench_marks.proofs.measure.raise_until.Given as goal
+use Rattle.bench_parts.proofs.reads.raise_until.Given as goal
 
 abbrev pub invariant-loop-n : goal.invariant-loop-n
 invariant-loop-n l = (l.raiser.marks ≡ l.marks) × IsTrue l.raiser.raises

@@ -1,7 +1,7 @@
 //! One measurement: the log of a device is opened, so that each record is read, fitted and indexed.
 ghost use Rattle.std.specs.Prelude.{◌≡◌, ◌≤◌, [], IfOk};
 
-use crate::measure::put_log;
+use crate::records::put_log;
 use logical_log::Log;
 use record_key::Refusal;
 use stable::{DeviceError, LogDevice, MemLog};
