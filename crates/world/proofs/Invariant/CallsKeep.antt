@@ -7,7 +7,7 @@ use Rattle.record_key.specs.declared.op.Answer.{Answer}
 use Rattle.record_key.specs.declared.refusal.Refusal.{Refusal}
 use Rattle.record_key.specs.declared.refusal.Refusal.TheVariants.{Full, BadRange, BadSavepoint, NumbersSpent, Stale}
 use Rattle.record_key.specs.FirstCause.{first_of}
-use Rattle.record_key.specs.Table.{Bytes, key_of}
+use Rattle.record_key.specs.Table.{Bytes}
 use Rattle.history.specs.declared.record.Record.TheVariants as is
 use Rattle.history.specs.Spans.{IsRange, changed_span}
 use Rattle.record_key.specs.Order.{ends_above}

@@ -7,7 +7,7 @@ use Rattle.history.specs.ListMachine.{Machine, TellsLost, Steps}
 use Rattle.simulation.specs.View.{StandsFor}
 use Rattle.std.proofs.lemmas.Bool.{cases_lt}
 use Rattle.std.specs.Prelude.{IsSome}
-use Rattle.record_key.specs.Table.{Bytes, key_of}
+use Rattle.record_key.specs.Table.{Bytes}
 use Rattle.record_key.specs.declared.op.Op.{Op}
 use Rattle.history.specs.declared.record.Record.{Record}
 use Rattle.history.specs.Log.{answer_of, Requests}

@@ -4,7 +4,7 @@ use Rattle.std.specs.Prelude.{◌&&◌, not, Result, Ok, Err, nat_le}
 use Rattle.std.proofs.lemmas.Bool.Decides.{nat_tests}
 use Rattle.std.proofs.lemmas.Bool.{cases_Bool}
 use Rattle.record_key.specs.declared.op.Op.{Op}
-use Rattle.record_key.specs.Table.{Bytes, key_of}
+use Rattle.record_key.specs.Table.{Bytes}
 use Rattle.record_key.specs.declared.refusal.Refusal.{Refusal}
 use Rattle.record_key.specs.declared.refusal.Refusal.TheVariants.{Full, BadSavepoint, BadRange, NumbersSpent}
 use Rattle.record_key.specs.FirstCause.{first_of}

@@ -253,7 +253,7 @@ follows old new event.RestartDc output k tc is h = follows_restart old new outpu
 -- a new node
 first_honest : IsHonestTo [] 0 first
 first_honest = record {
-  honest = record { at = λ k within. record { beginning = tt; right = get-empty (slice_cmp nat_cmp) k }; saved = tt };
+  honest = record { at = λ k within. record { left_out = tt; right = get-empty (slice_cmp nat_cmp) k }; saved = tt };
   within = λ n captured. grind (arith, nat_tests, captured);
 }
 

@@ -8,7 +8,6 @@ use Rattle.record_key.specs.declared.op.Op.{Op}
 use Rattle.record_key.specs.declared.refusal.Refusal.{Refusal}
 use Rattle.record_key.specs.declared.refusal.Refusal.TheVariants as no
 use Rattle.record_key.specs.FirstCause.{first_of, or_else}
-use Rattle.record_key.specs.Table.{key_of}
 use Rattle.history.specs.Spans.{Span, IsRange, changed_span}
 use Rattle.record_key.specs.Order.{ends_above}
 use Rattle.history.specs.ListMachine.{Machine, Call, ToBegin, ToAct, ToRead, ToSave, ToGoBack, ToRollBack, ToCommit, AreDifferent, asked_span}

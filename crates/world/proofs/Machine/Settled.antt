@@ -1,13 +1,11 @@
 -- A settled node holds what the plain map holds.
-use Rattle.std.proofs.Common.{◌≡◌, ◌⊎◌, ℕ, ◌+◌, ◌<◌, ◌≤◌, Bool, true, false, List, [], ◌∷◌, length, Option, Some, None, IsSome, is_some, refl, sym, ap, ◌∙◌, subst, arith, inl, inr, true≢false}
-use Rattle.std.specs.Prelude.{◌||◌, if◌then◌else◌}
+use Rattle.std.proofs.Common.{◌≡◌, ℕ, ◌<◌, ◌≤◌, true, false, length, Option, Some, None, is_some, refl, sym, ap, ◌∙◌, subst, arith, inl, inr, true≢false}
+use Rattle.std.specs.Prelude.{◌||◌}
 use Rattle.std.specs.FinMap.{get}
-use Rattle.std.proofs.lemmas.Bool.{cases_eq, cases_lt, cases_Bool}
+use Rattle.std.proofs.lemmas.Bool.{cases_eq, cases_Bool}
 use Rattle.record_key.specs.declared.op.Op.{Op}
-use Rattle.record_key.specs.declared.op.Answer.{Answer}
 use Rattle.record_key.specs.Table.{Bytes, key_of}
 use Rattle.record_key.proofs.Tables.{same_table}
-use Rattle.history.specs.declared.record.Record.{Record}
 use Rattle.history.specs.History.{plain}
 use Rattle.history.specs.ListMachine.{Machine}
 use Rattle.simulation.specs.View.{is_to_undo}
@@ -65,7 +63,7 @@ comp_answered w k settled n t u x i is_comp =
           let flat : rolls_back o ≡ false = sym (ap is_rolling a.is) ∙ settled.unrolled o.txn in
           let found : IsOpOf w.tc.log o n =
           op_waited w.tc.log o n flat (waits_at w.tc.log o n (open_at w.tc o k.tc a.is) a.waiting).request in
-          let none : None ≡ Some (o.txn, found.op) = ap op_in (sym is_comp) ∙ found.is in
+          let none : ◌≡◌ {A = Option (ℕ × Op)} None (Some (o.txn, found.op)) = ap op_in (sym is_comp) ∙ found.is in
           absurd (cc)
     ]
 

@@ -6,7 +6,7 @@ use Rattle.std.proofs.lemmas.Bool.{cases_Bool, cases_eq}
 use Rattle.std.proofs.lemmas.Bool.Decides.{nat_tests}
 use Rattle.record_key.specs.declared.op.Op.{Op}
 use Rattle.record_key.specs.declared.op.Answer.{Answer}
-use Rattle.record_key.specs.Table.{Bytes, key_of}
+use Rattle.record_key.specs.Table.{Bytes}
 use Rattle.history.specs.declared.record.Record.{Record}
 use Rattle.history.specs.declared.record.Record.TheVariants as is
 use Rattle.history.specs.History.{plain}

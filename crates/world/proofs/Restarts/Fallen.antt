@@ -3,7 +3,7 @@ use Rattle.std.proofs.Common.{◌≡◌, ℕ, ◌≤◌, true, List, [], ◌∷�
 use Rattle.std.specs.List.{AllByRecursion}
 use Rattle.record_key.specs.declared.op.Op.{Op}
 use Rattle.record_key.specs.declared.op.Answer.{Answer}
-use Rattle.record_key.specs.Table.{Bytes, key_of}
+use Rattle.record_key.specs.Table.{key_of}
 use Rattle.history.specs.declared.record.Record.{Record}
 use Rattle.history.specs.Legal.{FitsCheckpoint}
 use Rattle.history.specs.Log.{Requests}
