@@ -6,8 +6,8 @@ use std::alloc::Global;
 use std::io;
 use std::time::{Clock, Duration, Instant};
 
-/// How long the work took, without the load before it, how often a client waited for another, and the digest of the rows
-/// after it.
+/// How long the work took, without the load before it, how often a client waited for another, and the digest of the
+/// rows after it.
 #[derive(Drop)]
 pub struct Outcome {
     pub took: Duration,

@@ -28,7 +28,10 @@ agrees_so log index t u h is opened = by (latest_in index u) (h.open_txns u) is
   where
     by : (v : Option ℕ) → KeptOf log u v → ((u == t) || not (is_some v)) ≡ true → u ≡ t
     by None shut e = absurd (shut opened)
-    by (Some s) at e = elim (or_cases (u == t) false e) [ inl same ↦ eqb-true u t same | inr f ↦ absurd (true≢false (sym f)) ]
+    by (Some s) at e = elim (or_cases (u == t) false e) [
+      | inl same ↦ eqb-true u t same
+      | inr f ↦ absurd (true≢false (sym f))
+    ]
 
 -- and one that is open and another is one
 hinders : (log : List Record) (index : Index) (t u : ℕ) → IsIndex log index → agrees index t u ≡ false

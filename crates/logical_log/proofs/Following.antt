@@ -338,10 +338,11 @@ filtered_one false u v left (inr rest) = rest
 among_filtered : (p : ℕ → Bool) (u : ℕ) (us : List ℕ) → p u ≡ true → is_among u us ≡ true
     → is_among u (filter p us) ≡ true
 among_filtered p u [] passes h = h
-among_filtered p u (v ∷ us) passes h = filtered_one (p v) u v (filter p us) (elim (or_cases (v == u) (is_among u us) h) [
-  | inl same ↦ let e : v ≡ u = eqb-true v u same in inl (e, ap p e ∙ passes)
-  | inr rest ↦ inr (among_filtered p u us passes rest)
-])
+among_filtered p u (v ∷ us) passes h =
+    filtered_one (p v) u v (filter p us) (elim (or_cases (v == u) (is_among u us) h) [
+      | inl same ↦ let e : v ≡ u = eqb-true v u same in inl (e, ap p e ∙ passes)
+      | inr rest ↦ inr (among_filtered p u us passes rest)
+    ])
 
 -- another that is open stays
 stays_open : (log : List Record) (latest : ℕ → Option ℕ) (t u : ℕ) → KeptOf log u (latest u) → u ≢ t → IsOpen log u

@@ -100,7 +100,8 @@ impl Index {
     pub(crate) fn follow(&mut self, accepted: &Record, number: u64) -> Result<(), AllocError>
         ensures open { OnOk result (Follows accepted.now number (latest_in self.old) (latest_in self.new)) }
         ensures holders { OnOk result (Holds accepted.now (holder_in self.old) (holder_in self.new)) }
-        ensures adders { OnOk result (Gains accepted.now (latest_in self.new) (adders_of self.old) (adders_of self.new)) }
+        ensures adders { OnOk result
+            (Gains accepted.now (latest_in self.new) (adders_of self.old) (adders_of self.new)) }
         ensures answered { self.new.answered ≡ self.old.answered }
     {
         match accepted {
@@ -124,10 +125,12 @@ impl Index {
 
     /// The transaction holds the operation's key from now on, alone or for Adds.
     fn hold(&mut self, op: &Op, txn: u64) -> Result<(), AllocError>
-        ensures holders { OnOk result (MatchBool (is_add op.now) ((k : List ℕ) → holder_in self.new k ≡ holder_in self.old k)
+        ensures holders { OnOk result (MatchBool (is_add op.now)
+            ((k : List ℕ) → holder_in self.new k ≡ holder_in self.old k)
             (Puts (List ℕ) (holder_in self.old) (holder_in self.new) (key_of op.now) (Some txn))) }
         ensures adders { OnOk result (PutsAdders (adders_of self.old) (adders_of self.new) (key_of op.now)
-            (if is_add op.now then filter (stays (latest_in self.new) txn) (adders_of self.old (key_of op.now)) ++ txn ∷ []
+            (if is_add op.now
+            then filter (stays (latest_in self.new) txn) (adders_of self.old (key_of op.now)) ++ txn ∷ []
             else [])) }
         ensures open { (t : ℕ) → latest_in self.new t ≡ latest_in self.old t }
         ensures answered { self.new.answered ≡ self.old.answered }

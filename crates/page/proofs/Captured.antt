@@ -201,7 +201,8 @@ answer_captured cap k log o each =
           answered_alike o (value_of cap (numbered_on k log)) (value_of (λ _. true) (numbered_on k log)) add
           (seen_captured cap (numbered_on k log) (all_requests (λ m q. (cap m ≡ true) ⊎ (is_add q ≡ true)) k log
           (λ m q asks on. elim (each m q asks on) [ inl got ↦ inl got | inr both ↦ inr both.1 ])))
-          ∙ ap (answer_at o) (value_of-captured log k (λ _. true) (all_done (λ m. true ≡ true) k log (λ m q asks on. refl)))
+          ∙ ap (answer_at o)
+          (value_of-captured log k (λ _. true) (all_done (λ m. true ≡ true) k log (λ m q asks on. refl)))
       | inr none ↦ ap (answer_at o) (value_of-captured log k cap (all_done (λ m. cap m ≡ true) k log
           (λ m q asks on. elim (each m q asks on)
           [ inl got ↦ got | inr both ↦ absurd (true≢false (sym both.0 ∙ none)) ])))

@@ -1,15 +1,15 @@
 -- What a log does to a key, and captured numbers that are alike there.
-use Rattle.std.proofs.Common.{◌≡◌, ℕ, ◌+◌, ◌<◌, Bool, true, false, List, [], ◌∷◌, length, Option, Some, None, refl, sym, ap, ◌∙◌, subst, arith, inl, inr, true≢false}
+use Rattle.std.proofs.Common.{◌≡◌, ℕ, ◌+◌, Bool, true, false, List, [], ◌∷◌, length, Option, Some, None, refl, sym, ◌∙◌, subst, inl, inr}
 use Rattle.std.specs.Prelude.{if◌then◌else◌}
 use Rattle.std.specs.List.{AllByRecursion}
 use Rattle.record_key.specs.declared.op.Op.{Op}
 use Rattle.record_key.specs.Table.{Bytes, key_of}
 use Rattle.record_key.proofs.Tables.{is_same-refl, is_same-true}
 use Rattle.history.specs.declared.record.Record.{Record}
-use Rattle.history.specs.Log.{before, request_of, Requests}
+use Rattle.history.specs.Log.{request_of, Requests}
 use Rattle.history.specs.Values.{is_on}
 use Rattle.history.specs.Honest.{Numbered, numbered_with, numbered_on, AreCapturedBut, LeavesOutAdds, value_of}
-use Rattle.log_laws.proofs.Records.{ARequest, no_request, at_newest, newest_at, kept_at, had_at, within, which, not_newest, before_new, before_old}
+use Rattle.log_laws.proofs.Records.{ARequest, no_request, at_newest, kept_at, within}
 
 -- the operation stands on the key
 pub on_key : (k : Bytes) (o : Op) → key_of o ≡ k → is_on k o ≡ true
@@ -45,42 +45,6 @@ pub all_done : (P : ℕ → Type 0) (k : Bytes) (log : List Record)
     → ((n : ℕ) (o : Op) → Requests log n o → key_of o ≡ k → P n)
     → AllByRecursion (λ d. P d.number) (numbered_on k log)
 all_done P k log each = all_requests (λ n o. P n) k log each
-
--- a request that no later one on its key follows is the newest there
-pub newest_done : (log : List Record) (n : ℕ) (o : Op) → Requests log n o
-    → ((m : ℕ) (q : Op) → n < m → Requests log m q → key_of q ≡ key_of o → ⊥)
-    → numbered_on (key_of o) log ≡ record { number = n; op = o } ∷ numbered_on (key_of o) (before log n)
-newest_done [] n o requests last = absurd (no_request o requests)
-newest_done (r ∷ log) n o requests last =
-    elim (which r log n (within (ARequest o) (no_request o) (r ∷ log) n requests)) [
-      | inl e ↦
-          let asks : ARequest o (Some r) = newest_at (ARequest o) r log n e requests in
-          ap (λ q. numbered_with (key_of o) (length log + 1) q (numbered_on (key_of o) log)) asks
-          ∙ ap (λ b. if b then record { number = length log + 1; op = o } ∷ numbered_on (key_of o) log else numbered_on
-          (key_of o) log) (on_key (key_of o) o refl)
-          ∙ ap (λ (m : ℕ). record { number = m; op = o } ∷ numbered_on (key_of o) log) (sym e)
-          ∙ ap (λ x. record { number = n; op = o } ∷ numbered_on (key_of o) x) (sym (before_new r log n e))
-      | inr was ↦
-          let older : Requests log n o = had_at (ARequest o) r log n was requests in
-          passed (request_of r) (λ q asks on. last (length log + 1) q (omega (arith, was.bounded))
-          (at_newest (ARequest q) r log (length log + 1) refl asks) on)
-          ∙ newest_done log n o older
-          (λ m q above asks on. last m q above
-          (kept_at (ARequest q) r log m (within (ARequest q) (no_request q) log m asks) asks) on)
-          ∙ ap (λ x. record { number = n; op = o } ∷ numbered_on (key_of o) x)
-          (sym (before_old r log n (not_newest log n was)))
-    ]
-  where
-    passed : (q : Option Op) → ((p : Op) → q ≡ Some p → key_of p ≡ key_of o → ⊥)
-        → numbered_with (key_of o) (length log + 1) q (numbered_on (key_of o) log) ≡ numbered_on (key_of o) log
-    passed None none = refl
-    passed (Some p) none = skip (is_on (key_of o) p) refl
-      where
-        skip : (b : Bool) → is_on (key_of o) p ≡ b
-            → (if b then record { number = length log + 1; op = p } ∷ numbered_on (key_of o) log else numbered_on
-            (key_of o) log) ≡ numbered_on (key_of o) log
-        skip true on = absurd (none p refl (key_on (key_of o) p on))
-        skip false on = refl
 
 -- what is captured among what is done may be told in another way, and more may be captured
 pub captured_but_alike : (o : Op) (p q : ℕ → Bool) (done : List Numbered)

@@ -40,9 +40,9 @@ pub record IsCapturedTo (log : List Record) (leaf : LeafView) (l : ℕ) : Type 0
   pub all : (n : ℕ) (o : Op) → Requests log n o → is_in_fences leaf (key_of o) ≡ true → n ≤ l
       → captures leaf.ab n ≡ true
 
--- a leaf stays honest where it performs a number that may be the log's next on a key, where the low number rises over captured
--- ones, and on both sides of a cut in its fences; and so is the leaf of two neighbours, each of which has captured
--- the log's numbers on its keys up to the low number of both
+-- a leaf stays honest where it performs a number that may be the log's next on a key, where the low number rises over
+-- captured ones, and on both sides of a cut in its fences; and so is the leaf of two neighbours, each of which has
+-- captured the log's numbers on its keys up to the low number of both
 pub record LeafLaw : Type 0 where
   pub performs : (log : List Record) (leaf : LeafView) (n : ℕ) (o : Op) → IsHonestLeaf log leaf → IsNextOn log leaf n o
       → IsHonestLeaf log (performed leaf n o)

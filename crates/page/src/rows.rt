@@ -129,7 +129,8 @@ pub fn write_at(rows: &mut Vec<(Key, Value)>, op: &Op, place: Result<usize, usiz
 /// Adds to the number at a place, where one is there.
 fn put_sum(rows: &mut Vec<(Key, Value)>, at: usize, key: &Key, amount: u64)
     requires { at < vec_len rows.old }
-    ensures { rows.new.items ≡ rows_with_sum rows.old.items at key.now (summed (get_or rows.old.items at ([], [])).1 amount) }
+    ensures { rows.new.items
+        ≡ rows_with_sum rows.old.items at key.now (summed (get_or rows.old.items at ([], [])).1 amount) }
 {
     if let Some(sum) = rows[at].1.plus(amount) {
         rows[at] = (key.copied(), sum);

@@ -62,8 +62,9 @@ impl PlainLocks {
         self.held.push(self.alloc, txn, lock)
     }
 
-    /// Holds just these keys from now on, each for what is listed with it, in the order in which they are listed, a key twice where it is
-    /// listed twice. Whether two transactions' keys conflict isn't asked. Refused NoMemory; unchanged then.
+    /// Holds just these keys from now on, each for what is listed with it, in the order in which they are listed, a
+    /// key twice where it is listed twice. Whether two transactions' keys conflict isn't asked. Refused NoMemory;
+    /// unchanged then.
     pub fn rebuild(&mut self, locks: &[(u64, Key, Mode)]) -> Result<(), Refusal>
         ensures rebuilt { OnOk result (IsRebuilt locks.now self.new) }
         ensures refused { IfErr result (λ refusal. refusal ≡ Refusal.NoMemory) }

@@ -53,8 +53,9 @@ impl RangeLocks {
         self.parts.take(txn, mode, span)
     }
 
-    /// Holds just these keys from now on, each for what is listed with it, in the order in which they are listed, a key twice where it is
-    /// listed twice. Whether two transactions' keys conflict isn't asked. Refused NoMemory; unchanged then.
+    /// Holds just these keys from now on, each for what is listed with it, in the order in which they are listed, a
+    /// key twice where it is listed twice. Whether two transactions' keys conflict isn't asked. Refused NoMemory;
+    /// unchanged then.
     pub fn rebuild(&mut self, locks: &[(u64, Key, Mode)]) -> Result<(), Refusal>
         ensures rebuilt { OnOk result (IsRebuilt locks.now self.new) }
         ensures refused { IfErr result (λ refusal. refusal ≡ Refusal.NoMemory) }

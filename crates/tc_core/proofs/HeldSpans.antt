@@ -21,15 +21,12 @@ use Rattle.tc_core.specs.OpenTxns.{find, replace, without}
 use Rattle.tc_core.specs.Locking.{op_spans, held_spans, is_holder, is_listed, is_for_change, is_changing}
 use Rattle.tc_core.proofs.Finding.{find_here, find_there, replaced_same, replaced_other, without_same, without_other}
 
--- a key conflicts with itself
+-- a key stands in its own span
 pub within_itself : (k : Bytes) → is_within (at_key Exclusive k) k ≡ true
 within_itself k =
     let same : key_cmp k k ≡ Equal = tied_itself nat_list_cmp_total k in
     let below = key_cmp-beginning k (0 ∷ []) (λ e. cc) in
     ap (λ o. not (is_lt o) && is_lt (key_cmp k (k ++ 0 ∷ []))) same ∙ ap is_lt below
-
-pub conflicts_itself : (k : Bytes) → Conflict (at_key Exclusive k) (at_key Exclusive k)
-conflicts_itself k = (k, within_itself k, within_itself k, refl)
 
 -- what two operations of one key are held for, where that conflicts
 pub conflict_at : (o q : Op) → key_of o ≡ key_of q → do_conflict (mode_of o) (mode_of q) ≡ true

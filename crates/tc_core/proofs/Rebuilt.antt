@@ -28,12 +28,14 @@ use Rattle.tc_core.specs.Opening.{key_noted, spans_if}
 pub held_so : (o : Op) → mode_of (held_mode o) ≡ law.mode_of o
 held_so o = pick (is_add o)
   where
-    pick : (b : Bool) → mode_of (if b then held.Increment else held.Exclusive) ≡ (if b then law.Increment else law.Exclusive)
+    pick : (b : Bool)
+        → mode_of (if b then held.Increment else held.Exclusive) ≡ (if b then law.Increment else law.Exclusive)
     pick true = refl
     pick false = refl
 
 -- so the span that is taken for it is the one that it changes
-pub taken_span : (m : Mode) (k : Bytes) (o : Op) → m ≡ held_mode o → k ≡ key_of o → at_key (mode_of m) k ≡ changed_span o
+pub taken_span : (m : Mode) (k : Bytes) (o : Op) → m ≡ held_mode o → k ≡ key_of o
+    → at_key (mode_of m) k ≡ changed_span o
 taken_span m k o mode key =
     ap (λ x. at_key (mode_of x) k) mode ∙ ap (λ (x : Bytes). at_key (mode_of (held_mode o)) x) key
     ∙ ap (λ x. at_key x (key_of o)) (held_so o)

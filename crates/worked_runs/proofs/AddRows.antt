@@ -24,10 +24,6 @@ five_and_ten : summed (number 5) 10 ≡ Some (number 15)
 unfolding summed amount_in amount_bytes
 five_and_ten = refl
 
-five_and_three : summed (number 5) 3 ≡ Some (number 8)
-unfolding summed amount_in amount_bytes
-five_and_three = refl
-
 fifteen_and_three : summed (number 15) 3 ≡ Some (number 18)
 unfolding summed amount_in amount_bytes
 fifteen_and_three = refl

@@ -30,7 +30,8 @@ returns-in-Checkpoint-clause-index c =
           c.answered_from-index.result;
     })
     c.in_ok-accept.ensures.records c.len-2.ensures.count c.requires.index (c.fits.ensures.0 c.if-not-fits.false)
-    c.in_ok-follow.ensures.open c.in_ok-follow.ensures.holders c.in_ok-follow.ensures.adders c.answered_from-index.ensures.is
+    c.in_ok-follow.ensures.open c.in_ok-follow.ensures.holders c.in_ok-follow.ensures.adders
+    c.answered_from-index.ensures.is
 
 pub returns-in_default : goal.returns-in_default
 returns-in_default c = record {

@@ -18,7 +18,8 @@ returns-else-is_add c =
     ∙ sym c.holder_agrees.ensures ∙ c.if-holder_agrees.true in
     let plain : is_add o ≡ false = sym c.is_add.ensures ∙ c.if-is_add.false in
     let adders : c.adders_agree.result ≡ all =
-    c.adders_agree.ensures ∙ ap (λ (k : Bytes). list_all (agrees index t) (adders_of index k)) c.key-else-is_add.ensures in
+    c.adders_agree.ensures
+    ∙ ap (λ (k : Bytes). list_all (agrees index t) (adders_of index k)) c.key-else-is_add.ensures in
     let e : is_free index t o ≡ c.adders_agree.result =
     ap (λ b. b && (is_add o || all)) holder ∙ ap (λ b. b || all) plain ∙ sym adders in
     let P : Bool → Type 0 = λ b. IsTrue b ↔ IsKeyFree c.args.frames.now.records t o in

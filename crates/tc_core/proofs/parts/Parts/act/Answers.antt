@@ -63,8 +63,8 @@ untake-requires g c =
 
 left : (g : _) (c : goal.After-untake g) → c.untake.new.self ≡ c.args.self.now.locks
 left g c =
-    untaken c.args.self.now.locks c.take.new.locks c.args.txn (at_key (mode_of c.mode_for.result) c.copied.result) c.requires.locks.table
-    c.in_ok-take.ensures.taken
+    untaken c.args.self.now.locks c.take.new.locks c.args.txn (at_key (mode_of c.mode_for.result) c.copied.result)
+    c.requires.locks.table c.in_ok-take.ensures.taken
     c.untake.new.self c.untake.ensures
 
 pub returns-in-Err-clause-kept : goal.returns-in-Err-clause-kept
