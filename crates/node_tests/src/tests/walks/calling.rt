@@ -1,4 +1,5 @@
 //! What each call of a client answers.
+use super::holds::Beside;
 use super::model::Model;
 use super::open::{Doing, Open};
 use super::span::Span;
@@ -60,10 +61,11 @@ impl Model {
         Ok(Out::Begun(next))
     }
 
-    /// A transaction holds the key of each operation alone, whatever is answered.
+    /// A transaction holds the key of each operation, whatever is answered: alone, or with others that add.
     fn act(&mut self, txn: u64, op: &Op, next: u64) -> Result<Out, Refusal> {
         self.idle(txn)?;
-        self.holds.take(txn, Span::Key(op.key().copied()), true)?;
+        self.holds
+            .take(txn, Span::Key(op.key().copied()), Beside::of(op))?;
         self.lines.add(next, txn, op)?;
         self.goes_on(txn, Doing::WaitsForAnswer);
         Ok(Out::Logged(next))
@@ -74,7 +76,7 @@ impl Model {
             return Err(Refusal::BadRange);
         }
         self.idle(txn)?;
-        self.holds.take(txn, span.copied(), false)?;
+        self.holds.take(txn, span.copied(), Beside::Readers)?;
         self.goes_on(txn, Doing::Reads(span));
         self.reads = self.reads.saturating_add(1);
         Ok(Out::Asked(self.reads))

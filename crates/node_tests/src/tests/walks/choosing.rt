@@ -44,14 +44,25 @@ impl Chooser {
         Key::new(&[b'a' + (self.below(12) % 12) as u8])
     }
 
+    /// A value of one digit, or a number.
+    fn value(&mut self) -> Result<Value, Refusal> {
+        let drawn = self.below(10);
+        if self.below(3) == 0 {
+            Value::new(&[b'0' + (drawn % 10) as u8])
+        } else {
+            Value::new(&drawn.to_be_bytes())
+        }
+    }
+
     fn op(&mut self) -> Result<Op, Refusal> {
         let key = self.key()?;
-        let value = Value::new(&[b'0' + (self.below(10) % 10) as u8])?;
-        Ok(match self.below(4) {
-            0 => Op::Insert(key, value),
-            1 => Op::Update(key, value),
-            2 => Op::Upsert(key, value),
-            _ => Op::Delete(key),
+        Ok(match self.below(10) {
+            0 => Op::Insert(key, self.value()?),
+            1 => Op::Update(key, self.value()?),
+            2 | 3 => Op::Upsert(key, self.value()?),
+            4 => Op::Delete(key),
+            5 => Op::Add(key, u64::MAX - self.below(3)),
+            _ => Op::Add(key, self.below(1000)),
         })
     }
 

@@ -1,4 +1,5 @@
 //! What becomes of clients when the transaction component crashes.
+use super::holds::Beside;
 use super::kept::{has_committed, losers};
 use super::model::{Model, Service};
 use super::span::Span;
@@ -34,7 +35,8 @@ impl Model {
         if let Record::Op { txn, op, .. } = record
             && self.losers.contains(txn)
         {
-            self.holds.add(*txn, Span::Key(op.key().copied()), true)?;
+            self.holds
+                .add(*txn, Span::Key(op.key().copied()), Beside::of(op))?;
         }
         Ok(())
     }

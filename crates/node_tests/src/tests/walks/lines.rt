@@ -43,6 +43,35 @@ impl Lines {
         Ok(())
     }
 
+    /// The transaction and the operation that were logged last.
+    pub fn last(&self) -> Option<(u64, &Op)> {
+        let line = self.lines.last()?;
+        Some((line.txn, &line.op))
+    }
+
+    /// The operation that the transaction waits for was done before an earlier one on its key.
+    pub fn overtakes(&self, txn: u64) -> bool {
+        let mut earlier = false;
+        for line in self.lines.iter().rev() {
+            if line.answered {
+                continue;
+            }
+            if line.txn == txn {
+                earlier = self.has_earlier(line);
+            }
+        }
+        earlier
+    }
+
+    fn has_earlier(&self, later: &Line) -> bool {
+        for line in &self.lines {
+            if !line.answered && line.number < later.number && line.op.key() == later.op.key() {
+                return true;
+            }
+        }
+        false
+    }
+
     /// The operations above this number were never logged.
     pub fn forget(&mut self, above: u64) {
         self.lines.retain(|line| line.number <= above);
