@@ -9,6 +9,7 @@ pub mod Replied
 pub mod Rounds
 pub mod RoundsLeft
 pub mod Shares
+pub mod Telling
 pub mod Totals
 pub mod TxnRounds
 pub mod Wants

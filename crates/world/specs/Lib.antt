@@ -3,6 +3,7 @@ pub mod Node
 pub mod Messages
 pub mod Kept
 pub mod Simulation
+pub mod Stepping
 pub mod Seen
 pub mod Sent
 pub mod SentReads

@@ -359,9 +359,3 @@ StepsTo old (event.CrashTc frames bytes) output new = CrashesTcTo old frames byt
 StepsTo old event.RestartTc output new = RestartsTcTo old output new
 StepsTo old (event.CrashDc frames bytes) output new = CrashesDcTo old frames bytes output new
 StepsTo old event.RestartDc output new = RestartsDcTo old output new
-
--- events with their outputs, one after another
-abbrev pub Chain : NodeView → List Event → List Out → NodeView → Type 0
-Chain w [] [] new = new ≡ w
-Chain w (e ∷ es) (o ∷ os) new = (mid : NodeView) × StepsTo w e o mid × Chain mid es os new
-Chain w _ _ new = ⊥

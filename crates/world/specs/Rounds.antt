@@ -16,6 +16,7 @@ use Rattle.world.specs.declared.event.Out.TheVariants as out
 use Rattle.world.specs.declared.round.Round.{Round}
 use Rattle.world.specs.declared.round.Round.TheVariants as round
 use Rattle.world.specs.Node.{NodeView, AreUp, StepsTo}
+use Rattle.world.specs.Stepping.{IsStep, TellsOn}
 use Rattle.world.specs.Simulation.{IsSettled, AreUnrolled}
 use Rattle.world.specs.Bound.{most_rounds}
 
@@ -133,13 +134,13 @@ IsDone _ = Unit {0}
 -- events with their outputs, one after another, none refused
 abbrev pub Plays : NodeView → List Event → List Out → NodeView → Type 0
 Plays w [] [] new = new ≡ w
-Plays w (e ∷ es) (o ∷ os) new = (mid : NodeView) × StepsTo w e o mid × IsDone o × Plays mid es os new
+Plays w (e ∷ es) (o ∷ os) new = (mid : NodeView) × IsStep w e o mid × IsDone o × Plays mid es os new
 Plays w _ _ new = ⊥
 
 -- the same, until room for an output or an event is refused
 abbrev pub StopsAt : NodeView → List Event → List Out → Refusal → NodeView → Type 0
-StopsAt w (e ∷ es) [] r new = ((r ≡ NoMemory) × (new ≡ w)) ⊎ StepsTo w e (out.Refused r) new
-StopsAt w (e ∷ es) (o ∷ os) r new = (mid : NodeView) × StepsTo w e o mid × IsDone o × StopsAt mid es os r new
+StopsAt w (e ∷ es) [] r new = ((r ≡ NoMemory) × (new ≡ w)) ⊎ IsStep w e (out.Refused r) new
+StopsAt w (e ∷ es) (o ∷ os) r new = (mid : NodeView) × IsStep w e o mid × IsDone o × StopsAt mid es os r new
 StopsAt w _ _ r new = ⊥
 
 -- the events were done, and their outputs stand after those before
@@ -200,17 +201,17 @@ IsAllowed None n = Unit {0}
 IsAllowed (Some most) n = n ≤ most
 
 -- settling plays rounds until none is left, within the bound; or as many as it may, which is less; or a round
--- stopped
+-- stopped. However it ends, what clients were told by then is what some list machine goes on by
 abbrev pub Settles : NodeView → Option ℕ → List Out → List Out → Result Bool Refusal → NodeView → Type 0
 Settles old most before after (Ok true) new =
     (p : Played old before after new) × IsAllowed most (length p.rounds) × (length p.rounds ≤ most_rounds old.tc.log)
-    × IsAtRest new
+    × IsAtRest new × TellsOn old p.outs new
 Settles old most before after (Ok false) new =
     (p : Played old before after new) × (most ≡ Some (length p.rounds)) × (length p.rounds < most_rounds old.tc.log)
-    × ((r : Round) × IsNext new r)
+    × ((r : Round) × IsNext new r) × TellsOn old p.outs new
 Settles old most before after (Err r) new =
     (b : Broken old before after r new) × IsAllowed most (length b.rounds.rounds + 1)
-    × (length b.rounds.rounds < most_rounds old.tc.log)
+    × (length b.rounds.rounds < most_rounds old.tc.log) × TellsOn old (b.rounds.outs ++ b.stopped.outs) new
 
 -- one round less is left to play
 abbrev pub fewer : Option ℕ → Option ℕ

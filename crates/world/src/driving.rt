@@ -4,7 +4,7 @@ ghost use Rattle.history.specs.History.{plain};
 ghost use Rattle.history.specs.ListMachine.{Machine};
 ghost use Rattle.btree.specs.Leaves.{rows_of};
 ghost use Rattle.dc_core.specs.DcView.{leaves};
-ghost use Rattle.world.specs.Node.{Chain};
+ghost use Rattle.world.specs.Stepping.{Chain};
 ghost use Rattle.world.specs.Simulation.{LeadsAll, Stands, IsSettled};
 
 use crate::event::{Event, Out};

@@ -7,8 +7,9 @@ ghost use Rattle.page.specs.Leaf.{first};
 ghost use Rattle.btree.specs.Leaves.{rows_of};
 ghost use Rattle.dc_core.specs.DcView.{leaves};
 ghost use Rattle.tc_core.specs.Causes.{begin_refusal};
-ghost use Rattle.world.specs.Node.{fresh_node, StepsTo, if_up};
-ghost use Rattle.world.specs.Simulation.{Stands, Leads};
+ghost use Rattle.world.specs.Node.{fresh_node, if_up};
+ghost use Rattle.world.specs.Simulation.{Stands};
+ghost use Rattle.world.specs.Stepping.{IsStep};
 ghost use Rattle.world.specs.Kept.{IsKept};
 ghost use Rattle.world.specs.Promises.{Promises};
 ghost use Rattle.world.specs.Rounds.{IsNext, IsAtRest, AreApart, round_for, recovery_round};
@@ -63,10 +64,10 @@ impl World {
     }
 
     /// One event. What it came to and what it left are what the components' contracts say. Whatever list machine the
-    /// node stood for, it leads from there to one that the node stands for then.
+    /// node stood for, it leads from there to one that the node stands for then. What holds of a node at every moment
+    /// holds after it too.
     pub fn step(&mut self, event: &Event) -> Out
-        ensures step { StepsTo self.old event.now result self.new }
-        ensures leads { Leads self.old event.now result self.new }
+        ensures { IsStep self.old event.now result self.new }
     {
         self.node.step(event)
     }

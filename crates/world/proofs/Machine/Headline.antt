@@ -36,7 +36,8 @@ use Rattle.world.specs.declared.event.Event.{Event}
 use Rattle.world.specs.declared.event.Event.TheVariants as event
 use Rattle.world.specs.declared.event.Out.{Out}
 use Rattle.world.specs.declared.event.Out.TheVariants as out
-use Rattle.world.specs.Node.{NodeView, with_dc, StepsTo, IfUp, IfTcUp, IfDcUp, down_refusal, ServesTo, Served, PartsTo, JoinsTo, KeepsUpTo, WritesTo, CrashesDcTo, RestartsDcTo, Chain, fresh_node}
+use Rattle.world.specs.Node.{NodeView, with_dc, StepsTo, IfUp, IfTcUp, IfDcUp, down_refusal, ServesTo, Served, PartsTo, JoinsTo, KeepsUpTo, WritesTo, CrashesDcTo, RestartsDcTo, fresh_node}
+use Rattle.world.specs.Stepping.{IsStep, Chain}
 use Rattle.world.specs.Kept.{IsKept, IsSent, IsAnsweredTo}
 use Rattle.world.specs.Simulation.{StepsIf, lines_of, Happens, Run, Leads, LeadsAll, Stands}
 use Rattle.world.proofs.Invariant.CallsKeep.{fresh_tc}
@@ -312,9 +313,9 @@ leads_more old es i os mid e o new lt at all one =
 
 -- a chain too
 chain_push : (w : NodeView) (es : List Event) (os : List Out) (mid : NodeView) (e : Event) (o : Out) (new : NodeView)
-    → Chain w es os mid → StepsTo mid e o new
+    → Chain w es os mid → IsStep mid e o new
     → Chain w (es ++ e ∷ []) (os ++ o ∷ []) new
-chain_push w [] [] mid e o new chain step = let P : NodeView → Type 0 = λ x. StepsTo x e o new in
+chain_push w [] [] mid e o new chain step = let P : NodeView → Type 0 = λ x. IsStep x e o new in
     (new, subst P chain step, refl)
 chain_push w [] (p ∷ os) mid e o new chain step = absurd chain
 chain_push w (d ∷ es) [] mid e o new chain step = absurd chain
@@ -323,7 +324,7 @@ chain_push w (d ∷ es) (p ∷ os) mid e o new chain step =
 
 pub chain_more : (w : NodeView) (es : List Event) (i : ℕ) (os : List Out) (mid : NodeView) (e : Event) (o : Out)
     (new : NodeView)
-    → i < length es → e ≡ get_or es i e → Chain w (take i es) os mid → StepsTo mid e o new
+    → i < length es → e ≡ get_or es i e → Chain w (take i es) os mid → IsStep mid e o new
     → Chain w (take (i + 1) es) (os ++ o ∷ []) new
 chain_more w es i os mid e o new lt at chain step =
     rw (take_more es i e lt, ← at) (chain_push w (take i es) os mid e o new chain step)

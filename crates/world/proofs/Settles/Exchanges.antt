@@ -16,6 +16,7 @@ use Rattle.world.specs.declared.event.Out.{Out}
 use Rattle.world.specs.declared.event.Out.TheVariants as out
 use Rattle.world.specs.Messages.{message_at}
 use Rattle.world.specs.Node.{NodeView, Sends, LacksRoom, is_replied_to, Served, ServesTo, AreUp, IfTcUp, IfDcUp, StepsTo, Taken, TakesTo}
+use Rattle.world.specs.Stepping.{IsStep}
 use Rattle.world.specs.Rounds.{IsDone, Plays, StopsAt}
 use Rattle.world.proofs.Invariant.ByNumber.{last_at}
 
@@ -142,17 +143,17 @@ rest_of : (w : NodeView) (tc : TcView) (q : Request) (os : List Out) (new : Node
 rest_of w tc q [] new up has h = absurd h
 rest_of w tc q (o ∷ []) new up has h = absurd h.3
 rest_of w tc q (o ∷ p ∷ r ∷ os) new up has h = absurd h.3.3
-rest_of w tc q (o ∷ p ∷ []) new up has h = by o (MatchBool-at_true _ _ up.dc h.1) h.2
+rest_of w tc q (o ∷ p ∷ []) new up has h = by o (MatchBool-at_true _ _ up.dc h.1.step) h.2
   where
     rest : (mid : NodeView) → Type 0
     rest mid =
-        (last : NodeView) × IfTcUp mid p last (TakesTo mid (length w.replies + 1) p last) × IsDone p × (new ≡ last)
+        (last : NodeView) × IsStep mid (event.Reply (length w.replies + 1)) p last × IsDone p × (new ≡ last)
 
     by : (o : Out) → ServesTo (asked w tc q) (length w.requests + 1) o h.0 → IsDone o → Exchanged w tc q new
     by (out.Replied j) s d =
         let served = served_last w tc q (Ok (Some s.0)) h.0.dc s.1 in
         let last = subst rest s.3 h.3 in
-        let t = took w tc q h.0.dc s.0 p last.0 (MatchBool-at_true _ _ up.tc last.1) last.2 in
+        let t = took w tc q h.0.dc s.0 p last.0 (MatchBool-at_true _ _ up.tc last.1.step) last.2 in
         record {
           dc = h.0.dc;
           reply = s.0;
@@ -206,21 +207,21 @@ stops_of : (w : NodeView) (tc : TcView) (q : Request) (os : List Out) (r : Refus
     → StopsAt (asked w tc q) (event.Request (length w.requests + 1) ∷ event.Reply (length w.replies + 1) ∷ []) os r new
     → Stops w tc q r
 stops_of w tc q [] r new up has (inl h) = inl h.0
-stops_of w tc q [] r new up has (inr refused) = unserved w tc q r new (MatchBool-at_true _ _ up.dc refused)
+stops_of w tc q [] r new up has (inr refused) = unserved w tc q r new (MatchBool-at_true _ _ up.dc refused.step)
 stops_of w tc q (o ∷ p ∷ os) r new up has h = absurd h.3.3
-stops_of w tc q (o ∷ []) r new up has h = by o (MatchBool-at_true _ _ up.dc h.1) h.2
+stops_of w tc q (o ∷ []) r new up has h = by o (MatchBool-at_true _ _ up.dc h.1.step) h.2
   where
     rest : (mid : NodeView) → Type 0
     rest mid =
         ((r ≡ NoMemory) × (new ≡ mid))
-        ⊎ IfTcUp mid (out.Refused r) new (TakesTo mid (length w.replies + 1) (out.Refused r) new)
+        ⊎ IsStep mid (event.Reply (length w.replies + 1)) (out.Refused r) new
 
     by : (o : Out) → ServesTo (asked w tc q) (length w.requests + 1) o h.0 → IsDone o → Stops w tc q r
     by (out.Replied j) s d =
         let served = served_last w tc q (Ok (Some s.0)) h.0.dc s.1 in
         elim (subst rest s.3 h.3) [
           | inl memory ↦ inl memory.0
-          | inr refused ↦ elim (MatchBool-at_true _ _ up.tc refused) [
+          | inr refused ↦ elim (MatchBool-at_true _ _ up.tc refused.step) [
             | inl left ↦ elim left.0
                 [ inl none ↦ absurd (no_message w.replies s.0 none.1) | inr unread ↦ inl unread.memory ]
             | inr found ↦

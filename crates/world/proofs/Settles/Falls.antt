@@ -490,16 +490,16 @@ falls old new r [] k next h = none r h
     none round.Force h = absurd h
 falls old new round.RestartDc (o ∷ []) k next h =
     let P : NodeView → Type 0 = λ x. rounds_left x < rounds_left old in
-    subst P (sym h.3) (falls_restarted old h.0 o next h.1 h.2)
+    subst P (sym h.3) (falls_restarted old h.0 o next h.1.step h.2)
 falls old new round.RestartDc (o ∷ p ∷ os) k next h = absurd h.3
 falls old new round.RestartTc (o ∷ []) k next h =
     let P : NodeView → Type 0 = λ x. rounds_left x < rounds_left old in
-    subst P (sym h.3) (falls_tc_restarted old h.0 o next.1 h.1 h.2)
+    subst P (sym h.3) (falls_tc_restarted old h.0 o next.1 h.1.step h.2)
 falls old new round.RestartTc (o ∷ p ∷ os) k next h = absurd h.3
 falls old new round.Connect (o ∷ os) k next h =
-    falls_connect_round old new h.0 o os k next.0 next.1 (MatchBool-at_true _ _ next.0.tc h.1) h.2 h.3
+    falls_connect_round old new h.0 o os k next.0 next.1 (MatchBool-at_true _ _ next.0.tc h.1.step) h.2 h.3
 falls old new round.Recover (o ∷ os) k next h =
-    let step = MatchBool-at_true _ _ next.0.tc h.1 in
+    let step = MatchBool-at_true _ _ next.0.tc h.1.step in
     elim (recovering_at old old.tc.phase refl next.1) [
       | inl at ↦ falls_recover_round old new h.0 o os at.0 at.1 k
           (record { up = next.0; on = ap is_apart at.2; session = next.2 }) at.2 step h.2 h.3
@@ -507,22 +507,22 @@ falls old new round.Recover (o ∷ os) k next h =
           (record { up = next.0; on = ap is_apart at.1; session = next.2 }) at.1 step h.2 h.3
     ]
 falls old new round.Lose (o ∷ []) k next h =
-    let lost = lose_left old h.0 o next.undoing (MatchBool-at_true _ _ next.up.tc h.1) h.2 in
+    let lost = lose_left old h.0 o next.undoing (MatchBool-at_true _ _ next.up.tc h.1.step) h.2 in
     falls_alone old new h.0 (undoing_together old None next) lost.0 h.3 lost.1
 falls old new round.Lose (o ∷ p ∷ os) k next h = absurd h.3
 falls old new (round.Exchange t) (o ∷ os) k next h =
-    falls_exchange_round old new h.0 o os t k next.0 (MatchBool-at_true _ _ next.0.up.tc h.1) h.2 h.3
+    falls_exchange_round old new h.0 o os t k next.0 (MatchBool-at_true _ _ next.0.up.tc h.1.step) h.2 h.3
 falls old new (round.Undo t) (o ∷ []) k next h =
-    let step = MatchBool-at_true _ _ next.0.up.tc h.1 in
+    let step = MatchBool-at_true _ _ next.0.up.tc h.1.step in
     falls_alone old new h.0 (serving_together old next.0) (undo_left old h.0 t o step h.2) h.3
     (falls_undo old h.0 t o k next.0.running next.1 step h.2)
 falls old new (round.Undo t) (o ∷ p ∷ os) k next h = absurd h.3
 falls old new round.Force (o ∷ []) k (inl next) h =
-    let step = MatchBool-at_true _ _ next.0.up.tc h.1 in
+    let step = MatchBool-at_true _ _ next.0.up.tc h.1.step in
     falls_alone old new h.0 (serving_together old next.0) (force_left old h.0 o step h.2) h.3
     (falls_force old h.0 o k next.0.running next.1 step h.2)
 falls old new round.Force (o ∷ []) k (inr next) h =
-    let step = MatchBool-at_true _ _ next.1.up.tc h.1 in
+    let step = MatchBool-at_true _ _ next.1.up.tc h.1.step in
     falls_alone old new h.0 (undoing_together old (Some next.0) next.1) (force_left old h.0 o step h.2) h.3
     (falls_force_undoing old h.0 next.0 o k next.1.undoing next.2 step h.2)
 falls old new round.Force (o ∷ p ∷ os) k next h = absurd h.3

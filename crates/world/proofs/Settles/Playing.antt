@@ -8,7 +8,9 @@ use Rattle.world.specs.declared.event.Event.TheVariants as event
 use Rattle.world.specs.declared.event.Out.{Out}
 use Rattle.world.specs.declared.event.Out.TheVariants as out
 use Rattle.world.specs.declared.round.Round.{Round}
-use Rattle.world.specs.Node.{NodeView, StepsTo}
+use Rattle.world.specs.Node.{NodeView}
+use Rattle.world.specs.Stepping.{IsStep, TellsOn}
+use Rattle.world.proofs.Settles.Telling.{tells_rounds, tells_stopped, tells_then}
 use Rattle.world.specs.Kept.{IsKept}
 use Rattle.world.specs.Rounds.{IsDone, Plays, StopsAt, Performed, Stopped, IsExchange, IsNext, events_of, Rounds, Played, Broken, IsAllowed, fewer}
 use Rattle.world.specs.Bound.{rounds_left, most_rounds}
@@ -47,7 +49,7 @@ done_if (out.CheckpointLogged n) h = tt
 done_if (out.Lost n) h = tt
 
 -- one event
-pub one_done : (old new : NodeView) (e : Event) (o : Out) (before after : List Out) → StepsTo old e o new → IsDone o
+pub one_done : (old new : NodeView) (e : Event) (o : Out) (before after : List Out) → IsStep old e o new → IsDone o
     → after ≡ before ++ o ∷ [] → Performed old (e ∷ []) before after new
 one_done old new e o before after step done appended =
     record { outs = o ∷ []; appended = appended; steps = (new, step, done, refl) }
@@ -114,7 +116,7 @@ sent_number w mid e before between asks h = by h.outs h.steps
     by : (outs : List Out) → Plays w (e ∷ []) outs mid → length mid.requests ≡ length w.requests + 1
     by [] steps = absurd steps
     by (o ∷ p ∷ os) steps = absurd steps.3
-    by (o ∷ []) steps = ap (λ (x : NodeView). length x.requests) steps.3 ∙ asks.sent o steps.0 steps.1 steps.2
+    by (o ∷ []) steps = ap (λ (x : NodeView). length x.requests) steps.3 ∙ asks.sent o steps.0 steps.1.step steps.2
 
 pub replied_number : (w mid after : NodeView) (e : Event) (a b c : List Out) → IsExchange w e
     → Performed w (e ∷ []) a b mid → Performed mid (event.Request (length w.requests + 1) ∷ []) b c after
@@ -128,9 +130,9 @@ replied_number w mid after e a b c asks h k = by h.outs h.steps k.outs k.steps
     by (o ∷ []) first [] next = absurd next
     by (o ∷ []) first (p ∷ q ∷ ps) next = absurd next.3
     by (o ∷ []) first (p ∷ []) next =
-        let P : NodeView → Type 0 = λ x. StepsTo x (event.Request (length w.requests + 1)) p next.0 in
+        let P : NodeView → Type 0 = λ x. IsStep x (event.Request (length w.requests + 1)) p next.0 in
         ap (λ (x : NodeView). length x.replies) next.3
-        ∙ asks.replied o p first.0 next.0 first.1 first.2 (subst P first.3 next.1) next.2
+        ∙ asks.replied o p first.0 next.0 first.1.step first.2 (subst P first.3 next.1).step next.2
 
 -- as many rounds are left to play
 abbrev pub LeftAfter : Option ℕ → ℕ → Option ℕ → Type 0
@@ -227,7 +229,7 @@ pub broken : (old now new : NodeView) (most left : Option ℕ) (before after gro
     → SoFar old most before left after now → (left ≡ Some 0 → ⊥) → IsKept now
     → IsNext now r → Stopped now (events_of now r) after grown refusal new → rounds_left old < most_rounds old.tc.log
     → (b : Broken old before grown refusal new) × IsAllowed most (length b.rounds.rounds + 1)
-    × (length b.rounds.rounds < most_rounds old.tc.log)
+    × (length b.rounds.rounds < most_rounds old.tc.log) × TellsOn old (b.rounds.outs ++ b.stopped.outs) new
 broken old now new most left before after grown r refusal far some kept next h bound = (
   record {
     last = now;
@@ -240,4 +242,7 @@ broken old now new most left before after grown r refusal far some kept next h b
   },
   one_allowed most left (length far.played.rounds) far.left_is some,
   omega (arith, far.count, bound),
+  tells_then old now new far.played.outs h.outs
+      (tells_rounds old now far.played.rounds far.played.outs far.played.played)
+      (tells_stopped now new r h.outs refusal h.stops),
 )

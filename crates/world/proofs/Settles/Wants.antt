@@ -373,39 +373,39 @@ pub wants : (old new : NodeView) (round : Round) (outs : List Out) (r : Refusal)
     → StopsAt old (events_of old round) outs r new → IsWant r
 wants old new round.RestartDc [] r k next (inl h) = inl h.0
 wants old new round.RestartDc [] r k next (inr h) =
-    elim h.0.2.0 [ inl memory ↦ inl memory | inr device ↦ inr (inr device) ]
+    elim h.step.0.2.0 [ inl memory ↦ inl memory | inr device ↦ inr (inr device) ]
 wants old new round.RestartDc (o ∷ os) r k next h = absurd h.3
 wants old new round.RestartTc [] r k next (inl h) = inl h.0
 wants old new round.RestartTc [] r k next (inr h) =
-    elim h.0.1 [ inl memory ↦ inl memory | inr device ↦ inr (inr device) ]
+    elim h.step.0.1 [ inl memory ↦ inl memory | inr device ↦ inr (inr device) ]
 wants old new round.RestartTc (o ∷ os) r k next h = absurd h.3
 wants old new round.Connect [] r k next (inl h) = inl h.0
-wants old new round.Connect [] r k next (inr h) = reconnect_want old.tc r new.tc (MatchBool-at_true _ _ next.0.tc h).0
+wants old new round.Connect [] r k next (inr h) = reconnect_want old.tc r new.tc (MatchBool-at_true _ _ next.0.tc h.step).0
 wants old new round.Connect (o ∷ os) r k next h =
-    want_connect old new h.0 o os r k next.0 (MatchBool-at_true _ _ next.0.tc h.1) h.2 h.3
+    want_connect old new h.0 o os r k next.0 (MatchBool-at_true _ _ next.0.tc h.1.step) h.2 h.3
 wants old new round.Recover [] r k next (inl h) = inl h.0
 wants old new round.Recover [] r k next (inr h) =
-    recover_want old r new (MatchBool-at_true _ _ next.0.tc h) (may_recover old next.1)
+    recover_want old r new (MatchBool-at_true _ _ next.0.tc h.step) (may_recover old next.1)
 wants old new round.Recover (o ∷ os) r k next h =
-    let step = MatchBool-at_true _ _ next.0.tc h.1 in
+    let step = MatchBool-at_true _ _ next.0.tc h.1.step in
     elim (recovering_at old old.tc.phase refl next.1) [
       | inl at ↦ want_recover old new h.0 o os r at.0 at.1 k next.0 at.2 next.2 step h.2 h.3
       | inr at ↦ want_resend old new h.0 o os r at.0 k next.0 at.1 next.2 step h.2 h.3
     ]
 wants old new round.Lose [] r k next (inl h) = inl h.0
-wants old new round.Lose [] r k next (inr h) = lose_want old r new next.undoing (MatchBool-at_true _ _ next.up.tc h)
+wants old new round.Lose [] r k next (inr h) = lose_want old r new next.undoing (MatchBool-at_true _ _ next.up.tc h.step)
 wants old new round.Lose (o ∷ os) r k next h = absurd h.3
 wants old new (round.Exchange t) [] r k next (inl h) = inl h.0
 wants old new (round.Exchange t) [] r k next (inr h) =
     no_cause (resend_refusal old.tc t) r (resends_any old.tc t k.tc next.0.running next.1)
-    (MatchBool-at_true _ _ next.0.up.tc h).0
+    (MatchBool-at_true _ _ next.0.up.tc h.step).0
 wants old new (round.Exchange t) (o ∷ os) r k next h =
-    want_exchange old new h.0 o os r t k next.0 (MatchBool-at_true _ _ next.0.up.tc h.1) h.2 h.3
+    want_exchange old new h.0 o os r t k next.0 (MatchBool-at_true _ _ next.0.up.tc h.1.step) h.2 h.3
 wants old new (round.Undo t) [] r k next (inl h) = inl h.0
 wants old new (round.Undo t) [] r k next (inr h) =
-    undo_want old.tc t r new.tc next.0.running next.1 (MatchBool-at_true _ _ next.0.up.tc h).0
+    undo_want old.tc t r new.tc next.0.running next.1 (MatchBool-at_true _ _ next.0.up.tc h.step).0
 wants old new (round.Undo t) (o ∷ os) r k next h = absurd h.3
 wants old new round.Force [] r k next (inl h) = inl h.0
-wants old new round.Force [] r k (inl next) (inr h) = inr (inr (MatchBool-at_true _ _ next.0.up.tc h).0.0)
-wants old new round.Force [] r k (inr next) (inr h) = inr (inr (MatchBool-at_true _ _ next.1.up.tc h).0.0)
+wants old new round.Force [] r k (inl next) (inr h) = inr (inr (MatchBool-at_true _ _ next.0.up.tc h.step).0.0)
+wants old new round.Force [] r k (inr next) (inr h) = inr (inr (MatchBool-at_true _ _ next.1.up.tc h.step).0.0)
 wants old new round.Force (o ∷ os) r k next h = absurd h.3

@@ -15,7 +15,7 @@ loop-event-preserved c = record {
   chain = rw c.in-Ok.ensures.items
       (chain_more c.args.world.now c.args.events.now c.loop-event.event-index c.loop-event.outs.items c.loop-event.world
       c.event-item.result c.step-out.result c.step-out.new.self
-      (omega arith) c.event-item.is c.loop-event.invariant.chain c.step-out.ensures.step);
+      (omega arith) c.event-item.is c.loop-event.invariant.chain c.step-out.ensures);
   run = rw c.in-Ok.ensures.items
       (leads_more c.args.world.now c.args.events.now c.loop-event.event-index c.loop-event.outs.items c.loop-event.world
       c.event-item.result c.step-out.result c.step-out.new.self

@@ -1,6 +1,6 @@
 use Rattle.std.proofs.Common.{◌≡◌, ◌≤◌, length, take, vec_len}
 use Rattle.std.specs.Vec.{vec_capacity}
-use Rattle.world.specs.Node.{Chain}
+use Rattle.world.specs.Stepping.{Chain}
 use Rattle.world.specs.Simulation.{LeadsAll}
 use Rattle.world.proofs.driving.drive.Given as goal
 

@@ -6,6 +6,6 @@ use Rattle.world.proofs.settling.perform.Goals as goal
 pub returns-in_default : goal.returns-in_default
 returns-in_default c =
     one_done c.args.world.now c.step.new.self c.args.event.now c.step.result c.args.out.now.items
-    c.push_reserved.new.self.items c.step.ensures.step
+    c.push_reserved.new.self.items c.step.ensures
     (done_if c.step.result c.in_default.not-Refused)
     (c.push_reserved.ensures.items ∙ ap (λ (xs : List Out). xs ++ c.step.result ∷ []) c.reserve.ensures.items)

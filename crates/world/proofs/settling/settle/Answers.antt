@@ -9,6 +9,7 @@ use Rattle.world.specs.Rounds.{IsNext, Settles}
 use Rattle.world.proofs.Settles.RoundsLeft.{rounds_bound}
 use Rattle.world.proofs.Settles.Falls.{falls, some_left}
 use Rattle.world.proofs.Settles.Playing.{none_yet, one_more, all_played, allowed, broken}
+use Rattle.world.proofs.Settles.Telling.{tells_rounds}
 use Rattle.world.proofs.settling.settle.Goals as goal
 
 pub loop-round-init : goal.loop-round-init
@@ -39,6 +40,7 @@ returns-then-eq c =
         rounds_bound c.args.world.now c.kept.ensures.kept.tc,
       ),
       (c.in-Some.round, next),
+      tells_rounds c.args.world.now c.loop-round.world far.played.rounds far.played.outs far.played.played,
     )
 
 -- the refusal of a round is handed on
@@ -84,4 +86,5 @@ returns c =
       allowed c.args.most c.loop-round.left (length far.played.rounds) far.left_is,
       omega (arith, far.count, rounds_bound c.args.world.now c.kept.ensures.kept.tc),
       c.in_default.ensures,
+      tells_rounds c.args.world.now c.loop-round.world far.played.rounds far.played.outs far.played.played,
     )

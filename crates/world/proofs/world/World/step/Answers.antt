@@ -7,8 +7,9 @@ invariant_of-self c =
     (follows (seen c.self.inside.node) (seen c.step.new.self) c.args.event.now c.step.result c.self.invariant
     c.step.ensures.tc c.step.ensures.dc c.step.ensures.step).kept
 
-pub returns-clause-leads : goal.returns-clause-leads
-returns-clause-leads c =
-    rw (← c.self.view_is)
-    (follows (seen c.self.inside.node) (seen c.step.new.self) c.args.event.now c.step.result c.self.invariant
-    c.step.ensures.tc c.step.ensures.dc c.step.ensures.step).leads
+pub returns : goal.returns
+returns c =
+    let all =
+    follows (seen c.self.inside.node) (seen c.step.new.self) c.args.event.now c.step.result c.self.invariant
+    c.step.ensures.tc c.step.ensures.dc c.step.ensures.step in
+    rw (← c.self.view_is) (record { step = c.step.ensures.step; leads = all.leads; kept = all.kept })
