@@ -8,9 +8,9 @@ use Rattle.world.specs.Node.{NodeView, StepsTo}
 use Rattle.world.specs.Kept.{IsKept}
 use Rattle.world.specs.Simulation.{Leads, Stands, told_committed}
 
--- what an event does, with its output: what the components' contracts say; it leads each list machine that the node stood
--- for to one that it stands for then; and what holds of a node at every moment holds after it. No state between two
--- events is any other than that
+-- what an event does, with its output: what the components' contracts say; it leads each list machine that the node
+-- stood for to one that it stands for then; and what holds of a node at every moment holds after it. No state between
+-- two events is any other than that
 pub record IsStep (old : NodeView) (e : Event) (o : Out) (new : NodeView) : Type 0 where
   pub step : StepsTo old e o new
   pub leads : Leads old e o new
@@ -38,6 +38,7 @@ abbrev pub told_by_all : List Out → List Line
 told_by_all [] = []
 told_by_all (o ∷ os) = told_by o ++ told_by_all os
 
--- whatever machine the node stood for, what clients were told by these outputs leads from it to one that it stands for then
+-- whatever machine the node stood for, what clients were told by these outputs leads from it to one that it stands for
+-- then
 abbrev pub TellsOn : NodeView → List Out → NodeView → Type 0
 TellsOn old os new = (m : Machine) → Stands old m → (n : Machine) × Steps m (told_by_all os) n × Stands new n

@@ -15,7 +15,7 @@ use Rattle.world.specs.declared.event.Event.TheVariants as event
 use Rattle.world.specs.declared.event.Out.{Out}
 use Rattle.world.specs.declared.event.Out.TheVariants as out
 use Rattle.world.specs.Messages.{message_at}
-use Rattle.world.specs.Node.{NodeView, Sends, LacksRoom, is_replied_to, Served, ServesTo, AreUp, IfTcUp, IfDcUp, StepsTo, Taken, TakesTo}
+use Rattle.world.specs.Node.{NodeView, Sends, LacksRoom, is_replied_to, Served, ServesTo, AreUp, IfDcUp, StepsTo, Taken, TakesTo}
 use Rattle.world.specs.Stepping.{IsStep}
 use Rattle.world.specs.Rounds.{IsDone, Plays, StopsAt}
 use Rattle.world.proofs.Invariant.ByNumber.{last_at}

@@ -1,5 +1,5 @@
 -- What clients are told while rounds are played leads each list machine on that the node stood for.
-use Rattle.std.proofs.Common.{◌≡◌, ℕ, List, [], ◌∷◌, ◌++◌, Option, refl, sym, ap, ◌∙◌, subst, inl, inr, append_assoc}
+use Rattle.std.proofs.Common.{◌≡◌, ℕ, List, [], ◌∷◌, ◌++◌, refl, sym, ap, ◌∙◌, subst, inl, inr, append_assoc}
 use Rattle.std.specs.List.{AllByRecursion}
 use Rattle.record_key.specs.declared.refusal.Refusal.{Refusal}
 use Rattle.history.specs.ListMachine.{Machine, Line, Steps}
@@ -112,7 +112,7 @@ all_of_settling w (round.Undo t) = (tt, tt)
 all_of_settling w round.Force = (tt, tt)
 
 -- lines, and lines after them
-steps_then : (m : Machine) (xs ys : List Line) (mid n : Machine) → Steps m xs mid → Steps mid ys n
+pub steps_then : (m : Machine) (xs ys : List Line) (mid n : Machine) → Steps m xs mid → Steps mid ys n
     → Steps m (xs ++ ys) n
 steps_then m [] ys mid n first rest = subst (λ x. Steps x ys n) first rest
 steps_then m (x ∷ xs) ys mid n first rest = (first.0, first.1, steps_then first.0 xs ys mid n first.2 rest)
