@@ -1,9 +1,17 @@
 #!/bin/sh
-# Runs the shell on each script of this folder and compares what it prints with the output beside the script.
-# Usage: examples/compare.sh PROGRAM, where PROGRAM is a built shell, as crates/undo_shell/out/undo_shell.
+# Compares each script of this folder and its output with the copy of it that the gate runs. Where a built shell is
+# named, as crates/undo_shell/out/undo_shell, runs that on each script too and compares what it prints.
+# Usage: examples/compare.sh [PROGRAM]
 folder=$(dirname "$0")
+copies=$folder/../crates/script_tests/data
 status=0
 for script in "$folder"/*.script; do
-    "$1" run < "$script" | diff - "${script%.script}.out" || { echo "$script differs"; status=1; }
+    name=$(basename "$script" .script)
+    for file in "$name.script" "$name.out"; do
+        cmp "$folder/$file" "$copies/$file" || status=1
+    done
+    if [ $# -gt 0 ]; then
+        "$1" run < "$script" | diff - "$folder/$name.out" || { echo "$script differs"; status=1; }
+    fi
 done
 exit $status

@@ -1,48 +1,21 @@
-//! A shell for the node: it reads a script and prints what its lines came to.
+//! The program round the shell: the command line, standard input and output, and the exit status.
 //!
-//! Knows: the grammar of scripts, the text of every answer, record, row, leaf and refusal, and the command line.
-//! Must not know: how the node keeps its records, its log or its messages.
-//! Promises its user that what is written is the text of the script that was read: a line's text is that
-//! of the node's own answer to it, nothing else is written, and the exit status says how the script ended.
+//! Knows: where the script comes from and where its text goes. Must not know: what a script says.
+//! Promises its user that the text of a script is written whole, or a beginning of it with exit status 3.
 #![tactic(auto)]
 
-mod answers;
-mod choose;
-mod components;
-mod label;
-mod leaves;
-mod line;
-mod line_result;
-mod logged;
-mod names;
-mod operations;
-mod outcome;
-mod parsing;
-mod pieces;
-mod printed;
-mod rows;
-mod run;
-mod script;
-mod shell;
-mod shown;
-mod stopping;
-mod told;
-mod words;
-
-use choose::Task;
 use clap::Error;
 use clap::error::ErrorKind;
+use node_shell::{DONE, FAILED, FAULT, Stopping, Task, choose, refusal_of, refuse, run};
 use record_key::Refusal;
-use run::{DONE, FAILED, FAULT};
 use std::io::{BufWriter, Write};
 use std::process::ExitCode;
 use std::{env, io};
-use stopping::Stopping;
 
 fn main(rt: HostRuntime) -> ExitCode {
     let status = match arguments(&rt) {
         Ok(words) => start(&rt, words.as_slice()),
-        Err(error) => run::refuse(&mut io::writer(&rt), run::refusal_of(&error), FAILED),
+        Err(error) => refuse(&mut io::writer(&rt), refusal_of(&error), FAILED),
     };
     ExitCode::from(status)
 }
@@ -54,7 +27,7 @@ fn arguments(rt: &HostRuntime) -> io::Result<Vec<String>> {
 
 /// Does what the command line asks for. Gives the exit status.
 fn start(rt: &HostRuntime, words: &[String]) -> u8 {
-    match choose::choose(rt.alloc(), words) {
+    match choose(rt.alloc(), words) {
         Ok(Task::Run) => run_script(rt),
         Err(fault) => explain(rt, &fault),
     }
@@ -64,9 +37,9 @@ fn start(rt: &HostRuntime, words: &[String]) -> u8 {
 /// after a write that failed.
 fn run_script(rt: &HostRuntime) -> u8 {
     let Ok(mut writer) = BufWriter::new(rt.alloc(), Stopping::new(io::writer(rt))) else {
-        return run::refuse(&mut io::writer(rt), Refusal::NoMemory, FAILED);
+        return refuse(&mut io::writer(rt), Refusal::NoMemory, FAILED);
     };
-    let status = run::run(rt.alloc(), &mut rt.reader(), &mut writer);
+    let status = run(rt.alloc(), &mut rt.reader(), &mut writer);
     match writer.flush() {
         Ok(()) => status,
         Err(_) => FAILED,
@@ -76,7 +49,7 @@ fn run_script(rt: &HostRuntime) -> u8 {
 /// Prints why nothing is run: help to standard output, a fault's text to standard error.
 fn explain(rt: &HostRuntime, fault: &Error) -> u8 {
     if fault.kind() == ErrorKind::OutOfMemory {
-        return run::refuse(&mut io::writer(rt), Refusal::NoMemory, FAILED);
+        return refuse(&mut io::writer(rt), Refusal::NoMemory, FAILED);
     }
     match fault.print(rt) {
         Ok(()) if fault.use_stderr() => FAULT,
@@ -84,6 +57,3 @@ fn explain(rt: &HostRuntime, fault: &Error) -> u8 {
         Err(_) => FAILED,
     }
 }
-
-#[cfg(test)]
-mod tests;

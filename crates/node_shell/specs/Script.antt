@@ -1,0 +1,251 @@
+-- The grammar of scripts, over their bytes.
+use Rattle.std.specs.Prelude.{ℕ, ◌+◌, ◌==◌, ◌&&◌, Bool, true, not, List, [], ◌∷◌, Option, Some, None, length, codes, bytes_eq, is_none, option_map, if◌then◌else◌}
+use Rattle.std.specs.List.{slice_split}
+use Rattle.world.specs.declared.event.Event.{Event}
+use Rattle.world.specs.declared.event.Event.TheVariants as event
+use Rattle.node_shell.specs.declared.line.Kind.{Kind}
+use Rattle.node_shell.specs.declared.line.Kind.TheVariants as kind
+use Rattle.node_shell.specs.declared.line.Call.{Call}
+use Rattle.node_shell.specs.declared.line.Call.TheVariants as call
+use Rattle.node_shell.specs.declared.line.LeafCall.{LeafCall}
+use Rattle.node_shell.specs.declared.line.LeafCall.TheVariants as leaf_call
+use Rattle.node_shell.specs.declared.line.Component.{Component}
+use Rattle.node_shell.specs.declared.line.Component.TheVariants as component
+use Rattle.node_shell.specs.declared.line.Part.{Part}
+use Rattle.node_shell.specs.declared.line.Part.TheVariants as part
+use Rattle.node_shell.specs.declared.line.Written.{Written}
+use Rattle.node_shell.specs.declared.line.Written.TheVariants as written
+use Rattle.node_shell.specs.declared.line.Line.{Line}
+use Rattle.node_shell.specs.declared.line.Line.TheVariants as line
+use Rattle.node_shell.specs.Words.{words_of, label_in, text_in, value_in, end_in, number_in, amount_in}
+
+-- what stands between the ends of lines, which are byte 10. A last end leaves an empty line, which is skipped
+abbrev pub lines_of : List ℕ → List (List ℕ)
+lines_of script = slice_split (λ b. b == 10) script
+
+-- what a line asks for
+pub data Command : Type 0 where
+  -- a transaction, to be named by this label
+  begins : List ℕ → Command
+  -- a write of this label's transaction, to a key, of a value
+  writes : List ℕ → Kind → List ℕ → List ℕ → Command
+  -- an increment of this label's transaction, at a key, by an amount
+  adds : List ℕ → List ℕ → ℕ → Command
+  -- the value at a key, for this label's transaction
+  gets : List ℕ → List ℕ → Command
+  -- the rows from a key on, below another or to the end, for this label's transaction
+  scans : List ℕ → List ℕ → Option (List ℕ) → Command
+  -- an event of this label's transaction
+  calls : List ℕ → Call → Command
+  -- what happens to the leaf that has a key
+  treats : LeafCall → List ℕ → Command
+  -- an event
+  steps : Event → Command
+  -- the node works, for so many rounds at most where there is a number
+  settles : Option ℕ → Command
+  -- the records are printed
+  tables : Command
+  shows : Part → Command
+
+-- a line of one word
+abbrev pub bare : List ℕ → Option Command
+bare name =
+    if bytes_eq name (codes "settle") then Some (settles None)
+    else (if bytes_eq name (codes "force") then Some (steps event.Force)
+    else (if bytes_eq name (codes "tend") then Some (steps event.Tend)
+    else (if bytes_eq name (codes "checkpoint") then Some (steps event.Checkpoint)
+    else (if bytes_eq name (codes "connect") then Some (steps event.Reconnect)
+    else (if bytes_eq name (codes "recover") then Some (steps event.Recover)
+    else (if bytes_eq name (codes "table") then Some tables
+    else (if bytes_eq name (codes "log") then Some (shows part.Log)
+    else (if bytes_eq name (codes "leaves") then Some (shows part.Leaves) else None))))))))
+
+-- the name of what happens to a label's transaction
+abbrev pub call_named : List ℕ → Option Call
+call_named name =
+    if bytes_eq name (codes "save") then Some call.Save
+    else (if bytes_eq name (codes "rollback") then Some call.Rollback
+    else (if bytes_eq name (codes "commit") then Some call.Commit
+    else (if bytes_eq name (codes "send") then Some call.Send
+    else (if bytes_eq name (codes "undo") then Some call.Undo else None))))
+
+-- a line of two words, the second a label
+abbrev pub with_label : List ℕ → Option (List ℕ) → Option Command
+with_label name None = None
+with_label name (Some label) =
+    if bytes_eq name (codes "begin") then Some (begins label) else option_map (calls label) (call_named name)
+
+-- a line of two words, the second a number
+abbrev pub with_number : List ℕ → Option ℕ → Option Command
+with_number name None = None
+with_number name (Some n) =
+    if bytes_eq name (codes "low") then Some (steps (event.LowWater n))
+    else (if bytes_eq name (codes "req") then Some (steps (event.Request n))
+    else (if bytes_eq name (codes "rep") then Some (steps (event.Reply n))
+    else (if bytes_eq name (codes "settle") then Some (settles (Some n)) else None)))
+
+-- the name of what happens to a leaf
+abbrev pub leaf_call_named : List ℕ → Option LeafCall
+leaf_call_named name =
+    if bytes_eq name (codes "split") then Some leaf_call.Split
+    else (if bytes_eq name (codes "merge") then Some leaf_call.Merge
+    else (if bytes_eq name (codes "flush") then Some leaf_call.Flush else None))
+
+-- a line of two words, the second the key of a leaf
+abbrev pub with_leaf : List ℕ → Option (List ℕ) → Option Command
+with_leaf name None = None
+with_leaf name (Some key) = option_map (λ c. treats c key) (leaf_call_named name)
+
+-- the component that a word names
+abbrev pub component_in : List ℕ → Option Component
+component_in word =
+    if bytes_eq word (codes "tc") then Some component.Tc
+    else (if bytes_eq word (codes "dc") then Some component.Dc else None)
+
+-- a component loses what isn't on its devices; of its log's records that aren't stable so many stay, and so many
+-- bytes of the next one
+abbrev pub crash_of : Component → ℕ → ℕ → Event
+crash_of component.Tc frames bytes = event.CrashTc frames bytes
+crash_of component.Dc frames bytes = event.CrashDc frames bytes
+
+-- a component is opened on its devices
+abbrev pub restart_of : Component → Event
+restart_of component.Tc = event.RestartTc
+restart_of component.Dc = event.RestartDc
+
+-- a line of two words, the second a component
+abbrev pub with_component : List ℕ → Option Component → Option Command
+with_component name None = None
+with_component name (Some c) = if bytes_eq name (codes "restart") then Some (steps (restart_of c)) else None
+
+abbrev pub first_of : Option Command → Option Command → Option Command
+first_of None second = second
+first_of (Some command) second = Some command
+
+-- a line of three words, a label and a key behind its name
+abbrev pub with_key : List ℕ → Option (List ℕ) → Option (List ℕ) → Option Command
+with_key name None key = None
+with_key name (Some label) None = None
+with_key name (Some label) (Some key) =
+    if bytes_eq name (codes "get") then Some (gets label key)
+    else (if bytes_eq name (codes "delete") then Some (writes label kind.Delete key []) else None)
+
+-- a line of three words, a label and a savepoint behind its name
+abbrev pub with_savepoint : List ℕ → Option (List ℕ) → Option ℕ → Option Command
+with_savepoint name None savepoint = None
+with_savepoint name (Some label) None = None
+with_savepoint name (Some label) (Some savepoint) =
+    if bytes_eq name (codes "back") then Some (calls label (call.Back savepoint)) else None
+
+-- the name of a write of four words
+abbrev pub kind_with_value : List ℕ → Option Kind
+kind_with_value name =
+    if bytes_eq name (codes "insert") then Some kind.Insert
+    else (if bytes_eq name (codes "update") then Some kind.Update
+    else (if bytes_eq name (codes "upsert") then Some kind.Upsert else None))
+
+abbrev pub write_of : Option Kind → Option (List ℕ) → Option (List ℕ) → Option (List ℕ) → Option Command
+write_of None label key value = None
+write_of (Some k) None key value = None
+write_of (Some k) (Some label) None value = None
+write_of (Some k) (Some label) (Some key) None = None
+write_of (Some k) (Some label) (Some key) (Some value) = Some (writes label k key value)
+
+abbrev pub add_of : Option (List ℕ) → Option (List ℕ) → Option ℕ → Option Command
+add_of None key amount = None
+add_of (Some label) None amount = None
+add_of (Some label) (Some key) None = None
+add_of (Some label) (Some key) (Some amount) = Some (adds label key amount)
+
+abbrev pub scan_of : Option (List ℕ) → Option (List ℕ) → Option (Option (List ℕ)) → Option Command
+scan_of None low high = None
+scan_of (Some label) None high = None
+scan_of (Some label) (Some low) None = None
+scan_of (Some label) (Some low) (Some high) = Some (scans label low high)
+
+abbrev pub crash_in : Option Component → Option ℕ → Option ℕ → Option Command
+crash_in None frames bytes = None
+crash_in (Some c) None bytes = None
+crash_in (Some c) (Some frames) None = None
+crash_in (Some c) (Some frames) (Some bytes) = Some (steps (crash_of c frames bytes))
+
+-- a line of two words that has no label
+abbrev pub unlabelled : List ℕ → List ℕ → Option Command
+unlabelled name word =
+    first_of (with_number name (number_in word))
+    (first_of (with_leaf name (text_in word)) (with_component name (component_in word)))
+
+-- a line of four words
+abbrev pub of_four : List ℕ → List ℕ → List ℕ → List ℕ → Option Command
+of_four name first second last =
+    if bytes_eq name (codes "scan") then scan_of (label_in first) (text_in second) (end_in last)
+    else (if bytes_eq name (codes "crash") then crash_in (component_in first) (number_in second) (number_in last)
+    else (if bytes_eq name (codes "add") then add_of (label_in first) (text_in second) (amount_in last)
+    else write_of (kind_with_value name) (label_in first) (text_in second) (value_in last)))
+
+-- the grammar: one case for each number of words
+abbrev pub command_of : List (List ℕ) → Option Command
+command_of (name ∷ []) = bare name
+command_of (name ∷ word ∷ []) = first_of (with_label name (label_in word)) (unlabelled name word)
+command_of (name ∷ label ∷ word ∷ []) =
+    first_of (with_key name (label_in label) (text_in word)) (with_savepoint name (label_in label) (number_in word))
+command_of (name ∷ first ∷ second ∷ last ∷ []) = of_four name first second last
+command_of _ = None
+
+-- a line that is passed over: an empty one, or one that begins with `#`
+abbrev pub is_skipped : List ℕ → Bool
+is_skipped [] = true
+is_skipped (b ∷ bs) = b == 35
+
+-- the number of the first line that is neither skipped nor in the grammar, where the first has this number
+abbrev pub is_fault : List ℕ → Bool
+is_fault bytes = not (is_skipped bytes) && is_none (command_of (words_of bytes))
+
+abbrev pub fault_from : ℕ → List (List ℕ) → Option ℕ
+fault_from n [] = None
+fault_from n (bytes ∷ rest) = if is_fault bytes then Some n else fault_from (n + 1) rest
+
+abbrev pub first_fault : List ℕ → Option ℕ
+first_fault script = fault_from 1 (lines_of script)
+
+-- what a line asks for: nothing where it is skipped
+abbrev pub asked : List ℕ → Option Command
+asked bytes = if is_skipped bytes then None else command_of (words_of bytes)
+
+abbrev pub onto : Option Command → List Command → List Command
+onto None commands = commands
+onto (Some command) commands = command ∷ commands
+
+-- what the lines ask for, in order
+abbrev pub commands_of : List (List ℕ) → List Command
+commands_of [] = []
+commands_of (bytes ∷ rest) = onto (asked bytes) (commands_of rest)
+
+-- the bytes of a value as a line gives it
+abbrev pub written_bytes : Written → List ℕ
+written_bytes (written.Text text) = text.now
+written_bytes (written.Bytes value) = value
+
+-- what a line that was read asks for
+abbrev pub meaning : Line → Command
+meaning (line.Begin label) = begins label
+meaning (line.Write label k key value) = writes label k key.now (written_bytes value)
+meaning (line.Add label key amount) = adds label key.now amount
+meaning (line.Get label key) = gets label key.now
+meaning (line.Scan label low high) = scans label low.now (option_map (λ text. text.now) high)
+meaning (line.Call label c) = calls label c
+meaning (line.Leaf c key) = treats c key.now
+meaning (line.Step e) = steps e
+meaning (line.Settle most) = settles most
+meaning line.Table = tables
+meaning (line.Show p) = shows p
+
+-- the parts of what is left, cut at this byte
+abbrev pub parts_left : ℕ → Option (List ℕ) → List (List ℕ)
+parts_left at None = []
+parts_left at (Some bytes) = slice_split (λ b. b == at) bytes
+
+-- how many bytes are left, and one for the line that they begin
+abbrev pub size_left : Option (List ℕ) → ℕ
+size_left None = 0
+size_left (Some bytes) = length bytes + 1

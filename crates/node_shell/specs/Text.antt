@@ -1,0 +1,250 @@
+-- The text of a script: what its lines come to, and what is printed of that.
+use Rattle.std.specs.Prelude.{◌≡◌, ◌⊎◌, ℕ, Bool, true, false, ◌||◌, nat_lt, List, [], ◌∷◌, ◌++◌, Option, Some, None, Result, Ok, Err, length, ⊤, if◌then◌else◌}
+use Rattle.std.specs.Io.KnownBytes.{Appends}
+use Rattle.record_key.specs.declared.refusal.Refusal.{Refusal}
+use Rattle.record_key.specs.declared.refusal.Refusal.TheVariants as refusal
+use Rattle.record_key.specs.FirstCause.{first_of}
+use Rattle.record_key.specs.declared.op.Op.{Op}
+use Rattle.record_key.specs.declared.op.Op.TheVariants as op
+use Rattle.world.specs.declared.event.Event.{Event}
+use Rattle.world.specs.declared.event.Event.TheVariants as event
+use Rattle.world.specs.declared.event.Out.{Out}
+use Rattle.world.specs.declared.event.Out.TheVariants as out
+use Rattle.world.specs.Node.{NodeView, fresh_node, StepsTo}
+use Rattle.world.specs.Rounds.{Settles}
+use Rattle.node_shell.specs.Labels.{Bindings, unbound, AreSame, IsBound}
+use Rattle.node_shell.specs.declared.line.Kind.{Kind}
+use Rattle.node_shell.specs.declared.line.Kind.TheVariants as kind
+use Rattle.node_shell.specs.declared.line.Call.{Call}
+use Rattle.node_shell.specs.declared.line.Call.TheVariants as call
+use Rattle.node_shell.specs.declared.line.LeafCall.{LeafCall}
+use Rattle.node_shell.specs.declared.line.LeafCall.TheVariants as leaf_call
+use Rattle.node_shell.specs.declared.line_result.LineResult.{LineResult}
+use Rattle.node_shell.specs.declared.line_result.LineResult.TheVariants as came
+use Rattle.node_shell.specs.Script.{Command, begins, writes, adds, gets, scans, calls, treats, steps, settles, tables, shows, lines_of, first_fault, commands_of, onto}
+use Rattle.node_shell.specs.Ending.{is_failure, settled_text}
+use Rattle.node_shell.specs.Stored.{table_text}
+use Rattle.node_shell.specs.View.{records_of, part_text}
+use Rattle.node_shell.specs.Printed.{IsCut, refusal_line}
+use Rattle.node_shell.specs.Outcome.{out_text}
+
+-- the label of a `begin` is bound to the transaction that it began
+abbrev pub Rebinds : Out → List ℕ → Bindings → Bindings → Type 0
+Rebinds (out.Begun txn) label old new = IsBound old new label txn
+Rebinds _ label old new = AreSame old new
+
+-- `begin` is an event; that it is refused for want of memory may be for want of room for the label
+abbrev pub Begins : List ℕ → NodeView → Bindings → Out → NodeView → Bindings → Type 0
+Begins label before old output after new = StepsTo before event.Begin output after × Rebinds output label old new
+
+-- what is wrong with the lengths of a key and a value: an empty key first, then a word that is too long
+abbrev pub long_fault : List ℕ → List ℕ → Option Refusal
+long_fault key value = if nat_lt 32 (length key) || nat_lt 120 (length value) then Some refusal.TooLong else None
+
+abbrev pub length_fault : List ℕ → List ℕ → Option Refusal
+length_fault [] value = Some refusal.EmptyKey
+length_fault (b ∷ bs) value = long_fault (b ∷ bs) value
+
+-- an event, where there is no refusal before it
+abbrev pub StepsUnless : Option Refusal → NodeView → Event → Out → NodeView → Type 0
+StepsUnless None before e output after = StepsTo before e output after
+StepsUnless (Some r) before e output after = (output ≡ out.Refused r) × (after ≡ before)
+
+-- the operation of a write
+abbrev pub op_of : Kind → List ℕ → List ℕ → Op
+op_of kind.Insert key value = op.Insert key value
+op_of kind.Update key value = op.Update key value
+op_of kind.Upsert key value = op.Upsert key value
+op_of kind.Delete key value = op.Delete key
+
+abbrev pub Writes : List ℕ → Kind → List ℕ → List ℕ → NodeView → Bindings → Out → NodeView → Type 0
+Writes label k key value before labels output after =
+    StepsUnless (length_fault key value) before (event.Act (labels label) (op_of k key value)) output after
+
+abbrev pub is_empty : List ℕ → Bool
+is_empty [] = true
+is_empty (b ∷ bs) = false
+
+abbrev pub is_long : List ℕ → Bool
+is_long key = nat_lt 32 (length key)
+
+-- what is wrong with the lengths of one or two keys: an empty one first, then one that is too long
+abbrev pub keys_fault : List ℕ → Option (List ℕ) → Option Refusal
+keys_fault low None = first_of ((is_empty low, refusal.EmptyKey) ∷ (is_long low, refusal.TooLong) ∷ [])
+keys_fault low (Some high) =
+    first_of ((is_empty low || is_empty high, refusal.EmptyKey) ∷ (is_long low || is_long high, refusal.TooLong) ∷ [])
+
+abbrev pub Adds : List ℕ → List ℕ → ℕ → NodeView → Bindings → Out → NodeView → Type 0
+Adds label key amount before labels output after =
+    StepsUnless (keys_fault key None) before (event.Act (labels label) (op.Add key amount)) output after
+
+abbrev pub Gets : List ℕ → List ℕ → NodeView → Bindings → Out → NodeView → Type 0
+Gets label key before labels output after =
+    StepsUnless (keys_fault key None) before (event.Get (labels label) key) output after
+
+abbrev pub Scans : List ℕ → List ℕ → Option (List ℕ) → NodeView → Bindings → Out → NodeView → Type 0
+Scans label low high before labels output after =
+    StepsUnless (keys_fault low high) before (event.Scan (labels label) low high) output after
+
+-- the event of a leaf
+abbrev pub leaf_event : LeafCall → List ℕ → Event
+leaf_event leaf_call.Split key = event.Split key
+leaf_event leaf_call.Merge key = event.Merge key
+leaf_event leaf_call.Flush key = event.Flush key
+
+abbrev pub Treats : LeafCall → List ℕ → NodeView → Out → NodeView → Type 0
+Treats c key before output after = StepsUnless (keys_fault key None) before (leaf_event c key) output after
+
+-- the event of a transaction
+abbrev pub event_of : Call → ℕ → Event
+event_of call.Save txn = event.Save txn
+event_of (call.Back savepoint) txn = event.GoBack txn savepoint
+event_of call.Rollback txn = event.Rollback txn
+event_of call.Commit txn = event.Commit txn
+event_of call.Send txn = event.Send txn
+event_of call.Undo txn = event.Undo txn
+
+-- a result that is one event's output of which this holds
+abbrev pub IsEvent : (Out → Type 0) → LineResult → Type 0
+IsEvent P (came.Event output) = P output
+IsEvent P _ = ⊥
+
+abbrev pub IsSettling : Option ℕ → NodeView → LineResult → NodeView → Type 0
+IsSettling most before (came.Settled outs end) after = Settles before most [] outs.items end after
+IsSettling most before _ after = ⊥
+
+-- the records as they are, or memory for them was refused, or the data component is down
+abbrev pub IsTable : NodeView → LineResult → Type 0
+IsTable view (came.Table rows) = (view.dc_up ≡ true) × (rows ≡ records_of view)
+IsTable view (came.Event output) = output ≡ out.Refused (if view.dc_up then refusal.NoMemory else refusal.NotConnected)
+IsTable view _ = ⊥
+
+-- what a line may come to, from a node and labels, and what it leaves
+abbrev pub ComesTo : Command → NodeView → Bindings → LineResult → NodeView → Bindings → Type 0
+ComesTo (begins label) before old r after new = IsEvent (λ output. Begins label before old output after new) r
+ComesTo (writes label k key value) before old r after new =
+    IsEvent (λ output. Writes label k key value before old output after) r × AreSame old new
+ComesTo (adds label key amount) before old r after new =
+    IsEvent (λ output. Adds label key amount before old output after) r × AreSame old new
+ComesTo (gets label key) before old r after new =
+    IsEvent (λ output. Gets label key before old output after) r × AreSame old new
+ComesTo (scans label low high) before old r after new =
+    IsEvent (λ output. Scans label low high before old output after) r × AreSame old new
+ComesTo (calls label c) before old r after new =
+    IsEvent (λ output. StepsTo before (event_of c (old label)) output after) r × AreSame old new
+ComesTo (treats c key) before old r after new = IsEvent (λ output. Treats c key before output after) r × AreSame old new
+ComesTo (steps e) before old r after new = IsEvent (λ output. StepsTo before e output after) r × AreSame old new
+ComesTo (settles most) before old r after new = IsSettling most before r after × AreSame old new
+ComesTo tables before old r after new = IsTable before r × (after ≡ before) × AreSame old new
+ComesTo (shows p) before old r after new = (r ≡ came.Shown p) × (after ≡ before) × AreSame old new
+
+-- what is printed of a line's result, where this is the node after it
+abbrev pub result_text : LineResult → NodeView → List ℕ
+result_text (came.Event output) view = out_text output
+result_text (came.Settled outs end) view = settled_text outs.items end
+result_text (came.Table rows) view = table_text rows
+result_text (came.Shown p) view = part_text p view
+
+abbrev pub out_ends : Out → Bool
+out_ends (out.Refused r) = is_failure r
+out_ends _ = false
+
+abbrev pub settling_ends : Result Bool Refusal → Bool
+settling_ends (Ok done) = false
+settling_ends (Err r) = is_failure r
+
+abbrev pub ends_run : LineResult → Bool
+ends_run (came.Event output) = out_ends output
+ends_run (came.Settled outs end) = settling_ends end
+ends_run _ = false
+
+-- the text of the result is written and the run goes on, or it ends: by the result, or where a write failed
+abbrev pub Shows : Bool → LineResult → NodeView → Option (List ℕ) → Option (List ℕ) → Type 0
+Shows true r view old new = Appends old new (result_text r view) × (ends_run r ≡ false)
+Shows false r view old new =
+    (Appends old new (result_text r view) × (ends_run r ≡ true)) ⊎ IsCut old new (result_text r view)
+
+-- these bytes are a beginning of the text
+abbrev pub IsBeginning : List ℕ → List ℕ → Type 0
+IsBeginning written text = (left : List ℕ) × (text ≡ written ++ left)
+
+-- what is written for these lines from a node and labels on, and the exit status
+pub data Runs : List Command → NodeView → Bindings → List ℕ → ℕ → Type 0 where
+  -- no line is left
+  done : (view : NodeView) (labels : Bindings) → Runs [] view labels [] 0
+  -- the text of a line, and then of those behind it
+  goes_on : (c : Command) (cs : List Command) (view : NodeView) (labels : Bindings) (r : LineResult) (after : NodeView)
+      (next : Bindings) (text : List ℕ) (status : ℕ)
+      → ComesTo c view labels r after next → ends_run r ≡ false → Runs cs after next text status
+      → Runs (c ∷ cs) view labels (result_text r after ++ text) status
+  -- memory or a device failed: the text of that line is the last
+  fails : (c : Command) (cs : List Command) (view : NodeView) (labels : Bindings) (r : LineResult) (after : NodeView)
+      (next : Bindings)
+      → ComesTo c view labels r after next → ends_run r ≡ true → Runs (c ∷ cs) view labels (result_text r after) 3
+  -- a write failed: a beginning of that line's text is the last
+  is_cut : (c : Command) (cs : List Command) (view : NodeView) (labels : Bindings) (r : LineResult) (after : NodeView)
+      (next : Bindings) (text : List ℕ)
+      → ComesTo c view labels r after next → IsBeginning text (result_text r after) → Runs (c ∷ cs) view labels text 3
+
+-- the text of these lines is written
+pub record WritesRun (commands : List Command) (view : NodeView) (labels : Bindings) (old new : Option (List ℕ))
+    (status : ℕ) : Type 0 where
+  pub text : List ℕ
+  pub appended : Appends old new text
+  pub runs : Runs commands view labels text status
+
+-- a line, if there is one, is run and its text written: what those behind it write follows, or nothing does
+abbrev pub RunsLine : Bool → Option Command → NodeView → Bindings → NodeView → Bindings → List ℕ → Type 0
+RunsLine true command view labels after next said =
+    (cs : List Command) (text : List ℕ) (status : ℕ) → Runs cs after next text status
+    → Runs (onto command cs) view labels (said ++ text) status
+RunsLine false command view labels after next said = (cs : List Command) → Runs (onto command cs) view labels said 3
+
+-- a line and those after it: what it writes stands before what they write, with the exit status of the last
+pub record WritesLine (going : Bool) (command : Option Command) (view : NodeView) (labels : Bindings) (after : NodeView)
+    (next : Bindings) (old new : Option (List ℕ)) : Type 0 where
+  pub said : List ℕ
+  pub appended : Appends old new said
+  pub runs : RunsLine going command view labels after next said
+
+-- a line alone with its exit status, or a beginning of it where a write failed
+abbrev pub IsAlone : List ℕ → ℕ → List ℕ → ℕ → Type 0
+IsAlone line own text status = ((text ≡ line) × (status ≡ own)) ⊎ (IsBeginning text line × (status ≡ 3))
+
+-- nothing but this line, or a beginning of it, is written
+pub record WritesAlone (line : List ℕ) (own : ℕ) (old new : Option (List ℕ)) (status : ℕ) : Type 0 where
+  pub text : List ℕ
+  pub appended : Appends old new text
+  pub alone : IsAlone line own text status
+
+-- what the lines of a script that was checked write; where memory for a node is refused, that alone
+abbrev pub WritesLines : List ℕ → Option (List ℕ) → Option (List ℕ) → ℕ → Type 0
+WritesLines script old new status =
+    ((labels : Bindings) × AreSame unbound labels
+    × WritesRun (commands_of (lines_of script)) fresh_node labels old new status)
+    ⊎ WritesAlone (refusal_line refusal.NoMemory) 3 old new status
+
+-- the text of a script, where this is its first fault
+abbrev pub IsTextAfterCheck : Option ℕ → List ℕ → List ℕ → ℕ → Type 0
+IsTextAfterCheck (Some line) script text status = IsAlone (refusal_line (refusal.BadScript line)) 2 text status
+IsTextAfterCheck None script text status =
+    (labels : Bindings) × AreSame unbound labels × Runs (commands_of (lines_of script)) fresh_node labels text status
+
+abbrev pub IsTextOf : List ℕ → List ℕ → ℕ → Type 0
+IsTextOf script text status = IsTextAfterCheck (first_fault script) script text status
+
+-- what is written where the script could not be read: a device failed, or there was no memory for it or for a node
+abbrev pub IsUnread : List ℕ → ℕ → Type 0
+IsUnread text status = IsAlone (refusal_line refusal.NoMemory) 3 text status
+    ⊎ IsAlone (refusal_line refusal.Device) 3 text status
+
+-- the script is all that the reader had left, where that is known
+abbrev pub IsAllOf : Option (List ℕ) → List ℕ → Type 0
+IsAllOf None script = ⊤
+IsAllOf (Some bytes) script = script ≡ bytes
+
+-- the text of the script that was read is written, and nothing else
+pub record WritesText (given old new : Option (List ℕ)) (status : ℕ) : Type 0 where
+  pub text : List ℕ
+  pub appended : Appends old new text
+  pub is_text : ((script : List ℕ) × IsAllOf given script × IsTextOf script text status) ⊎ IsUnread text status

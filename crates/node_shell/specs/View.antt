@@ -1,0 +1,43 @@
+-- What is printed of a node: its records, its log and how much of it is stable, and its leaves.
+use Rattle.std.specs.Prelude.{ℕ, Bool, true, false, List, flat_map}
+use Rattle.std.specs.FinMap.{entries}
+use Rattle.record_key.specs.declared.refusal.Refusal.TheVariants.{NotConnected}
+use Rattle.record_key.specs.Rows.{Row}
+use Rattle.history.specs.declared.record.Record.{Record}
+use Rattle.page.specs.Leaf.{LeafView}
+use Rattle.btree.specs.Leaves.{rows_of}
+use Rattle.dc_core.specs.DcView.{leaves}
+use Rattle.world.specs.Node.{NodeView}
+use Rattle.node_shell.specs.declared.line.Part.{Part}
+use Rattle.node_shell.specs.declared.line.Part.TheVariants as part
+use Rattle.node_shell.specs.Logged.{log_text}
+use Rattle.node_shell.specs.Printed.{refusal_line}
+use Rattle.node_shell.specs.Stored.{leaf_line}
+
+abbrev pub log_of : NodeView → List Record
+log_of view = view.tc.log
+
+abbrev pub stable_of : NodeView → ℕ
+stable_of view = view.tc.stable
+
+abbrev pub leaves_of : NodeView → List LeafView
+leaves_of view = leaves view.dc
+
+-- the records, in key order
+abbrev pub records_of : NodeView → List Row
+records_of view = entries (rows_of (leaves view.dc))
+
+-- a line of each leaf of a data component that runs, or that it is down
+abbrev pub leaves_text : Bool → List LeafView → List ℕ
+leaves_text true leaves = flat_map leaf_line leaves
+leaves_text false leaves = refusal_line NotConnected
+
+-- the log of a transaction component that runs, or that it is down
+abbrev pub log_if_up : Bool → List Record → ℕ → List ℕ
+log_if_up true log stable = log_text log stable
+log_if_up false log stable = refusal_line NotConnected
+
+-- what is printed of a part
+abbrev pub part_text : Part → NodeView → List ℕ
+part_text part.Log view = log_if_up view.tc_up (log_of view) (stable_of view)
+part_text part.Leaves view = leaves_text view.dc_up (leaves_of view)

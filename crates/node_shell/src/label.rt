@@ -1,0 +1,144 @@
+//! Labels of transactions, and the numbers that they stand for.
+ghost use Rattle.std.specs.Prelude.{◌≡◌, ◌||◌, ℕ, List, Some, refl, OnOk, IsSome};
+ghost use Rattle.std.specs.Ordering.{nat_cmp};
+ghost use Rattle.std.specs.Cmp.Lexicographic.{slice_cmp, nat_list_cmp_total, texts_po, texts_ties};
+ghost use Rattle.std.specs.List.{list_all};
+ghost use Rattle.std.specs.Char.{is_ascii_lowercase, is_ascii_digit};
+ghost use Rattle.std.specs.BTreeMap.{get};
+ghost use Rattle.node_shell.specs.Words.{is_label, label_in};
+
+use arrayvec::ArrayVec;
+use std::alloc::{AllocError, Global};
+use std::cmp::Ordering;
+use std::collections::BTreeMap;
+use std::marker::Model;
+
+/// A label: 1 to 8 lower case letters or digits, kept inline.
+#[derive(Debug, Clone, PartialEq, Eq, Drop)]
+pub struct Label {
+    bytes: ArrayVec<u8, 8>,
+}
+
+impl Model for Label {
+    ghost use Rattle.std.specs.Prelude.{List, ℕ, ◌≤◌, length};
+    ghost use Rattle.std.specs.Coded.{coded_ℕ, coded_list};
+
+    ghost Value = { List ℕ };
+
+    ghost coded = { coded_list coded_ℕ };
+
+    ghost view = { λ l. l.bytes.items };
+
+    ghost invariant = { λ l. length l.bytes.items ≤ 8 };
+
+    ghost inverse = { λ bytes. record { bytes = record { items = bytes } } };
+}
+
+impl Label {
+    /// The label that this word is, if it is one.
+    pub fn new(word: &[u8]) -> Option<Label>
+        ensures { result ≡ label_in word.now }
+    {
+        if !is_label(word) {
+            return None;
+        }
+        match ArrayVec::try_from(word) {
+            Ok(bytes) => Some(Label { bytes }),
+            Err(_) => None,
+        }
+    }
+
+    /// The same label again. Takes no memory.
+    fn copied(&self) -> Label
+        ensures { result ≡ self.now }
+    {
+        self.clone().unwrap()
+    }
+}
+
+/// Whether the word is 1 to 8 lower case letters or digits.
+fn is_label(word: &[u8]) -> bool
+    ensures { result ≡ is_label word.now }
+{
+    !word.is_empty() && word.len() <= 8 && is_lower_case(word)
+}
+
+fn is_lower_case(word: &[u8]) -> bool
+    ensures { result ≡ list_all (λ b. is_ascii_lowercase b || is_ascii_digit b) word.now }
+{
+    word.iter()
+        .all(|byte| byte.is_ascii_lowercase() || byte.is_ascii_digit())
+}
+
+impl PartialOrd for Label {
+    ghost partial_cmp = { λ a b. Some (slice_cmp nat_cmp a b) };
+
+    ghost laws = { texts_po };
+
+    fn partial_cmp(&self, other: &Self) -> Option<Ordering> {
+        Some(self.cmp(other))
+    }
+}
+
+impl Ord for Label {
+    ghost cmp = { λ a b. slice_cmp nat_cmp a b };
+
+    ghost total = { nat_list_cmp_total };
+
+    ghost matches_partial_cmp = { λ a b. refl };
+
+    ghost matches_eq = { λ a b. texts_ties a b };
+
+    fn cmp(&self, other: &Self) -> Ordering {
+        self.bytes.cmp(&other.bytes)
+    }
+}
+
+/// What each label stands for: 0, which is no transaction's number, until it is bound.
+#[derive(Drop)]
+pub struct Labels {
+    numbers: BTreeMap<Label, u64>,
+}
+
+impl Labels {
+    ghost use Rattle.node_shell.specs.Labels.{number_in, unbound, AreSame, IsBound};
+
+    /// No label is bound.
+    pub fn new(alloc: Global) -> Labels
+        ensures { AreSame unbound (number_in result) }
+    {
+        Labels {
+            numbers: BTreeMap::new(alloc),
+        }
+    }
+
+    /// The number that the label stands for.
+    pub fn number(&self, label: &Label) -> u64
+        ensures { result ≡ number_in self.now label.now }
+    {
+        match self.numbers.get(label) {
+            Some(number) => *number,
+            None => 0,
+        }
+    }
+
+    /// Makes room for the label's binding, and binds nothing.
+    pub fn make_room(&mut self, label: &Label) -> Result<(), AllocError>
+        ensures same { AreSame (number_in self.old) (number_in self.new) }
+        ensures room { OnOk result (IsSome (get (slice_cmp nat_cmp) self.new.numbers label.now)) }
+    {
+        if !self.numbers.contains_key(label) {
+            self.numbers.insert(label.copied(), 0)?;
+        }
+        Ok(())
+    }
+
+    /// Binds the label, for which there is room.
+    pub fn bind(&mut self, label: &Label, number: u64)
+        requires { IsSome (get (slice_cmp nat_cmp) self.old.numbers label.now) }
+        ensures { IsBound (number_in self.old) (number_in self.new) label.now number }
+    {
+        // A key that is there takes no memory.
+        let _ = self.numbers.insert(label.copied(), number);
+    }
+}

@@ -1,0 +1,37 @@
+//! A shell for the node: it reads a script and writes what its lines came to.
+//!
+//! Knows: the grammar of scripts, the text of every answer, record, row, leaf and refusal, and the command line.
+//! Must not know: how the node keeps its records, its log or its messages; what it reads from and writes to.
+//! Promises the programs above that what is written is the text of the script that was read: a line's text is that
+//! of the node's own answer to it, nothing else is written, and the exit status says how the script ended.
+#![tactic(auto)]
+
+mod answers;
+mod components;
+mod label;
+mod leaves;
+mod line;
+mod line_result;
+mod logged;
+mod names;
+mod operations;
+mod outcome;
+mod parsing;
+mod pieces;
+mod printed;
+mod rows;
+mod script;
+mod script_run;
+mod shell;
+mod shown;
+mod stopping;
+mod task;
+mod told;
+mod words;
+
+pub use script_run::{DONE, FAILED, FAULT, refusal_of, refuse, run};
+pub use stopping::Stopping;
+pub use task::{Task, choose};
+
+#[cfg(test)]
+mod tests;

@@ -1,0 +1,117 @@
+//! The lines of a script that are run.
+use crate::label::Label;
+use record_key::Value;
+use world::Event;
+
+/// What a write does at its key.
+#[derive(Debug, Clone, Copy, PartialEq, Eq)]
+pub enum Kind {
+    Insert,
+    Update,
+    Upsert,
+    /// Takes no value: an empty one stands for it.
+    Delete,
+}
+
+/// What happens to a label's transaction.
+#[derive(Debug, Clone, Copy, PartialEq, Eq)]
+pub enum Call {
+    Save,
+    Back { savepoint: u64 },
+    Rollback,
+    Commit,
+    Send,
+    /// One step of its rollback.
+    Undo,
+}
+
+/// What happens to the leaf that has a key.
+#[derive(Debug, Clone, Copy, PartialEq, Eq)]
+pub enum LeafCall {
+    Split,
+    /// It is joined with the leaf after it.
+    Merge,
+    Flush,
+}
+
+/// What may crash and be restarted.
+#[derive(Debug, Clone, Copy, PartialEq, Eq)]
+pub enum Component {
+    /// The transaction component.
+    Tc,
+    /// The data component.
+    Dc,
+}
+
+/// What is printed of the node as it is.
+#[derive(Debug, Clone, Copy, PartialEq, Eq)]
+pub enum Part {
+    Log,
+    Leaves,
+}
+
+/// A value as a line gives it.
+#[derive(Debug, Drop)]
+pub enum Written<'a> {
+    /// The script's own bytes, of any length.
+    Text(&'a [u8]),
+    /// Bytes that were written as digits.
+    Bytes(Value),
+}
+
+impl Written<'_> {
+    ghost use Rattle.std.specs.Prelude.{◌≡◌};
+    ghost use Rattle.node_shell.specs.Script.{written_bytes};
+
+    /// The bytes that the value has.
+    pub fn as_bytes(&self) -> &[u8]
+        ensures { result.now ≡ written_bytes self.now }
+    {
+        match self {
+            Written::Text(text) => text,
+            Written::Bytes(value) => value.as_bytes(),
+        }
+    }
+}
+
+/// A line that is run. Its keys are the script's own bytes, of any length.
+#[derive(Debug, Drop)]
+pub enum Line<'a> {
+    Begin(Label),
+    Write {
+        label: Label,
+        kind: Kind,
+        key: &'a [u8],
+        value: Written<'a>,
+    },
+    /// An amount is added to the number at a key.
+    Add {
+        label: Label,
+        key: &'a [u8],
+        amount: u64,
+    },
+    Get {
+        label: Label,
+        key: &'a [u8],
+    },
+    /// The keys from `low` on, below `high` where there is one.
+    Scan {
+        label: Label,
+        low: &'a [u8],
+        high: Option<&'a [u8]>,
+    },
+    Call {
+        label: Label,
+        call: Call,
+    },
+    Leaf {
+        call: LeafCall,
+        key: &'a [u8],
+    },
+    Step(Event),
+    /// The node works, for so many rounds at most where there is a number.
+    Settle(Option<u64>),
+    /// The records are printed.
+    Table,
+    Show(Part),
+}

@@ -1,0 +1,110 @@
+//! What a line of a script came to, and its text.
+ghost use Rattle.std.specs.Prelude.{◌≡◌, flat_map};
+ghost use Rattle.node_shell.specs.Printed.{Prints};
+ghost use Rattle.node_shell.specs.Told.{told_text};
+ghost use Rattle.node_shell.specs.Ending.{is_failure, end_line, settled_text};
+
+use crate::line::Part;
+use crate::outcome::print_out;
+use crate::pieces::{Piece, print};
+use crate::printed::print_refusal;
+use crate::rows::print_table;
+use crate::shown::print_part;
+use crate::told::print_told;
+use codec::Rows;
+use record_key::Refusal;
+use std::io;
+use world::{Out, World};
+
+/// What a line came to.
+#[derive(Debug, Drop)]
+pub enum LineResult {
+    /// One event, or a refusal before any.
+    Event(Out),
+    /// The outputs of settling, and how it ended.
+    Settled {
+        outs: Vec<Out>,
+        end: Result<bool, Refusal>,
+    },
+    /// The records as they are.
+    Table(Rows),
+    /// A part of the node is to be printed.
+    Shown(Part),
+}
+
+impl LineResult {
+    ghost use Rattle.node_shell.specs.Text.{ends_run, result_text, Shows};
+
+    /// Whether the run ends with this line: memory or a device failed.
+    fn ends_run(&self) -> bool
+        ensures { result ≡ ends_run self.now }
+    {
+        match self {
+            LineResult::Event(Out::Refused(refusal)) => is_failure(*refusal),
+            LineResult::Settled {
+                end: Err(refusal),
+                ..
+            } => is_failure(*refusal),
+            _ => false,
+        }
+    }
+
+    /// Writes its lines. Gives whether the run goes on: not where a write, memory or a device failed.
+    pub fn show<W: io::Write>(&self, world: &World, writer: &mut W) -> bool
+        ensures { Shows result self.now world.now (W.contents writer.old) (W.contents writer.new) }
+    {
+        match self.print(world, writer) {
+            Ok(()) => !self.ends_run(),
+            Err(_) => false,
+        }
+    }
+
+    /// Writes its lines. A part that is shown is one of the world as it is.
+    fn print<W: io::Write>(&self, world: &World, writer: &mut W) -> io::Result<()>
+        ensures { Prints (W.contents writer.old) (W.contents writer.new) result (result_text self.now world.now) }
+    {
+        match self {
+            LineResult::Event(out) => print_out(writer, out),
+            LineResult::Settled { outs, end } => print_settled(writer, outs.as_slice(), end),
+            LineResult::Table(rows) => print_table(writer, rows.as_slice()),
+            LineResult::Shown(part) => print_part(writer, *part, world),
+        }
+    }
+}
+
+fn is_failure(refusal: Refusal) -> bool
+    ensures { result ≡ is_failure refusal }
+{
+    matches!(refusal, Refusal::NoMemory | Refusal::Device)
+}
+
+/// What clients were told while the node settled, and how it ended.
+fn print_settled<W: io::Write>(
+    writer: &mut W,
+    outs: &[Out],
+    end: &Result<bool, Refusal>,
+) -> io::Result<()>
+    ensures { Prints (W.contents writer.old) (W.contents writer.new) result (settled_text outs.now end.now) }
+{
+    print_all_told(writer, outs)?;
+    print_end(writer, end)
+}
+
+fn print_all_told<W: io::Write>(writer: &mut W, outs: &[Out]) -> io::Result<()>
+    ensures { Prints (W.contents writer.old) (W.contents writer.new) result (flat_map told_text outs.now) }
+{
+    for out in outs {
+        print_told(writer, out)?;
+    }
+    Ok(())
+}
+
+fn print_end<W: io::Write>(writer: &mut W, end: &Result<bool, Refusal>) -> io::Result<()>
+    ensures { Prints (W.contents writer.old) (W.contents writer.new) result (end_line end.now) }
+{
+    match end {
+        Ok(true) => print(writer, &[Piece::Text("settled\n")]),
+        Ok(false) => print(writer, &[Piece::Text("paused\n")]),
+        Err(refusal) => print_refusal(writer, *refusal),
+    }
+}

@@ -1,0 +1,126 @@
+//! The grammar of a line: one place for each number of words.
+ghost use Rattle.std.specs.Prelude.{◌≡◌, ◌∷◌, option_map};
+ghost use Rattle.node_shell.specs.Words.{words_of, label_in, text_in, value_in, amount_in, end_in};
+ghost use Rattle.node_shell.specs.Script.{command_of, unlabelled, of_four, write_of, add_of, scan_of, meaning};
+
+use crate::components::{crash, with_component};
+use crate::label::Label;
+use crate::line::{Kind, Line};
+use crate::names::{
+    bare, kind_with_value, with_key, with_label, with_leaf, with_number, with_savepoint,
+};
+use crate::script::cut_at;
+use crate::words::{amount_of, end_of, text_of, written};
+
+/// The line that these bytes are, if they are in the grammar.
+pub fn parse(line: &[u8]) -> Option<Line<'_>>
+    ensures { option_map meaning result ≡ command_of (words_of line.now) }
+{
+    let (name, rest) = cut_at(line, b' ');
+    match rest {
+        None => bare(name),
+        Some(rest) => parse_pair(name, rest),
+    }
+}
+
+/// A line of two words or more, of which these are left.
+fn parse_pair<'a>(name: &[u8], rest: &'a [u8]) -> Option<Line<'a>>
+    ensures { option_map meaning result ≡ command_of (name.now ∷ words_of rest.now) }
+{
+    let (word, rest) = cut_at(rest, b' ');
+    match rest {
+        None => match with_label(name, word) {
+            Some(line) => Some(line),
+            None => parse_unlabelled(name, word),
+        },
+        Some(rest) => parse_keyed(name, word, rest),
+    }
+}
+
+/// A line of two words, the second a number, the key of a leaf or a component.
+fn parse_unlabelled<'a>(name: &[u8], word: &'a [u8]) -> Option<Line<'a>>
+    ensures { option_map meaning result ≡ unlabelled name.now word.now }
+{
+    if let Some(line) = with_number(name, word) {
+        return Some(line);
+    }
+    match with_leaf(name, word) {
+        Some(line) => Some(line),
+        None => with_component(name, word),
+    }
+}
+
+/// A line of three words or more.
+fn parse_keyed<'a>(name: &[u8], label: &[u8], rest: &'a [u8]) -> Option<Line<'a>>
+    ensures { option_map meaning result ≡ command_of (name.now ∷ label.now ∷ words_of rest.now) }
+{
+    let (word, rest) = cut_at(rest, b' ');
+    match rest {
+        None => match with_key(name, label, word) {
+            Some(line) => Some(line),
+            None => with_savepoint(name, label, word),
+        },
+        Some(rest) => parse_row(name, label, word, rest),
+    }
+}
+
+/// A line of four words or more.
+fn parse_row<'a>(name: &[u8], label: &[u8], key: &'a [u8], rest: &'a [u8]) -> Option<Line<'a>>
+    ensures { option_map meaning result ≡ command_of (name.now ∷ label.now ∷ key.now ∷ words_of rest.now) }
+{
+    let (last, rest) = cut_at(rest, b' ');
+    match rest {
+        None => parse_four(name, label, key, last),
+        Some(_) => None,
+    }
+}
+
+fn parse_four<'a>(name: &[u8], first: &[u8], second: &'a [u8], last: &'a [u8]) -> Option<Line<'a>>
+    ensures { option_map meaning result ≡ of_four name.now first.now second.now last.now }
+{
+    if name == b"scan".as_slice() {
+        scan(first, second, last)
+    } else if name == b"crash".as_slice() {
+        crash(first, second, last)
+    } else if name == b"add".as_slice() {
+        add(first, second, last)
+    } else {
+        write(kind_with_value(name), first, second, last)
+    }
+}
+
+/// A write whose label, key and value are these words.
+fn write<'a>(kind: Option<Kind>, label: &[u8], key: &'a [u8], value: &'a [u8]) -> Option<Line<'a>>
+    ensures { option_map meaning result ≡ write_of kind (label_in label.now) (text_in key.now) (value_in value.now) }
+{
+    let kind = kind?;
+    let label = Label::new(label)?;
+    let key = text_of(key)?;
+    let value = written(value)?;
+    Some(Line::Write {
+        label,
+        kind,
+        key,
+        value,
+    })
+}
+
+/// An increment whose label, key and amount are these words.
+fn add<'a>(label: &[u8], key: &'a [u8], amount: &[u8]) -> Option<Line<'a>>
+    ensures { option_map meaning result ≡ add_of (label_in label.now) (text_in key.now) (amount_in amount.now) }
+{
+    let label = Label::new(label)?;
+    let key = text_of(key)?;
+    let amount = amount_of(amount)?;
+    Some(Line::Add { label, key, amount })
+}
+
+/// A scan whose label and keys are these words.
+fn scan<'a>(label: &[u8], low: &'a [u8], high: &'a [u8]) -> Option<Line<'a>>
+    ensures { option_map meaning result ≡ scan_of (label_in label.now) (text_in low.now) (end_in high.now) }
+{
+    let label = Label::new(label)?;
+    let low = text_of(low)?;
+    let high = end_of(high)?;
+    Some(Line::Scan { label, low, high })
+}

@@ -1,0 +1,92 @@
+//! A script from its bytes to its text.
+ghost use Rattle.std.specs.Prelude.{◌≡◌, ◌⊎◌};
+ghost use Rattle.node_shell.specs.Labels.{number_in};
+ghost use Rattle.node_shell.specs.Script.{lines_of, commands_of, asked};
+ghost use Rattle.node_shell.specs.Printed.{refusal_line};
+ghost use Rattle.node_shell.specs.Text.{WritesText, WritesLines, WritesRun, WritesLine, WritesAlone};
+
+use crate::printed::print_refusal;
+use crate::script::{cut_at, first_fault, request};
+use crate::shell::Shell;
+use record_key::Refusal;
+use std::alloc::Global;
+use std::io;
+
+/// The exit status of a script that ran to its end.
+pub const DONE: u8 = 0;
+/// The exit status of a script or a command line outside the grammar.
+pub const FAULT: u8 = 2;
+/// The exit status where memory or a device failed.
+pub const FAILED: u8 = 3;
+
+/// Reads the script, runs it and writes its text. Gives the exit status.
+pub fn run<R: io::Read, W: io::Write>(alloc: Global, reader: &mut R, writer: &mut W) -> u8
+    ensures { WritesText (R.remaining reader.old) (W.contents writer.old) (W.contents writer.new) result }
+{
+    let mut script = Vec::new(alloc);
+    if let Err(error) = reader.read_to_end(&mut script) {
+        return refuse(writer, refusal_of(&error), FAILED);
+    }
+    match first_fault(script.as_slice()) {
+        Some(line) => refuse(writer, Refusal::BadScript(line), FAULT),
+        None => run_lines(alloc, script.as_slice(), writer),
+    }
+}
+
+/// A read that fails counts as a device's failure, where it isn't for want of memory.
+pub fn refusal_of(error: &io::Error) -> Refusal
+    ensures { (result ≡ Refusal.NoMemory) ⊎ (result ≡ Refusal.Device) }
+{
+    if error.kind() == io::ErrorKind::OutOfMemory {
+        Refusal::NoMemory
+    } else {
+        Refusal::Device
+    }
+}
+
+/// Writes the refusal's line alone.
+pub fn refuse<W: io::Write>(writer: &mut W, refusal: Refusal, status: u8) -> u8
+    ensures { WritesAlone (refusal_line refusal) status (W.contents writer.old) (W.contents writer.new) result }
+{
+    match print_refusal(writer, refusal) {
+        Ok(()) => status,
+        Err(_) => FAILED,
+    }
+}
+
+/// Runs the lines of a script that was checked.
+fn run_lines<W: io::Write>(alloc: Global, script: &[u8], writer: &mut W) -> u8
+    ensures { WritesLines script.now (W.contents writer.old) (W.contents writer.new) result }
+{
+    match Shell::new(alloc) {
+        Ok(mut shell) => run_from(&mut shell, script, writer),
+        Err(refusal) => refuse(writer, refusal, FAILED),
+    }
+}
+
+fn run_from<W: io::Write>(shell: &mut Shell, script: &[u8], writer: &mut W) -> u8
+    ensures { WritesRun (commands_of (lines_of script.now)) shell.old.world (number_in shell.old.labels)
+        (W.contents writer.old) (W.contents writer.new) result }
+{
+    let mut left = Some(script);
+    while let Some(bytes) = left {
+        let (line, rest) = cut_at(bytes, b'\n');
+        if !run_line(shell, line, writer) {
+            return FAILED;
+        }
+        left = rest;
+    }
+    DONE
+}
+
+/// Runs a line and writes its text. Gives whether the run goes on.
+fn run_line<W: io::Write>(shell: &mut Shell, line: &[u8], writer: &mut W) -> bool
+    ensures { WritesLine result (asked line.now) shell.old.world (number_in shell.old.labels) shell.new.world
+        (number_in shell.new.labels) (W.contents writer.old) (W.contents writer.new) }
+{
+    let Some(line) = request(line) else {
+        return true;
+    };
+    let came = shell.perform(&line);
+    came.show(&shell.world, writer)
+}

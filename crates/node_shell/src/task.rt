@@ -1,0 +1,94 @@
+//! The command line.
+ghost use Rattle.std.specs.Prelude.{◌≡◌, IfOk, map};
+ghost use Rattle.clap.specs.Kinds.{FailsBy};
+ghost use Rattle.clap.specs.Faults.{fault_of};
+ghost use Rattle.clap.specs.Simple.{app_of};
+ghost use Rattle.node_shell.specs.CommandLine.{command_line};
+
+use clap::{Command, Error};
+use std::alloc::{AllocError, Global};
+use std::convert::AsStr;
+
+/// What the command line asks for.
+#[derive(Debug, Clone, Copy, PartialEq, Eq)]
+pub enum Task {
+    /// A script is read from standard input and run.
+    Run,
+}
+
+const LINES: &str = "\
+A script is lines; empty lines and lines that begin with # are skipped.
+
+  begin T       begins a transaction and names it by the label T
+  insert T K V  puts the record K=V for transaction T, where there is none
+  update T K V  gives the record K that is there the value V
+  upsert T K V  puts the record K=V, whether there is one or not
+  delete T K    removes the record K that is there
+  add T K N     adds N to the number that the record K holds, modulo 2 to the power of 64
+  get T K       asks for the value of the record K
+  scan T K K    asks for the records from the first key on, below the second
+  scan T K *    asks for the records from K on
+  save T        sets a savepoint of transaction T, and prints its number
+  back T N      rolls transaction T back to its savepoint N
+  rollback T    rolls transaction T back
+  commit T      commits transaction T, which is told once the log is stable
+  force         makes the log stable
+  send T        sends the unanswered request of transaction T, first or again
+  undo T        does one step of the rollback of transaction T
+  low N         tells the data component that no number up to N is sent again
+  checkpoint    asks the data component to write its leaves, so that redo may begin
+                past the greatest number that was announced by low
+  req N         delivers the request numbered N
+  rep N         delivers the reply numbered N
+  split K       splits the leaf that has the key K
+  merge K       joins the leaf that has the key K with the leaf after it
+  tend          splits one leaf that is large, or joins two that are small
+  flush K       writes the leaf that has the key K to its page
+  crash C N N   the component C loses what isn't on its devices; of the records of
+                its log that aren't stable the first N stay, and of the next one
+                the second N bytes
+  restart C     opens the component C on its devices
+  connect       starts a session of the two components
+  recover       does one step of recovery
+  settle        lets the node work until nothing is left to do
+  settle N      lets it work for N rounds at most
+  table         prints each record of the data component
+  log           prints each record of the transaction log
+  leaves        prints each leaf of the data component
+
+T is 1 to 8 lower case letters or digits. K and V are letters and digits, or a dot
+for the empty text; a key has 1 to 32 bytes, a value 0 to 120. V may also be # and 1
+to 120 bytes, each as two lower case hexadecimal digits; a value of 8 bytes is a
+number, the greatest part first. N is a decimal number below 2 to the power of 48,
+or of 64 where it is added. C is tc, the transaction component, or dc, the data
+component. Words are separated by one space. The whole script is checked before its
+first line is run.
+
+Exit status: 0; 2 for a line or a command line outside the grammar; 3 where memory
+or a device failed.";
+
+/// What these words ask for, the first of them the program's name. Refused just where they have a fault or ask for
+/// help, with the kind of that, or where memory runs out.
+pub fn choose<S: AsStr>(alloc: Global, words: &[S]) -> Result<Task, Error>
+    ensures task { IfOk result (λ task. task ≡ Task.Run) }
+    ensures fault { FailsBy (fault_of command_line (map S.text words.now)) result }
+{
+    match command_line(alloc)?.try_get_matches_from(words) {
+        Ok(_) => Ok(Task::Run),
+        Err(fault) => Err(fault),
+    }
+}
+
+/// The program and its subcommand.
+fn command_line<'a>(alloc: Global) -> Result<Command<'a>, AllocError>
+    ensures { IfOk result (λ program. app_of program ≡ command_line) }
+{
+    let run = Command::new(alloc, "run")
+        .about("Reads a script from standard input and prints what its lines came to")
+        .after_help(LINES);
+    Command::new(alloc, "undo_shell")
+        .about("A database kernel in two components that undoes by logged compensations")
+        .after_help(LINES)
+        .subcommand_required(true)
+        .subcommand(run)
+}

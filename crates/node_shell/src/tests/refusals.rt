@@ -1,0 +1,22 @@
+//! Refusals that no script brings about.
+use crate::printed::print_refusal;
+use record_key::Refusal;
+use std::process::Abort;
+
+fn assert_refusal<R: Abort + AllocGlobal>(rt: &R, refusal: Refusal, text: &str) {
+    let mut written = Vec::new(rt.alloc());
+    assert!(rt; print_refusal(&mut written, refusal).is_ok());
+    assert_eq!(rt; written.as_slice(), text.as_bytes());
+}
+
+#[test]
+fn refusals_of_memory_bytes_and_numbers(rt: HostRuntime) {
+    assert_refusal(&rt, Refusal::NoMemory, "no 1 NoMemory\n");
+    assert_refusal(&rt, Refusal::BadBytes(0), "no 19 BadBytes 0\n");
+    assert_refusal(&rt, Refusal::NumbersSpent, "no 20 NumbersSpent\n");
+    assert_refusal(
+        &rt,
+        Refusal::BadScript(u64::MAX),
+        "no 17 BadScript 18446744073709551615\n",
+    );
+}

@@ -1,5 +1,0 @@
-use Rattle.undo_shell.proofs.Running.{unread}
-use Rattle.undo_shell.proofs.run.run.Goals as goal
-
-pub returns-in-Err : goal.returns-in-Err
-returns-in-Err g c = unread _ _ _ c.refusal_of.result c.refuse.result c.refusal_of.ensures c.refuse.ensures
