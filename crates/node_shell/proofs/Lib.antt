@@ -4,3 +4,4 @@ pub mod Grammar
 pub mod Bindings
 pub mod Running
 pub mod Numbers
+pub mod Telling

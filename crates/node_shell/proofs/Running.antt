@@ -6,10 +6,11 @@ use Rattle.record_key.specs.declared.refusal.Refusal.TheVariants as refusal
 use Rattle.world.specs.Node.{NodeView}
 use Rattle.node_shell.specs.declared.line_result.LineResult.{LineResult}
 use Rattle.node_shell.specs.Labels.{Bindings}
-use Rattle.node_shell.specs.Script.{Command, onto, first_fault}
+use Rattle.node_shell.specs.Script.{Command, onto, first_fault, commands_of, lines_of}
 use Rattle.node_shell.specs.Printed.{IsCut, refusal_line}
 use Rattle.node_shell.specs.Text.{ComesTo, Runs, goes_on, fails, is_cut, done, Shows, ends_run, result_text, WritesLine, WritesRun, WritesLines, WritesAlone, WritesText, IsAlone, IsAllOf, IsTextAfterCheck}
 use Rattle.node_shell.proofs.Printing.{appends_then}
+use Rattle.node_shell.proofs.Telling.{told_run}
 
 pub shows_by : (e : Bool) (r : LineResult) (view : NodeView) (old new : Option (List ℕ)) → e ≡ ends_run r
     → Appends old new (result_text r view) → Shows (not e) r view old new
@@ -111,7 +112,7 @@ ran given old new script status all ok (inl h) =
     record {
       text = h.2.text;
       appended = h.2.appended;
-      is_text = inl (script, all, subst P (sym ok) (h.0, h.1, h.2.runs));
+      is_text = inl (script, all, subst P (sym ok) (h.0, h.1, told_run (commands_of (lines_of script)) h.0 h.2.text status h.2.runs));
     }
 ran given old new script status all ok (inr h) =
     record { text = h.text; appended = h.appended; is_text = inr (inl h.alone) }

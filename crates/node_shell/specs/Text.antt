@@ -6,11 +6,14 @@ use Rattle.record_key.specs.declared.refusal.Refusal.TheVariants as refusal
 use Rattle.record_key.specs.FirstCause.{first_of}
 use Rattle.record_key.specs.declared.op.Op.{Op}
 use Rattle.record_key.specs.declared.op.Op.TheVariants as op
+use Rattle.history.specs.ListMachine.{Line, IsRun}
 use Rattle.world.specs.declared.event.Event.{Event}
 use Rattle.world.specs.declared.event.Event.TheVariants as event
 use Rattle.world.specs.declared.event.Out.{Out}
 use Rattle.world.specs.declared.event.Out.TheVariants as out
-use Rattle.world.specs.Node.{NodeView, fresh_node, StepsTo}
+use Rattle.world.specs.Node.{NodeView, fresh_node}
+use Rattle.world.specs.Stepping.{IsStep, told_by_all}
+use Rattle.world.specs.Simulation as sim
 use Rattle.world.specs.Rounds.{Settles}
 use Rattle.node_shell.specs.Labels.{Bindings, unbound, AreSame, IsBound}
 use Rattle.node_shell.specs.declared.line.Kind.{Kind}
@@ -35,7 +38,7 @@ Rebinds _ label old new = AreSame old new
 
 -- `begin` is an event; that it is refused for want of memory may be for want of room for the label
 abbrev pub Begins : List ℕ → NodeView → Bindings → Out → NodeView → Bindings → Type 0
-Begins label before old output after new = StepsTo before event.Begin output after × Rebinds output label old new
+Begins label before old output after new = IsStep before event.Begin output after × Rebinds output label old new
 
 -- what is wrong with the lengths of a key and a value: an empty key first, then a word that is too long
 abbrev pub long_fault : List ℕ → List ℕ → Option Refusal
@@ -47,7 +50,7 @@ length_fault (b ∷ bs) value = long_fault (b ∷ bs) value
 
 -- an event, where there is no refusal before it
 abbrev pub StepsUnless : Option Refusal → NodeView → Event → Out → NodeView → Type 0
-StepsUnless None before e output after = StepsTo before e output after
+StepsUnless None before e output after = IsStep before e output after
 StepsUnless (Some r) before e output after = (output ≡ out.Refused r) × (after ≡ before)
 
 -- the operation of a write
@@ -131,12 +134,39 @@ ComesTo (gets label key) before old r after new =
 ComesTo (scans label low high) before old r after new =
     IsEvent (λ output. Scans label low high before old output after) r × AreSame old new
 ComesTo (calls label c) before old r after new =
-    IsEvent (λ output. StepsTo before (event_of c (old label)) output after) r × AreSame old new
+    IsEvent (λ output. IsStep before (event_of c (old label)) output after) r × AreSame old new
 ComesTo (treats c key) before old r after new = IsEvent (λ output. Treats c key before output after) r × AreSame old new
-ComesTo (steps e) before old r after new = IsEvent (λ output. StepsTo before e output after) r × AreSame old new
+ComesTo (steps e) before old r after new = IsEvent (λ output. IsStep before e output after) r × AreSame old new
 ComesTo (settles most) before old r after new = IsSettling most before r after × AreSame old new
 ComesTo tables before old r after new = IsTable before r × (after ≡ before) × AreSame old new
 ComesTo (shows p) before old r after new = (r ≡ came.Shown p) × (after ≡ before) × AreSame old new
+
+-- the client's call and the told lines of an event with its output; none, where the call never reached the node
+abbrev pub lines_if : Option (List Line) → List Line
+lines_if None = []
+lines_if (Some lines) = lines
+
+abbrev pub lines_unless : Option Refusal → Event → Out → List Line
+lines_unless None e output = lines_if (sim.lines_of e output)
+lines_unless (Some r) e output = []
+
+-- the calls and the told lines of a line of the script, with what it came to
+abbrev pub client_lines : Command → Bindings → LineResult → List Line
+client_lines (begins label) labels (came.Event output) = lines_if (sim.lines_of event.Begin output)
+client_lines (writes label k key value) labels (came.Event output) =
+    lines_unless (length_fault key value) (event.Act (labels label) (op_of k key value)) output
+client_lines (adds label key amount) labels (came.Event output) =
+    lines_unless (keys_fault key None) (event.Act (labels label) (op.Add key amount)) output
+client_lines (gets label key) labels (came.Event output) =
+    lines_unless (keys_fault key None) (event.Get (labels label) key) output
+client_lines (scans label low high) labels (came.Event output) =
+    lines_unless (keys_fault low high) (event.Scan (labels label) low high) output
+client_lines (calls label c) labels (came.Event output) = lines_if (sim.lines_of (event_of c (labels label)) output)
+client_lines (treats c key) labels (came.Event output) =
+    lines_unless (keys_fault key None) (leaf_event c key) output
+client_lines (steps e) labels (came.Event output) = lines_if (sim.lines_of e output)
+client_lines (settles most) labels (came.Settled outs end) = told_by_all outs.items
+client_lines _ labels r = []
 
 -- what is printed of a line's result, where this is the node after it
 abbrev pub result_text : LineResult → NodeView → List ℕ
@@ -186,6 +216,15 @@ pub data Runs : List Command → NodeView → Bindings → List ℕ → ℕ → 
       (next : Bindings) (text : List ℕ)
       → ComesTo c view labels r after next → IsBeginning text (result_text r after) → Runs (c ∷ cs) view labels text 3
 
+-- the calls and the told lines of a run
+abbrev pub run_lines : (commands : List Command) (view : NodeView) (labels : Bindings) (text : List ℕ) (status : ℕ)
+    → Runs commands view labels text status → List Line
+run_lines _ _ _ _ _ (done view labels) = []
+run_lines _ _ _ _ _ (goes_on c cs view labels r after next text status came on rest) =
+    client_lines c labels r ++ run_lines cs after next text status rest
+run_lines _ _ _ _ _ (fails c cs view labels r after next came over) = client_lines c labels r
+run_lines _ _ _ _ _ (is_cut c cs view labels r after next text came cut) = client_lines c labels r
+
 -- the text of these lines is written
 pub record WritesRun (commands : List Command) (view : NodeView) (labels : Bindings) (old new : Option (List ℕ))
     (status : ℕ) : Type 0 where
@@ -224,11 +263,18 @@ WritesLines script old new status =
     × WritesRun (commands_of (lines_of script)) fresh_node labels old new status)
     ⊎ WritesAlone (refusal_line refusal.NoMemory) 3 old new status
 
+-- the headline: the calls and the told lines of these lines are a run of the list machine, from the empty one on
+pub record IsToldRun (commands : List Command) (view : NodeView) (labels : Bindings) (text : List ℕ) (status : ℕ) :
+    Type 0 where
+  pub runs : Runs commands view labels text status
+  pub is_run : IsRun (run_lines commands view labels text status runs)
+
 -- the text of a script, where this is its first fault
 abbrev pub IsTextAfterCheck : Option ℕ → List ℕ → List ℕ → ℕ → Type 0
 IsTextAfterCheck (Some line) script text status = IsAlone (refusal_line (refusal.BadScript line)) 2 text status
 IsTextAfterCheck None script text status =
-    (labels : Bindings) × AreSame unbound labels × Runs (commands_of (lines_of script)) fresh_node labels text status
+    (labels : Bindings) × AreSame unbound labels
+    × IsToldRun (commands_of (lines_of script)) fresh_node labels text status
 
 abbrev pub IsTextOf : List ℕ → List ℕ → ℕ → Type 0
 IsTextOf script text status = IsTextAfterCheck (first_fault script) script text status

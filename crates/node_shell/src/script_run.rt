@@ -19,7 +19,8 @@ pub const FAULT: u8 = 2;
 /// The exit status where memory or a device failed.
 pub const FAILED: u8 = 3;
 
-/// Reads the script, runs it and writes its text. Gives the exit status.
+/// Reads the script, runs it and writes its text. Gives the exit status. The calls in the script, with what they were
+/// answered and told, are a run of the list machine, from the empty one on.
 pub fn run<R: io::Read, W: io::Write>(alloc: Global, reader: &mut R, writer: &mut W) -> u8
     ensures { WritesText (R.remaining reader.old) (W.contents writer.old) (W.contents writer.new) result }
 {

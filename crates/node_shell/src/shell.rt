@@ -74,6 +74,7 @@ impl Shell {
         ensures { Begins label.now self.old.world (number_in self.old.labels) result self.new.world
             (number_in self.new.labels) }
     {
+        self.world.kept();
         if let Err(refusal) = self.make_way(label) {
             return Out::Refused(refusal);
         }

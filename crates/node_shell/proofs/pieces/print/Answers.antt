@@ -1,9 +1,13 @@
+use Rattle.std.proofs.Common.{subst}
 use Rattle.node_shell.proofs.Printing.{prints_err, cut_in_list}
-use Rattle.node_shell.specs.Printed.{piece_text}
+use Rattle.node_shell.specs.declared.pieces.Piece.{Piece}
+use Rattle.node_shell.specs.Printed.{IsCut, piece_text}
 use Rattle.node_shell.proofs.pieces.print.Goals as goal
 
 pub returns-in_err-put_piece : goal.returns-in_err-put_piece
 returns-in_err-put_piece g c =
+    let Cut : Piece → Type 0 =
+    λ p. IsCut (g.W.Write.contents c.loop-piece.writer) (g.W.Write.contents c.put_piece.new.writer) (piece_text p) in
     prints_err _ _ _ c.from_residual.result c.from_residual.ensures.0
-    (cut_in_list piece_text _ _ _ c.args.pieces.now c.loop-piece.piece-index _ c.loop-piece-test.true
-    c.loop-piece.invariant c.in_err-put_piece.ensures)
+    (cut_in_list piece_text _ _ _ c.args.pieces.now c.loop-piece.piece-index c.piece-item.result
+    c.loop-piece-test.true c.loop-piece.invariant (subst Cut c.piece-item.is c.in_err-put_piece.ensures))

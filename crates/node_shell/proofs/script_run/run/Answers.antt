@@ -1,5 +1,21 @@
-use Rattle.node_shell.proofs.Running.{unread}
+use Rattle.std.proofs.Common.{rules, ◌≡◌, ℕ, List, Option, None, sym, ap, ◌∙◌, subst}
+use Rattle.node_shell.specs.Script.{first_fault}
+use Rattle.node_shell.specs.Text.{WritesLines, IsAllOf}
+use Rattle.node_shell.proofs.Running.{unread, ran}
 use Rattle.node_shell.proofs.script_run.run.Goals as goal
 
 pub returns-in-Err : goal.returns-in-Err
 returns-in-Err g c = unread _ _ _ c.refusal_of.result c.refuse.result c.refusal_of.ensures c.refuse.ensures
+
+pub returns : goal.returns
+returns g c =
+    let given : Option (List ℕ) = g.R.Read.remaining c.args.reader.now in
+    let old : Option (List ℕ) = g.W.Write.contents c.args.writer.now in
+    let new : Option (List ℕ) = g.W.Write.contents c.run_lines.new.writer in
+    let script : List ℕ = c.read_to_end.new.buf.items in
+    let all : IsAllOf given script = search rules in
+    let ok : first_fault script ≡ None =
+    ap first_fault (sym c.as_slice.ensures.value) ∙ sym c.first_fault.ensures ∙ c.in-None.is in
+    ran given old new script c.run_lines.result all ok
+    (subst (λ (s : List ℕ). WritesLines s old new c.run_lines.result) c.as_slice-in-None.ensures.value
+    c.run_lines.ensures)

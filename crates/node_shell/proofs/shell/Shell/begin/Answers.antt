@@ -1,0 +1,16 @@
+use Rattle.std.proofs.Common.{rules, sym, subst}
+use Rattle.world.specs.declared.event.Event.TheVariants as event
+use Rattle.world.specs.declared.event.Out.TheVariants as out
+use Rattle.world.specs.Node.{NodeView, StepsTo}
+use Rattle.world.specs.Stepping.{IsStep}
+use Rattle.node_shell.proofs.Telling.{refused_step}
+use Rattle.node_shell.proofs.shell.Shell.begin.Goals as goal
+
+pub returns-in-Err : goal.returns-in-Err
+returns-in-Err c =
+    let w : NodeView = c.args.self.now.world in
+    let P : NodeView → Type 0 = IsStep w event.Begin (out.Refused c.in-Err.refusal) in
+    let step : StepsTo w event.Begin (out.Refused c.in-Err.refusal) w = search rules in (
+      subst P (sym c.make_way.ensures.world) (refused_step w c.in-Err.refusal c.kept.ensures.kept step),
+      c.make_way.ensures.labels,
+    )
