@@ -1,0 +1,95 @@
+//! Replies.
+ghost use Rattle.codec.specs.Replies.{IsOrdered};
+
+use crate::rows::put_rows;
+use crate::walking::{Found, Reading};
+use crate::written::{marked, told, unwritten};
+use codec::{Reply, Taken, put_reply, reply_session, take_reply};
+use record_key::{Answer, Refusal, Value};
+use std::fmt::Write;
+use test_lines::{put_answer, put_text};
+
+#[tactic(auto, using(codec::proofs::Replies::is_ordered))]
+pub fn read(reading: &Reading<'_>, answer: &mut String) -> Result<Found, Refusal> {
+    let taken = take_reply(reading.alloc, reading.bytes, reading.at)?;
+    match taken {
+        Taken::Record(found, next) => {
+            let out = written(reading, &found)?;
+            put_told(reading, answer, &found)?;
+            told(reading, next, &out, answer)
+        }
+        Taken::Short => Ok(Found::Short),
+        Taken::Bad(place) => Ok(Found::Bad(place)),
+    }
+}
+
+/// What is written of it behind the mark. Refused NoMemory.
+fn written(reading: &Reading<'_>, found: &Reply) -> Result<Vec<u8>, Refusal>
+    requires { IsOrdered found.now }
+{
+    let mut out = marked(reading)?;
+    match put_reply(&mut out, found) {
+        Ok(()) => Ok(out),
+        Err(refusal) => Err(unwritten(refusal, &out)),
+    }
+}
+
+/// Tells the reply, and where its session is found to be another one without its rows.
+fn put_told(reading: &Reading<'_>, answer: &mut String, reply: &Reply) -> Result<(), Refusal> {
+    if reading.tells {
+        put_fields(answer, reply)?;
+    }
+    if reply_session(reading.bytes, reading.at) != Some(reply.session()) {
+        answer.push_str(" of another session")?;
+    }
+    Ok(())
+}
+
+fn put_fields(answer: &mut String, reply: &Reply) -> Result<(), Refusal> {
+    match reply {
+        Reply::Connected { session } => write!(answer, "connected session {session}")?,
+        Reply::Answered {
+            session,
+            number,
+            answer: given,
+        } => {
+            write!(answer, "answered session {session} number {number} ")?;
+            put_given(answer, given)?;
+        }
+        Reply::Row {
+            session,
+            read,
+            value,
+        } => {
+            write!(answer, "row session {session} read {read} ")?;
+            put_value(answer, value)?;
+        }
+        Reply::Rows {
+            session,
+            read,
+            rows,
+        } => {
+            write!(answer, "rows session {session} read {read}")?;
+            put_rows(answer, rows.as_slice())?;
+        }
+        Reply::Checkpointed { session, low } => {
+            write!(answer, "checkpointed session {session} low {low}")?;
+        }
+        Reply::RedoEnded { session } => write!(answer, "redoended session {session}")?,
+    }
+    Ok(())
+}
+
+fn put_given(answer: &mut String, given: &Option<Answer>) -> Result<(), Refusal> {
+    match given {
+        Some(given) => put_answer(answer, given),
+        None => Ok(answer.push('-')?),
+    }
+}
+
+fn put_value(answer: &mut String, value: &Option<Value>) -> Result<(), Refusal> {
+    match value {
+        Some(value) => put_text(answer, value.as_bytes()),
+        None => Ok(answer.push('-')?),
+    }
+}

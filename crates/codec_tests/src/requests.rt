@@ -1,0 +1,73 @@
+//! Requests.
+ghost use Rattle.codec.specs.Requests.{HasRequestNumbers};
+
+use crate::walking::{Found, Reading};
+use crate::written::{marked, told, unwritten};
+use codec::{Request, Taken, put_request, take_request};
+use record_key::Refusal;
+use std::fmt::Write;
+use test_lines::{put_key, put_op};
+
+#[tactic(auto, using(codec::proofs::Requests::request_fits))]
+pub fn read(reading: &Reading<'_>, answer: &mut String) -> Result<Found, Refusal> {
+    match take_request(reading.bytes, reading.at) {
+        Taken::Record(found, next) => {
+            let out = written(reading, &found)?;
+            if reading.tells {
+                put_fields(answer, &found)?;
+            }
+            told(reading, next, &out, answer)
+        }
+        Taken::Short => Ok(Found::Short),
+        Taken::Bad(place) => Ok(Found::Bad(place)),
+    }
+}
+
+/// What is written of it behind the mark. Refused NoMemory.
+fn written(reading: &Reading<'_>, found: &Request) -> Result<Vec<u8>, Refusal>
+    requires { HasRequestNumbers found.now }
+{
+    let mut out = marked(reading)?;
+    match put_request(&mut out, found) {
+        Ok(()) => Ok(out),
+        Err(refusal) => Err(unwritten(refusal, &out)),
+    }
+}
+
+fn put_fields(answer: &mut String, request: &Request) -> Result<(), Refusal> {
+    match request {
+        Request::Connect { session } => write!(answer, "connect session {session}")?,
+        Request::Perform {
+            session,
+            number,
+            op,
+        } => {
+            write!(answer, "perform session {session} number {number} ")?;
+            put_op(answer, op)?;
+        }
+        Request::Get { session, read, key } => {
+            write!(answer, "get session {session} read {read}")?;
+            put_key(answer, " key", key)?;
+        }
+        Request::Scan {
+            session,
+            read,
+            low,
+            high,
+        } => {
+            write!(answer, "scan session {session} read {read}")?;
+            put_key(answer, " from", low)?;
+            if let Some(high) = high {
+                put_key(answer, " to", high)?;
+            }
+        }
+        Request::LowWater { session, low } => {
+            write!(answer, "lowwater session {session} low {low}")?;
+        }
+        Request::Checkpoint { session, low } => {
+            write!(answer, "checkpoint session {session} low {low}")?;
+        }
+        Request::RedoEnd { session } => write!(answer, "redoend session {session}")?,
+    }
+    Ok(())
+}

@@ -1,2 +1,0 @@
-mod frames;
-mod values;

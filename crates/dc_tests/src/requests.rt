@@ -1,0 +1,63 @@
+//! Requests that words spell, and the text of replies.
+use call_lines::{Text, UNREADABLE, Words};
+use codec::{Reply, Request};
+use record_key::Refusal;
+
+/// The request of this name.
+pub fn request_of(name: &str, words: &mut Words) -> Result<Request, Refusal> {
+    let session = words.number()?;
+    match name {
+        "connect" => Ok(Request::Connect { session }),
+        "redoend" => Ok(Request::RedoEnd { session }),
+        "perform" => Ok(Request::Perform {
+            session,
+            number: words.number()?,
+            op: words.op()?,
+        }),
+        "get" => Ok(Request::Get {
+            session,
+            read: words.number()?,
+            key: words.key()?,
+        }),
+        "scan" => Ok(Request::Scan {
+            session,
+            read: words.number()?,
+            low: words.key()?,
+            high: words.end()?,
+        }),
+        "low" => Ok(Request::LowWater {
+            session,
+            low: words.number()?,
+        }),
+        "checkpoint" => Ok(Request::Checkpoint {
+            session,
+            low: words.number()?,
+        }),
+        _ => Err(UNREADABLE),
+    }
+}
+
+pub fn put_reply(text: &mut Text, reply: &Reply) {
+    match reply {
+        Reply::Connected { session } => put_numbered(text, "connected", *session),
+        Reply::RedoEnded { session } => put_numbered(text, "redoended", *session),
+        Reply::Checkpointed { low, .. } => put_numbered(text, "checkpointed", *low),
+        Reply::Answered { answer, .. } => match answer {
+            Some(answer) => text.put_answer(answer),
+            None => text.put("done"),
+        },
+        Reply::Row { value, .. } => {
+            text.put("row");
+            text.put_found(value.as_ref());
+        }
+        Reply::Rows { rows, .. } => {
+            text.put("rows");
+            text.put_rows(rows.as_slice());
+        }
+    }
+}
+
+fn put_numbered(text: &mut Text, word: &str, number: u64) {
+    text.put(word);
+    text.put_number(number);
+}

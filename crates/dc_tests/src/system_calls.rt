@@ -1,0 +1,124 @@
+//! The calls of system transactions that lines spell.
+use crate::component_calls::{add_leaf, put_leaf, put_pair, put_tended};
+use btree::LeafList;
+use call_lines::{Digest, Text, UNREADABLE, Words};
+use page::{Done, Leaf};
+use record_key::{Key, Op, Refusal};
+use stable::{MemLog, MemPages};
+use system_txn::{Neighbours, SystemTxns, Tended};
+
+pub type System = SystemTxns<LeafList, MemLog, MemPages>;
+
+/// What numbers of requests, low numbers and sessions are below.
+const NUMBERS: u64 = 1 << 48;
+
+pub fn call_of(
+    system: &mut System,
+    name: &str,
+    words: &mut Words,
+    answer: &mut Text,
+) -> Result<(), Refusal> {
+    match name {
+        "perform" => {
+            let number = number_of(words)?;
+            put_done(answer, &perform(system, number, &words.op()?)?);
+        }
+        "split" => put_pair(answer, "split", split(system, &words.key()?)?),
+        "merge" => put_pair(answer, "merged", merge(system, &words.key()?)?),
+        "tend" => put_tended(answer, tend(system, words.word() == "merging")?),
+        "flush" => {
+            answer.put("flushed");
+            answer.put_number(flush(system, &words.key()?)?);
+        }
+        "checkpoint" => checkpoint(system, number_of(words)?)?,
+        "accept" => accept(system, number_of(words)?)?,
+        "lower" => lower(system, number_of(words)?),
+        _ => read(system, name, words, answer)?,
+    }
+    Ok(())
+}
+
+fn read(system: &System, name: &str, words: &mut Words, answer: &mut Text) -> Result<(), Refusal> {
+    match name {
+        "count" => answer.put_number(system.len() as u64),
+        "records" => answer.put_number(system.records()),
+        "stable" => answer.put_number(system.stable_end()),
+        "place" => answer.put_number(system.place_of(&words.key()?) as u64),
+        "get" => answer.put_found(system.get(&words.key()?)),
+        "leaf" => put_leaf(answer, leaf_at(system, words.number()? as usize)?),
+        "scan" => {
+            let low = words.key()?;
+            let rows = system.scan(&low, words.end()?.as_ref())?;
+            answer.put("rows");
+            answer.put_rows(rows.as_slice());
+        }
+        _ => return Err(UNREADABLE),
+    }
+    Ok(())
+}
+
+fn number_of(words: &mut Words) -> Result<u64, Refusal> {
+    Ok(words.number()? % NUMBERS)
+}
+
+// Each of these drops what its call promises, so that what calls it is checked soon.
+
+fn perform(system: &mut System, number: u64, op: &Op) -> Result<Done, Refusal> {
+    system.perform(number % NUMBERS, op)
+}
+
+fn split(system: &mut System, key: &Key) -> Result<Neighbours, Refusal> {
+    system.split(key)
+}
+
+fn merge(system: &mut System, key: &Key) -> Result<Neighbours, Refusal> {
+    system.merge(key)
+}
+
+fn tend(system: &mut System, merges: bool) -> Result<Tended, Refusal> {
+    system.tend(merges)
+}
+
+fn flush(system: &mut System, key: &Key) -> Result<u64, Refusal> {
+    system.flush(key)
+}
+
+fn checkpoint(system: &mut System, low: u64) -> Result<(), Refusal> {
+    system.checkpoint(low % NUMBERS)
+}
+
+fn accept(system: &mut System, session: u64) -> Result<(), Refusal> {
+    system.accept(session % NUMBERS)
+}
+
+fn lower(system: &mut System, low: u64) {
+    system.lower(low % NUMBERS);
+}
+
+fn leaf_at(system: &System, place: usize) -> Result<&Leaf, Refusal> {
+    if place < system.len() {
+        Ok(system.leaf(place))
+    } else {
+        Err(UNREADABLE)
+    }
+}
+
+fn put_done(answer: &mut Text, done: &Done) {
+    match done {
+        Done::Performed(what) => answer.put_answer(what),
+        Done::Repeated(Some(saved)) => {
+            answer.put("again");
+            answer.put_answer(saved);
+        }
+        Done::Repeated(None) => answer.put("again -"),
+    }
+}
+
+/// What a refused call leaves.
+pub fn add_seen(digest: &mut Digest, system: &System) {
+    digest.add_number(system.records());
+    digest.add_number(system.stable_end());
+    for place in 0..system.len() {
+        add_leaf(digest, system.leaf(place));
+    }
+}

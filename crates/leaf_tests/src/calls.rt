@@ -1,0 +1,45 @@
+//! Calls of leaves, each in a function that promises nothing, so that what calls it is checked soon.
+use btree::{LeafSet, merge_at, one_leaf, split_at};
+use call_lines::Tally;
+use page::Done;
+use record_key::{Key, Op, Refusal, Value};
+use std::alloc::Global;
+
+pub fn perform<L: LeafSet>(leaves: &mut L, number: u64, op: &Op) -> Result<Done, Refusal> {
+    leaves.perform(number, op)
+}
+
+pub fn get<'a, L: LeafSet>(leaves: &'a L, key: &Key) -> Option<&'a Value> {
+    leaves.get(key)
+}
+
+pub fn scan<L: LeafSet>(
+    leaves: &L,
+    low: &Key,
+    high: Option<&Key>,
+) -> Result<Vec<(Key, Value)>, Refusal> {
+    leaves.scan(low, high)
+}
+
+pub fn split<L: LeafSet>(leaves: &mut L, key: &Key, id: u64, number: u64) -> Result<(), Refusal> {
+    split_at(leaves, key, id, number)
+}
+
+pub fn merge<L: LeafSet>(leaves: &mut L, key: &Key, number: u64) -> Result<(), Refusal> {
+    merge_at(leaves, key, number)
+}
+
+pub fn raise<L: LeafSet>(leaves: &mut L, low: u64) {
+    leaves.raise(low);
+}
+
+/// One leaf, made again where memory is refused.
+pub fn one_leaf_again<L: LeafSet>(alloc: Global, tally: &mut Tally) -> Result<L, Refusal> {
+    match one_leaf(alloc) {
+        Err(Refusal::NoMemory) => {
+            tally.count_memory();
+            one_leaf(alloc)
+        }
+        leaves => leaves,
+    }
+}

@@ -1,0 +1,77 @@
+//! Whether leaves are the same.
+use crate::plain_leaves::PlainLeaves;
+use btree::{LeafList, LeafSet, Tree};
+use page::Leaf;
+use record_key::{Entries, Key, Value};
+
+/// Whether both list the same.
+fn are_same_entries(one: &Entries, other: &Entries) -> bool {
+    if one.len() != other.len() {
+        return false;
+    }
+    for place in 0..one.len() {
+        if one.entry(place) != other.entry(place) {
+            return false;
+        }
+    }
+    true
+}
+
+fn are_same(one: &Leaf, other: &Leaf) -> bool {
+    one.id() == other.id()
+        && one.last() == other.last()
+        && one.low() == other.low()
+        && one.low_fence() == other.low_fence()
+        && one.high_fence() == other.high_fence()
+        && one.rows() == other.rows()
+        && are_same_entries(one.entries(), other.entries())
+}
+
+/// Whether the leaves of both are the same, and so are those that are tended first.
+pub fn are_same_leaves(list: &LeafList, tree: &Tree) -> bool {
+    if list.len() != tree.len()
+        || list.first_large() != tree.first_large()
+        || list.first_pair() != tree.first_pair()
+    {
+        return false;
+    }
+    for place in 0..list.len() {
+        if !are_same(list.leaf(place), tree.leaf(place)) {
+            return false;
+        }
+    }
+    true
+}
+
+/// Whether the leaves begin at the plain program's fences and have its rows that lie there.
+pub fn are_plain<L: LeafSet>(leaves: &L, plain: &PlainLeaves) -> bool {
+    if leaves.len() != plain.fences().len().wrapping_add(1) {
+        return false;
+    }
+    leaves.kept();
+    let mut rows = plain.rows();
+    for place in 0..leaves.len() {
+        let leaf = leaves.leaf(place);
+        let count = count_below(rows, plain.fence(place.wrapping_add(1)));
+        if leaf.low_fence() != plain.fence(place) || rows.get(..count) != Some(leaf.rows()) {
+            return false;
+        }
+        rows = rows.get(count..).unwrap_or(&[]);
+    }
+    rows.is_empty()
+}
+
+/// How many of the first rows lie below the fence; all where there is none.
+fn count_below(rows: &[(Key, Value)], fence: Option<&Key>) -> usize {
+    let Some(fence) = fence else {
+        return rows.len();
+    };
+    let mut count = 0usize;
+    for row in rows {
+        if row.0 >= *fence {
+            break;
+        }
+        count = count.wrapping_add(1);
+    }
+    count
+}

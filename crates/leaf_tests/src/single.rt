@@ -1,0 +1,104 @@
+//! The calls that lines spell, on one leaf and the one that is cut off it.
+use crate::shown::{add_leaf, put_done, put_leaf};
+use call_lines::{Digest, Fault, Subject, Text, UNREADABLE, Words};
+use page::{Done, Leaf};
+use record_key::{Op, Refusal};
+use std::alloc::Global;
+
+#[derive(Drop)]
+pub struct Single {
+    alloc: Global,
+    leaf: Leaf,
+    upper: Option<Leaf>,
+}
+
+impl Single {
+    pub fn new(alloc: Global) -> Single {
+        Single {
+            alloc,
+            leaf: Leaf::first(alloc),
+            upper: None,
+        }
+    }
+
+    /// `perform N OP`.
+    fn perform(&mut self, words: &mut Words, answer: &mut Text) -> Result<(), Refusal> {
+        let number = words.number()?;
+        let done = on_whole(&mut self.leaf, number, &words.op()?)?;
+        put_done(answer, &done);
+        Ok(())
+    }
+
+    /// `cut KEY ID LAST`.
+    fn cut(&mut self, words: &mut Words) -> Result<(), Refusal> {
+        let key = words.key()?;
+        let id = words.number()?;
+        self.upper = Some(self.leaf.cut(&key, id, words.number()?)?);
+        Ok(())
+    }
+
+    /// `scan LOW HIGH`.
+    fn scan(&self, words: &mut Words, answer: &mut Text) -> Result<(), Refusal> {
+        let low = words.key()?;
+        let high = words.end()?;
+        answer.put("rows");
+        answer.put_rows(self.leaf.scan(&low, high.as_ref()));
+        Ok(())
+    }
+
+    fn read(&self, name: &str, words: &mut Words, answer: &mut Text) -> Result<(), Refusal> {
+        match name {
+            "get" => answer.put_found(self.leaf.get(&words.key()?)),
+            "show" => put_leaf(answer, &self.leaf),
+            "upper" => match &self.upper {
+                Some(upper) => put_leaf(answer, upper),
+                None => return Err(UNREADABLE),
+            },
+            "captures" => answer.put(if self.leaf.captures(words.number()?) {
+                "yes"
+            } else {
+                "no"
+            }),
+            _ => return Err(UNREADABLE),
+        }
+        Ok(())
+    }
+}
+
+/// Performs on a leaf without fences.
+fn on_whole(leaf: &mut Leaf, number: u64, op: &Op) -> Result<Done, Refusal> {
+    if leaf.low_fence().is_some() || leaf.high_fence().is_some() {
+        return Err(Refusal::NotNow);
+    }
+    leaf.perform(number, op)
+}
+
+impl Subject for Single {
+    fn renew(&mut self, _fault: Fault) -> Result<(), Refusal> {
+        *self = Single::new(self.alloc);
+        Ok(())
+    }
+
+    fn call(&mut self, words: &mut Words, answer: &mut Text) -> Result<(), Refusal> {
+        match words.word() {
+            "perform" => self.perform(words, answer),
+            "cut" => self.cut(words),
+            "scan" => self.scan(words, answer),
+            "raise" => {
+                self.leaf.raise(words.number()?);
+                Ok(())
+            }
+            name => self.read(name, words, answer),
+        }
+    }
+
+    fn digest(&self) -> u64 {
+        let mut digest = Digest::new();
+        add_leaf(&mut digest, &self.leaf);
+        digest.number()
+    }
+
+    fn may_leave(&self, _name: &str, _refusal: Refusal) -> bool {
+        false
+    }
+}

@@ -1,4 +1,0 @@
-//! A module for each crate.
-mod devices;
-mod legality;
-mod logs;

@@ -1,3 +1,0 @@
-//! A module for each crate.
-mod restarts;
-mod savepoints;
