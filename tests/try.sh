@@ -1,0 +1,23 @@
+#!/bin/sh
+# Runs programs of tests before any proof, each with the files of its folder data/, and compares what it prints with its
+# file stdout. Usage: tests/try.sh [NAME..]; without a name all of them. Takes about a minute each on a fresh machine.
+set -eu
+cd "$(dirname "$0")/../crates"
+[ $# -gt 0 ] || set -- record_tests codec_tests log_tests lock_tests leaf_tests dc_tests tc_tests script_tests
+status=0
+for name in "$@"; do
+    cd "$name"
+    given=
+    for file in data/*; do
+        given="$given --data $(basename "$file")=$file"
+    done
+    # No name of a file has a space.
+    # shellcheck disable=SC2086
+    if rt try $given 2>&1 | sed '/^checked: /,$d' | diff - stdout; then
+        echo "$name: as it should be"
+    else
+        status=1
+    fi
+    cd ..
+done
+exit $status
