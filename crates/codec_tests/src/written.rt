@@ -21,9 +21,10 @@ pub fn told(
     answer: &mut String,
 ) -> Result<Found, Refusal> {
     let spelled = reading.bytes.get(reading.at..next);
-    if out.get(1..) != spelled {
+    let written = out.get(1..);
+    if written != spelled {
         answer.push_str(" but written as ")?;
-        put_hex(answer, out)?;
+        put_hex(answer, written.unwrap_or(&[]))?;
     }
     Ok(Found::Whole(next))
 }

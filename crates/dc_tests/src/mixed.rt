@@ -93,8 +93,11 @@ fn answered(
         number,
         op,
     };
-    match asked_again(dc, &request, tally)? {
-        Some(Reply::Answered { answer, .. }) => Ok(answer),
+    let Some(reply) = asked_again(dc, &request, tally)? else {
+        return Err(Refusal::NotNow);
+    };
+    match reply {
+        Reply::Answered { answer, .. } => Ok(answer),
         _ => Err(Refusal::NotNow),
     }
 }
