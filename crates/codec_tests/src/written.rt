@@ -21,10 +21,9 @@ pub fn told(
     answer: &mut String,
 ) -> Result<Found, Refusal> {
     let spelled = reading.bytes.get(reading.at..next);
-    let written = out.get(1..);
-    if written != spelled {
+    if out.get(1..) != spelled {
         answer.push_str(" but written as ")?;
-        put_hex(answer, written.unwrap_or(&[]))?;
+        put_hex(answer, out)?;
     }
     Ok(Found::Whole(next))
 }

@@ -93,11 +93,15 @@ fn answered(
         number,
         op,
     };
-    let Some(reply) = asked_again(dc, &request, tally)? else {
-        return Err(Refusal::NotNow);
-    };
+    match asked_again(dc, &request, tally) {
+        Ok(reply) => answer_in(reply),
+        Err(refusal) => Err(refusal),
+    }
+}
+
+fn answer_in(reply: Option<Reply>) -> Result<Option<Answer>, Refusal> {
     match reply {
-        Reply::Answered { answer, .. } => Ok(answer),
+        Some(Reply::Answered { answer, .. }) => Ok(answer),
         _ => Err(Refusal::NotNow),
     }
 }
