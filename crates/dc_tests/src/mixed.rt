@@ -93,16 +93,12 @@ fn answered(
         number,
         op,
     };
-    match asked_again(dc, &request, tally) {
-        Ok(reply) => answer_in(reply),
-        Err(refusal) => Err(refusal),
-    }
-}
-
-fn answer_in(reply: Option<Reply>) -> Result<Option<Answer>, Refusal> {
+    let Some(reply) = asked_again(dc, &request, tally)? else {
+        return Err(Refusal::NotNow);
+    };
     match reply {
-        Some(Reply::Answered { answer, .. }) => Ok(answer),
-        _ => Err(Refusal::NotNow),
+        Reply::Answered { answer, .. } => Ok(answer),
+        _other => Err(Refusal::NotNow),
     }
 }
 
