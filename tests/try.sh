@@ -13,7 +13,7 @@ for name in "$@"; do
     done
     # No name of a file has a space.
     # shellcheck disable=SC2086
-    if rt try $given 2>&1 | sed '/^checked: /,$d' | diff - stdout; then
+    if rt try --seconds 500 $given 2>&1 | sed '/^checked: /,$d' | diff - stdout; then
         echo "$name: as it should be"
     else
         status=1
