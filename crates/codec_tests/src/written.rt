@@ -23,7 +23,14 @@ pub fn told(
     let spelled = reading.bytes.get(reading.at..next);
     if out.get(1..) != spelled {
         answer.push_str(" but written as ")?;
-        put_hex(answer, out)?;
+        put_unmarked(answer, out)?;
     }
     Ok(Found::Whole(next))
+}
+
+fn put_unmarked(answer: &mut String, out: &[u8]) -> Result<(), Refusal> {
+    match out.split_first() {
+        Some((_, written)) => put_hex(answer, written),
+        None => Ok(()),
+    }
 }
