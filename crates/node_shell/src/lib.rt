@@ -32,6 +32,3 @@ mod words;
 pub use script_run::{DONE, FAILED, FAULT, refusal_of, refuse, run};
 pub use stopping::Stopping;
 pub use task::{Task, choose};
-
-#[cfg(test)]
-mod tests;

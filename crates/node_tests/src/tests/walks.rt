@@ -1,15 +1,6 @@
 //! The walks.
-mod calling;
 mod choosing;
 mod counts;
-mod crashing;
-mod holds;
-mod kept;
-mod lines;
-mod model;
-mod open;
-mod span;
-mod telling;
 mod walking;
 
 use log_laws::is_legal;

@@ -1,5 +1,5 @@
 //! The random choice of a walk's next event.
-use super::model::Model;
+use client_model::Model;
 use rand_pcg::Pcg32;
 use rand_pcg::rand_core::Rng;
 use record_key::{Key, Op, Refusal, Value};

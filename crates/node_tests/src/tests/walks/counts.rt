@@ -1,5 +1,5 @@
 //! How far a walk came.
-use super::model::Model;
+use client_model::Model;
 use record_key::{Answer, Op, Refusal};
 use std::process::Abort;
 use world::Out;

@@ -1,8 +1,8 @@
 //! A random walk, with messages late, repeated and lost and crashes of both components, beside the plain slow model.
 use super::choosing::{Chooser, is_dc_down, is_tc_down};
 use super::counts::Counts;
-use super::model::Model;
 use crate::tests::calls::{record, records, rows, settle_all, stable_end, step};
+use client_model::Model;
 use history::Record;
 use log_laws::plain_history;
 use record_key::Refusal;

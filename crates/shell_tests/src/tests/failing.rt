@@ -1,6 +1,5 @@
 //! A reader and a writer that fail.
-use crate::run;
-use crate::stopping::Stopping;
+use node_shell::{Stopping, run};
 use std::io;
 use std::io::{BufWriter, Write};
 use std::process::Abort;

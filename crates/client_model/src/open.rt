@@ -1,5 +1,5 @@
 //! An open transaction.
-use super::span::Span;
+use crate::span::Span;
 use record_key::Refusal;
 
 /// What an open transaction does.

@@ -1,11 +1,11 @@
 //! Refusals that no script brings about.
-use crate::printed::print_refusal;
+use node_shell::{FAILED, refuse};
 use record_key::Refusal;
 use std::process::Abort;
 
 fn assert_refusal<R: Abort + AllocGlobal>(rt: &R, refusal: Refusal, text: &str) {
     let mut written = Vec::new(rt.alloc());
-    assert!(rt; print_refusal(&mut written, refusal).is_ok());
+    assert_eq!(rt; refuse(&mut written, refusal, FAILED), FAILED);
     assert_eq!(rt; written.as_slice(), text.as_bytes());
 }
 

@@ -1,8 +1,8 @@
 //! What becomes of clients when the transaction component crashes.
-use super::holds::Beside;
-use super::kept::{has_committed, losers};
-use super::model::{Model, Service};
-use super::span::Span;
+use crate::holds::Beside;
+use crate::kept::{has_committed, losers};
+use crate::model::{Model, Service};
+use crate::span::Span;
 use history::Record;
 use std::alloc::{AllocError, Global};
 

@@ -1,9 +1,9 @@
 //! The plain slow model of a node's clients: what each call answers and what each client is told. It has one list of
 //! operations with the undone ones crossed out, and neither messages nor anything to undo. Of a crash of the
 //! transaction component it knows what the log that was kept says.
-use super::holds::Holds;
-use super::lines::Lines;
-use super::open::{Doing, Open};
+use crate::holds::Holds;
+use crate::lines::Lines;
+use crate::open::{Doing, Open};
 use record_key::{PlainTable, Refusal};
 use std::alloc::{AllocError, Global};
 

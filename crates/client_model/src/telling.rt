@@ -1,7 +1,7 @@
 //! What each client is told.
-use super::model::{Model, Service};
-use super::open::Doing;
-use super::span::Span;
+use crate::model::{Model, Service};
+use crate::open::Doing;
+use crate::span::Span;
 use codec::Rows;
 use record_key::{Answer, Key, Value};
 use std::alloc::{AllocError, Global};

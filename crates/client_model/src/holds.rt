@@ -1,5 +1,5 @@
 //! What transactions hold.
-use super::span::Span;
+use crate::span::Span;
 use record_key::{Key, Op, Refusal};
 use std::alloc::{AllocError, Global};
 

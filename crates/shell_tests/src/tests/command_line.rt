@@ -1,5 +1,5 @@
 //! What the words of a command line ask for.
-use crate::task::{Task, choose};
+use node_shell::{Task, choose};
 
 #[test]
 fn run_is_a_task(rt: HostRuntime) {

@@ -1,8 +1,8 @@
 //! What each call of a client answers.
-use super::holds::Beside;
-use super::model::Model;
-use super::open::{Doing, Open};
-use super::span::Span;
+use crate::holds::Beside;
+use crate::model::Model;
+use crate::open::{Doing, Open};
+use crate::span::Span;
 use record_key::{Op, Refusal};
 use std::alloc::Global;
 use world::{Event, Out};

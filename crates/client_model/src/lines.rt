@@ -1,5 +1,5 @@
 //! One list of operations, with the undone ones crossed out.
-use super::span::Span;
+use crate::span::Span;
 use record_key::{Answer, Key, Op, PlainTable, Value};
 use std::alloc::{AllocError, Global};
 
