@@ -2,9 +2,9 @@
 use Rattle.std.proofs.Common.{◌≡◌, ℕ, ◌+◌, List, [], ◌++◌, length, take, drop, min, refl, sym, ap, ◌∙◌, append_assoc}
 use Rattle.std.proofs.Math.Seq.{take-add, take-append_seam, take-length, drop-length}
 use Rattle.std.proofs.lemmas.List.{take_min, take-append-drop, append_cancel_left}
-use Rattle.std.specs.Prelude.{Option}
 use Rattle.stable.specs.Crash.{MayLeave}
 use Rattle.stable.specs.LogState.{LogState, with_bytes}
+use Rattle.stable.specs.Usage.{Usage}
 
 -- bytes that are cut off `kept` past the forced ones, or past the end
 pub kept_bytes : (forced kept end : ℕ) (bytes : List ℕ) → min end (length bytes) ≡ min (forced + kept) (length bytes)
@@ -36,24 +36,22 @@ crash_reaches forced pending left may =
     )
 
 -- the state of a log whose bytes were cut so, all of them forced
-pub crash_state : (bytes left : List ℕ) (forced kept end : ℕ) (countdown : Option ℕ) (failures : ℕ)
+pub crash_state : (bytes left : List ℕ) (forced kept end : ℕ) (usage : Usage)
     → left ≡ take end bytes → end ≡ length left
     → min end (length bytes) ≡ min (forced + kept) (length bytes)
     → let old : LogState = record {
       forced = take forced bytes;
       pending = drop forced bytes;
-      countdown = countdown;
-      failures = failures;
+      usage = usage;
     } in
     let new : LogState = record {
       forced = take end left;
       pending = drop end left;
-      countdown = countdown;
-      failures = failures;
+      usage = usage;
     } in
     new ≡ with_bytes old (old.forced ++ take kept old.pending) []
-crash_state bytes left forced kept end countdown failures cut all e =
+crash_state bytes left forced kept end usage cut all e =
     let f : take end left ≡ take forced bytes ++ take kept (drop forced bytes) =
     ap (λ n. take n left) all ∙ take-length left ∙ cut ∙ kept_bytes forced kept end bytes e in
     let p : drop end left ≡ [] = ap (λ n. drop n left) all ∙ drop-length left in
-    λ i. record { forced = f i; pending = p i; countdown = countdown; failures = failures }
+    λ i. record { forced = f i; pending = p i; usage = usage }

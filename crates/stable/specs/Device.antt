@@ -1,16 +1,7 @@
 -- What the calls of a device do to it.
-use Rattle.std.specs.Prelude.{◌≡◌, ℕ, List, ◌++◌, ⊤, Result}
+use Rattle.std.specs.Prelude.{◌≡◌, ℕ, List, ◌++◌, ⊤}
 use Rattle.std.specs.Borrow.{follows_so, Fml, RattleType, MutBor}
 use mathlib.Core.Option.{none}
-use Rattle.std.specs.Prelude.{Ok, Err}
-use Rattle.stable.specs.declared.error.DeviceError.{DeviceError}
-use Rattle.stable.specs.declared.error.DeviceError.TheVariants.{NoMemory, Device}
-
--- how many failures of the device an answer tells: one where it is `Device`
-abbrev pub failures_told : {T : Type 0} → Result T DeviceError → ℕ
-failures_told (Ok _) = 0
-failures_told (Err NoMemory) = 0
-failures_told (Err Device) = 1
 
 -- a beginning of the pending bytes, perhaps none and perhaps all, is forced now, and no byte is lost or made
 pub record ForcesPart (forced pending forced' pending' : List ℕ) : Type 0 where

@@ -1,5 +1,5 @@
-pub mod Countdown
 pub mod Crash
 pub mod Device
 pub mod LogState
 pub mod PagesState
+pub mod Usage

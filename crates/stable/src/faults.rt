@@ -1,40 +1,55 @@
-//! The failure that a test has set, and how many there were.
-ghost use Rattle.std.specs.Prelude.{◌≡◌, ◌+◌, ◌≤◌, ◌↔◌, IsTrue, IsErrOf, IsOkUnless};
-ghost use Rattle.stable.specs.Countdown.{fails_next, after_call};
-ghost use Rattle.stable.specs.Device.{failures_told};
+//! How a device in memory was used, and the call of it that a test has set to fail.
+ghost use Rattle.std.specs.Prelude.{◌≡◌, ◌+◌, ◌≤◌, ◌↔◌, Some, IsTrue, IsErrOf, IsOkUnless};
+ghost use Rattle.stable.specs.Usage.{is_due, used, unused};
 
+use crate::counter::Counter;
 use crate::error::DeviceError;
-use crate::failures::Failures;
+use std::marker::Model;
 
 #[derive(Drop)]
 pub(crate) struct Faults {
     // Which call from now fails.
     countdown: Option<u64>,
-    failures: Failures,
+    calls: Counter,
+    failures: Counter,
+}
+
+impl Model for Faults {
+    ghost use Rattle.std.specs.Prelude.{false};
+    ghost use Rattle.stable.specs.Usage.{Usage, counted_from};
+
+    ghost Value = { Usage };
+
+    ghost view = { λ f. record {
+      calls = f.calls.count;
+      failures = f.failures.count;
+      failing = counted_from f.calls.count f.countdown;
+      freely = false;
+    } };
 }
 
 impl Faults {
     pub(crate) fn new() -> Faults
-        ensures countdown { result.countdown ≡ None }
-        ensures failures { result.failures.count ≡ 0 }
+        ensures { result ≡ unused }
     {
         Faults {
             countdown: None,
-            failures: Failures::new(),
+            calls: Counter::new(),
+            failures: Counter::new(),
         }
     }
 
+    /// The `n`-th call from now fails.
     pub(crate) fn fail_at(&mut self, n: u64)
         requires { 1 ≤ n }
-        ensures countdown { self.new.countdown ≡ Some n }
-        ensures failures { self.new.failures.count ≡ self.old.failures.count }
+        ensures { self.new ≡ record self.old { failing = Some (self.old.calls + n) } }
     {
         self.countdown = Some(n);
     }
 
     /// Whether the next call is the one that was set.
     pub(crate) fn is_due(&self) -> bool
-        ensures { result ≡ fails_next self.now.countdown }
+        ensures { result ≡ is_due self.now }
     {
         match self.countdown {
             Some(n) => n <= 1,
@@ -44,20 +59,20 @@ impl Faults {
 
     /// Counts a call, which fails if it is the one that was set.
     pub(crate) fn call(&mut self) -> Result<(), DeviceError>
-        ensures device { IsErrOf result DeviceError.Device ↔ IsTrue (fails_next self.old.countdown) }
+        ensures device { IsErrOf result DeviceError.Device ↔ IsTrue (is_due self.old) }
         ensures only_device { IsOkUnless result DeviceError.Device }
-        ensures countdown { self.new.countdown ≡ after_call self.old.countdown }
-        ensures failures { self.new.failures.count ≡ self.old.failures.count + failures_told result }
+        ensures used { self.new ≡ used self.old result }
     {
-        let Some(n) = self.countdown else {
-            return Ok(());
-        };
-        if n > 1 {
-            self.countdown = Some(n - 1);
-            return Ok(());
+        let is_due = self.is_due();
+        self.calls.add_one();
+        if is_due {
+            self.countdown = None;
+            self.failures.add_one();
+            return Err(DeviceError::Device);
         }
-        self.countdown = None;
-        self.failures.add_one();
-        Err(DeviceError::Device)
+        if let Some(n) = self.countdown {
+            self.countdown = Some(n - 1);
+        }
+        Ok(())
     }
 }

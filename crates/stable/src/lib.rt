@@ -2,21 +2,22 @@
 //! It knows bytes and numbers. It must not know what they spell: no record, no leaf, no transaction.
 //! It promises the next crates: what a crash leaves of a log begins with every forced byte and holds nothing that was
 //! not appended; a page is left as its last successful write; what is read is what was written; a refused call
-//! changes no byte, and `Device` is answered exactly where the device failed in that call.
+//! changes no byte; each call is counted, and `Device` is answered only at a call that was set to fail, unless the
+//! device is one whose calls may fail freely.
 #![tactic(auto)]
 
+mod counter;
 mod crash;
 mod error;
-mod failures;
 mod faults;
 mod log_device;
 mod mem_log;
 mod mem_pages;
 mod page_device;
 
+pub use counter::Counter;
 pub use crash::crash_law;
 pub use error::DeviceError;
-pub use failures::Failures;
 pub use log_device::LogDevice;
 pub use mem_log::MemLog;
 pub use mem_pages::MemPages;

@@ -1,7 +1,8 @@
 //! What a log device promises.
-ghost use Rattle.std.specs.Prelude.{◌≡◌, ℕ, ◌+◌, ◌≤◌, Bool, true, List, [], ◌++◌, take, length, OnOk, OnErr, IfOk, IsOkUnless};
+ghost use Rattle.std.specs.Prelude.{◌≡◌, ℕ, ◌≤◌, Bool, true, List, [], ◌++◌, take, length, IsTrue, OnOk, OnErr, IfOk, IsErrOf, IsOkUnless};
 ghost use Rattle.std.specs.Borrow.{sem};
-ghost use Rattle.stable.specs.Device.{failures_told, ForcesPart, Rests};
+ghost use Rattle.stable.specs.Device.{ForcesPart, Rests};
+ghost use Rattle.stable.specs.Usage.{Usage, is_due, used};
 
 use crate::error::DeviceError;
 
@@ -13,8 +14,8 @@ pub trait LogDevice {
     /// What was appended after the forced bytes.
     ghost pending: { Self → List ℕ };
 
-    /// How often the device has failed, a number without a last value.
-    ghost failures: { Self → ℕ };
+    /// How many calls were made of it and how many of them failed, and which is set to fail.
+    ghost usage: { Self → Usage };
 
     /// Whether a failed force forces nothing; of another device it may force some of the bytes.
     ghost forces_whole: { Bool };
@@ -24,7 +25,8 @@ pub trait LogDevice {
         ensures forced { forced self.new ≡ forced self.old }
         ensures appended { OnOk result (pending self.new ≡ pending self.old ++ bytes.now) }
         ensures err { OnErr result (pending self.new ≡ pending self.old) }
-        ensures failures { failures self.new ≡ failures self.old + failures_told result };
+        ensures device { IsErrOf result DeviceError.Device → IsTrue (is_due (usage self.old)) }
+        ensures used { usage self.new ≡ used (usage self.old) result };
 
     /// After it every byte is forced. Where it fails, some may be.
     fn force(&mut self) -> Result<(), DeviceError>
@@ -34,7 +36,8 @@ pub trait LogDevice {
             (forced self.new) (pending self.new)) }
         ensures whole { OnErr result (forces_whole ≡ true → forced self.new ≡ forced self.old) }
         ensures no_memory { IsOkUnless result DeviceError.Device }
-        ensures failures { failures self.new ≡ failures self.old + failures_told result };
+        ensures device { IsErrOf result DeviceError.Device → IsTrue (is_due (usage self.old)) }
+        ensures used { usage self.new ≡ used (usage self.old) result };
 
     /// Keeps the first `len` bytes of what a crash left. The cut lasts.
     fn cut(&mut self, len: usize) -> Result<(), DeviceError>
@@ -44,14 +47,16 @@ pub trait LogDevice {
         ensures err { OnErr result (forced self.new ≡ forced self.old) }
         ensures none_pending { pending self.new ≡ [] }
         ensures no_memory { IsOkUnless result DeviceError.Device }
-        ensures failures { failures self.new ≡ failures self.old + failures_told result };
+        ensures device { IsErrOf result DeviceError.Device → IsTrue (is_due (usage self.old)) }
+        ensures used { usage self.new ≡ used (usage self.old) result };
 
     /// All bytes, the forced ones first. They are lent and not copied.
     fn bytes(&mut self) -> Result<&[u8], DeviceError>
+        ensures device { IsErrOf result DeviceError.Device → IsTrue (is_due (usage self.old)) }
         ensures value { IfOk result (λ bytes. bytes.now ≡ forced self.old ++ pending self.old) }
         ensures no_memory { IsOkUnless result DeviceError.Device }
         ensures* after { sem 𝓛 (Rests Self.row self.entry (λ new.
             (forced new ≡ forced self.old)
             × (pending new ≡ pending self.old)
-            × (failures new ≡ failures self.old + failures_told result))) };
+            × (usage new ≡ used (usage self.old) result))) };
 }

@@ -1,10 +1,10 @@
 //! A log device in memory, which a test can make fail and crash.
-ghost use Rattle.std.specs.Prelude.{◌≡◌, ◌≤◌, ◌↔◌, [], ◌++◌, take, length, IsTrue, true, false, OnOk, OnErr, IfOk, IsErrOf, IsOkUnless};
+ghost use Rattle.std.specs.Prelude.{◌≡◌, ◌+◌, ◌≤◌, Some, [], ◌++◌, take, length, IsTrue, true, false, OnOk, OnErr, IfOk, IsErrOf, IsOkUnless};
 ghost use Rattle.std.specs.Borrow.{sem};
-ghost use Rattle.stable.specs.Countdown.{fails_next};
 ghost use Rattle.stable.specs.Crash.{MayLeave};
 ghost use Rattle.stable.specs.Device.{Rests};
 ghost use Rattle.stable.specs.LogState.{with_bytes, log_after};
+ghost use Rattle.stable.specs.Usage.{is_due, unused};
 
 use crate::error::DeviceError;
 use crate::faults::Faults;
@@ -31,8 +31,7 @@ impl Model for MemLog {
     ghost view = { λ m. record {
       forced = take m.forced m.bytes.items;
       pending = drop m.forced m.bytes.items;
-      countdown = m.faults.countdown;
-      failures = m.faults.failures.count;
+      usage = m.faults;
     } };
 
     ghost invariant = { λ m. m.forced ≤ length m.bytes.items };
@@ -43,8 +42,7 @@ impl MemLog {
     pub fn new(alloc: Global) -> MemLog
         ensures forced { result.forced ≡ [] }
         ensures pending { result.pending ≡ [] }
-        ensures countdown { result.countdown ≡ None }
-        ensures failures { result.failures ≡ 0 }
+        ensures unused { result.usage ≡ unused }
     {
         MemLog {
             bytes: Vec::new(alloc),
@@ -56,7 +54,9 @@ impl MemLog {
     /// The `n`-th call from now fails, once. It takes the place of a failure that was set and hasn't happened.
     pub fn fail_at(&mut self, n: u64)
         requires { 1 ≤ n }
-        ensures { self.new ≡ record self.old { countdown = Some n } }
+        ensures { self.new ≡ record self.old {
+          usage = record self.old.usage { failing = Some (self.old.usage.calls + n) };
+        } }
     {
         self.faults.fail_at(n);
     }
@@ -86,13 +86,13 @@ impl LogDevice for MemLog {
 
     ghost pending = { λ log. log.pending };
 
-    ghost failures = { λ log. log.failures };
+    ghost usage = { λ log. log.usage };
 
     ghost forces_whole = { true };
 
     fn append(&mut self, bytes: &[u8]) -> Result<(), DeviceError>
-        ensures fails { IsErrOf result DeviceError.Device → IsTrue (fails_next self.old.countdown) }
-        ensures due { OnOk result (fails_next self.old.countdown ≡ false) }
+        ensures due { OnOk result (is_due self.old.usage ≡ false) }
+        ensures device { IsErrOf result DeviceError.Device → IsTrue (is_due self.old.usage) }
         ensures ok { OnOk result (self.new
             ≡ with_bytes (log_after self.old result) self.old.forced (self.old.pending ++ bytes.now)) }
         ensures err { OnErr result (self.new ≡ log_after self.old result) }
@@ -105,7 +105,8 @@ impl LogDevice for MemLog {
     }
 
     fn force(&mut self) -> Result<(), DeviceError>
-        ensures fails { IsErrOf result DeviceError.Device ↔ IsTrue (fails_next self.old.countdown) }
+        ensures due { OnOk result (is_due self.old.usage ≡ false) }
+        ensures device { IsErrOf result DeviceError.Device → IsTrue (is_due self.old.usage) }
         ensures no_memory { IsOkUnless result DeviceError.Device }
         ensures ok { OnOk result (self.new
             ≡ with_bytes (log_after self.old result) (self.old.forced ++ self.old.pending) []) }
@@ -119,7 +120,8 @@ impl LogDevice for MemLog {
     fn cut(&mut self, len: usize) -> Result<(), DeviceError>
         requires all_forced { self.old.pending ≡ [] }
         requires within { len ≤ length self.old.forced }
-        ensures fails { IsErrOf result DeviceError.Device ↔ IsTrue (fails_next self.old.countdown) }
+        ensures due { OnOk result (is_due self.old.usage ≡ false) }
+        ensures device { IsErrOf result DeviceError.Device → IsTrue (is_due self.old.usage) }
         ensures no_memory { IsOkUnless result DeviceError.Device }
         ensures ok { OnOk result (self.new
             ≡ with_bytes (log_after self.old result) (take len self.old.forced) []) }
@@ -132,7 +134,8 @@ impl LogDevice for MemLog {
     }
 
     fn bytes(&mut self) -> Result<&[u8], DeviceError>
-        ensures fails { IsErrOf result DeviceError.Device ↔ IsTrue (fails_next self.old.countdown) }
+        ensures due { OnOk result (is_due self.old.usage ≡ false) }
+        ensures device { IsErrOf result DeviceError.Device → IsTrue (is_due self.old.usage) }
         ensures value { IfOk result (λ bytes. bytes.now ≡ self.old.forced ++ self.old.pending) }
         ensures no_memory { IsOkUnless result DeviceError.Device }
         ensures* after { sem 𝓛 (Rests the_row self.entry (λ new. new ≡ log_after self.old result)) }

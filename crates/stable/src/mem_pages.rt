@@ -1,12 +1,15 @@
 //! A page device in memory, which a test can make fail and crash.
-ghost use Rattle.std.specs.Prelude.{◌≡◌, ◌≤◌, ◌↔◌, IsTrue, false, OnOk, OnErr, IfOk, IsErrOf, IsOkUnless};
+ghost use Rattle.std.specs.Prelude.{◌≡◌, ◌≤◌, ◌<◌, ◌+◌, ℕ, Some, None, length, if◌then◌else◌, IsTrue, true, false, OnOk, OnErr, IfOk, IsErrOf, IsOkUnless};
 ghost use Rattle.std.specs.Borrow.{sem};
+ghost use Rattle.std.specs.BTreeMap.{get};
 ghost use Rattle.std.specs.FinMap as map;
 ghost use Rattle.std.specs.List.Sorted.{IsStrictlyIncreasing};
 ghost use Rattle.std.specs.Option.{option_map};
-ghost use Rattle.stable.specs.Countdown.{fails_next};
+ghost use Rattle.std.specs.Ordering.{nat_cmp};
+ghost use Rattle.std.specs.Vec.{vec_capacity};
 ghost use Rattle.stable.specs.Device.{Rests};
-ghost use Rattle.stable.specs.PagesState.{pages_of, pages_after};
+ghost use Rattle.stable.specs.PagesState.{pages_of, rooms_of, has_room, pages_after};
+ghost use Rattle.stable.specs.Usage.{is_due, used, unused};
 
 use crate::error::DeviceError;
 use crate::faults::Faults;
@@ -16,25 +19,32 @@ use std::collections::BTreeMap;
 use std::marker::Model;
 
 /// Pages in memory. Each device call counts down to the failure that was set. One that is refused for memory changes
-/// nothing, the countdown neither.
+/// no page and isn't counted.
 #[derive(Drop)]
 pub struct MemPages {
     alloc: Global,
-    pages: BTreeMap<u64, Vec<u8>>,
+    places: BTreeMap<u64, Page>,
     faults: Faults,
 }
 
+/// The place of a page, which has room for an image before the page is written.
+#[derive(Drop)]
+pub(crate) struct Page {
+    pub(crate) image: Vec<u8>,
+    pub(crate) is_written: bool,
+}
+
 impl Model for MemPages {
-    ghost use Rattle.stable.specs.PagesState.{PagesState, pages_state_code, pages_of};
+    ghost use Rattle.stable.specs.PagesState.{PagesState, pages_state_code, pages_of, rooms_of};
 
     ghost Value = { PagesState };
 
     ghost coded = { pages_state_code };
 
     ghost view = { λ m. record {
-      pages = pages_of m.pages.entries;
-      countdown = m.faults.countdown;
-      failures = m.faults.failures.count;
+      pages = pages_of m.places.entries;
+      rooms = rooms_of m.places.entries;
+      usage = m.faults;
     } };
 }
 
@@ -42,12 +52,11 @@ impl MemPages {
     /// A device without pages and with no failure set, which takes its memory from `alloc`.
     pub fn new(alloc: Global) -> MemPages
         ensures pages { result.pages ≡ map.empty }
-        ensures countdown { result.countdown ≡ None }
-        ensures failures { result.failures ≡ 0 }
+        ensures unused { result.usage ≡ unused }
     {
         MemPages {
             alloc,
-            pages: BTreeMap::new(alloc),
+            places: BTreeMap::new(alloc),
             faults: Faults::new(),
         }
     }
@@ -55,7 +64,9 @@ impl MemPages {
     /// The `n`-th call from now fails, once. It takes the place of a failure that was set and hasn't happened.
     pub fn fail_at(&mut self, n: u64)
         requires { 1 ≤ n }
-        ensures { self.new ≡ record self.old { countdown = Some n } }
+        ensures { self.new ≡ record self.old {
+          usage = record self.old.usage { failing = Some (self.old.usage.calls + n) };
+        } }
     {
         self.faults.fail_at(n);
     }
@@ -68,29 +79,43 @@ impl MemPages {
 
 impl PageDevice for MemPages {
     ghost use Rattle.stable.specs.contracts.mem_pages.MemPages.{the_row};
+    ghost use Rattle.stable.specs.PagesState.{has_room};
 
     ghost pages = { λ device. device.pages };
 
-    ghost failures = { λ device. device.failures };
+    ghost has_room = { λ device. has_room device.rooms };
+
+    ghost usage = { λ device. device.usage };
+
+    fn make_room(&mut self, id: u64, len: usize) -> Result<(), AllocError>
+        ensures room { OnOk result (has_room self.new.rooms id len ≡ true) }
+        ensures kept { (other n : ℕ) → has_room self.old.rooms other n ≡ true
+            → has_room self.new.rooms other n ≡ true }
+        ensures same { self.new.pages ≡ self.old.pages }
+        ensures uncounted { self.new.usage ≡ self.old.usage }
+    {
+        make_room(self.alloc, &mut self.places, id, len)
+    }
 
     fn write(&mut self, id: u64, image: &[u8]) -> Result<(), DeviceError>
-        ensures fails { IsErrOf result DeviceError.Device → IsTrue (fails_next self.old.countdown) }
-        ensures due { OnOk result (fails_next self.old.countdown ≡ false) }
-        ensures ok { OnOk result (self.new ≡ record (pages_after self.old result) {
-          pages = map.insert self.old.pages id image.now;
-        }) }
-        ensures err { OnErr result (self.new ≡ pages_after self.old result) }
-        ensures no_memory { IsErrOf result DeviceError.NoMemory → self.new ≡ self.old }
+        ensures due { OnOk result (is_due self.old.usage ≡ false) }
+        ensures written { OnOk result (self.new.pages ≡ map.insert self.old.pages id image.now) }
+        ensures err { OnErr result (self.new.pages ≡ self.old.pages) }
+        ensures no_room { IsErrOf result DeviceError.NoMemory → has_room self.old.rooms id (length image.now) ≡ false }
+        ensures kept { (other n : ℕ) → has_room self.old.rooms other n ≡ true
+            → has_room self.new.rooms other n ≡ true }
+        ensures device { IsErrOf result DeviceError.Device → IsTrue (is_due self.old.usage) }
+        ensures used { self.new.usage ≡ used self.old.usage result }
     {
-        let image = Vec::from_slice(self.alloc, image)?;
-        if !self.faults.is_due() {
-            put(&mut self.pages, id, image)?;
-        }
-        self.faults.call()
+        make_room(self.alloc, &mut self.places, id, image.len())?;
+        self.faults.call()?;
+        put(&mut self.places, id, image);
+        Ok(())
     }
 
     fn read(&mut self, id: u64) -> Result<Option<&[u8]>, DeviceError>
-        ensures fails { IsErrOf result DeviceError.Device ↔ IsTrue (fails_next self.old.countdown) }
+        ensures due { OnOk result (is_due self.old.usage ≡ false) }
+        ensures device { IsErrOf result DeviceError.Device → IsTrue (is_due self.old.usage) }
         ensures value { IfOk result (λ image.
             option_map (λ bytes. bytes.now) image ≡ map.get self.old.pages id) }
         ensures no_memory { IsOkUnless result DeviceError.Device }
@@ -98,45 +123,115 @@ impl PageDevice for MemPages {
             new ≡ pages_after self.old result)) }
     {
         self.faults.call()?;
-        Ok(image_of(&self.pages, id))
+        Ok(image_of(&self.places, id))
     }
 
     fn ids(&mut self, alloc: Global) -> Result<Vec<u64>, DeviceError>
-        ensures fails { IsErrOf result DeviceError.Device → IsTrue (fails_next self.old.countdown) }
-        ensures due { OnOk result (fails_next self.old.countdown ≡ false) }
+        ensures due { OnOk result (is_due self.old.usage ≡ false) }
         ensures written { IfOk result (λ ids. ids.items ≡ map.keys self.old.pages) }
         ensures rising { IfOk result (λ ids. IsStrictlyIncreasing ids.items) }
         ensures same { self.new ≡ pages_after self.old result }
-        ensures no_memory { IsErrOf result DeviceError.NoMemory → self.new ≡ self.old }
+        ensures device { IsErrOf result DeviceError.Device → IsTrue (is_due self.old.usage) }
     {
-        let ids = ids_of(alloc, &self.pages)?;
+        let ids = ids_of(alloc, &self.places)?;
         self.faults.call()?;
         Ok(ids)
     }
 }
 
-fn put(pages: &mut BTreeMap<u64, Vec<u8>>, id: u64, image: Vec<u8>) -> Result<(), DeviceError>
-    ensures ok { OnOk result
-        (pages_of pages.new.entries ≡ map.insert (pages_of pages.old.entries) id image.items) }
-    ensures err { OnErr result (pages_of pages.new.entries ≡ pages_of pages.old.entries) }
-    ensures only_memory { IsOkUnless result DeviceError.NoMemory }
+/// Makes room for an image of this length. A page that has no place yet gets one, with its room in it.
+fn make_room(
+    alloc: Global,
+    places: &mut BTreeMap<u64, Page>,
+    id: u64,
+    len: usize,
+) -> Result<(), AllocError>
+    ensures place { OnOk result ((page : Page) × (get nat_cmp places.new id ≡ Some page)
+        × (len ≤ vec_capacity page.image)) }
+    ensures room { OnOk result (has_room (rooms_of places.new.entries) id len ≡ true) }
+    ensures kept { (other n : ℕ) → has_room (rooms_of places.old.entries) other n ≡ true
+        → has_room (rooms_of places.new.entries) other n ≡ true }
+    ensures full { OnErr result (has_room (rooms_of places.old.entries) id len ≡ false) }
+    ensures same { pages_of places.new.entries ≡ pages_of places.old.entries }
 {
-    pages.insert(id, image)?;
+    match places.get_mut(&id) {
+        Some(page) => widen(&mut page.image, len)?,
+        None => {
+            let page = Page {
+                image: Vec::with_capacity(alloc, len)?,
+                is_written: false,
+            };
+            places.insert(id, page)?;
+        }
+    }
     Ok(())
 }
 
-fn image_of(pages: &BTreeMap<u64, Vec<u8>>, id: u64) -> Option<&[u8]>
-    ensures { option_map (λ bytes. bytes.now) result ≡ map.get (pages_of pages.now.entries) id }
+/// Makes room for so many bytes in all.
+fn widen(image: &mut Vec<u8>, len: usize) -> Result<(), AllocError>
+    ensures room { OnOk result (len ≤ vec_capacity image.new) }
+    ensures kept { vec_capacity image.old ≤ vec_capacity image.new }
+    ensures full { OnErr result (vec_capacity image.old < len) }
+    ensures same { image.new.items ≡ image.old.items }
 {
-    match pages.get(&id) {
-        Some(image) => Some(image.as_slice()),
+    image.reserve(len.saturating_sub(image.len()))
+}
+
+/// Puts the image in its place, which has room for it.
+fn put(places: &mut BTreeMap<u64, Page>, id: u64, image: &[u8])
+    requires { (page : Page) × (get nat_cmp places.old id ≡ Some page) × (length image.now ≤ vec_capacity page.image) }
+    ensures pages { pages_of places.new.entries ≡ map.insert (pages_of places.old.entries) id image.now }
+    ensures kept { (other n : ℕ) → has_room (rooms_of places.old.entries) other n ≡ true
+        → has_room (rooms_of places.new.entries) other n ≡ true }
+{
+    match places.get_mut(&id) {
+        Some(page) => fill(page, image),
+        None => unreachable!(),
+    }
+}
+
+fn fill(page: &mut Page, image: &[u8])
+    requires { length image.now ≤ vec_capacity page.old.image }
+    ensures written { page.new.is_written ≡ true }
+    ensures image { page.new.image.items ≡ image.now }
+    ensures kept { vec_capacity page.old.image ≤ vec_capacity page.new.image }
+{
+    page.image.clear();
+    match page.image.extend_from_slice(image) {
+        Ok(()) => page.is_written = true,
+        Err(_) => unreachable!(),
+    }
+}
+
+fn image_of(places: &BTreeMap<u64, Page>, id: u64) -> Option<&[u8]>
+    ensures { option_map (λ bytes. bytes.now) result ≡ map.get (pages_of places.now.entries) id }
+{
+    match places.get(&id) {
+        Some(page) => written_image(page),
         None => None,
     }
 }
 
-fn ids_of(alloc: Global, pages: &BTreeMap<u64, Vec<u8>>) -> Result<Vec<u64>, AllocError>
-    ensures written { IfOk result (λ ids. ids.items ≡ map.keys (pages_of pages.now.entries)) }
+fn written_image(page: &Page) -> Option<&[u8]>
+    ensures { option_map (λ bytes. bytes.now) result
+        ≡ (if page.now.is_written then Some page.now.image.items else None) }
+{
+    if page.is_written {
+        Some(page.image.as_slice())
+    } else {
+        None
+    }
+}
+
+fn ids_of(alloc: Global, places: &BTreeMap<u64, Page>) -> Result<Vec<u64>, AllocError>
+    ensures written { IfOk result (λ ids. ids.items ≡ map.keys (pages_of places.now.entries)) }
     ensures rising { IfOk result (λ ids. IsStrictlyIncreasing ids.items) }
 {
-    pages.keys().copied().collect(alloc)
+    let mut ids = Vec::new(alloc);
+    for (id, page) in places {
+        if page.is_written {
+            ids.push(*id)?;
+        }
+    }
+    Ok(ids)
 }

@@ -14,12 +14,11 @@ returns-clause-left c =
     record {
       forced = take end left;
       pending = drop end left;
-      countdown = m.faults.countdown;
-      failures = m.faults.failures.count;
+      usage = m.faults;
     }
     ≡ with_bytes old (old.forced ++ take c.args.kept old.pending) [] in
     subst Left c.self.view_is
-    (crash_state m.bytes.items left m.forced c.args.kept end _ _ c.truncate.ensures.items all same_end)
+    (crash_state m.bytes.items left m.forced c.args.kept end _ c.truncate.ensures.items all same_end)
 
 pub returns-clause-law : goal.returns-clause-law
 returns-clause-law c =

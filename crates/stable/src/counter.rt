@@ -1,25 +1,26 @@
 //! A count that contracts alone see. It takes no memory and has no last value.
-//! Clauses alone tie it to the code: a device is kept honest by the clause that says which of its calls fails.
+//! Clauses alone tie it to the code: a device is kept honest by those that say which of its calls are counted and which
+//! of them fails.
 ghost use Rattle.std.specs.Prelude.{◌≡◌, ℕ, ◌+◌};
 ghost use Rattle.std.specs.Borrow.{ftrue};
 
 use std::marker::{Model, PhantomData, Send};
 
 #[derive(Drop)]
-pub struct Failures {
+pub struct Counter {
     marker: PhantomData<u8>,
     pub ghost count: { ℕ },
 }
 
-impl Model for Failures {
+impl Model for Counter {
     ghost also_owns = { λ _. ftrue };
 }
 
-impl Failures {
-    pub fn new() -> Failures
+impl Counter {
+    pub fn new() -> Counter
         ensures { result.count ≡ 0 }
     {
-        Failures {
+        Counter {
             marker: PhantomData,
         }
     }
@@ -29,4 +30,4 @@ impl Failures {
     {}
 }
 
-unsafe impl Send for Failures {}
+unsafe impl Send for Counter {}

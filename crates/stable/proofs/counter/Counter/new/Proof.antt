@@ -21,17 +21,17 @@ use denote.Triple.Entry.{on_entry}
 use denote.Triple.Spec.{Meets, triple_of}
 use denote.Triple.Table.{entered}
 use denote.Triple.Walked.{says, ends_at, walked, walk_Meets}
-use Rattle.stable.specs.declared.failures.Failures.{Failures}
-use Rattle.stable.specs.contracts.failures.Failures as T
-use Rattle.stable.specs.contracts.failures.Failures.new.Key.{name as #it}
-use Rattle.stable.specs.contracts.failures.Failures.new as it
-use Rattle.stable.proofs.failures.Failures.new.Statement as stated
-use Rattle.stable.proofs.failures.Failures.new.Code as code
+use Rattle.stable.specs.declared.counter.Counter.{Counter}
+use Rattle.stable.specs.contracts.counter.Counter as T
+use Rattle.stable.specs.contracts.counter.Counter.new.Key.{name as #it}
+use Rattle.stable.specs.contracts.counter.Counter.new as it
+use Rattle.stable.proofs.counter.Counter.new.Statement as stated
+use Rattle.stable.proofs.counter.Counter.new.Code as code
 
 abbrev v : Val
 v = vstruct (vcons (vstruct vnil) vnil)
 
-abbrev r : Failures
+abbrev r : Counter
 r = record { marker = record {}; count = 0 }
 
 meets : {M : Type 1} {𝓤 : Ura M} (𝓛 : Logic 𝓤) → (at_mem : Memory → SProp 𝓤) (run : Routine → Fun 𝓤) (𝓣 : Tables 𝓤 𝓛.H)

@@ -25,27 +25,27 @@ use denote.Triple.Entry.{on_entry}
 use denote.Triple.Spec.{Meets, triple_of}
 use denote.Triple.Table.{entered}
 use denote.Triple.Walked.{says, Stays, stay_ref, walk_of, AllGo, Goes-ref, Walks, ends_at, walked, walk_Meets}
-use Rattle.stable.specs.declared.failures.Failures.{Failures}
-use Rattle.stable.specs.contracts.failures.Failures as T
-use Rattle.stable.specs.contracts.failures.Failures.add_one.Key.{name as #it}
-use Rattle.stable.specs.contracts.failures.Failures.add_one as it
-use Rattle.stable.proofs.failures.Failures.add_one.Statement as stated
-use Rattle.stable.proofs.failures.Failures.add_one.Code as code
+use Rattle.stable.specs.declared.counter.Counter.{Counter}
+use Rattle.stable.specs.contracts.counter.Counter as T
+use Rattle.stable.specs.contracts.counter.Counter.add_one.Key.{name as #it}
+use Rattle.stable.specs.contracts.counter.Counter.add_one as it
+use Rattle.stable.proofs.counter.Counter.add_one.Statement as stated
+use Rattle.stable.proofs.counter.Counter.add_one.Code as code
 
 abbrev Arg : Type 0
-Arg = MutBor Failures × Unit {0}
+Arg = MutBor Counter × Unit {0}
 
 abbrev stayed : Stays (it.ended).signature.params (it.ended).kept
 stayed = (stay_ref (0 ∷ []) tt (plain (λ _. T.the_row)), tt)
 
 module _ {M : Type 1} {𝓤 : Ura M} (𝓛 : Logic 𝓤) (at_mem : Memory → SProp 𝓤) (run : Routine → Fun 𝓤) (κ : Lft)
-    (q : Share) (b o : ℕ) (γ : GName) (h : Failures) where
+    (q : Share) (b o : ℕ) (γ : GName) (h : Counter) where
   open 𝓛 use {H, A}
 
   abbrev x : Arg
   x = (record { ref_ptr = (b, o); ghost_name = γ; now = h }, tt)
 
-  abbrev h' : Failures
+  abbrev h' : Counter
   h' = record { marker = h.marker; count = h.count + 1 }
 
   abbrev at : List Val × Unit {0}

@@ -1,0 +1,48 @@
+-- How a device has been used, and which of its calls fails. Counts that contracts alone see, without a last value.
+use Rattle.std.specs.Prelude.{ℕ, ◌+◌, ◌||◌, Bool, false, nat_le, Option, Some, None, Result, Ok, Err}
+use Rattle.stable.specs.declared.error.DeviceError.{DeviceError}
+use Rattle.stable.specs.declared.error.DeviceError.TheVariants.{NoMemory, Device}
+
+pub record Usage : Type 0 where
+  -- how many calls were made, and how many of them failed
+  pub calls : ℕ
+  pub failures : ℕ
+  -- the number of the call that was set to fail, if it is still to come
+  pub failing : Option ℕ
+  -- whether other calls may fail too
+  pub freely : Bool
+
+-- a call's number, by which one it is after so many calls
+abbrev pub counted_from : ℕ → Option ℕ → Option ℕ
+counted_from calls None = None
+counted_from calls (Some n) = Some (calls + n)
+
+-- the call that was set to fail is the next one
+abbrev pub is_next : Option ℕ → ℕ → Bool
+is_next None calls = false
+is_next (Some n) calls = nat_le n (calls + 1)
+
+-- the next call may fail
+abbrev pub is_due : Usage → Bool
+is_due u = u.freely || is_next u.failing u.calls
+
+-- one call more, which succeeded, or failed: a failure that was set happens once
+abbrev pub called : Usage → Usage
+called u = record u { calls = u.calls + 1 }
+
+abbrev pub failed : Usage → Usage
+failed u = record u { calls = u.calls + 1; failures = u.failures + 1; failing = None }
+
+-- after a call that gave this answer: one that is refused for memory isn't counted
+abbrev pub used : {T : Type 0} → Usage → Result T DeviceError → Usage
+used u (Ok _) = called u
+used u (Err NoMemory) = u
+used u (Err Device) = failed u
+
+-- so many calls more, all of which succeeded
+abbrev pub called_often : ℕ → Usage → Usage
+called_often n u = record u { calls = u.calls + n }
+
+-- never used, and none of its calls was set to fail
+abbrev pub unused : Usage
+unused = record { calls = 0; failures = 0; failing = None; freely = false }
