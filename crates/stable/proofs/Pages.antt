@@ -1,5 +1,5 @@
 -- The pages and the rooms that a map's entries spell.
-use Rattle.std.proofs.Common.{◌≡◌, ◌≤◌, ◌<◌, ℕ, Bool, true, false, cond, nat_le, List, [], ◌∷◌, map, Option, Some, None, Result, Ok, Err, IfOk, refl, sym, ap, ◌∙◌, subst, arith}
+use Rattle.std.proofs.Common.{◌≡◌, ◌≤◌, ◌<◌, ℕ, Bool, true, false, cond, nat_le, List, [], ◌∷◌, map, Option, Some, None, refl, sym, ap, ◌∙◌, subst, arith}
 use Rattle.std.specs.Option.{option_map, is_some}
 use Rattle.std.specs.Ordering.{nat_cmp, is_eq, eq_by_cmp}
 use Rattle.std.specs.Cmp.{nat_cmp_total, eq_by_cmp_equiv}
@@ -199,9 +199,9 @@ removed pages k none =
     same_map nat_cmp_total nat_cmp-IsAntisymmetric (remove pages k) pages (λ q.
     get-remove nat_cmp_total pages k q ∙ gone (is_eq (nat_cmp q k)) q (λ tie.
     ap (get pages) (nat_cmp-IsAntisymmetric q k (is_equal (nat_cmp q k) tie)) ∙ none)) where
-  gone : (tie : Bool) (q : ℕ) → (tie ≡ true → get pages q ≡ None) → cond tie None (get pages q) ≡ get pages q
-  gone true q h = sym (h refl)
-  gone false q h = refl
+      gone : (tie : Bool) (q : ℕ) → (tie ≡ true → get pages q ≡ None) → cond tie None (get pages q) ≡ get pages q
+      gone true q h = sym (h refl)
+      gone false q h = refl
 
 -- the numbers of the pages, of entries in order
 pub keys-pages_of : (es : Entries) → IsStrictlySortedBy nat_cmp (keys_of es) → keys (pages_of es) ≡ numbers es
@@ -214,12 +214,12 @@ keys-pages_of (e ∷ es) sorted =
     as (λ w. keys (cond w (insert (pages_of es) e.0 e.1.image.items) (remove (pages_of es) e.0))
     ≡ cond w (e.0 ∷ numbers es) (numbers es)) [
       | true ↦
-        ap (map (λ e. e.0)) (entries-insert nat_cmp_total (pages_of es) e.0 e.1.image.items)
-        ∙ put_below e.0 e.1.image.items (entries (pages_of es))
-        (subst (IsBelow e.0) (sym rest) (below_written e.0 es below))
-        ∙ ap (λ (ks : List ℕ). e.0 ∷ ks) rest
+          ap (map (λ e. e.0)) (entries-insert nat_cmp_total (pages_of es) e.0 e.1.image.items)
+          ∙ put_below e.0 e.1.image.items (entries (pages_of es))
+          (subst (IsBelow e.0) (sym rest) (below_written e.0 es below))
+          ∙ ap (λ (ks : List ℕ). e.0 ∷ ks) rest
       | false ↦
-        ap keys (removed (pages_of es) e.0 (get-pages_of es e.0 ∙ ap image (none_above e.0 es below))) ∙ rest
+          ap keys (removed (pages_of es) e.0 (get-pages_of es e.0 ∙ ap image (none_above e.0 es below))) ∙ rest
     ]
 
 pub same_page : (a b : Page) → Some a ≡ Some b → a ≡ b

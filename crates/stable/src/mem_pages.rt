@@ -88,7 +88,7 @@ impl PageDevice for MemPages {
     ghost usage = { λ device. device.usage };
 
     fn make_room(&mut self, id: u64, len: usize) -> Result<(), AllocError>
-        ensures room { OnOk result (has_room self.new.rooms id len ≡ true) }
+        ensures room { OnOk result ((n : ℕ) → n ≤ len → has_room self.new.rooms id n ≡ true) }
         ensures kept { (other n : ℕ) → has_room self.old.rooms other n ≡ true
             → has_room self.new.rooms other n ≡ true }
         ensures same { self.new.pages ≡ self.old.pages }
@@ -148,7 +148,7 @@ fn make_room(
 ) -> Result<(), AllocError>
     ensures place { OnOk result ((page : Page) × (get nat_cmp places.new id ≡ Some page)
         × (len ≤ vec_capacity page.image)) }
-    ensures room { OnOk result (has_room (rooms_of places.new.entries) id len ≡ true) }
+    ensures room { OnOk result ((n : ℕ) → n ≤ len → has_room (rooms_of places.new.entries) id n ≡ true) }
     ensures kept { (other n : ℕ) → has_room (rooms_of places.old.entries) other n ≡ true
         → has_room (rooms_of places.new.entries) other n ≡ true }
     ensures full { OnErr result (has_room (rooms_of places.old.entries) id len ≡ false) }

@@ -1,5 +1,5 @@
 //! What a page device promises.
-ghost use Rattle.std.specs.Prelude.{◌≡◌, ℕ, Bool, true, false, length, IsTrue, OnOk, OnErr, IfOk, IsErrOf, IsOkUnless};
+ghost use Rattle.std.specs.Prelude.{◌≡◌, ◌≤◌, ℕ, Bool, true, false, length, IsTrue, OnOk, OnErr, IfOk, IsErrOf, IsOkUnless};
 ghost use Rattle.std.specs.Borrow.{sem};
 ghost use Rattle.std.specs.FinMap as map;
 ghost use Rattle.std.specs.List.Sorted.{IsStrictlyIncreasing};
@@ -23,10 +23,10 @@ pub trait PageDevice {
     /// How many calls were made of it and how many of them failed, and which is set to fail.
     ghost usage: { Self → Usage };
 
-    /// Makes room for an image of this length in the place of a page, so that it can be written without more memory.
+    /// Makes room for an image of at most this length in the place of a page, so that it can be written without more memory.
     /// Nothing is written: this is no call that is counted, and the device can't fail in it.
     fn make_room(&mut self, id: u64, len: usize) -> Result<(), AllocError>
-        ensures room { OnOk result (has_room self.new id len ≡ true) }
+        ensures room { OnOk result ((n : ℕ) → n ≤ len → has_room self.new id n ≡ true) }
         ensures kept { (other n : ℕ) → has_room self.old other n ≡ true → has_room self.new other n ≡ true }
         ensures same { pages self.new ≡ pages self.old }
         ensures uncounted { usage self.new ≡ usage self.old };

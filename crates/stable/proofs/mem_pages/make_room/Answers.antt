@@ -1,7 +1,8 @@
-use Rattle.std.proofs.Common.{◌≡◌, ◌≤◌, ℕ, true, false, cond, Some, None, Result, Ok, Err, OnErr, refl, sym, ap, ◌∙◌, subst}
+use Rattle.std.proofs.Common.{◌≡◌, ◌≤◌, false, cond, Some, None, Result, Ok, Err, OnErr, refl, sym, ap, ◌∙◌, subst}
 use Rattle.std.specs.Vec.{vec_capacity}
-use Rattle.std.specs.BTreeMap.{BTreeMap, Updates, IsOrdered}
+use Rattle.std.specs.BTreeMap.{BTreeMap, Updates}
 use Rattle.std.specs.Ordering.{nat_cmp}
+use Rattle.std.proofs.Math.Nat.{le_trans}
 use Rattle.stable.specs.declared.mem_pages.Page.{Page}
 use Rattle.stable.proofs.Pages.{image, image_at, pages_kept, rooms_kept, room_put, no_room, no_place, same_page, some_none}
 use Rattle.stable.proofs.mem_pages.make_room.Goals as goal
@@ -56,7 +57,8 @@ returns-in_ok-widen-in-Some-clause-room c =
     let p : Page = record { image = c.widen.new.image; is_written = c.in-Some.page.now.is_written } in
     let holds = c.get_mut.follows.holds p in
     let updates = holds.3 (rw (sym c.in-Some.ensures.value) refl) in
-    room_put (c.get_mut.follows.lender p).entries c.args.id p c.args.len updates.1 c.in_ok-widen-in-Some.ensures.room
+    λ n le. room_put (c.get_mut.follows.lender p).entries c.args.id p n updates.1
+    (le_trans le c.in_ok-widen-in-Some.ensures.room)
 
 pub returns-in_ok-widen-in-Some-clause-kept : goal.returns-in_ok-widen-in-Some-clause-kept
 returns-in_ok-widen-in-Some-clause-kept c =
@@ -82,7 +84,8 @@ returns-in_ok-insert-in-None-clause-room c =
     let updates : Updates nat_cmp c.args.places.now c.insert.new.self c.args.id (Some p) =
     subst (λ (m : BTreeMap _ Page). Updates nat_cmp m c.insert.new.self c.args.id (Some p))
     c.get_mut.follows.holds-at-none c.in_ok-insert-in-None.ensures.updates in
-    room_put c.insert.new.self.entries c.args.id p c.args.len updates.1 c.in_ok-with_capacity-in-None.ensures.capacity
+    λ n le. room_put c.insert.new.self.entries c.args.id p n updates.1
+    (le_trans le c.in_ok-with_capacity-in-None.ensures.capacity)
 
 pub returns-in_ok-insert-in-None-clause-kept : goal.returns-in_ok-insert-in-None-clause-kept
 returns-in_ok-insert-in-None-clause-kept c =
@@ -100,4 +103,3 @@ returns-in_ok-insert-in-None-clause-same c =
     subst (λ (m : BTreeMap _ Page). Updates nat_cmp m c.insert.new.self c.args.id (Some p))
     c.get_mut.follows.holds-at-none c.in_ok-insert-in-None.ensures.updates in
     pages_kept c.args.places.now.entries c.insert.new.self.entries c.args.id p updates.0 (ap image c.in-None.ensures.value)
-

@@ -1,7 +1,5 @@
-use Rattle.std.proofs.Common.{◌≡◌, ◌≤◌, true, cond, Some, None, refl, sym, ap, ◌∙◌, subst, arith}
+use Rattle.std.proofs.Common.{◌≡◌, ◌≤◌, Some, refl, sym, ap, ◌∙◌, subst}
 use Rattle.std.specs.Vec.{vec_capacity}
-use Rattle.std.specs.BTreeMap.{get}
-use Rattle.std.specs.Ordering.{nat_cmp}
 use Rattle.stable.specs.declared.mem_pages.Page.{Page}
 use Rattle.stable.proofs.Pages.{PutsAt, image_at, pages_of-put, rooms_kept, same_page}
 use Rattle.stable.proofs.mem_pages.put.Goals as goal
