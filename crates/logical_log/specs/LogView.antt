@@ -3,15 +3,16 @@ use Rattle.std.specs.Prelude.{◌≡◌, ℕ, ◌+◌, Bool, false, List, [], �
 use Rattle.record_key.specs.FirstCause.{first_of}
 use Rattle.record_key.specs.declared.refusal.Refusal.{Refusal}
 use Rattle.record_key.specs.declared.refusal.Refusal.TheVariants.{NoMemory, Device, NumbersSpent}
+use Rattle.stable.specs.Usage.{Usage, called, failed}
 use Rattle.stable.specs.declared.error.DeviceError.{DeviceError}
 use Rattle.stable.specs.declared.error.DeviceError.TheVariants as device
 use Rattle.history.specs.declared.record.Record.{Record}
 
--- the records, the newest first, how many of them are stable, and how often the device has failed
+-- the records, the newest first, how many of them are stable, and how the device was used
 pub record LogView : Type 0 where
   pub records : List Record
   pub stable : ℕ
-  pub failures : ℕ
+  pub usage : Usage
 
 -- the next number would be 2 to the power of 48
 abbrev pub is_spent : List Record → Bool
@@ -20,16 +21,20 @@ is_spent log = nat_le 281474976710655 (length log)
 abbrev pub spent_refusal : List Record → Option Refusal
 spent_refusal log = first_of ((is_spent log, NumbersSpent) ∷ [])
 
--- the record stands at this number, after all the others
+-- the record stands at this number, after all the others, by one call of the device
 pub record Appends (old : LogView) (r : Record) (number : ℕ) (new : LogView) : Type 0 where
   pub unspent : is_spent old.records ≡ false
   pub number_is : number ≡ length old.records + 1
-  pub log : new ≡ record old { records = r ∷ old.records }
+  pub log : new ≡ record old { records = r ∷ old.records; usage = called old.usage }
 
--- the log after a call that was refused so: as it was, but for one failure more where the device failed
+-- the device after a call that was refused so: it was called only where it failed
+abbrev pub refused_use : Usage → Refusal → Usage
+refused_use u Device = failed u
+refused_use u _ = u
+
+-- the log after a call that was refused so: as it was, but for that
 abbrev pub after_refusal : LogView → Refusal → LogView
-after_refusal log Device = record log { failures = log.failures + 1 }
-after_refusal log _ = log
+after_refusal log r = record log { usage = refused_use log.usage r }
 
 -- the refusal that a device's error is answered with
 abbrev pub refusal_from : DeviceError → Refusal
