@@ -23,12 +23,12 @@ use Rattle.page.proofs.Sides.{captured_left, captured_both, honest_joined}
 use Rattle.btree.specs.Leaves.{AreLeaves, leaf_at, place_at, changed_at}
 use Rattle.btree.specs.Parting.{middle, may_split_at, split_at, merged_at}
 use Rattle.btree.specs.Performs.{performed_at}
-use Rattle.btree.specs.TreeLaw.{AreHonest, AreCaptured}
+use Rattle.btree.specs.TreeLaw.{AreHonest, AreCapturedAt}
 use Rattle.btree.proofs.Tiling.{within_from, there_from, same_from}
 use Rattle.page.proofs.Sides.{neighbours_apart}
 use Rattle.btree.proofs.Changing.{changed_same, changed_other, leaf_mapped}
 use Rattle.btree.proofs.Splitting.{leaf_split}
-use Rattle.btree.proofs.Merging.{AtPair, AreJoinable, joinable, pair_with, pair_all, pair_each, leaf_merged, under_next, past_next}
+use Rattle.btree.proofs.Merging.{AtPair, AreJoinable, joinable, pair_with, pair_all, at_pair, leaf_merged, under_next, past_next}
 
 -- ---- any leaves
 
@@ -218,20 +218,21 @@ record AreHonestBoth (log : List Record) (left right : LeafView) : Type 0 where
   pub captured : IsCapturedTo log left right.ab.low × IsCapturedTo log right left.ab.low
 
 honest_pair : (log : List Record) (leaves : List LeafView) (p : ℕ) → AreLeaves leaves → AreHonest log leaves
-    → AreCaptured log leaves
+    → AreCapturedAt log leaves p
     → AtPair (AreHonestBoth log) leaves p
 honest_pair log leaves p kept honest captured =
     let known : AtPair (λ left right. (IsHonestLeaf log left × IsHonestLeaf log right)
     × (IsCapturedTo log left right.ab.low × IsCapturedTo log right left.ab.low)) leaves p =
     pair_with _ _ _ (λ left right one two. (one, two)) leaves p
     (pair_all (IsHonestLeaf log) leaves p honest)
-    (pair_each (λ (leaf other : LeafView). IsCapturedTo log leaf other.ab.low) leaves p captured) in
+    (at_pair (λ left right. IsCapturedTo log left right.ab.low × IsCapturedTo log right left.ab.low) leaves p
+    (captured.left, captured.right)) in
     pair_with _ _ (AreHonestBoth log)
     (λ left right pair both. record { pair = pair; honest = both.0; captured = both.1 }) leaves p
     (joinable leaves p kept) known
 
 pub honest_merged_at : (log : List Record) (leaves : List LeafView) (p d : ℕ) → AreLeaves leaves → AreHonest log leaves
-    → AreCaptured log leaves
+    → AreCapturedAt log leaves p
     → AtPair (λ left right. IsHonestLeaf log (joined_of left right d)) leaves p
 honest_merged_at log leaves p d kept honest captured =
     pair_with (AreHonestBoth log) (AreHonestBoth log) _ (λ left right both again.
@@ -263,10 +264,10 @@ captured_in_right log left right d k both held n o requests on =
 
 -- of the log's numbers on the key
 pub captured_merged : (log : List Record) (leaves : List LeafView) → AreLeaves leaves → AreHonest log leaves
-    → AreCaptured log leaves → (p d : ℕ) (k : Bytes)
+    → (p d : ℕ) → AreCapturedAt log leaves p → (k : Bytes)
     → (n : ℕ) (o : Op) → Requests log n o → key_of o ≡ k
     → captures (leaf_at (merged_at p d leaves) k).ab n ≡ captures (leaf_at leaves k).ab n
-captured_merged log leaves kept honest captured p d k n o requests on =
+captured_merged log leaves kept honest p d captured k n o requests on =
     elim (leaf_merged (AreHonestBoth log) (λ left right both. both.pair.next) d k leaves p
     (honest_pair log leaves p kept honest captured)) [
       | inl same ↦ ap (λ (leaf : LeafView). captures leaf.ab n) same

@@ -78,17 +78,12 @@ pair_all P (leaf ∷ []) p all = tt
 pair_all P (left ∷ right ∷ rest) zero all = (all.0, all.1.0)
 pair_all P (left ∷ right ∷ rest) (suc p) all = pair_all P (right ∷ rest) p all.1
 
--- what each leaf has with each other, a pair has both ways
-pub pair_each : (R : LeafView → LeafView → Type 0) (leaves : List LeafView) (p : ℕ)
-    → AllByRecursion (λ (leaf : LeafView). AllByRecursion (R leaf) leaves) leaves
-    → AtPair (λ left right. R left right × R right left) leaves p
-pair_each R [] p all = tt
-pair_each R (leaf ∷ []) p all = tt
-pair_each R (left ∷ right ∷ rest) zero all = (all.0.1.0, all.1.0.0)
-pair_each R (left ∷ right ∷ rest) (suc p) all =
-    pair_each R (right ∷ rest) p
-    (all_from (λ (leaf : LeafView). AllByRecursion (R leaf) (left ∷ right ∷ rest))
-    (λ (leaf : LeafView). AllByRecursion (R leaf) (right ∷ rest)) (λ leaf both. both.1) (right ∷ rest) all.1)
+pub at_pair : (Q : LeafView → LeafView → Type 0) (leaves : List LeafView) (p : ℕ)
+    → Q (get_or leaves p first) (get_or leaves (suc p) first) → AtPair Q leaves p
+at_pair Q [] p both = tt
+at_pair Q (leaf ∷ []) p both = tt
+at_pair Q (left ∷ right ∷ rest) zero both = both
+at_pair Q (left ∷ right ∷ rest) (suc p) both = at_pair Q (right ∷ rest) p both
 
 pair_next : (from : Option Bytes) (leaves : List LeafView) (p : ℕ) → TileFrom from (parts_of leaves)
     → AtPair AreNeighbours leaves p

@@ -19,7 +19,7 @@ use Rattle.page.proofs.Sides.{honest_lower, honest_upper}
 use Rattle.btree.specs.Leaves.{AreLeaves, leaf_at, rows_of}
 use Rattle.btree.specs.Parting.{middle, may_split_at, may_merge_at, split_at, merged_at}
 use Rattle.btree.specs.Performs.{performed_at, PerformsAt}
-use Rattle.btree.specs.TreeLaw.{PerformsOne, SameTable, AreHonest, AreCaptured}
+use Rattle.btree.specs.TreeLaw.{PerformsOne, SameTable, AreHonest, AreCapturedAt}
 use Rattle.btree.proofs.Together.{value_from}
 use Rattle.page.proofs.Starts.{inside_fences}
 use Rattle.btree.proofs.Kept.{cuts_inside, kept_performed, kept_raised, kept_lower, kept_upper, kept_joined}
@@ -172,7 +172,7 @@ split_honest log leaves p id d kept may honest =
     kept.each may honest
 
 pub merged_honest : (log : List Record) (leaves : List LeafView) (p d : ℕ) → AreLeaves leaves → AreHonest log leaves
-    → AreCaptured log leaves
+    → AreCapturedAt log leaves p
     → AreHonest log (merged_at p d leaves)
 merged_honest log leaves p d kept honest captured =
     all_merged (IsHonestLeaf log) d leaves p (honest_merged_at log leaves p d kept honest captured) honest

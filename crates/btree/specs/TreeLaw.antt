@@ -1,12 +1,12 @@
 -- What is true of any leaves that have all keys among them.
-use Rattle.std.specs.Prelude.{◌≡◌, ℕ, ◌<◌, true, false, List, length, map}
+use Rattle.std.specs.Prelude.{◌≡◌, ℕ, ◌+◌, ◌<◌, true, false, List, get_or, length, map}
 use Rattle.std.specs.List.{AllByRecursion}
 use Rattle.std.specs.FinMap.{get, entries}
 use Rattle.record_key.specs.declared.op.Op.{Op}
 use Rattle.record_key.specs.Table.{Bytes, key_of, answer_in, after}
 use Rattle.history.specs.declared.record.Record.{Record}
 use Rattle.ab_lsn.specs.AbLsn.{captures}
-use Rattle.page.specs.Leaf.{LeafView, is_in_fences, raised_to}
+use Rattle.page.specs.Leaf.{LeafView, first, is_in_fences, raised_to}
 use Rattle.page.specs.Honest.{IsHonestLeaf, IsNextOn, IsCapturedTo}
 use Rattle.btree.specs.Leaves.{AreLeaves, leaf_at, place_at, all_rows, rows_of}
 use Rattle.btree.specs.Parting.{may_split_at, may_merge_at, split_at, merged_at}
@@ -34,11 +34,10 @@ pub record SameTable (old new : List LeafView) : Type 0 where
 abbrev pub AreHonest : List Record → List LeafView → Type 0
 AreHonest log leaves = AllByRecursion (IsHonestLeaf log) leaves
 
--- each leaf has captured the log's numbers on its keys up to the low number of any other
-abbrev pub AreCaptured : List Record → List LeafView → Type 0
-AreCaptured log leaves =
-    AllByRecursion (λ (leaf : LeafView).
-    AllByRecursion (λ (other : LeafView). IsCapturedTo log leaf other.ab.low) leaves) leaves
+-- the leaf at a place and the one after it have each captured the log's numbers on its keys up to the other's low number
+pub record AreCapturedAt (log : List Record) (leaves : List LeafView) (p : ℕ) : Type 0 where
+  pub left : IsCapturedTo log (get_or leaves p first) (get_or leaves (p + 1) first).ab.low
+  pub right : IsCapturedTo log (get_or leaves (p + 1) first) (get_or leaves p first).ab.low
 
 -- what is true of leaves that have every key once among them: they are one table, a new number does to it what it does
 -- at its leaf, raised low numbers, splits and merges leave it, and honest leaves stay honest
@@ -60,5 +59,5 @@ pub record TreeLaw : Type 0 where
   pub split_honest : (log : List Record) (leaves : List LeafView) (p id d : ℕ) → AreLeaves leaves
       → may_split_at leaves p ≡ true → AreHonest log leaves → AreHonest log (split_at p id d leaves)
   pub merged_honest : (log : List Record) (leaves : List LeafView) (p d : ℕ) → AreLeaves leaves
-      → may_merge_at leaves p ≡ true → AreHonest log leaves → AreCaptured log leaves
+      → may_merge_at leaves p ≡ true → AreHonest log leaves → AreCapturedAt log leaves p
       → AreHonest log (merged_at p d leaves)

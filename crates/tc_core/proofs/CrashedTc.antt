@@ -1,11 +1,12 @@
 -- What a crash leaves of a transaction component is one, and opens in one way but for the order of losers and of locks.
-use Rattle.std.proofs.Common.{◌≡◌, ℕ, ◌+◌, ◌-◌, ◌≤◌, zero, suc, List, [], ◌∷◌, length, refl, sym, ap, ◌∙◌, subst, arith, inl, inr, append-nil}
-use Rattle.std.specs.Prelude.{drop}
+use Rattle.std.proofs.Common.{◌≡◌, ℕ, ◌+◌, ◌-◌, ◌≤◌, zero, suc, Bool, true, false, List, [], ◌∷◌, length, refl, sym, ap, ◌∙◌, subst, arith, inl, inr}
+use Rattle.std.specs.Prelude.{drop, nat_lt, if◌then◌else◌}
 use Rattle.std.proofs.lemmas.Bool.{cases_lt, lt-ltb, le-ltb}
 use Rattle.std.proofs.lemmas.List.{length-drop}
 use Rattle.history.specs.declared.record.Record.{Record}
 use Rattle.history.specs.declared.record.Record.TheVariants as is
 use Rattle.log_laws.proofs.Checking.{latest_unique}
+use Rattle.stable.specs.Usage.{Usage, called_often}
 use Rattle.logical_log.specs.Low.{stable_part}
 use Rattle.logical_log.specs.Opening.{IsLogOf}
 use Rattle.logical_log.specs.Spelled.{spelled}
@@ -14,8 +15,8 @@ use Rattle.restart.specs.Losers.{IsLoser}
 use Rattle.restart.specs.Plan.{IsCheckpointed, raised_by}
 use Rattle.restart.proofs.Passing.{legal_part}
 use Rattle.tc_core.specs.Kept.{IsTc}
-use Rattle.tc_core.specs.Opening.{opened, AreLeft}
-use Rattle.tc_core.specs.Opened.{checkpointed_in, CrashedIsKept, OpensAgain, SameAreLost}
+use Rattle.tc_core.specs.Opening.{opened}
+use Rattle.tc_core.specs.Opened.{checkpointed_in, UsedByOpening, CrashedIsKept, OpensAgain, SameAreLost}
 use Rattle.tc_core.specs.TcView.{TcView}
 use Rattle.tc_core.proofs.Losers.{same_listed}
 use Rattle.tc_core.proofs.OpenedLog.{checkpoints_found, opened_kept}
@@ -45,22 +46,27 @@ checkpointed_less (suc k) (r ∷ log) =
 
 pub crashed_kept : CrashedIsKept
 crashed_kept w n k within = (
-  opened_kept (stable_part w.log n) w.failures (legal_part w.log n k.legal)
+  opened_kept (stable_part w.log n) w.usage (legal_part w.log n k.legal)
       (omega (arith, length-drop (length w.log - n) w.log, k.few.records)),
   omega (arith, checkpointed_less (length w.log - n) w.log, is_checkpointed w k),
 )
 
 -- ---- what bytes are opened as
 
+used_to_open : (cut : Bool) (old new : Usage) → new ≡ called_often (1 + (if cut then 1 else 0)) old → UsedByOpening old new
+used_to_open true old new h = inr h
+used_to_open false old new h = inl h
+
 pub opens_again : OpensAgain
-opens_again bytes log failures w is o k =
+opens_again bytes log usage w is o k =
     let same : w.log ≡ log = opens_once bytes w.log log o.log is in
     let checkpointed : w.checkpointed ≡ checkpointed_in log = is_checkpointed w k ∙ ap checkpointed_in same in
     record {
       was = refl;
       is = o.is
-          ∙ ap (λ l. opened l failures w.checkpointed w.losers w.locks) same
-          ∙ ap (λ c. opened log failures c w.losers w.locks) checkpointed;
+          ∙ ap (λ l. opened l w.usage w.checkpointed w.losers w.locks) same
+          ∙ ap (λ c. opened log w.usage c w.losers w.locks) checkpointed;
+      used = used_to_open (nat_lt (length (spelled w.log)) (length bytes)) usage w.usage o.used;
       below = o.losers ∙ ap (λ (l : List Record). length l + 1) same;
     }
 
@@ -70,19 +76,3 @@ same_are_lost old new k k2 again t =
     same_listed old.log new.log old.losers new.losers k.lost.losers k2.lost.losers t
     (λ h. subst (λ b. IsLoser new.log b t) (sym again.below) (subst (λ l. IsLoser l old.losers.below t) (sym log) h))
     (λ h. subst (λ b. IsLoser old.log b t) again.below (subst (λ l. IsLoser l new.losers.below t) log h))
-
--- what a refused opening leaves is the same log's
-pub left_again : (bytes left : List ℕ) (log : List Record) → IsLogOf bytes log → AreLeft bytes left → IsLogOf left log
-left_again bytes left log h (inl same) = subst (λ b. IsLogOf b log) (sym same) h
-left_again bytes left log h (inr (cut, is, parts)) =
-    let same : cut ≡ log = opens_once bytes cut log is h in
-    record {
-      left = [];
-      begins = record {
-        legal = h.begins.legal;
-        spellable = h.begins.spellable;
-        numbered = h.begins.numbered;
-        parts = parts ∙ ap spelled same ∙ sym (append-nil (spelled log));
-      };
-      cut = inl (omega arith);
-    }

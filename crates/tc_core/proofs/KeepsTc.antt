@@ -21,7 +21,8 @@ use Rattle.tc_core.specs.declared.open_txn.Rollback.{Rollback}
 use Rattle.tc_core.specs.OpenTxns.{find, replace, AreBelow}
 use Rattle.range_locks.specs.Locks.{spans_of, IsFree}
 use Rattle.range_locks.proofs.Tables.{empty_table, set_other}
-use Rattle.tc_core.specs.TcView.{TcView, fresh, failed}
+use Rattle.tc_core.specs.TcView.{TcView, fresh, used_so}
+use Rattle.stable.specs.Usage.{Usage}
 use Rattle.logical_log.specs.LogView.{is_spent}
 use Rattle.restart.specs.Losers.{IsLoser, IsAt, IsUndone, txns}
 use Rattle.tc_core.specs.Locking.{is_listed, is_holder}
@@ -49,8 +50,8 @@ pub none_next : (log : List Record) → IsLegal log → answer_of log (length lo
 none_next log legal = nothing_answered (answer_of log (length log + 1)) (unanswered_next log legal)
 
 -- nothing is open at first
-pub fresh_tc : (failures : ℕ) → IsTc (fresh failures)
-fresh_tc failures = record {
+pub fresh_tc : (usage : Usage) → IsTc (fresh usage)
+fresh_tc usage = record {
   legal = tt;
   within = omega arith;
   few = record { records = omega arith; reads = omega arith };
@@ -91,9 +92,9 @@ fresh_tc failures = record {
 pub one_more : (log : List Record) → is_spent log ≡ false → length log + 1 ≤ 281474976710655
 one_more log unspent = grind (arith, nat_tests, unspent)
 
--- the device fails
-pub keeps_failed : (w : TcView) → IsTc w → IsTc (failed w)
-keeps_failed w k = record {
+-- the device is called
+pub keeps_used : (w : TcView) (usage : Usage) → IsTc w → IsTc (used_so w usage)
+keeps_used w usage k = record {
   legal = k.legal;
   within = k.within;
   few = record { records = k.few.records; reads = k.few.reads };

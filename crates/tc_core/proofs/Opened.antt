@@ -19,6 +19,7 @@ use Rattle.log_laws.proofs.Sharing.{share_adds, modes_agree}
 use Rattle.log_laws.proofs.Records.{AnOp, at_newest, at_older, not_newest, since}
 use Rattle.log_laws.proofs.LegalLogs.{begun_number, fits_at, op_number}
 use Rattle.logical_log.proofs.Answered.{answered_longer, part_whole}
+use Rattle.stable.specs.Usage.{Usage}
 use Rattle.logical_log.specs.Low.{stable_part}
 use Rattle.range_locks.specs.Locks.{LocksView, spans_of}
 use Rattle.restart.specs.Losers.{LosersView, txns, AreLosers}
@@ -172,11 +173,11 @@ checked_in log c legal (inl h) =
     (fits_at log h.is.0 (is.Checkpoint c) legal h.is.1)
 checked_in log c legal (inr none) = let P : ℕ → Type 0 = FitsCheckpoint log in subst P (sym none.0) (may_none log)
 
-pub opened_tc : (log : List Record) (failures start : ℕ) (l : LosersView) (locks : LocksView) → IsLegal log
+pub opened_tc : (log : List Record) (usage : Usage) (start : ℕ) (l : LosersView) (locks : LocksView) → IsLegal log
     → length log ≤ 281474976710655
     → AreLosers log l → l.below ≡ length log + 1 → IsRedoStart log start → HoldsOpen log locks
-    → IsTc (opened log failures (start - 1) l locks)
-opened_tc log failures start l locks legal few losers all redo holds =
+    → IsTc (opened log usage (start - 1) l locks)
+opened_tc log usage start l locks legal few losers all redo holds =
     let c : ℕ = start - 1 in
     let is_low : redo.low ≡ start - 1 = omega (arith, redo.start_is) in
     let P : ℕ → Type 0 = IsLatestOrNone (IsCheckpointed log) in

@@ -16,13 +16,13 @@ checkpoints_found [] = inr (refl, λ l h. let e = h.1 in cc)
 checkpoints_found (r ∷ log) = raised_more r log (checkpointed_in log) (checkpoints_found log)
 
 pub opened_kept : OpenedIsKept
-opened_kept log failures legal few =
-    let P : ℕ → Type 0 = λ c. IsTc (opened log failures c (losers_of log) (locks_of log)) in
+opened_kept log usage legal few =
+    let P : ℕ → Type 0 = λ c. IsTc (opened log usage c (losers_of log) (locks_of log)) in
     let same : (checkpointed_in log + 1) - 1 ≡ checkpointed_in log = omega arith in
     subst P same
-    (opened_tc log failures (checkpointed_in log + 1) (losers_of log) (locks_of log) legal few (are_losers log legal)
+    (opened_tc log usage (checkpointed_in log + 1) (losers_of log) (locks_of log) legal few (are_losers log legal)
     refl
     (record { low = checkpointed_in log; greatest = checkpoints_found log; start_is = refl }) (locks_open log))
 
 pub opened_opened : OpenedIsOpened
-opened_opened bytes log failures is = record { log = is; losers = refl; is = refl }
+opened_opened bytes log usage is = record { log = is; losers = refl; used = refl; is = refl }

@@ -14,7 +14,7 @@ use Rattle.tc_core.specs.Refusing.{Refuses}
 use Rattle.tc_core.specs.Causes.{logs_next, undo_logs, undo_refusal}
 use Rattle.tc_core.specs.Calls.{Undoes, UndoesStep}
 use Rattle.tc_core.specs.Undoing.{MayStep}
-use Rattle.tc_core.proofs.Refused.{with_log, log_of, refuses, at_number}
+use Rattle.tc_core.proofs.Refused.{IsDueAs, with_log, log_of, refuses, at_number}
 
 module _ (w : TcView) (t : ℕ) (b : Rollback) (may : MayStep w t b) where
   pub logs_is : undo_logs (find t w.open_txns) ≡ logs_next may.open_txn.undo (Some b)
@@ -26,9 +26,9 @@ module _ (w : TcView) (t : ℕ) (b : Rollback) (may : MayStep w t b) where
 
   -- where it logs, the log may refuse
   pub refuses_step : logs_next may.open_txn.undo (Some b) ≡ true → (r : Refusal) (l : LogView)
-      → MayRefuse (spent_refusal w.log) r → l ≡ after_refusal (log_of w) r
+      → MayRefuse (spent_refusal w.log) r → l ≡ after_refusal (log_of w) r → IsDueAs w r
       → Refuses (undo_refusal w t) (undo_logs (find t w.open_txns)) (undo_logs (find t w.open_txns)) w r (with_log w l)
-  refuses_step logs r l h e = rw (refusal_is, logs_is, logs) (refuses w (is_spent w.log) r l h e)
+  refuses_step logs r l h e due = rw (refusal_is, logs_is, logs) (refuses w (is_spent w.log) r l h e due)
 
   -- it is made where it logs nothing, or the log has a number left
   pub makes : (step : UndoStep) (new : TcView) → (logs_next may.open_txn.undo (Some b) && is_spent w.log) ≡ false

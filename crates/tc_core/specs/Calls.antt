@@ -1,8 +1,9 @@
 -- What each call gives, and what it leaves: one definition for each, the contract of the call.
-use Rattle.std.specs.Prelude.{◌≡◌, ◌⊎◌, ℕ, ◌+◌, ◌-◌, ◌<◌, ◌≤◌, false, true, Option, Some, None, Result, Ok, Err, length, slice_get}
+use Rattle.std.specs.Prelude.{◌≡◌, ◌⊎◌, ℕ, ◌+◌, ◌-◌, ◌<◌, ◌≤◌, false, true, IsTrue, Option, Some, None, Result, Ok, Err, length, slice_get}
 use Rattle.record_key.specs.declared.op.Op.{Op}
 use Rattle.record_key.specs.declared.refusal.Refusal.{Refusal}
 use Rattle.record_key.specs.declared.refusal.Refusal.TheVariants.{Device}
+use Rattle.stable.specs.Usage.{is_due}
 use Rattle.history.specs.Log.{Requests}
 use Rattle.history.specs.Spans.{changed_span}
 use Rattle.codec.specs.declared.request.Request.{Request}
@@ -36,7 +37,8 @@ ReconnectGives old (Ok c) new =
     × (new ≡ reconnected old)
 ReconnectGives old (Err r) new =
     Refuses (spent_refusal old.log) true true old r new
-    ⊎ ((spent_refusal old.log ≡ None) × (r ≡ Device) × (new ≡ failed (logged_session old)))
+    ⊎ ((spent_refusal old.log ≡ None) × (r ≡ Device) × (new ≡ failed (logged_session old))
+    × IsTrue (is_due (logged_session old).usage))
 
 abbrev pub BeginGives : TcView → Result ℕ Refusal → TcView → Type 0
 BeginGives old (Ok t) new = (begin_refusal old ≡ None) × (t ≡ length old.log + 1) × (new ≡ begun old)
@@ -137,7 +139,7 @@ UndoGives old t (Err r) new =
 -- all is stable, and those that were committing are told, in the order of their Commit records
 abbrev pub ForceGives : TcView → Result Forced Refusal → TcView → Type 0
 ForceGives old (Ok f) new = (f.end ≡ length old.log) × (f.committed ≡ old.committing) × (new ≡ forced old)
-ForceGives old (Err r) new = (r ≡ Device) × (new ≡ failed old)
+ForceGives old (Err r) new = (r ≡ Device) × (new ≡ failed old) × IsTrue (is_due old.usage)
 
 -- the request that the transaction waits for: of its record, which is stable
 pub record IsOpRequest (w : TcView) (t : ℕ) (request : Request) : Type 0 where

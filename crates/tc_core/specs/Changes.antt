@@ -1,8 +1,9 @@
--- What each call makes of what was seen before it.
+-- What each call makes of what was seen before it. Each record that is logged takes one call of the device.
 use Rattle.std.specs.Prelude.{ℕ, ◌+◌, List, [], ◌∷◌, ◌++◌, Option, Some, None, length, nat_lt, take, if◌then◌else◌}
 use Rattle.record_key.specs.declared.op.Op.{Op}
 use Rattle.record_key.specs.declared.op.Answer.{Answer}
 use Rattle.inverse.specs.Inverse.{inverse_of}
+use Rattle.stable.specs.Usage.{called}
 use Rattle.history.specs.declared.record.Record.{Record}
 use Rattle.history.specs.declared.record.Record.TheVariants as is
 use Rattle.history.specs.Log.{record_at, answer_of, op_in}
@@ -26,12 +27,17 @@ abbrev pub let_go : List ℕ → LocksView → LocksView
 let_go [] locks = locks
 let_go (t ∷ ts) locks = let_go ts (set_spans t [] locks)
 
--- all is stable: who is committing has committed
+-- all is stable, by one call of the device: who is committing has committed
 abbrev pub forced : TcView → TcView
-forced w = record w { stable = length w.log; committing = []; locks = let_go w.committing w.locks }
+forced w = record w {
+  stable = length w.log;
+  usage = called w.usage;
+  committing = [];
+  locks = let_go w.committing w.locks;
+}
 
 abbrev pub logged_session : TcView → TcView
-logged_session w = record w { log = is.Session ∷ w.log }
+logged_session w = record w { log = is.Session ∷ w.log; usage = called w.usage }
 
 -- a new session, stable at once: nothing is announced in it, and no checkpoint is asked for
 abbrev pub reconnected : TcView → TcView
@@ -58,6 +64,7 @@ asked_checkpoint w = record w { checkpointing = Some w.announced }
 abbrev pub checkpointed : TcView → ℕ → TcView
 checkpointed w l = record w {
   log = is.Checkpoint l ∷ w.log;
+  usage = called w.usage;
   checkpointing = None;
   checkpointed = greater w.checkpointed l;
 }
@@ -67,7 +74,11 @@ abbrev pub begun_txn : ℕ → OpenTxn
 begun_txn t = record { txn = t; last = 0; undo = 0; waiting = None; reading = None; rolling = None; saves = [] }
 
 abbrev pub begun : TcView → TcView
-begun w = record w { log = is.Begin ∷ w.log; open_txns = begun_txn (length w.log + 1) ∷ w.open_txns }
+begun w = record w {
+  log = is.Begin ∷ w.log;
+  usage = called w.usage;
+  open_txns = begun_txn (length w.log + 1) ∷ w.open_txns;
+}
 
 -- one whose operation of this number was logged
 abbrev pub acted_txn : OpenTxn → ℕ → OpenTxn
@@ -76,6 +87,7 @@ acted_txn o n = record o { last = n; undo = n; waiting = Some n }
 abbrev pub acted : TcView → OpenTxn → Op → TcView
 acted w o op = record w {
   log = is.Op o.txn o.last op ∷ w.log;
+  usage = called w.usage;
   open_txns = replace (acted_txn o (length w.log + 1)) w.open_txns;
   locks = set_spans o.txn (changed_span op ∷ spans_of w.locks o.txn) w.locks;
 }
@@ -126,6 +138,7 @@ going_back w o s end = record w { open_txns = replace (going_back_txn o s end) w
 abbrev pub committed : TcView → ℕ → TcView
 committed w t = record w {
   log = is.Commit t ∷ w.log;
+  usage = called w.usage;
   open_txns = without t w.open_txns;
   committing = w.committing ++ t ∷ [];
 }
@@ -154,13 +167,19 @@ compensated_txn o n next inverse = record o { last = n; undo = next; waiting = w
 abbrev pub compensated : TcView → OpenTxn → TcView
 compensated w o = record w {
   log = is.Comp o.txn o.undo (next_of w.log o.undo) (inverse_at w.log o.undo) ∷ w.log;
+  usage = called w.usage;
   open_txns = replace (compensated_txn o (length w.log + 1) (next_of w.log o.undo) (inverse_at w.log o.undo))
       w.open_txns;
 }
 
 -- wholly rolled back: its End is logged, and it lets go of what it held
 abbrev pub ended : TcView → ℕ → TcView
-ended w t = record w { log = is.End t ∷ w.log; open_txns = without t w.open_txns; locks = set_spans t [] w.locks }
+ended w t = record w {
+  log = is.End t ∷ w.log;
+  usage = called w.usage;
+  open_txns = without t w.open_txns;
+  locks = set_spans t [] w.locks;
+}
 
 -- back at its savepoint: it goes on, and holds what it held
 abbrev pub back_txn : OpenTxn → OpenTxn
@@ -173,11 +192,15 @@ abbrev pub answered_txn : OpenTxn → OpenTxn
 answered_txn o = record o { waiting = None }
 
 abbrev pub answered : TcView → OpenTxn → ℕ → Answer → TcView
-answered w o n a = record w { log = is.Answer n a ∷ w.log; open_txns = replace (answered_txn o) w.open_txns }
+answered w o n a = record w {
+  log = is.Answer n a ∷ w.log;
+  usage = called w.usage;
+  open_txns = replace (answered_txn o) w.open_txns;
+}
 
 -- an answer that no client waits for
 abbrev pub answered_lost : TcView → ℕ → Answer → TcView
-answered_lost w n a = record w { log = is.Answer n a ∷ w.log }
+answered_lost w n a = record w { log = is.Answer n a ∷ w.log; usage = called w.usage }
 
 -- the compensation of a loser's latest operation that none names
 abbrev pub lost_comp : List Record → Loser → Record
@@ -187,6 +210,7 @@ lost_comp log x = is.Comp x.txn x.left (next_of log x.left) (inverse_at log x.le
 abbrev pub lost_compensated : TcView → Loser → LosersView → TcView
 lost_compensated w x losers = record w {
   log = lost_comp w.log x ∷ w.log;
+  usage = called w.usage;
   phase = phase.Undoing (waits_for (length w.log + 1) (inverse_at w.log x.left));
   losers = losers;
 }
@@ -198,6 +222,7 @@ undoing_or_running losers = if is_none_lost losers then phase.Running else phase
 abbrev pub lost_ended : TcView → ℕ → LosersView → TcView
 lost_ended w t losers = record w {
   log = is.End t ∷ w.log;
+  usage = called w.usage;
   phase = undoing_or_running losers;
   losers = losers;
   locks = set_spans t [] w.locks;

@@ -1,12 +1,13 @@
 -- What a log opens as, with its losers in one order.
-use Rattle.std.specs.Prelude.{◌≡◌, ℕ, ◌+◌, ◌≤◌, ◌==◌, Bool, not, List, [], ◌∷◌, length, map, filter, if◌then◌else◌}
+use Rattle.std.specs.Prelude.{◌≡◌, ◌⊎◌, ℕ, ◌+◌, ◌≤◌, ◌==◌, Bool, not, List, [], ◌∷◌, length, map, filter, if◌then◌else◌}
 use Rattle.history.specs.declared.record.Record.{Record}
 use Rattle.history.specs.declared.record.Record.TheVariants as is
 use Rattle.history.specs.Log.{record_at, has_ended, step_of}
 use Rattle.history.specs.Legal.{IsLegal}
 use Rattle.history.specs.Chains.{undo_from}
 use Rattle.logical_log.specs.Low.{stable_part}
-use Rattle.logical_log.specs.Opening.{IsLogOf}
+use Rattle.stable.specs.Usage.{Usage, called_often}
+use Rattle.logical_log.specs.Opening.{IsLogOf, cut_calls}
 use Rattle.range_locks.specs.Locks.{LocksView, set_spans}
 use Rattle.restart.specs.declared.loser.Loser.{Loser}
 use Rattle.restart.specs.Losers.{LosersView, txns}
@@ -62,23 +63,23 @@ locks_in log (t ∷ ts) = set_spans t (op_spans log t) (locks_in log ts)
 abbrev pub locks_of : List Record → LocksView
 locks_of log = locks_in log (open_in log)
 
--- the log's device has failed so often
-abbrev pub opens_as : List Record → ℕ → TcView
-opens_as log failures = opened log failures (checkpointed_in log) (losers_of log) (locks_of log)
+-- the log's device was used so
+abbrev pub opens_as : List Record → Usage → TcView
+opens_as log usage = opened log usage (checkpointed_in log) (losers_of log) (locks_of log)
 
 -- it is a transaction component, and one that may be opened on the log's bytes
 abbrev pub OpenedIsKept : Type 0
 OpenedIsKept =
-    (log : List Record) (failures : ℕ) → IsLegal log → length log ≤ 281474976710655 → IsTc (opens_as log failures)
+    (log : List Record) (usage : Usage) → IsLegal log → length log ≤ 281474976710655 → IsTc (opens_as log usage)
 
 abbrev pub OpenedIsOpened : Type 0
 OpenedIsOpened =
-    (bytes : List ℕ) (log : List Record) (failures : ℕ) → IsLogOf bytes log
-    → IsOpened bytes failures (opens_as log failures)
+    (bytes : List ℕ) (log : List Record) (usage : Usage) → IsLogOf bytes log
+    → IsOpened bytes usage (opens_as log (called_often (1 + cut_calls bytes log) usage))
 
 -- what is left of the component where a crash keeps the first records, so many
 abbrev pub crashed : TcView → ℕ → TcView
-crashed w n = opens_as (stable_part w.log n) w.failures
+crashed w n = opens_as (stable_part w.log n) w.usage
 
 -- it is a transaction component, and its Checkpoint records name no greater number than the whole log's
 abbrev pub CrashedIsKept : Type 0
@@ -86,17 +87,22 @@ CrashedIsKept =
     (w : TcView) (n : ℕ) → IsTc w → n ≤ length w.log
     → IsTc (crashed w n) × ((crashed w n).checkpointed ≤ w.checkpointed)
 
--- one log opened twice: the same but for the order of losers and of locks
+-- a device that was opened was read, and called once more where a last frame was cut off
+abbrev pub UsedByOpening : Usage → Usage → Type 0
+UsedByOpening old new = (new ≡ called_often 1 old) ⊎ (new ≡ called_often 2 old)
+
+-- one log opened twice: the same but for the order of losers and of locks, and for the calls of the device
 pub record IsOpenedAgain (old new : TcView) : Type 0 where
-  pub was : old ≡ opened old.log old.failures old.checkpointed old.losers old.locks
-  pub is : new ≡ opened old.log old.failures old.checkpointed new.losers new.locks
+  pub was : old ≡ opened old.log old.usage old.checkpointed old.losers old.locks
+  pub is : new ≡ opened old.log new.usage old.checkpointed new.losers new.locks
+  pub used : UsedByOpening old.usage new.usage
   pub below : new.losers.below ≡ old.losers.below
 
 -- whatever the bytes of the log are opened as
 abbrev pub OpensAgain : Type 0
 OpensAgain =
-    (bytes : List ℕ) (log : List Record) (failures : ℕ) (w : TcView) → IsLogOf bytes log → IsOpened bytes failures w
-    → IsTc w → IsOpenedAgain (opens_as log failures) w
+    (bytes : List ℕ) (log : List Record) (usage : Usage) (w : TcView) → IsLogOf bytes log → IsOpened bytes usage w
+    → IsTc w → IsOpenedAgain (opens_as log usage) w
 
 -- the same transactions are losers
 abbrev pub SameAreLost : Type 0

@@ -1,13 +1,13 @@
 -- What a component is that was opened on what a crash left.
-use Rattle.std.specs.Prelude.{◌≡◌, ◌⊎◌, ℕ, ◌+◌, List, [], ◌∷◌, Option, Some, None, is_some, length, if◌then◌else◌}
+use Rattle.std.specs.Prelude.{◌≡◌, ℕ, ◌+◌, List, [], ◌∷◌, Option, Some, None, is_some, length, if◌then◌else◌}
 use Rattle.record_key.specs.Table.{key_of}
 use Rattle.history.specs.declared.record.Record.{Record}
 use Rattle.history.specs.declared.record.Record.TheVariants as is
 use Rattle.history.specs.Log.{IsOpen}
 use Rattle.history.specs.Spans.{Span}
 use Rattle.range_locks.specs.Locks.{LocksView, spans_of, IsTable}
-use Rattle.logical_log.specs.Opening.{IsLogOf}
-use Rattle.logical_log.specs.Spelled.{spelled}
+use Rattle.stable.specs.Usage.{Usage, called_often}
+use Rattle.logical_log.specs.Opening.{IsLogOf, cut_calls}
 use Rattle.restart.specs.Losers.{LosersView}
 use Rattle.tc_core.specs.declared.phase.Phase.TheVariants.{Unconnected}
 use Rattle.range_locks.specs.Rebuilt.{Listed}
@@ -30,12 +30,12 @@ pub record HoldsOpen (log : List Record) (locks : LocksView) : Type 0 where
   pub own : (t : ℕ) → IsOpen log t → spans_of locks t ≡ op_spans log t
   pub none : (t : ℕ) → (IsOpen log t → ⊥) → spans_of locks t ≡ []
 
--- all of the log is stable; nobody is connected, and no transaction is open
-abbrev pub opened : List Record → ℕ → ℕ → LosersView → LocksView → TcView
-opened log failures checkpointed losers locks = record {
+-- all of the log is stable; nobody is connected, and no transaction is open; the device was used so
+abbrev pub opened : List Record → Usage → ℕ → LosersView → LocksView → TcView
+opened log usage checkpointed losers locks = record {
   log = log;
   stable = length log;
-  failures = failures;
+  usage = usage;
   session = 0;
   phase = Unconnected;
   reads = 0;
@@ -48,12 +48,10 @@ opened log failures checkpointed losers locks = record {
   locks = locks;
 }
 
--- its log is that of the whole frames, and whoever is open in the log is a loser
-pub record IsOpened (bytes : List ℕ) (failures : ℕ) (w : TcView) : Type 0 where
+-- its log is that of the whole frames, and whoever is open in the log is a loser; the device was read, and a cut last
+-- frame was cut off it
+pub record IsOpened (bytes : List ℕ) (usage : Usage) (w : TcView) : Type 0 where
   pub log : IsLogOf bytes w.log
   pub losers : w.losers.below ≡ length w.log + 1
-  pub is : w ≡ opened w.log failures w.checkpointed w.losers w.locks
-
--- the bytes are as they were, or a cut last frame is cut off
-abbrev pub AreLeft : List ℕ → List ℕ → Type 0
-AreLeft bytes left = (left ≡ bytes) ⊎ ((log : List Record) × IsLogOf bytes log × (left ≡ spelled log))
+  pub used : w.usage ≡ called_often (1 + cut_calls bytes w.log) usage
+  pub is : w ≡ opened w.log w.usage w.checkpointed w.losers w.locks

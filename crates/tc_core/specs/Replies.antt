@@ -26,9 +26,12 @@ use Rattle.tc_core.specs.TcView.{TcView, rolls_back}
 use Rattle.tc_core.specs.Refusing.{Refuses}
 use Rattle.tc_core.specs.Changes.{answered, answered_lost, was_told, checkpointed, undoing_or_running}
 
--- the reply isn't of the session that runs
+-- a message isn't of the session that runs, or none runs
+abbrev pub is_of_another : ℕ → ℕ → Bool
+is_of_another running s = (running == 0) || not (s == running)
+
 abbrev pub is_stale : TcView → ℕ → Bool
-is_stale w s = (w.session == 0) || not (s == w.session)
+is_stale w s = is_of_another w.session s
 
 -- the answer of this number is taken: clients are served, or it is the one that redo waits for
 abbrev pub takes : ℕ → Phase → ℕ → Bool
@@ -160,20 +163,11 @@ is_logged w n (Some a) (Some o) = takes w.session w.phase n
 is_logged w n (Some a) None = takes w.session w.phase n && lacks w n
 is_logged w n None o = false
 
--- something is logged: an answer, or a checkpoint
+-- something is logged, which alone takes memory: an answer, or a checkpoint
 abbrev pub logs : TcView → Reply → Bool
 logs w (says.Answered s n a) = is_logged w n a (awaiting w n)
 logs w (says.Checkpointed s l) = is_number w.checkpointing l
 logs w _ = false
-
-abbrev pub reads_range : Option OpenTxn → Bool
-reads_range None = false
-reads_range (Some o) = is_range (span_read o.reading)
-
--- what is logged or handed on takes memory
-abbrev pub takes_memory : TcView → Reply → Bool
-takes_memory w (says.Rows s r rows) = reads_range (reader w r)
-takes_memory w reply = logs w reply
 
 -- the log has no number left for it
 abbrev pub answered_refusal_of : TcView → ℕ → Option Answer → Option Refusal
@@ -188,4 +182,4 @@ reply_refusal w reply = first_of
 
 abbrev pub ReplyGives : TcView → Reply → Result Told Refusal → TcView → Type 0
 ReplyGives old reply (Ok what) new = (reply_refusal old reply ≡ None) × TakesReply old reply what new
-ReplyGives old reply (Err r) new = Refuses (reply_refusal old reply) (takes_memory old reply) (logs old reply) old r new
+ReplyGives old reply (Err r) new = Refuses (reply_refusal old reply) (logs old reply) (logs old reply) old r new

@@ -6,7 +6,7 @@ abbrev pub seen : {D : Type 0} → Parts D → TcView
 seen p = record {
   log = p.log.records;
   stable = p.log.stable;
-  failures = p.log.failures;
+  usage = p.log.usage;
   session = p.session;
   phase = p.phase;
   reads = p.reads;

@@ -1,5 +1,6 @@
 -- What is seen of the transaction component.
 use Rattle.std.specs.Prelude.{ℕ, ◌+◌, ◌||◌, Bool, true, false, List, [], ◌∷◌, Option, Some, None, is_some}
+use Rattle.stable.specs.Usage.{Usage, failed as failed_use}
 use Rattle.history.specs.declared.record.Record.{Record}
 use Rattle.range_locks.specs.Locks.{LocksView}
 use Rattle.restart.specs.Losers.{LosersView, txns}
@@ -7,7 +8,7 @@ use Rattle.tc_core.specs.declared.open_txn.OpenTxn.{OpenTxn}
 use Rattle.tc_core.specs.declared.phase.Phase.{Phase}
 use Rattle.tc_core.specs.declared.phase.Phase.TheVariants.{Unconnected, Undoing, Running}
 
--- its log, the newest record first, how many are stable, how often the log's device has failed; its session, 0 if
+-- its log, the newest record first, how many are stable, how the log's device was used; its session, 0 if
 -- none, and how far that has come; how many reads were asked; the greatest number announced in this session, 0 before
 -- any, what its latest unanswered checkpoint asked for, and the greatest number that a Checkpoint record names, 0 if
 -- none; the open transactions, the newest first; those whose Commit record isn't stable, in the order of these records;
@@ -15,7 +16,7 @@ use Rattle.tc_core.specs.declared.phase.Phase.TheVariants.{Unconnected, Undoing,
 pub record TcView : Type 0 where
   pub log : List Record
   pub stable : ℕ
-  pub failures : ℕ
+  pub usage : Usage
   pub session : ℕ
   pub phase : Phase
   pub reads : ℕ
@@ -68,16 +69,20 @@ abbrev pub is_waiting : Option OpenTxn → Bool
 is_waiting None = false
 is_waiting (Some o) = waits o
 
--- the device failed, and nothing else happened
-abbrev pub failed : TcView → TcView
-failed w = record w { failures = w.failures + 1 }
+-- the device was used so since, and nothing else happened
+abbrev pub used_so : TcView → Usage → TcView
+used_so w usage = record w { usage = usage }
 
--- nothing is logged, and nobody is connected; the device has failed so often
-abbrev pub fresh : ℕ → TcView
-fresh failures = record {
+-- a call of it failed
+abbrev pub failed : TcView → TcView
+failed w = used_so w (failed_use w.usage)
+
+-- nothing is logged, and nobody is connected; the device was used so
+abbrev pub fresh : Usage → TcView
+fresh usage = record {
   log = [];
   stable = 0;
-  failures = failures;
+  usage = usage;
   session = 0;
   phase = Unconnected;
   reads = 0;

@@ -47,7 +47,7 @@ impl<D: LogDevice> Parts<D> {
     pub fn new(alloc: Global, device: D) -> Parts<D>
         requires empty { (D.forced device ≡ []) × (D.pending device ≡ []) }
         ensures kept { IsTc (seen result) }
-        ensures fresh { seen result ≡ fresh (D.failures device) }
+        ensures fresh { seen result ≡ fresh (D.usage device) }
     {
         Parts {
             log: Log::new(alloc, device),

@@ -7,7 +7,7 @@ use crate::phase::Phase;
 use crate::told::Told;
 use history::Record;
 use range_locks::Span;
-use record_key::{Answer, Value};
+use record_key::Answer;
 
 /// Whether the answer of this number is taken: clients are served, or redo waits for it.
 pub fn takes(session: u64, phase: Phase, number: u64) -> bool
@@ -32,16 +32,6 @@ pub fn reads_range(asker: &OpenTxn) -> bool
     ensures { result ≡ is_range (span_read asker.now.reading) }
 {
     matches!(&asker.reading, Some(read) if matches!(&read.span, Span::Range { .. }))
-}
-
-/// The same value again, if there is one. Takes no memory.
-pub fn copied(value: &Option<Value>) -> Option<Value>
-    ensures { result ≡ value.now }
-{
-    match value {
-        Some(value) => Some(value.copied()),
-        None => None,
-    }
 }
 
 /// What a client is told of an answer: nothing where it is a compensation's.

@@ -1,8 +1,9 @@
 //! What becomes of a reply.
 ghost use Rattle.std.specs.Prelude.{◌≡◌, true, false, None, OnOk, OnErr, IfErr};
 ghost use Rattle.std.specs.Option.{option_copied};
-ghost use Rattle.tc_core.specs.Replies.{is_stale, ReplyGives, awaiting, lacks, reader, passed, on_row as reads_row, takes as takes_number, on_connected as connects, on_redo_ended as ends_redo};
-ghost use Rattle.tc_core.specs.Answering.{AnsweredGives, RowsGives};
+ghost use Rattle.codec.specs.Replies.{session_of};
+ghost use Rattle.tc_core.specs.Replies.{is_stale, ReplyGives, awaiting, lacks, reader, passed, on_row as reads_row, on_rows as reads_rows, takes as takes_number, on_connected as connects, on_redo_ended as ends_redo};
+ghost use Rattle.tc_core.specs.Answering.{AnsweredGives};
 ghost use Rattle.tc_core.specs.Kept.{IsTc};
 ghost use Rattle.tc_core.specs.Seen.{seen};
 
@@ -11,7 +12,7 @@ use crate::open_txn::OpenTxn;
 use crate::open_txns::Wanted;
 use crate::parts::Parts;
 use crate::phase::Phase;
-use crate::replies::{copied, left_waiting, reads_key, reads_range, takes, told_lost, told_of};
+use crate::replies::{left_waiting, reads_key, reads_range, takes, told_lost, told_of};
 use crate::told::Told;
 use codec::{Reply, Rows};
 use history::Record;
@@ -19,24 +20,34 @@ use record_key::{Answer, Refusal, Value};
 use stable::LogDevice;
 
 impl<D: LogDevice> Parts<D> {
-    pub fn on_reply(&mut self, reply: &Reply) -> Result<Told, Refusal>
+    pub fn on_reply(&mut self, reply: Reply) -> Result<Told, Refusal>
         requires { IsTc (seen self.old) }
         ensures kept { IsTc (seen self.new) }
-        ensures gives { ReplyGives (seen self.old) reply.now result (seen self.new) }
+        ensures gives { ReplyGives (seen self.old) reply result (seen self.new) }
     {
         self.in_session(reply.session())?;
+        self.take_reply(reply)
+    }
+
+    /// Takes a reply of the session that runs.
+    pub fn take_reply(&mut self, reply: Reply) -> Result<Told, Refusal>
+        requires kept { IsTc (seen self.old) }
+        requires current { is_stale (seen self.old) (session_of reply) ≡ false }
+        ensures kept { IsTc (seen self.new) }
+        ensures gives { ReplyGives (seen self.old) reply result (seen self.new) }
+    {
         match reply {
             Reply::Connected { .. } => Ok(self.on_connected()),
-            Reply::Answered { number, answer, .. } => self.on_answered(*number, answer),
+            Reply::Answered { number, answer, .. } => self.on_answered(number, answer),
             Reply::RedoEnded { .. } => Ok(self.on_redo_ended()),
-            Reply::Row { read, value, .. } => Ok(self.on_row(*read, value)),
-            Reply::Rows { read, rows, .. } => self.on_rows(*read, rows),
-            Reply::Checkpointed { low, .. } => self.on_checkpointed(*low),
+            Reply::Row { read, value, .. } => Ok(self.on_row(read, value)),
+            Reply::Rows { read, rows, .. } => Ok(self.on_rows(read, rows)),
+            Reply::Checkpointed { low, .. } => self.on_checkpointed(low),
         }
     }
 
     /// Whether a reply of this session is taken.
-    pub fn in_session(&self, session: u64) -> Result<(), Refusal>
+    fn in_session(&self, session: u64) -> Result<(), Refusal>
         ensures taken { OnOk result (is_stale (seen self.now) session ≡ false) }
         ensures stale { OnErr result (is_stale (seen self.now) session ≡ true) }
         ensures refused { IfErr result (λ refusal. refusal ≡ Refusal.Stale) }
@@ -79,10 +90,10 @@ impl<D: LogDevice> Parts<D> {
         Told::RedoEnded(self.session)
     }
 
-    fn on_answered(&mut self, number: u64, answer: &Option<Answer>) -> Result<Told, Refusal>
+    fn on_answered(&mut self, number: u64, answer: Option<Answer>) -> Result<Told, Refusal>
         requires { IsTc (seen self.old) }
         ensures kept { IsTc (seen self.new) }
-        ensures gives { AnsweredGives (seen self.old) number answer.now result (seen self.new) }
+        ensures gives { AnsweredGives (seen self.old) number answer result (seen self.new) }
     {
         if !takes(self.session, self.phase, number) {
             return Ok(Told::Nothing);
@@ -94,23 +105,20 @@ impl<D: LogDevice> Parts<D> {
             return Ok(Told::Nothing);
         };
         let txn = opened.txn;
-        let told = told_of(opened, number, answer);
-        self.log.append(&Record::Answer {
-            of: number,
-            answer: answer.copied(),
-        })?;
+        let told = told_of(opened, number, &answer);
+        self.log.append(&Record::Answer { of: number, answer })?;
         self.open_txns.change(txn, Change::Answered);
         self.pass(number);
         Ok(told)
     }
 
     /// No client waits for it: a loser's answer is logged where there was none.
-    fn on_unawaited(&mut self, number: u64, answer: &Option<Answer>) -> Result<Told, Refusal>
+    fn on_unawaited(&mut self, number: u64, answer: Option<Answer>) -> Result<Told, Refusal>
         requires kept { IsTc (seen self.old) }
         requires taken { takes_number self.old.session self.old.phase number ≡ true }
         requires unawaited { awaiting (seen self.old) number ≡ None }
         ensures kept { IsTc (seen self.new) }
-        ensures gives { AnsweredGives (seen self.old) number answer.now result (seen self.new) }
+        ensures gives { AnsweredGives (seen self.old) number answer result (seen self.new) }
     {
         if !self.lacks(number) {
             self.pass(number);
@@ -120,10 +128,7 @@ impl<D: LogDevice> Parts<D> {
             return Ok(Told::Nothing);
         };
         let told = told_lost(self.log.record(number), number);
-        self.log.append(&Record::Answer {
-            of: number,
-            answer: answer.copied(),
-        })?;
+        self.log.append(&Record::Answer { of: number, answer })?;
         self.pass(number);
         Ok(told)
     }
@@ -136,11 +141,11 @@ impl<D: LogDevice> Parts<D> {
     }
 
     /// Who waits for the row is told; a reply of another kind than was asked for is none.
-    fn on_row(&mut self, read: u64, value: &Option<Value>) -> Told
+    fn on_row(&mut self, read: u64, value: Option<Value>) -> Told
         requires { IsTc (seen self.old) }
         ensures kept { IsTc (seen self.new) }
-        ensures told { result ≡ (reads_row (seen self.old) value.now (reader (seen self.old) read)).0 }
-        ensures left { seen self.new ≡ (reads_row (seen self.old) value.now (reader (seen self.old) read)).1 }
+        ensures told { result ≡ (reads_row (seen self.old) value (reader (seen self.old) read)).0 }
+        ensures left { seen self.new ≡ (reads_row (seen self.old) value (reader (seen self.old) read)).1 }
     {
         let Some(opened) = self.open_txns.oldest(Wanted::Reader(read)) else {
             return Told::Nothing;
@@ -150,28 +155,25 @@ impl<D: LogDevice> Parts<D> {
         }
         let txn = opened.txn;
         self.open_txns.change(txn, Change::Told);
-        Told::Row {
-            txn,
-            value: copied(value),
-        }
+        Told::Row { txn, value }
     }
 
-    /// The same for the rows of a range, which are copied before anything changes.
-    fn on_rows(&mut self, read: u64, rows: &Rows) -> Result<Told, Refusal>
+    /// The same for the rows of a range.
+    fn on_rows(&mut self, read: u64, rows: Rows) -> Told
         requires { IsTc (seen self.old) }
         ensures kept { IsTc (seen self.new) }
-        ensures gives { RowsGives (seen self.old) rows.now (reader (seen self.old) read) result (seen self.new) }
+        ensures told { result ≡ (reads_rows (seen self.old) rows (reader (seen self.old) read)).0 }
+        ensures left { seen self.new ≡ (reads_rows (seen self.old) rows (reader (seen self.old) read)).1 }
     {
         let Some(opened) = self.open_txns.oldest(Wanted::Reader(read)) else {
-            return Ok(Told::Nothing);
+            return Told::Nothing;
         };
         if !reads_range(opened) {
-            return Ok(Told::Nothing);
+            return Told::Nothing;
         }
         let txn = opened.txn;
-        let rows = rows.copied()?;
         self.open_txns.change(txn, Change::Told);
-        Ok(Told::Rows { txn, rows })
+        Told::Rows { txn, rows }
     }
 
     /// The open transaction whose record has this number, where it waits for the answer.

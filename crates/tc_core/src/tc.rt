@@ -1,22 +1,22 @@
 //! The transaction component.
 ghost use Rattle.std.specs.Prelude.{◌≡◌, ◌≤◌, ◌++◌, ◌+◌, [], true, false, length, Some, None, IfOk, IfErr, OnOk, OnErr};
 ghost use Rattle.std.specs.Option.{option_copied};
-ghost use Rattle.record_key.specs.FirstCause.{failures_of};
 ghost use Rattle.stable.specs.Crash.{BeginsWith};
 ghost use Rattle.history.specs.Log.{record_at};
 ghost use Rattle.logical_log.specs.Low.{stable_part};
-ghost use Rattle.logical_log.specs.Opening.{RefusesOpen};
+ghost use Rattle.logical_log.specs.Opening.{RefusesOpen, UsedToOpen};
 ghost use Rattle.logical_log.specs.Spelled.{spelled, AreRecords};
 ghost use Rattle.logical_log.specs.LogView.{spent_refusal};
 ghost use Rattle.tc_core.specs.TcView.{TcView, fresh};
 ghost use Rattle.tc_core.specs.OpenTxns.{find, oldest, wants};
 ghost use Rattle.tc_core.specs.Calls.{ReconnectGives, BeginGives, ActGives, ReadGives, SaveGives, BackGives, RollbackGives, CommitGives, UndoGives, ForceGives, ResendGives};
+ghost use Rattle.codec.specs.Replies.{session_of};
 ghost use Rattle.tc_core.specs.Replies.{is_stale, ReplyGives};
 ghost use Rattle.tc_core.specs.Recovery.{RecoverGives};
 ghost use Rattle.tc_core.specs.LowWater.{Announces, RefusesLow, LowWaterGives, IsGreatestAnnounced};
 ghost use Rattle.tc_core.specs.Checkpoint.{CheckpointGives};
 ghost use Rattle.tc_core.specs.Causes.{running_refusal, begin_refusal};
-ghost use Rattle.tc_core.specs.Opening.{IsOpened, AreLeft};
+ghost use Rattle.tc_core.specs.Opening.{IsOpened};
 ghost use Rattle.tc_core.specs.Kept.{IsTc};
 
 use crate::open_txn::OpenTxn;
@@ -56,7 +56,7 @@ impl<D: LogDevice> Tc<D> {
     /// A component with an empty log, on an empty device, and no session.
     pub fn new(alloc: Global, device: D) -> Tc<D>
         requires empty { (D.forced device ≡ []) × (D.pending device ≡ []) }
-        ensures { result ≡ fresh (D.failures device) }
+        ensures { result ≡ fresh (D.usage device) }
     {
         Tc {
             parts: Parts::new(alloc, device),
@@ -64,14 +64,15 @@ impl<D: LogDevice> Tc<D> {
     }
 
     /// The component of what a crash left on the log's device: whoever was open is a loser, and holds the keys of its
-    /// operations. Refused NoMemory, Device, BadBytes; the device is handed back, but for a cut last frame as it was.
+    /// operations. A cut last frame is cut off the device, last of all. Refused NoMemory, Device, BadBytes; the device is
+    /// handed back as it was.
     pub fn open(alloc: Global, device: D) -> Result<Tc<D>, Refused<D>>
         requires all_forced { D.pending device ≡ [] }
-        ensures opened { IfOk result (IsOpened (D.forced device) (D.failures device)) }
+        ensures opened { IfOk result (IsOpened (D.forced device) (D.usage device)) }
         ensures refused { IfErr result (λ left. RefusesOpen (D.forced device) left.refusal) }
-        ensures left { IfErr result (λ left. AreLeft (D.forced device) (D.forced left.device)) }
+        ensures forced { IfErr result (λ left. D.forced left.device ≡ D.forced device) }
         ensures none_pending { IfErr result (λ left. D.pending left.device ≡ []) }
-        ensures told { IfErr result (λ left. D.failures left.device ≡ D.failures device + failures_of left.refusal) }
+        ensures used { IfErr result (λ left. UsedToOpen (D.usage device) left.refusal (D.usage left.device)) }
     {
         match Parts::open(alloc, device) {
             Ok(parts) => Ok(Tc { parts }),
@@ -86,7 +87,7 @@ impl<D: LogDevice> Tc<D> {
         ensures forced { BeginsWith (D.forced result) (spelled (stable_part self.log self.stable)) }
         ensures just { D.forces_whole ≡ true → D.forced result ≡ spelled (stable_part self.log self.stable) }
         ensures spellable { AreRecords self.log }
-        ensures failures { D.failures result ≡ self.failures }
+        ensures usage { D.usage result ≡ self.usage }
     {
         self.parts.stop()
     }
@@ -245,22 +246,21 @@ impl<D: LogDevice> Tc<D> {
         self.parts.checkpoint()
     }
 
-    /// Whether a reply of this session is taken. Refused Stale where another session runs, or none.
-    pub fn in_session(&self, session: u64) -> Result<(), Refusal>
-        ensures taken { OnOk result (is_stale self.now session ≡ false) }
-        ensures stale { OnErr result (is_stale self.now session ≡ true) }
-        ensures refused { IfErr result (λ refusal. refusal ≡ Refusal.Stale) }
-    {
-        self.parts.in_session(session)
-    }
-
     /// Takes a reply. The answer of an awaited request is logged and told, what was read is told, the checkpoint that
     /// was asked for last is logged; a reply that isn't awaited changes nothing. Refused Stale, NumbersSpent, NoMemory,
     /// Device; the reply may be given again then.
-    pub fn on_reply(&mut self, reply: &Reply) -> Result<Told, Refusal>
-        ensures gives { ReplyGives self.old reply.now result self.new }
+    pub fn on_reply(&mut self, reply: Reply) -> Result<Told, Refusal>
+        ensures gives { ReplyGives self.old reply result self.new }
     {
         self.parts.on_reply(reply)
+    }
+
+    /// The same of a reply that is known to be of the session that runs.
+    pub fn take_reply(&mut self, reply: Reply) -> Result<Told, Refusal>
+        requires { is_stale self.old (session_of reply) ≡ false }
+        ensures gives { ReplyGives self.old reply result self.new }
+    {
+        self.parts.take_reply(reply)
     }
 
     /// The request that recovery sends next, or again while its reply is awaited; then one record of the losers' undo

@@ -35,7 +35,7 @@ pub fn call_of(
         "checkpoint" => put_request(answer, numbers, &checkpoint(tc)?),
         "connected" | "redoended" | "answered" | "row" | "rows" | "checkpointed" => {
             let reply = reply_of(alloc, numbers, name, words)?;
-            put_told(answer, numbers, &take(tc, &reply)?);
+            put_told(answer, numbers, &take(tc, reply)?);
         }
         "begin"
         | "act"
@@ -82,7 +82,7 @@ fn checkpoint(tc: &mut Component) -> Result<Request, Refusal> {
     tc.checkpoint()
 }
 
-fn take(tc: &mut Component, reply: &Reply) -> Result<Told, Refusal> {
+fn take(tc: &mut Component, reply: Reply) -> Result<Told, Refusal> {
     tc.on_reply(reply)
 }
 
@@ -116,8 +116,7 @@ fn can(tc: &Component, numbers: Numbers, words: &mut Words) -> Result<(), Refusa
         "log" => tc.can_log(),
         "begin" => tc.can_begin(),
         "low" => tc.can_announce(numbers.read(words)?),
-        "checkpoint" => tc.can_checkpoint(),
-        _ => tc.in_session(numbers.read(words)?),
+        _ => tc.can_checkpoint(),
     }
 }
 

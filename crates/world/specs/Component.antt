@@ -16,7 +16,8 @@ use Rattle.system_txn.specs.Crashed.{found, crashed}
 use Rattle.dc_core.specs.DcView.{DcView, leaves}
 use Rattle.dc_core.specs.Restarting.{restarted}
 use Rattle.dc_core.specs.Serves.{with_system}
-use Rattle.tc_core.specs.TcView.{TcView}
+use Rattle.logical_log.specs.Opening.{UsedToOpen}
+use Rattle.tc_core.specs.TcView.{TcView, used_so}
 use Rattle.tc_core.specs.Opened.{crashed as crashed_tc, IsOpenedAgain}
 
 -- whether it runs, and what it is, or where it doesn't run will be once it is restarted
@@ -62,17 +63,14 @@ TcCrashesTo old more bytes true new =
     × (new ≡ record { up = false; tc = crashed_tc old.tc n }))
 TcCrashesTo old more bytes false new = (old.up ≡ false) × (new ≡ old)
 
--- its device has failed once more, if that is why it isn't opened
-abbrev pub unopened : TcView → Refusal → TcView
-unopened w r = record w { failures = w.failures + failures_of r }
-
 abbrev pub TcRestartsTo : TcSide → Result (Option ℕ) Refusal → TcSide → Type 0
 TcRestartsTo old (Ok (Some count)) new =
     (old.up ≡ false) × (count ≡ length old.tc.log) × IsOpenedAgain old.tc new.tc
     × (new ≡ record { up = true; tc = new.tc })
 TcRestartsTo old (Ok None) new = (old.up ≡ true) × (new ≡ old)
 TcRestartsTo old (Err r) new =
-    (old.up ≡ false) × LacksDevice r × (new ≡ record { up = false; tc = unopened old.tc r })
+    (old.up ≡ false) × LacksDevice r × (new ≡ record { up = false; tc = used_so old.tc new.tc.usage })
+    × UsedToOpen old.tc.usage r new.tc.usage
 
 -- ---- the data component
 

@@ -1,12 +1,13 @@
 -- Messages kept as their frames, one after another in a buffer, with an index of the places of these.
-use Rattle.std.specs.Prelude.{◌≡◌, ℕ, ◌<◌, ◌^◌, Bool, true, List, Some, ◌++◌, length, drop}
+use Rattle.std.specs.Prelude.{◌≡◌, ℕ, ◌<◌, ◌^◌, Bool, true, false, List, Some, ◌++◌, length, drop}
 use Rattle.record_key.specs.declared.refusal.Refusal.{Refusal}
-use Rattle.record_key.specs.declared.refusal.Refusal.TheVariants.{NoMemory}
+use Rattle.record_key.specs.declared.refusal.Refusal.TheVariants.{NoMemory, Stale}
 use Rattle.std.specs.List.{AllByRecursion}
 use Rattle.codec.specs.FrameIndex.{place_at, places_of, Indexes}
 use Rattle.codec.specs.Frames.{frame, any_length}
 use Rattle.codec.specs.Reading.{Reader, frame_at, within, request_at, reply_at}
-use Rattle.codec.specs.Replies.{reply_bytes, IsReply}
+use Rattle.codec.specs.Replies.{reply_bytes, session_of, has_rows, IsReply}
+use Rattle.tc_core.specs.Replies.{is_of_another}
 use Rattle.codec.specs.declared.request.Request.{Request}
 use Rattle.codec.specs.declared.request.Request.TheVariants as asks
 use Rattle.codec.specs.declared.reply.Reply.{Reply}
@@ -52,6 +53,21 @@ reply_there bytes place = read_there reply_at (says.RedoEnded 0) bytes place
 -- a reply that has a spelling, and a length that can be told
 abbrev pub IsFramedReply : Reply → Type 0
 IsFramedReply r = IsReply r × (length (reply_bytes r) < 2 ^ 64)
+
+-- the reply of this number isn't of the session that runs, or none runs
+pub record IsStale (running : ℕ) (messages : List Reply) (i : ℕ) (r : Refusal) : Type 0 where
+  pub reply : Reply
+  pub found : message_at messages i ≡ Some reply
+  pub other : is_of_another running (session_of reply) ≡ true
+  pub is : r ≡ Stale
+
+-- it is, but has rows, and memory for these was refused
+pub record IsUnreadOf (running : ℕ) (messages : List Reply) (i : ℕ) (r : Refusal) : Type 0 where
+  pub reply : Reply
+  pub found : message_at messages i ≡ Some reply
+  pub current : is_of_another running (session_of reply) ≡ false
+  pub long : has_rows reply ≡ true
+  pub memory : r ≡ NoMemory
 
 -- the message of this number has rows, and memory for these was refused
 pub record IsUnread (X : Type 0) (has_rows : X → Bool) (messages : List X) (i : ℕ) (r : Refusal) : Type 0 where

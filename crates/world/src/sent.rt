@@ -1,11 +1,12 @@
 //! Messages as they were sent: their frames one after another in one buffer, and an index of places. What was sent
 //! stays: a message may be delivered any number of times, late, or never.
-ghost use Rattle.std.specs.Prelude.{◌≡◌, ◌++◌, ◌∷◌, ◌⊎◌, [], true, false, length, None, Some, option_map, IfOk, IfErr, OnOk, OnErr};
+ghost use Rattle.std.specs.Prelude.{◌≡◌, ◌++◌, ◌∷◌, ◌⊎◌, [], true, false, length, None, Some, IfOk, IfErr, OnOk, OnErr};
 ghost use Rattle.codec.specs.FrameIndex.{places_of, Indexes};
 ghost use Rattle.codec.specs.Replies.{session_of};
 ghost use Rattle.world.specs.Messages.{message_at};
 ghost use Rattle.world.specs.Node.{IsUnsent};
-ghost use Rattle.world.specs.Sent.{IsUnread};
+ghost use Rattle.tc_core.specs.Replies.{is_of_another};
+ghost use Rattle.world.specs.Sent.{IsUnread, IsStale, IsUnreadOf, IsFramedReply};
 
 use crate::message::{Message, session_at};
 use codec::{FrameIndex, Reply};
@@ -110,14 +111,21 @@ impl<M: Message> Sent<M> {
 }
 
 impl Sent<Reply> {
-    /// The session of the reply of this number, from 1. Refused Unsent where there is none. Takes no memory.
-    pub(crate) fn session(&self, number: u64) -> Result<u64, Refusal>
-        ensures found { IfOk result
-            (λ session. option_map session_of (message_at self.now.messages number) ≡ Some session) }
-        ensures refused { IfErr result (λ refusal. IsUnsent self.now.messages number refusal) }
+    /// The reply of this number, from 1, if it is of the session that runs. Refused Unsent where there is none, Stale
+    /// where it isn't, and NoMemory for rows alone.
+    pub(crate) fn of_session(&self, number: u64, running: u64) -> Result<Reply, Refusal>
+        ensures found { IfOk result (λ found. message_at self.now.messages number ≡ Some found) }
+        ensures spelled { IfOk result IsFramedReply }
+        ensures current { IfOk result (λ found. is_of_another running (session_of found) ≡ false) }
+        ensures refused { IfErr result (λ refusal. IsUnsent self.now.messages number refusal
+            ⊎ (IsStale running self.now.messages number refusal
+            ⊎ IsUnreadOf running self.now.messages number refusal)) }
     {
         let place = place_of(&self.index, &self.bytes, number)?;
-        Ok(session_at(&self.bytes, place))
+        if running == 0 || session_at(&self.bytes, place) != running {
+            return Err(Refusal::Stale);
+        }
+        Reply::take(*self.bytes.allocator(), &self.bytes, place)
     }
 }
 

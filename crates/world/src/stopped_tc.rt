@@ -2,7 +2,9 @@
 ghost use Rattle.std.specs.Prelude.{◌≡◌, ℕ, IfOk, IfErr, length};
 ghost use Rattle.tc_core.specs.Kept.{IsTc};
 ghost use Rattle.tc_core.specs.Opened.{crashed, IsOpenedAgain};
-ghost use Rattle.world.specs.Component.{Keeps, tc_size, LacksDevice, unopened};
+ghost use Rattle.logical_log.specs.Opening.{UsedToOpen};
+ghost use Rattle.tc_core.specs.TcView.{used_so};
+ghost use Rattle.world.specs.Component.{Keeps, tc_size, LacksDevice};
 
 use crate::crashing::bytes_kept_of;
 use crate::found_log::FoundLog;
@@ -31,7 +33,7 @@ impl Model for StoppedTc {
 
     ghost coded = { Prim.hlevel codes };
 
-    ghost view = { λ s. opens_as s.found.log s.device.failures };
+    ghost view = { λ s. opens_as s.found.log s.device.usage };
 
     ghost invariant = { λ s. IsLogOf s.device.forced s.found.log × (s.device.pending ≡ []) };
 }
@@ -71,7 +73,8 @@ impl StoppedTc {
     pub fn restart(self, alloc: Global) -> Result<Tc<MemLog>, UnopenedTc>
         ensures restarted { IfOk result (IsOpenedAgain self) }
         ensures refused { IfErr result (λ left. LacksDevice left.refusal) }
-        ensures left { IfErr result (λ left. left.stopped ≡ unopened self left.refusal) }
+        ensures left { IfErr result (λ left. left.stopped ≡ used_so self left.stopped.usage) }
+        ensures used { IfErr result (λ left. UsedToOpen self.usage left.refusal left.stopped.usage) }
     {
         let StoppedTc { device, found: _ } = self;
         match Tc::open(alloc, device) {

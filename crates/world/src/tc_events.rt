@@ -226,9 +226,8 @@ impl Node {
         let TransactionComponent::Up(tc) = &mut self.tc else {
             return Out::Refused(Refusal::NotConnected);
         };
-        attempt!(tc.in_session(attempt!(self.replies.session(number))));
-        let reply = attempt!(self.replies.message(number));
-        out_of_told(attempt!(tc.on_reply(&reply)))
+        let reply = attempt!(self.replies.of_session(number, tc.session()));
+        out_of_told(attempt!(tc.take_reply(reply)))
     }
 }
 

@@ -30,6 +30,7 @@ use Rattle.tc_core.specs.declared.told.UndoStep.{UndoStep}
 use Rattle.tc_core.specs.declared.told.UndoStep.TheVariants as undo
 use Rattle.tc_core.specs.declared.told.RecoverStep.TheVariants as step
 use Rattle.tc_core.specs.OpenTxns.{find}
+use Rattle.stable.specs.Usage.{failed}
 use Rattle.tc_core.specs.TcView.{TcView, fresh}
 use Rattle.tc_core.specs.Refusing.{Refuses}
 use Rattle.tc_core.specs.Causes.{begin_refusal, idle_refusal, is_full, answered_refusal, undo_refusal, undo_logs, logs_next, saves_of, has_savepoint, reads_spent, RefusesTaking, commit_refusal, serving_refusal}
@@ -42,7 +43,7 @@ use Rattle.tc_core.specs.Checkpoint.{CheckpointGives}
 use Rattle.tc_core.specs.Undo.{FindsRequest}
 use Rattle.tc_core.specs.Kept.{IsTc, IsPhase}
 use Rattle.tc_core.proofs.OpenedLosers.{number_is}
-use Rattle.tc_core.proofs.KeepsTc.{keeps_failed, keeps_logged, keeps_force, keeps_session, keeps_begin, keeps_act, keeps_rollback, keeps_save, keeps_back, keeps_is_back, keeps_answer, keeps_passed, newly_answered, awaited_is, open_at, idle_at}
+use Rattle.tc_core.proofs.KeepsTc.{keeps_used, keeps_logged, keeps_force, keeps_session, keeps_begin, keeps_act, keeps_rollback, keeps_save, keeps_back, keeps_is_back, keeps_answer, keeps_passed, newly_answered, awaited_is, open_at, idle_at}
 use Rattle.tc_core.proofs.KeepsUndo.{keeps_comp, fits_end, keeps_end, keeps_commit}
 use Rattle.tc_core.proofs.KeepsReads.{keeps_ask, keeps_told, reader_is}
 use Rattle.tc_core.proofs.KeepsLost.{not_lacking, keeps_lost_answer, keeps_connected, keeps_redoing, keeps_redo_ended}
@@ -66,7 +67,7 @@ refused_keeps : (cause : Option Refusal) (memory device : Bool) (old new : TcVie
     → Refuses cause memory device old r new → IsTc new
 refused_keeps (Some c) memory device old new r k h = subst IsTc (sym h.1) k
 refused_keeps None memory device old new r k (inl h) = subst IsTc (sym h.2) k
-refused_keeps None memory device old new r k (inr h) = subst IsTc (sym h.2) (keeps_failed old k)
+refused_keeps None memory device old new r k (inr h) = subst IsTc (sym h.2) (keeps_used old (failed old.usage) k)
 
 pub fresh_tc : IsTc (fresh 0)
 fresh_tc = Rattle.tc_core.proofs.KeepsTc.fresh_tc 0
@@ -79,7 +80,7 @@ pub reconnect_keeps : (old new : TcView) (x : Result Connecting Refusal) → IsT
 reconnect_keeps old new (Ok c) k h = subst IsTc (sym h.3) (keeps_session old k (unspent (is_spent old.log) h.0))
 reconnect_keeps old new (Err r) k (inl h) = refused_keeps (spent_refusal old.log) true true old new r k h
 reconnect_keeps old new (Err r) k (inr h) =
-    subst IsTc (sym h.2) (keeps_failed (logged_session old) (session_keeps old k h.0))
+    subst IsTc (sym h.2) (keeps_used (logged_session old) (failed (logged_session old).usage) (session_keeps old k h.0))
 
 pub begin_keeps : (old new : TcView) (x : Result ℕ Refusal) → IsTc old → BeginGives old x new → IsTc new
 begin_keeps old new (Ok t) k h =
@@ -183,7 +184,7 @@ commit_keeps old new t (Err r) k h = refused_keeps (commit_refusal old t) true t
 
 pub force_keeps : (old new : TcView) (x : Result Forced Refusal) → IsTc old → ForceGives old x new → IsTc new
 force_keeps old new (Ok f) k h = subst IsTc (sym h.2) (keeps_force old k)
-force_keeps old new (Err r) k h = subst IsTc (sym h.1) (keeps_failed old k)
+force_keeps old new (Err r) k h = subst IsTc (sym h.1) (keeps_used old (failed old.usage) k)
 
 pub low_water_keeps : (old new : TcView) (l : ℕ) (x : Result Request Refusal) → IsTc old → LowWaterGives old l x new
     → IsTc new

@@ -1,5 +1,5 @@
 -- What is sent stands, and sending changes nothing for clients.
-use Rattle.std.proofs.Common.{◌≡◌, ◌⊎◌, ℕ, ◌+◌, ◌<◌, ◌≤◌, Bool, true, false, List, [], ◌∷◌, ◌++◌, length, Option, Some, None, is_some, refl, sym, ap, ◌∙◌, subst, arith, inl, inr}
+use Rattle.std.proofs.Common.{◌≡◌, ◌⊎◌, ℕ, ◌+◌, ◌<◌, ◌≤◌, IsTrue, Bool, true, false, List, [], ◌∷◌, ◌++◌, length, Option, Some, None, is_some, refl, sym, ap, ◌∙◌, subst, arith, inl, inr}
 use Rattle.std.specs.Prelude.{Ok, not, if◌then◌else◌}
 use Rattle.record_key.specs.declared.refusal.Refusal.{Refusal}
 use Rattle.record_key.specs.declared.refusal.Refusal.TheVariants.{Device}
@@ -23,6 +23,7 @@ use Rattle.codec.specs.declared.request.Request.{Request}
 use Rattle.codec.specs.declared.request.Request.TheVariants as asks
 use Rattle.tc_core.specs.declared.phase.Phase.{Phase}
 use Rattle.tc_core.specs.declared.phase.Phase.TheVariants as phase
+use Rattle.stable.specs.Usage.{is_due, failed as failed_use}
 use Rattle.tc_core.specs.TcView.{TcView, failed, is_serving, is_none_lost}
 use Rattle.range_locks.specs.declared.span.Span.{Span}
 use Rattle.range_locks.specs.declared.span.Span.TheVariants.{Key, Range}
@@ -50,7 +51,7 @@ use Rattle.world.proofs.Machine.Readers.{none_same}
 use Rattle.world.proofs.Machine.Idle.{both_none, serves_open}
 use Rattle.world.proofs.Invariant.Keeps.{still_captured, asked_captured, quiet_served, served_so, keeps_appended, keeps_same_log, with_request, keeps_sent, IsPastRedo, past_redo}
 use Rattle.world.proofs.Invariant.Running.{run_is, past_is}
-use Rattle.world.proofs.Machine.Follows.{Follows, at_new, at_tc, no_line, one_line, unchanged, left_refused, kept_left, keeps_failed, stands_left}
+use Rattle.world.proofs.Machine.Follows.{Follows, at_new, at_tc, no_line, one_line, unchanged, left_refused, kept_left, keeps_used, stands_left}
 
 -- every request so far is before the next record
 all_before : (log : List Record) → AreBefore log (length log + 1)
@@ -102,7 +103,8 @@ module _ (old new : NodeView) (r : Refusal) (k : IsKept old) (left : new ≡ wit
     leads = no_line old new event.Reconnect (out.Refused r) refl
         (λ m stands. subst (λ x. StandsFor (clients x) m) (sym same) (stands_logged old.tc m stands));
     kept = subst IsKept (sym (left ∙ ap (with_tc old) same))
-        (keeps_failed (with_tc old (logged_session old.tc)) (logs_session old k (session_keeps old.tc k.tc unspent)));
+        (keeps_used (with_tc old (logged_session old.tc)) (failed_use (logged_session old.tc).usage)
+        (logs_session old k (session_keeps old.tc k.tc unspent)));
   }
 
 pub follows_reconnect : (old new : NodeView) (output : Out) → IsKept old → ReconnectsTo old output new
@@ -124,7 +126,8 @@ follows_reconnect old new (out.Connects i cs) k h =
 follows_reconnect old new (out.Refused r) k h = by h.0
   where
     by : Refuses (spent_refusal old.tc.log) true true old.tc r new.tc
-        ⊎ ((spent_refusal old.tc.log ≡ None) × (r ≡ Device) × (new.tc ≡ failed (logged_session old.tc)))
+        ⊎ ((spent_refusal old.tc.log ≡ None) × (r ≡ Device) × (new.tc ≡ failed (logged_session old.tc))
+        × IsTrue (is_due (logged_session old.tc).usage))
         → Follows old event.Reconnect (out.Refused r) new
     by (inl c) = not_logged old new r k h.1 c
     by (inr c) = was_logged old new r k h.1 c.0 c.2

@@ -17,7 +17,7 @@ use Rattle.page.specs.Honest.{IsHonestLeaf, IsCapturedTo}
 use Rattle.page.proofs.Raising.{honest_raised}
 use Rattle.btree.specs.Leaves.{leaf_at}
 use Rattle.btree.specs.Parting.{middle, may_split_at, may_merge_at, split_at, merged_at}
-use Rattle.btree.specs.TreeLaw.{AreHonest, AreCaptured}
+use Rattle.btree.specs.TreeLaw.{AreHonest, AreCapturedAt}
 use Rattle.btree.proofs.AtKey.{captured_split, captured_merged, captured_raised}
 use Rattle.btree.proofs.Changing.{all_mapped}
 use Rattle.btree.proofs.Splitting.{all_split}
@@ -57,14 +57,17 @@ IsOwn w leaf = (key : Bytes) → is_in_fences leaf key ≡ true → leaf_at (lea
 all_own : (w : NodeView) → IsKept w → AllByRecursion (IsOwn w) (leaves w.dc)
 all_own w k = own_leaves (leaves w.dc) k.dc.system.leaves
 
-are_captured : (w : NodeView) → IsKept w → AnsweredAreCaptured w.tc.log w.dc → AreCaptured w.tc.log (leaves w.dc)
-are_captured w k all =
-    all_from (IsOwn w) (λ (leaf : LeafView). AllByRecursion
-    (λ (other : LeafView). IsCapturedTo w.tc.log leaf other.ab.low) (leaves w.dc))
-    (λ leaf own. all_from (λ (other : LeafView). IsAnsweredTo w.tc other.ab.low)
-    (λ (other : LeafView). IsCapturedTo w.tc.log leaf other.ab.low)
-    (λ other to. captured_leaf w other.ab.low leaf all own to) (leaves w.dc) k.true_to.low)
-    (leaves w.dc) (all_own w k)
+-- so two that are joined have captured what they must of each other
+are_captured : (w : NodeView) (p : ℕ) → IsKept w → AnsweredAreCaptured w.tc.log w.dc
+    → may_merge_at (leaves w.dc) p ≡ true
+    → AreCapturedAt w.tc.log (leaves w.dc) p
+are_captured w p k all may =
+    let within = merge_within (leaves w.dc) p may in
+    let own = pair_there (λ left right. IsOwn w left × IsOwn w right) (leaves w.dc) p
+    (pair_all (IsOwn w) (leaves w.dc) p (all_own w k)) within in
+    let low = pair_there (λ left right. IsAnsweredTo w.tc left.ab.low × IsAnsweredTo w.tc right.ab.low) (leaves w.dc) p
+    (pair_all (λ (leaf : LeafView). IsAnsweredTo w.tc leaf.ab.low) (leaves w.dc) p k.true_to.low) within in
+    record { left = captured_leaf w _ _ all own.0 low.1; right = captured_leaf w _ _ all own.1 low.0 }
 
 -- ---- parts of what is true to a log
 
@@ -170,7 +173,7 @@ module _ (w : NodeView) (p : ℕ) (k : IsKept w) (all : AnsweredAreCaptured w.tc
   merged_honest_to =
       honest_to_all w.tc.log w.tc.stable merged_leaves
       (merged_honest w.tc.log (leaves w.dc) p (next_number u) k.dc.system.leaves (are_honest w k)
-      (are_captured w k all))
+      (are_captured w p k all may))
       (all_merged (HasStable w.tc.stable) (next_number u) (leaves w.dc) p
       (pair_with AreStable AreStable
       _ (λ left right both again. stable_joined w.tc.stable left right (next_number u) both.0 both.1) (leaves w.dc)
@@ -195,8 +198,8 @@ module _ (w : NodeView) (p : ℕ) (k : IsKept w) (all : AnsweredAreCaptured w.tc
   pub merged_carries : LeavesCarry w.tc.log (leaves w.dc) merged_leaves
   merged_carries = record {
     captured = λ n o asks h.
-        captured_merged w.tc.log (leaves w.dc) k.dc.system.leaves (are_honest w k) (are_captured w k all) p
-        (next_number u) (key_of o) n o asks refl ∙ h;
+        captured_merged w.tc.log (leaves w.dc) k.dc.system.leaves (are_honest w k) p
+        (next_number u) (are_captured w p k all may) (key_of o) n o asks refl ∙ h;
   }
 
 -- ---- low water

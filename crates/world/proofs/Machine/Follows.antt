@@ -27,7 +27,8 @@ use Rattle.tc_core.specs.declared.told.UndoStep.TheVariants as undo
 use Rattle.logical_log.specs.LogView.{is_spent, spent_refusal}
 use Rattle.system_txn.specs.Checked.{IsChecked}
 use Rattle.tc_core.specs.OpenTxns.{find, replace}
-use Rattle.tc_core.specs.TcView.{TcView, failed}
+use Rattle.stable.specs.Usage.{Usage, failed}
+use Rattle.tc_core.specs.TcView.{TcView, used_so}
 use Rattle.tc_core.specs.Refusing.{Refuses}
 use Rattle.tc_core.specs.Causes.{serving_refusal, begin_refusal, commit_refusal, idle_refusal, read_refusal, save_refusal, saves_of, back_refusal, has_savepoint, undo_refusal, answered_refusal, undo_logs, RefusesTaking}
 use Rattle.tc_core.specs.Changes.{begun, acted, acted_txn, asked_read, reading_txn, shared, saved, saved_txn, going_back, going_back_txn, rolled, rolling_txn, committed, compensated, compensated_txn, ended, is_back, back_txn, next_of, inverse_at, forced}
@@ -37,7 +38,7 @@ use Rattle.tc_core.specs.Locking.{is_listed}
 use Rattle.tc_core.proofs.Finding.{found_number}
 use Rattle.log_laws.proofs.LegalLogs.{begun_number}
 use Rattle.log_laws.proofs.Named.{ended_begun}
-use Rattle.tc_core.proofs.KeepsTc.{keeps_failed as tc_failed}
+use Rattle.tc_core.proofs.KeepsTc.{keeps_used as tc_used}
 use Rattle.tc_core.proofs.Committing.{committing_ended}
 use Rattle.world.specs.declared.event.Event.{Event}
 use Rattle.world.specs.declared.event.Event.TheVariants as event
@@ -85,31 +86,31 @@ pub unchanged : (old new : NodeView) (e : Event) (output : Out) → IsKept old �
 unchanged old new e output k same none =
     at_new old new old e output same (record { leads = no_line old old e output none (λ m stands. stands); kept = k })
 
--- a device that failed is counted, and that is all
-pub keeps_failed : (w : NodeView) → IsKept w → IsKept (with_tc w (failed w.tc))
-keeps_failed w k = keeps_same_log w (failed w.tc) k (tc_failed w.tc k.tc) k.checked refl (omega arith) (inl refl)
+-- that a device was called is no matter
+pub keeps_used : (w : NodeView) (usage : Usage) → IsKept w → IsKept (with_tc w (used_so w.tc usage))
+keeps_used w usage k = keeps_same_log w (used_so w.tc usage) k (tc_used w.tc usage k.tc) k.checked refl (omega arith)
+    (inl refl)
     (omega arith) (none_same w.tc.reads w.tc.open_txns) k.sessions
 
--- what a refused call leaves: all as it was, but for the count of failures
+-- what a refused call leaves: all as it was, but that the device was called
 abbrev pub IsLeft : TcView → TcView → Type 0
-IsLeft old new = (new ≡ old) ⊎ (new ≡ failed old)
+IsLeft old new = (usage : Usage) × (new ≡ used_so old usage)
 
 pub left_refused : (cause : Option Refusal) (memory device : Bool) (old : TcView) (r : Refusal) (new : TcView)
     → Refuses cause memory device old r new → IsLeft old new
-left_refused (Some c) memory device old r new h = inl h.1
-left_refused None memory device old r new (inl h) = inl h.2
-left_refused None memory device old r new (inr h) = inr h.2
+left_refused (Some c) memory device old r new h = (old.usage, h.1)
+left_refused None memory device old r new (inl h) = (old.usage, h.2)
+left_refused None memory device old r new (inr h) = (failed old.usage, h.2)
 
 left_taking : (cause spent : Option Refusal) (device : Bool) (old : TcView) (t : ℕ) (s : Span) (r : Refusal)
     (new : TcView)
     → RefusesTaking cause spent device old t s r new → IsLeft old new
-left_taking (Some c) spent device old t s r new h = inl h.1
-left_taking None spent device old t s r new (inl h) = inl h.3
+left_taking (Some c) spent device old t s r new h = (old.usage, h.1)
+left_taking None spent device old t s r new (inl h) = (old.usage, h.3)
 left_taking None spent device old t s r new (inr h) = left_refused spent true device old r new h.1
 
 pub kept_left : (old new : NodeView) → IsKept old → new ≡ with_tc old new.tc → IsLeft old.tc new.tc → IsKept new
-kept_left old new k left (inl same) = subst IsKept (sym (left ∙ ap (with_tc old) same)) k
-kept_left old new k left (inr same) = subst IsKept (sym (left ∙ ap (with_tc old) same)) (keeps_failed old k)
+kept_left old new k left which = subst IsKept (sym (left ∙ ap (with_tc old) which.1)) (keeps_used old which.0 k)
 
 -- so a refused call follows
 refused : (old new : NodeView) (e : Event) (call : Call) (r : Refusal) → IsKept old
@@ -412,15 +413,14 @@ follows_force old new (out.Stable end cs) k h =
 follows_force old new (out.Refused r) k h = record {
   leads = no_line old new event.Force (out.Refused r) refl
       (λ m stands. subst (λ x. StandsFor (clients x) m) (sym h.0.1) stands);
-  kept = kept_left old new k h.1 (inr h.0.1);
+  kept = kept_left old new k h.1 (failed old.tc.usage, h.0.1);
 }
 follows_force old new _ k h = absurd h
 
 -- a component that was left so stands for what it stood for
 pub stands_left : (old new : TcView) (m : Machine) → IsLeft old new → StandsFor (clients old) m
     → StandsFor (clients new) m
-stands_left old new m (inl same) stands = subst (λ x. StandsFor (clients x) m) (sym same) stands
-stands_left old new m (inr same) stands = subst (λ x. StandsFor (clients x) m) (sym same) stands
+stands_left old new m left stands = subst (λ x. StandsFor (clients x) m) (sym left.1) stands
 
 -- undo: of a rollback the next compensation, or its end
 module _ (old : NodeView) (t : ℕ) (k : IsKept old) where

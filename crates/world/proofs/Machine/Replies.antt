@@ -396,7 +396,7 @@ taken old new i output k t =
 untaken : (old new : NodeView) (i : ℕ) (r : Refusal) → IsKept old → Untaken old i r new
     → Follows old (event.Reply i) (out.Refused r) new
 untaken old new i r k u =
-    let which = left_refused (reply_refusal old.tc u.reply) (takes_memory old.tc u.reply) (logs old.tc u.reply) old.tc r
+    let which = left_refused (reply_refusal old.tc u.reply) (logs old.tc u.reply) (logs old.tc u.reply) old.tc r
     new.tc u.refused in
     record {
       leads = no_line old new (event.Reply i) (out.Refused r) refl

@@ -5,7 +5,6 @@ use Rattle.std.proofs.Common.{◌≡◌, ℕ, ◌+◌, ◌-◌, ◌≤◌, Bool,
 use Rattle.std.specs.Prelude.{◌&&◌, not}
 use Rattle.std.proofs.lemmas.Bool.{cases_Bool}
 use Rattle.std.proofs.lemmas.List.{length-drop, take-append-drop}
-use Rattle.record_key.specs.FirstCause.{failures_of}
 use Rattle.record_key.specs.declared.refusal.Refusal.{Refusal}
 use Rattle.history.specs.declared.record.Record.{Record}
 use Rattle.history.specs.declared.record.Record.TheVariants as is
@@ -23,13 +22,14 @@ use Rattle.simulation.specs.Views.{IsUncommitting}
 use Rattle.simulation.proofs.Crash.{crash_is_a_step}
 use Rattle.simulation.proofs.Leftovers.{leftovers_are_no_step, rebuilt_spans_are_no_step}
 use Rattle.tc_core.specs.Locking.{is_listed}
-use Rattle.tc_core.specs.TcView.{TcView}
+use Rattle.stable.specs.Usage.{Usage}
+use Rattle.tc_core.specs.TcView.{TcView, used_so}
 use Rattle.tc_core.specs.Kept.{IsTc}
 use Rattle.tc_core.specs.Opening.{opened as opened_tc}
 use Rattle.tc_core.specs.Opened.{opens_as, crashed, losers_of, IsOpenedAgain}
 use Rattle.tc_core.proofs.CrashedTc.{crashed_kept, same_are_lost}
 use Rattle.tc_core.proofs.Losers.{listed_loser, loser_listed}
-use Rattle.world.specs.Component.{TcSide, LacksDevice, unopened}
+use Rattle.world.specs.Component.{TcSide}
 use Rattle.world.specs.Fallen.{IsFallen}
 use Rattle.world.specs.Kept.{IsKept}
 use Rattle.world.specs.Node.{NodeView, with_tc, CrashesTcTo, RestartsTcTo}
@@ -45,9 +45,9 @@ use Rattle.world.proofs.Machine.Follows.{Follows, IsLeft, at_new, no_line, one_l
 -- ---- what a log opens as
 
 -- whoever is left open is listed as a loser
-listed_open : (log : List Record) (failures : ℕ) → IsTc (opens_as log failures) → (t : ℕ)
+listed_open : (log : List Record) (usage : Usage) → IsTc (opens_as log usage) → (t : ℕ)
     → is_left_open log t ≡ is_listed (txns (losers_of log)) t
-listed_open log failures k t =
+listed_open log usage k t =
     elim (cases_Bool (is_listed (txns (losers_of log)) t)) [
       | inl listed ↦
           let loser = listed_loser log (losers_of log) k.lost.losers t listed in
@@ -78,12 +78,12 @@ listed_open log failures k t =
         absurd (true≢false (sym (loser_listed log (losers_of log) k.lost.losers t loser) ∙ unlisted))
 
 -- so clients see of it what the list machine's crash leaves
-stands_opened : (log : List Record) (failures : ℕ) (m : Machine) → IsTc (opens_as log failures)
-    → StandsFor (opened log) m → StandsFor (clients (opens_as log failures)) m
-stands_opened log failures m k stands =
-    let w : TcView = opens_as log failures in
+stands_opened : (log : List Record) (usage : Usage) (m : Machine) → IsTc (opens_as log usage)
+    → StandsFor (opened log) m → StandsFor (clients (opens_as log usage)) m
+stands_opened log usage m k stands =
+    let w : TcView = opens_as log usage in
     let spans : ℕ → List Span = λ t. spans_of w.locks t in
-    let same : (t : ℕ) → is_left_open log t ≡ is_listed (txns (losers_of log)) t = listed_open log failures k in
+    let same : (t : ℕ) → is_left_open log t ≡ is_listed (txns (losers_of log)) t = listed_open log usage k in
     let path : record (opened log) { spans = spans } ≡ clients w =
     λ i. record (opened log) { spans = spans; loses = λ t. same t i } in
     subst (λ (v : View). StandsFor v m) path (rebuilt_spans_are_no_step log m spans stands)
@@ -97,8 +97,8 @@ all_forced w all t n at =
 stands_again : (old new : TcView) (m : Machine) → IsTc old → IsTc new → IsOpenedAgain old new
     → StandsFor (clients old) m → StandsFor (clients new) m
 stands_again old new m k is again stands =
-    let was : TcView = opened_tc old.log old.failures old.checkpointed old.losers old.locks in
-    let now : TcView = opened_tc old.log old.failures old.checkpointed new.losers new.locks in
+    let was : TcView = opened_tc old.log old.usage old.checkpointed old.losers old.locks in
+    let now : TcView = opened_tc old.log new.usage old.checkpointed new.losers new.locks in
     let spans : ℕ → List Span = λ t. spans_of new.locks t in
     let same : (t : ℕ) → is_listed (txns new.losers) t ≡ is_listed (txns old.losers) t =
     same_are_lost old new k is again in
@@ -120,7 +120,7 @@ crash_leads w m n k is le within stands =
     let count : length older ≡ n = omega (arith, length-drop (length w.log - n) w.log, within) in
     let step = crash_is_a_step (clients w) m (take (length w.log - n) w.log) older k.legal stands
     (sym (take-append-drop (length w.log - n) w.log)) (omega (arith, le, count)) in
-    (step.0, step.1, stands_opened older w.failures step.0 is step.2)
+    (step.0, step.1, stands_opened older w.usage step.0 is step.2)
 
 crash_falls : (w : TcView) (n : ℕ) → IsTc w → w.stable ≤ n → n ≤ length w.log → IsFallen w (crashed w n)
 crash_falls w n k le within = record {
@@ -172,14 +172,6 @@ restart_falls old new again le = record {
       omega (arith, same);
 }
 
-left_unopened : (w : TcView) (r : Refusal) → LacksDevice r → IsLeft w (unopened w r)
-left_unopened w r (inl memory) =
-    let none : w.failures + failures_of r ≡ w.failures =
-    ap (λ x. w.failures + failures_of x) memory ∙ (let e : w.failures + 0 ≡ w.failures = omega arith in e) in
-    inl (ap (λ n. record w { failures = n }) none)
-left_unopened w r (inr device) =
-    inr (ap (λ x. record w { failures = w.failures + failures_of x }) device)
-
 pub follows_tc_restart : (old new : NodeView) (output : Out) → IsKept old → IsTc new.tc → RestartsTcTo old output new
     → Follows old event.RestartTc output new
 follows_tc_restart old new (out.Up count) k is h =
@@ -196,9 +188,9 @@ follows_tc_restart old new out.Nothing k is h =
     unchanged old new event.RestartTc out.Nothing k
     (h.1 ∙ ap (λ (s : TcSide). record old { tc_up = s.up; tc = s.tc }) h.0.1) refl
 follows_tc_restart old new (out.Refused r) k is h =
-    let tc : TcView = unopened old.tc r in
+    let tc : TcView = used_so old.tc new.tc.usage in
     let next : NodeView = record old { tc_up = false; tc = tc } in
-    let left : IsLeft old.tc tc = left_unopened old.tc r h.0.1 in
+    let left : IsLeft old.tc tc = (new.tc.usage, refl) in
     let same : new ≡ next = h.1 ∙ ap (λ (s : TcSide). record old { tc_up = s.up; tc = s.tc }) h.0.2 in
     at_new old new next event.RestartTc (out.Refused r) same (record {
       leads = no_line old next event.RestartTc (out.Refused r) refl (λ m stands. stands_left old.tc tc m left stands);

@@ -1,8 +1,6 @@
 -- What a crash leaves of the transaction component's device, and what it opens as.
 use Rattle.std.proofs.Common.{◌≡◌, ℕ, ◌+◌, ◌-◌, ◌≤◌, List, [], ◌++◌, length, take, refl, sym, ap, ◌∙◌, subst, arith, inl}
 use Rattle.std.proofs.lemmas.List.{length-append}
-use Rattle.record_key.specs.declared.refusal.Refusal.{Refusal}
-use Rattle.record_key.specs.FirstCause.{failures_of}
 use Rattle.history.specs.declared.record.Record.{Record}
 use Rattle.stable.specs.Crash.{BeginsWith, MayLeave}
 use Rattle.stable.specs.LogState.{LogState, with_bytes}
@@ -10,12 +8,10 @@ use Rattle.logical_log.specs.Low.{stable_part}
 use Rattle.logical_log.specs.Opening.{IsLogOf}
 use Rattle.logical_log.specs.Spelled.{spelled, AreRecords}
 use Rattle.logical_log.proofs.Crashed.{crash_leaves, opens_once}
-use Rattle.tc_core.specs.TcView.{TcView}
+use Rattle.tc_core.specs.TcView.{TcView, used_so}
 use Rattle.tc_core.specs.Kept.{IsTc}
-use Rattle.tc_core.specs.Opening.{AreLeft}
 use Rattle.tc_core.specs.Opened.{opens_as, crashed}
-use Rattle.tc_core.proofs.CrashedTc.{left_again}
-use Rattle.world.specs.Component.{bytes_left, Keeps, tc_size, unopened}
+use Rattle.world.specs.Component.{bytes_left, Keeps, tc_size}
 use Rattle.world.proofs.Restarts.Keeping.{left_stable, left_within, keeps_of, cut_to}
 use Rattle.world.proofs.Restarts.Ends.{part_all, records_longer}
 
@@ -40,7 +36,7 @@ pub record IsHalted (w : TcView) (device : LogState) : Type 0 where
   pub forced : BeginsWith device.forced (spelled (stable_part w.log w.stable))
   pub just : device.forced ≡ spelled (stable_part w.log w.stable)
   pub spellable : AreRecords w.log
-  pub failures : device.failures ≡ w.failures
+  pub usage : device.usage ≡ w.usage
 
 -- what is left on the device: the frames of a beginning that the crash may keep
 pub record IsKeptOf (w : TcView) (more bytes : ℕ) (left : List ℕ) : Type 0 where
@@ -116,19 +112,19 @@ module _ (w : TcView) (device : LogState) where
   pub tc_crash_is : (more bytes kept : ℕ) (device' : LogState) (later : List Record) → IsTc w
       → IsTcCrash w more bytes kept device device' → IsLogOf device'.forced later
       → (n : ℕ) × Keeps (tc_size w.log) w.stable (length w.log) more bytes n
-      × (opens_as later device'.failures ≡ crashed w n)
+      × (opens_as later device'.usage ≡ crashed w n)
   tc_crash_is more bytes kept device' later is c again =
       let left = kept_left more bytes kept device' is c in
       let same : later ≡ stable_part w.log left.count =
       opens_once device'.forced later (stable_part w.log left.count) again left.holds in
-      let failures : device'.failures ≡ w.failures = ap (λ (l : LogState). l.failures) c.left ∙ c.halted.failures in
-      (left.count, left.keeps, λ i. opens_as (same i) (failures i))
+      let usage : device'.usage ≡ w.usage = ap (λ (l : LogState). l.usage) c.left ∙ c.halted.usage in
+      (left.count, left.keeps, λ i. opens_as (same i) (usage i))
 
 -- ---- what isn't opened
 
-pub tc_unopened : (old new : LogState) (log later : List Record) (r : Refusal) → IsLogOf old.forced log
-    → AreLeft old.forced new.forced → IsLogOf new.forced later → new.failures ≡ old.failures + failures_of r
-    → opens_as later new.failures ≡ unopened (opens_as log old.failures) r
-tc_unopened old new log later r holds left again count =
-    let same : later ≡ log = opens_once new.forced later log again (left_again old.forced new.forced log holds left) in
-    λ i. opens_as (same i) (count i)
+pub tc_unopened : (old new : LogState) (log later : List Record) → IsLogOf old.forced log
+    → new.forced ≡ old.forced → IsLogOf new.forced later
+    → opens_as later new.usage ≡ used_so (opens_as log old.usage) new.usage
+tc_unopened old new log later holds left again =
+    let same : later ≡ log = opens_once old.forced later log (subst (λ b. IsLogOf b later) left again) holds in
+    ap (λ l. opens_as l new.usage) same

@@ -32,7 +32,7 @@ use Rattle.tc_core.specs.Changes.{reconnected}
 use Rattle.tc_core.specs.Calls.{read_request, ReconnectGives, UndoGives}
 use Rattle.tc_core.specs.Recovery.{SendsAt, ResendsUndo, recover_refusal, redo_request, redo_place, redoing, undo_logs_at}
 use Rattle.codec.specs.Replies.{session_of}
-use Rattle.tc_core.specs.Replies.{logs, takes_memory, ReplyGives}
+use Rattle.tc_core.specs.Replies.{logs, ReplyGives}
 use Rattle.tc_core.specs.Kept.{IsPhase, IsTc}
 use Rattle.tc_core.proofs.Finding.{found_own}
 use Rattle.tc_core.proofs.KeepsTc.{reading_at}
@@ -79,13 +79,13 @@ reply_want w reply r new same some h =
     fresh (w.session == 0) (session_of reply == w.session) (logs w reply && log_is_spent w.log) a b h
   where
     fresh : (a b c : Bool) → a ≡ false → b ≡ true
-        → Refuses (first_of ((a || not b, Stale) ∷ (c, NumbersSpent) ∷ [])) (takes_memory w reply) (logs w reply) w r
+        → Refuses (first_of ((a || not b, Stale) ∷ (c, NumbersSpent) ∷ [])) (logs w reply) (logs w reply) w r
         new
         → IsWant r
     fresh true b c e f h = absurd (true≢false e)
     fresh false false c e f h = absurd (true≢false (sym f))
     fresh false true true e f h = inr (inl h.0)
-    fresh false true false e f h = want_refused (takes_memory w reply) (logs w reply) w r new h
+    fresh false true false e f h = want_refused (logs w reply) (logs w reply) w r new h
 
 -- a request of the session that runs
 serves_session : (dc : DcView) (s : ℕ) → dc.session ≡ s → 0 < s → session_refusal dc s ≡ None

@@ -82,5 +82,5 @@ returns-in-Err-clause-gives g c =
     (inr (
       free,
       refuses w (is_spent w.log) c.in-Err.refusal c.append.new.self c.in-Err.ensures.refused
-          c.in-Err.ensures.left,
+          c.in-Err.ensures.left c.in-Err.ensures.device,
     ))

@@ -34,4 +34,5 @@ returns-in-Err-clause-gives g c =
     let w = seen c.args.self.now in
     let unspent = c.in_ok-can_begin.ensures.unspent in
     rw (c.in_ok-can_begin.ensures.allowed, left g c)
-    (refuses_unspent w unspent c.in-Err.refusal c.append.new.self c.in-Err.ensures.refused c.in-Err.ensures.left)
+    (refuses_unspent w unspent c.in-Err.refusal c.append.new.self c.in-Err.ensures.refused c.in-Err.ensures.left
+    c.in-Err.ensures.device)

@@ -15,10 +15,10 @@ append-requires g c =
     let w = seen c.args.self.now in
     let o = c.in-Some.opened.now in
     let at = awaited_is w c.args.number o (sym c.awaiting.ensures ∙ ap option_copied c.in-Some.is) in
-    let fits = fits_answer w o c.args.number c.copied.result c.requires at.0 at.1 in
+    let fits = fits_answer w o c.args.number c.in-Some-answer.answer c.requires at.0 at.1 in
     record {
       fits = fits;
-      numbers = fits_numbers w.log (Answer c.args.number c.copied.result) c.requires.few.records
+      numbers = fits_numbers w.log (Answer c.args.number c.in-Some-answer.answer) c.requires.few.records
           fits;
     }
 
@@ -32,10 +32,10 @@ pass-requires-clause-kept g c =
       happened w o.txn o Answered c.change.new.self (record { is = at.0; number = refl }) c.change.ensures,
       appended.log,
     )
-    (keeps_passed (answered w o c.args.number c.copied.result) c.args.number
+    (keeps_passed (answered w o c.args.number c.in-Some-answer.answer) c.args.number
     (sym c.takes.ensures ∙ c.if-not-takes.false)
-    (λ q asks. newly_answered w.log c.args.number c.copied.result)
-    (keeps_answer w o c.args.number c.copied.result c.requires at.0 at.1 appended.unspent))
+    (λ q asks. newly_answered w.log c.args.number c.in-Some-answer.answer)
+    (keeps_answer w o c.args.number c.in-Some-answer.answer c.requires at.0 at.1 appended.unspent))
 
 pub returns-clause-gives : goal.returns-clause-gives
 returns-clause-gives g c =
@@ -52,7 +52,6 @@ returns-clause-gives g c =
       appended.unspent,
       c.pass.ensures.passed,
       appended.log,
-      c.copied.ensures,
       happened w o.txn o Answered c.change.new.self (record { is = at.0; number = refl }) c.change.ensures,
       c.told_of-told.ensures,
     )

@@ -15,8 +15,8 @@ returns-clause-kept g c =
     rw (happened w o.txn o Told c.change.new.self (record { is = at; number = refl }) c.change.ensures)
     (keeps_told w o c.requires at)
 
-pub returns-clause-gives : goal.returns-clause-gives
-returns-clause-gives g c =
+pub returns-clause-left : goal.returns-clause-left
+returns-clause-left g c =
     let w = seen c.args.self.now in
     let o = c.in-Some.opened.now in
     let is : reader w c.args.read ≡ Some o = sym c.oldest.ensures ∙ ap option_copied c.in-Some.is in
@@ -25,6 +25,4 @@ returns-clause-gives g c =
       happened w o.txn o Told c.change.new.self (record { is = at; number = refl }) c.change.ensures,
       is,
       sym c.reads_range.ensures ∙ c.if-not-reads_range.false,
-      c.in_ok-rows.ensures,
-    )
-    (record { told = refl; left = refl })
+    ) refl

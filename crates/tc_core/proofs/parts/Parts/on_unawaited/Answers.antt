@@ -18,7 +18,7 @@ append-requires g c =
     let fits = fits_lacking w c.args.number (sym c.lacks.ensures ∙ c.if-not-lacks.false) in
     record {
       fits = fits;
-      numbers = fits_numbers w.log (Answer c.args.number c.copied.result)
+      numbers = fits_numbers w.log (Answer c.args.number c.in-Some.answer)
           c.requires.kept.few.records fits;
     }
 
@@ -27,5 +27,5 @@ pass-requires-2-clause-kept g c =
     let w = seen c.args.self.now in
     let appended = c.in_ok-append.ensures.appended in
     rw appended.log
-    (keeps_lost_answer w c.requires.kept c.args.number c.copied.result (sym c.lacks.ensures ∙ c.if-not-lacks.false)
+    (keeps_lost_answer w c.requires.kept c.args.number c.in-Some.answer (sym c.lacks.ensures ∙ c.if-not-lacks.false)
     c.requires.unawaited c.requires.taken appended.unspent)

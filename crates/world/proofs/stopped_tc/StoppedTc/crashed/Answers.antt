@@ -22,7 +22,7 @@ on-found-requires c =
       forced = c.stop-device.ensures.forced;
       just = c.stop-device.ensures.just refl;
       spellable = c.stop-device.ensures.spellable;
-      failures = c.stop-device.ensures.failures;
+      usage = c.stop-device.ensures.usage;
     } in
     let crash = tc_crash_of w device c.args.frames c.args.bytes c.bytes_kept_of-kept.result c.end_of-end.result
     c.saturating_sub.result c.crash.new.self all (omega (arith, c.saturating_sub.ensures, ap length c.pending.ensures))
@@ -46,7 +46,7 @@ returns c =
       forced = c.stop-device.ensures.forced;
       just = c.stop-device.ensures.just refl;
       spellable = c.stop-device.ensures.spellable;
-      failures = c.stop-device.ensures.failures;
+      usage = c.stop-device.ensures.usage;
     } in
     let crash = tc_crash_of w device c.args.frames c.args.bytes c.bytes_kept_of-kept.result c.end_of-end.result
     c.saturating_sub.result c.crash.new.self all (omega (arith, c.saturating_sub.ensures, ap length c.pending.ensures))

@@ -7,4 +7,4 @@ pub returns : goal.returns
 returns c =
     let begins = c.self.invariant.0.begins in
     subst IsTc c.self.view_is
-    (opened_kept c.self.inside.found.log c.self.inside.device.failures begins.legal (omega (arith, begins.numbered)))
+    (opened_kept c.self.inside.found.log c.self.inside.device.usage begins.legal (omega (arith, begins.numbered)))

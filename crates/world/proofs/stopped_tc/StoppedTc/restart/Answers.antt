@@ -1,9 +1,9 @@
-use Rattle.std.proofs.Common.{◌∙◌, ap, subst}
+use Rattle.std.proofs.Common.{◌∙◌, ap, sym, subst}
 use Rattle.logical_log.proofs.Crashed.{never_bad}
-use Rattle.tc_core.specs.TcView.{TcView}
+use Rattle.logical_log.specs.Opening.{IsLogOf, UsedToOpen}
+use Rattle.tc_core.specs.TcView.{TcView, used_so}
 use Rattle.tc_core.specs.Opened.{IsOpenedAgain}
-use Rattle.tc_core.proofs.CrashedTc.{opens_again, left_again}
-use Rattle.world.specs.Component.{unopened}
+use Rattle.tc_core.proofs.CrashedTc.{opens_again}
 use Rattle.world.proofs.Restarts.TcDowns.{tc_unopened}
 use Rattle.world.proofs.stopped_tc.StoppedTc.restart.Goals as goal
 
@@ -12,16 +12,12 @@ returns-in-Ok-clause-restarted c =
     let device = c.self.inside.device in
     let P : TcView → Type 0 = λ old. IsOpenedAgain old c.in-Ok.tc in
     subst P c.self.view_is
-    (opens_again device.forced c.self.inside.found.log device.failures c.in-Ok.tc c.self.invariant.0
+    (opens_again device.forced c.self.inside.found.log device.usage c.in-Ok.tc c.self.invariant.0
     c.in-Ok.ensures.opened c.kept.ensures)
 
 pub on-found-requires : goal.on-found-requires
 on-found-requires c =
-    let device = c.self.inside.device in (
-      c.self.inside.found.log,
-      left_again device.forced c.in-Err.field-0.device.forced c.self.inside.found.log c.self.invariant.0
-          c.in-Err.ensures.left,
-    )
+    (c.self.inside.found.log, subst (λ b. IsLogOf b c.self.inside.found.log) (sym c.in-Err.ensures.forced) c.self.invariant.0)
 
 pub invariant_of-result : goal.invariant_of-result
 invariant_of-result c = (c.on-found.ensures, c.in-Err.ensures.none_pending)
@@ -34,6 +30,11 @@ returns-in-Err-clause-refused c =
 pub returns-in-Err-clause-left : goal.returns-in-Err-clause-left
 returns-in-Err-clause-left c =
     let device = c.self.inside.device in
-    tc_unopened device c.in-Err.field-0.device c.self.inside.found.log c.on-found.result.log c.in-Err.field-0.refusal
-    c.self.invariant.0 c.in-Err.ensures.left c.on-found.ensures c.in-Err.ensures.told
-    ∙ ap (λ (w : TcView). unopened w c.in-Err.field-0.refusal) c.self.view_is
+    tc_unopened device c.in-Err.field-0.device c.self.inside.found.log c.on-found.result.log c.self.invariant.0
+    c.in-Err.ensures.forced c.on-found.ensures
+    ∙ ap (λ (w : TcView). used_so w c.in-Err.field-0.device.usage) c.self.view_is
+
+pub returns-in-Err-clause-used : goal.returns-in-Err-clause-used
+returns-in-Err-clause-used c =
+    subst (λ (w : TcView). UsedToOpen w.usage c.in-Err.field-0.refusal c.in-Err.field-0.device.usage) c.self.view_is
+    c.in-Err.ensures.used
