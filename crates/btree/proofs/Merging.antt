@@ -78,12 +78,27 @@ pair_all P (leaf ∷ []) p all = tt
 pair_all P (left ∷ right ∷ rest) zero all = (all.0, all.1.0)
 pair_all P (left ∷ right ∷ rest) (suc p) all = pair_all P (right ∷ rest) p all.1
 
-pub at_pair : (Q : LeafView → LeafView → Type 0) (leaves : List LeafView) (p : ℕ)
+at_next : (Q : LeafView → LeafView → Type 0) (leaves : List LeafView) (p : ℕ)
     → Q (get_or leaves p first) (get_or leaves (suc p) first) → AtPair Q leaves p
-at_pair Q [] p both = tt
-at_pair Q (leaf ∷ []) p both = tt
-at_pair Q (left ∷ right ∷ rest) zero both = both
-at_pair Q (left ∷ right ∷ rest) (suc p) both = at_pair Q (right ∷ rest) p both
+at_next Q [] p both = tt
+at_next Q (leaf ∷ []) p both = tt
+at_next Q (left ∷ right ∷ rest) zero both = both
+at_next Q (left ∷ right ∷ rest) (suc p) both = at_next Q (right ∷ rest) p both
+
+next_is : (p : ℕ) → p + 1 ≡ suc p
+next_is p = omega arith
+
+pub at_pair : (Q : LeafView → LeafView → Type 0) (leaves : List LeafView) (p : ℕ)
+    → Q (get_or leaves p first) (get_or leaves (p + 1) first) → AtPair Q leaves p
+at_pair Q leaves p both =
+    at_next Q leaves p (subst (λ n. Q (get_or leaves p first) (get_or leaves n first)) (next_is p) both)
+
+-- what a pair has, the leaf at the place and the one after it have
+pub both_there : (Q : LeafView → LeafView → Type 0) (leaves : List LeafView) (p : ℕ) → AtPair Q leaves p
+    → p + 1 < length leaves
+    → Q (get_or leaves p first) (get_or leaves (p + 1) first)
+both_there Q leaves p pair within =
+    subst (λ n. Q (get_or leaves p first) (get_or leaves n first)) (sym (next_is p)) (pair_there Q leaves p pair within)
 
 pair_next : (from : Option Bytes) (leaves : List LeafView) (p : ℕ) → TileFrom from (parts_of leaves)
     → AtPair AreNeighbours leaves p

@@ -1,16 +1,16 @@
 -- What is seen of each component by the node that has it, and what a crash and a restart do to it.
 use Rattle.std.specs.Prelude.{◌≡◌, ◌⊎◌, ℕ, ◌+◌, ◌≤◌, Bool, true, false, List, Option, Some, None, Result, Ok, Err, length, nat_lt, if◌then◌else◌}
-use Rattle.record_key.specs.FirstCause.{failures_of}
 use Rattle.record_key.specs.declared.refusal.Refusal.{Refusal}
 use Rattle.record_key.specs.declared.refusal.Refusal.TheVariants.{NoMemory, Device}
 use Rattle.codec.specs.declared.dc_record.DcRecord.{DcRecord}
 use Rattle.history.specs.declared.record.Record.{Record}
+use Rattle.stable.specs.Usage.{Usage, called_often}
 use Rattle.stable.specs.LogState.{LogState}
 use Rattle.stable.specs.PagesState.{PagesState}
 use Rattle.logical_log.specs.Low.{stable_part}
 use Rattle.logical_log.specs.Spelled as records
 use Rattle.recovery_laws.specs.Shape.{beginning}
-use Rattle.system_txn.specs.SystemView.{refused_so}
+use Rattle.system_txn.specs.Uses.{StopsOpening, page_calls}
 use Rattle.system_txn.specs.Devices.{spelled}
 use Rattle.system_txn.specs.Crashed.{found, crashed}
 use Rattle.dc_core.specs.DcView.{DcView, leaves}
@@ -18,7 +18,7 @@ use Rattle.dc_core.specs.Restarting.{restarted}
 use Rattle.dc_core.specs.Serves.{with_system}
 use Rattle.logical_log.specs.Opening.{UsedToOpen}
 use Rattle.tc_core.specs.TcView.{TcView, used_so}
-use Rattle.tc_core.specs.Opened.{crashed as crashed_tc, IsOpenedAgain}
+use Rattle.tc_core.specs.Opened.{crashed as crashed_tc, UsedByOpening, IsOpenedAgain}
 
 -- whether it runs, and what it is, or where it doesn't run will be once it is restarted
 pub record TcSide : Type 0 where
@@ -76,7 +76,7 @@ TcRestartsTo old (Err r) new =
 
 -- the component that these devices give, where these records are the log's
 abbrev pub found_on : LogState → PagesState → List DcRecord → DcView
-found_on device pages log = restarted (found pages.pages (device.failures + pages.failures) log)
+found_on device pages log = restarted (found pages.pages device.usage pages.usage log)
 
 -- how many bytes the first records have, so many
 abbrev pub dc_size : List DcRecord → ℕ → ℕ
@@ -89,13 +89,27 @@ DcCrashesTo old more bytes true new =
     × (new ≡ record { up = false; dc = restarted (crashed old.dc.system n) }))
 DcCrashesTo old more bytes false new = (old.up ≡ false) × (new ≡ old)
 
--- nothing else changes
-abbrev pub IsDownWith : DcView → Refusal → DcView → Type 0
-IsDownWith old r new = LacksDevice r × (new ≡ with_system old (refused_so old.system r))
+-- the same, its devices used so
+abbrev pub dc_used : DcView → Usage → Usage → DcView
+dc_used w log pages = with_system w (record w.system { log_usage = log; page_usage = pages })
+
+-- it is opened as what it was seen as, and its devices were called as that takes
+pub record IsUp (old new : DcView) : Type 0 where
+  pub is : new ≡ dc_used old new.system.log_usage new.system.page_usage
+  pub log : UsedByOpening old.system.log_usage new.system.log_usage
+  pub pages : new.system.page_usage ≡ called_often (page_calls old.system.pages) old.system.page_usage
+
+-- it isn't opened, and but for the calls of its devices nothing changes
+pub record IsDownWith (old : DcView) (r : Refusal) (new : DcView) : Type 0 where
+  pub lacks : LacksDevice r
+  pub is : new ≡ dc_used old new.system.log_usage new.system.page_usage
+  pub used : StopsOpening r old.system.pages old.system.log_usage new.system.log_usage old.system.page_usage
+      new.system.page_usage
 
 abbrev pub DcRestartsTo : DcSide → Result (Option ℕ) Refusal → DcSide → Type 0
 DcRestartsTo old (Ok (Some count)) new =
-    (old.up ≡ false) × (count ≡ length (leaves old.dc)) × (new ≡ record { up = true; dc = old.dc })
+    (old.up ≡ false) × (count ≡ length (leaves old.dc)) × (new ≡ record { up = true; dc = new.dc })
+    × IsUp old.dc new.dc
 DcRestartsTo old (Ok None) new = (old.up ≡ true) × (new ≡ old)
 DcRestartsTo old (Err r) new =
     (old.up ≡ false) × (new ≡ record { up = false; dc = new.dc }) × IsDownWith old.dc r new.dc

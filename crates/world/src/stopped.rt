@@ -1,14 +1,12 @@
 //! What is left of the data component while it is down: its devices.
 ghost use Rattle.std.specs.Prelude.{◌≡◌, ◌⊎◌, ℕ, ◌≤◌, [], List, length, IfOk, IfErr};
 ghost use Rattle.recovery_laws.specs.Shape.{beginning};
-ghost use Rattle.system_txn.specs.SystemView.{refused_so};
 ghost use Rattle.system_txn.specs.Kept.{IsRecoverable};
 ghost use Rattle.system_txn.specs.Recovering.{HoldsFrames};
 ghost use Rattle.dc_core.specs.Kept.{IsDc};
 ghost use Rattle.dc_core.specs.Restarting.{restarted};
-ghost use Rattle.dc_core.specs.Serves.{with_system};
 ghost use Rattle.system_txn.specs.Crashed.{crashed};
-ghost use Rattle.world.specs.Component.{Keeps, dc_size, IsDownWith};
+ghost use Rattle.world.specs.Component.{Keeps, dc_size, IsUp, IsDownWith};
 
 use crate::crashing::kept_of;
 use crate::found::Found;
@@ -89,7 +87,7 @@ impl Stopped {
     /// The component on its devices. Refused NoMemory, Device.
     pub fn restart(self, alloc: Global) -> Result<Dc, Unopened>
         requires { IsRecoverable self.system }
-        ensures restarted { IfOk result (λ dc. dc ≡ self) }
+        ensures restarted { IfOk result (IsUp self) }
         ensures refused { IfErr result (λ left. IsDownWith self left.refusal left.stopped) }
     {
         self.kept();

@@ -3,7 +3,9 @@ use Rattle.std.proofs.Common.{◌≡◌, ℕ, ◌+◌, ◌<◌, ◌≤◌, Bool,
 use Rattle.std.specs.Prelude.{◌&&◌, not, max, nat_lt, if◌then◌else◌, Err}
 use Rattle.std.proofs.lemmas.Bool.Decides.{nat_tests}
 use Rattle.record_key.specs.declared.refusal.Refusal.{Refusal}
-use Rattle.record_key.specs.FirstCause.{failures_of}
+use Rattle.record_key.specs.declared.refusal.Refusal.TheVariants.{Device}
+use Rattle.stable.specs.Usage.{Usage, called, failed}
+use Rattle.system_txn.specs.Uses.{refused_use}
 use Rattle.record_key.specs.Table.{Bytes, key_of, answer_in}
 use Rattle.history.specs.declared.record.Record.{Record}
 use Rattle.history.specs.Spans.{is_within, rows_in}
@@ -21,8 +23,8 @@ use Rattle.btree.proofs.Together.{one_table}
 use Rattle.recovery_laws.specs.Recovery.{stored_session}
 use Rattle.system_txn.specs.Kept.{IsRecoverable}
 use Rattle.system_txn.specs.Checked.{Checks}
-use Rattle.system_txn.specs.SystemView.{SystemView}
-use Rattle.system_txn.specs.Changes.{lowered, written_all}
+use Rattle.system_txn.specs.SystemView.{SystemView, log_refused}
+use Rattle.system_txn.specs.Changes.{lowered, accepted, written_all}
 use Rattle.system_txn.specs.Gives.{HaveImages, CheckpointGives, AcceptGives}
 use Rattle.dc_core.specs.DcView.{DcView, leaves, captures_at, value_at}
 use Rattle.dc_core.specs.Kept.{IsDc}
@@ -46,7 +48,7 @@ use Rattle.world.proofs.Machine.Reading.{read_logged}
 use Rattle.world.proofs.Invariant.Running.{run_is, run_stored, let_runs, let_past, redo_goes_on}
 use Rattle.world.proofs.Invariant.Systems.{LeavesCarry, same_leaves, keeps_system}
 use Rattle.world.proofs.Invariant.Trees.{lowered_true, lowered_carries}
-use Rattle.world.proofs.Invariant.Written.{refused_true, written_all_true, written_all_leaves, written_all_log, stops_among}
+use Rattle.world.proofs.Invariant.Written.{used_true, written_all_true, written_all_leaves, written_all_log, failed_among}
 
 -- the later of two sessions that were begun
 later_begun : (stable session s t : ℕ) → IsBegun stable session s → IsBegun stable session t
@@ -82,9 +84,9 @@ past_redo (phase.Redoing next ending) session log dc h = h
 past_redo (phase.Undoing waiting) session log dc h = (h.0, λ runs. refl)
 past_redo phase.Running session log dc h = (h.0, λ runs. refl)
 
-accepted_true : (w : TcView) (v : SystemView) (s stable failures : ℕ) → IsTrueTo w v
-    → IsTrueTo w (record v { log = dc_record.Accept s ∷ v.log; stable = stable; failures = failures })
-accepted_true w v s stable failures h = record {
+accepted_true : (w : TcView) (v : SystemView) (s stable : ℕ) (usage : Usage) → IsTrueTo w v
+    → IsTrueTo w (record v { log = dc_record.Accept s ∷ v.log; stable = stable; log_usage = usage })
+accepted_true w v s stable usage h = record {
   leaves = h.leaves;
   written = record {
     first_leaf = h.written.first_leaf;
@@ -114,8 +116,8 @@ connects w s k is recoverable checks most less =
       past = λ t before r past. absurd (other t before r);
       checks = checks;
     })
-    recoverable (accepted_true w.tc w.dc.system s (length (dc_record.Accept s ∷ w.dc.system.log)) w.dc.system.failures
-    k.true_to) k.performed
+    recoverable (accepted_true w.tc w.dc.system s (length (dc_record.Accept s ∷ w.dc.system.log))
+    (called (called w.dc.system.log_usage)) k.true_to) k.performed
     (λ may. absurd (redo_goes_on dc refl may))
     (record {
       begun = later_begun w.tc.stable w.tc.session s (stored_session w.dc.system.log) most k.sessions.begun;
@@ -276,20 +278,21 @@ serves w (asks.RedoEnd s) reply dc k is rec checks sent allowed h =
 stops_accepting : (w : NodeView) (s : ℕ) (r : Refusal) (v : SystemView) → IsKept w → IsDc (with_system w.dc v)
     → IsRecoverable v → Checks w.dc.system v → IsBegun w.tc.stable w.tc.session s → AcceptGives w.dc.system s (Err r) v
     → IsKept (with_dc w (with_system w.dc v))
-stops_accepting w s r v k is rec checks most h = elim h.1 [
-  | inl same ↦
+stops_accepting w s r v k is rec checks most h = elim h [
+  | inl append ↦ let same : v ≡ log_refused w.dc.system r = append.1 in
       keeps_system w v k is rec checks
       (subst (λ (x : SystemView). LeavesCarry w.tc.log (leaves w.dc) x.leaves) (sym same)
       (same_leaves w.tc.log (leaves w.dc)))
-      (subst (IsTrueTo w.tc) (sym same) (refused_true w.tc w.dc.system r k.true_to))
+      (subst (IsTrueTo w.tc) (sym same)
+      (used_true w.tc w.dc.system (refused_use w.dc.system.log_usage r) w.dc.system.page_usage k.true_to))
       (subst (λ (x : SystemView). IsBegun w.tc.stable w.tc.session (stored_session x.log)) (sym same) k.sessions.begun)
-  | inr more ↦
+  | inr force ↦ let more : v ≡ log_refused (accepted w.dc.system s) Device = force.2.0 in
       keeps_system w v k is rec checks
-      (subst (λ (x : SystemView). LeavesCarry w.tc.log (leaves w.dc) x.leaves) (sym more.2)
+      (subst (λ (x : SystemView). LeavesCarry w.tc.log (leaves w.dc) x.leaves) (sym more)
       (same_leaves w.tc.log (leaves w.dc)))
-      (subst (IsTrueTo w.tc) (sym more.2)
-      (accepted_true w.tc w.dc.system s w.dc.system.stable (w.dc.system.failures + failures_of r) k.true_to))
-      (subst (λ (x : SystemView). IsBegun w.tc.stable w.tc.session (stored_session x.log)) (sym more.2)
+      (subst (IsTrueTo w.tc) (sym more)
+      (accepted_true w.tc w.dc.system s w.dc.system.stable (failed (called w.dc.system.log_usage)) k.true_to))
+      (subst (λ (x : SystemView). IsBegun w.tc.stable w.tc.session (stored_session x.log)) (sym more)
       (later_begun w.tc.stable w.tc.session s (stored_session w.dc.system.log) most k.sessions.begun))
 ]
 
@@ -301,7 +304,7 @@ stops_checkpoint w l r v k is rec checks past to (inl h) =
 stops_checkpoint w l r v k is rec checks past to (inr h) =
     let u : SystemView = lowered w.dc.system l in
     let t : IsTrueTo w.tc u = lowered_true w l k (k.answered past) to in
-    let stopped = stops_among w.tc u u.leaves r v t t.leaves t.low h in
+    let stopped = failed_among w.tc u u.leaves v t t.leaves t.low h.1 in
     keeps_system w v k is rec checks
     (subst (LeavesCarry w.tc.log (leaves w.dc)) (sym stopped.leaves) (lowered_carries w l k (k.answered past) to))
     stopped.true_to

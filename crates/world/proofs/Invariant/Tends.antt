@@ -7,7 +7,8 @@ use Rattle.btree.specs.Leaves.{leaf_at}
 use Rattle.recovery_laws.specs.Recovery.{stored_session}
 use Rattle.system_txn.specs.Kept.{IsRecoverable}
 use Rattle.system_txn.specs.Checked.{Checks}
-use Rattle.system_txn.specs.SystemView.{SystemView, refused_so}
+use Rattle.system_txn.specs.Uses.{refused_use}
+use Rattle.system_txn.specs.SystemView.{SystemView, log_refused}
 use Rattle.system_txn.specs.Changes.{split_to, merged_to, written_to, first_large, first_pair}
 use Rattle.system_txn.specs.Gives.{Splits, Merges, SplitGives, MergeGives, TendGives, FlushGives, tending}
 use Rattle.system_txn.specs.declared.tended.Neighbours.{Neighbours}
@@ -25,7 +26,7 @@ use Rattle.world.specs.Kept.{IsKept, IsBegun}
 use Rattle.world.proofs.Invariant.AtKeys.{own_leaf, own_low}
 use Rattle.world.proofs.Invariant.Systems.{LeavesCarry, same_leaves, keeps_system}
 use Rattle.world.proofs.Invariant.Trees.{split_true, split_carries, merged_true, merged_carries}
-use Rattle.world.proofs.Invariant.Written.{covered_leaves, covered_log, written_true, refused_true, stops_true}
+use Rattle.world.proofs.Invariant.Written.{covered_leaves, covered_log, written_true, used_true, stops_true}
 
 -- what is kept where the leaves and their devices become these
 abbrev Keeps : NodeView → SystemView → Type 0
@@ -46,11 +47,12 @@ keeps_merge w p pair v k let_merge h =
     (merged_true w p k (k.answered let_merge) h.may)
     k.sessions.begun)
 
-keeps_refused : (w : NodeView) (r : Refusal) (v : SystemView) → IsKept w → v ≡ refused_so w.dc.system r → Keeps w v
+keeps_refused : (w : NodeView) (r : Refusal) (v : SystemView) → IsKept w → v ≡ log_refused w.dc.system r → Keeps w v
 keeps_refused w r v k same =
     subst (Keeps w) (sym same)
-    (λ is recoverable checks. keeps_system w (refused_so w.dc.system r) k is recoverable checks
-    (same_leaves w.tc.log (leaves w.dc)) (refused_true w.tc w.dc.system r k.true_to)
+    (λ is recoverable checks. keeps_system w (log_refused w.dc.system r) k is recoverable checks
+    (same_leaves w.tc.log (leaves w.dc))
+    (used_true w.tc w.dc.system (refused_use w.dc.system.log_usage r) w.dc.system.page_usage k.true_to)
     k.sessions.begun)
 
 split_keeps : (w : NodeView) (key : Bytes) (given : Result Neighbours Refusal) (v : SystemView) → IsKept w
@@ -84,12 +86,18 @@ merges_let None true pair p h = refl
 merges_let None false None p h = absurd (cc)
 merges_let None false (Some q) p h = absurd (cc)
 
+stops_tending : (w : NodeView) (what : gives.Tending) (r : Refusal) (v : SystemView) → IsKept w
+    → gives.StopsTending w.dc.system what r v → Keeps w v
+stops_tending w (gives.SplitsAt p) r v k h = keeps_refused w r v k h.1
+stops_tending w (gives.MergesAt p) r v k h = keeps_refused w r v k h.1
+stops_tending w gives.Rests r v k h = absurd h
+
 tend_keeps : (w : NodeView) (given : Result Tended Refusal) (v : SystemView) → IsKept w
     → TendGives w.dc.system (may_merge w.dc) given v → Keeps w v
 tend_keeps w (Ok done) v k h =
     tended_keeps w (tending w.dc.system (may_merge w.dc)) done v k
     (merges_let (first_large (leaves w.dc)) (may_merge w.dc) (first_pair (leaves w.dc))) h
-tend_keeps w (Err r) v k h = keeps_refused w r v k h.1
+tend_keeps w (Err r) v k h = stops_tending w (tending w.dc.system (may_merge w.dc)) r v k h
 
 flush_keeps : (w : NodeView) (key : Bytes) (given : Result ℕ Refusal) (v : SystemView) → IsKept w
     → FlushGives w.dc.system key given v → Keeps w v

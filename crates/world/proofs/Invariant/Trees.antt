@@ -21,7 +21,8 @@ use Rattle.btree.specs.TreeLaw.{AreHonest, AreCapturedAt}
 use Rattle.btree.proofs.AtKey.{captured_split, captured_merged, captured_raised}
 use Rattle.btree.proofs.Changing.{all_mapped}
 use Rattle.btree.proofs.Splitting.{all_split}
-use Rattle.btree.proofs.Merging.{AtPair, all_merged, pair_all, pair_with}
+use Rattle.btree.proofs.Merging.{AtPair, all_merged, both_there, pair_all, pair_with}
+use Rattle.btree.proofs.Places.{merge_within}
 use Rattle.btree.proofs.Stays.{split_honest, merged_honest}
 use Rattle.btree.proofs.Carried.{lows_raised, lows_split, lows_merged}
 use Rattle.btree.proofs.Owning.{own_leaves, the_upper, the_merged}
@@ -63,9 +64,9 @@ are_captured : (w : NodeView) (p : ℕ) → IsKept w → AnsweredAreCaptured w.t
     → AreCapturedAt w.tc.log (leaves w.dc) p
 are_captured w p k all may =
     let within = merge_within (leaves w.dc) p may in
-    let own = pair_there (λ left right. IsOwn w left × IsOwn w right) (leaves w.dc) p
+    let own = both_there (λ left right. IsOwn w left × IsOwn w right) (leaves w.dc) p
     (pair_all (IsOwn w) (leaves w.dc) p (all_own w k)) within in
-    let low = pair_there (λ left right. IsAnsweredTo w.tc left.ab.low × IsAnsweredTo w.tc right.ab.low) (leaves w.dc) p
+    let low = both_there (λ left right. IsAnsweredTo w.tc left.ab.low × IsAnsweredTo w.tc right.ab.low) (leaves w.dc) p
     (pair_all (λ (leaf : LeafView). IsAnsweredTo w.tc leaf.ab.low) (leaves w.dc) p k.true_to.low) within in
     record { left = captured_leaf w _ _ all own.0 low.1; right = captured_leaf w _ _ all own.1 low.0 }
 

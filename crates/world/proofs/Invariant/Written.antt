@@ -11,10 +11,11 @@ use Rattle.recovery_laws.specs.Recovery.{Pages, written}
 use Rattle.recovery_laws.specs.Laws.{leaf_in}
 use Rattle.recovery_laws.specs.Ready.{AllHave, IsHonestTo}
 use Rattle.record_key.proofs.Lists.{all_from}
-use Rattle.system_txn.specs.SystemView.{SystemView, refused_so}
+use Rattle.stable.specs.Usage.{Usage, failed}
+use Rattle.system_txn.specs.SystemView.{SystemView}
 use Rattle.system_txn.specs.Devices.{pages_of}
 use Rattle.system_txn.specs.Changes.{covered, forced, written_to, written_all}
-use Rattle.system_txn.specs.Gives.{HaveImages, StopsWriting, StopsAmong}
+use Rattle.system_txn.specs.Gives.{HaveImages, StopsWriting, FailsWriting, FailsAmong}
 use Rattle.system_txn.proofs.Written.{pages_written}
 use Rattle.tc_core.specs.TcView.{TcView}
 use Rattle.world.specs.Kept.{IsTrueTo, IsLowAnswered}
@@ -81,9 +82,15 @@ covered_true w v leaf h = by (nat_le leaf.last v.stable)
     by true = h
     by false = record { leaves = h.leaves; written = h.written; low = h.low; written_low = h.written_low }
 
--- the failures of a device are no part of it
-pub refused_true : (w : TcView) (v : SystemView) (r : Refusal) → IsTrueTo w v → IsTrueTo w (refused_so v r)
-refused_true w v r h = record { leaves = h.leaves; written = h.written; low = h.low; written_low = h.written_low }
+-- how the devices were used is no part of it
+pub used_true : (w : TcView) (v : SystemView) (log pages : Usage) → IsTrueTo w v
+    → IsTrueTo w (record v { log_usage = log; page_usage = pages })
+used_true w v log pages h = record {
+  leaves = h.leaves;
+  written = h.written;
+  low = h.low;
+  written_low = h.written_low;
+}
 
 pub written_all_true : (w : TcView) (v : SystemView) (leaves : List LeafView) → IsTrueTo w v → HaveImages leaves
     → AllByRecursion (IsHonestTo w.log w.stable) leaves
@@ -107,24 +114,32 @@ pub record IsStopped (w : TcView) (old v : SystemView) : Type 0 where
   pub leaves : v.leaves ≡ old.leaves
   pub log : v.log ≡ old.log
 
+pub failed_true : (w : TcView) (v : SystemView) (leaf : LeafView) (new : SystemView) → IsTrueTo w v
+    → FailsWriting v leaf new → IsStopped w v new
+failed_true w v leaf new h (inl force) =
+    subst (IsStopped w v) (sym force.1.0)
+    (record { true_to = used_true w v (failed v.log_usage) v.page_usage h; leaves = refl; log = refl })
+failed_true w v leaf new h (inr write) =
+    subst (IsStopped w v) (sym write.0)
+    (record {
+      true_to = used_true w (covered v leaf) (covered v leaf).log_usage (failed (covered v leaf).page_usage)
+          (covered_true w v leaf h);
+      leaves = covered_leaves v leaf;
+      log = covered_log v leaf;
+    })
+
 pub stops_true : (w : TcView) (v : SystemView) (leaf : LeafView) (r : Refusal) (new : SystemView) → IsTrueTo w v
     → StopsWriting v leaf r new → IsStopped w v new
-stops_true w v leaf r new h stops = elim stops.1 [
-  | inl same ↦ subst (IsStopped w v) (sym same) (record { true_to = refused_true w v r h; leaves = refl; log = refl })
-  | inr more ↦ subst (IsStopped w v) (sym more)
-      (record {
-        true_to = refused_true w (covered v leaf) r (covered_true w v leaf h);
-        leaves = covered_leaves v leaf;
-        log = covered_log v leaf;
-      })
-]
+stops_true w v leaf r new h (inl memory) =
+    subst (IsStopped w v) (sym memory.1) (record { true_to = h; leaves = refl; log = refl })
+stops_true w v leaf r new h (inr fails) = failed_true w v leaf new h fails.1
 
-pub stops_among : (w : TcView) (v : SystemView) (leaves : List LeafView) (r : Refusal) (new : SystemView)
+pub failed_among : (w : TcView) (v : SystemView) (leaves : List LeafView) (new : SystemView)
     → IsTrueTo w v → AllByRecursion (IsHonestTo w.log w.stable) leaves
-    → AllByRecursion (IsLowAnswered w) leaves → StopsAmong v leaves r new → IsStopped w v new
-stops_among w v [] r new h honest low stops = absurd stops
-stops_among w v (leaf ∷ leaves) r new h honest low (inl stops) = stops_true w v leaf r new h stops
-stops_among w v (leaf ∷ leaves) r new h honest low (inr later) =
-    let rest = stops_among w (written_to v leaf) leaves r new (written_true w v leaf h later.0 honest.0 low.0) honest.1
+    → AllByRecursion (IsLowAnswered w) leaves → FailsAmong v leaves new → IsStopped w v new
+failed_among w v [] new h honest low fails = absurd fails
+failed_among w v (leaf ∷ leaves) new h honest low (inl fails) = failed_true w v leaf new h fails
+failed_among w v (leaf ∷ leaves) new h honest low (inr later) =
+    let rest = failed_among w (written_to v leaf) leaves new (written_true w v leaf h later.0 honest.0 low.0) honest.1
     low.1 later.1 in
     record { true_to = rest.true_to; leaves = rest.leaves ∙ covered_leaves v leaf; log = rest.log ∙ covered_log v leaf }

@@ -12,7 +12,6 @@ use Rattle.record_key.specs.Table.{Bytes}
 use Rattle.page.specs.Leaf.{LeafView, first}
 use Rattle.recovery_laws.specs.Ready.{IsHonestTo}
 use Rattle.system_txn.specs.Devices.{pages_of}
-use Rattle.system_txn.specs.SystemView.{refused_so}
 use Rattle.system_txn.specs.Crashed.{crashed}
 use Rattle.system_txn.proofs.Recoverable.{recoverable_fresh}
 use Rattle.dc_core.specs.Restarting.{restarted}
@@ -23,8 +22,8 @@ use Rattle.tc_core.specs.Kept.{IsTc}
 use Rattle.tc_core.specs.TcView.{fresh}
 use Rattle.tc_core.proofs.Low.{may_none}
 use Rattle.record_key.specs.declared.refusal.Refusal.TheVariants.{NotConnected, BadRange}
-use Rattle.world.specs.Component.{DcSide}
-use Rattle.world.proofs.Restarts.Crashes.{crash_keeps, keeps_up, refused_keeps}
+use Rattle.world.specs.Component.{DcSide, dc_used}
+use Rattle.world.proofs.Restarts.Crashes.{crash_keeps, keeps_up, used_keeps}
 use Rattle.system_txn.specs.declared.tended.Tended.TheVariants as tended
 use Rattle.dc_core.specs.Kept.{IsDc}
 use Rattle.std.proofs.lemmas.List.{take_more}
@@ -179,24 +178,29 @@ follows_crash old new frames bytes _ k h = absurd h
 follows_restart : (old new : NodeView) (output : Out) → IsKept old → IsDc new.dc → RestartsDcTo old output new
     → Follows old event.RestartDc output new
 follows_restart old new (out.Up count) k is h =
-    let same : new ≡ record old { dc_up = true } =
-    h.1 ∙ ap (λ (s : DcSide). record old { dc_up = s.up; dc = s.dc }) h.0.2 in
-    at_new old new (record old { dc_up = true }) event.RestartDc (out.Up count) same (record {
-      leads = no_line old (record old { dc_up = true }) event.RestartDc (out.Up count) refl (λ m stands. stands);
-      kept = keeps_up old old.tc_up true k;
+    let dc : DcView = dc_used old.dc new.dc.system.log_usage new.dc.system.page_usage in
+    let same : new ≡ record old { dc_up = true; dc = dc } =
+    h.1 ∙ ap (λ (s : DcSide). record old { dc_up = s.up; dc = s.dc })
+    (h.0.2 ∙ ap (λ (x : DcView). record { up = true; dc = x }) h.0.3.is) in
+    at_new old new (record old { dc_up = true; dc = dc }) event.RestartDc (out.Up count) same (record {
+      leads = no_line old (record old { dc_up = true; dc = dc }) event.RestartDc (out.Up count) refl
+          (λ m stands. stands);
+      kept = keeps_up (with_dc old dc) old.tc_up true
+          (used_keeps old new.dc.system.log_usage new.dc.system.page_usage k (subst IsDc h.0.3.is is));
     })
 follows_restart old new out.Nothing k is h =
     unchanged old new event.RestartDc out.Nothing k
     (h.1 ∙ ap (λ (s : DcSide). record old { dc_up = s.up; dc = s.dc }) h.0.1) refl
 follows_restart old new (out.Refused r) k is h =
-    let dc : DcView = with_system old.dc (refused_so old.dc.system r) in
+    let dc : DcView = dc_used old.dc new.dc.system.log_usage new.dc.system.page_usage in
     let same : new ≡ record old { dc_up = false; dc = dc } =
     h.1 ∙ ap (λ (s : DcSide). record old { dc_up = s.up; dc = s.dc })
-    (h.0.1 ∙ ap (λ (x : DcView). record { up = false; dc = x }) h.0.2.1) in
+    (h.0.1 ∙ ap (λ (x : DcView). record { up = false; dc = x }) h.0.2.is) in
     at_new old new (record old { dc_up = false; dc = dc }) event.RestartDc (out.Refused r) same (record {
       leads = no_line old (record old { dc_up = false; dc = dc }) event.RestartDc (out.Refused r) refl
           (λ m stands. stands);
-      kept = keeps_up (with_dc old dc) old.tc_up false (refused_keeps old r k (subst IsDc h.0.2.1 is));
+      kept = keeps_up (with_dc old dc) old.tc_up false
+          (used_keeps old new.dc.system.log_usage new.dc.system.page_usage k (subst IsDc h.0.2.is is));
     })
 follows_restart old new _ k is h = absurd h
 

@@ -8,12 +8,12 @@ use Rattle.recovery_laws.specs.Ready.{IsHonestTo}
 use Rattle.recovery_laws.proofs.Beginnings.{whole, twice}
 use Rattle.recovery_laws.proofs.Honesty.{captures_fewer, cuts_keep_honest}
 use Rattle.ab_lsn.specs.Parting.{is_under}
-use Rattle.system_txn.specs.SystemView.{SystemView, refused_so}
+use Rattle.system_txn.specs.SystemView.{SystemView}
 use Rattle.system_txn.specs.Devices.{pages_of}
 use Rattle.system_txn.specs.Kept.{IsSystem}
 use Rattle.system_txn.specs.Crashed.{crashed}
 use Rattle.system_txn.proofs.AfterCrash.{all_recovered, have_beginning, crashed_kept, crashed_recoverable}
-use Rattle.system_txn.proofs.Checked.{crashed_checked, refused_checked}
+use Rattle.system_txn.proofs.Checked.{crashed_checked, }
 use Rattle.dc_core.specs.DcView.{DcView, leaves}
 use Rattle.dc_core.specs.Kept.{IsDc}
 use Rattle.dc_core.specs.Restarting.{restarted}
@@ -25,12 +25,14 @@ use Rattle.tc_core.specs.declared.phase.Phase.TheVariants as phase
 use Rattle.tc_core.specs.TcView.{TcView}
 use Rattle.tc_core.specs.Kept.{IsPhase}
 use Rattle.history.specs.declared.record.Record.{Record}
+use Rattle.stable.specs.Usage.{Usage}
+use Rattle.world.specs.Component.{dc_used}
 use Rattle.world.specs.Node.{NodeView, with_dc}
 use Rattle.world.specs.Kept.{IsKept, IsBegun, IsServed, IsTrueTo, IsLowAnswered}
 use Rattle.world.proofs.Invariant.Carries.{keeps_dc}
 use Rattle.world.proofs.Invariant.Running.{run_is, some_session}
 use Rattle.world.proofs.Invariant.Systems.{same_leaves, keeps_system}
-use Rattle.world.proofs.Invariant.Written.{refused_true}
+use Rattle.world.proofs.Invariant.Written.{used_true}
 
 -- ---- what was restarted keeps its own
 
@@ -137,11 +139,12 @@ keeps_up w tc_up dc_up k = record {
   checked = k.checked;
 }
 
--- a restart that is refused counts as a failure of a device at most
-pub refused_keeps : (w : NodeView) (r : Refusal) → IsKept w → IsDc (with_system w.dc (refused_so w.dc.system r))
-    → IsKept (with_dc w (with_system w.dc (refused_so w.dc.system r)))
-refused_keeps w r k is =
-    keeps_system w (refused_so w.dc.system r) k is
+-- a restart, also one that is refused, calls the devices
+pub used_keeps : (w : NodeView) (log pages : Usage) → IsKept w → IsDc (dc_used w.dc log pages)
+    → IsKept (with_dc w (dc_used w.dc log pages))
+used_keeps w log pages k is =
+    keeps_system w (record w.dc.system { log_usage = log; page_usage = pages }) k is
     (record { legal = k.recoverable.legal; current = k.recoverable.current; fit = k.recoverable.fit })
-    (refused_checked w.dc.system r) (same_leaves w.tc.log (leaves w.dc)) (refused_true w.tc w.dc.system r k.true_to)
+    (λ l c. record { leaves = c.leaves; ready = c.ready }) (same_leaves w.tc.log (leaves w.dc))
+    (used_true w.tc w.dc.system log pages k.true_to)
     k.sessions.begun

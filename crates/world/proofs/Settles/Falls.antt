@@ -385,7 +385,7 @@ falls_alone old new mid on left same f =
 falls_restarted : (old new : NodeView) (o : Out) → old.dc_up ≡ false → RestartsDcTo old o new → IsDone o
     → rounds_left new < rounds_left old
 falls_restarted old new (out.Up count) down h d =
-    let same : new ≡ record old { dc_up = true } =
+    let same : new ≡ record old { dc_up = true; dc = new.dc } =
     h.1 ∙ ap (λ (s : DcSide). record old { dc_up = s.up; dc = s.dc }) h.0.2 in
     let P : NodeView → Type 0 = λ x. rounds_left x < rounds_left old in
     subst P (sym same) (let one : down_rounds old.dc_up ≡ 1 = ap down_rounds down in omega (arith, one))

@@ -9,8 +9,6 @@ use Rattle.record_key.specs.declared.refusal.Refusal.TheVariants.{Stale, Numbers
 use Rattle.record_key.specs.FirstCause.{first_of, RefusesAs, MayRefuse}
 use Rattle.page.specs.Leaf.{LeafView}
 use Rattle.system_txn.specs.SystemView.{SystemView}
-use Rattle.system_txn.specs.Changes.{lowered, written_to}
-use Rattle.system_txn.specs.Gives.{StopsAmong}
 use Rattle.tc_core.specs.Refusing.{Refuses}
 use Rattle.range_locks.specs.declared.span.Span.{Span}
 use Rattle.range_locks.specs.declared.span.Span.TheVariants.{Key, Range}
@@ -112,21 +110,18 @@ may_want true r h = inr (inl h)
 may_want false r (inl h) = inl h
 may_want false r (inr h) = inr (inr h)
 
-writing_want : (v : SystemView) (leaves : List LeafView) (r : Refusal) (new : SystemView) → StopsAmong v leaves r new
-    → IsWant r
-writing_want v [] r new h = absurd h
-writing_want v (leaf ∷ leaves) r new (inl h) = may_want false r h.0
-writing_want v (leaf ∷ leaves) r new (inr h) = writing_want (written_to v leaf) leaves r new h.1
-
 stopped_want : (dc : DcView) (q : Request) (r : Refusal) (new : DcView) → StopsServing dc q r new → IsWant r
-stopped_want dc (asks.Connect s) r new h = may_want (is_spent (length dc.system.log)) r h.1.0
+stopped_want dc (asks.Connect s) r new h = elim h.1 [
+  | inl append ↦ may_want (is_spent (length dc.system.log)) r append.0
+  | inr force ↦ inr (inr force.1)
+]
 stopped_want dc (asks.Perform s n o) r new h = inl h.1.0
 stopped_want dc (asks.Get s n k) r new h = absurd h
 stopped_want dc (asks.Scan s n low high) r new h = inl h.0
 stopped_want dc (asks.LowWater s l) r new h = absurd h
 stopped_want dc (asks.Checkpoint s l) r new h = elim h.0 [
   | inl memory ↦ inl memory.0
-  | inr later ↦ writing_want (lowered dc.system l) (lowered dc.system l).leaves r new.system later
+  | inr later ↦ inr (inr later.0)
 ]
 stopped_want dc (asks.RedoEnd s) r new h = absurd h
 

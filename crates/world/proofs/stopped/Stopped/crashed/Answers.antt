@@ -26,7 +26,8 @@ on-found-requires c =
       forced = c.stop-log.ensures.forced;
       just = c.stop-log.ensures.just;
       pages = c.stop-log.ensures.pages;
-      failures = c.stop-log.ensures.failures;
+      log_usage = c.stop-log.ensures.log_usage;
+      page_usage = c.stop-log.ensures.page_usage;
     } in
     let crash =
     crash_of v c.args.frames c.args.bytes c.kept_of-kept.result c.end_of-end.result c.saturating_sub.result log
@@ -52,7 +53,8 @@ crash_then c =
       forced = c.stop-log.ensures.forced;
       just = c.stop-log.ensures.just;
       pages = c.stop-log.ensures.pages;
-      failures = c.stop-log.ensures.failures;
+      log_usage = c.stop-log.ensures.log_usage;
+      page_usage = c.stop-log.ensures.page_usage;
     } in
     crash_of v c.args.frames c.args.bytes c.kept_of-kept.result c.end_of-end.result c.saturating_sub.result log
     c.crash.new.self c.crash-2.new.self all

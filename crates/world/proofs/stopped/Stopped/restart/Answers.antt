@@ -1,7 +1,7 @@
-use Rattle.std.proofs.Common.{◌∙◌, sym, subst}
+use Rattle.std.proofs.Common.{sym, subst}
 use Rattle.system_txn.specs.Kept.{IsRecoverable}
 use Rattle.dc_core.specs.DcView.{DcView}
-use Rattle.world.specs.Component.{found_on, IsDownWith}
+use Rattle.world.specs.Component.{found_on, IsUp, IsDownWith}
 use Rattle.world.proofs.Restarts.Downs.{opened_is, down_with, down_kept}
 use Rattle.world.proofs.stopped.Stopped.restart.Goals as goal
 
@@ -10,9 +10,9 @@ invariant_of-result c =
     let d = c.self.inside.devices in
     let e = c.in-Err.field-0.devices in
     let is =
-    down_kept d.log e.log d.pages e.pages c.self.inside.found.log c.on-found.result.log c.in-Err.field-0.refusal
+    down_kept d.log e.log d.pages e.pages c.self.inside.found.log c.on-found.result.log
     c.self.invariant.1.1 c.self.invariant.0 c.in-Err.ensures.log_left c.on-found.ensures
-    c.in-Err.ensures.pages_left c.in-Err.ensures.failures_left in
+    c.in-Err.ensures.pages_left in
     (c.on-found.ensures, (c.in-Err.ensures.none_left, is))
 
 abbrev Recovered : DcView → Type 0
@@ -21,10 +21,11 @@ Recovered dc = IsRecoverable dc.system
 pub returns-in-Ok-clause-restarted : goal.returns-in-Ok-clause-restarted
 returns-in-Ok-clause-restarted c =
     let d = c.self.inside.devices in
-    opened_is d.log d.pages c.self.inside.found.log c.in-Ok.dc c.self.invariant.0
+    let P : DcView → Type 0 = λ old. IsUp old c.in-Ok.dc in
+    subst P c.self.view_is
+    (opened_is d.log d.pages c.self.inside.found.log c.in-Ok.dc c.self.invariant.0
     (subst Recovered (sym c.self.view_is) c.requires) c.in-Ok.ensures.recovers c.in-Ok.ensures.restarted
-    c.in-Ok.ensures.failures
-    ∙ c.self.view_is
+    c.in-Ok.ensures.log_used c.in-Ok.ensures.pages_used)
 
 pub returns-in-Err-clause-refused : goal.returns-in-Err-clause-refused
 returns-in-Err-clause-refused c =
@@ -35,5 +36,5 @@ returns-in-Err-clause-refused c =
     subst P c.self.view_is
     (down_with d.log e.log d.pages e.pages c.self.inside.found.log c.on-found.result.log c.in-Err.field-0.refusal
     c.self.invariant.1.1 (subst Recovered (sym c.self.view_is) c.requires) c.self.invariant.0
-    c.in-Err.ensures.log_left c.on-found.ensures c.in-Err.ensures.pages_left c.in-Err.ensures.failures_left
+    c.in-Err.ensures.log_left c.on-found.ensures c.in-Err.ensures.pages_left c.in-Err.ensures.stopped
     c.in-Err.ensures.refused)
