@@ -13,7 +13,7 @@ use Rattle.system_txn.specs.Devices.{pages_of}
 use Rattle.system_txn.specs.Kept.{IsSystem}
 use Rattle.system_txn.specs.Crashed.{crashed}
 use Rattle.system_txn.proofs.AfterCrash.{all_recovered, have_beginning, crashed_kept, crashed_recoverable}
-use Rattle.system_txn.proofs.Checked.{crashed_checked, }
+use Rattle.system_txn.proofs.Checked.{crashed_checked}
 use Rattle.dc_core.specs.DcView.{DcView, leaves}
 use Rattle.dc_core.specs.Kept.{IsDc}
 use Rattle.dc_core.specs.Restarting.{restarted}
