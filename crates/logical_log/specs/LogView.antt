@@ -1,5 +1,5 @@
 -- What callers see of a log, and what its calls do to it.
-use Rattle.std.specs.Prelude.{◌≡◌, ℕ, ◌+◌, Bool, false, List, [], ◌∷◌, Option, length, nat_le}
+use Rattle.std.specs.Prelude.{◌≡◌, ℕ, ◌+◌, Bool, false, List, [], ◌∷◌, Option, Result, Ok, Err, length, nat_le}
 use Rattle.record_key.specs.FirstCause.{first_of}
 use Rattle.record_key.specs.declared.refusal.Refusal.{Refusal}
 use Rattle.record_key.specs.declared.refusal.Refusal.TheVariants.{NoMemory, Device, NumbersSpent}
@@ -31,6 +31,11 @@ pub record Appends (old : LogView) (r : Record) (number : ℕ) (new : LogView) :
 abbrev pub refused_use : Usage → Refusal → Usage
 refused_use u Device = failed u
 refused_use u _ = u
+
+-- the device after one call of it that gave this answer
+abbrev pub usage_after : {T : Type 0} → Usage → Result T Refusal → Usage
+usage_after u (Ok _) = called u
+usage_after u (Err r) = refused_use u r
 
 -- the log after a call that was refused so: as it was, but for that
 abbrev pub after_refusal : LogView → Refusal → LogView

@@ -1,5 +1,5 @@
 //! The frames of records, one after another, with an index of their places and of answers.
-ghost use Rattle.std.specs.Prelude.{◌≡◌, ◌+◌, ◌≤◌, ◌<◌, ◌^◌, ◌↔◌, ◌++◌, ◌∷◌, [], ℕ, List, length, ◌⊎◌, None, IsTrue, IfSome, IfNone, OnOk, OnErr, IfErr};
+ghost use Rattle.std.specs.Prelude.{◌≡◌, ◌+◌, ◌≤◌, ◌<◌, ◌^◌, ◌↔◌, ◌++◌, ◌∷◌, [], ℕ, List, length, ◌⊎◌, None, IsTrue, IfSome, IfNone, OnOk, OnErr, IfErr, IsErrOf};
 ghost use Rattle.history.specs.Log.{record_at, answer_of, request_in, step_in};
 ghost use Rattle.history.specs.Legal.{Fits, IsLegal};
 ghost use Rattle.history.specs.Chains.{undo_from};
@@ -8,7 +8,9 @@ ghost use Rattle.codec.specs.FrameIndex.{places_of, Indexes};
 ghost use Rattle.codec.specs.Frames.{frame, IfTaken, IfBad, IsThere, IsCut};
 ghost use Rattle.codec.specs.Records.{record_bytes, HasNumbers, IsRecord};
 ghost use Rattle.logical_log.specs.Index.{is_answered};
-ghost use Rattle.record_key.specs.FirstCause.{MayRefuse, failures_in};
+ghost use Rattle.record_key.specs.FirstCause.{MayRefuse};
+ghost use Rattle.stable.specs.Usage.{is_due};
+ghost use Rattle.logical_log.specs.LogView.{usage_after};
 ghost use Rattle.logical_log.specs.Low.{stable_part};
 ghost use Rattle.logical_log.specs.Spelled.{spelled, AreRecords, IsNext, IsPlaceOf};
 
@@ -200,7 +202,8 @@ impl Frames {
         ensures not_written { OnErr result (D.pending device.new ≡ D.pending device.old) }
         ensures forced { D.forced device.new ≡ D.forced device.old }
         ensures cause { IfErr result (MayRefuse None) }
-        ensures failures { D.failures device.new ≡ D.failures device.old + failures_in result }
+        ensures device { IsErrOf result Refusal.Device → IsTrue (is_due (D.usage device.old)) }
+        ensures used { D.usage device.new ≡ usage_after (D.usage device.old) result }
     {
         self.index.reserve()?;
         self.answers.reserve(1)?;

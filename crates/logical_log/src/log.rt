@@ -34,7 +34,7 @@ impl<D: LogDevice> Model for Log<D> {
     ghost view = { λ l. record {
       records = l.frames.records;
       stable = l.stable;
-      failures = D.failures l.device;
+      usage = D.usage l.device;
     } };
 
     ghost invariant = { λ l. IsKept D.forces_whole l.frames l.stable l.answered
@@ -45,7 +45,7 @@ impl<D: LogDevice> Log<D> {
     /// The log of no records, on an empty device.
     pub fn new(alloc: Global, device: D) -> Log<D>
         requires empty { (D.forced device ≡ []) × (D.pending device ≡ []) }
-        ensures { result ≡ record { records = []; stable = 0; failures = D.failures device } }
+        ensures { result ≡ record { records = []; stable = 0; usage = D.usage device } }
     {
         Log {
             device,
@@ -62,7 +62,7 @@ impl<D: LogDevice> Log<D> {
         ensures forced { BeginsWith (D.forced result) (spelled (stable_part self.records self.stable)) }
         ensures just { D.forces_whole ≡ true → D.forced result ≡ spelled (stable_part self.records self.stable) }
         ensures spellable { AreRecords self.records }
-        ensures failures { D.failures result ≡ self.failures }
+        ensures usage { D.usage result ≡ self.usage }
     {
         // Called for what it tells of the records: each has a spelling.
         let _count = self.frames.len();

@@ -3,8 +3,8 @@ ghost use Rattle.std.specs.Prelude.{◌≡◌, ◌⊎◌, ◌+◌, ◌<◌, ◌�
 ghost use Rattle.history.specs.Legal.{Fits, FitsCheckpoint};
 ghost use Rattle.codec.specs.Frames.{frame, IsCut};
 ghost use Rattle.codec.specs.Records.{record_bytes};
-ghost use Rattle.record_key.specs.FirstCause.{failures_in, failures_of};
-ghost use Rattle.logical_log.specs.Opening.{BeginsAs, IsLogOf, RefusesBytes, RefusesOpen};
+ghost use Rattle.stable.specs.Usage.{called, called_often};
+ghost use Rattle.logical_log.specs.Opening.{BeginsAs, IsLogOf, RefusesBytes, RefusesOpen, cut_calls, FailsDue, UsedToRead, UsedToOpen};
 ghost use Rattle.logical_log.specs.Replay.{IsIndex};
 ghost use Rattle.logical_log.specs.Spelled.{spelled, IsNext};
 
@@ -34,11 +34,12 @@ impl<D: LogDevice> Log<D> {
         requires all_forced { D.pending device ≡ [] }
         ensures opened { IfOk result (λ log. IsLogOf (D.forced device) log.records) }
         ensures all_stable { IfOk result (λ log. log.stable ≡ length log.records) }
-        ensures failures { IfOk result (λ log. log.failures ≡ D.failures device) }
+        ensures usage { IfOk result (λ log.
+            log.usage ≡ called_often (1 + cut_calls (D.forced device) log.records) (D.usage device)) }
         ensures refused { IfErr result (λ left. RefusesOpen (D.forced device) left.refusal) }
         ensures forced { IfErr result (λ left. D.forced left.device ≡ D.forced device) }
         ensures none_pending { IfErr result (λ left. D.pending left.device ≡ []) }
-        ensures told { IfErr result (λ left. D.failures left.device ≡ D.failures device + failures_of left.refusal) }
+        ensures used { IfErr result (λ left. UsedToOpen (D.usage device) left.refusal (D.usage left.device)) }
     {
         let mut device = device;
         let bytes = match all_bytes(alloc, &mut device) {
@@ -69,7 +70,8 @@ fn all_bytes<D: LogDevice>(alloc: Global, device: &mut D) -> Result<Vec<u8>, Ref
     ensures forced { D.forced device.new ≡ D.forced device.old }
     ensures pending { D.pending device.new ≡ D.pending device.old }
     ensures cause { IfErr result (λ given. (given ≡ Refusal.Device) ⊎ (given ≡ Refusal.NoMemory)) }
-    ensures failures { D.failures device.new ≡ D.failures device.old + failures_in result }
+    ensures called { OnOk result (D.usage device.new ≡ called (D.usage device.old)) }
+    ensures used { IfErr result (λ given. UsedToRead (D.usage device.old) given (D.usage device.new)) }
 {
     match device.bytes() {
         Ok(bytes) => Ok(Vec::from_slice(alloc, bytes)?),
@@ -86,7 +88,9 @@ fn cut_left<D: LogDevice>(device: &mut D, frames: &mut Frames) -> Result<(), Ref
     ensures uncut { OnErr result (D.forced device.new ≡ D.forced device.old) }
     ensures pending { D.pending device.new ≡ [] }
     ensures cause { IfErr result (λ given. given ≡ Refusal.Device) }
-    ensures failures { D.failures device.new ≡ D.failures device.old + failures_in result }
+    ensures called { OnOk result (D.usage device.new
+        ≡ called_often (cut_calls (D.forced device.old) frames.old.records) (D.usage device.old)) }
+    ensures failed { OnErr result (FailsDue (D.usage device.old) (D.usage device.new)) }
 {
     if frames.is_read() {
         return Ok(());

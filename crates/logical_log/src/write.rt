@@ -1,10 +1,11 @@
 //! What changes the log.
-ghost use Rattle.std.specs.Prelude.{◌≡◌, ◌+◌, ◌++◌, None, length, OnOk, OnErr, IfOk, IfErr};
+ghost use Rattle.std.specs.Prelude.{◌≡◌, ◌++◌, None, length, IsTrue, OnOk, OnErr, IfOk, IfErr, IsErrOf};
 ghost use Rattle.history.specs.Legal.{Fits};
 ghost use Rattle.codec.specs.Frames.{frame};
 ghost use Rattle.codec.specs.Records.{record_bytes, HasNumbers, IsRecord};
-ghost use Rattle.record_key.specs.FirstCause.{MayRefuse, failures_in};
-ghost use Rattle.logical_log.specs.LogView.{Appends, spent_refusal, after_refusal, refusal_from};
+ghost use Rattle.record_key.specs.FirstCause.{MayRefuse};
+ghost use Rattle.stable.specs.Usage.{is_due, called};
+ghost use Rattle.logical_log.specs.LogView.{Appends, spent_refusal, after_refusal, usage_after, refusal_from};
 
 use crate::log::Log;
 use codec::put_record;
@@ -23,6 +24,7 @@ impl<D: LogDevice> Log<D> {
         requires numbers { HasNumbers appended.now }
         ensures appended { IfOk result (λ number. Appends self.old appended.now number self.new) }
         ensures refused { IfErr result (MayRefuse (spent_refusal self.old.records)) }
+        ensures device { IsErrOf result Refusal.Device → IsTrue (is_due self.old.usage) }
         ensures left { IfErr result (λ refusal. self.new ≡ after_refusal self.old refusal) }
     {
         if self.len() >= LAST_NUMBER {
@@ -35,8 +37,12 @@ impl<D: LogDevice> Log<D> {
     /// Makes every record stable, in one device call, and answers the number of the last. The one refusal is Device.
     pub fn force(&mut self) -> Result<u64, Refusal>
         ensures end { IfOk result (λ end. end ≡ length self.old.records) }
-        ensures forced { OnOk result (self.new ≡ record self.old { stable = length self.old.records }) }
+        ensures forced { OnOk result (self.new ≡ record self.old {
+          stable = length self.old.records;
+          usage = called self.old.usage;
+        }) }
         ensures refused { IfErr result (λ refusal. refusal ≡ Refusal.Device) }
+        ensures device { IsErrOf result Refusal.Device → IsTrue (is_due self.old.usage) }
         ensures left { IfErr result (λ refusal. self.new ≡ after_refusal self.old refusal) }
     {
         let end = self.len();
@@ -64,7 +70,8 @@ pub(crate) fn write<D: LogDevice>(
     ensures not_written { OnErr result (D.pending device.new ≡ D.pending device.old) }
     ensures forced { D.forced device.new ≡ D.forced device.old }
     ensures cause { IfErr result (MayRefuse None) }
-    ensures failures { D.failures device.new ≡ D.failures device.old + failures_in result }
+    ensures device { IsErrOf result Refusal.Device → IsTrue (is_due (D.usage device.old)) }
+    ensures used { D.usage device.new ≡ usage_after (D.usage device.old) result }
     ensures has_spelling { IsRecord appended.now }
 {
     let place = bytes.len();

@@ -2,18 +2,17 @@
 ghost use Rattle.std.specs.Prelude.{true, ◌≡◌, ◌++◌, ◌+◌, ◌≤◌, ℕ, Some, [], length, IfOk, IfErr, OnOk};
 ghost use Rattle.std.specs.BTreeMap.{get};
 ghost use Rattle.std.specs.Ordering.{nat_cmp};
-ghost use Rattle.record_key.specs.FirstCause.{failures_of};
 ghost use Rattle.stable.specs.Crash.{BeginsWith};
 ghost use Rattle.history.specs.Log.{record_at};
 ghost use Rattle.logical_log.specs.Low.{stable_part};
-ghost use Rattle.logical_log.specs.Opening.{RefusesOpen};
+ghost use Rattle.logical_log.specs.Opening.{RefusesOpen, UsedToOpen};
 ghost use Rattle.logical_log.specs.Replay.{KeptOf};
 ghost use Rattle.logical_log.specs.Spelled.{spelled, AreRecords};
 ghost use Rattle.range_locks.specs.Rebuilt.{listed_spans};
 ghost use Rattle.restart.specs.Losers.{AreLosers};
 ghost use Rattle.restart.specs.Plan.{IsRedoStart};
 ghost use Rattle.tc_core.specs.Locking.{op_spans};
-ghost use Rattle.tc_core.specs.Opening.{key_noted, spans_if, HoldsOpen, IsOpened, AreLeft};
+ghost use Rattle.tc_core.specs.Opening.{key_noted, spans_if, HoldsOpen, IsOpened};
 ghost use Rattle.tc_core.specs.Kept.{IsTc};
 ghost use Rattle.tc_core.specs.Seen.{seen};
 
@@ -35,11 +34,11 @@ impl<D: LogDevice> Parts<D> {
     pub fn open(alloc: Global, device: D) -> Result<Parts<D>, Refused<D>>
         requires all_forced { D.pending device ≡ [] }
         ensures kept { IfOk result (λ parts. IsTc (seen parts)) }
-        ensures opened { IfOk result (λ parts. IsOpened (D.forced device) (D.failures device) (seen parts)) }
+        ensures opened { IfOk result (λ parts. IsOpened (D.forced device) (D.usage device) (seen parts)) }
         ensures refused { IfErr result (λ left. RefusesOpen (D.forced device) left.refusal) }
-        ensures left { IfErr result (λ left. AreLeft (D.forced device) (D.forced left.device)) }
+        ensures forced { IfErr result (λ left. D.forced left.device ≡ D.forced device) }
         ensures none_pending { IfErr result (λ left. D.pending left.device ≡ []) }
-        ensures told { IfErr result (λ left. D.failures left.device ≡ D.failures device + failures_of left.refusal) }
+        ensures used { IfErr result (λ left. UsedToOpen (D.usage device) left.refusal (D.usage left.device)) }
     {
         let log = match Log::open(alloc, device) {
             Ok(log) => log,
@@ -72,7 +71,7 @@ impl<D: LogDevice> Parts<D> {
         ensures just { D.forces_whole ≡ true
             → D.forced result ≡ spelled (stable_part self.log.records self.log.stable) }
         ensures spellable { AreRecords self.log.records }
-        ensures failures { D.failures result ≡ self.log.failures }
+        ensures usage { D.usage result ≡ self.log.usage }
     {
         self.log.stop()
     }

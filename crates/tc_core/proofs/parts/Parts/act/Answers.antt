@@ -1,4 +1,4 @@
-use Rattle.std.proofs.Common.{◌≡◌, ◌∷◌, subst, Some, inr, ◌∙◌}
+use Rattle.std.proofs.Common.{◌≡◌, ◌∷◌, subst, Some, inr, ◌∙◌, ap, Err}
 use Rattle.history.specs.declared.record.Record.TheVariants.{Op}
 use Rattle.history.specs.Spans.{Span, at_key, changed_span}
 use Rattle.range_locks.specs.Meant.{mode_of}
@@ -82,5 +82,5 @@ returns-in-Err-clause-gives g c =
     (inr (
       free,
       refuses w (is_spent w.log) c.in-Err.refusal c.append.new.self c.in-Err.ensures.refused
-          c.in-Err.ensures.left c.in-Err.ensures.device,
+          c.in-Err.ensures.left (λ e. c.in-Err.ensures.device (ap Err e)),
     ))

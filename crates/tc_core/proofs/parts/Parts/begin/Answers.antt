@@ -1,4 +1,4 @@
-use Rattle.std.proofs.Common.{◌≡◌, ◌∙◌, ◌∷◌, ◌+◌, ap, refl}
+use Rattle.std.proofs.Common.{◌≡◌, ◌∙◌, ◌∷◌, ◌+◌, ap, refl, Err}
 use Rattle.tc_core.specs.OpenTxns.{AreBelow, without}
 use Rattle.tc_core.specs.Seen.{seen}
 use Rattle.tc_core.proofs.Finding.{without_new}
@@ -35,4 +35,4 @@ returns-in-Err-clause-gives g c =
     let unspent = c.in_ok-can_begin.ensures.unspent in
     rw (c.in_ok-can_begin.ensures.allowed, left g c)
     (refuses_unspent w unspent c.in-Err.refusal c.append.new.self c.in-Err.ensures.refused c.in-Err.ensures.left
-    c.in-Err.ensures.device)
+    (λ e. c.in-Err.ensures.device (ap Err e)))

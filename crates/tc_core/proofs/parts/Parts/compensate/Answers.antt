@@ -1,4 +1,4 @@
-use Rattle.std.proofs.Common.{◌≡◌, ℕ, ◌<◌, is_some, refl, sym, ap, subst, ◌∙◌}
+use Rattle.std.proofs.Common.{◌≡◌, ℕ, ◌<◌, is_some, refl, sym, ap, subst, ◌∙◌, Err}
 use Rattle.history.specs.declared.record.Record.TheVariants.{Comp}
 use Rattle.history.specs.declared.record.Record.{Record}
 use Rattle.history.specs.Legal.{Fits}
@@ -68,7 +68,7 @@ returns-in-Err-clause-gives g c =
     let may = c.requires.may_step in
     let above = (it_is w c.args.txn c.args.rollback may c.args.compensation.now c.requires.kept c.requires.next).1 in
     refuses_step w c.args.txn c.args.rollback may (logs_comp w c.args.txn c.args.rollback may above) c.in-Err.refusal
-    c.append.new.self c.in-Err.ensures.refused c.in-Err.ensures.left c.in-Err.ensures.device
+    c.append.new.self c.in-Err.ensures.refused c.in-Err.ensures.left (λ e. c.in-Err.ensures.device (ap Err e))
 
 pub returns-clause-kept : goal.returns-clause-kept
 returns-clause-kept g c =
