@@ -14,6 +14,7 @@ use Rattle.codec.specs.declared.request.Request.{Request}
 use Rattle.codec.specs.declared.request.Request.TheVariants as asks
 use Rattle.codec.specs.declared.reply.Reply.{Reply}
 use Rattle.codec.specs.Replies.{has_rows}
+use Rattle.stable.specs.Usage.{unused}
 use Rattle.dc_core.specs.DcView.{DcView, fresh as fresh_dc}
 use Rattle.dc_core.specs.Serves.{ServeGives, serve_refusal}
 use Rattle.dc_core.specs.Tends.{SplitsTo, MergesTo, TendsTo, FlushesTo}
@@ -56,7 +57,14 @@ pub record AreUp (w : NodeView) : Type 0 where
 
 -- nothing is logged, stored or sent
 abbrev pub fresh_node : NodeView
-fresh_node = record { tc_up = true; tc = fresh 0; dc_up = true; dc = fresh_dc 0; requests = []; replies = [] }
+fresh_node = record {
+  tc_up = true;
+  tc = fresh unused;
+  dc_up = true;
+  dc = fresh_dc unused unused;
+  requests = [];
+  replies = [];
+}
 
 -- the transaction component is in this state; the rest stays
 abbrev pub with_tc : NodeView → TcView → NodeView

@@ -1,5 +1,6 @@
 //! The data component, which runs or is down.
 ghost use Rattle.std.specs.Prelude.{◌≡◌, true, IfOk, IfErr};
+ghost use Rattle.stable.specs.Usage.{unused};
 ghost use Rattle.dc_core.specs.DcView.{fresh};
 ghost use Rattle.dc_core.specs.Kept.{IsDc};
 ghost use Rattle.system_txn.specs.Kept.{IsRecoverable};
@@ -22,7 +23,7 @@ pub enum DataComponent {
 impl DataComponent {
     /// One that runs, of no records, and has taken no session.
     pub fn new(alloc: Global) -> Result<DataComponent, Refusal>
-        ensures fresh { IfOk result (λ component. dc_of component ≡ record { up = true; dc = fresh 0 }) }
+        ensures fresh { IfOk result (λ component. dc_of component ≡ record { up = true; dc = fresh unused unused }) }
         ensures memory { IfErr result (λ refusal. refusal ≡ Refusal.NoMemory) }
     {
         Ok(DataComponent::Up(Dc::new(alloc, MemLog::new(alloc), MemPages::new(alloc))?))

@@ -75,7 +75,7 @@ impl Node {
         if has_reply(&request) {
             attempt!(self.replies.make_room());
         }
-        match attempt!(dc.serve(&request)) {
+        match attempt!(dc.serve_allowed(&request)) {
             None => Out::Noted,
             Some(reply) => {
                 // Only rows may lack room, and whoever reads them changes nothing.

@@ -1,5 +1,6 @@
 //! The transaction component, which runs or is down.
 ghost use Rattle.std.specs.Prelude.{◌≡◌, true};
+ghost use Rattle.stable.specs.Usage.{unused};
 ghost use Rattle.tc_core.specs.TcView.{fresh};
 ghost use Rattle.tc_core.specs.Kept.{IsTc};
 ghost use Rattle.world.specs.Component.{TcCrashesTo, TcRestartsTo};
@@ -21,7 +22,7 @@ pub enum TransactionComponent {
 impl TransactionComponent {
     /// One that runs, with an empty log and no session.
     pub fn new(alloc: Global) -> TransactionComponent
-        ensures { tc_of result ≡ record { up = true; tc = fresh 0 } }
+        ensures { tc_of result ≡ record { up = true; tc = fresh unused } }
     {
         TransactionComponent::Up(Tc::new(alloc, MemLog::new(alloc)))
     }

@@ -19,6 +19,7 @@ use Rattle.dc_core.specs.Serves.{with_system}
 use Rattle.dc_core.proofs.Recoverable.{recoverable_served}
 use Rattle.dc_core.proofs.Checked.{checked_served, fresh_checked}
 use Rattle.tc_core.specs.Kept.{IsTc}
+use Rattle.stable.specs.Usage.{unused}
 use Rattle.tc_core.specs.TcView.{fresh}
 use Rattle.tc_core.proofs.Low.{may_none}
 use Rattle.record_key.specs.declared.refusal.Refusal.TheVariants.{NotConnected, BadRange}
@@ -262,15 +263,15 @@ first_honest = record {
   within = λ n captured. grind (arith, nat_tests, captured);
 }
 
-low_answered : IsAnsweredTo (fresh 0) 0
+low_answered : IsAnsweredTo (fresh unused) 0
 low_answered = may_none []
 
-pub kept_fresh : IsDc (fresh_dc 0) → IsKept fresh_node
+pub kept_fresh : IsDc (fresh_dc unused unused) → IsKept fresh_node
 kept_fresh is = record {
   tc = fresh_tc;
   right = tt;
   dc = is;
-  recoverable = recoverable_fresh 0;
+  recoverable = recoverable_fresh unused unused;
   true_to = record {
     leaves = (first_honest, tt);
     written = record { first_leaf = first_honest; page = λ id page h. absurd (no_page id page h); logged = tt };
@@ -282,7 +283,7 @@ kept_fresh is = record {
   sent = tt;
   given = tt;
   sessions = record { begun = record { recorded = omega arith; most = λ some. omega arith }; served = tt };
-  checked = fresh_checked 0;
+  checked = fresh_checked unused unused;
 }
   where
     no_page : (id : ℕ) (page : LeafView) → pages_of map.empty id ≡ Some page → ⊥
