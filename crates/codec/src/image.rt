@@ -77,6 +77,7 @@ pub fn put_leaf_image(out: &mut Vec<u8>, image: &LeafImageRef<'_>) -> Result<(),
     ensures refused { OnErr result (out.new.items ≡ out.old.items) }
     ensures cause { IfErr result (λ refusal. refusal ≡ Refusal.NoMemory) }
     ensures room { OnErr result (vec_capacity out.old < vec_len out.old + length (image_bytes (image_in image.now))) }
+    ensures room_kept { vec_capacity out.old ≤ vec_capacity out.new }
 {
     let Some(length) = leaf_image_len(image) else {
         return Err(Refusal::NoMemory);

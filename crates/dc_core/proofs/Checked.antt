@@ -13,6 +13,7 @@ use Rattle.system_txn.specs.declared.tended.Neighbours.{Neighbours}
 use Rattle.system_txn.specs.declared.tended.Tended.{Tended}
 use Rattle.system_txn.proofs.Checked as systems
 use Rattle.system_txn.proofs.Checkpointed.{checkpoint_reaches}
+use Rattle.stable.specs.Usage.{Usage}
 use Rattle.dc_core.specs.DcView.{DcView, fresh, captures_at}
 use Rattle.dc_core.specs.Kept.{IsDc}
 use Rattle.dc_core.specs.Serves.{runs, serve_refusal, Serves, Stops, StopsUnless, ServeGives}
@@ -98,8 +99,8 @@ checked_flush old k given new kept h gives =
 
 -- ---- where a number is checked first
 
-pub fresh_checked : (failures : ℕ) → IsChecked 0 (fresh failures).system
-fresh_checked failures = systems.fresh_checked failures
+pub fresh_checked : (log_usage page_usage : Usage) → IsChecked 0 (fresh log_usage page_usage).system
+fresh_checked log_usage page_usage = systems.fresh_checked log_usage page_usage
 
 -- from the reply on
 pub checkpoint_checked : (old : DcView) (s l : ℕ) (reply : Option Reply) (new : DcView) → IsDc old

@@ -21,6 +21,7 @@ use Rattle.btree.proofs.Owning.{own_leaves}
 use Rattle.btree.proofs.Stays.{performs_one}
 use Rattle.recovery_laws.specs.Recovery.{stored_session}
 use Rattle.recovery_laws.specs.Shape.{beginning}
+use Rattle.stable.specs.Usage.{Usage}
 use Rattle.system_txn.specs.SystemView.{SystemView, fresh as fresh_system}
 use Rattle.system_txn.specs.Kept.{IsSystem}
 use Rattle.dc_core.specs.declared.performance.Performance.{Performance}
@@ -226,8 +227,9 @@ keeps_opened v stored opened ps is stable greatest rows none =
     })
 
 -- the first leaf has no records
-pub first_rows : (v : SystemView) (opened : Table) (failures : ℕ) → v ≡ fresh_system failures
+pub first_rows : (v : SystemView) (opened : Table) (log_usage page_usage : Usage)
+    → v ≡ fresh_system log_usage page_usage
     → opened ≡ rows_of v.leaves → opened ≡ map.empty
-first_rows v opened failures same rows =
+first_rows v opened log_usage page_usage same rows =
     rows ∙ ap (λ (x : SystemView). rows_of x.leaves) same ∙ ap table_of (append-nil (map.entries map.empty))
     ∙ table_again map.empty

@@ -19,11 +19,12 @@ use Rattle.btree.proofs.Splitting.{leaf_split}
 use Rattle.btree.proofs.Stays.{raised_stays, split_stays, merged_stays}
 use Rattle.recovery_laws.specs.Recovery.{stored_session}
 use Rattle.recovery_laws.specs.Shape.{beginning}
-use Rattle.system_txn.specs.SystemView.{SystemView, refused_so}
+use Rattle.stable.specs.Usage.{Usage}
+use Rattle.system_txn.specs.SystemView.{SystemView, with_usage, log_refused}
 use Rattle.system_txn.specs.Kept.{IsSystem}
 use Rattle.system_txn.specs.Changes.{next_id, next_number, lowered, covered, forced, written_to, written_all}
 use Rattle.system_txn.specs.Gives as gives
-use Rattle.system_txn.specs.Gives.{Splits, Merges, SplitGives, MergeGives, TendGives, FlushGives, CheckpointGives, StopsWriting, StopsAmong, tending}
+use Rattle.system_txn.specs.Gives.{Splits, Merges, SplitGives, MergeGives, TendGives, FlushGives, CheckpointGives, FailsWriting, FailsAmong, tending}
 use Rattle.system_txn.specs.declared.tended.Neighbours.{Neighbours}
 use Rattle.system_txn.specs.declared.tended.Tended.{Tended}
 use Rattle.system_txn.specs.declared.tended.Tended.TheVariants as tended
@@ -32,6 +33,7 @@ use Rattle.dc_core.specs.DcView.{DcView, leaves, captures_at}
 use Rattle.dc_core.specs.Serves.{with_system}
 use Rattle.dc_core.specs.Kept.{IsDc, Saves, IsListed, AreListed}
 use Rattle.dc_core.proofs.KeepsDc.{Carries, keeps_carried, same_leaves}
+use Rattle.system_txn.proofs.Keeps.{keeps_usage}
 use Rattle.dc_core.proofs.Stored.{stored_grown, stored_forced}
 
 -- ---- a leaf parted
@@ -159,22 +161,22 @@ all_alike v (leaf ∷ ls) =
     alike_then v (written_to v leaf) (written_all (written_to v leaf) ls) (written_alike v leaf)
     (all_alike (written_to v leaf) ls)
 
-refused_alike : (old v : SystemView) (r : Refusal) → IsAlike old v → IsAlike old (refused_so v r)
-refused_alike old v r h = record { leaves = h.leaves; stored = h.stored }
+usage_alike : (old v : SystemView) (log_usage page_usage : Usage) → IsAlike old v
+    → IsAlike old (with_usage v log_usage page_usage)
+usage_alike old v log_usage page_usage h = record { leaves = h.leaves; stored = h.stored }
 
-stops_alike : (v : SystemView) (leaf : LeafView) (r : Refusal) (new : SystemView) → StopsWriting v leaf r new
-    → IsAlike v new
-stops_alike v leaf r new h = elim h.1 [
-  | inl same ↦ subst (IsAlike v) (sym same) (refused_alike v v r (alike_itself v))
-  | inr more ↦ subst (IsAlike v) (sym more) (refused_alike v (covered v leaf) r (covered_alike v leaf))
-]
+failed_alike : (v : SystemView) (leaf : LeafView) (new : SystemView) → FailsWriting v leaf new → IsAlike v new
+failed_alike v leaf new (inl force) =
+    subst (IsAlike v) (sym force.1.0) (usage_alike v v _ v.page_usage (alike_itself v))
+failed_alike v leaf new (inr write) =
+    subst (IsAlike v) (sym write.0)
+    (usage_alike v (covered v leaf) (covered v leaf).log_usage _ (covered_alike v leaf))
 
-among_alike : (v : SystemView) (ls : List LeafView) (r : Refusal) (new : SystemView) → StopsAmong v ls r new
-    → IsAlike v new
-among_alike v [] r new h = absurd h
-among_alike v (leaf ∷ ls) r new (inl h) = stops_alike v leaf r new h
-among_alike v (leaf ∷ ls) r new (inr h) =
-    alike_then v (written_to v leaf) new (written_alike v leaf) (among_alike (written_to v leaf) ls r new h.1)
+among_alike : (v : SystemView) (ls : List LeafView) (new : SystemView) → FailsAmong v ls new → IsAlike v new
+among_alike v [] new h = absurd h
+among_alike v (leaf ∷ ls) new (inl h) = failed_alike v leaf new h
+among_alike v (leaf ∷ ls) new (inr h) =
+    alike_then v (written_to v leaf) new (written_alike v leaf) (among_alike (written_to v leaf) ls new h.1)
 
 carries_alike : (w : DcView) (u v : SystemView) → Carries w u → IsAlike u v → Carries w v
 carries_alike w u v c h = record {
@@ -192,10 +194,18 @@ carries_alike w u v c h = record {
 carries_same : (w : DcView) → IsDc w → Carries w w.system
 carries_same w k = same_leaves w w.system k refl (omega arith)
 
-carries_refused : (w : DcView) (r : Refusal) (v : SystemView) → IsDc w → v ≡ refused_so w.system r → Carries w v
+carries_refused : (w : DcView) (r : Refusal) (v : SystemView) → IsDc w → v ≡ log_refused w.system r → Carries w v
 carries_refused w r v k same =
-    subst (Carries w) (sym same) (carries_alike w w.system (refused_so w.system r) (carries_same w k)
-    (refused_alike w.system w.system r (alike_itself w.system)))
+    subst (Carries w) (sym same) (carries_alike w w.system (log_refused w.system r) (carries_same w k)
+    (usage_alike w.system w.system _ w.system.page_usage (alike_itself w.system)))
+
+-- however the devices were used
+pub usage_keeps : (w : DcView) (log_usage page_usage : Usage) → IsDc w
+    → IsDc (with_system w (with_usage w.system log_usage page_usage))
+usage_keeps w log_usage page_usage k =
+    keeps_carried w (with_usage w.system log_usage page_usage) k (keeps_usage w.system log_usage page_usage k.system)
+    (carries_alike w w.system (with_usage w.system log_usage page_usage) (carries_same w k)
+    (usage_alike w.system w.system log_usage page_usage (alike_itself w.system)))
 
 pub split_keeps : (w : DcView) (key : Bytes) (given : Result Neighbours Refusal) (v : SystemView) → IsDc w → IsSystem v
     → SplitGives w.system key given v → IsDc (with_system w v)
@@ -219,19 +229,28 @@ carries_tended w (gives.MergesAt p) tended.Nothing v k h = absurd h
 carries_tended w gives.Rests (tended.Split pair) v k h = absurd h
 carries_tended w gives.Rests (tended.Merged pair) v k h = absurd h
 
+carries_untended : (w : DcView) (what : gives.Tending) (r : Refusal) (v : SystemView) → IsDc w
+    → gives.StopsTending w.system what r v → Carries w v
+carries_untended w (gives.SplitsAt p) r v k h = carries_refused w r v k h.1
+carries_untended w (gives.MergesAt p) r v k h = carries_refused w r v k h.1
+carries_untended w gives.Rests r v k h = absurd h
+
 pub tend_keeps : (w : DcView) (merges : Bool) (given : Result Tended Refusal) (v : SystemView) → IsDc w → IsSystem v
     → TendGives w.system merges given v → IsDc (with_system w v)
 tend_keeps w merges (Ok done) v k is h = keeps_carried w v k is (carries_tended w (tending w.system merges) done v k h)
-tend_keeps w merges (Err r) v k is h = keeps_carried w v k is (carries_refused w r v k h.1)
+tend_keeps w merges (Err r) v k is h =
+    keeps_carried w v k is (carries_untended w (tending w.system merges) r v k h)
 
 pub flush_keeps : (w : DcView) (key : Bytes) (given : Result ℕ Refusal) (v : SystemView) → IsDc w → IsSystem v
     → FlushGives w.system key given v → IsDc (with_system w v)
 flush_keeps w key (Ok id) v k is h =
     keeps_carried w v k is (subst (Carries w) (sym h.2)
     (carries_alike w w.system _ (carries_same w k) (written_alike w.system (leaf_at (leaves w) key))))
-flush_keeps w key (Err r) v k is h =
+flush_keeps w key (Err r) v k is (inl memory) =
+    keeps_carried w v k is (subst (Carries w) (sym memory.1) (carries_same w k))
+flush_keeps w key (Err r) v k is (inr fails) =
     keeps_carried w v k is (carries_alike w w.system v (carries_same w k)
-    (stops_alike w.system (leaf_at (leaves w) key) r v h))
+    (failed_alike w.system (leaf_at (leaves w) key) v fails.1))
 
 pub lower_keeps : (w : DcView) (l : ℕ) → IsDc w → IsSystem (lowered w.system l)
     → IsDc (with_system w (lowered w.system l))
@@ -246,4 +265,4 @@ checkpoint_keeps w l (Ok done) v k is h =
 checkpoint_keeps w l (Err r) v k is (inl h) = keeps_carried w v k is (subst (Carries w) (sym h.1) (carries_same w k))
 checkpoint_keeps w l (Err r) v k is (inr h) =
     let u : SystemView = lowered w.system l in
-    keeps_carried w v k is (carries_alike w u v (carries_lowered w l k) (among_alike u u.leaves r v h))
+    keeps_carried w v k is (carries_alike w u v (carries_lowered w l k) (among_alike u u.leaves v h.1))

@@ -8,6 +8,7 @@ use Rattle.btree.specs.Leaves.{leaf_at}
 use Rattle.page.specs.declared.leaf.Done.{Done}
 use Rattle.page.specs.declared.leaf.Done.TheVariants.{Performed, Repeated}
 use Rattle.page.specs.Leaf.{LeafView}
+use Rattle.stable.specs.Usage.{Usage}
 use Rattle.system_txn.specs.SystemView.{SystemView, fresh as fresh_system}
 use Rattle.dc_core.specs.declared.performance.Performance.{Performance}
 
@@ -32,10 +33,16 @@ captures_at w k n = captures (leaf_at (leaves w) k).ab n
 abbrev pub value_at : DcView → Bytes → Option Bytes
 value_at w k = map.get (leaf_at (leaves w) k).rows k
 
--- no session was taken, nothing was performed; the devices have failed so often
-abbrev pub fresh : ℕ → DcView
-fresh failures =
-    record { stored = 0; session = 0; redo = false; system = fresh_system failures; opened = map.empty; performed = [] }
+-- no session was taken, nothing was performed; the devices were used so
+abbrev pub fresh : Usage → Usage → DcView
+fresh log_usage page_usage = record {
+  stored = 0;
+  session = 0;
+  redo = false;
+  system = fresh_system log_usage page_usage;
+  opened = map.empty;
+  performed = [];
+}
 
 -- the performances with a request's, where it was performed now
 abbrev pub noted : Done → ℕ → Op → List Performance → List Performance

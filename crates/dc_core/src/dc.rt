@@ -1,11 +1,12 @@
 //! The data component.
-ghost use Rattle.std.specs.Prelude.{◌≡◌, ◌+◌, ◌<◌, ◌≤◌, ◌↔◌, ◌++◌, [], None, Some, length, get_or, reverse, slice_get, IsTrue, IfOk, IfErr, OnOk};
+ghost use Rattle.std.specs.Prelude.{◌≡◌, ◌<◌, ◌≤◌, ◌↔◌, ◌++◌, [], None, Some, length, get_or, reverse, slice_get, IsTrue, IfOk, IfErr, OnOk};
 ghost use Rattle.std.specs.FinMap as map;
-ghost use Rattle.record_key.specs.FirstCause.{failures_of};
 ghost use Rattle.stable.specs.Crash.{BeginsWith};
+ghost use Rattle.stable.specs.Usage.{called_often};
 ghost use Rattle.recovery_laws.specs.Shape.{beginning};
 ghost use Rattle.system_txn.specs.Devices.{spelled};
-ghost use Rattle.system_txn.specs.Recovering.{Recovers, RefusesRecovery, LeavesFrames};
+ghost use Rattle.system_txn.specs.Recovering.{Recovers, RefusesRecovery};
+ghost use Rattle.system_txn.specs.Uses.{StopsOpening, log_calls, page_calls};
 ghost use Rattle.dc_core.specs.Restarting.{restarted};
 ghost use Rattle.codec.specs.Requests.{HasRequestNumbers};
 ghost use Rattle.page.specs.Leaf.{first};
@@ -53,7 +54,7 @@ impl Dc {
     pub fn new(alloc: Global, log: MemLog, pages: MemPages) -> Result<Dc, Refusal>
         requires logged { (log.forced ≡ []) × (log.pending ≡ []) }
         requires written { pages.pages ≡ map.empty }
-        ensures fresh { IfOk result (λ dc. dc ≡ fresh (log.failures + pages.failures)) }
+        ensures fresh { IfOk result (λ dc. dc ≡ fresh log.usage pages.usage) }
         ensures memory { IfErr result (λ refusal. refusal ≡ Refusal.NoMemory) }
     {
         Ok(Dc {
@@ -62,8 +63,8 @@ impl Dc {
     }
 
     /// Opens what a crash left on the devices. No session runs until a Connect above the stored one. A cut last record
-    /// is cut off the log. Refused NoMemory, Device; BadBytes where the bytes are no log of leaves and their images.
-    /// The devices are handed back.
+    /// is cut off the log, last of all. Refused NoMemory, Device; BadBytes where the bytes are no log of leaves and
+    /// their images. The devices are handed back with the bytes that they held.
     pub fn restart(
         alloc: Global,
         devices: Devices<MemLog, MemPages>,
@@ -71,14 +72,17 @@ impl Dc {
         requires none_pending { devices.log.pending ≡ [] }
         ensures recovers { IfOk result (λ dc. Recovers devices.log.forced devices.pages.pages dc.system) }
         ensures restarted { IfOk result (λ dc. dc ≡ restarted dc.system) }
-        ensures failures { IfOk result (λ dc. dc.system.failures ≡ devices.log.failures + devices.pages.failures) }
+        ensures log_used { IfOk result (λ dc. dc.system.log_usage ≡ called_often
+            (log_calls (length (spelled dc.system.log)) (length devices.log.forced)) devices.log.usage) }
+        ensures pages_used { IfOk result (λ dc.
+            dc.system.page_usage ≡ called_often (page_calls devices.pages.pages) devices.pages.usage) }
         ensures refused { IfErr result (λ left.
             RefusesRecovery devices.log.forced devices.pages.pages left.refusal) }
-        ensures log_left { IfErr result (λ left. LeavesFrames devices.log.forced left.devices.log.forced) }
+        ensures log_left { IfErr result (λ left. left.devices.log.forced ≡ devices.log.forced) }
         ensures none_left { IfErr result (λ left. left.devices.log.pending ≡ []) }
         ensures pages_left { IfErr result (λ left. left.devices.pages.pages ≡ devices.pages.pages) }
-        ensures failures_left { IfErr result (λ left. left.devices.log.failures + left.devices.pages.failures
-            ≡ devices.log.failures + devices.pages.failures + failures_of left.refusal) }
+        ensures stopped { IfErr result (λ left. StopsOpening left.refusal devices.pages.pages
+            devices.log.usage left.devices.log.usage devices.pages.usage left.devices.pages.usage) }
     {
         Ok(Dc {
             parts: Parts::restart(alloc, devices)?,
@@ -92,7 +96,8 @@ impl Dc {
         ensures forced { BeginsWith result.log.forced (spelled (beginning self.system.log self.system.stable)) }
         ensures just { result.log.forced ≡ spelled (beginning self.system.log self.system.stable) }
         ensures pages { result.pages.pages ≡ self.system.pages }
-        ensures failures { result.log.failures + result.pages.failures ≡ self.system.failures }
+        ensures log_usage { result.log.usage ≡ self.system.log_usage }
+        ensures page_usage { result.pages.usage ≡ self.system.page_usage }
     {
         let Dc { parts } = self;
         parts.stop()
@@ -118,15 +123,25 @@ impl Dc {
     }
 
     /// Does what the request asks, and gives the reply to it, if there is one. Refused as `allows` says and unchanged
-    /// then; else NoMemory for a new number or a Scan, and unchanged; NoMemory or Device for a Connect, which may leave
-    /// its record in the log and takes no session then, and for a Checkpoint, which may have raised all leaves and
-    /// written some.
+    /// then; else NoMemory, and unchanged, for a new number, a Scan, a Checkpoint or a Connect; Device, only where a
+    /// device's call was due to fail, for a Connect, which may leave its record in the log and takes no session then,
+    /// and for a Checkpoint, which has raised all leaves then and may have written some.
     pub fn serve(&mut self, request: &Request) -> Result<Option<Reply>, Refusal>
         requires numbers { HasRequestNumbers request.now }
         requires key { MayAsk self.old request.now }
         ensures gives { ServeGives self.old request.now result self.new }
     {
         self.parts.serve(request)
+    }
+
+    /// The same for a caller that has asked `allows`: each request is judged once.
+    pub fn serve_allowed(&mut self, request: &Request) -> Result<Option<Reply>, Refusal>
+        requires allowed { serve_refusal self.old request.now ≡ None }
+        requires numbers { HasRequestNumbers request.now }
+        requires key { MayAsk self.old request.now }
+        ensures gives { ServeGives self.old request.now result self.new }
+    {
+        self.parts.reply_to(request)
     }
 
     /// Splits the leaf of the key, where it has two records at least; else refused NotNow, then NumbersSpent, NoMemory
@@ -146,7 +161,7 @@ impl Dc {
     }
 
     /// Splits the first leaf of more than eight records, else joins the first two that may be joined, else does
-    /// nothing. Refused NumbersSpent, NoMemory or Device, and unchanged.
+    /// nothing. Refused NumbersSpent, NoMemory or Device, and unchanged; never where there is nothing to do.
     pub fn tend(&mut self) -> Result<Tended, Refusal>
         ensures gives { TendsTo self.old result self.new }
     {
@@ -154,7 +169,7 @@ impl Dc {
     }
 
     /// Writes the leaf of the key to its page, its last system transaction being stable first, and gives its number.
-    /// Refused NoMemory or Device; the log may be stable further then.
+    /// Refused NoMemory, and unchanged then, or Device, where the log may be stable further.
     pub fn flush(&mut self, key: &Key) -> Result<u64, Refusal>
         ensures gives { FlushesTo self.old key.now result self.new }
     {

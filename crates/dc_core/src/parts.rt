@@ -1,11 +1,12 @@
 //! The parts of the data component, and which messages it takes.
-ghost use Rattle.std.specs.Prelude.{◌≡◌, ◌+◌, ◌++◌, [], None, Some, IfOk, IfErr, OnOk};
+ghost use Rattle.std.specs.Prelude.{◌≡◌, ◌++◌, [], None, Some, length, IfOk, IfErr, OnOk};
 ghost use Rattle.std.specs.FinMap as map;
-ghost use Rattle.record_key.specs.FirstCause.{failures_of};
 ghost use Rattle.stable.specs.Crash.{BeginsWith};
+ghost use Rattle.stable.specs.Usage.{called_often};
 ghost use Rattle.recovery_laws.specs.Shape.{beginning};
 ghost use Rattle.system_txn.specs.Devices.{spelled};
-ghost use Rattle.system_txn.specs.Recovering.{Recovers, RefusesRecovery, LeavesFrames};
+ghost use Rattle.system_txn.specs.Recovering.{Recovers, RefusesRecovery};
+ghost use Rattle.system_txn.specs.Uses.{StopsOpening, log_calls, page_calls};
 ghost use Rattle.dc_core.specs.Restarting.{restarted};
 ghost use Rattle.dc_core.specs.Serves.{runs, session_refusal, after_redo_refusal, connect_refusal, serve_refusal};
 ghost use Rattle.dc_core.specs.Tends.{may_merge};
@@ -41,7 +42,7 @@ impl Parts {
         requires logged { (log.forced ≡ []) × (log.pending ≡ []) }
         requires written { pages.pages ≡ map.empty }
         ensures kept { IfOk result (λ parts. IsDc (seen parts)) }
-        ensures fresh { IfOk result (λ parts. seen parts ≡ fresh (log.failures + pages.failures)) }
+        ensures fresh { IfOk result (λ parts. seen parts ≡ fresh log.usage pages.usage) }
         ensures memory { IfErr result (λ refusal. refusal ≡ Refusal.NoMemory) }
     {
         let system = match System::new(alloc, log, pages) {
@@ -69,15 +70,17 @@ impl Parts {
         ensures kept { IfOk result (λ parts. IsDc (seen parts)) }
         ensures recovers { IfOk result (λ parts. Recovers devices.log.forced devices.pages.pages parts.system) }
         ensures restarted { IfOk result (λ parts. seen parts ≡ restarted parts.system) }
-        ensures failures { IfOk result (λ parts.
-            parts.system.failures ≡ devices.log.failures + devices.pages.failures) }
+        ensures log_used { IfOk result (λ parts. parts.system.log_usage ≡ called_often
+            (log_calls (length (spelled parts.system.log)) (length devices.log.forced)) devices.log.usage) }
+        ensures pages_used { IfOk result (λ parts.
+            parts.system.page_usage ≡ called_often (page_calls devices.pages.pages) devices.pages.usage) }
         ensures refused { IfErr result (λ left.
             RefusesRecovery devices.log.forced devices.pages.pages left.refusal) }
-        ensures log_left { IfErr result (λ left. LeavesFrames devices.log.forced left.devices.log.forced) }
+        ensures log_left { IfErr result (λ left. left.devices.log.forced ≡ devices.log.forced) }
         ensures none_left { IfErr result (λ left. left.devices.log.pending ≡ []) }
         ensures pages_left { IfErr result (λ left. left.devices.pages.pages ≡ devices.pages.pages) }
-        ensures failures_left { IfErr result (λ left. left.devices.log.failures + left.devices.pages.failures
-            ≡ devices.log.failures + devices.pages.failures + failures_of left.refusal) }
+        ensures stopped { IfErr result (λ left. StopsOpening left.refusal devices.pages.pages
+            devices.log.usage left.devices.log.usage devices.pages.usage left.devices.pages.usage) }
     {
         let Devices { log, pages } = devices;
         let opened = System::open(alloc, log, pages)?;
@@ -98,7 +101,8 @@ impl Parts {
         ensures forced { BeginsWith result.log.forced (spelled (beginning self.system.log self.system.stable)) }
         ensures just { result.log.forced ≡ spelled (beginning self.system.log self.system.stable) }
         ensures pages { result.pages.pages ≡ self.system.pages }
-        ensures failures { result.log.failures + result.pages.failures ≡ self.system.failures }
+        ensures log_usage { result.log.usage ≡ self.system.log_usage }
+        ensures page_usage { result.pages.usage ≡ self.system.page_usage }
     {
         let Parts {
             stored: _,

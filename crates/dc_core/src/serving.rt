@@ -23,7 +23,7 @@ impl Parts {
     }
 
     /// Does what an allowed request asks.
-    fn reply_to(&mut self, request: &Request) -> Result<Option<Reply>, Refusal>
+    pub fn reply_to(&mut self, request: &Request) -> Result<Option<Reply>, Refusal>
         requires kept { IsDc (seen self.old) }
         requires allowed { serve_refusal (seen self.old) request.now ≡ None }
         requires numbers { HasRequestNumbers request.now }

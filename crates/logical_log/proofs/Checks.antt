@@ -6,7 +6,7 @@ use Rattle.std.proofs.lemmas.Bool.{cases_eq, cases_Bool, and_parts, and_from, an
 use Rattle.record_key.specs.declared.op.Op.{Op}
 use Rattle.record_key.specs.Table.{Bytes, key_of, is_add}
 use Rattle.history.specs.declared.record.Record.{Record}
-use Rattle.history.specs.Log.{record_at, before, answer_of, request_in, request_of, IsOpen, Requests, IsStepOf, IsOpBy}
+use Rattle.history.specs.Log.{record_at, before, answer_of, request_in, IsOpen, Requests, IsStepOf, IsOpBy}
 use Rattle.history.specs.Legal.{IsLegal, IsIdle, IsKeyFree, IsLatest, IsLatestOrNone, Stands, Inverts, FitsAnswer, FitsComp, FitsEnd, FitsCheckpoint}
 use Rattle.log_laws.proofs.Records.{AStep, ARequest, IsNumber, no_step, record_before, since}
 use Rattle.log_laws.proofs.LegalLogs.{answered_push, fits_at, step_idle, step_number, request_number, stands_number}
@@ -24,7 +24,7 @@ use Rattle.logical_log.proofs.Answered.{answered_at, test_of}
 -- one that is no hindrance is this one, or isn't open
 agrees_so : (log : List Record) (index : Index) (t u : ℕ) → IsIndex log index → agrees index t u ≡ true
     → IsOpen log u → u ≡ t
-agrees_so log index t u h is opened = by (latest_in index u) (h.open_txns u) is
+agrees_so log index t u h is opened = by (latest_in index u) (h.analysis.open_txns u) is
   where
     by : (v : Option ℕ) → KeptOf log u v → ((u == t) || not (is_some v)) ≡ true → u ≡ t
     by None shut e = absurd (shut opened)
@@ -36,7 +36,7 @@ agrees_so log index t u h is opened = by (latest_in index u) (h.open_txns u) is
 -- and one that is open and another is one
 hinders : (log : List Record) (index : Index) (t u : ℕ) → IsIndex log index → agrees index t u ≡ false
     → IsOpen log u × (u ≢ t)
-hinders log index t u h is = by (latest_in index u) (h.open_txns u) is
+hinders log index t u h is = by (latest_in index u) (h.analysis.open_txns u) is
   where
     by : (v : Option ℕ) → KeptOf log u v → ((u == t) || not (is_some v)) ≡ false → IsOpen log u × (u ≢ t)
     by None shut e = absurd (true≢false (sym (or_right (u == t) true refl) ∙ e))
@@ -191,25 +191,25 @@ pub ready_test : (log : List Record) (t s : ℕ) → IsLegal log → OpenAt log 
     → ReadyOf log t (Some s)
 ready_test log t s legal at test = (at, (idle_test log t s legal at.latest).0 test)
 
-some_of : (o : Option Op) → is_some o ≡ true → (q : Op) × (o ≡ Some q)
-some_of None h = absurd (cc)
-some_of (Some q) h = (q, refl)
-
-pub answer_test : (log : List Record) (n : ℕ) (item : Record) (b : Bool) → Some item ≡ record_at log n
-    → is_some (request_of item) ≡ true → is_some (answer_of log n) ≡ not b
-    → IsTrue b ↔ FitsAnswer log n
-answer_test log n item true at asks answered =
-    let q = some_of (request_of item) asks in (
-      λ _. record {
-        op = q.0;
-        requested = ap request_in (sym at)
-            ∙ q.1;
-        unanswered = nothing_answered _ answered;
-      },
+pub answer_test : (log : List Record) (n : ℕ) (b : Bool) → b ≡ not (is_answered log n) → IsTrue b ↔ FitsAnswer log n
+answer_test log n b is =
+    let P : Bool → Type 0 = λ x. IsTrue x ↔ FitsAnswer log n in
+    subst P (sym is) (pick (request_in (record_at log n)) (is_some (answer_of log n)) refl refl)
+  where
+    pick : (q : Option Op) (a : Bool) → request_in (record_at log n) ≡ q → is_some (answer_of log n) ≡ a
+        → IsTrue (not (not (is_some q) || a)) ↔ FitsAnswer log n
+    pick None a asks answered = (
+      λ e. absurd (true≢false (sym e)),
+      λ fits. absurd (true≢false (sym (ap is_some (sym asks ∙ fits.requested)))),
+    )
+    pick (Some o) true asks answered = (
+      λ e. absurd (true≢false (sym e)),
+      λ fits. absurd (true≢false (sym answered ∙ ap is_some fits.unanswered)),
+    )
+    pick (Some o) false asks answered = (
+      λ _. record { op = o; requested = asks; unanswered = nothing_answered _ answered },
       λ _. refl,
     )
-answer_test log n item false at asks answered =
-    (λ e. absurd (true≢false (sym e)), λ fits. absurd (true≢false (sym answered ∙ ap is_some fits.unanswered)))
 
 pub checkpoint_test : (log : List Record) (low end : ℕ) → IsLatest (FitsCheckpoint log) end
     → IsTrue (nat_le low end) ↔ FitsCheckpoint log low

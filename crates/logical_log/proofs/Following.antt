@@ -19,7 +19,7 @@ use Rattle.std.proofs.lemmas.Cmp.{nat_list_cmp_total, tied_itself}
 use Rattle.std.proofs.lemmas.Map.Lookups.{exact_bytes}
 use Rattle.logical_log.specs.declared.replay.Index.{Index}
 use Rattle.logical_log.specs.Adders.{stays, PutsAdders}
-use Rattle.logical_log.specs.Replay.{IsIndex, latest_in, holder_in, adders_of, is_among, KeptOf, KeptOn, AddsTo, AddedBy, Puts, Follows, Holds, Gains}
+use Rattle.logical_log.specs.Replay.{IsIndex, IsAnalysis, TakesIn, latest_in, holder_in, adders_of, is_among, KeptOf, KeptOn, AddsTo, AddedBy, Puts, Follows, Holds, Gains}
 
 -- the record neither begins nor ends the transaction, and is no step of it
 record Apart (r : Record) (log : List Record) (t : ℕ) : Type 0 where
@@ -507,19 +507,16 @@ gains (is.Checkpoint l) log latest old new had has legal fits kept holder same w
 -- ---- both
 
 pub followed : (log : List Record) (r : Record) (number : ℕ) (old new : Index) → IsIndex log old → Fits log r
-    → number ≡ length log + 1
-    → Follows r number (latest_in old) (latest_in new) → Holds r (holder_in old) (holder_in new)
+    → number ≡ length log + 1 → TakesIn r number old.analysis new.analysis → Holds r (holder_in old) (holder_in new)
     → Gains r (latest_in new) (adders_of old) (adders_of new)
     → FitsCheckpoint (r ∷ log) new.answered → IsIndex (r ∷ log) new
-followed log r number old new h fits is txns keys adders answered =
-    let P : ℕ → Type 0 = λ n. Follows r n (latest_in old) (latest_in new) in
-    let kept : (t : ℕ) → KeptOf (r ∷ log) t (latest_in new t) =
-    follows r log (latest_in old) (latest_in new) h.legal fits (subst P is txns) h.open_txns in
+followed log r number old new h fits is takes keys adders answered =
+    let kept : IsAnalysis (r ∷ log) new.analysis = takes log h.analysis (fits, h.legal) is in
     record {
       legal = (fits, h.legal);
-      open_txns = kept;
+      analysis = kept;
       held_keys = holds r log (holder_in old) (holder_in new) h.legal fits keys h.held_keys;
       added_keys = gains r log (latest_in new) (holder_in old) (holder_in new) (adders_of old) (adders_of new) h.legal
-          fits kept keys adders h.added_keys;
+          fits kept.open_txns keys adders h.added_keys;
       answered = answered;
     }

@@ -229,6 +229,23 @@ index_tells log n legal some =
       ]
     ]
 
+-- and no record's number only where nothing is asked for
+pub index_asks : (log : List Record) (n : ℕ) → IsLegal log → length log < 2 ^ 48 → 0 < n
+    → is_some (request_in (record_at log n)) ≡ not (index_at log n == asks_nothing)
+index_asks log n legal few some =
+    elim (cases_lt (length log) n) [
+      | inl past ↦
+          ap (λ (q : Option Record). is_some (request_in q)) (record_at-past log n past)
+          ∙ ap (λ (p : ℕ). not (p == asks_nothing)) (sym (index_past log n past))
+      | inr there ↦ elim (told log legal n some there) [
+        | awaits at asks unanswered ↦ asks ∙ ap (λ (p : ℕ). not (p == asks_nothing)) (sym at)
+        | answered points bounded right is ↦
+            ap is_some (answered_is_request log n legal is).requested
+            ∙ ap not (sym (ne_eqb (index_at log n) asks_nothing (λ e. omega (arith, bounded, few, e))))
+        | asks_none at asks unanswered ↦ ap is_some asks ∙ ap (λ (p : ℕ). not (p == asks_nothing)) (sym at)
+      ]
+    ]
+
 -- number 0 asks for nothing
 pub is_answered-zero : (log : List Record) → is_answered log 0 ≡ true
 is_answered-zero log =

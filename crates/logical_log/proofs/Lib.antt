@@ -1,4 +1,6 @@
+pub mod Analysing
 pub mod Answered
+pub mod Checkpointed
 pub mod Checks
 pub mod Crashed
 pub mod Following

@@ -11,7 +11,7 @@ use Rattle.record_key.specs.Table.{Bytes}
 use Rattle.history.specs.declared.record.Record.{Record}
 use Rattle.history.specs.Legal.{Fits, IsLegal}
 use Rattle.logical_log.specs.Opening.{BeginsAs, RefusesBytes}
-use Rattle.logical_log.specs.Replay.{IsIndex, KeptOf, KeptOn, AddedBy, latest_in, holder_in, adders_of}
+use Rattle.logical_log.specs.Replay.{IsIndex, IsAnalysis, KeptOn, AddedBy, holder_in, adders_of}
 use Rattle.logical_log.specs.declared.replay.Index.{Index}
 use Rattle.logical_log.specs.Spelled.{spelled}
 
@@ -44,12 +44,11 @@ shorter left r left' is =
       length-number (length body),
     )
 
-pub index_nothing : (index : Index) → ((t : ℕ) → latest_in index t ≡ None) → ((k : Bytes) → holder_in index k ≡ None)
+pub index_nothing : (index : Index) → IsAnalysis [] index.analysis → ((k : Bytes) → holder_in index k ≡ None)
     → ((k : Bytes) → adders_of index k ≡ []) → index.answered ≡ 0 → IsIndex [] index
-index_nothing index txns keys adders answered = record {
+index_nothing index analysis keys adders answered = record {
   legal = tt;
-  open_txns = λ t. let Of : Option ℕ → Type 0 = λ v. KeptOf [] t v in
-      subst Of (sym (txns t)) (λ opened. absurd (let none = opened.begun in cc));
+  analysis = analysis;
   held_keys = λ k. let On : Option ℕ → Type 0 = λ v. KeptOn [] k v in
       subst On (sym (keys k)) (λ n u o op key. absurd (cc));
   added_keys = λ k. let On : List ℕ → Type 0 = λ us. AddedBy [] k (holder_in index k) us in

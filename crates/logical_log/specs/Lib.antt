@@ -1,5 +1,7 @@
 pub mod Adders
+pub mod Checkpointed
 pub mod Crashed
+pub mod Found
 pub mod Index
 pub mod Kept
 pub mod LogView

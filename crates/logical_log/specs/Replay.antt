@@ -1,6 +1,6 @@
 -- What is kept of a log while its records are read one after another: for each open transaction its latest step, and
 -- for each key the only transaction that may hold it alone, and those that may hold it for Adds.
-use Rattle.std.specs.Prelude.{◌≡◌, ◌≢◌, ◌⊎◌, ℕ, ◌==◌, ◌&&◌, ◌||◌, Bool, true, false, not, List, [], ◌∷◌, ◌++◌, Option, Some, None, is_some, filter, if◌then◌else◌}
+use Rattle.std.specs.Prelude.{◌≡◌, ◌≢◌, ◌⊎◌, ℕ, ◌+◌, ◌==◌, ◌&&◌, ◌||◌, Bool, true, false, not, List, [], ◌∷◌, ◌++◌, Option, Some, None, is_some, filter, length, if◌then◌else◌}
 use Rattle.std.specs.Bool.{MatchBool}
 use Rattle.std.specs.List.{list_any, list_all}
 use Rattle.std.specs.BTreeMap as tree
@@ -12,8 +12,10 @@ use Rattle.history.specs.declared.record.Record.{Record}
 use Rattle.history.specs.declared.record.Record.TheVariants as is
 use Rattle.history.specs.Log.{IsOpen, IsStepOf, IsOpBy}
 use Rattle.history.specs.Legal.{IsLegal, IsIdle, IsLatestOrNone, FitsCheckpoint}
+use Rattle.logical_log.specs.declared.analysis.Analysis.{Analysis}
 use Rattle.logical_log.specs.declared.replay.Index.{Index}
 use Rattle.logical_log.specs.Adders.{adders_in, stays, PutsAdders}
+use Rattle.logical_log.specs.Checkpointed.{IsCheckpointed}
 
 -- the transaction is open, and this is its latest Op or Comp record, 0 if it has none
 pub record OpenAt (log : List Record) (t s : ℕ) : Type 0 where
@@ -24,6 +26,19 @@ pub record OpenAt (log : List Record) (t s : ℕ) : Type 0 where
 abbrev pub KeptOf : List Record → ℕ → Option ℕ → Type 0
 KeptOf log t (Some s) = OpenAt log t s
 KeptOf log t None = IsOpen log t → ⊥
+
+abbrev pub latest_of : Analysis → ℕ → Option ℕ
+latest_of a t = tree.get nat_cmp a.open_txns t
+
+-- who is open is known with the latest steps, and which number is the greatest that a Checkpoint names
+pub record IsAnalysis (log : List Record) (a : Analysis) : Type 0 where
+  pub open_txns : (t : ℕ) → KeptOf log t (latest_of a t)
+  pub checkpointed : IsLatestOrNone (IsCheckpointed log) a.checkpointed
+
+-- which is so again with this record more, of the next number
+abbrev pub TakesIn : Record → ℕ → Analysis → Analysis → Type 0
+TakesIn r number old new =
+    (log : List Record) → IsAnalysis log old → IsLegal (r ∷ log) → number ≡ length log + 1 → IsAnalysis (r ∷ log) new
 
 -- the transaction has an operation on the key that is no Add, and no other open one has
 pub record HeldBy (log : List Record) (k : Bytes) (t : ℕ) : Type 0 where
@@ -56,7 +71,7 @@ pub record AddedBy (log : List Record) (k : Bytes) (holder : Option ℕ) (us : L
   pub all : (u : ℕ) → AddsTo log k u → IsOpen log u → (holder ≡ Some u) ⊎ (is_among u us ≡ true)
 
 abbrev pub latest_in : Index → ℕ → Option ℕ
-latest_in index t = tree.get nat_cmp index.open t
+latest_in index t = latest_of index.analysis t
 
 abbrev pub holder_in : Index → Bytes → Option ℕ
 holder_in index k = tree.get key_cmp index.holders k
@@ -81,7 +96,7 @@ is_free index t o =
 -- the log is legal, and the index is right for it
 pub record IsIndex (log : List Record) (index : Index) : Type 0 where
   pub legal : IsLegal log
-  pub open_txns : (t : ℕ) → KeptOf log t (latest_in index t)
+  pub analysis : IsAnalysis log index.analysis
   pub held_keys : (k : Bytes) → KeptOn log k (holder_in index k)
   pub added_keys : (k : Bytes) → AddedBy log k (holder_in index k) (adders_of index k)
   pub answered : FitsCheckpoint log index.answered

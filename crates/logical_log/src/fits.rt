@@ -6,31 +6,19 @@ ghost use Rattle.history.specs.Chains.{undo_from, prev_in};
 ghost use Rattle.logical_log.specs.Replay.{IsIndex};
 
 use crate::frames::Frames;
-use crate::note::asks;
 use crate::replay::Index;
 use history::Record;
 use inverse::inverse;
 use record_key::Op;
 
-/// What a transaction has left to undo from a step of it on.
-fn undo_from(frames: &Frames, step: u64) -> u64
-    ensures { result ≡ undo_from (record_at frames.now.records step) step }
-{
-    match frames.record(step) {
-        Some(Record::Comp { next, .. }) => next,
-        Some(Record::Op { .. }) => step,
-        _ => 0,
-    }
-}
-
-/// What it has left below an operation.
+/// What a transaction has left to undo below an operation.
 fn undo_below(frames: &Frames, number: u64) -> u64
     ensures { result ≡ undo_from (record_at frames.now.records (prev_in (record_at frames.now.records number)))
         (prev_in (record_at frames.now.records number)) }
 {
     match frames.record(number) {
-        Some(Record::Op { prev, .. }) => undo_from(frames, prev),
-        _ => undo_from(frames, 0),
+        Some(Record::Op { prev, .. }) => frames.left_to_undo(prev),
+        _ => frames.left_to_undo(0),
     }
 }
 
@@ -57,10 +45,7 @@ fn fits_op(index: &Index, frames: &Frames, txn: u64, prev: u64, op: &Op) -> bool
 fn fits_answer(frames: &Frames, of: u64) -> bool
     ensures { IsTrue result ↔ FitsAnswer frames.now.records of }
 {
-    match frames.record(of) {
-        Some(item) => asks(&item) && frames.answer_of(of).is_none(),
-        None => false,
-    }
+    !frames.is_answered(of)
 }
 
 fn fits_comp(
@@ -80,7 +65,7 @@ fn fits_comp(
     if undoes == 0 {
         return false;
     }
-    if undo_from(frames, latest) != undoes {
+    if frames.left_to_undo(latest) != undoes {
         return false;
     }
     if undo_below(frames, undoes) != next {
@@ -104,7 +89,7 @@ fn fits_end(index: &Index, frames: &Frames, txn: u64) -> bool
     ensures { IsTrue result ↔ FitsEnd frames.now.records txn }
 {
     match index.ready(frames, txn) {
-        Some(latest) => undo_from(frames, latest) == 0,
+        Some(latest) => frames.left_to_undo(latest) == 0,
         None => false,
     }
 }

@@ -1,5 +1,5 @@
 //! The frames of records, one after another, with an index of their places and of answers.
-ghost use Rattle.std.specs.Prelude.{◌≡◌, ◌+◌, ◌≤◌, ◌<◌, ◌^◌, ◌↔◌, ◌++◌, ◌∷◌, [], ℕ, List, length, ◌⊎◌, None, IsTrue, IfSome, IfNone, OnOk, OnErr, IfErr, IsErrOf};
+ghost use Rattle.std.specs.Prelude.{◌≡◌, ◌+◌, ◌≤◌, ◌<◌, ◌^◌, ◌↔◌, ◌++◌, ◌∷◌, [], ℕ, List, length, ◌⊎◌, None, is_some, IsTrue, IfSome, IfNone, OnOk, OnErr, IfErr, IsErrOf};
 ghost use Rattle.history.specs.Log.{record_at, answer_of, request_in, step_in};
 ghost use Rattle.history.specs.Legal.{Fits, IsLegal};
 ghost use Rattle.history.specs.Chains.{undo_from};
@@ -14,7 +14,7 @@ ghost use Rattle.logical_log.specs.LogView.{usage_after};
 ghost use Rattle.logical_log.specs.Low.{stable_part};
 ghost use Rattle.logical_log.specs.Spelled.{spelled, AreRecords, IsNext, IsPlaceOf};
 
-use crate::note::{answer_held, answer_place, note};
+use crate::note::{ASKS_NOTHING, answer_held, answer_place, note};
 use crate::write::write;
 use codec::{FrameIndex, Taken, asked_op, left_to_undo, step_txn, take_record};
 use history::Record;
@@ -23,9 +23,10 @@ use stable::LogDevice;
 use std::alloc::{AllocError, Global};
 use std::marker::Model;
 
-/// A clause sees the records that were read and the bytes that are left after them.
+/// Records by their numbers, from 1, kept as bytes. A clause sees the records that were read and the bytes that are
+/// left after them. A reader takes no memory.
 #[derive(Drop)]
-pub(crate) struct Frames {
+pub struct Frames {
     bytes: Vec<u8>,
     // Where the frames that were read end.
     end: usize,
@@ -65,7 +66,8 @@ impl Frames {
         }
     }
 
-    pub(crate) fn len(&self) -> u64
+    /// How many records there are.
+    pub fn len(&self) -> u64
         ensures count { result ≡ length self.now.records }
         ensures numbered { result < 2 ^ 48 }
         ensures legal { IsLegal self.now.records }
@@ -74,7 +76,8 @@ impl Frames {
         self.index.len() as u64
     }
 
-    pub(crate) fn record(&self, number: u64) -> Option<Record>
+    /// The record of this number.
+    pub fn record(&self, number: u64) -> Option<Record>
         ensures { result ≡ record_at self.now.records number }
     {
         let place = place_of(&self.index, &self.bytes, number)?;
@@ -85,7 +88,7 @@ impl Frames {
     }
 
     /// The transaction of the Op or Comp record of this number, told without reading the whole record.
-    pub(crate) fn step_txn(&self, number: u64) -> Option<u64>
+    pub fn step_txn(&self, number: u64) -> Option<u64>
         ensures { result ≡ step_in (record_at self.now.records number) }
     {
         let place = place_of(&self.index, &self.bytes, number)?;
@@ -100,8 +103,9 @@ impl Frames {
         asked_op(&self.bytes, place)
     }
 
-    /// What is left to undo from the record of this number, told without reading the whole record.
-    pub(crate) fn left_to_undo(&self, number: u64) -> u64
+    /// What is left to undo from the record of this number on, told without reading the whole record: the record where it
+    /// is an operation, a compensation's undo-next, else 0.
+    pub fn left_to_undo(&self, number: u64) -> u64
         ensures { result ≡ undo_from (record_at self.now.records number) number }
     {
         match place_of(&self.index, &self.bytes, number) {
@@ -118,6 +122,16 @@ impl Frames {
             return None;
         }
         answer_held(self.record(answer_place(answers, number)))
+    }
+
+    /// The record of this number asks for something, told without reading it.
+    pub(crate) fn asks(&self, number: u64) -> bool
+        ensures { result ≡ is_some (request_in (record_at self.now.records number)) }
+    {
+        if number == 0 {
+            return false;
+        }
+        answer_place(self.answers.as_slice(), number) != ASKS_NOTHING
     }
 
     /// The record of this number asks for nothing, or is answered.

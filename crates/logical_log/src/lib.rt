@@ -8,16 +8,22 @@
 #![tactic(auto)]
 
 mod adders;
+mod analysis;
 mod fits;
+mod found;
 mod frames;
 mod laws;
 mod log;
 mod low;
 mod note;
 mod open;
+mod read;
 mod replay;
 mod write;
 
+pub use analysis::Analysis;
+pub use found::Found;
+pub use frames::Frames;
 pub use laws::crash_law;
 pub use log::Log;
 pub use open::Refused;

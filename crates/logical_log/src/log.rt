@@ -1,9 +1,10 @@
 //! The log and what is read of it.
-ghost use Rattle.std.specs.Prelude.{true, ◌≡◌, ◌≤◌, ◌<◌, ◌^◌, ◌++◌, [], length};
+ghost use Rattle.std.specs.Prelude.{true, ◌≡◌, ◌≤◌, ◌<◌, ◌^◌, ◌++◌, [], length, is_some, not};
 ghost use Rattle.history.specs.Log.{record_at, answer_of, request_in, step_in};
 ghost use Rattle.history.specs.Legal.{IsLegal, FitsCheckpoint, IsLatest};
 ghost use Rattle.history.specs.Chains.{undo_from};
 ghost use Rattle.stable.specs.Crash.{BeginsWith};
+ghost use Rattle.logical_log.specs.Index.{is_answered};
 ghost use Rattle.logical_log.specs.Low.{stable_part, IsGreatestLow};
 ghost use Rattle.logical_log.specs.Spelled.{spelled, AreRecords};
 
@@ -75,6 +76,13 @@ impl<D: LogDevice> Log<D> {
         device
     }
 
+    /// Its records.
+    pub fn frames(&self) -> &Frames
+        ensures { result.now.records ≡ self.now.records }
+    {
+        &self.frames
+    }
+
     /// How many records there are.
     pub fn len(&self) -> u64
         ensures count { result ≡ length self.now.records }
@@ -118,6 +126,20 @@ impl<D: LogDevice> Log<D> {
         ensures { result ≡ request_in (record_at self.now.records number) }
     {
         self.frames.asked_op(number)
+    }
+
+    /// The record of this number asks for something. Takes no memory, reads no record and makes no device call.
+    pub fn asks(&self, number: u64) -> bool
+        ensures { result ≡ is_some (request_in (record_at self.now.records number)) }
+    {
+        self.frames.asks(number)
+    }
+
+    /// It does, and its Answer record doesn't stand. As cheap.
+    pub fn lacks_answer(&self, number: u64) -> bool
+        ensures { result ≡ not (is_answered self.now.records number) }
+    {
+        !self.frames.is_answered(number)
     }
 
     /// What is left to undo from the record of this number on: the record where it is an operation, a compensation's

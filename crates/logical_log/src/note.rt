@@ -30,7 +30,7 @@ pub(crate) fn answer_held(found: Option<Record>) -> Option<Answer>
 }
 
 /// No record's number. The index holds it for each record that asks for nothing.
-const ASKS_NOTHING: u64 = u64::MAX;
+pub(crate) const ASKS_NOTHING: u64 = u64::MAX;
 
 /// What the index holds for this number: 0 while an answer is to come, and no record's number if none ever is.
 pub(crate) fn answer_place(answers: &[u64], number: u64) -> u64

@@ -1,20 +1,13 @@
 //! Opening what a crash left on a device.
-ghost use Rattle.std.specs.Prelude.{◌≡◌, ◌⊎◌, ◌+◌, ◌<◌, ◌∷◌, ◌++◌, [], length, OnOk, OnErr, IfOk, IfErr};
-ghost use Rattle.history.specs.Legal.{Fits, FitsCheckpoint};
-ghost use Rattle.codec.specs.Frames.{frame, IsCut};
-ghost use Rattle.codec.specs.Records.{record_bytes};
-ghost use Rattle.stable.specs.Usage.{called, called_often};
-ghost use Rattle.logical_log.specs.Opening.{BeginsAs, IsLogOf, RefusesBytes, RefusesOpen, cut_calls, FailsDue, UsedToRead, UsedToOpen};
-ghost use Rattle.logical_log.specs.Replay.{IsIndex};
-ghost use Rattle.logical_log.specs.Spelled.{spelled, IsNext};
+ghost use Rattle.std.specs.Prelude.{◌≡◌, ◌+◌, ◌++◌, [], length, OnOk, OnErr, IfOk, IfErr};
+ghost use Rattle.stable.specs.Usage.{called_often};
+ghost use Rattle.logical_log.specs.Opening.{IsLogOf, RefusesOpen, cut_calls, FailsDue, UsedToOpen};
+ghost use Rattle.logical_log.specs.Spelled.{spelled};
 
-use crate::fits::fits;
+use crate::found::Found;
 use crate::frames::Frames;
 use crate::log::Log;
-use crate::replay::Index;
-use crate::write::{LAST_NUMBER, refusal_of};
-use codec::Taken;
-use history::Record;
+use crate::write::refusal_of;
 use record_key::Refusal;
 use stable::LogDevice;
 use std::alloc::Global;
@@ -24,6 +17,40 @@ use std::alloc::Global;
 pub struct Refused<D> {
     pub refusal: Refusal,
     pub device: D,
+}
+
+impl<D: LogDevice> Found<D> {
+    /// The log of what was found, all of it stable. A cut last frame is cut off the device, in one device call. The one
+    /// refusal is Device.
+    pub fn open(self) -> Result<Log<D>, Refused<D>>
+        ensures opened { IfOk result (λ log. log ≡ record {
+          records = self.records;
+          stable = length self.records;
+          usage = called_often (cut_calls self.bytes self.records) self.usage;
+        }) }
+        ensures refused { IfErr result (λ left. left.refusal ≡ Refusal.Device) }
+        ensures forced { IfErr result (λ left. D.forced left.device ≡ self.bytes) }
+        ensures none_pending { IfErr result (λ left. D.pending left.device ≡ []) }
+        ensures failed { IfErr result (λ left. FailsDue self.usage (D.usage left.device)) }
+    {
+        let Found {
+            device,
+            frames,
+            index,
+        } = self;
+        let (mut device, mut frames) = (device, frames);
+        if let Err(refusal) = cut_left(&mut device, &mut frames) {
+            return Err(Refused { refusal, device });
+        }
+        let stable = frames.len();
+        let answered = frames.answered_from(index.answered);
+        Ok(Log {
+            device,
+            frames,
+            stable,
+            answered,
+        })
+    }
 }
 
 impl<D: LogDevice> Log<D> {
@@ -41,41 +68,10 @@ impl<D: LogDevice> Log<D> {
         ensures none_pending { IfErr result (λ left. D.pending left.device ≡ []) }
         ensures used { IfErr result (λ left. UsedToOpen (D.usage device) left.refusal (D.usage left.device)) }
     {
-        let mut device = device;
-        let bytes = match all_bytes(alloc, &mut device) {
-            Ok(bytes) => bytes,
-            Err(refusal) => return Err(Refused { refusal, device }),
-        };
-        let (mut frames, answered) = match replay(alloc, bytes) {
-            Ok(read) => read,
-            Err(refusal) => return Err(Refused { refusal, device }),
-        };
-        if let Err(refusal) = cut_left(&mut device, &mut frames) {
-            return Err(Refused { refusal, device });
+        match Found::read(alloc, device) {
+            Ok(found) => found.open(),
+            Err(refused) => Err(refused),
         }
-        let stable = frames.len();
-        let answered = frames.answered_from(answered);
-        Ok(Log {
-            device,
-            frames,
-            stable,
-            answered,
-        })
-    }
-}
-
-/// A copy of all bytes of a device.
-fn all_bytes<D: LogDevice>(alloc: Global, device: &mut D) -> Result<Vec<u8>, Refusal>
-    ensures bytes { IfOk result (λ bytes. bytes.items ≡ D.forced device.old ++ D.pending device.old) }
-    ensures forced { D.forced device.new ≡ D.forced device.old }
-    ensures pending { D.pending device.new ≡ D.pending device.old }
-    ensures cause { IfErr result (λ given. (given ≡ Refusal.Device) ⊎ (given ≡ Refusal.NoMemory)) }
-    ensures called { OnOk result (D.usage device.new ≡ called (D.usage device.old)) }
-    ensures used { IfErr result (λ given. UsedToRead (D.usage device.old) given (D.usage device.new)) }
-{
-    match device.bytes() {
-        Ok(bytes) => Ok(Vec::from_slice(alloc, bytes)?),
-        Err(error) => Err(refusal_of(error)),
     }
 }
 
@@ -99,49 +95,5 @@ fn cut_left<D: LogDevice>(device: &mut D, frames: &mut Frames) -> Result<(), Ref
         return Err(refusal_of(error));
     }
     frames.cut();
-    Ok(())
-}
-
-/// Reads one record after another. Answers also a number up to which every request is answered.
-fn replay(alloc: Global, bytes: Vec<u8>) -> Result<(Frames, u64), Refusal>
-    ensures begins { IfOk result (λ read. BeginsAs bytes.items read.0.records read.0.left) }
-    ensures cut { IfOk result (λ read. IsCut 181 read.0.left) }
-    ensures answered { IfOk result (λ read. FitsCheckpoint read.0.records read.1) }
-    ensures refused { IfErr result (RefusesBytes bytes.items) }
-{
-    let mut frames = Frames::new(alloc, bytes);
-    let mut index = Index::new(alloc);
-    loop {
-        match frames.next() {
-            Taken::Record(found, next) => step(&mut frames, &mut index, &found, next)?,
-            Taken::Short => return Ok((frames, index.answered)),
-            Taken::Bad(place) => return Err(Refusal::BadBytes(place)),
-        }
-    }
-}
-
-/// Takes in the record that stands next, if it fits.
-fn step(frames: &mut Frames, index: &mut Index, found: &Record, next: usize) -> Result<(), Refusal>
-    requires stands { IsNext frames.old.records frames.old.left found.now next }
-    requires index { IsIndex frames.old.records index.old }
-    ensures records { OnOk result (frames.new.records ≡ found.now ∷ frames.old.records) }
-    ensures left { OnOk result (frames.old.left ≡ frame (record_bytes found.now) ++ frames.new.left) }
-    ensures room { OnOk result (length frames.old.records < 281474976710655) }
-    ensures index { OnOk result (IsIndex frames.new.records index.new) }
-    ensures refused { IfErr result (λ given. (given ≡ Refusal.NoMemory)
-        ⊎ ((given ≡ Refusal.BadBytes (length (spelled frames.old.records)))
-        × ((Fits frames.old.records found.now → ⊥) ⊎ (length frames.old.records + 1 ≡ 281474976710656)))) }
-{
-    if frames.len() >= LAST_NUMBER {
-        return Err(Refusal::BadBytes(frames.end() as u64));
-    }
-    if !fits(index, frames, found) {
-        return Err(Refusal::BadBytes(frames.end() as u64));
-    }
-    frames.accept(found, next)?;
-    index.follow(found, frames.len())?;
-    if let Record::Checkpoint { .. } = found {
-        index.answered = frames.answered_from(index.answered);
-    }
     Ok(())
 }

@@ -4,10 +4,11 @@ ghost use Rattle.std.specs.Bool.{MatchBool};
 ghost use Rattle.std.specs.List.{list_all};
 ghost use Rattle.record_key.specs.Table.{key_of, is_add};
 ghost use Rattle.history.specs.Legal.{IsKeyFree};
-ghost use Rattle.logical_log.specs.Replay.{IsIndex, ReadyOf, latest_in, holder_in, adders_of, agrees, agrees_if, Follows, Holds, Gains, Puts};
+ghost use Rattle.logical_log.specs.Replay.{IsIndex, IsAnalysis, TakesIn, ReadyOf, latest_in, holder_in, adders_of, agrees, agrees_if, Holds, Gains, Puts};
 ghost use Rattle.logical_log.specs.Adders.{stays, PutsAdders};
 
 use crate::adders::Adders;
+use crate::analysis::Analysis;
 use crate::frames::Frames;
 use history::Record;
 use record_key::{Key, Op};
@@ -16,8 +17,7 @@ use std::collections::BTreeMap;
 
 #[derive(Drop)]
 pub(crate) struct Index {
-    // For each open transaction its latest Op or Comp record, 0 if it has none.
-    pub(crate) open: BTreeMap<u64, u64>,
+    pub(crate) analysis: Analysis,
     // For each key the transaction of its latest operation that is no Add: if another is open, it has none on the key.
     pub(crate) holders: BTreeMap<Key, u64>,
     // For each key the transactions that added to it since, but for such as were over when the next did.
@@ -28,13 +28,13 @@ pub(crate) struct Index {
 
 impl Index {
     pub(crate) fn new(alloc: Global) -> Index
-        ensures open { (t : ℕ) → latest_in result t ≡ None }
+        ensures analysis { IsAnalysis [] result.analysis }
         ensures holders { (k : List ℕ) → holder_in result k ≡ None }
         ensures adders { (k : List ℕ) → adders_of result k ≡ [] }
         ensures answered { result.answered ≡ 0 }
     {
         Index {
-            open: BTreeMap::new(alloc),
+            analysis: Analysis::new(alloc),
             holders: BTreeMap::new(alloc),
             adders: Adders::new(alloc),
             answered: 0,
@@ -45,7 +45,7 @@ impl Index {
     fn latest(&self, txn: u64) -> Option<u64>
         ensures { result ≡ latest_in self.now txn }
     {
-        self.open.get(&txn).copied()
+        self.analysis.open_txns.get(&txn).copied()
     }
 
     /// The same of one that also has no unanswered request.
@@ -98,27 +98,15 @@ impl Index {
 
     /// Takes in a record of this number.
     pub(crate) fn follow(&mut self, accepted: &Record, number: u64) -> Result<(), AllocError>
-        ensures open { OnOk result (Follows accepted.now number (latest_in self.old) (latest_in self.new)) }
+        ensures analysis { OnOk result (TakesIn accepted.now number self.old.analysis self.new.analysis) }
         ensures holders { OnOk result (Holds accepted.now (holder_in self.old) (holder_in self.new)) }
         ensures adders { OnOk result
             (Gains accepted.now (latest_in self.new) (adders_of self.old) (adders_of self.new)) }
         ensures answered { self.new.answered ≡ self.old.answered }
     {
-        match accepted {
-            Record::Begin => {
-                self.open.insert(number, 0)?;
-            }
-            Record::Op { txn, op, .. } => {
-                self.open.insert(*txn, number)?;
-                self.hold(op, *txn)?;
-            }
-            Record::Comp { txn, .. } => {
-                self.open.insert(*txn, number)?;
-            }
-            Record::Commit { txn } | Record::End { txn } => {
-                self.open.remove(txn);
-            }
-            _ => {}
+        self.analysis.follow(accepted, number)?;
+        if let Record::Op { txn, op, .. } = accepted {
+            self.hold(op, *txn)?;
         }
         Ok(())
     }
@@ -132,11 +120,11 @@ impl Index {
             (if is_add op.now
             then filter (stays (latest_in self.new) txn) (adders_of self.old (key_of op.now)) ++ txn ∷ []
             else [])) }
-        ensures open { (t : ℕ) → latest_in self.new t ≡ latest_in self.old t }
+        ensures analysis { self.new.analysis ≡ self.old.analysis }
         ensures answered { self.new.answered ≡ self.old.answered }
     {
         if op.is_add() {
-            self.adders.add(op.key(), txn, &self.open)
+            self.adders.add(op.key(), txn, &self.analysis.open_txns)
         } else {
             self.adders.clear(op.key());
             self.holders.insert(op.key().copied(), txn)?;

@@ -1,26 +1,26 @@
 -- One pass over a log: what was found so far is right again after each record.
 use Rattle.std.proofs.Common.{◌≡◌, ℕ, ◌+◌, ◌-◌, ◌<◌, ◌≤◌, ◌⊎◌, Bool, true, false, List, [], ◌∷◌, ◌++◌, length, drop, take, get_or, Some, is_some, refl, sym, ap, ◌∙◌, subst, arith, inl, inr, true≢false}
-use Rattle.std.specs.Prelude.{◌&&◌, not, if◌then◌else◌}
+use Rattle.std.specs.Prelude.{◌||◌, not, if◌then◌else◌}
 use Rattle.std.specs.List.{All}
 use Rattle.std.specs.List.Sorted.{IsStrictlyIncreasing}
 use Rattle.std.proofs.Math.ListN.{get_or-append}
 use Rattle.std.proofs.Math.Seq.{get_or-append_seam}
-use Rattle.std.proofs.lemmas.Bool.{cases_eq, cases_lt, lt-ltb, le-ltb}
+use Rattle.std.proofs.lemmas.Bool.{cases_eq, cases_lt}
 use Rattle.std.proofs.lemmas.List.{length-append, length-drop, take-append-drop, append-nil}
 use Rattle.std.proofs.lemmas.List.Elements.{All-weaker}
 use Rattle.history.specs.declared.record.Record.{Record}
 use Rattle.history.specs.declared.record.Record.TheVariants as is
-use Rattle.history.specs.Log.{record_at, answer_of, request_of, request_in}
-use Rattle.history.specs.Legal.{Fits, IsLegal, IsLatestOrNone}
+use Rattle.history.specs.Log.{record_at, answer_of, request_in}
+use Rattle.history.specs.Legal.{Fits, IsLegal}
 use Rattle.log_laws.specs.Reading.{LacksAnswer}
-use Rattle.log_laws.proofs.Records.{newest_at, older_at, kept_at, within, record_new, which}
+use Rattle.log_laws.proofs.Records.{newest_at, older_at, within, record_new}
 use Rattle.log_laws.proofs.LegalLogs.{legal_end}
 use Rattle.log_laws.proofs.Strict.{end_ends}
-use Rattle.log_laws.proofs.Undo.{latest_as}
 use Rattle.logical_log.proofs.Answered.{part_longer}
+use Rattle.logical_log.proofs.Checkpointed.{named_back, named_kept, named_had}
 use Rattle.logical_log.specs.Low.{stable_part as first_part}
 use Rattle.restart.specs.Lists.{Lists}
-use Rattle.restart.specs.Plan.{HasCommit, IsCheckpointed, AreMissing, committed_by, lacking, raised_by}
+use Rattle.restart.specs.Plan.{HasCommit, AreMissing, committed_by, lacking}
 use Rattle.restart.proofs.Lists.{lists_same, lists_more, at_end}
 
 -- the first records and the next one
@@ -52,27 +52,6 @@ legal_part log n legal =
 pub length_part : (log : List Record) (n : ℕ) → n ≤ length log → length (first_part log n) ≡ n
 length_part log n within = length-drop (length log - n) log ∙ omega (arith, within)
 
--- a record that names a number in this way
-abbrev Named : (ℕ → Record) → List Record → ℕ → Type 0
-Named f log n = (m : ℕ) × (record_at log m ≡ Some (f n))
-
-module _ (f : ℕ → Record) (r : Record) (log : List Record) (n : ℕ) where
-  named_back : Named f (r ∷ log) n → (r ≡ f n) ⊎ Named f log n
-  named_back h =
-      elim (cases_eq h.0 (length log + 1)) [
-        | inl e ↦ let same : Some r ≡ Some (f n) = newest_at (λ x. x ≡ Some (f n)) r log h.0 e h.1 in inl (cc)
-        | inr e ↦ inr (h.0, older_at (λ x. x ≡ Some (f n)) r log h.0 e h.1)
-      ]
-
-  named_kept : Named f log n → Named f (r ∷ log) n
-  named_kept h =
-      let number = within (λ x. x ≡ Some (f n)) (λ e. cc) log h.0 h.1 in
-      (h.0, kept_at (λ x. x ≡ Some (f n)) r log h.0 number h.1)
-
-  -- none is named by a record of another kind
-  named_had : (r ≡ f n → ⊥) → Named f (r ∷ log) n → Named f log n
-  named_had other h = elim (named_back h) [ inl e ↦ absurd (other e) | inr was ↦ was ]
-
 -- winners
 
 no_winner : (r : Record) (log : List Record) (winners : List ℕ) → ((t : ℕ) → r ≡ is.Commit t → ⊥)
@@ -92,45 +71,6 @@ winners_more (is.Commit t) log winners fits h =
     (length log + 1, record_new r log)
     (λ was. true≢false (sym (end_ends log t was.0 (inl was.1)) ∙ fits.open_txn.goes_on)) h
 winners_more r log winners fits h = no_winner r log winners (λ t e. cc) h
-
--- checkpoints
-
--- the greater of two
-greater : (log : List Record) (low c d : ℕ) → IsLatestOrNone (IsCheckpointed log) c → c ≤ d → low ≤ d
-    → (d ≡ low) ⊎ ((d ≡ c) × (low < c)) → IsLatestOrNone (IsCheckpointed (is.Checkpoint low ∷ log)) d
-greater log low c d h above more which =
-    let r : Record = is.Checkpoint low in
-    inl (record {
-      is = elim which [
-        | inl e ↦ (length log + 1, record_new r log ∙ ap (λ (l : ℕ). Some (is.Checkpoint l)) (sym e))
-        | inr e ↦ subst (IsCheckpointed (r ∷ log)) (sym e.0) (named_kept is.Checkpoint r log c (elim h [
-          | inl g ↦ g.is
-          | inr none ↦ absurd (omega (arith, none.0, e.1))
-        ]))
-      ];
-      greatest = λ l now. elim (named_back is.Checkpoint r log l now) [
-        | inl e ↦ let same : low ≡ l = cc in omega (arith, more, same)
-        | inr was ↦ elim h [ inl g ↦ omega (arith, g.greatest l was, above) | inr none ↦ absurd (none.1 l was) ]
-      ];
-    })
-
-no_low : (r : Record) (log : List Record) (c : ℕ) → ((l : ℕ) → r ≡ is.Checkpoint l → ⊥)
-    → IsLatestOrNone (IsCheckpointed log) c → IsLatestOrNone (IsCheckpointed (r ∷ log)) c
-no_low r log c none h =
-    latest_as (IsCheckpointed log) (IsCheckpointed (r ∷ log)) (named_kept is.Checkpoint r log)
-    (λ l. named_had is.Checkpoint r log l (none l)) c h
-
-pub raised_more : (r : Record) (log : List Record) (c : ℕ) → IsLatestOrNone (IsCheckpointed log) c
-    → IsLatestOrNone (IsCheckpointed (r ∷ log)) (raised_by r c)
-raised_more (is.Checkpoint low) log c h =
-    elim (cases_lt c low) [
-      | inl less ↦ rw (lt-ltb c low less) (greater log low c low h (omega arith) (omega arith) (inl refl))
-      | inr more ↦ rw (le-ltb c low more) (greater log low c c h (omega arith) (omega arith) (elim (cases_eq c low) [
-        | inl e ↦ inl e
-        | inr e ↦ inr (refl, omega (arith, more, e))
-      ]))
-    ]
-raised_more r log c h = no_low r log c (λ l e. cc) h
 
 -- requests without an answer
 
@@ -174,13 +114,13 @@ none_lacking log end missing none h =
       rising = h.rising;
     })
 
-lacking_if : (log : List Record) (r : Record) (end : ℕ) (missing : List ℕ) (a b : Bool)
-    → record_at log (end + 1) ≡ Some r → is_some (request_of r) ≡ a
-    → is_some (answer_of log (end + 1)) ≡ b → AreMissing log end missing
-    → AreMissing log (end + 1) (missing ++ (if a && not b then (end + 1) ∷ [] else []))
-lacking_if log r end missing true false stands asks answer h =
+lacking_if : (log : List Record) (end : ℕ) (missing : List ℕ) (a b : Bool)
+    → is_some (request_in (record_at log (end + 1))) ≡ a → is_some (answer_of log (end + 1)) ≡ b
+    → AreMissing log end missing
+    → AreMissing log (end + 1) (missing ++ (if not a || b then [] else (end + 1) ∷ []))
+lacking_if log end missing true false asks answer h =
     let now : LacksAnswer log (end + 1) (end + 1) = record
-    { below = omega arith; requested = ap (λ q. is_some (request_in q)) stands ∙ asks; unanswered = answer } in
+    { below = omega arith; requested = asks; unanswered = answer } in
     record {
       listed = lists_more (LacksAnswer log end) (LacksAnswer log (end + 1)) (end + 1) missing
           (missing ++ (end + 1) ∷ []) (at_end (end + 1) missing)
@@ -189,14 +129,13 @@ lacking_if log r end missing true false stands asks answer h =
           (All-weaker (LacksAnswer log end) (λ m. m < end + 1) (λ m is. omega (arith, is.below)) missing
           h.listed.right) h.rising;
     }
-lacking_if log r end missing true true stands asks answer h = none_lacking log end missing
+lacking_if log end missing true true asks answer h = none_lacking log end missing
     (λ now. true≢false (sym answer ∙ now.unanswered)) h
-lacking_if log r end missing false b stands asks answer h =
-    none_lacking log end missing
-    (λ now. true≢false (sym now.requested ∙ ap (λ q. is_some (request_in q)) stands ∙ asks)) h
+lacking_if log end missing false b asks answer h = none_lacking log end missing
+    (λ now. true≢false (sym now.requested ∙ asks)) h
 
-pub missing_more : (log : List Record) (r : Record) (end : ℕ) (missing : List ℕ) → record_at log (end + 1) ≡ Some r
-    → AreMissing log end missing
-    → AreMissing log (end + 1) (missing ++ lacking log r (end + 1))
-missing_more log r end missing stands h =
-    lacking_if log r end missing (is_some (request_of r)) (is_some (answer_of log (end + 1))) stands refl refl h
+pub missing_more : (log : List Record) (end : ℕ) (missing : List ℕ) → AreMissing log end missing
+    → AreMissing log (end + 1) (missing ++ lacking log (end + 1))
+missing_more log end missing h =
+    lacking_if log end missing (is_some (request_in (record_at log (end + 1)))) (is_some (answer_of log (end + 1)))
+    refl refl h

@@ -1,12 +1,11 @@
 -- Leaves that are written one after another.
 use Rattle.std.proofs.Common.{◌≡◌, ℕ, ◌+◌, ◌<◌, ◌≤◌, List, ◌∷◌, length, get_or, drop, refl, sym, ap, ◌∙◌, subst, inl, inr}
 use Rattle.std.proofs.lemmas.List.{drop_more, drop_all}
-use Rattle.record_key.specs.declared.refusal.Refusal.{Refusal}
 use Rattle.codec.specs.Images.{IsImage}
 use Rattle.page.specs.Leaf.{LeafView, first}
 use Rattle.recovery_laws.specs.Images.{image_of}
 use Rattle.system_txn.specs.Changes.{written_to, written_all}
-use Rattle.system_txn.specs.Gives.{HaveImages, StopsWriting, StopsAmong}
+use Rattle.system_txn.specs.Gives.{HaveImages, FailsWriting, FailsAmong}
 use Rattle.system_txn.specs.Kept.{IsSystem}
 use Rattle.system_txn.specs.SystemView.{SystemView}
 use Rattle.system_txn.proofs.Written.{keeps_written_at}
@@ -16,12 +15,11 @@ pub record WritesOn (start now : SystemView) (p : ℕ) : Type 0 where
   pub kept : IsSystem now
   pub same : now.leaves ≡ start.leaves
   pub written : written_all start start.leaves ≡ written_all now (drop p start.leaves)
-  pub stops : (r : Refusal) (new : SystemView) → StopsAmong now (drop p start.leaves) r new
-      → StopsAmong start start.leaves r new
+  pub fails : (new : SystemView) → FailsAmong now (drop p start.leaves) new → FailsAmong start start.leaves new
   pub images : HaveImages (drop p start.leaves) → HaveImages start.leaves
 
 pub begins : (v : SystemView) → IsSystem v → WritesOn v v 0
-begins v h = record { kept = h; same = refl; written = refl; stops = λ r new s. s; images = λ all. all }
+begins v h = record { kept = h; same = refl; written = refl; fails = λ new f. f; images = λ all. all }
 
 -- the place is among the leaves that are there now
 pub within_now : (start now : SystemView) (p : ℕ) → WritesOn start now p → p < length start.leaves
@@ -44,20 +42,20 @@ goes_on start now new p h there same image is =
       kept = subst IsSystem (sym is) (keeps_written_at now p h.kept (within_now start now p h there) image);
       same = same ∙ h.same;
       written = h.written ∙ ap (written_all now) left ∙ ap (λ (v : SystemView). written_all v rest) (sym then_is);
-      stops = λ r last s. h.stops r last (subst (λ (leaves : List LeafView). StopsAmong now leaves r last) (sym left)
-          (inr (fits, subst (λ (v : SystemView). StopsAmong v rest r last) then_is s)));
+      fails = λ last f. h.fails last (subst (λ (leaves : List LeafView). FailsAmong now leaves last) (sym left)
+          (inr (fits, subst (λ (v : SystemView). FailsAmong v rest last) then_is f)));
       images = λ all. h.images (subst HaveImages (sym left) (fits, all));
     }
 
--- a write is refused
-pub stops_here : (start now new : SystemView) (p : ℕ) (r : Refusal) → WritesOn start now p → p < length start.leaves
-    → StopsWriting now (get_or now.leaves p first) r new → StopsAmong start start.leaves r new
-stops_here start now new p r h there stops =
+-- a device fails in a write
+pub fails_here : (start now new : SystemView) (p : ℕ) → WritesOn start now p → p < length start.leaves
+    → FailsWriting now (get_or now.leaves p first) new → FailsAmong start start.leaves new
+fails_here start now new p h there fails =
     let here : get_or now.leaves p first ≡ get_or start.leaves p first =
     ap (λ (leaves : List LeafView). get_or leaves p first) h.same in
-    h.stops r new
-    (subst (λ (leaves : List LeafView). StopsAmong now leaves r new) (sym (drop_more start.leaves p first there))
-    (inl (subst (λ (leaf : LeafView). StopsWriting now leaf r new) here stops)))
+    h.fails new
+    (subst (λ (leaves : List LeafView). FailsAmong now leaves new) (sym (drop_more start.leaves p first there))
+    (inl (subst (λ (leaf : LeafView). FailsWriting now leaf new) here fails)))
 
 -- all are written
 pub written_now : (start now : SystemView) (p : ℕ) → WritesOn start now p → length start.leaves ≤ p

@@ -6,6 +6,7 @@ use Rattle.std.specs.FinMap as table
 use Rattle.std.proofs.lemmas.Bool.{cases_Bool, cases_lt}
 use Rattle.record_key.specs.declared.op.Op.{Op}
 use Rattle.record_key.specs.declared.refusal.Refusal.{Refusal}
+use Rattle.record_key.specs.declared.refusal.Refusal.TheVariants.{Device}
 use Rattle.record_key.specs.Table.{Bytes}
 use Rattle.ab_lsn.specs.AbLsn.{AbLsnView, raised}
 use Rattle.codec.specs.declared.dc_record.DcRecord.TheVariants as is
@@ -24,12 +25,13 @@ use Rattle.recovery_laws.specs.Laws.{IsCurrent}
 use Rattle.recovery_laws.specs.Leaves.{split_of, merge_of}
 use Rattle.recovery_laws.specs.Ready.{IsLow, IsReady}
 use Rattle.recovery_laws.proofs.Ready.{ready_stays}
-use Rattle.system_txn.specs.SystemView.{SystemView, fresh, refused_so}
+use Rattle.stable.specs.Usage.{Usage, called}
+use Rattle.system_txn.specs.SystemView.{SystemView, fresh, with_usage, log_refused}
 use Rattle.system_txn.specs.Changes.{next_id, next_number, leaf_in, split_to, merged_to, accepted, covered, forced, lowered, written_to, written_all}
 use Rattle.system_txn.specs.Checked.{IsChecked, Checks}
 use Rattle.system_txn.specs.Crashed.{crashed}
 use Rattle.system_txn.specs.Devices.{pages_of}
-use Rattle.system_txn.specs.Gives.{Splits, Merges, SplitGives, MergeGives, Tending, SplitsAt, MergesAt, Rests, tending, TendsTo, TendGives, FlushGives, CheckpointGives, AcceptGives, HaveImages, StopsWriting, StopsAmong}
+use Rattle.system_txn.specs.Gives.{Splits, Merges, SplitGives, MergeGives, Tending, SplitsAt, MergesAt, Rests, tending, TendsTo, TendGives, FlushGives, CheckpointGives, AcceptGives, HaveImages, StopsTending, FailsWriting, FailsAmong}
 use Rattle.system_txn.specs.Kept.{IsSystem, IsRecoverable}
 use Rattle.system_txn.specs.declared.tended.Neighbours.{Neighbours}
 use Rattle.system_txn.specs.declared.tended.Tended.{Tended}
@@ -50,8 +52,8 @@ low_grows v l =
 
 -- ---- nothing is asked of low numbers at the start
 
-pub fresh_checked : (failures : ℕ) → IsChecked 0 (fresh failures)
-fresh_checked failures = record {
+pub fresh_checked : (log_usage page_usage : Usage) → IsChecked 0 (fresh log_usage page_usage)
+fresh_checked log_usage page_usage = record {
   leaves = (omega arith, tt);
   ready = (ready_stays (IsLow 0)).all _ [] 0 (record {
     first_leaf = omega arith;
@@ -62,8 +64,9 @@ fresh_checked failures = record {
 
 -- ---- the log grows, and more of it is stable
 
-pub refused_checked : (v : SystemView) (r : Refusal) → Checks v (refused_so v r)
-refused_checked v r l c = record { leaves = c.leaves; ready = c.ready }
+-- however the devices were used
+pub usage_checked : (v : SystemView) (log_usage page_usage : Usage) → Checks v (with_usage v log_usage page_usage)
+usage_checked v log_usage page_usage l c = record { leaves = c.leaves; ready = c.ready }
 
 forced_checked : (v : SystemView) → IsRecoverable v → Checks v (forced v)
 forced_checked v h l c = record {
@@ -151,10 +154,13 @@ checked_merges old p pair new h merges =
 -- ---- leaves are written
 
 -- the page of a leaf that the log has so
-page_checked : (v : SystemView) (leaf : LeafView) (l : ℕ) → IsImage (image_of leaf) → IsCurrent v.log leaf.id leaf
-    → IsLow l leaf → IsChecked l v
-    → IsChecked l (record v { pages = table.insert v.pages leaf.id (image_bytes (image_of leaf)) })
-page_checked v leaf l fits current low c = record {
+page_checked : (v : SystemView) (leaf : LeafView) (usage : Usage) (l : ℕ) → IsImage (image_of leaf)
+    → IsCurrent v.log leaf.id leaf → IsLow l leaf → IsChecked l v
+    → IsChecked l (record v {
+      pages = table.insert v.pages leaf.id (image_bytes (image_of leaf));
+      page_usage = usage;
+    })
+page_checked v leaf usage l fits current low c = record {
   leaves = c.leaves;
   ready = subst (λ (pages : ℕ → Option LeafView). IsReady (IsLow l) pages v.log v.stable)
       (sym (λ i id. pages_written v.pages leaf fits id i))
@@ -165,8 +171,10 @@ written_checked : (v : SystemView) (leaf : LeafView) (l : ℕ) → IsRecoverable
     → IsCurrent v.log leaf.id leaf → IsLow l leaf → IsChecked l v → IsChecked l (written_to v leaf)
 written_checked v leaf l h fits current low c =
     elim (cases_Bool (nat_le leaf.last v.stable)) [
-      | inl stable ↦ rw stable (page_checked v leaf l fits current low c)
-      | inr young ↦ rw young (page_checked (forced v) leaf l fits current low (forced_checked v h l c))
+      | inl stable ↦ rw stable (page_checked v leaf (called v.page_usage) l fits current low c)
+      | inr young ↦
+          rw young
+          (page_checked (forced v) leaf (called v.page_usage) l fits current low (forced_checked v h l c))
     ]
 
 written_all_checked : (v : SystemView) (leaves : List LeafView) (l : ℕ) → IsRecoverable v → HaveImages leaves
@@ -176,28 +184,27 @@ written_all_checked v (leaf ∷ leaves) l h fit all lows c =
     written_all_checked (written_to v leaf) leaves l (recoverable_written v leaf h fit.0 all.0) fit.1
     (still_so v leaf leaves all.1) lows.1 (written_checked v leaf l h fit.0 all.0 lows.0 c)
 
-checked_stops : (v : SystemView) (leaf : LeafView) (r : Refusal) (new : SystemView) → IsRecoverable v
-    → StopsWriting v leaf r new → Checks v new
-checked_stops v leaf r new h stops l c =
-    elim stops.1 [
-      | inl before ↦ subst (IsChecked l) (sym before) (refused_checked v r l c)
-      | inr after ↦
-          subst (IsChecked l) (sym after) (refused_checked (covered v leaf) r l (covered_checked v leaf h l c))
-    ]
+checked_failed : (v : SystemView) (leaf : LeafView) (new : SystemView) → IsRecoverable v → FailsWriting v leaf new
+    → Checks v new
+checked_failed v leaf new h (inl force) l c =
+    subst (IsChecked l) (sym force.1.0) (usage_checked v _ v.page_usage l c)
+checked_failed v leaf new h (inr write) l c =
+    subst (IsChecked l) (sym write.0)
+    (usage_checked (covered v leaf) (covered v leaf).log_usage _ l (covered_checked v leaf h l c))
 
-checked_stops_among : (v : SystemView) (leaves : List LeafView) (r : Refusal) (new : SystemView) (l : ℕ)
-    → IsRecoverable v → AreSo v leaves → AllByRecursion (IsLow l) leaves → StopsAmong v leaves r new → IsChecked l v
+checked_failed_among : (v : SystemView) (leaves : List LeafView) (new : SystemView) (l : ℕ)
+    → IsRecoverable v → AreSo v leaves → AllByRecursion (IsLow l) leaves → FailsAmong v leaves new → IsChecked l v
     → IsChecked l new
-checked_stops_among v [] r new l h all lows stops c = absurd stops
-checked_stops_among v (leaf ∷ leaves) r new l h all lows (inl here) c = checked_stops v leaf r new h here l c
-checked_stops_among v (leaf ∷ leaves) r new l h all lows (inr later) c =
-    checked_stops_among (written_to v leaf) leaves r new l (recoverable_written v leaf h later.0 all.0)
+checked_failed_among v [] new l h all lows fails c = absurd fails
+checked_failed_among v (leaf ∷ leaves) new l h all lows (inl here) c = checked_failed v leaf new h here l c
+checked_failed_among v (leaf ∷ leaves) new l h all lows (inr later) c =
+    checked_failed_among (written_to v leaf) leaves new l (recoverable_written v leaf h later.0 all.0)
     (still_so v leaf leaves all.1) lows.1 later.1 (written_checked v leaf l h later.0 all.0 lows.0 c)
 
 -- ---- whatever a call gives
 
-refused_at : (old : SystemView) (r : Refusal) (new : SystemView) → new ≡ refused_so old r → Checks old new
-refused_at old r new is = subst (Checks old) (sym is) (refused_checked old r)
+refused_at : (old : SystemView) (r : Refusal) (new : SystemView) → new ≡ log_refused old r → Checks old new
+refused_at old r new is = subst (Checks old) (sym is) (usage_checked old _ old.page_usage)
 
 pub checked_split : (old : SystemView) (k : Bytes) (given : Result Neighbours Refusal) (new : SystemView)
     → IsSystem old → IsRecoverable old → SplitGives old k given new → Checks old new
@@ -221,10 +228,16 @@ checked_tends old Rests (tended.Split pair) new kept h gives = absurd gives
 checked_tends old Rests (tended.Merged pair) new kept h gives = absurd gives
 checked_tends old Rests tended.Nothing new kept h gives = subst (Checks old) (sym gives) (λ l c. c)
 
+checked_stops_tending : (old : SystemView) (does : Tending) (r : Refusal) (new : SystemView)
+    → StopsTending old does r new → Checks old new
+checked_stops_tending old (SplitsAt p) r new stops = refused_at old r new stops.1
+checked_stops_tending old (MergesAt p) r new stops = refused_at old r new stops.1
+checked_stops_tending old Rests r new stops = absurd stops
+
 pub checked_tend : (old : SystemView) (merges : Bool) (given : Result Tended Refusal) (new : SystemView)
     → IsSystem old → IsRecoverable old → TendGives old merges given new → Checks old new
 checked_tend old merges (Ok what) new kept h gives = checked_tends old (tending old merges) what new kept h gives
-checked_tend old merges (Err r) new kept h gives = refused_at old r new gives.1
+checked_tend old merges (Err r) new kept h gives = checked_stops_tending old (tending old merges) r new gives
 
 pub checked_flush : (old : SystemView) (k : Bytes) (given : Result ℕ Refusal) (new : SystemView)
     → IsSystem old → IsRecoverable old → FlushGives old k given new → Checks old new
@@ -233,15 +246,16 @@ checked_flush old k (Ok id) new kept h gives l c =
     all_at (λ (leaf : LeafView). IsCurrent old.log leaf.id leaf) old.leaves k kept.leaves h.current.each in
     let low : IsLow l (leaf_at old.leaves k) = all_at (IsLow l) old.leaves k kept.leaves c.leaves in
     subst (IsChecked l) (sym gives.2) (written_checked old (leaf_at old.leaves k) l h gives.1 at low c)
-checked_flush old k (Err r) new kept h gives l c = checked_stops old (leaf_at old.leaves k) r new h gives l c
+checked_flush old k (Err r) new kept h (inl memory) l c = subst (IsChecked l) (sym memory.1) c
+checked_flush old k (Err r) new kept h (inr fails) l c = checked_failed old (leaf_at old.leaves k) new h fails.1 l c
 
 pub checked_accept : (old : SystemView) (s : ℕ) (given : Result Unit Refusal) (new : SystemView)
     → IsRecoverable old → AcceptGives old s given new → Checks old new
 checked_accept old s (Ok done) new h gives l c =
     subst (IsChecked l) (sym gives.1) (session_checked old s h l c)
-checked_accept old s (Err r) new h (why, inl refused) l c = refused_at old r new refused l c
-checked_accept old s (Err r) new h (why, inr after) l c =
-    refused_at (accepted old s) r new after.2 l (accepted_checked old s h l c)
+checked_accept old s (Err r) new h (inl append) l c = refused_at old r new append.1 l c
+checked_accept old s (Err r) new h (inr force) l c =
+    refused_at (accepted old s) Device new force.2.0 l (accepted_checked old s h l c)
 
 pub checked_checkpoint : (old : SystemView) (to : ℕ) (given : Result Unit Refusal) (new : SystemView)
     → IsRecoverable old → CheckpointGives old to given new → Checks old new
@@ -254,7 +268,8 @@ checked_checkpoint old to (Err r) new h (inl none) l c = subst (IsChecked l) (sy
 checked_checkpoint old to (Err r) new h (inr stops) l c =
     let raised : IsRecoverable (lowered old to) = recoverable_lowered old to h in
     let low : IsChecked l (lowered old to) = lowered_checked old to l c in
-    checked_stops_among (lowered old to) (lowered old to).leaves r new l raised raised.current.each low.leaves stops low
+    checked_failed_among (lowered old to) (lowered old to).leaves new l raised raised.current.each low.leaves stops.1
+    low
 
 -- ---- a crash
 

@@ -6,6 +6,7 @@ use Rattle.std.specs.FinMap as table
 use Rattle.std.proofs.lemmas.Bool.{cases_Bool, cases_eq, cases_lt}
 use Rattle.ab_lsn.specs.AbLsn.{AbLsnView, raised}
 use Rattle.codec.specs.Images.{image_bytes, IsImage}
+use Rattle.stable.specs.Usage.{Usage, called}
 use Rattle.page.specs.Leaf.{LeafView, raised_to}
 use Rattle.page.specs.Tiles.{parts_of}
 use Rattle.recovery_laws.specs.Images.{image_of}
@@ -49,10 +50,13 @@ record Writes (l : ℕ) (v : SystemView) (left : List LeafView) : Type 0 where
   lows : AllByRecursion (IsLow l) left
   pages : (id : ℕ) → part_in id (shape v.log) ≢ None → HasPage l v id ⊎ (part_in id (parts_of left) ≢ None)
 
-page_written : (v : SystemView) (leaf : LeafView) (left : List LeafView) (l : ℕ) → IsImage (image_of leaf)
-    → Writes l v (leaf ∷ left)
-    → Writes l (record v { pages = table.insert v.pages leaf.id (image_bytes (image_of leaf)) }) left
-page_written v leaf left l fits w = record {
+page_written : (v : SystemView) (leaf : LeafView) (usage : Usage) (left : List LeafView) (l : ℕ)
+    → IsImage (image_of leaf) → Writes l v (leaf ∷ left)
+    → Writes l (record v {
+      pages = table.insert v.pages leaf.id (image_bytes (image_of leaf));
+      page_usage = usage;
+    }) left
+page_written v leaf usage left l fits w = record {
   leaves = w.leaves;
   current = w.current.1;
   lows = w.lows.1;
@@ -78,9 +82,9 @@ leaf_written : (v : SystemView) (leaf : LeafView) (left : List LeafView) (l : �
     → Writes l v (leaf ∷ left) → Writes l (written_to v leaf) left
 leaf_written v leaf left l fits w =
     elim (cases_Bool (nat_le leaf.last v.stable)) [
-      | inl stable ↦ rw stable (page_written v leaf left l fits w)
+      | inl stable ↦ rw stable (page_written v leaf (called v.page_usage) left l fits w)
       | inr young ↦
-          rw young (page_written (forced v) leaf left l fits
+          rw young (page_written (forced v) leaf (called v.page_usage) left l fits
           (record { leaves = w.leaves; current = w.current; lows = w.lows; pages = w.pages }))
     ]
 

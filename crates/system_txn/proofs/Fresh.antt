@@ -6,6 +6,7 @@ use Rattle.std.proofs.lemmas.List.{nil_from_length}
 use Rattle.record_key.specs.Laws.{key_cmp}
 use Rattle.record_key.specs.Table.{Bytes}
 use Rattle.stable.specs.PagesState.{Pages}
+use Rattle.stable.specs.Usage.{Usage}
 use Rattle.page.specs.Leaf.{IsLeaf, first}
 use Rattle.btree.specs.Leaves.{AreLeaves}
 use Rattle.recovery_laws.proofs.Images.{numbers_stay}
@@ -26,12 +27,12 @@ first_alone = record { each = (first_kept, tt); tile = (refl, refl) }
 pub no_page : (id : ℕ) (pages : Pages) → pages ≡ table.empty → table.get pages id ≡ None
 no_page id pages none = ap (λ (m : Pages). table.get m id) none ∙ table.get-empty nat_cmp id
 
-pub fresh_kept : (n : ℕ) → IsSystem (fresh n)
-fresh_kept n = record {
+pub fresh_kept : (log_usage page_usage : Usage) → IsSystem (fresh log_usage page_usage)
+fresh_kept log_usage page_usage = record {
   leaves = first_alone;
   numbers = (numbers_stay.first, tt);
   records = tt;
   numbered = omega arith;
   named = omega arith;
-  pages = λ id bytes is. absurd (let no : None ≡ Some bytes = sym (no_page id (fresh n).pages refl) ∙ is in cc);
+  pages = λ id bytes is. absurd (let no : None ≡ Some bytes = sym (no_page id table.empty refl) ∙ is in cc);
 }

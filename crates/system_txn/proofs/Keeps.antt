@@ -2,13 +2,15 @@
 use Rattle.std.proofs.Common.{ℕ, ◌<◌, length, arith}
 use Rattle.codec.specs.declared.dc_record.DcRecord.TheVariants as is
 use Rattle.codec.specs.DcRecords.{FitsFrame}
-use Rattle.system_txn.specs.SystemView.{SystemView}
+use Rattle.stable.specs.Usage.{Usage}
+use Rattle.system_txn.specs.SystemView.{SystemView, with_usage}
 use Rattle.system_txn.specs.Changes.{accepted, forced}
 use Rattle.system_txn.specs.Kept.{IsSystem}
 
--- it holds whatever count of failures there is
-pub keeps_failures : (v : SystemView) (n : ℕ) → IsSystem v → IsSystem (record v { failures = n })
-keeps_failures v n h = record {
+-- it holds however the devices were used
+pub keeps_usage : (v : SystemView) (log_usage page_usage : Usage) → IsSystem v
+    → IsSystem (with_usage v log_usage page_usage)
+keeps_usage v log_usage page_usage h = record {
   leaves = h.leaves;
   numbers = h.numbers;
   records = h.records;

@@ -16,11 +16,12 @@ use Rattle.btree.proofs.Stays.{merged_stays}
 use Rattle.recovery_laws.specs.Images.{HasLeafNumbers, image_of}
 use Rattle.recovery_laws.specs.Leaves.{merge_of}
 use Rattle.recovery_laws.proofs.Images.{images_keep_leaves, numbers_stay}
+use Rattle.stable.specs.Usage.{called}
 use Rattle.system_txn.specs.SystemView.{SystemView}
 use Rattle.system_txn.specs.Changes.{leaf_in, next_number, merged_to}
 use Rattle.system_txn.specs.Kept.{IsSystem}
 use Rattle.system_txn.proofs.Amid.{IsMergedAmid, merged_amid, AllAmid, all_amid}
-use Rattle.system_txn.proofs.Keeps.{keeps_failures}
+use Rattle.system_txn.proofs.Keeps.{keeps_usage}
 
 -- two leaves that may be joined, where there is a number for the record
 pub record Mergeable (v : SystemView) (p : ℕ) : Type 0 where
@@ -76,7 +77,7 @@ module _ (v : SystemView) (p : ℕ) (m : Mergeable v p) where
   )
 
   merged : FitsFrame (merge_of v.log left right)
-      → IsSystem (record v { leaves = new; log = merge_of v.log left right ∷ v.log })
+      → IsSystem (record v { leaves = new; log = merge_of v.log left right ∷ v.log; log_usage = called v.log_usage })
   merged fits = record {
     leaves = (merged_stays v.leaves p (next_number v) m.kept.leaves m.may).leaves;
     numbers = have HasLeafNumbers m.kept.numbers numbers_of_both;
@@ -93,7 +94,11 @@ module _ (v : SystemView) (p : ℕ) (m : Mergeable v p) where
   keeps_merged : FitsFrame (merge_of v.log left (leaf_in v (p + 1))) → IsSystem (merged_to v p)
   keeps_merged =
       subst (λ (q : ℕ). FitsFrame (merge_of v.log left (leaf_in v q))
-      → IsSystem (record v { leaves = new; log = merge_of v.log left (leaf_in v q) ∷ v.log })) (sym (add-one p)) merged
+      → IsSystem (record v {
+        leaves = new;
+        log = merge_of v.log left (leaf_in v q) ∷ v.log;
+        log_usage = called v.log_usage;
+      })) (sym (add-one p)) merged
 
 -- ---- a merge as it is planned, and then done
 
@@ -129,12 +134,16 @@ module _ (v : SystemView) (p d : ℕ) (merge : Merge) (id : ℕ) (image : LeafIm
       let by : merge.merged.value.last ≡ next_number v = ap (λ (l : LeafView). l.last) both_is in
       let joined : new.leaves ≡ (merged_to v p).leaves = leaves ∙ (λ i. merged_at p (by i) v.leaves) in
       let logged : new.log ≡ (merged_to v p).log = log ∙ (λ i. spelled i ∷ v.log) in
-      let same : new ≡ record (merged_to v p) { failures = new.failures } = λ i. record {
+      let same : new ≡ record (merged_to v p) {
+        log_usage = new.log_usage;
+        page_usage = new.page_usage;
+      } = λ i. record {
         leaves = joined i;
         log = logged i;
         stable = stable i;
         pages = pages i;
-        failures = new.failures;
+        log_usage = new.log_usage;
+        page_usage = new.page_usage;
       } in
       subst IsSystem (sym same)
-      (keeps_failures (merged_to v p) new.failures (keeps_merged v p h.may (subst FitsFrame spelled fits)))
+      (keeps_usage (merged_to v p) new.log_usage new.page_usage (keeps_merged v p h.may (subst FitsFrame spelled fits)))

@@ -19,7 +19,7 @@ use Rattle.system_txn.specs.SystemView.{SystemView}
 use Rattle.system_txn.specs.Changes.{leaf_in, next_id, next_number, split_to}
 use Rattle.system_txn.specs.Kept.{IsSystem}
 use Rattle.system_txn.proofs.Amid.{IsSplitAmid, split_amid, AllAmid, all_amid}
-use Rattle.system_txn.proofs.Keeps.{keeps_failures}
+use Rattle.system_txn.proofs.Keeps.{keeps_usage}
 
 -- a leaf that may be split, where there are numbers for the record and the new leaf
 pub record Splittable (v : SystemView) (p : ℕ) : Type 0 where
@@ -108,12 +108,16 @@ module _ (v : SystemView) (p id d : ℕ) (split : Split) (image : LeafImage) (h 
       let by : split.right.value.last ≡ next_number v = ap (λ (l : LeafView). l.last) half_is in
       let parted : new.leaves ≡ (split_to v p).leaves = leaves ∙ (λ i. split_at p (own i) (by i) v.leaves) in
       let logged : new.log ≡ (split_to v p).log = log ∙ (λ i. spelled i ∷ v.log) in
-      let same : new ≡ record (split_to v p) { failures = new.failures } = λ i. record {
+      let same : new ≡ record (split_to v p) {
+        log_usage = new.log_usage;
+        page_usage = new.page_usage;
+      } = λ i. record {
         leaves = parted i;
         log = logged i;
         stable = stable i;
         pages = pages i;
-        failures = new.failures;
+        log_usage = new.log_usage;
+        page_usage = new.page_usage;
       } in
       subst IsSystem (sym same)
-      (keeps_failures (split_to v p) new.failures (keeps_split v p h.may (subst FitsFrame spelled fits)))
+      (keeps_usage (split_to v p) new.log_usage new.page_usage (keeps_split v p h.may (subst FitsFrame spelled fits)))

@@ -10,6 +10,7 @@ use Rattle.recovery_laws.specs.Leaves.{AreCurrent, AreInPlace, split_of, merge_o
 use Rattle.recovery_laws.proofs.Fitting.{fit_stays}
 use Rattle.recovery_laws.proofs.Halves.{halves_fit}
 use Rattle.recovery_laws.proofs.Leaves.{leaves_are_the_shapes}
+use Rattle.stable.specs.Usage.{called}
 use Rattle.system_txn.specs.SystemView.{SystemView}
 use Rattle.system_txn.specs.Changes.{leaf_in, next_id, next_number, split_to, merged_to}
 use Rattle.system_txn.specs.Kept.{IsSystem, IsRecoverable}
@@ -44,6 +45,7 @@ merge_after : (v : SystemView) (p : ℕ) → IsRecoverable v → may_merge_at v.
     → IsRecoverable (record v {
       leaves = merged_at p (next_number v) v.leaves;
       log = merge_of v.log (leaf_in v p) (leaf_in v (suc p)) ∷ v.log;
+      log_usage = called v.log_usage;
     })
 merge_after v p h may =
     let left : LeafView = leaf_in v p in
@@ -73,4 +75,5 @@ merge_recoverable v p h may =
     subst (λ (q : ℕ). IsRecoverable (record v {
       leaves = merged_at p (next_number v) v.leaves;
       log = merge_of v.log (leaf_in v p) (leaf_in v q) ∷ v.log;
+      log_usage = called v.log_usage;
     })) (sym (add-one p)) (merge_after v p h may)

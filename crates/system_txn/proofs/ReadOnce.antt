@@ -1,5 +1,5 @@
 -- Bytes hold the frames of one log.
-use Rattle.std.proofs.Common.{◌≡◌, ℕ, ◌+◌, List, [], ◌∷◌, ◌++◌, length, refl, sym, ap, ◌∙◌, subst, arith, append_assoc, append-nil, inl, inr}
+use Rattle.std.proofs.Common.{◌≡◌, ℕ, ◌+◌, List, [], ◌∷◌, ◌++◌, length, refl, sym, ap, ◌∙◌, subst, arith, append_assoc, append-nil, inl}
 use Rattle.codec.specs.declared.dc_record.DcRecord.{DcRecord}
 use Rattle.codec.specs.declared.taken.Taken.{Taken}
 use Rattle.codec.specs.declared.taken.Taken.TheVariants as took
@@ -9,7 +9,7 @@ use Rattle.codec.specs.Reading.{dc_record_at, frame_at, within}
 use Rattle.codec.proofs.Frames as frames
 use Rattle.codec.proofs.DcRecords.{dc_record_reads, dc_record_not_empty}
 use Rattle.system_txn.specs.Devices.{spelled, AreRecords}
-use Rattle.system_txn.specs.Recovering.{HoldsFrames, LeavesFrames}
+use Rattle.system_txn.specs.Recovering.{HoldsFrames}
 use Rattle.system_txn.specs.Restarts.{FramesReadOnce}
 
 -- no record's frame begins another's
@@ -128,12 +128,5 @@ pub just_frames : (log : List DcRecord) → AreRecords log → HoldsFrames (spel
 just_frames log records =
     record { records = records; left = []; parts = sym (append-nil (spelled log)); cut = inl (omega arith) }
 
-frames_left : (old new : List ℕ) (log : List DcRecord) → HoldsFrames old log → LeavesFrames old new
-    → HoldsFrames new log
-frames_left old new log h (inl same) = subst (λ (b : List ℕ). HoldsFrames b log) (sym same) h
-frames_left old new log h (inr (other, o, is)) =
-    let same : other ≡ log = frames_once old other log o h in
-    subst (λ (b : List ℕ). HoldsFrames b log) (sym (is ∙ ap spelled same)) (just_frames log h.records)
-
 pub frames_read_once : FramesReadOnce
-frames_read_once = record { once = frames_once; cut = frames_left }
+frames_read_once = record { once = frames_once; cut = λ bytes log h. just_frames log h.records }

@@ -6,6 +6,7 @@ use Rattle.std.specs.FinMap as table
 use Rattle.std.proofs.lemmas.Bool.{cases_Bool, leb-true}
 use Rattle.record_key.specs.declared.op.Op.{Op}
 use Rattle.record_key.specs.declared.refusal.Refusal.{Refusal}
+use Rattle.record_key.specs.declared.refusal.Refusal.TheVariants.{Device}
 use Rattle.record_key.specs.Table.{Bytes, key_of}
 use Rattle.codec.specs.declared.dc_record.DcRecord.TheVariants as is
 use Rattle.codec.specs.Images.{image_bytes, IsImage}
@@ -22,10 +23,11 @@ use Rattle.recovery_laws.specs.Leaves.{lasts_of}
 use Rattle.recovery_laws.specs.Recovery.{FitPages}
 use Rattle.recovery_laws.proofs.Fitting.{fit_stays}
 use Rattle.recovery_laws.proofs.Leaves.{leaves_are_the_shapes}
-use Rattle.system_txn.specs.SystemView.{SystemView, fresh, refused_so}
+use Rattle.stable.specs.Usage.{Usage, called}
+use Rattle.system_txn.specs.SystemView.{SystemView, fresh, with_usage, log_refused}
 use Rattle.system_txn.specs.Changes.{accepted, covered, forced, lowered, written_to, written_all}
 use Rattle.system_txn.specs.Devices.{pages_of, page_in}
-use Rattle.system_txn.specs.Gives.{Splits, Merges, SplitGives, MergeGives, Tending, SplitsAt, MergesAt, Rests, tending, TendsTo, TendGives, FlushGives, CheckpointGives, AcceptGives, HaveImages, StopsWriting, StopsAmong}
+use Rattle.system_txn.specs.Gives.{Splits, Merges, SplitGives, MergeGives, Tending, SplitsAt, MergesAt, Rests, tending, TendsTo, TendGives, FlushGives, CheckpointGives, AcceptGives, HaveImages, StopsTending, FailsWriting, FailsAmong}
 use Rattle.system_txn.specs.Kept.{IsSystem, IsRecoverable}
 use Rattle.system_txn.specs.declared.tended.Neighbours.{Neighbours}
 use Rattle.system_txn.specs.declared.tended.Tended.{Tended}
@@ -36,23 +38,25 @@ use Rattle.system_txn.proofs.Written.{pages_written}
 
 -- ---- one leaf, and nothing written
 
-pub recoverable_fresh : (failures : ℕ) → IsRecoverable (fresh failures)
-recoverable_fresh failures = record {
+pub recoverable_fresh : (log_usage page_usage : Usage) → IsRecoverable (fresh log_usage page_usage)
+recoverable_fresh log_usage page_usage = record {
   legal = tt;
   current = leaves_are_the_shapes.start;
   fit = record {
     kept = omega arith;
     each = λ id page is. absurd
-        (let none : pages_of (fresh failures).pages id ≡ None =
-        ap (λ (o : Option (List ℕ)). o >>= page_in) (no_page id (fresh failures).pages refl) in
+        (let none : pages_of table.empty id ≡ None =
+        ap (λ (o : Option (List ℕ)). o >>= page_in) (no_page id table.empty refl) in
         let wrong : None ≡ Some page = sym none ∙ is in cc);
   };
 }
 
 -- ---- the log grows, and more of it is stable
 
-pub recoverable_refused : (v : SystemView) (r : Refusal) → IsRecoverable v → IsRecoverable (refused_so v r)
-recoverable_refused v r h = record { legal = h.legal; current = h.current; fit = h.fit }
+-- however the devices were used
+pub recoverable_usage : (v : SystemView) (log_usage page_usage : Usage) → IsRecoverable v
+    → IsRecoverable (with_usage v log_usage page_usage)
+recoverable_usage v log_usage page_usage h = record { legal = h.legal; current = h.current; fit = h.fit }
 
 pub recoverable_forced : (v : SystemView) → IsRecoverable v → IsRecoverable (forced v)
 recoverable_forced v h = record {
@@ -125,10 +129,13 @@ recoverable_merges old p pair new h merges =
 -- ---- leaves are written
 
 -- the page of a leaf that is no younger than the stable records
-recoverable_page : (v : SystemView) (leaf : LeafView) → IsRecoverable v → IsImage (image_of leaf)
+recoverable_page : (v : SystemView) (leaf : LeafView) (usage : Usage) → IsRecoverable v → IsImage (image_of leaf)
     → IsCurrent v.log leaf.id leaf → leaf.last ≤ v.stable
-    → IsRecoverable (record v { pages = table.insert v.pages leaf.id (image_bytes (image_of leaf)) })
-recoverable_page v leaf h fits current stable = record {
+    → IsRecoverable (record v {
+      pages = table.insert v.pages leaf.id (image_bytes (image_of leaf));
+      page_usage = usage;
+    })
+recoverable_page v leaf usage h fits current stable = record {
   legal = h.legal;
   current = h.current;
   fit = subst (λ (pages : ℕ → Option LeafView). FitPages pages v.log v.stable)
@@ -140,8 +147,12 @@ pub recoverable_written : (v : SystemView) (leaf : LeafView) → IsRecoverable v
     → IsCurrent v.log leaf.id leaf → IsRecoverable (written_to v leaf)
 recoverable_written v leaf h fits current =
     elim (cases_Bool (nat_le leaf.last v.stable)) [
-      | inl stable ↦ rw stable (recoverable_page v leaf h fits current (leb-true leaf.last v.stable stable))
-      | inr young ↦ rw young (recoverable_page (forced v) leaf (recoverable_forced v h) fits current current.last)
+      | inl stable ↦
+          rw stable
+          (recoverable_page v leaf (called v.page_usage) h fits current (leb-true leaf.last v.stable stable))
+      | inr young ↦
+          rw young
+          (recoverable_page (forced v) leaf (called v.page_usage) (recoverable_forced v h) fits current current.last)
     ]
 
 -- leaves as the log has them
@@ -168,29 +179,28 @@ recoverable_written_all v (leaf ∷ leaves) h fit all =
     recoverable_written_all (written_to v leaf) leaves (recoverable_written v leaf h fit.0 all.0) fit.1
     (still_so v leaf leaves all.1)
 
-pub recoverable_stops : (v : SystemView) (leaf : LeafView) (r : Refusal) (new : SystemView) → IsRecoverable v
-    → StopsWriting v leaf r new → IsRecoverable new
-recoverable_stops v leaf r new h stops =
-    elim stops.1 [
-      | inl before ↦ subst IsRecoverable (sym before) (recoverable_refused v r h)
-      | inr after ↦
-          subst IsRecoverable (sym after) (recoverable_refused (covered v leaf) r (recoverable_covered v leaf h))
-    ]
+pub recoverable_failed : (v : SystemView) (leaf : LeafView) (new : SystemView) → IsRecoverable v
+    → FailsWriting v leaf new → IsRecoverable new
+recoverable_failed v leaf new h (inl force) =
+    subst IsRecoverable (sym force.1.0) (recoverable_usage v _ v.page_usage h)
+recoverable_failed v leaf new h (inr write) =
+    subst IsRecoverable (sym write.0)
+    (recoverable_usage (covered v leaf) (covered v leaf).log_usage _ (recoverable_covered v leaf h))
 
-pub recoverable_stops_among : (v : SystemView) (leaves : List LeafView) (r : Refusal) (new : SystemView)
+pub recoverable_failed_among : (v : SystemView) (leaves : List LeafView) (new : SystemView)
     → IsRecoverable v → AllByRecursion (λ (leaf : LeafView). IsCurrent v.log leaf.id leaf) leaves
-    → StopsAmong v leaves r new → IsRecoverable new
-recoverable_stops_among v [] r new h all stops = absurd stops
-recoverable_stops_among v (leaf ∷ leaves) r new h all (inl here) = recoverable_stops v leaf r new h here
-recoverable_stops_among v (leaf ∷ leaves) r new h all (inr later) =
-    recoverable_stops_among (written_to v leaf) leaves r new (recoverable_written v leaf h later.0 all.0)
+    → FailsAmong v leaves new → IsRecoverable new
+recoverable_failed_among v [] new h all fails = absurd fails
+recoverable_failed_among v (leaf ∷ leaves) new h all (inl here) = recoverable_failed v leaf new h here
+recoverable_failed_among v (leaf ∷ leaves) new h all (inr later) =
+    recoverable_failed_among (written_to v leaf) leaves new (recoverable_written v leaf h later.0 all.0)
     (still_so v leaf leaves all.1) later.1
 
 -- ---- whatever a call gives
 
-refused_at : (old : SystemView) (r : Refusal) (new : SystemView) → IsRecoverable old → new ≡ refused_so old r
+refused_at : (old : SystemView) (r : Refusal) (new : SystemView) → IsRecoverable old → new ≡ log_refused old r
     → IsRecoverable new
-refused_at old r new h is = subst IsRecoverable (sym is) (recoverable_refused old r h)
+refused_at old r new h is = subst IsRecoverable (sym is) (recoverable_usage old _ old.page_usage h)
 
 pub recoverable_split : (old : SystemView) (k : Bytes) (given : Result Neighbours Refusal) (new : SystemView)
     → IsSystem old → IsRecoverable old → SplitGives old k given new → IsRecoverable new
@@ -214,11 +224,18 @@ recoverable_tends old Rests (tended.Split pair) new kept h gives = absurd gives
 recoverable_tends old Rests (tended.Merged pair) new kept h gives = absurd gives
 recoverable_tends old Rests tended.Nothing new kept h gives = subst IsRecoverable (sym gives) h
 
+recoverable_stops_tending : (old : SystemView) (does : Tending) (r : Refusal) (new : SystemView) → IsRecoverable old
+    → StopsTending old does r new → IsRecoverable new
+recoverable_stops_tending old (SplitsAt p) r new h stops = refused_at old r new h stops.1
+recoverable_stops_tending old (MergesAt p) r new h stops = refused_at old r new h stops.1
+recoverable_stops_tending old Rests r new h stops = absurd stops
+
 pub recoverable_tend : (old : SystemView) (merges : Bool) (given : Result Tended Refusal) (new : SystemView)
     → IsSystem old → IsRecoverable old → TendGives old merges given new → IsRecoverable new
 recoverable_tend old merges (Ok what) new kept h gives =
     recoverable_tends old (tending old merges) what new kept h gives
-recoverable_tend old merges (Err r) new kept h gives = refused_at old r new h gives.1
+recoverable_tend old merges (Err r) new kept h gives =
+    recoverable_stops_tending old (tending old merges) r new h gives
 
 pub recoverable_flush : (old : SystemView) (k : Bytes) (given : Result ℕ Refusal) (new : SystemView)
     → IsSystem old → IsRecoverable old → FlushGives old k given new → IsRecoverable new
@@ -226,7 +243,9 @@ recoverable_flush old k (Ok id) new kept h gives =
     let at : IsCurrent old.log (leaf_at old.leaves k).id (leaf_at old.leaves k) =
     all_at (λ (leaf : LeafView). IsCurrent old.log leaf.id leaf) old.leaves k kept.leaves h.current.each in
     subst IsRecoverable (sym gives.2) (recoverable_written old (leaf_at old.leaves k) h gives.1 at)
-recoverable_flush old k (Err r) new kept h gives = recoverable_stops old (leaf_at old.leaves k) r new h gives
+recoverable_flush old k (Err r) new kept h (inl memory) = subst IsRecoverable (sym memory.1) h
+recoverable_flush old k (Err r) new kept h (inr fails) =
+    recoverable_failed old (leaf_at old.leaves k) new h fails.1
 
 pub recoverable_checkpoint : (old : SystemView) (l : ℕ) (given : Result Unit Refusal) (new : SystemView)
     → IsRecoverable old → CheckpointGives old l given new → IsRecoverable new
@@ -237,12 +256,12 @@ recoverable_checkpoint old l (Ok done) new h gives =
 recoverable_checkpoint old l (Err r) new h (inl none) = subst IsRecoverable (sym none.1) h
 recoverable_checkpoint old l (Err r) new h (inr stops) =
     let raised : IsRecoverable (lowered old l) = recoverable_lowered old l h in
-    recoverable_stops_among (lowered old l) (lowered old l).leaves r new raised raised.current.each stops
+    recoverable_failed_among (lowered old l) (lowered old l).leaves new raised raised.current.each stops.1
 
 pub recoverable_accept : (old : SystemView) (s : ℕ) (given : Result Unit Refusal) (new : SystemView)
     → IsRecoverable old → AcceptGives old s given new → IsRecoverable new
 recoverable_accept old s (Ok done) new h gives =
     subst IsRecoverable (sym gives.1) (recoverable_forced (accepted old s) (recoverable_accepted old s h))
-recoverable_accept old s (Err r) new h (why, inl refused) = refused_at old r new h refused
-recoverable_accept old s (Err r) new h (why, inr after) =
-    refused_at (accepted old s) r new (recoverable_accepted old s h) after.2
+recoverable_accept old s (Err r) new h (inl append) = refused_at old r new h append.1
+recoverable_accept old s (Err r) new h (inr force) =
+    refused_at (accepted old s) Device new (recoverable_accepted old s h) force.2.0

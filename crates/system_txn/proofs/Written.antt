@@ -7,17 +7,17 @@ use Rattle.std.specs.Cmp.{nat_cmp_total, unsigned_tied}
 use Rattle.std.proofs.lemmas.Bool.{cases_Bool}
 use Rattle.codec.specs.Images.{image_bytes, IsOrderedImage, IsImage}
 use Rattle.stable.specs.PagesState.{Pages}
+use Rattle.stable.specs.Usage.{Usage, called}
 use Rattle.page.specs.Leaf.{LeafView, IsLeaf, first}
 use Rattle.recovery_laws.specs.Images.{image_of, HasLeafNumbers}
 use Rattle.recovery_laws.specs.Recovery.{written}
 use Rattle.recovery_laws.proofs.Images.{images_keep_leaves}
 use Rattle.system_txn.specs.Changes.{covered, forced, written_to}
 use Rattle.system_txn.specs.Devices.{pages_of}
-use Rattle.record_key.specs.declared.refusal.Refusal.{Refusal}
-use Rattle.system_txn.specs.Gives.{StopsWriting}
+use Rattle.system_txn.specs.Gives.{FailsWriting}
 use Rattle.system_txn.specs.Kept.{IsSystem}
 use Rattle.system_txn.specs.SystemView.{SystemView}
-use Rattle.system_txn.proofs.Keeps.{keeps_forced, keeps_failures}
+use Rattle.system_txn.proofs.Keeps.{keeps_forced, keeps_usage}
 use Rattle.system_txn.proofs.PageReading.{page_again}
 
 -- what is read of a page where one was written
@@ -44,9 +44,9 @@ pages_written pages leaf fits id =
     ]
 
 -- a leaf is written
-keeps_page : (v : SystemView) (leaf : LeafView) → IsSystem v → IsLeaf leaf → IsImage (image_of leaf)
-    → IsSystem (record v { pages = table.insert v.pages leaf.id (image_bytes (image_of leaf)) })
-keeps_page v leaf h kept fits = record {
+keeps_page : (v : SystemView) (leaf : LeafView) (usage : Usage) → IsSystem v → IsLeaf leaf → IsImage (image_of leaf)
+    → IsSystem (record v { pages = table.insert v.pages leaf.id (image_bytes (image_of leaf)); page_usage = usage })
+keeps_page v leaf usage h kept fits = record {
   leaves = h.leaves;
   numbers = h.numbers;
   records = h.records;
@@ -69,8 +69,8 @@ pub keeps_written : (v : SystemView) (leaf : LeafView) → IsSystem v → IsLeaf
     → IsSystem (written_to v leaf)
 keeps_written v leaf h kept fits =
     elim (cases_Bool (nat_le leaf.last v.stable)) [
-      | inl stable ↦ rw stable (keeps_page v leaf h kept fits)
-      | inr young ↦ rw young (keeps_page (forced v) leaf (keeps_forced v h) kept fits)
+      | inl stable ↦ rw stable (keeps_page v leaf (called v.page_usage) h kept fits)
+      | inr young ↦ rw young (keeps_page (forced v) leaf (called v.page_usage) (keeps_forced v h) kept fits)
     ]
 
 -- the log is forced where it has to be
@@ -88,14 +88,12 @@ at_place P [] p lt all = absurd (omega (arith, lt))
 at_place P (leaf ∷ leaves) zero lt all = all.0
 at_place P (leaf ∷ leaves) (suc p) lt all = at_place P leaves p (omega (arith, lt)) all.1
 
--- a write was refused
-pub keeps_stopped : (v : SystemView) (leaf : LeafView) (r : Refusal) (new : SystemView) → IsSystem v
-    → StopsWriting v leaf r new → IsSystem new
-keeps_stopped v leaf r new h stops =
-    elim stops.1 [
-      | inl before ↦ subst IsSystem (sym before) (keeps_failures v _ h)
-      | inr after ↦ subst IsSystem (sym after) (keeps_failures (covered v leaf) _ (keeps_covered v leaf h))
-    ]
+-- a device failed in a write
+pub keeps_failed : (v : SystemView) (leaf : LeafView) (new : SystemView) → IsSystem v → FailsWriting v leaf new
+    → IsSystem new
+keeps_failed v leaf new h (inl force) = subst IsSystem (sym force.1.0) (keeps_usage v _ v.page_usage h)
+keeps_failed v leaf new h (inr write) =
+    subst IsSystem (sym write.0) (keeps_usage (covered v leaf) _ _ (keeps_covered v leaf h))
 
 -- the leaf at a place is written
 pub keeps_written_at : (v : SystemView) (p : ℕ) → IsSystem v → p < length v.leaves

@@ -1,8 +1,9 @@
--- What each call does to the leaves, their log and their pages.
+-- What each call does to the leaves, their log and their pages, and which calls of their devices succeed.
 use Rattle.std.specs.Prelude.{ℕ, ◌+◌, List, [], ◌∷◌, get_or, length, map, nat_le, if◌then◌else◌}
 use Rattle.std.specs.FinMap as table
 use Rattle.codec.specs.declared.dc_record.DcRecord.TheVariants as is
 use Rattle.codec.specs.Images.{image_bytes}
+use Rattle.stable.specs.Usage.{called}
 use Rattle.page.specs.Leaf.{LeafView, first, raised_to}
 pub use Rattle.btree.specs.Choosing.{first_large, first_pair}
 use Rattle.btree.specs.Parting.{middle, split_at, merged_at}
@@ -26,6 +27,7 @@ abbrev pub split_to : SystemView → ℕ → SystemView
 split_to v p = record v {
   leaves = split_at p (next_id v) (next_number v) v.leaves;
   log = split_of v.log (leaf_in v p) (middle (leaf_in v p)) ∷ v.log;
+  log_usage = called v.log_usage;
 }
 
 -- the leaf at a place and the one after it are joined; the record holds the leaf of both
@@ -33,11 +35,12 @@ abbrev pub merged_to : SystemView → ℕ → SystemView
 merged_to v p = record v {
   leaves = merged_at p (next_number v) v.leaves;
   log = merge_of v.log (leaf_in v p) (leaf_in v (p + 1)) ∷ v.log;
+  log_usage = called v.log_usage;
 }
 
 -- every record is stable
 abbrev pub forced : SystemView → SystemView
-forced v = record v { stable = length v.log }
+forced v = record v { stable = length v.log; log_usage = called v.log_usage }
 
 -- the log is forced where the leaf's last system transaction isn't stable
 abbrev pub covered : SystemView → LeafView → SystemView
@@ -45,7 +48,10 @@ covered v leaf = if nat_le leaf.last v.stable then v else forced v
 
 -- the leaf is written to its page
 abbrev pub written_to : SystemView → LeafView → SystemView
-written_to v leaf = record (covered v leaf) { pages = table.insert v.pages leaf.id (image_bytes (image_of leaf)) }
+written_to v leaf = record (covered v leaf) {
+  pages = table.insert v.pages leaf.id (image_bytes (image_of leaf));
+  page_usage = called v.page_usage;
+}
 
 -- the leaves are written one after another
 abbrev pub written_all : SystemView → List LeafView → SystemView
@@ -58,4 +64,4 @@ lowered v l = record v { leaves = map (λ leaf. raised_to leaf l) v.leaves }
 
 -- a session's record stands in the log
 abbrev pub accepted : SystemView → ℕ → SystemView
-accepted v session = record v { log = is.Accept session ∷ v.log }
+accepted v session = record v { log = is.Accept session ∷ v.log; log_usage = called v.log_usage }

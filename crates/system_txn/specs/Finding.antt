@@ -1,10 +1,11 @@
 -- What is read of a log, and what both devices give.
-use Rattle.std.specs.Prelude.{◌≡◌, ◌⊎◌, ℕ, ◌+◌, ◌<◌, ◌^◌, List, length, reverse}
+use Rattle.std.specs.Prelude.{◌≡◌, ◌⊎◌, ℕ, ◌+◌, ◌<◌, ◌^◌, IsTrue, List, length, reverse}
 use Rattle.std.specs.List.{AllByRecursion}
 use Rattle.record_key.specs.declared.refusal.Refusal.{Refusal}
 use Rattle.record_key.specs.declared.refusal.Refusal.TheVariants.{NoMemory, Device, BadBytes}
 use Rattle.codec.specs.declared.dc_record.DcRecord.{DcRecord}
 use Rattle.stable.specs.PagesState.{Pages}
+use Rattle.stable.specs.Usage.{Usage, is_due, called, failed}
 use Rattle.btree.specs.Leaves.{AreLeaves}
 use Rattle.btree.specs.Lists.{leaves_in}
 use Rattle.recovery_laws.specs.Images.{HasLeafNumbers}
@@ -14,7 +15,7 @@ use Rattle.recovery_laws.specs.Recovery.{stored_session}
 use Rattle.recovery_laws.specs.Shape.{named}
 use Rattle.page.specs.Leaf.{LeafView}
 use Rattle.system_txn.specs.Devices.{spelled, places, pages_of}
-use Rattle.system_txn.specs.Recovering.{HoldsFrames, AreOwnPages}
+use Rattle.system_txn.specs.Recovering.{HoldsFrames, AreOwnPages, RefusesFrames}
 use Rattle.system_txn.specs.declared.frames.Frames.{Frames}
 use Rattle.system_txn.specs.declared.recovering.Recovered.{Recovered}
 
@@ -32,6 +33,12 @@ pub record AreRead (bytes : List ℕ) (frames : Frames) : Type 0 where
   pub end_is : frames.end ≡ length (spelled (log_of frames))
   pub next_is : frames.next_id ≡ named (log_of frames) + 1
   pub stored_is : frames.stored_session ≡ stored_session (log_of frames)
+
+-- why the log isn't read, and how its device was used: it failed in the one call, or that gave bytes
+abbrev pub StopsReading : List ℕ → Refusal → Usage → Usage → Type 0
+StopsReading bytes r old new =
+    ((r ≡ Device) × IsTrue (is_due old) × (new ≡ failed old))
+    ⊎ ((new ≡ called old) × ((pages : Pages) → RefusesFrames bytes pages r))
 
 -- the leaves that the records and the pages give, in a row
 pub record AreRecovered (pages : Pages) (log : List DcRecord) (row : List LeafView) : Type 0 where

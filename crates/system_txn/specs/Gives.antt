@@ -1,18 +1,20 @@
--- What each call gives, and what it leaves. A refused call leaves all as it was but for the count of failures, unless
--- its definition says more.
-use Rattle.std.specs.Prelude.{◌≡◌, ◌⊎◌, ℕ, ◌+◌, ◌||◌, Bool, true, not, List, [], ◌∷◌, Option, Some, None, Result, Ok, Err, length, nat_le}
+-- What each call gives, and what it leaves. A refused call leaves all as it was but for the usage of a device that
+-- failed, unless its definition says more.
+use Rattle.std.specs.Prelude.{◌≡◌, ◌⊎◌, ℕ, ◌+◌, ◌<◌, ◌||◌, Bool, true, not, List, [], ◌∷◌, Option, Some, None, Result, Ok, Err, IsTrue, length, nat_le}
 use Rattle.std.specs.List.{AllByRecursion}
 use Rattle.record_key.specs.declared.refusal.Refusal.{Refusal}
 use Rattle.record_key.specs.declared.refusal.Refusal.TheVariants.{NoMemory, Device, NotNow, NumbersSpent}
 use Rattle.record_key.specs.FirstCause.{first_of, MayRefuse}
 use Rattle.record_key.specs.Table.{Bytes}
 use Rattle.codec.specs.Images.{IsImage}
+use Rattle.stable.specs.Usage.{is_due}
 use Rattle.page.specs.Leaf.{LeafView}
 use Rattle.btree.specs.Leaves.{leaf_at, place_at}
 use Rattle.btree.specs.Parting.{may_split_at, may_merge_at}
 use Rattle.recovery_laws.specs.Images.{image_of}
 use Rattle.recovery_laws.specs.Shape.{named}
-use Rattle.system_txn.specs.SystemView.{SystemView, refused_so}
+use Rattle.system_txn.specs.Uses.{FailsWhenDue}
+use Rattle.system_txn.specs.SystemView.{SystemView, log_refused, pages_refused}
 use Rattle.system_txn.specs.Changes.{next_id, leaf_in, split_to, merged_to, first_large, first_pair, covered, written_to, written_all, lowered, accepted, forced}
 use Rattle.system_txn.specs.declared.tended.Neighbours.{Neighbours}
 use Rattle.system_txn.specs.declared.tended.Tended.{Tended}
@@ -39,6 +41,10 @@ merge_refusal v k =
     first_of ((not (may_merge_at v.leaves (place_at v.leaves k)), NotNow)
     ∷ (is_spent (length v.log), NumbersSpent) ∷ [])
 
+-- a call that appends to the log was refused: for this cause, else for want of memory, or as the log's device failed
+abbrev pub StopsAppend : Option Refusal → SystemView → Refusal → SystemView → Type 0
+StopsAppend cause old r new = MayRefuse cause r × (new ≡ log_refused old r) × FailsWhenDue old.log_usage r
+
 -- the leaf at a place was split
 pub record Splits (old : SystemView) (p : ℕ) (pair : Neighbours) (new : SystemView) : Type 0 where
   pub may : may_split_at old.leaves p ≡ true
@@ -57,11 +63,11 @@ pub record Merges (old : SystemView) (p : ℕ) (pair : Neighbours) (new : System
 
 abbrev pub SplitGives : SystemView → Bytes → Result Neighbours Refusal → SystemView → Type 0
 SplitGives old k (Ok pair) new = Splits old (place_at old.leaves k) pair new
-SplitGives old k (Err r) new = MayRefuse (split_refusal old k) r × (new ≡ refused_so old r)
+SplitGives old k (Err r) new = StopsAppend (split_refusal old k) old r new
 
 abbrev pub MergeGives : SystemView → Bytes → Result Neighbours Refusal → SystemView → Type 0
 MergeGives old k (Ok pair) new = Merges old (place_at old.leaves k) pair new
-MergeGives old k (Err r) new = MayRefuse (merge_refusal old k) r × (new ≡ refused_so old r)
+MergeGives old k (Err r) new = StopsAppend (merge_refusal old k) old r new
 
 -- what tending does: the first large leaf is split, else, where merges are let, the first two that may be are joined
 pub data Tending : Type 0 where
@@ -80,24 +86,36 @@ tending_of None other = other
 abbrev pub tending : SystemView → Bool → Tending
 tending v merges = tending_of (first_large v.leaves) (merging merges (first_pair v.leaves))
 
-abbrev pub tending_refusal : SystemView → Tending → Option Refusal
-tending_refusal v (SplitsAt p) = make_refusal v
-tending_refusal v (MergesAt p) = append_refusal v
-tending_refusal v Rests = None
-
 abbrev pub TendsTo : SystemView → Tending → Tended → SystemView → Type 0
 TendsTo old (SplitsAt p) (tended.Split pair) new = Splits old p pair new
 TendsTo old (MergesAt p) (tended.Merged pair) new = Merges old p pair new
 TendsTo old Rests tended.Nothing new = new ≡ old
 TendsTo old _ _ new = ⊥
 
+-- where nothing is to be tended it isn't refused
+abbrev pub StopsTending : SystemView → Tending → Refusal → SystemView → Type 0
+StopsTending old (SplitsAt p) r new = StopsAppend (make_refusal old) old r new
+StopsTending old (MergesAt p) r new = StopsAppend (append_refusal old) old r new
+StopsTending old Rests r new = ⊥
+
 abbrev pub TendGives : SystemView → Bool → Result Tended Refusal → SystemView → Type 0
 TendGives old merges (Ok what) new = TendsTo old (tending old merges) what new
-TendGives old merges (Err r) new = MayRefuse (tending_refusal old (tending old merges)) r × (new ≡ refused_so old r)
+TendGives old merges (Err r) new = StopsTending old (tending old merges) r new
 
--- a write of this leaf was refused; the log may have been forced before
+-- the log's device failed in a force, or the pages' in a write
+abbrev pub ForceFails : SystemView → SystemView → Type 0
+ForceFails old new = (new ≡ log_refused old Device) × IsTrue (is_due old.log_usage)
+
+abbrev pub WriteFails : SystemView → SystemView → Type 0
+WriteFails old new = (new ≡ pages_refused old Device) × IsTrue (is_due old.page_usage)
+
+-- a device failed where this leaf was written: in the force, if there had to be one, or in the write after it
+abbrev pub FailsWriting : SystemView → LeafView → SystemView → Type 0
+FailsWriting old leaf new = ((old.stable < leaf.last) × ForceFails old new) ⊎ WriteFails (covered old leaf) new
+
+-- a write of this leaf was refused; where memory was, nothing has changed
 abbrev pub StopsWriting : SystemView → LeafView → Refusal → SystemView → Type 0
-StopsWriting old leaf r new = MayRefuse None r × ((new ≡ refused_so old r) ⊎ (new ≡ refused_so (covered old leaf) r))
+StopsWriting old leaf r new = ((r ≡ NoMemory) × (new ≡ old)) ⊎ ((r ≡ Device) × FailsWriting old leaf new)
 
 abbrev pub FlushGives : SystemView → Bytes → Result ℕ Refusal → SystemView → Type 0
 FlushGives old k (Ok id) new =
@@ -105,27 +123,29 @@ FlushGives old k (Ok id) new =
     × (new ≡ written_to old (leaf_at old.leaves k))
 FlushGives old k (Err r) new = StopsWriting old (leaf_at old.leaves k) r new
 
--- some of the leaves, from the first on, were written, and then a write was refused
+-- some of the leaves, from the first on, were written, and then a device failed
+abbrev pub FailsAmong : SystemView → List LeafView → SystemView → Type 0
+FailsAmong v [] new = ⊥
+FailsAmong v (leaf ∷ leaves) new =
+    FailsWriting v leaf new ⊎ (IsImage (image_of leaf) × FailsAmong (written_to v leaf) leaves new)
+
 abbrev pub StopsAmong : SystemView → List LeafView → Refusal → SystemView → Type 0
-StopsAmong v [] r new = ⊥
-StopsAmong v (leaf ∷ leaves) r new =
-    StopsWriting v leaf r new ⊎ (IsImage (image_of leaf) × StopsAmong (written_to v leaf) leaves r new)
+StopsAmong v leaves r new = (r ≡ Device) × FailsAmong v leaves new
 
 -- each leaf has an image
 abbrev pub HaveImages : List LeafView → Type 0
 HaveImages leaves = AllByRecursion (λ (leaf : LeafView). IsImage (image_of leaf)) leaves
 
--- all leaves are raised and written. Where room for an image is refused nothing has changed
+-- all leaves are raised and written. Where memory is refused nothing has changed
 abbrev pub CheckpointGives : SystemView → ℕ → Result Unit Refusal → SystemView → Type 0
 CheckpointGives old l (Ok _) new =
     HaveImages (lowered old l).leaves × (new ≡ written_all (lowered old l) (lowered old l).leaves)
 CheckpointGives old l (Err r) new =
     ((r ≡ NoMemory) × (new ≡ old)) ⊎ StopsAmong (lowered old l) (lowered old l).leaves r new
 
--- the session's record is stable. Where the device fails it may stand in the log
+-- the session's record is stable. Where the force fails it stands in the log
 abbrev pub AcceptGives : SystemView → ℕ → Result Unit Refusal → SystemView → Type 0
 AcceptGives old s (Ok _) new = (append_refusal old ≡ None) × (new ≡ forced (accepted old s))
 AcceptGives old s (Err r) new =
-    MayRefuse (append_refusal old) r
-    × ((new ≡ refused_so old r)
-    ⊎ ((append_refusal old ≡ None) × (r ≡ Device) × (new ≡ refused_so (accepted old s) r)))
+    StopsAppend (append_refusal old) old r new
+    ⊎ ((append_refusal old ≡ None) × (r ≡ Device) × ForceFails (accepted old s) new)

@@ -1,3 +1,4 @@
+pub mod Uses
 pub mod SystemView
 pub mod Devices
 pub mod LogView
@@ -6,6 +7,7 @@ pub mod Kept
 pub mod Recovering
 pub mod Changes
 pub mod Gives
+pub mod Writing
 pub mod Finding
 pub mod Known
 pub mod Reading

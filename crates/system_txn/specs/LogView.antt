@@ -6,14 +6,15 @@ use Rattle.codec.specs.declared.dc_record.DcRecord.{DcRecord}
 use Rattle.stable.specs.Crash.{BeginsWith}
 use Rattle.stable.specs.declared.error.DeviceError.{DeviceError}
 use Rattle.stable.specs.declared.error.DeviceError.TheVariants as device
+use Rattle.stable.specs.Usage.{Usage}
 use Rattle.recovery_laws.specs.Shape.{named, beginning}
 use Rattle.system_txn.specs.Devices.{spelled, places, AreRecords}
 
--- the records, the newest first, how many of them are stable, and how often the device has failed
+-- the records, the newest first, how many of them are stable, and how the device was used
 pub record ChangeLogView : Type 0 where
   pub log : List DcRecord
   pub stable : ℕ
-  pub failures : ℕ
+  pub usage : Usage
 
 -- the device holds just the frames of the records, and the stable ones are among what every crash leaves; where it
 -- forces all or nothing, they are just what it leaves

@@ -82,7 +82,3 @@ RefusesFrames bytes pages r = (r ≡ NoMemory) ⊎ ((place : ℕ) × (r ≡ BadB
 abbrev pub RefusesRecovery : List ℕ → Pages → Refusal → Type 0
 RefusesRecovery bytes pages r =
     (r ≡ Device) ⊎ RefusesFrames bytes pages r ⊎ ((r ≡ BadBytes 0) × AreBadPages bytes pages)
-
--- what a refused call leaves on the log's device: the same bytes, or those of the whole frames
-abbrev pub LeavesFrames : List ℕ → List ℕ → Type 0
-LeavesFrames old new = (new ≡ old) ⊎ ((log : List DcRecord) × HoldsFrames old log × (new ≡ spelled log))

@@ -17,7 +17,7 @@ use Rattle.system_txn.specs.Kept.{IsRecoverable}
 use Rattle.system_txn.specs.Checked.{IsChecked, Checks}
 use Rattle.system_txn.specs.Crashed.{crashed}
 use Rattle.system_txn.specs.Gives.{CheckpointGives}
-use Rattle.system_txn.specs.Recovering.{HoldsFrames, LeavesFrames, Recovers, RefusesRecovery}
+use Rattle.system_txn.specs.Recovering.{HoldsFrames, Recovers, RefusesRecovery}
 
 -- the bytes are the whole frames of a beginning of the log: of all stable records, and of each one more whose frame
 -- there is room for; of the next one's frame a part may stand there
@@ -34,12 +34,11 @@ CrashesLeaveFrames =
     (whole : Bool) (log : List DcRecord) (stable : ℕ) (forced pending left : List ℕ) → AreRecords log
     → IsStored whole log stable forced pending → MayLeave forced pending left → LeavesBeginning log stable left
 
--- bytes hold the frames of one log, and hold the same once a refused opening has cut off what isn't whole
+-- bytes hold the frames of one log, and hold the same once what isn't whole is cut off
 pub record FramesReadOnce : Type 0 where
   pub once : (bytes : List ℕ) (log other : List DcRecord) → HoldsFrames bytes log → HoldsFrames bytes other
       → log ≡ other
-  pub cut : (old new : List ℕ) (log : List DcRecord) → HoldsFrames old log → LeavesFrames old new
-      → HoldsFrames new log
+  pub cut : (bytes : List ℕ) (log : List DcRecord) → HoldsFrames bytes log → HoldsFrames (spelled log) log
 
 -- what was opened has this log and the leaves that it gives with these pages, and is good after any crash from here on
 pub record IsRestartOf (pages : Pages) (log : List DcRecord) (v : SystemView) : Type 0 where

@@ -1,12 +1,14 @@
 //! The log of the data component: splits, merges and accepted sessions, as bytes on a device.
-ghost use Rattle.std.specs.Prelude.{true, ◌≡◌, ◌≤◌, ◌+◌, ◌∷◌, ◌++◌, [], List, None, length, OnOk, OnErr, IfOk, IfErr};
+ghost use Rattle.std.specs.Prelude.{true, ◌≡◌, ◌≤◌, ◌+◌, ◌∷◌, ◌++◌, [], List, None, length, IsTrue, OnOk, OnErr, IfOk, IfErr};
 ghost use Rattle.codec.specs.declared.dc_record.DcRecord.{DcRecord};
 ghost use Rattle.codec.specs.DcRecords.{record_in, dc_record_bytes, IsOrderedDcRecord, FitsFrame};
 ghost use Rattle.codec.specs.Frames.{frame};
-ghost use Rattle.record_key.specs.FirstCause.{MayRefuse, failures_of, failures_in};
+ghost use Rattle.record_key.specs.FirstCause.{MayRefuse};
 ghost use Rattle.stable.specs.Crash.{BeginsWith};
+ghost use Rattle.stable.specs.Usage.{is_due, called, failed};
 ghost use Rattle.recovery_laws.specs.Shape.{named, beginning};
 ghost use Rattle.system_txn.specs.LogView.{AreFrames, refusal_from};
+ghost use Rattle.system_txn.specs.Uses.{refused_use, FailsWhenDue};
 ghost use Rattle.system_txn.specs.Devices.{spelled, AreRecords};
 
 use codec::{DcRecordRef, put_dc_record};
@@ -39,7 +41,7 @@ impl<D: LogDevice> Model for ChangeLog<D> {
     ghost view = { λ l. record {
       log = records_at (D.forced l.device ++ D.pending l.device) l.places.items;
       stable = l.stable;
-      failures = D.failures l.device;
+      usage = D.usage l.device;
     } };
 
     ghost invariant = { λ l.
@@ -53,7 +55,7 @@ impl<D: LogDevice> ChangeLog<D> {
     /// The log of no records, on an empty device.
     pub fn new(alloc: Global, device: D) -> ChangeLog<D>
         requires empty { (D.forced device ≡ []) × (D.pending device ≡ []) }
-        ensures { result ≡ record { log = []; stable = 0; failures = D.failures device } }
+        ensures { result ≡ record { log = []; stable = 0; usage = D.usage device } }
     {
         ChangeLog {
             device,
@@ -77,7 +79,7 @@ impl<D: LogDevice> ChangeLog<D> {
         requires records { (log : List DcRecord) × (D.forced device ≡ spelled log)
             × AreFrames log places.items end next_id }
         ensures { (log : List DcRecord) → AreRecords log → D.forced device ≡ spelled log
-            → result ≡ record { log = log; stable = length log; failures = D.failures device } }
+            → result ≡ record { log = log; stable = length log; usage = D.usage device } }
     {
         let stable = places.len() as u64;
         ChangeLog {
@@ -96,7 +98,7 @@ impl<D: LogDevice> ChangeLog<D> {
         ensures holds { D.forced result ++ D.pending result ≡ spelled self.log }
         ensures forced { BeginsWith (D.forced result) (spelled (beginning self.log self.stable)) }
         ensures just { D.forces_whole ≡ true → D.forced result ≡ spelled (beginning self.log self.stable) }
-        ensures failures { D.failures result ≡ self.failures }
+        ensures usage { D.usage result ≡ self.usage }
     {
         let ChangeLog {
             device,
@@ -146,11 +148,15 @@ impl<D: LogDevice> ChangeLog<D> {
     /// Appends a record, in one device call. Refused NoMemory or Device, and unchanged then.
     pub fn append(&mut self, change: &DcRecordRef<'_>) -> Result<(), Refusal>
         requires ordered { IsOrderedDcRecord (record_in change.now) }
-        ensures appended { OnOk result (self.new ≡ record self.old { log = record_in change.now ∷ self.old.log }) }
+        ensures appended { OnOk result (self.new ≡ record self.old {
+          log = record_in change.now ∷ self.old.log;
+          usage = called self.old.usage;
+        }) }
         ensures spelled { OnOk result (FitsFrame (record_in change.now)) }
         ensures refused { IfErr result (MayRefuse None) }
+        ensures device { IfErr result (FailsWhenDue self.old.usage) }
         ensures left { IfErr result (λ refusal.
-            self.new ≡ record self.old { failures = self.old.failures + failures_of refusal }) }
+            self.new ≡ record self.old { usage = refused_use self.old.usage refusal }) }
     {
         let len = spell(&mut self.frame, change)?;
         self.places.reserve(1)?;
@@ -168,10 +174,13 @@ impl<D: LogDevice> ChangeLog<D> {
 
     /// Makes every record stable, in one device call. The one refusal is Device.
     pub fn force(&mut self) -> Result<(), Refusal>
-        ensures forced { OnOk result (self.new ≡ record self.old { stable = length self.old.log }) }
+        ensures forced { OnOk result (self.new ≡ record self.old {
+          stable = length self.old.log;
+          usage = called self.old.usage;
+        }) }
         ensures refused { IfErr result (λ refusal. refusal ≡ Refusal.Device) }
-        ensures left { IfErr result (λ refusal.
-            self.new ≡ record self.old { failures = self.old.failures + failures_of refusal }) }
+        ensures due { OnErr result (IsTrue (is_due self.old.usage)) }
+        ensures left { OnErr result (self.new ≡ record self.old { usage = failed self.old.usage }) }
     {
         if let Err(error) = self.device.force() {
             return Err(refusal_of(error));

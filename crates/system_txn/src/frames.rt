@@ -1,13 +1,14 @@
 //! The log as its bytes say: whole frames, one after another.
-ghost use Rattle.std.specs.Prelude.{◌≡◌, ◌⊎◌, ◌+◌, ◌<◌, ◌^◌, [], length, reverse, OnErr, IfOk, IfErr};
-ghost use Rattle.record_key.specs.FirstCause.{failures_in};
+ghost use Rattle.std.specs.Prelude.{◌≡◌, ◌+◌, ◌<◌, ◌^◌, [], length, reverse, take, IsTrue, OnOk, OnErr, IfOk, IfErr};
 ghost use Rattle.stable.specs.PagesState.{Pages};
+ghost use Rattle.stable.specs.Usage.{Usage, is_due, called, failed, called_often};
 ghost use Rattle.recovery_laws.specs.Shape.{named};
 ghost use Rattle.recovery_laws.specs.Recovery.{stored_session};
 ghost use Rattle.recovery_laws.specs.Ready.{AreReadable};
 ghost use Rattle.system_txn.specs.Devices.{spelled, places, pages_of};
-ghost use Rattle.system_txn.specs.Finding.{AreRead, log_of};
-ghost use Rattle.system_txn.specs.Recovering.{HoldsFrames, RefusesFrames, LeavesFrames};
+ghost use Rattle.system_txn.specs.Finding.{AreRead, StopsReading};
+ghost use Rattle.system_txn.specs.Recovering.{HoldsFrames, RefusesFrames};
+ghost use Rattle.system_txn.specs.Uses.{log_calls};
 
 use crate::change_log::refusal_of;
 use crate::reading::Reading;
@@ -80,40 +81,45 @@ fn frames_of(reading: Reading) -> Frames
     }
 }
 
-/// Reads the whole frames that a crash left on a device, in one call, and cuts a last one that is cut off it, in
-/// another. Refused Device besides: the device holds what it held.
-pub(crate) fn read_log<D: LogDevice>(alloc: Global, device: &mut D) -> Result<Frames, Refusal>
-    requires { D.pending device.old ≡ [] }
-    ensures read { IfOk result (AreRead (D.forced device.old)) }
-    ensures cut { IfOk result (λ frames. D.forced device.new ≡ spelled (log_of frames)) }
-    ensures refused { IfErr result (λ refusal.
-        (refusal ≡ Refusal.Device) ⊎ ((pages : Pages) → RefusesFrames (D.forced device.old) pages refusal)) }
-    ensures left { OnErr result (LeavesFrames (D.forced device.old) (D.forced device.new)) }
-    ensures none_left { D.pending device.new ≡ [] }
-    ensures failures { D.failures device.new ≡ D.failures device.old + failures_in result }
-{
-    let (frames, len) = read_all(alloc, device)?;
-    if frames.end < len {
-        if let Err(error) = device.cut(frames.end) {
-            return Err(refusal_of(error));
-        }
-    }
-    Ok(frames)
-}
-
-/// Reads them, and says how many bytes the device holds.
-fn read_all<D: LogDevice>(alloc: Global, device: &mut D) -> Result<(Frames, usize), Refusal>
+/// Reads the whole frames that a crash left on a device, in one call, and says how many bytes it holds. Refused Device
+/// besides.
+pub(crate) fn read_log<D: LogDevice>(
+    alloc: Global,
+    device: &mut D,
+) -> Result<(Frames, usize), Refusal>
     requires { D.pending device.old ≡ [] }
     ensures read { IfOk result (λ found. AreRead (D.forced device.old) found.0) }
     ensures length { IfOk result (λ found. found.1 ≡ length (D.forced device.old)) }
-    ensures refused { IfErr result (λ refusal.
-        (refusal ≡ Refusal.Device) ⊎ ((pages : Pages) → RefusesFrames (D.forced device.old) pages refusal)) }
+    ensures used { OnOk result (D.usage device.new ≡ called (D.usage device.old)) }
+    ensures stopped { IfErr result (λ refusal.
+        StopsReading (D.forced device.old) refusal (D.usage device.old) (D.usage device.new)) }
     ensures forced { D.forced device.new ≡ D.forced device.old }
     ensures pending { D.pending device.new ≡ D.pending device.old }
-    ensures failures { D.failures device.new ≡ D.failures device.old + failures_in result }
 {
     match device.bytes() {
         Ok(bytes) => Ok((read_frames(alloc, bytes)?, bytes.len())),
         Err(error) => Err(refusal_of(error)),
     }
+}
+
+/// Keeps the whole frames, which end here, of so many bytes: in one call, and in none where nothing follows them.
+/// Refused Device.
+pub(crate) fn cut_off<D: LogDevice>(device: &mut D, end: usize, len: usize) -> Result<(), Refusal>
+    requires none_pending { D.pending device.old ≡ [] }
+    requires length { len ≡ length (D.forced device.old) }
+    ensures cut { OnOk result (D.forced device.new ≡ take end (D.forced device.old)) }
+    ensures left { OnErr result (D.forced device.new ≡ D.forced device.old) }
+    ensures none_left { D.pending device.new ≡ [] }
+    ensures used { OnOk result ((before : Usage) → D.usage device.old ≡ called before
+        → D.usage device.new ≡ called_often (log_calls end len) before) }
+    ensures refused { IfErr result (λ refusal. refusal ≡ Refusal.Device) }
+    ensures due { OnErr result (IsTrue (is_due (D.usage device.old))) }
+    ensures failed { OnErr result (D.usage device.new ≡ failed (D.usage device.old)) }
+{
+    if end < len {
+        if let Err(error) = device.cut(end) {
+            return Err(refusal_of(error));
+        }
+    }
+    Ok(())
 }

@@ -7,7 +7,7 @@ pub fn crash_law()
     ensures { CrashesLeaveFrames }
 {}
 
-/// Bytes hold the frames of one log only, and a refused opening leaves these.
+/// Bytes hold the frames of one log only, and hold them still once what isn't whole is cut off.
 pub fn reading_law()
     ensures { FramesReadOnce }
 {}

@@ -3,7 +3,8 @@
 //! Knows: leaves as a list in key order, records of their log, images of leaves, and what both devices promise.
 //! Must not know: sessions' rules, requests, transactions, or how the leaves are held.
 //! Promises the next crates: a split or a merge stands in the log before the leaves change, and the log is stable
-//! before a page tells of it; a refused call names its cause and leaves what its definition says; `IsSystem` holds.
+//! before a page tells of it; a refused call names its cause and leaves what its definition says; each call says how
+//! often it uses a device, and `Device` is answered only at a call that was due to fail; `IsSystem` holds.
 #![tactic(auto)]
 
 mod arranging;

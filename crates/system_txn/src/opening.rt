@@ -1,13 +1,16 @@
 //! Devices that a crash left are opened.
-ghost use Rattle.std.specs.Prelude.{◌≡◌, ◌+◌, [], IfOk, IfErr};
-ghost use Rattle.record_key.specs.FirstCause.{failures_of};
+ghost use Rattle.std.specs.Prelude.{◌≡◌, [], length, IfOk, IfErr};
+ghost use Rattle.stable.specs.Usage.{called_often};
 ghost use Rattle.recovery_laws.specs.Recovery.{stored_session};
-ghost use Rattle.system_txn.specs.Recovering.{Recovers, RefusesRecovery, LeavesFrames};
+ghost use Rattle.system_txn.specs.Devices.{spelled};
+ghost use Rattle.system_txn.specs.Recovering.{Recovers, RefusesRecovery};
+ghost use Rattle.system_txn.specs.Uses.{StopsOpening, log_calls, page_calls};
 
 use crate::change_log::ChangeLog;
 use crate::devices::{Devices, Refused};
+use crate::frames::cut_off;
 use crate::parts::Parts;
-use crate::recovering::recover;
+use crate::recovering::find;
 use crate::system::SystemTxns;
 use btree::LeafSet;
 use record_key::Refusal;
@@ -23,23 +26,28 @@ pub struct Opened<L: LeafSet, D: LogDevice, P: PageDevice> {
 
 impl<L: LeafSet, D: LogDevice, P: PageDevice> SystemTxns<L, D, P> {
     /// Opens what a crash left: the leaves that the pages and the log's whole records give, whatever the pages' ages.
-    /// A last frame that is cut is cut off the device. Refused NoMemory, Device; BadBytes at the first frame that is
-    /// bad or doesn't fit, or at 0 where a page is no image of its leaf or the leaves don't have all keys just once;
-    /// the devices are handed back.
+    /// A last frame that is cut is cut off the device, last of all. Refused NoMemory, Device; BadBytes at the first
+    /// frame that is bad or doesn't fit, or at 0 where a page is no image of its leaf or the leaves don't have all keys
+    /// just once; the devices are handed back with the bytes that they held.
     pub fn open(alloc: Global, log: D, pages: P) -> Result<Opened<L, D, P>, Refused<D, P>>
+    where
+        L: Drop,
         requires none_pending { D.pending log ≡ [] }
         ensures recovers { IfOk result (λ opened. Recovers (D.forced log) (P.pages pages) opened.system) }
         ensures stored { IfOk result (λ opened. opened.stored_session ≡ stored_session opened.system.log) }
-        ensures failures { IfOk result (λ opened. opened.system.failures ≡ D.failures log + P.failures pages) }
+        ensures log_used { IfOk result (λ opened. opened.system.log_usage
+            ≡ called_often (log_calls (length (spelled opened.system.log)) (length (D.forced log))) (D.usage log)) }
+        ensures pages_used { IfOk result (λ opened. opened.system.page_usage
+            ≡ called_often (page_calls (P.pages pages)) (P.usage pages)) }
         ensures refused { IfErr result (λ left. RefusesRecovery (D.forced log) (P.pages pages) left.refusal) }
-        ensures log_left { IfErr result (λ left. LeavesFrames (D.forced log) (D.forced left.devices.log)) }
+        ensures log_left { IfErr result (λ left. D.forced left.devices.log ≡ D.forced log) }
         ensures none_left { IfErr result (λ left. D.pending left.devices.log ≡ []) }
         ensures pages_left { IfErr result (λ left. P.pages left.devices.pages ≡ P.pages pages) }
-        ensures failures_left { IfErr result (λ left. D.failures left.devices.log + P.failures left.devices.pages
-            ≡ D.failures log + P.failures pages + failures_of left.refusal) }
+        ensures stopped { IfErr result (λ left. StopsOpening left.refusal (P.pages pages)
+            (D.usage log) (D.usage left.devices.log) (P.usage pages) (P.usage left.devices.pages)) }
     {
         let (mut log, mut pages) = (log, pages);
-        let found = match recover(alloc, &mut log, &mut pages) {
+        let (found, len) = match find(alloc, &mut log, &mut pages) {
             Ok(found) => found,
             Err(refusal) => return Err(refused(log, pages, refusal)),
         };
@@ -47,6 +55,9 @@ impl<L: LeafSet, D: LogDevice, P: PageDevice> SystemTxns<L, D, P> {
             Ok(leaves) => leaves,
             Err(refusal) => return Err(refused(log, pages, refusal)),
         };
+        if let Err(refusal) = cut_off(&mut log, found.end, len) {
+            return Err(refused(log, pages, refusal));
+        }
         let log = ChangeLog::reopened(alloc, log, found.places, found.end, found.next_id);
         let image = Vec::new(alloc);
         let parts = Parts {

@@ -1,12 +1,13 @@
 //! The pages, read as leaves.
-ghost use Rattle.std.specs.Prelude.{◌≡◌, ◌+◌, Some, OnOk, IfOk, IfErr, vec_len};
+ghost use Rattle.std.specs.Prelude.{◌≡◌, ◌≢◌, Some, OnOk, IfOk, IfErr, vec_len};
 ghost use Rattle.std.specs.FinMap as map;
-ghost use Rattle.record_key.specs.FirstCause.{failures_of, failures_in};
+ghost use Rattle.stable.specs.Usage.{called, called_often};
 ghost use Rattle.system_txn.specs.Devices.{pages_of, page_in};
 ghost use Rattle.system_txn.specs.Paging.{IsOwnPage, IsOwnIfAny, RefusesPage, RefusesPages};
 ghost use Rattle.system_txn.specs.Recovering.{AreOwnPages};
 ghost use Rattle.system_txn.specs.Replaying.{HoldsPages};
 ghost use Rattle.system_txn.specs.Shelf.{held};
+ghost use Rattle.system_txn.specs.Uses.{StopsWithin, page_calls};
 
 use crate::change_log::refusal_of;
 use crate::image::leaf_of;
@@ -30,7 +31,10 @@ pub(crate) fn read_pages<P: PageDevice>(
     ensures own { OnOk result (AreOwnPages (P.pages pages.old) records) }
     ensures refused { IfErr result (RefusesPages (P.pages pages.old) records) }
     ensures same { P.pages pages.new ≡ P.pages pages.old }
-    ensures failures { P.failures pages.new ≡ P.failures pages.old + failures_in result }
+    ensures used { OnOk result (P.usage pages.new
+        ≡ called_often (page_calls (P.pages pages.old)) (P.usage pages.old)) }
+    ensures stopped { IfErr result (λ refusal.
+        StopsWithin (page_calls (P.pages pages.old)) refusal (P.usage pages.old) (P.usage pages.new)) }
 {
     let ids = match pages.ids(alloc) {
         Ok(ids) => ids,
@@ -58,7 +62,8 @@ fn read_page<P: PageDevice>(
     ensures own { OnOk result (IsOwnIfAny (map.get (P.pages pages.old) id) id records) }
     ensures refused { IfErr result (RefusesPage (map.get (P.pages pages.old) id) id records) }
     ensures same { P.pages pages.new ≡ P.pages pages.old }
-    ensures failures { P.failures pages.new ≡ P.failures pages.old + failures_in result }
+    ensures used { OnOk result (P.usage pages.new ≡ called (P.usage pages.old)) }
+    ensures stopped { IfErr result (λ refusal. StopsWithin 1 refusal (P.usage pages.old) (P.usage pages.new)) }
 {
     match pages.read(id) {
         Ok(Some(bytes)) => Ok(Some(own_leaf(alloc, bytes, id, records)?)),
@@ -73,7 +78,7 @@ fn own_leaf(alloc: Global, bytes: &[u8], id: u64, records: u64) -> Result<Box<Le
     ensures leaf { IfOk result (λ leaf. page_in bytes.now ≡ Some leaf.value) }
     ensures own { OnOk result (IsOwnPage bytes.now id records) }
     ensures refused { IfErr result (RefusesPage (Some bytes.now) id records) }
-    ensures no_device { IfErr result (λ refusal. failures_of refusal ≡ 0) }
+    ensures no_device { IfErr result (λ refusal. refusal ≢ Refusal.Device) }
 {
     let image = match take_leaf_image(alloc, bytes)? {
         Taken::Record(image, _) => image,

@@ -2,10 +2,8 @@
 ghost use Rattle.std.specs.Prelude.{◌≡◌, ◌<◌, true, length, get_or, IfOk, IfErr, OnOk};
 ghost use Rattle.page.specs.Leaf.{first};
 ghost use Rattle.btree.specs.Parting.{may_split_at, may_merge_at};
-ghost use Rattle.record_key.specs.FirstCause.{MayRefuse};
-ghost use Rattle.system_txn.specs.SystemView.{refused_so};
 ghost use Rattle.system_txn.specs.Changes.{first_large, first_pair};
-ghost use Rattle.system_txn.specs.Gives.{SplitGives, MergeGives, TendGives, Splits, Merges, make_refusal, append_refusal};
+ghost use Rattle.system_txn.specs.Gives.{SplitGives, MergeGives, TendGives, Splits, Merges, StopsAppend, make_refusal, append_refusal};
 ghost use Rattle.system_txn.specs.Kept.{IsSystem};
 ghost use Rattle.system_txn.specs.Seen.{seen};
 
@@ -19,10 +17,10 @@ use stable::{LogDevice, PageDevice};
 
 impl<L: LeafSet, D: LogDevice, P: PageDevice> Parts<L, D, P> {
     pub fn split(&mut self, key: &Key) -> Result<Neighbours, Refusal>
-        requires { IsSystem (seen L.leaves P.pages P.failures self.old) }
-        ensures kept { IsSystem (seen L.leaves P.pages P.failures self.new) }
-        ensures gives { SplitGives (seen L.leaves P.pages P.failures self.old) key.now result
-            (seen L.leaves P.pages P.failures self.new) }
+        requires { IsSystem (seen L.leaves P.pages P.usage self.old) }
+        ensures kept { IsSystem (seen L.leaves P.pages P.usage self.new) }
+        ensures gives { SplitGives (seen L.leaves P.pages P.usage self.old) key.now result
+            (seen L.leaves P.pages P.usage self.new) }
     {
         let place = self.leaves.place_of(key);
         if !may_split(&self.leaves, place) {
@@ -32,10 +30,10 @@ impl<L: LeafSet, D: LogDevice, P: PageDevice> Parts<L, D, P> {
     }
 
     pub fn merge(&mut self, key: &Key) -> Result<Neighbours, Refusal>
-        requires { IsSystem (seen L.leaves P.pages P.failures self.old) }
-        ensures kept { IsSystem (seen L.leaves P.pages P.failures self.new) }
-        ensures gives { MergeGives (seen L.leaves P.pages P.failures self.old) key.now result
-            (seen L.leaves P.pages P.failures self.new) }
+        requires { IsSystem (seen L.leaves P.pages P.usage self.old) }
+        ensures kept { IsSystem (seen L.leaves P.pages P.usage self.new) }
+        ensures gives { MergeGives (seen L.leaves P.pages P.usage self.old) key.now result
+            (seen L.leaves P.pages P.usage self.new) }
     {
         let place = self.leaves.place_of(key);
         if !may_merge(&self.leaves, place) {
@@ -46,10 +44,10 @@ impl<L: LeafSet, D: LogDevice, P: PageDevice> Parts<L, D, P> {
 
     /// Splits the first large leaf; where there is none and merges are let, joins the first two that may be.
     pub fn tend(&mut self, merges: bool) -> Result<Tended, Refusal>
-        requires { IsSystem (seen L.leaves P.pages P.failures self.old) }
-        ensures kept { IsSystem (seen L.leaves P.pages P.failures self.new) }
-        ensures gives { TendGives (seen L.leaves P.pages P.failures self.old) merges result
-            (seen L.leaves P.pages P.failures self.new) }
+        requires { IsSystem (seen L.leaves P.pages P.usage self.old) }
+        ensures kept { IsSystem (seen L.leaves P.pages P.usage self.new) }
+        ensures gives { TendGives (seen L.leaves P.pages P.usage self.old) merges result
+            (seen L.leaves P.pages P.usage self.new) }
     {
         if let Some(place) = self.leaves.first_large() {
             return Ok(Tended::Split(self.split_at(place)?));
@@ -64,14 +62,14 @@ impl<L: LeafSet, D: LogDevice, P: PageDevice> Parts<L, D, P> {
     }
 
     fn split_at(&mut self, place: usize) -> Result<Neighbours, Refusal>
-        requires kept { IsSystem (seen L.leaves P.pages P.failures self.old) }
+        requires kept { IsSystem (seen L.leaves P.pages P.usage self.old) }
         requires may { may_split_at (L.leaves self.old.leaves) place ≡ true }
-        ensures kept { IsSystem (seen L.leaves P.pages P.failures self.new) }
-        ensures split { IfOk result (λ pair. Splits (seen L.leaves P.pages P.failures self.old) place pair
-            (seen L.leaves P.pages P.failures self.new)) }
-        ensures refused { IfErr result (MayRefuse (make_refusal (seen L.leaves P.pages P.failures self.old))) }
-        ensures left { IfErr result (λ refusal. seen L.leaves P.pages P.failures self.new
-            ≡ refused_so (seen L.leaves P.pages P.failures self.old) refusal) }
+        ensures kept { IsSystem (seen L.leaves P.pages P.usage self.new) }
+        ensures split { IfOk result (λ pair. Splits (seen L.leaves P.pages P.usage self.old) place pair
+            (seen L.leaves P.pages P.usage self.new)) }
+        ensures stopped { IfErr result (λ refusal. StopsAppend
+            (make_refusal (seen L.leaves P.pages P.usage self.old)) (seen L.leaves P.pages P.usage self.old) refusal
+            (seen L.leaves P.pages P.usage self.new)) }
     {
         let last = self.log.len();
         let id = self.log.next_id();
@@ -94,14 +92,14 @@ impl<L: LeafSet, D: LogDevice, P: PageDevice> Parts<L, D, P> {
     }
 
     fn merge_at(&mut self, place: usize) -> Result<Neighbours, Refusal>
-        requires kept { IsSystem (seen L.leaves P.pages P.failures self.old) }
+        requires kept { IsSystem (seen L.leaves P.pages P.usage self.old) }
         requires may { may_merge_at (L.leaves self.old.leaves) place ≡ true }
-        ensures kept { IsSystem (seen L.leaves P.pages P.failures self.new) }
-        ensures merged { IfOk result (λ pair. Merges (seen L.leaves P.pages P.failures self.old) place pair
-            (seen L.leaves P.pages P.failures self.new)) }
-        ensures refused { IfErr result (MayRefuse (append_refusal (seen L.leaves P.pages P.failures self.old))) }
-        ensures left { IfErr result (λ refusal. seen L.leaves P.pages P.failures self.new
-            ≡ refused_so (seen L.leaves P.pages P.failures self.old) refusal) }
+        ensures kept { IsSystem (seen L.leaves P.pages P.usage self.new) }
+        ensures merged { IfOk result (λ pair. Merges (seen L.leaves P.pages P.usage self.old) place pair
+            (seen L.leaves P.pages P.usage self.new)) }
+        ensures stopped { IfErr result (λ refusal. StopsAppend
+            (append_refusal (seen L.leaves P.pages P.usage self.old)) (seen L.leaves P.pages P.usage self.old) refusal
+            (seen L.leaves P.pages P.usage self.new)) }
     {
         let last = self.log.len();
         if last >= LAST_NUMBER {

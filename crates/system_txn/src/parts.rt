@@ -1,5 +1,5 @@
 //! The leaves, the log of what was done to them, and their pages.
-ghost use Rattle.std.specs.Prelude.{◌≡◌, ◌+◌, ◌<◌, ◌^◌, [], true, Some, None, IsOk, IfOk, IfErr, OnOk, OnErr, IsOkUnless};
+ghost use Rattle.std.specs.Prelude.{◌≡◌, ◌<◌, ◌^◌, [], true, Some, None, IsOk, IfOk, IfErr, OnOk, OnErr, IsOkUnless};
 ghost use Rattle.std.specs.FinMap as map;
 ghost use Rattle.record_key.specs.Table.{key_of};
 ghost use Rattle.ab_lsn.specs.AbLsn.{captures};
@@ -35,9 +35,9 @@ impl<L: LeafSet, D: LogDevice, P: PageDevice> Parts<L, D, P> {
     pub fn new(alloc: Global, log: D, pages: P) -> Result<Parts<L, D, P>, Refused<D, P>>
         requires no_log { (D.forced log ≡ []) × (D.pending log ≡ []) }
         requires no_pages { P.pages pages ≡ map.empty }
-        ensures kept { IfOk result (λ parts. IsSystem (seen L.leaves P.pages P.failures parts)) }
+        ensures kept { IfOk result (λ parts. IsSystem (seen L.leaves P.pages P.usage parts)) }
         ensures fresh { IfOk result (λ parts.
-            seen L.leaves P.pages P.failures parts ≡ fresh (D.failures log + P.failures pages)) }
+            seen L.leaves P.pages P.usage parts ≡ fresh (D.usage log) (P.usage pages)) }
         ensures refused { IfErr result (λ left. left.refusal ≡ Refusal.NoMemory) }
         ensures same_log { IfErr result (λ left. left.devices.log ≡ log) }
         ensures same_pages { IfErr result (λ left. left.devices.pages ≡ pages) }
@@ -59,9 +59,9 @@ impl<L: LeafSet, D: LogDevice, P: PageDevice> Parts<L, D, P> {
 
     /// Whether the log has a number for one record more.
     pub fn can_log(&self) -> Result<(), Refusal>
-        ensures allowed { OnOk result (append_refusal (seen L.leaves P.pages P.failures self.now) ≡ None) }
+        ensures allowed { OnOk result (append_refusal (seen L.leaves P.pages P.usage self.now) ≡ None) }
         ensures refused { IfErr result (λ refusal.
-            append_refusal (seen L.leaves P.pages P.failures self.now) ≡ Some refusal) }
+            append_refusal (seen L.leaves P.pages P.usage self.now) ≡ Some refusal) }
     {
         if self.log.len() >= LAST_NUMBER {
             return Err(Refusal::NumbersSpent);
@@ -71,17 +71,17 @@ impl<L: LeafSet, D: LogDevice, P: PageDevice> Parts<L, D, P> {
 
     /// Performs the operation under this number at the leaf of its key, once.
     pub fn perform(&mut self, number: u64, op: &Op) -> Result<Done, Refusal>
-        requires kept { IsSystem (seen L.leaves P.pages P.failures self.old) }
+        requires kept { IsSystem (seen L.leaves P.pages P.usage self.old) }
         requires number { number < 2 ^ 48 }
-        ensures kept { IsSystem (seen L.leaves P.pages P.failures self.new) }
+        ensures kept { IsSystem (seen L.leaves P.pages P.usage self.new) }
         ensures done { IfOk result (λ done.
             PerformsAt (L.leaves self.old.leaves) number op.now done (L.leaves self.new.leaves)) }
-        ensures rest { seen L.leaves P.pages P.failures self.new
-            ≡ record (seen L.leaves P.pages P.failures self.old) { leaves = L.leaves self.new.leaves } }
+        ensures rest { seen L.leaves P.pages P.usage self.new
+            ≡ record (seen L.leaves P.pages P.usage self.old) { leaves = L.leaves self.new.leaves } }
         ensures repeated { captures (leaf_at (L.leaves self.old.leaves) (key_of op.now)).ab number ≡ true
             → IsOk result }
         ensures refused { OnErr result
-            (seen L.leaves P.pages P.failures self.new ≡ seen L.leaves P.pages P.failures self.old) }
+            (seen L.leaves P.pages P.usage self.new ≡ seen L.leaves P.pages P.usage self.old) }
         ensures memory { IsOkUnless result Refusal.NoMemory }
     {
         let done = self.leaves.perform(number, op)?;
@@ -90,11 +90,13 @@ impl<L: LeafSet, D: LogDevice, P: PageDevice> Parts<L, D, P> {
 
     /// Counts every request up to this number as performed.
     pub fn lower(&mut self, low: u64)
-        requires kept { IsSystem (seen L.leaves P.pages P.failures self.old) }
+        requires kept { IsSystem (seen L.leaves P.pages P.usage self.old) }
         requires number { low < 2 ^ 48 }
-        ensures kept { IsSystem (seen L.leaves P.pages P.failures self.new) }
-        ensures lowered { seen L.leaves P.pages P.failures self.new
-            ≡ lowered (seen L.leaves P.pages P.failures self.old) low }
+        ensures kept { IsSystem (seen L.leaves P.pages P.usage self.new) }
+        ensures lowered { seen L.leaves P.pages P.usage self.new
+            ≡ lowered (seen L.leaves P.pages P.usage self.old) low }
+        ensures pages_left { self.new.pages ≡ self.old.pages }
+        ensures image_left { self.new.image ≡ self.old.image }
     {
         self.leaves.raise(low);
     }

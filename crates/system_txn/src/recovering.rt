@@ -1,16 +1,17 @@
 //! The leaves that both devices give after a crash.
-ghost use Rattle.std.specs.Prelude.{◌≡◌, ◌+◌, ◌<◌, ◌^◌, [], length, reverse, IfOk, IfErr, OnErr};
-ghost use Rattle.record_key.specs.FirstCause.{failures_in};
+ghost use Rattle.std.specs.Prelude.{◌≡◌, ◌+◌, ◌<◌, ◌^◌, [], length, reverse, take, IfOk, IfErr, OnOk, OnErr};
 ghost use Rattle.stable.specs.PagesState.{Pages};
+ghost use Rattle.stable.specs.Usage.{called, called_often};
 ghost use Rattle.btree.specs.Lists.{leaves_in};
 ghost use Rattle.recovery_laws.specs.Ready.{AreReadable};
 ghost use Rattle.recovery_laws.specs.Shape.{named};
 ghost use Rattle.system_txn.specs.Devices.{AreRecords, pages_of};
 ghost use Rattle.system_txn.specs.Finding.{AreRecovered, IsFound, RefusesLeaves};
-ghost use Rattle.system_txn.specs.Recovering.{RefusesRecovery, LeavesFrames};
+ghost use Rattle.system_txn.specs.Recovering.{RefusesRecovery};
+ghost use Rattle.system_txn.specs.Uses.{StopsWithin, StopsOpening, log_calls, page_calls};
 
 use crate::arranging::arrange;
-use crate::frames::read_log;
+use crate::frames::{cut_off, read_log};
 use crate::pages::read_pages;
 use crate::replaying::replay;
 use codec::DcRecord;
@@ -33,9 +34,9 @@ pub struct Recovered {
     pub stored_session: u64,
 }
 
-/// Reads the log, cuts off a last frame that is cut, reads the pages, and does the records again. Refused NoMemory,
+/// Reads the log and the pages, does the records again, and then cuts off a last frame that is cut. Refused NoMemory,
 /// Device; BadBytes at the first frame that is bad or doesn't fit, or at 0 where a page is no image of its leaf or the
-/// leaves don't have all keys just once.
+/// leaves don't have all keys just once. Nothing is cut then.
 pub fn recover<D: LogDevice, P: PageDevice>(
     alloc: Global,
     log: &mut D,
@@ -44,27 +45,62 @@ pub fn recover<D: LogDevice, P: PageDevice>(
     requires none_pending { D.pending log.old ≡ [] }
     ensures found { IfOk result (IsFound (D.forced log.old) (P.pages pages.old) (D.forced log.new)) }
     ensures refused { IfErr result (RefusesRecovery (D.forced log.old) (P.pages pages.old)) }
-    ensures log_left { OnErr result (LeavesFrames (D.forced log.old) (D.forced log.new)) }
+    ensures log_left { OnErr result (D.forced log.new ≡ D.forced log.old) }
     ensures none_left { D.pending log.new ≡ [] }
     ensures pages_left { P.pages pages.new ≡ P.pages pages.old }
-    ensures failures { D.failures log.new + P.failures pages.new
-        ≡ D.failures log.old + P.failures pages.old + failures_in result }
+    ensures log_used { IfOk result (λ found. D.usage log.new
+        ≡ called_often (log_calls found.end (length (D.forced log.old))) (D.usage log.old)) }
+    ensures pages_used { OnOk result (P.usage pages.new
+        ≡ called_often (page_calls (P.pages pages.old)) (P.usage pages.old)) }
+    ensures stopped { IfErr result (λ refusal. StopsOpening refusal (P.pages pages.old)
+        (D.usage log.old) (D.usage log.new) (P.usage pages.old) (P.usage pages.new)) }
 {
-    let frames = match read_log(alloc, log) {
-        Ok(frames) => frames,
+    let (found, len) = match find(alloc, log, pages) {
+        Ok(found) => found,
+        Err(refusal) => return Err(refusal),
+    };
+    if let Err(refusal) = cut_off(log, found.end, len) {
+        return Err(refusal);
+    }
+    Ok(found)
+}
+
+/// The same, but for the cut: how many bytes the log's device holds is said too.
+pub(crate) fn find<D: LogDevice, P: PageDevice>(
+    alloc: Global,
+    log: &mut D,
+    pages: &mut P,
+) -> Result<(Recovered, usize), Refusal>
+    requires none_pending { D.pending log.old ≡ [] }
+    ensures found { IfOk result (λ found. IsFound (D.forced log.old) (P.pages pages.old)
+        (take found.0.end (D.forced log.old)) found.0) }
+    ensures length { IfOk result (λ found. found.1 ≡ length (D.forced log.old)) }
+    ensures refused { IfErr result (RefusesRecovery (D.forced log.old) (P.pages pages.old)) }
+    ensures log_left { D.forced log.new ≡ D.forced log.old }
+    ensures none_left { D.pending log.new ≡ [] }
+    ensures pages_left { P.pages pages.new ≡ P.pages pages.old }
+    ensures log_used { OnOk result (D.usage log.new ≡ called (D.usage log.old)) }
+    ensures pages_used { OnOk result (P.usage pages.new
+        ≡ called_often (page_calls (P.pages pages.old)) (P.usage pages.old)) }
+    ensures stopped { IfErr result (λ refusal. StopsOpening refusal (P.pages pages.old)
+        (D.usage log.old) (D.usage log.new) (P.usage pages.old) (P.usage pages.new)) }
+{
+    let (frames, len) = match read_log(alloc, log) {
+        Ok(read) => read,
         Err(refusal) => return Err(refusal),
     };
     let leaves = match leaves_of(alloc, pages, frames.records, frames.next_id) {
         Ok(leaves) => leaves,
         Err(refusal) => return Err(refusal),
     };
-    Ok(Recovered {
+    let found = Recovered {
         leaves,
         places: frames.places,
         end: frames.end,
         next_id: frames.next_id,
         stored_session: frames.stored_session,
-    })
+    };
+    Ok((found, len))
 }
 
 /// The leaves that the pages and a log's records give, the oldest first, where numbers below `next_id` are named.
@@ -82,7 +118,10 @@ fn leaves_of<P: PageDevice>(
         AreRecovered (P.pages pages.old) (reverse records.items) (leaves_in leaves.items)) }
     ensures refused { IfErr result (RefusesLeaves (P.pages pages.old) (reverse records.items)) }
     ensures same { P.pages pages.new ≡ P.pages pages.old }
-    ensures failures { P.failures pages.new ≡ P.failures pages.old + failures_in result }
+    ensures used { OnOk result (P.usage pages.new
+        ≡ called_often (page_calls (P.pages pages.old)) (P.usage pages.old)) }
+    ensures stopped { IfErr result (λ refusal.
+        StopsWithin (page_calls (P.pages pages.old)) refusal (P.usage pages.old) (P.usage pages.new)) }
 {
     let mut shelf = match read_pages(alloc, pages, next_id, records.len() as u64) {
         Ok(shelf) => shelf,

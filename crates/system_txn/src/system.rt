@@ -1,5 +1,5 @@
 //! The leaves of a data component with the devices that outlive them.
-ghost use Rattle.std.specs.Prelude.{◌≡◌, ◌+◌, ◌++◌, ◌<◌, ◌≤◌, ◌^◌, [], true, length, get_or, Some, None, IsOk, IfOk, IfErr, OnOk, OnErr, IsOkUnless};
+ghost use Rattle.std.specs.Prelude.{◌≡◌, ◌++◌, ◌<◌, ◌≤◌, ◌^◌, [], true, length, get_or, Some, None, IsOk, IfOk, IfErr, OnOk, OnErr, IsOkUnless};
 ghost use Rattle.std.specs.FinMap as map;
 ghost use Rattle.std.specs.Option.{option_copied};
 ghost use Rattle.record_key.specs.Table.{key_of};
@@ -44,9 +44,9 @@ impl<L: LeafSet, D: LogDevice, P: PageDevice> Model for SystemTxns<L, D, P> {
 
     ghost coded = { Prim.hlevel (codes, table_code, pages_code) };
 
-    ghost view = { λ s. seen L.leaves P.pages P.failures s.parts };
+    ghost view = { λ s. seen L.leaves P.pages P.usage s.parts };
 
-    ghost invariant = { λ s. IsSystem (seen L.leaves P.pages P.failures s.parts) };
+    ghost invariant = { λ s. IsSystem (seen L.leaves P.pages P.usage s.parts) };
 }
 
 impl<L: LeafSet, D: LogDevice, P: PageDevice> SystemTxns<L, D, P> {
@@ -54,7 +54,7 @@ impl<L: LeafSet, D: LogDevice, P: PageDevice> SystemTxns<L, D, P> {
     pub fn new(alloc: Global, log: D, pages: P) -> Result<SystemTxns<L, D, P>, Refused<D, P>>
         requires no_log { (D.forced log ≡ []) × (D.pending log ≡ []) }
         requires no_pages { P.pages pages ≡ map.empty }
-        ensures fresh { IfOk result (λ system. system ≡ fresh (D.failures log + P.failures pages)) }
+        ensures fresh { IfOk result (λ system. system ≡ fresh (D.usage log) (P.usage pages)) }
         ensures refused { IfErr result (λ left. left.refusal ≡ Refusal.NoMemory) }
         ensures same_log { IfErr result (λ left. left.devices.log ≡ log) }
         ensures same_pages { IfErr result (λ left. left.devices.pages ≡ pages) }
@@ -72,7 +72,8 @@ impl<L: LeafSet, D: LogDevice, P: PageDevice> SystemTxns<L, D, P> {
         ensures forced { BeginsWith (D.forced result.log) (spelled (beginning self.log self.stable)) }
         ensures just { D.forces_whole ≡ true → D.forced result.log ≡ spelled (beginning self.log self.stable) }
         ensures pages { P.pages result.pages ≡ self.pages }
-        ensures failures { D.failures result.log + P.failures result.pages ≡ self.failures }
+        ensures log_usage { D.usage result.log ≡ self.log_usage }
+        ensures page_usage { P.usage result.pages ≡ self.page_usage }
     {
         let SystemTxns { parts } = self;
         let Parts {
@@ -104,7 +105,7 @@ impl<L: LeafSet, D: LogDevice, P: PageDevice> SystemTxns<L, D, P> {
     }
 
     /// Splits the first large leaf; where there is none and merges are let, joins the first two that may be. Refused
-    /// NumbersSpent, NoMemory, Device.
+    /// NumbersSpent, NoMemory, Device, and never where nothing is to be done.
     pub fn tend(&mut self, merges: bool) -> Result<Tended, Refusal>
         ensures gives { TendGives self.old merges result self.new }
     {
@@ -112,14 +113,16 @@ impl<L: LeafSet, D: LogDevice, P: PageDevice> SystemTxns<L, D, P> {
     }
 
     /// Writes the leaf that has the key to its page, the log first where it has to be forced, and answers the leaf's
-    /// number. Refused NoMemory, Device.
+    /// number: a force at most, and one write. Refused NoMemory, and unchanged then; Device, where the log may be
+    /// stable further.
     pub fn flush(&mut self, key: &Key) -> Result<u64, Refusal>
         ensures gives { FlushGives self.old key.now result self.new }
     {
         self.parts.flush(key)
     }
 
-    /// Counts every request up to this number as performed, and writes each leaf. Refused NoMemory, Device.
+    /// Counts every request up to this number as performed, and writes each leaf. Refused NoMemory, and unchanged then;
+    /// Device, where all leaves have been raised and some written.
     pub fn checkpoint(&mut self, low: u64) -> Result<(), Refusal>
         requires { low < 2 ^ 48 }
         ensures gives { CheckpointGives self.old low result self.new }
@@ -127,7 +130,8 @@ impl<L: LeafSet, D: LogDevice, P: PageDevice> SystemTxns<L, D, P> {
         self.parts.checkpoint(low)
     }
 
-    /// Logs that the session is accepted, and forces the log. Refused NumbersSpent, NoMemory, Device.
+    /// Logs that the session is accepted, and forces the log. Refused NumbersSpent, NoMemory, Device: where the force
+    /// fails the record stands in the log.
     pub fn accept(&mut self, session: u64) -> Result<(), Refusal>
         requires { session < 2 ^ 48 }
         ensures gives { AcceptGives self.old session result self.new }

@@ -8,11 +8,10 @@ use Rattle.history.specs.declared.record.Record.TheVariants as is
 use Rattle.log_laws.proofs.Checking.{latest_unique}
 use Rattle.stable.specs.Usage.{Usage, called_often}
 use Rattle.logical_log.specs.Low.{stable_part}
-use Rattle.logical_log.specs.Opening.{IsLogOf}
 use Rattle.logical_log.specs.Spelled.{spelled}
 use Rattle.logical_log.proofs.Crashed.{opens_once}
 use Rattle.restart.specs.Losers.{IsLoser}
-use Rattle.restart.specs.Plan.{IsCheckpointed, raised_by}
+use Rattle.logical_log.specs.Checkpointed.{IsCheckpointed, raised_by}
 use Rattle.restart.proofs.Passing.{legal_part}
 use Rattle.tc_core.specs.Kept.{IsTc}
 use Rattle.tc_core.specs.Opening.{opened}

@@ -1,3 +1,4 @@
+mod Asking
 pub mod Finding
 pub mod Numbers
 pub mod Low

@@ -8,8 +8,8 @@ use Rattle.history.specs.Legal.{FitsCheckpoint}
 use Rattle.logical_log.specs.Low.{stable_part}
 use Rattle.logical_log.proofs.Answered.{answered_whole, part_longer, part_whole}
 use Rattle.logical_log.proofs.Index.{record_at-zero}
-use Rattle.restart.specs.Plan.{raised_by}
-use Rattle.restart.proofs.Passing.{raised_more}
+use Rattle.logical_log.specs.Checkpointed.{raised_by}
+use Rattle.logical_log.proofs.Checkpointed.{raised_more}
 use Rattle.tc_core.specs.Changes.{greater}
 use Rattle.tc_core.specs.TcView.{TcView}
 use Rattle.tc_core.specs.LowWater.{MayAnnounce}

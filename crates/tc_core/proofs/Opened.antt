@@ -23,7 +23,8 @@ use Rattle.stable.specs.Usage.{Usage}
 use Rattle.logical_log.specs.Low.{stable_part}
 use Rattle.range_locks.specs.Locks.{LocksView, spans_of}
 use Rattle.restart.specs.Losers.{LosersView, txns, AreLosers}
-use Rattle.restart.specs.Plan.{IsCheckpointed, IsRedoStart}
+use Rattle.logical_log.specs.Checkpointed.{IsCheckpointed}
+use Rattle.restart.specs.Plan.{IsRedoStart}
 use Rattle.tc_core.specs.Locking.{op_spans, is_listed, is_changing, AreApart, AreHeld, HoldOperations}
 use Rattle.tc_core.specs.Opening.{HoldsOpen, opened}
 use Rattle.tc_core.specs.Kept.{IsTc}

@@ -2,8 +2,8 @@
 use Rattle.std.proofs.Common.{◌≡◌, ℕ, ◌+◌, ◌-◌, List, [], ◌∷◌, refl, subst, arith, inr}
 use Rattle.history.specs.declared.record.Record.{Record}
 use Rattle.history.specs.Legal.{IsLatestOrNone}
-use Rattle.restart.specs.Plan.{IsCheckpointed}
-use Rattle.restart.proofs.Passing.{raised_more}
+use Rattle.logical_log.specs.Checkpointed.{IsCheckpointed}
+use Rattle.logical_log.proofs.Checkpointed.{raised_more}
 use Rattle.tc_core.specs.Kept.{IsTc}
 use Rattle.tc_core.specs.Opening.{opened}
 use Rattle.tc_core.specs.Opened.{checkpointed_in, losers_of, locks_of, OpenedIsKept, OpenedIsOpened}

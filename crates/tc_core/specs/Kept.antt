@@ -16,7 +16,7 @@ use Rattle.tc_core.specs.declared.open_txn.Rollback.{Rollback}
 use Rattle.tc_core.specs.declared.phase.Phase.{Phase}
 use Rattle.tc_core.specs.declared.phase.Phase.TheVariants as phase
 use Rattle.logical_log.specs.Low.{stable_part}
-use Rattle.restart.specs.Plan.{IsCheckpointed}
+use Rattle.logical_log.specs.Checkpointed.{IsCheckpointed}
 use Rattle.restart.specs.Losers.{LosersView, txns, IsLoser, AreLosers}
 use Rattle.tc_core.specs.OpenTxns.{find, AreFalling}
 use Rattle.tc_core.specs.Locking.{AreHeld, HoldOperations}

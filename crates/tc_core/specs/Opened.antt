@@ -11,7 +11,7 @@ use Rattle.logical_log.specs.Opening.{IsLogOf, cut_calls}
 use Rattle.range_locks.specs.Locks.{LocksView, set_spans}
 use Rattle.restart.specs.declared.loser.Loser.{Loser}
 use Rattle.restart.specs.Losers.{LosersView, txns}
-use Rattle.restart.specs.Plan.{raised_by}
+use Rattle.logical_log.specs.Checkpointed.{raised_by}
 use Rattle.tc_core.specs.Locking.{op_spans, is_listed}
 use Rattle.tc_core.specs.Opening.{opened, IsOpened}
 use Rattle.tc_core.specs.Replies.{is_number}

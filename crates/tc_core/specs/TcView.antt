@@ -1,5 +1,5 @@
 -- What is seen of the transaction component.
-use Rattle.std.specs.Prelude.{ℕ, ◌+◌, ◌||◌, Bool, true, false, List, [], ◌∷◌, Option, Some, None, is_some}
+use Rattle.std.specs.Prelude.{ℕ, ◌||◌, Bool, true, false, List, [], ◌∷◌, Option, Some, None, is_some}
 use Rattle.stable.specs.Usage.{Usage, failed as failed_use}
 use Rattle.history.specs.declared.record.Record.{Record}
 use Rattle.range_locks.specs.Locks.{LocksView}

@@ -1,18 +1,19 @@
 //! Opening what a crash left.
-ghost use Rattle.std.specs.Prelude.{true, ◌≡◌, ◌++◌, ◌+◌, ◌≤◌, ℕ, Some, [], length, IfOk, IfErr, OnOk};
+ghost use Rattle.std.specs.Prelude.{true, ◌≡◌, ◌++◌, ◌+◌, ◌-◌, ◌≤◌, ℕ, Some, [], length, IfOk, IfErr, OnOk};
 ghost use Rattle.std.specs.BTreeMap.{get};
 ghost use Rattle.std.specs.Ordering.{nat_cmp};
 ghost use Rattle.stable.specs.Crash.{BeginsWith};
+ghost use Rattle.history.specs.declared.record.Record.{Record};
 ghost use Rattle.history.specs.Log.{record_at};
 ghost use Rattle.logical_log.specs.Low.{stable_part};
 ghost use Rattle.logical_log.specs.Opening.{RefusesOpen, UsedToOpen};
-ghost use Rattle.logical_log.specs.Replay.{KeptOf};
+ghost use Rattle.logical_log.specs.Replay.{KeptOf, IsAnalysis};
 ghost use Rattle.logical_log.specs.Spelled.{spelled, AreRecords};
 ghost use Rattle.range_locks.specs.Rebuilt.{listed_spans};
 ghost use Rattle.restart.specs.Losers.{AreLosers};
 ghost use Rattle.restart.specs.Plan.{IsRedoStart};
 ghost use Rattle.tc_core.specs.Locking.{op_spans};
-ghost use Rattle.tc_core.specs.Opening.{key_noted, spans_if, HoldsOpen, IsOpened};
+ghost use Rattle.tc_core.specs.Opening.{key_noted, spans_if, HoldsOpen, IsOpened, opened};
 ghost use Rattle.tc_core.specs.Kept.{IsTc};
 ghost use Rattle.tc_core.specs.Seen.{seen};
 
@@ -22,10 +23,10 @@ use crate::open_txns::OpenTxns;
 use crate::parts::Parts;
 use crate::phase::Phase;
 use history::Record;
-use logical_log::{Log, Refused};
+use logical_log::{Found, Frames, Log, Refused};
 use range_locks::{Mode, RangeLocks};
 use record_key::{Key, Refusal};
-use restart::{Plan, analyse};
+use restart::{Work, find_work};
 use stable::LogDevice;
 use std::alloc::{AllocError, Global};
 use std::collections::BTreeMap;
@@ -40,28 +41,44 @@ impl<D: LogDevice> Parts<D> {
         ensures none_pending { IfErr result (λ left. D.pending left.device ≡ []) }
         ensures used { IfErr result (λ left. UsedToOpen (D.usage device) left.refusal (D.usage left.device)) }
     {
-        let log = match Log::open(alloc, device) {
-            Ok(log) => log,
+        let found = match Found::read(alloc, device) {
+            Ok(found) => found,
             Err(refused) => return Err(refused),
         };
-        match found(alloc, &log) {
-            Ok((plan, locks)) => Ok(Parts {
-                log,
-                session: 0,
-                phase: Phase::Unconnected,
-                reads: 0,
-                announced: 0,
-                checkpointing: None,
-                checkpointed: plan.redo_start - 1,
-                open_txns: OpenTxns::new(alloc),
-                committing: Vec::new(alloc),
-                losers: Lost::found(plan.losers),
-                locks,
-            }),
-            Err(refusal) => Err(Refused {
-                refusal,
-                device: log.stop(),
-            }),
+        let (work, locks) = match work_and_locks(alloc, &found) {
+            Ok(outcome) => outcome,
+            Err(refusal) => {
+                return Err(Refused {
+                    refusal,
+                    device: found.stop(),
+                });
+            }
+        };
+        match found.open() {
+            Ok(log) => Ok(Parts::of(alloc, log, work, locks)),
+            Err(refused) => Err(refused),
+        }
+    }
+
+    /// Not connected yet, with the log and what it leaves to do.
+    fn of(alloc: Global, log: Log<D>, work: Work, locks: RangeLocks) -> Parts<D>
+        requires redo { 1 ≤ work.redo_start }
+        ensures { seen result ≡ record (opened log.records log.usage (work.redo_start - 1) work.losers locks) {
+          stable = log.stable;
+        } }
+    {
+        Parts {
+            log,
+            session: 0,
+            phase: Phase::Unconnected,
+            reads: 0,
+            announced: 0,
+            checkpointing: None,
+            checkpointed: work.redo_start - 1,
+            open_txns: OpenTxns::new(alloc),
+            committing: Vec::new(alloc),
+            losers: Lost::found(work.losers),
+            locks,
         }
     }
 
@@ -77,35 +94,35 @@ impl<D: LogDevice> Parts<D> {
     }
 }
 
-/// What the log says, and the locks of its losers. Refused NoMemory alone.
-fn found<D: LogDevice>(alloc: Global, log: &Log<D>) -> Result<(Plan, RangeLocks), Refusal>
-    ensures losers { IfOk result (λ found. AreLosers log.now.records found.0.losers) }
-    ensures all { IfOk result (λ found. found.0.losers.below ≡ length log.now.records + 1) }
-    ensures redo { IfOk result (λ found. IsRedoStart log.now.records found.0.redo_start) }
-    ensures held { IfOk result (λ found. HoldsOpen log.now.records found.1) }
+/// What the log leaves to do, and the locks of its losers. Refused NoMemory alone.
+fn work_and_locks<D: LogDevice>(
+    alloc: Global,
+    found: &Found<D>,
+) -> Result<(Work, RangeLocks), Refusal>
+    ensures losers { IfOk result (λ outcome. AreLosers found.now.records outcome.0.losers) }
+    ensures all { IfOk result (λ outcome. outcome.0.losers.below ≡ length found.now.records + 1) }
+    ensures redo { IfOk result (λ outcome. IsRedoStart found.now.records outcome.0.redo_start) }
+    ensures held { IfOk result (λ outcome. HoldsOpen found.now.records outcome.1) }
     ensures refused { IfErr result (λ refusal. refusal ≡ Refusal.NoMemory) }
 {
-    let plan = analyse(alloc, log)?;
-    let locks = held(alloc, log, &plan.open_txns)?;
-    Ok((plan, locks))
+    let work = find_work(alloc, found)?;
+    let locks = held(alloc, found.frames(), &found.analysis().open_txns)?;
+    Ok((work, locks))
 }
 
 /// The keys of these transactions' operations, compensated or not, each with its transaction.
-fn keys_of<D: LogDevice>(
+fn keys_of(
     alloc: Global,
-    log: &Log<D>,
+    frames: &Frames,
     open_txns: &BTreeMap<u64, u64>,
 ) -> Result<Vec<(u64, Key, Mode)>, AllocError>
     ensures { IfOk result (λ keys. (t : ℕ) → listed_spans keys.items t
-        ≡ spans_if (get nat_cmp open_txns.now t) (op_spans log.now.records t)) }
+        ≡ spans_if (get nat_cmp open_txns.now t) (op_spans frames.now.records t)) }
 {
-    let records = log.len();
+    let records = frames.len();
     let mut keys = Vec::new(alloc);
     for end in first_open(open_txns, records)..records {
-        match log.record(end + 1) {
-            Some(found) => note_key(&mut keys, open_txns, &found)?,
-            None => unreachable!(),
-        }
+        note_key(&mut keys, open_txns, frames, end + 1)?;
     }
     Ok(keys)
 }
@@ -122,34 +139,40 @@ fn first_open(open_txns: &BTreeMap<u64, u64>, last: u64) -> u64
     }
 }
 
-/// Notes the key that the record's operation is on, where its transaction is open.
+/// Notes the key of the record of this number, where it is an operation of one of these transactions. No other record
+/// is read whole.
 fn note_key(
     keys: &mut Vec<(u64, Key, Mode)>,
     open_txns: &BTreeMap<u64, u64>,
-    found: &Record,
+    frames: &Frames,
+    number: u64,
 ) -> Result<(), AllocError>
-    ensures { OnOk result (keys.new.items ≡ keys.old.items ++ key_noted found.now (get nat_cmp open_txns.now)) }
+    ensures { (r : Record) → record_at frames.now.records number ≡ Some r
+        → OnOk result (keys.new.items ≡ keys.old.items ++ key_noted r (get nat_cmp open_txns.now)) }
 {
-    let Record::Op { txn, op, .. } = found else {
+    let Some(step_txn) = frames.step_txn(number) else {
         return Ok(());
     };
-    if open_txns.contains_key(txn) {
-        keys.push((*txn, op.key().copied(), mode_for(op)))?;
+    if !open_txns.contains_key(&step_txn) {
+        return Ok(());
+    }
+    if let Some(Record::Op { txn, op, .. }) = frames.record(number) {
+        keys.push((txn, op.key().copied(), mode_for(&op)))?;
     }
     Ok(())
 }
 
 /// The locks of these transactions. Refused NoMemory alone.
-fn held<D: LogDevice>(
+fn held(
     alloc: Global,
-    log: &Log<D>,
+    frames: &Frames,
     open_txns: &BTreeMap<u64, u64>,
 ) -> Result<RangeLocks, Refusal>
-    requires { (t : ℕ) → KeptOf log.now.records t (get nat_cmp open_txns.now t) }
-    ensures held { IfOk result (HoldsOpen log.now.records) }
+    requires { (t : ℕ) → KeptOf frames.now.records t (get nat_cmp open_txns.now t) }
+    ensures held { IfOk result (HoldsOpen frames.now.records) }
     ensures refused { IfErr result (λ refusal. refusal ≡ Refusal.NoMemory) }
 {
-    let keys = keys_of(alloc, log, open_txns)?;
+    let keys = keys_of(alloc, frames, open_txns)?;
     let mut locks = RangeLocks::new(alloc);
     locks.rebuild(keys.as_slice())?;
     Ok(locks)

@@ -1,7 +1,6 @@
 //! What the data component is asked for: the records of a log, and reads.
 ghost use Rattle.std.specs.Prelude.{◌≡◌};
 ghost use Rattle.history.specs.Log.{Requests, HasRequest};
-ghost use Rattle.tc_core.specs.Undo.{FindsRequest};
 ghost use Rattle.tc_core.specs.Calls.{read_request as asks_for};
 
 use crate::open_txn::Read;
@@ -20,20 +19,6 @@ pub fn request<D: LogDevice>(log: &Log<D>, number: u64) -> Op
         Some(op) => op,
         None => unreachable!(),
     }
-}
-
-/// The first record from `from` on and below `below` that asks for something, and for what.
-pub fn first_request<D: LogDevice>(log: &Log<D>, from: u64, below: u64) -> Option<(u64, Op)>
-    ensures { FindsRequest log.now.records from below result }
-{
-    let mut number = from;
-    while number < below {
-        if let Some(op) = log.asked_op(number) {
-            return Some((number, op));
-        }
-        number += 1;
-    }
-    None
 }
 
 /// What asks for the read.

@@ -6,10 +6,11 @@ ghost use Rattle.tc_core.specs.Seen.{seen};
 
 use crate::parts::Parts;
 use crate::phase::Phase;
-use crate::requests::first_request;
+use crate::requests::request;
 use crate::told::RecoverStep;
 use codec::Request;
 use record_key::Refusal;
+use restart::redo_next;
 use stable::LogDevice;
 
 impl<D: LogDevice> Parts<D> {
@@ -40,8 +41,9 @@ impl<D: LogDevice> Parts<D> {
         ensures redoes { Redoes (seen self.old) next result (seen self.new) }
     {
         let session = self.session;
-        match first_request(&self.log, next, session) {
-            Some((number, op)) => {
+        match redo_next(&self.log, next, session) {
+            Some(number) => {
+                let op = request(&self.log, number);
                 self.phase = Phase::Redoing {
                     next: number,
                     ending: false,

@@ -1,8 +1,7 @@
-use Rattle.std.proofs.Common.{◌∙◌, sym, ap, is_some}
+use Rattle.std.proofs.Common.{ap}
+use Rattle.std.specs.Prelude.{not}
 use Rattle.logical_log.proofs.Checks.{answer_test}
 use Rattle.logical_log.proofs.fits.fits_answer.Goals as goal
 
-pub returns-then-asks : goal.returns-then-asks
-returns-then-asks c =
-    answer_test _ c.args.of c.in-Some.item c.is_none.result (sym c.in-Some.is ∙ c.record.ensures) (sym c.asks.ensures
-    ∙ c.if-asks.true) (ap is_some (sym c.answer_of.ensures) ∙ c.is_none.ensures)
+pub returns : goal.returns
+returns c = answer_test _ c.args.of _ (ap not c.is_answered.ensures)

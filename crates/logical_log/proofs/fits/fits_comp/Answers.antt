@@ -9,11 +9,11 @@ returns-then-undoes-eq0 c = (
       (comp_zero _ c.args.txn c.args.undoes c.args.next c.args.by.now c.if-undoes-eq0.true fits),
 )
 
-pub returns-then-undo_from-undoes : goal.returns-then-undo_from-undoes
-returns-then-undo_from-undoes c = (
+pub returns-then-left_to_undo-undoes : goal.returns-then-left_to_undo-undoes
+returns-then-left_to_undo-undoes c = (
   λ e. absurd (true≢false (sym e)),
-  λ fits. absurd (comp_latest _ c.args.txn c.in-Some.latest c.args.undoes c.args.next c.undo_from.result c.args.by.now
-      c.requires.legal c.in-Some.ensures c.undo_from.ensures c.if-undo_from-undoes.true fits),
+  λ fits. absurd (comp_latest _ c.args.txn c.in-Some.latest c.args.undoes c.args.next c.left_to_undo.result c.args.by.now
+      c.requires.legal c.in-Some.ensures c.left_to_undo.ensures c.if-left_to_undo-undoes.true fits),
 )
 
 pub returns-then-undo_below-next : goal.returns-then-undo_below-next
@@ -27,5 +27,5 @@ pub returns : goal.returns
 returns c =
     comp_test _ c.args.txn c.in-Some.latest c.args.undoes c.args.next c.args.by.now c.inverts.result c.requires.legal
     c.in-Some.ensures c.if-undoes-eq0.false
-    (sym c.undo_from.ensures ∙ c.if-undo_from-undoes.false) (sym c.undo_below.ensures
+    (sym c.left_to_undo.ensures ∙ c.if-left_to_undo-undoes.false) (sym c.undo_below.ensures
     ∙ c.if-undo_below-next.false) c.inverts.ensures

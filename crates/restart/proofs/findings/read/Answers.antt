@@ -26,5 +26,5 @@ pub returns-clause-found : goal.returns-clause-found
 returns-clause-found g c =
     let e : c.loop-end.end ≡ length c.args.log.now.records = omega
     (arith, c.loop-end-test.false, c.len-end-end.ensures.count, c.loop-end.auto.end-end) in
-    found_all c.args.log.now.records c.loop-end.findings c.len-end-end.ensures.legal
+    found_all c.args.log.now.records c.loop-end.findings
     (subst (λ (n : ℕ). IsFound c.args.log.now.records n c.loop-end.findings) e c.loop-end.invariant)

@@ -13,7 +13,7 @@ returns-in_default c = record {
     no_image c.args.bytes.now c.in_ok-image.field-0 c.args.id c.args.records
         c.in_ok-image.ensures.only c.in_default.not-Record,
   ));
-  no_device = refl;
+  no_device = λ is. absurd (cc);
 }
 
 pub returns-then-image-id-clause-refused : goal.returns-then-image-id-clause-refused

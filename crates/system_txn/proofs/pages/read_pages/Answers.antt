@@ -1,12 +1,36 @@
-use Rattle.std.proofs.Common.{◌≡◌, ◌∙◌, ℕ, List, take, ap, sym, subst, get_or, arith}
+use Rattle.std.proofs.Common.{◌≡◌, ◌∙◌, ℕ, ◌+◌, ◌≤◌, List, take, length, ap, sym, subst, get_or, arith}
+use Rattle.std.proofs.lemmas.Result.{err_from_is_err_and}
 use Rattle.std.proofs.lemmas.List.{take_all, take_more}
 use Rattle.std.specs.FinMap as table
 use Rattle.stable.specs.PagesState.{Pages}
+use Rattle.stable.specs.Usage.{Usage, called, called_often}
 use Rattle.system_txn.specs.Devices.{pages_of}
 use Rattle.system_txn.specs.Paging.{IsOwnIfAny}
 use Rattle.system_txn.specs.Shelf.{held}
 use Rattle.system_txn.proofs.Paged.{ArePaged, one_refused, one_more, all_own, all_placed}
+use Rattle.system_txn.specs.Uses.{page_calls}
+use Rattle.system_txn.proofs.Used.{often_more, lacks_memory, stops_after}
 use Rattle.system_txn.proofs.pages.read_pages.Goals as goal
+
+pub returns-in_err-shelf-clause-stopped : goal.returns-in_err-shelf-clause-stopped
+returns-in_err-shelf-clause-stopped g c =
+    let p = err_from_is_err_and c.from_residual.result c.from_residual.ensures.1 in
+    rw (p.1, p.2)
+    (lacks_memory 1 (page_calls (g.P.PageDevice.pages c.args.pages.now)) _ _ _ (omega arith)
+    c.in_err-shelf.ensures.memory (rw c.in-Ok.is at c.ids.ensures.used))
+
+pub returns-in-Err-read_page-clause-stopped : goal.returns-in-Err-read_page-clause-stopped
+returns-in-Err-read_page-clause-stopped g c =
+    let pages : Pages = g.P.PageDevice.pages c.args.pages.now in
+    let le : (1 + c.loop-id.id-index) + 1 ≤ page_calls pages =
+    omega (
+      arith,
+      c.loop-id-test.true,
+      ap length c.as_slice-id-items.ensures.value,
+      ap length c.in-Ok.ensures.written,
+    ) in
+    stops_after (1 + c.loop-id.id-index) 1 (page_calls pages) _ _ _ _ c.loop-id.invariant.used le
+    c.in-Err-read_page.ensures.stopped
 
 pub returns-in-Err-read_page-clause-refused : goal.returns-in-Err-read_page-clause-refused
 returns-in-Err-read_page-clause-refused g c =
@@ -18,6 +42,8 @@ loop-id-preserved g c =
     let pages : Pages = g.P.PageDevice.pages c.args.pages.now in
     let ids : List ℕ = c.as_slice-id-items.result.now in
     let id : ℕ = get_or ids c.loop-id.id-index 0 in
+    let before : Usage = g.P.PageDevice.usage c.args.pages.now in
+    let next : (1 + c.loop-id.id-index) + 1 ≡ 1 + (c.loop-id.id-index + 1) = omega arith in
     let more = take_more ids c.loop-id.id-index 0 (omega (arith, c.loop-id-test.true)) in
     record {
       paged = subst (ArePaged pages c.args.records c.args.numbers c.offer.new.self.slots.items) (sym more)
@@ -30,7 +56,9 @@ loop-id-preserved g c =
           (λ ge. c.offer.ensures.passed (omega (arith, ge, c.loop-id.invariant.count))));
       count = c.offer.ensures.count ∙ c.loop-id.invariant.count;
       same = c.read_page.ensures.same ∙ c.loop-id.invariant.same;
-      failures = omega (arith, c.in-Ok-read_page.ensures.failures, c.loop-id.invariant.failures);
+      used = c.in-Ok-read_page.ensures.used ∙ ap called c.loop-id.invariant.used
+          ∙ often_more (1 + c.loop-id.id-index) 1 before
+          ∙ ap (λ (n : ℕ). called_often n before) next;
     }
 
 pub returns-clause-held : goal.returns-clause-held

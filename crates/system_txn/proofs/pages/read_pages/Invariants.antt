@@ -1,4 +1,5 @@
-use Rattle.std.proofs.Common.{◌≡◌, take, vec_len}
+use Rattle.std.proofs.Common.{◌≡◌, ◌+◌, take, vec_len}
+use Rattle.stable.specs.Usage.{called_often}
 use Rattle.system_txn.proofs.Paged.{ArePaged}
 use Rattle.system_txn.proofs.pages.read_pages.Given as goal
 
@@ -9,5 +10,5 @@ invariant-loop-id g l = record {
       (take l.id-index l.id-items);
   count : vec_len l.shelf.slots ≡ l.numbers;
   same : g.P.PageDevice.pages l.pages ≡ g.P.PageDevice.pages l.fn.pages;
-  failures : g.P.PageDevice.failures l.pages ≡ g.P.PageDevice.failures l.fn.pages;
+  used : g.P.PageDevice.usage l.pages ≡ called_often (1 + l.id-index) (g.P.PageDevice.usage l.fn.pages);
 }

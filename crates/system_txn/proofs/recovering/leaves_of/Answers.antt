@@ -8,7 +8,16 @@ use Rattle.stable.specs.PagesState.{Pages}
 use Rattle.system_txn.specs.Arranging.{AreApart, IsArrangement}
 use Rattle.system_txn.proofs.Gathered.{IsGathered, gathers, gathered_apart, gathered_row, gathered_none}
 use Rattle.system_txn.proofs.Found.{pages_refused}
+use Rattle.std.proofs.lemmas.Result.{err_from_is_err_and}
+use Rattle.system_txn.specs.Uses.{page_calls}
+use Rattle.system_txn.proofs.Used.{lacks_memory}
 use Rattle.system_txn.proofs.recovering.leaves_of.Goals as goal
+
+pub returns-in_err-leaves-clause-stopped : goal.returns-in_err-leaves-clause-stopped
+returns-in_err-leaves-clause-stopped g c =
+    let n = page_calls (g.P.PageDevice.pages c.args.pages.now) in
+    let p = err_from_is_err_and c.from_residual-in_err-leaves.result c.from_residual-in_err-leaves.ensures.1 in
+    rw (p.1, p.2) (lacks_memory n n _ _ _ (omega arith) c.in_err-leaves.ensures.memory c.in-Ok.ensures.used)
 
 pub arrange-requires : goal.arrange-requires
 arrange-requires g c =

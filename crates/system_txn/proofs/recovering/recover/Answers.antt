@@ -1,28 +1,16 @@
-use Rattle.system_txn.specs.Finding.{log_of}
-use Rattle.system_txn.proofs.Found.{log_refused, leaves_refused}
+use Rattle.std.proofs.Common.{ℕ, ◌∙◌, ap}
+use Rattle.stable.specs.Usage.{called_often}
+use Rattle.system_txn.specs.Uses.{log_calls}
+use Rattle.system_txn.proofs.Found.{uncut_stops}
 use Rattle.system_txn.proofs.recovering.recover.Goals as goal
 
-pub returns-in-Err-clause-refused : goal.returns-in-Err-clause-refused
-returns-in-Err-clause-refused g c = log_refused _ _ _ c.in-Err.ensures.refused
+pub returns-in-Err-cut_off-clause-stopped : goal.returns-in-Err-cut_off-clause-stopped
+returns-in-Err-cut_off-clause-stopped g c =
+    uncut_stops _ _ _ _ _ _ _ c.in-Err-cut_off.ensures.refused c.in-Ok.ensures.log_used c.in-Ok.ensures.pages_used
+    c.in-Err-cut_off.ensures.due c.in-Err-cut_off.ensures.failed
 
-pub returns-in-Err-leaves_of-clause-refused : goal.returns-in-Err-leaves_of-clause-refused
-returns-in-Err-leaves_of-clause-refused g c =
-    leaves_refused (g.D.LogDevice.forced c.args.log.now)
-    (g.P.PageDevice.pages c.args.pages.now) c.in-Ok.frames c.in-Err-leaves_of.refusal
-    c.in-Ok.ensures.read c.in-Err-leaves_of.ensures.refused
-
-pub returns-clause-found : goal.returns-clause-found
-returns-clause-found g c =
-    let read = c.in-Ok.ensures.read in record {
-      log = log_of c.in-Ok.frames;
-      held = read.held;
-      left_is = c.in-Ok.ensures.cut;
-      readable = read.readable (g.P.PageDevice.pages c.args.pages.now);
-      numbered = read.numbered;
-      recovered = c.in-Ok-leaves_of.ensures.recovered;
-      places = read.places_are;
-      end = read.end_is;
-      next = read.next_is;
-      stored = read.stored_is;
-      named = read.below;
-    }
+pub returns-clause-log_used : goal.returns-clause-log_used
+returns-clause-log_used g c =
+    c.in_default.ensures.used (g.D.LogDevice.usage c.args.log.now) c.in-Ok.ensures.log_used
+    ∙ ap (λ (n : ℕ). called_often (log_calls c.in-Ok.found.0.end n) (g.D.LogDevice.usage c.args.log.now))
+    c.in-Ok.ensures.length

@@ -14,7 +14,7 @@ returns-clause-kept c =
 pub returns-clause-fresh : goal.returns-clause-fresh
 returns-clause-fresh c =
     let fresh = c.in-Ok.ensures.fresh in
-    let rows = first_rows c.in-Ok.system c.of-opened.result.table _ fresh c.of-opened.ensures in
+    let rows = first_rows c.in-Ok.system c.of-opened.result.table _ _ fresh c.of-opened.ensures in
     λ i. record {
       stored = 0;
       session = 0;

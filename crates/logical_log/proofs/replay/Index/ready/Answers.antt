@@ -8,5 +8,5 @@ returns-then-is_answered c =
     let Of : Option ℕ → Type 0 = λ v. KeptOf c.args.frames.now.records c.args.txn v in
     let some : latest_in c.args.self.now c.args.txn ≡ Some c.in_ok-latest.latest = sym c.latest.ensures
     ∙ c.in_ok-latest.was in
-    ready_test _ c.args.txn c.in_ok-latest.latest c.requires.legal (subst Of some (c.requires.open_txns c.args.txn))
+    ready_test _ c.args.txn c.in_ok-latest.latest c.requires.legal (subst Of some (c.requires.analysis.open_txns c.args.txn))
     (sym c.is_answered.ensures ∙ c.if-is_answered.true)

@@ -5,11 +5,10 @@ use Rattle.restart.proofs.findings.Findings.take.Goals as goal
 pub returns : goal.returns
 returns g c =
     let new : Findings = record {
-      open_txns = c.follow.new.open_txns;
+      analysis = c.follow.new.self;
       winners = c.note_commit.new.winners;
       missing = c.note_missing.new.missing;
-      checkpointed = c.raised-self.result;
     } in
     found_more c.args.log.now.records c.args.found.now c.args.self.now new c.requires.legal
-    c.in_ok-note_commit.ensures c.raised-self.ensures c.args.number
+    c.in_ok-note_commit.ensures c.args.number
     c.requires.stands c.requires.so_far c.in_ok-follow.ensures c.in_ok-note_missing.ensures

@@ -1,7 +1,8 @@
-use Rattle.std.proofs.Common.{◌≡◌, ◌∙◌, ℕ, ◌+◌, List, [], ◌∷◌, ◌++◌, ap, subst, length, arith}
+use Rattle.std.proofs.Common.{◌≡◌, ◌∙◌, ℕ, ◌+◌, List, [], ◌∷◌, ◌++◌, ap, subst, length}
 use Rattle.codec.specs.declared.dc_record.DcRecord.{DcRecord}
 use Rattle.codec.specs.DcRecords.{record_in, dc_record_bytes}
 use Rattle.codec.specs.Frames.{frame}
+use Rattle.stable.specs.Usage.{called}
 use Rattle.system_txn.specs.LogView.{ChangeLogView}
 use Rattle.system_txn.specs.Devices.{records_at}
 use Rattle.system_txn.proofs.KeepsLog.{IsKept, kept_longer, kept_so, same_log}
@@ -38,13 +39,13 @@ invariant_of-self-2 g c = kept_so _ _ _ _ _ _ _ _ (now g c)
 pub returns-clause-appended : goal.returns-clause-appended
 returns-clause-appended g c =
     let log = same_log _ _ _ _ _ _ _ _ (now g c) in
-    let same : g.D.LogDevice.failures c.append.new.self ≡ g.D.LogDevice.failures c.self.inside.device =
-    omega (arith, c.in_default-append.ensures.failures) in
+    let counted : g.D.LogDevice.usage c.append.new.self ≡ called (g.D.LogDevice.usage c.self.inside.device) =
+    rw c.in_default-append.is at c.append.ensures.used in
     let Seen : ChangeLogView → Type 0 = λ v. record {
       log = records_at (g.D.LogDevice.forced c.append.new.self ++ g.D.LogDevice.pending c.append.new.self)
           c.push_reserved.new.self.items;
       stable = c.self.inside.stable;
-      failures = g.D.LogDevice.failures c.append.new.self;
+      usage = g.D.LogDevice.usage c.append.new.self;
     }
-    ≡ record v { log = record_in c.args.change.now ∷ v.log } in
-    subst Seen c.self.view_is (λ i. record { log = log i; stable = c.self.inside.stable; failures = same i })
+    ≡ record v { log = record_in c.args.change.now ∷ v.log; usage = called v.usage } in
+    subst Seen c.self.view_is (λ i. record { log = log i; stable = c.self.inside.stable; usage = counted i })

@@ -1,5 +1,6 @@
 use Rattle.std.proofs.Common.{◌≡◌, ◌∙◌, ◌++◌, ap, subst, length, arith}
 use Rattle.std.proofs.lemmas.Grind.{common_steps}
+use Rattle.stable.specs.Usage.{called}
 use Rattle.system_txn.specs.LogView.{ChangeLogView}
 use Rattle.system_txn.specs.Devices.{records_at}
 use Rattle.system_txn.proofs.KeepsLog.{IsKept, kept_forced, kept_so, same_log}
@@ -29,12 +30,12 @@ returns-clause-forced g c =
     let items = c.self.inside.places.items in
     let len : c.len.result ≡ length items = grind (arith, common_steps) in
     let count = len ∙ ap length c.self.invariant.1.begins_are ∙ length-places _ in
-    let same : g.D.LogDevice.failures c.force.new.self ≡ g.D.LogDevice.failures c.self.inside.device =
-    omega (arith, c.in_default.ensures.failures) in
+    let counted : g.D.LogDevice.usage c.force.new.self ≡ called (g.D.LogDevice.usage c.self.inside.device) =
+    rw c.in_default.is at c.force.ensures.used in
     let Seen : ChangeLogView → Type 0 = λ v. record {
       log = records_at (g.D.LogDevice.forced c.force.new.self ++ g.D.LogDevice.pending c.force.new.self) items;
       stable = c.len.result;
-      failures = g.D.LogDevice.failures c.force.new.self;
+      usage = g.D.LogDevice.usage c.force.new.self;
     }
-    ≡ record v { stable = length v.log } in
-    subst Seen c.self.view_is (λ i. record { log = log i; stable = count i; failures = same i })
+    ≡ record v { stable = length v.log; usage = called v.usage } in
+    subst Seen c.self.view_is (λ i. record { log = log i; stable = count i; usage = counted i })

@@ -23,4 +23,4 @@ returns g c =
     ap (records_at (forced ++ pending)) c.new.ensures.items
     ∙ same_log whole [] 0 forced pending [] 0 2
     (kept_empty whole forced pending c.requires.empty.0 c.requires.empty.1) in
-    ap (λ (l : List DcRecord). record { log = l; stable = 0; failures = g.D.LogDevice.failures c.args.device }) none
+    ap (λ (l : List DcRecord). record { log = l; stable = 0; usage = g.D.LogDevice.usage c.args.device }) none

@@ -31,4 +31,4 @@ returns g c = λ log each is.
     let items : c.len-stable.result ≡ length c.args.places.items = grind (arith, common_steps) in
     let count : c.len-stable.result ≡ length log = items ∙ ap length frames.begins_are ∙ length-places was
     ∙ ap length one in
-    λ i. record { log = read i; stable = count i; failures = g.D.LogDevice.failures c.args.device }
+    λ i. record { log = read i; stable = count i; usage = g.D.LogDevice.usage c.args.device }

@@ -1,5 +1,5 @@
 use Rattle.std.proofs.Common.{◌<◌, length, arith}
-use Rattle.system_txn.proofs.Keeps.{keeps_accepted, keeps_forced, keeps_failures}
+use Rattle.system_txn.proofs.Keeps.{keeps_accepted, keeps_forced, keeps_usage}
 use Rattle.system_txn.proofs.parts.Parts.accept.Goals as goal
 
 pub returns-in_err-force-clause-kept : goal.returns-in_err-force-clause-kept
@@ -7,7 +7,7 @@ returns-in_err-force-clause-kept g c =
     let room : length c.args.self.now.log.log < 281474976710655 =
     omega (arith, c.if-len-ge-LAST_NUMBER.false, c.len.ensures.count) in
     rw (c.in_err-force.ensures.left, c.in_ok-append.ensures.appended)
-    (keeps_failures _ _ (keeps_accepted _ c.args.session c.requires.kept room c.in_ok-append.ensures.spelled))
+    (keeps_usage _ _ _ (keeps_accepted _ c.args.session c.requires.kept room c.in_ok-append.ensures.spelled))
 
 pub returns-clause-kept : goal.returns-clause-kept
 returns-clause-kept g c =

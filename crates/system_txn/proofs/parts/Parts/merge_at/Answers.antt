@@ -10,7 +10,7 @@ use Rattle.system_txn.proofs.parts.Parts.merge_at.Goals as goal
 
 pub append-requires : goal.append-requires
 append-requires g c =
-    let v : SystemView = seen g.L.LeafSet.leaves g.P.PageDevice.pages g.P.PageDevice.failures c.args.self.now in
+    let v : SystemView = seen g.L.LeafSet.leaves g.P.PageDevice.pages g.P.PageDevice.usage c.args.self.now in
     let planned : IsPlanned v c.args.place (c.len-last.result + 1) c.in_ok-merge.merge c.id.result
     (image_in c.image_of.result) = record {
       may = record {
@@ -27,7 +27,7 @@ append-requires g c =
 
 pub returns-clause-kept : goal.returns-clause-kept
 returns-clause-kept g c =
-    let v : SystemView = seen g.L.LeafSet.leaves g.P.PageDevice.pages g.P.PageDevice.failures c.args.self.now in
+    let v : SystemView = seen g.L.LeafSet.leaves g.P.PageDevice.pages g.P.PageDevice.usage c.args.self.now in
     let planned : IsPlanned v c.args.place (c.len-last.result + 1) c.in_ok-merge.merge c.id.result
     (image_in c.image_of.result) = record {
       may = record {

@@ -11,7 +11,7 @@ use Rattle.system_txn.proofs.parts.Parts.split_at.Goals as goal
 
 pub append-requires : goal.append-requires
 append-requires g c =
-    let v : SystemView = seen g.L.LeafSet.leaves g.P.PageDevice.pages g.P.PageDevice.failures c.args.self.now in
+    let v : SystemView = seen g.L.LeafSet.leaves g.P.PageDevice.pages g.P.PageDevice.usage c.args.self.now in
     let planned : IsPlanned v c.args.place c.next_id-id.result (c.len-last.result + 1) c.in_ok-split.split
     (image_in c.image_of.result) = record {
       may = record {
@@ -29,7 +29,7 @@ append-requires g c =
 
 pub returns-clause-kept : goal.returns-clause-kept
 returns-clause-kept g c =
-    let v : SystemView = seen g.L.LeafSet.leaves g.P.PageDevice.pages g.P.PageDevice.failures c.args.self.now in
+    let v : SystemView = seen g.L.LeafSet.leaves g.P.PageDevice.pages g.P.PageDevice.usage c.args.self.now in
     let planned : IsPlanned v c.args.place c.next_id-id.result (c.len-last.result + 1) c.in_ok-split.split
     (image_in c.image_of.result) = record {
       may = record {

@@ -7,10 +7,10 @@ use Rattle.system_txn.specs.SystemView.{SystemView}
 use Rattle.system_txn.proofs.Written.{at_place}
 use Rattle.system_txn.proofs.parts.Parts.write.Goals as goal
 
-pub put_leaf_image-requires : goal.put_leaf_image-requires
-put_leaf_image-requires g c =
-    let v : SystemView = seen g.L.LeafSet.leaves g.P.PageDevice.pages g.P.PageDevice.failures c.args.self.now in
-    rw (c.image_of.ensures, c.leaf-leaf.ensures)
+pub spell-requires : goal.spell-requires
+spell-requires g c =
+    let v : SystemView = seen g.L.LeafSet.leaves g.P.PageDevice.pages g.P.PageDevice.usage c.args.self.now in
+    rw c.leaf-leaf.ensures
     (images_keep_leaves.ordered (get_or v.leaves c.args.place first)
     (at_place IsLeaf v.leaves c.args.place c.requires.within c.requires.kept.leaves.each)
     (at_place HasLeafNumbers v.leaves c.args.place c.requires.within c.requires.kept.numbers))

@@ -1,7 +1,8 @@
-use Rattle.std.proofs.Common.{true, false, subst, arith, sym, true≢false, refl}
+use Rattle.std.proofs.Common.{true, false, subst, arith, sym, true≢false, refl, Some}
 use Rattle.tc_core.specs.declared.phase.Phase.{Phase}
 use Rattle.tc_core.specs.Kept.{IsPhase}
 use Rattle.tc_core.specs.Seen.{seen}
+use Rattle.tc_core.proofs.Asking.{none_asks, none_before}
 use Rattle.tc_core.proofs.KeepsLost.{keeps_redoing}
 use Rattle.tc_core.proofs.parts.Parts.redo.Goals as goal
 
@@ -10,8 +11,9 @@ returns-in-Some-clause-kept g c =
     let w = seen c.args.self.now in
     let found = c.in-Some.ensures in
     let at = c.requires.redoing in
-    keeps_redoing w c.requires.kept c.args.next at.0 c.in-Some.number false at.1 found.0 (omega (arith, found.1))
-    (λ e. absurd (true≢false (sym e))) found.3
+    keeps_redoing w c.requires.kept c.args.next at.0 c.in-Some.number false at.1 found.is.from_there
+    (omega (arith, found.is.up_to))
+    (λ e. absurd (true≢false (sym e))) (none_before w.log c.args.next w.session c.in-Some.number found)
 
 pub returns-in-None-clause-kept : goal.returns-in-None-clause-kept
 returns-in-None-clause-kept g c =
@@ -19,4 +21,20 @@ returns-in-None-clause-kept g c =
     let at = c.requires.redoing in
     let P : Phase → Type 0 = IsPhase w.checkpointed w.session in
     keeps_redoing w c.requires.kept c.args.next at.0 w.session true at.1 (subst P at.1 c.requires.kept.phase).1
-    (omega arith) (λ e. refl) c.in-None.ensures
+    (omega arith) (λ e. refl) (none_asks w.log c.args.next w.session c.in-None.ensures)
+
+pub returns-in-Some-clause-redoes : goal.returns-in-Some-clause-redoes
+returns-in-Some-clause-redoes g c =
+    let w = seen c.args.self.now in
+    let found = c.in-Some.ensures in
+    record {
+      found = Some (c.in-Some.number, c.request-op.result);
+      finds = (
+        found.is.from_there,
+        found.is.up_to,
+        c.request-op.ensures,
+        none_before w.log c.args.next w.session c.in-Some.number found,
+      );
+      request_is = refl;
+      left = refl;
+    }

@@ -2,13 +2,13 @@ use Rattle.std.proofs.Common.{◌≡◌, ◌∙◌, [], sym, ap}
 use Rattle.logical_log.specs.Kept.{FramesView}
 use Rattle.logical_log.specs.Spelled.{spelled}
 use Rattle.logical_log.proofs.Kept.{kept_all}
-use Rattle.logical_log.proofs.log.Log.open.Goals as goal
+use Rattle.logical_log.proofs.found.Found.open.Goals as goal
 
 pub invariant_of-result : goal.invariant_of-result
 invariant_of-result g c =
     let frames : FramesView = c.cut_left.new.frames in
     let read : frames.left ≡ [] = ap (λ (f : FramesView). f.left) c.in_default.ensures.frames in
-    let same : frames.records ≡ c.in-Ok-replay.read.0.records = ap (λ (f : FramesView). f.records)
+    let same : frames.records ≡ c.self.inside.frames.records = ap (λ (f : FramesView). f.records)
     c.in_default.ensures.frames in
     let forced : g.D.LogDevice.forced c.cut_left.new.device ≡ spelled frames.records = c.in_default.ensures.forced
     ∙ ap spelled (sym same) in

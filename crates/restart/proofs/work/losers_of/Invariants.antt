@@ -4,12 +4,12 @@ use Rattle.std.specs.Map.{keys_of}
 use Rattle.logical_log.specs.Replay.{OpenAt}
 use Rattle.restart.specs.Heaps.{IsHeaped, seen}
 use Rattle.restart.proofs.Taking.{AreWith}
-use Rattle.restart.proofs.plan.losers_of.Given as goal
+use Rattle.restart.proofs.work.losers_of.Given as goal
 
 abbrev pub invariant-loop-txn : goal.invariant-loop-txn
-invariant-loop-txn g l = record {
+invariant-loop-txn l = record {
   kept : IsHeaped l.heaps (length l.txn-iterator);
-  below : l.heaps.below ≡ length l.log.records + 1;
-  so_far : AreWith l.log.records (length l.log.records + 1) (keys_of l.txn-iterator) (seen l.heaps);
-  each : All (λ (e : ℕ × ℕ). OpenAt l.log.records e.0 e.1) l.txn-iterator;
+  below : l.heaps.below ≡ length l.frames.records + 1;
+  so_far : AreWith l.frames.records (length l.frames.records + 1) (keys_of l.txn-iterator) (seen l.heaps);
+  each : All (λ (e : ℕ × ℕ). OpenAt l.frames.records e.0 e.1) l.txn-iterator;
 }

@@ -7,11 +7,11 @@ use Rattle.logical_log.specs.Replay.{OpenAt}
 use Rattle.restart.specs.Heaps.{IsHeaped, seen}
 use Rattle.restart.proofs.Building.{each_open, none_yet, one_less}
 use Rattle.restart.proofs.Taking.{AreWith}
-use Rattle.restart.proofs.plan.losers_of.Goals as goal
+use Rattle.restart.proofs.work.losers_of.Goals as goal
 
 pub loop-txn-init : goal.loop-txn-init
-loop-txn-init g c =
-    let log : List Record = c.args.log.now.records in
+loop-txn-init c =
+    let log : List Record = c.args.frames.now.records in
     let gives = c.into_iter-txn-iterator.ensures.into_iter_gives in
     let entries : List (ℕ × ℕ) = c.args.open_txns.now.entries in
     let heaps = c.in_ok-heaps.heaps in
@@ -29,8 +29,8 @@ loop-txn-init g c =
     }
 
 pub loop-txn-preserved : goal.loop-txn-preserved
-loop-txn-preserved g c =
-    let log : List Record = c.args.log.now.records in
+loop-txn-preserved c =
+    let log : List Record = c.args.frames.now.records in
     let t : ℕ = c.in-Some.txn.now in
     let last : ℕ = c.in-Some.last.now in
     let rest : List (ℕ × ℕ) = c.next.new.self in

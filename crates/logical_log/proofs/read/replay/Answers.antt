@@ -6,7 +6,7 @@ use Rattle.logical_log.specs.Kept.{FramesView}
 use Rattle.logical_log.specs.Opening.{BeginsAs}
 use Rattle.logical_log.specs.Replay.{IsIndex}
 use Rattle.logical_log.proofs.Opening.{begins_nothing, begins_more, index_nothing, shorter, refused_next}
-use Rattle.logical_log.proofs.open.replay.Goals as goal
+use Rattle.logical_log.proofs.read.replay.Goals as goal
 
 pub loop-found-init : goal.loop-found-init
 loop-found-init c =
@@ -14,7 +14,7 @@ loop-found-init c =
     → Type 0 = λ f. BeginsAs c.args.bytes.items f.records f.left × IsIndex f.records c.new-index.result in
     subst Starts (sym c.new-frames.ensures) (
       begins_nothing c.args.bytes.items,
-      index_nothing c.new-index.result c.new-index.ensures.open
+      index_nothing c.new-index.result c.new-index.ensures.analysis
           c.new-index.ensures.holders c.new-index.ensures.adders c.new-index.ensures.answered,
     )
 

@@ -1,7 +1,7 @@
 use Rattle.std.proofs.Common.{length}
 use Rattle.logical_log.specs.Opening.{BeginsAs}
 use Rattle.logical_log.specs.Replay.{IsIndex}
-use Rattle.logical_log.proofs.open.replay.Given as goal
+use Rattle.logical_log.proofs.read.replay.Given as goal
 
 abbrev pub invariant-loop-found : goal.invariant-loop-found
 invariant-loop-found l = BeginsAs l.fn.bytes.items l.frames.records l.frames.left × IsIndex l.frames.records l.index

@@ -1,16 +1,16 @@
 use Rattle.std.proofs.Common.{◌≡◌, ◌∙◌, ℕ, ◌+◌, List, ◌∷◌, sym, ap, subst, arith, length}
 use Rattle.history.specs.declared.record.Record.{Record}
 use Rattle.history.specs.Legal.{Fits, FitsCheckpoint}
-use Rattle.logical_log.specs.Replay.{IsIndex, Follows, Holds, Gains, latest_in, holder_in, adders_of}
+use Rattle.logical_log.specs.Replay.{IsIndex, TakesIn, Holds, Gains, latest_in, holder_in, adders_of}
 use Rattle.logical_log.specs.declared.replay.Index.{Index}
 use Rattle.logical_log.proofs.Answered.{answered_longer}
 use Rattle.logical_log.proofs.Following.{followed}
-use Rattle.logical_log.proofs.open.step.Goals as goal
+use Rattle.logical_log.proofs.read.step.Goals as goal
 
 -- what the goals below share: the records grew, and the index follows
 index_now : (log log' : List Record) (r : Record) (number : ℕ) (old new : Index) → log' ≡ r ∷ log
     → number ≡ length log' → IsIndex log old → Fits log r
-    → Follows r number (latest_in old) (latest_in new) → Holds r (holder_in old) (holder_in new)
+    → TakesIn r number old.analysis new.analysis → Holds r (holder_in old) (holder_in new)
     → Gains r (latest_in new) (adders_of old) (adders_of new)
     → FitsCheckpoint log' new.answered → IsIndex log' new
 index_now log log' r number old new grown is h fits txns keys adders answered =
@@ -23,14 +23,14 @@ pub returns-in-Checkpoint-clause-index : goal.returns-in-Checkpoint-clause-index
 returns-in-Checkpoint-clause-index c =
     index_now c.args.frames.now.records c.accept.new.self.records c.args.found.now c.len-2.result c.args.index.now
     (record {
-      «open» = c.follow.new.self.open;
+      analysis = c.follow.new.self.analysis;
       holders = c.follow.new.self.holders;
       adders = c.follow.new.self.adders;
       answered =
           c.answered_from-index.result;
     })
     c.in_ok-accept.ensures.records c.len-2.ensures.count c.requires.index (c.fits.ensures.0 c.if-not-fits.false)
-    c.in_ok-follow.ensures.open c.in_ok-follow.ensures.holders c.in_ok-follow.ensures.adders
+    c.in_ok-follow.ensures.analysis c.in_ok-follow.ensures.holders c.in_ok-follow.ensures.adders
     c.answered_from-index.ensures.is
 
 pub returns-in_default : goal.returns-in_default
@@ -46,7 +46,7 @@ returns-in_default c = record {
       subst P (sym c.in_ok-follow.ensures.answered) c.requires.index.answered in
       index_now log c.accept.new.self.records r c.len-2.result c.args.index.now c.follow.new.self
       c.in_ok-accept.ensures.records c.len-2.ensures.count c.requires.index (c.fits.ensures.0 c.if-not-fits.false)
-      c.in_ok-follow.ensures.open c.in_ok-follow.ensures.holders c.in_ok-follow.ensures.adders
+      c.in_ok-follow.ensures.analysis c.in_ok-follow.ensures.holders c.in_ok-follow.ensures.adders
       (subst At (sym c.in_ok-accept.ensures.records) (answered_longer r log c.follow.new.self.answered known));
   refused = tt;
 }

@@ -1,0 +1,109 @@
+//! Reading what a crash left on a device.
+ghost use Rattle.std.specs.Prelude.{◌≡◌, ◌⊎◌, ◌+◌, ◌<◌, ◌∷◌, ◌++◌, [], length, OnOk, IfOk, IfErr};
+ghost use Rattle.history.specs.Legal.{Fits};
+ghost use Rattle.codec.specs.Frames.{frame, IsCut};
+ghost use Rattle.codec.specs.Records.{record_bytes};
+ghost use Rattle.stable.specs.Usage.{called};
+ghost use Rattle.logical_log.specs.Opening.{BeginsAs, IsLogOf, RefusesBytes, RefusesOpen, UsedToRead};
+ghost use Rattle.logical_log.specs.Replay.{IsIndex};
+ghost use Rattle.logical_log.specs.Spelled.{spelled, IsNext};
+
+use crate::fits::fits;
+use crate::found::Found;
+use crate::frames::Frames;
+use crate::open::Refused;
+use crate::replay::Index;
+use crate::write::{LAST_NUMBER, refusal_of};
+use codec::Taken;
+use history::Record;
+use record_key::Refusal;
+use stable::LogDevice;
+use std::alloc::Global;
+
+impl<D: LogDevice> Found<D> {
+    /// The log of the whole frames on a device, in one device call. Refused NoMemory, Device, or BadBytes at the first
+    /// frame that is no record's or whose record doesn't fit those before it.
+    pub fn read(alloc: Global, device: D) -> Result<Found<D>, Refused<D>>
+        requires all_forced { D.pending device ≡ [] }
+        ensures found { IfOk result (λ found. IsLogOf (D.forced device) found.records) }
+        ensures bytes { IfOk result (λ found. found.bytes ≡ D.forced device) }
+        ensures called { IfOk result (λ found. found.usage ≡ called (D.usage device)) }
+        ensures refused { IfErr result (λ left. RefusesOpen (D.forced device) left.refusal) }
+        ensures forced { IfErr result (λ left. D.forced left.device ≡ D.forced device) }
+        ensures none_pending { IfErr result (λ left. D.pending left.device ≡ []) }
+        ensures used { IfErr result (λ left. UsedToRead (D.usage device) left.refusal (D.usage left.device)) }
+    {
+        let mut device = device;
+        let bytes = match all_bytes(alloc, &mut device) {
+            Ok(bytes) => bytes,
+            Err(refusal) => return Err(Refused { refusal, device }),
+        };
+        match replay(alloc, bytes) {
+            Ok((frames, index)) => Ok(Found {
+                device,
+                frames,
+                index,
+            }),
+            Err(refusal) => Err(Refused { refusal, device }),
+        }
+    }
+}
+
+/// A copy of all bytes of a device.
+fn all_bytes<D: LogDevice>(alloc: Global, device: &mut D) -> Result<Vec<u8>, Refusal>
+    ensures bytes { IfOk result (λ bytes. bytes.items ≡ D.forced device.old ++ D.pending device.old) }
+    ensures forced { D.forced device.new ≡ D.forced device.old }
+    ensures pending { D.pending device.new ≡ D.pending device.old }
+    ensures cause { IfErr result (λ given. (given ≡ Refusal.Device) ⊎ (given ≡ Refusal.NoMemory)) }
+    ensures called { OnOk result (D.usage device.new ≡ called (D.usage device.old)) }
+    ensures used { IfErr result (λ given. UsedToRead (D.usage device.old) given (D.usage device.new)) }
+{
+    match device.bytes() {
+        Ok(bytes) => Ok(Vec::from_slice(alloc, bytes)?),
+        Err(error) => Err(refusal_of(error)),
+    }
+}
+
+/// Reads one record after another, with an index of them.
+fn replay(alloc: Global, bytes: Vec<u8>) -> Result<(Frames, Index), Refusal>
+    ensures begins { IfOk result (λ read. BeginsAs bytes.items read.0.records read.0.left) }
+    ensures cut { IfOk result (λ read. IsCut 181 read.0.left) }
+    ensures indexed { IfOk result (λ read. IsIndex read.0.records read.1) }
+    ensures refused { IfErr result (RefusesBytes bytes.items) }
+{
+    let mut frames = Frames::new(alloc, bytes);
+    let mut index = Index::new(alloc);
+    loop {
+        match frames.next() {
+            Taken::Record(found, next) => step(&mut frames, &mut index, &found, next)?,
+            Taken::Short => return Ok((frames, index)),
+            Taken::Bad(place) => return Err(Refusal::BadBytes(place)),
+        }
+    }
+}
+
+/// Takes in the record that stands next, if it fits.
+fn step(frames: &mut Frames, index: &mut Index, found: &Record, next: usize) -> Result<(), Refusal>
+    requires stands { IsNext frames.old.records frames.old.left found.now next }
+    requires index { IsIndex frames.old.records index.old }
+    ensures records { OnOk result (frames.new.records ≡ found.now ∷ frames.old.records) }
+    ensures left { OnOk result (frames.old.left ≡ frame (record_bytes found.now) ++ frames.new.left) }
+    ensures room { OnOk result (length frames.old.records < 281474976710655) }
+    ensures index { OnOk result (IsIndex frames.new.records index.new) }
+    ensures refused { IfErr result (λ given. (given ≡ Refusal.NoMemory)
+        ⊎ ((given ≡ Refusal.BadBytes (length (spelled frames.old.records)))
+        × ((Fits frames.old.records found.now → ⊥) ⊎ (length frames.old.records + 1 ≡ 281474976710656)))) }
+{
+    if frames.len() >= LAST_NUMBER {
+        return Err(Refusal::BadBytes(frames.end() as u64));
+    }
+    if !fits(index, frames, found) {
+        return Err(Refusal::BadBytes(frames.end() as u64));
+    }
+    frames.accept(found, next)?;
+    index.follow(found, frames.len())?;
+    if let Record::Checkpoint { .. } = found {
+        index.answered = frames.answered_from(index.answered);
+    }
+    Ok(())
+}

@@ -1,0 +1,21 @@
+-- The first request from a number on, and that none stands before it.
+use Rattle.std.proofs.Common.{ℕ, List, refl, arith}
+use Rattle.history.specs.declared.record.Record.{Record}
+use Rattle.restart.specs.Losers.{IsLeast}
+use Rattle.restart.specs.Redo.{Asks}
+use Rattle.tc_core.specs.Undo.{AsksNothing}
+
+pub none_asks : (log : List Record) (from below : ℕ) → ((n : ℕ) → Asks log from below n → ⊥)
+    → AsksNothing log from below
+none_asks log from below none n o le lt asks =
+    none n (record { from_there = le; up_to = lt; asks = rw asks refl })
+
+pub none_before : (log : List Record) (from below first : ℕ) → IsLeast (Asks log from below) first
+    → AsksNothing log from first
+none_before log from below first found n o le lt asks =
+    absurd (omega (
+      arith,
+      lt,
+      found.least n
+          (record { from_there = le; up_to = omega (arith, lt, found.is.up_to); asks = rw asks refl }),
+    ))
