@@ -137,7 +137,7 @@ impl<D: LogDevice> Parts<D> {
     fn lacks(&self, number: u64) -> bool
         ensures { result ≡ lacks (seen self.now) number }
     {
-        self.log.asked_op(number).is_some() && self.log.answer_of(number).is_none()
+        self.log.lacks_answer(number)
     }
 
     /// Who waits for the row is told; a reply of another kind than was asked for is none.

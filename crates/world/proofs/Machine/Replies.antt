@@ -30,7 +30,7 @@ use Rattle.tc_core.specs.OpenTxns.{find}
 use Rattle.tc_core.specs.TcView.{TcView, is_none_lost}
 use Rattle.system_txn.specs.Checked.{IsChecked}
 use Rattle.tc_core.specs.Changes.{answered, answered_txn, answered_lost, was_told, told_txn, checkpointed, undoing_or_running}
-use Rattle.tc_core.specs.Replies.{Outcome, takes, awaiting, lacks, told_lost, next_phase, passed, on_awaited, on_answered, on_connected, on_redo_ended, on_checkpointed, on_reply, on_row, on_rows, is_number, is_key, is_range, span_read, reader, logs, takes_memory, reply_refusal}
+use Rattle.tc_core.specs.Replies.{Outcome, takes, awaiting, lacks, told_lost, next_phase, passed, on_awaited, on_answered, on_connected, on_redo_ended, on_checkpointed, on_reply, on_row, on_rows, is_number, is_key, is_range, span_read, reader, logs, reply_refusal}
 use Rattle.tc_core.specs.Kept.{IsTc, IsPhase, IsDue}
 use Rattle.tc_core.proofs.KeepsReads.{reader_is}
 use Rattle.tc_core.proofs.KeepsTc.{open_at, waits_at, awaited_is}

@@ -41,7 +41,7 @@ use Rattle.world.specs.declared.event.Out.TheVariants as out
 use Rattle.world.specs.declared.round.Round.{Round}
 use Rattle.world.specs.declared.round.Round.TheVariants as round
 use Rattle.tc_core.specs.Opened.{IsOpenedAgain}
-use Rattle.world.specs.Component.{TcSide, DcSide}
+use Rattle.world.specs.Component.{TcSide, DcSide, dc_used}
 use Rattle.world.specs.Node.{NodeView, AreUp, with_tc, ReconnectsTo, RecoversTo, SendsTo, UndoesTo, ForcesTo, RestartsTcTo, RestartsDcTo}
 use Rattle.log_laws.proofs.LegalLogs.{request_number}
 use Rattle.tc_core.specs.Kept.{IsDue as IsDueLost}
@@ -385,8 +385,10 @@ falls_alone old new mid on left same f =
 falls_restarted : (old new : NodeView) (o : Out) → old.dc_up ≡ false → RestartsDcTo old o new → IsDone o
     → rounds_left new < rounds_left old
 falls_restarted old new (out.Up count) down h d =
-    let same : new ≡ record old { dc_up = true; dc = new.dc } =
-    h.1 ∙ ap (λ (s : DcSide). record old { dc_up = s.up; dc = s.dc }) h.0.2 in
+    let dc : DcView = dc_used old.dc new.dc.system.log_usage new.dc.system.page_usage in
+    let same : new ≡ record old { dc_up = true; dc = dc } =
+    h.1 ∙ ap (λ (s : DcSide). record old { dc_up = s.up; dc = s.dc })
+    (h.0.2 ∙ ap (λ (x : DcView). record { up = true; dc = x }) h.0.3.is) in
     let P : NodeView → Type 0 = λ x. rounds_left x < rounds_left old in
     subst P (sym same) (let one : down_rounds old.dc_up ≡ 1 = ap down_rounds down in omega (arith, one))
 falls_restarted old new out.Nothing down h d = absurd (true≢false (sym h.0.0 ∙ down))

@@ -368,7 +368,7 @@ pub wants : (old new : NodeView) (round : Round) (outs : List Out) (r : Refusal)
     → StopsAt old (events_of old round) outs r new → IsWant r
 wants old new round.RestartDc [] r k next (inl h) = inl h.0
 wants old new round.RestartDc [] r k next (inr h) =
-    elim h.step.0.2.0 [ inl memory ↦ inl memory | inr device ↦ inr (inr device) ]
+    elim h.step.0.2.lacks [ inl memory ↦ inl memory | inr device ↦ inr (inr device) ]
 wants old new round.RestartDc (o ∷ os) r k next h = absurd h.3
 wants old new round.RestartTc [] r k next (inl h) = inl h.0
 wants old new round.RestartTc [] r k next (inr h) =

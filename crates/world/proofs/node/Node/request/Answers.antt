@@ -10,11 +10,11 @@ use Rattle.world.specs.Seen.{seen, dc_of}
 use Rattle.world.specs.declared.data_component.DataComponent.{DataComponent}
 use Rattle.world.proofs.node.Node.request.Goals as goal
 
-pub serve-requires-clause-numbers : goal.serve-requires-clause-numbers
-serve-requires-clause-numbers c = numbers_spelled c.in-Ok.value c.in-Ok.ensures.spelled
+pub serve_allowed-requires-clause-numbers : goal.serve_allowed-requires-clause-numbers
+serve_allowed-requires-clause-numbers c = numbers_spelled c.in-Ok.value c.in-Ok.ensures.spelled
 
-pub serve-requires-clause-key : goal.serve-requires-clause-key
-serve-requires-clause-key c =
+pub serve_allowed-requires-clause-key : goal.serve_allowed-requires-clause-key
+serve_allowed-requires-clause-key c =
     let w = seen c.args.self.now in
     let q = c.in-Ok.value in
     let Asks : DataComponent → Type 0 = λ component. MayAsk (dc_of component).dc q in
@@ -24,6 +24,6 @@ serve-requires-clause-key c =
 pub push-requires : goal.push-requires
 push-requires c =
     let q = c.in-Ok.value in
-    let Served : Option Reply → Type 0 = λ reply. ServeGives c.in-Up.dc q (Ok reply) c.serve.new.self in
-    reply_ordered q c.in-Some.reply c.in-Up.dc c.serve.new.self c.in-Ok.ensures.spelled
-    (subst Served c.in-Some.is c.in-Ok-serve.ensures.gives).1
+    let Served : Option Reply → Type 0 = λ reply. ServeGives c.in-Up.dc q (Ok reply) c.serve_allowed.new.self in
+    reply_ordered q c.in-Some.reply c.in-Up.dc c.serve_allowed.new.self c.in-Ok.ensures.spelled
+    (subst Served c.in-Some.is c.in-Ok-serve_allowed.ensures.gives).1
