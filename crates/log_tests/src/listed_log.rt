@@ -1,8 +1,8 @@
 //! A log device written against the trait alone, as one outside this crate is.
-ghost use Rattle.std.specs.Prelude.{◌≡◌, ◌+◌, false, IsOkUnless};
-ghost use Rattle.stable.specs.Device.{failures_told};
+ghost use Rattle.std.specs.Prelude.{◌≡◌, false, IsTrue, IsOkUnless};
+ghost use Rattle.stable.specs.Usage.{is_due, used};
 
-use stable::{DeviceError, Failures, LogDevice};
+use stable::{Counter, DeviceError, LogDevice};
 use std::alloc::Global;
 use std::marker::Model;
 
@@ -18,14 +18,32 @@ pub struct ListedLog {
 #[derive(Drop)]
 struct Faults {
     listed: Vec<bool>,
-    failures: Failures,
+    calls: Counter,
+    failures: Counter,
+}
+
+impl Model for Faults {
+    ghost use Rattle.std.specs.Prelude.{None, true};
+    ghost use Rattle.stable.specs.Usage.{Usage};
+
+    ghost Value = { Usage };
+
+    // Any call may fail: which of them do is in no clause.
+    ghost view = { λ f. record {
+      calls = f.calls.count;
+      failures = f.failures.count;
+      failing = None;
+      freely = true;
+    } };
 }
 
 impl Faults {
     fn call(&mut self) -> Result<(), DeviceError>
         ensures no_memory { IsOkUnless result DeviceError.Device }
-        ensures failures { self.new.failures.count ≡ self.old.failures.count + failures_told result }
+        ensures due { IsTrue (is_due self.old) }
+        ensures used { self.new ≡ used self.old result }
     {
+        self.calls.add_one();
         if let Some(true) = self.listed.pop() {
             self.failures.add_one();
             return Err(DeviceError::Device);
@@ -35,7 +53,7 @@ impl Faults {
 }
 
 impl Model for ListedLog {
-    ghost use Rattle.std.specs.Prelude.{◌≤◌, take, drop, length, None};
+    ghost use Rattle.std.specs.Prelude.{◌≤◌, take, drop, length};
     ghost use Rattle.stable.specs.LogState.{LogState};
 
     ghost Value = { LogState };
@@ -43,8 +61,7 @@ impl Model for ListedLog {
     ghost view = { λ m. record {
       forced = take m.forced m.bytes.items;
       pending = drop m.forced m.bytes.items;
-      countdown = None;
-      failures = m.faults.failures.count;
+      usage = m.faults;
     } };
 
     ghost invariant = { λ m. m.forced ≤ length m.bytes.items };
@@ -57,7 +74,8 @@ impl ListedLog {
             forced: 0,
             faults: Faults {
                 listed,
-                failures: Failures::new(),
+                calls: Counter::new(),
+                failures: Counter::new(),
             },
         }
     }
@@ -68,7 +86,7 @@ impl LogDevice for ListedLog {
 
     ghost pending = { λ log. log.pending };
 
-    ghost failures = { λ log. log.failures };
+    ghost usage = { λ log. log.usage };
 
     ghost forces_whole = { false };
 

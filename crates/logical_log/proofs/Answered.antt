@@ -1,13 +1,13 @@
 -- Up to where every request of a log is answered.
-use Rattle.std.proofs.Common.{◌≡◌, ℕ, ◌-◌, ◌≤◌, Bool, true, List, [], ◌∷◌, length, Option, Some, None, IsSome, is_some, zero, suc, refl, ap, arith}
-use Rattle.std.specs.Prelude.{drop, not, ◌||◌}
+use Rattle.std.proofs.Common.{◌≡◌, ℕ, ◌-◌, ◌≤◌, Bool, true, false, List, [], ◌∷◌, length, Option, Some, None, IsSome, is_some, zero, suc, refl, ap, arith}
+use Rattle.std.specs.Prelude.{drop, not, ◌||◌, ◌&&◌}
 use Rattle.record_key.specs.declared.op.Op.{Op}
 use Rattle.history.specs.declared.record.Record.{Record}
 use Rattle.history.specs.Log.{record_at, answer_of, request_in, Requests}
 use Rattle.history.specs.Legal.{FitsCheckpoint}
 use Rattle.log_laws.proofs.Records.{ARequest, older_at, within}
 use Rattle.log_laws.proofs.LegalLogs.{answered_push}
-use Rattle.logical_log.specs.Index.{is_answered}
+use Rattle.logical_log.specs.Index.{is_answered, lacks_answer}
 
 -- a request of the next number is answered, where the test says so
 answered_if : (asked : Option Op) (o : Op) (b : Bool) → asked ≡ Some o → (not (is_some asked) || b) ≡ true → b ≡ true
@@ -26,6 +26,14 @@ test_of log n each = pick (request_in (record_at log n)) refl
     pick : (q : Option Op) → request_in (record_at log n) ≡ q → (not (is_some q) || is_some (answer_of log n)) ≡ true
     pick None is = refl
     pick (Some o) is = each o is
+
+-- it fails just where an answer is lacking
+pub lacks_tells : (log : List Record) (n : ℕ) → not (is_answered log n) ≡ lacks_answer log n
+lacks_tells log n = by (is_some (request_in (record_at log n))) (is_some (answer_of log n))
+  where
+    by : (a b : Bool) → not (not a || b) ≡ (a && not b)
+    by true b = refl
+    by false b = refl
 
 -- what holds up to a number holds in a longer log
 pub answered_longer : (r : Record) (log : List Record) (l : ℕ) → FitsCheckpoint log l → FitsCheckpoint (r ∷ log) l

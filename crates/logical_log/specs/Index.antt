@@ -1,5 +1,5 @@
 -- The index of Answer records, which also tells which records ask for nothing.
-use Rattle.std.specs.Prelude.{ℕ, ◌+◌, ◌-◌, ◌<◌, ◌≤◌, ◌||◌, Bool, not, List, [], ◌∷◌, ◌++◌, Option, Some, None, is_some, length, slice_set}
+use Rattle.std.specs.Prelude.{ℕ, ◌+◌, ◌-◌, ◌<◌, ◌≤◌, ◌||◌, ◌&&◌, Bool, not, List, [], ◌∷◌, ◌++◌, Option, Some, None, is_some, length, slice_set}
 use Rattle.record_key.specs.declared.op.Answer.{Answer}
 use Rattle.record_key.specs.declared.op.Op.{Op}
 use Rattle.history.specs.declared.record.Record.{Record}
@@ -37,3 +37,7 @@ answer_in _ = None
 -- the record of this number asks for nothing, or is answered
 abbrev pub is_answered : List Record → ℕ → Bool
 is_answered log n = not (is_some (request_in (record_at log n))) || is_some (answer_of log n)
+
+-- it asks for something, and its Answer record doesn't stand
+abbrev pub lacks_answer : List Record → ℕ → Bool
+lacks_answer log n = is_some (request_in (record_at log n)) && not (is_some (answer_of log n))

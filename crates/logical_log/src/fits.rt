@@ -12,22 +12,22 @@ use inverse::inverse;
 use record_key::Op;
 
 /// What a transaction has left to undo below an operation.
-fn undo_below(frames: &Frames, number: u64) -> u64
-    ensures { result ≡ undo_from (record_at frames.now.records (prev_in (record_at frames.now.records number)))
-        (prev_in (record_at frames.now.records number)) }
+fn undo_below(frames: &Frames, undone: &Option<Record>) -> u64
+    ensures { result ≡ undo_from (record_at frames.now.records (prev_in undone.now)) (prev_in undone.now) }
 {
-    match frames.record(number) {
-        Some(Record::Op { prev, .. }) => frames.left_to_undo(prev),
+    match undone {
+        Some(Record::Op { prev, .. }) => frames.left_to_undo(*prev),
         _ => frames.left_to_undo(0),
     }
 }
 
-/// What undoes the answered operation is this.
-fn inverts(frames: &Frames, undoes: u64, by: &Option<Op>) -> bool
+/// What undoes the answered operation, the record of this number, is this.
+fn inverts(frames: &Frames, undoes: u64, undone: &Option<Record>, by: &Option<Op>) -> bool
+    requires { undone.now ≡ record_at frames.now.records undoes }
     ensures { IsTrue result ↔ Inverts frames.now.records undoes by.now }
 {
-    match (frames.record(undoes), frames.answer_of(undoes)) {
-        (Some(Record::Op { op, .. }), Some(answer)) => inverse(&op, &answer) == *by,
+    match (undone, frames.answer_of(undoes)) {
+        (Some(Record::Op { op, .. }), Some(answer)) => inverse(op, &answer) == *by,
         _ => false,
     }
 }
@@ -68,10 +68,11 @@ fn fits_comp(
     if frames.left_to_undo(latest) != undoes {
         return false;
     }
-    if undo_below(frames, undoes) != next {
+    let undone = frames.record(undoes);
+    if undo_below(frames, &undone) != next {
         return false;
     }
-    inverts(frames, undoes, by)
+    inverts(frames, undoes, &undone, by)
 }
 
 fn fits_commit(index: &Index, frames: &Frames, txn: u64) -> bool

@@ -3,8 +3,9 @@
 //! Knows: the spelling of records, which logs are legal, and what a log device promises.
 //! Must not know: who appends and why, what is sent, or how the bytes outlive a crash.
 //! Promises the next crates: the log is legal at every moment and its device holds just the frames of its records; what
-//! a crash leaves is opened as a beginning of the log with all stable records, and never as bad bytes; a record is read
-//! back as it was appended, without a device call; a refused call leaves the records as they were and names its cause.
+//! a crash leaves is opened as a beginning of the log with all stable records, and never as bad bytes; it is read and
+//! judged in one pass, before anything of the device is changed; a record is read back as it was appended, without a
+//! device call; a refused call leaves the records as they were and names its cause.
 #![tactic(auto)]
 
 mod adders;

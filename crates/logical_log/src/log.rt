@@ -1,10 +1,10 @@
 //! The log and what is read of it.
-ghost use Rattle.std.specs.Prelude.{true, ◌≡◌, ◌≤◌, ◌<◌, ◌^◌, ◌++◌, [], length, is_some, not};
+ghost use Rattle.std.specs.Prelude.{true, ◌≡◌, ◌≤◌, ◌<◌, ◌^◌, ◌++◌, [], length, is_some};
 ghost use Rattle.history.specs.Log.{record_at, answer_of, request_in, step_in};
 ghost use Rattle.history.specs.Legal.{IsLegal, FitsCheckpoint, IsLatest};
 ghost use Rattle.history.specs.Chains.{undo_from};
 ghost use Rattle.stable.specs.Crash.{BeginsWith};
-ghost use Rattle.logical_log.specs.Index.{is_answered};
+ghost use Rattle.logical_log.specs.Index.{lacks_answer};
 ghost use Rattle.logical_log.specs.Low.{stable_part, IsGreatestLow};
 ghost use Rattle.logical_log.specs.Spelled.{spelled, AreRecords};
 
@@ -137,7 +137,7 @@ impl<D: LogDevice> Log<D> {
 
     /// It does, and its Answer record doesn't stand. As cheap.
     pub fn lacks_answer(&self, number: u64) -> bool
-        ensures { result ≡ not (is_answered self.now.records number) }
+        ensures { result ≡ lacks_answer self.now.records number }
     {
         !self.frames.is_answered(number)
     }

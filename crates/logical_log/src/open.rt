@@ -31,6 +31,7 @@ impl<D: LogDevice> Found<D> {
         ensures refused { IfErr result (λ left. left.refusal ≡ Refusal.Device) }
         ensures forced { IfErr result (λ left. D.forced left.device ≡ self.bytes) }
         ensures none_pending { IfErr result (λ left. D.pending left.device ≡ []) }
+        ensures needed { IfErr result (λ _. cut_calls self.bytes self.records ≡ 1) }
         ensures failed { IfErr result (λ left. FailsDue self.usage (D.usage left.device)) }
     {
         let Found {
@@ -86,6 +87,7 @@ fn cut_left<D: LogDevice>(device: &mut D, frames: &mut Frames) -> Result<(), Ref
     ensures cause { IfErr result (λ given. given ≡ Refusal.Device) }
     ensures called { OnOk result (D.usage device.new
         ≡ called_often (cut_calls (D.forced device.old) frames.old.records) (D.usage device.old)) }
+    ensures needed { OnErr result (cut_calls (D.forced device.old) frames.old.records ≡ 1) }
     ensures failed { OnErr result (FailsDue (D.usage device.old) (D.usage device.new)) }
 {
     if frames.is_read() {

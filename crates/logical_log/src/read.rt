@@ -74,10 +74,12 @@ fn replay(alloc: Global, bytes: Vec<u8>) -> Result<(Frames, Index), Refusal>
     let mut frames = Frames::new(alloc, bytes);
     let mut index = Index::new(alloc);
     loop {
-        match frames.next() {
-            Taken::Record(found, next) => step(&mut frames, &mut index, &found, next)?,
+        // It is looked at where it stands: a record is large.
+        let taken = frames.next();
+        match &taken {
+            Taken::Record(found, next) => step(&mut frames, &mut index, found, *next)?,
             Taken::Short => return Ok((frames, index)),
-            Taken::Bad(place) => return Err(Refusal::BadBytes(place)),
+            Taken::Bad(place) => return Err(Refusal::BadBytes(*place)),
         }
     }
 }

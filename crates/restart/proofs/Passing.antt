@@ -1,6 +1,6 @@
 -- One pass over a log: what was found so far is right again after each record.
 use Rattle.std.proofs.Common.{◌≡◌, ℕ, ◌+◌, ◌-◌, ◌<◌, ◌≤◌, ◌⊎◌, Bool, true, false, List, [], ◌∷◌, ◌++◌, length, drop, take, get_or, Some, is_some, refl, sym, ap, ◌∙◌, subst, arith, inl, inr, true≢false}
-use Rattle.std.specs.Prelude.{◌||◌, not, if◌then◌else◌}
+use Rattle.std.specs.Prelude.{◌&&◌, not, if◌then◌else◌}
 use Rattle.std.specs.List.{All}
 use Rattle.std.specs.List.Sorted.{IsStrictlyIncreasing}
 use Rattle.std.proofs.Math.ListN.{get_or-append}
@@ -117,7 +117,7 @@ none_lacking log end missing none h =
 lacking_if : (log : List Record) (end : ℕ) (missing : List ℕ) (a b : Bool)
     → is_some (request_in (record_at log (end + 1))) ≡ a → is_some (answer_of log (end + 1)) ≡ b
     → AreMissing log end missing
-    → AreMissing log (end + 1) (missing ++ (if not a || b then [] else (end + 1) ∷ []))
+    → AreMissing log (end + 1) (missing ++ (if a && not b then (end + 1) ∷ [] else []))
 lacking_if log end missing true false asks answer h =
     let now : LacksAnswer log (end + 1) (end + 1) = record
     { below = omega arith; requested = asks; unanswered = answer } in

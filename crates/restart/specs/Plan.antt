@@ -7,7 +7,7 @@ use Rattle.history.specs.Log.{record_at}
 use Rattle.history.specs.Legal.{IsLatestOrNone}
 use Rattle.log_laws.specs.Reading.{LacksAnswer}
 use Rattle.logical_log.specs.Checkpointed.{IsCheckpointed}
-use Rattle.logical_log.specs.Index.{is_answered}
+use Rattle.logical_log.specs.Index.{lacks_answer}
 use Rattle.logical_log.specs.Low.{stable_part as first_part}
 use Rattle.logical_log.specs.Replay.{IsAnalysis}
 use Rattle.restart.specs.Lists.{Lists}
@@ -35,7 +35,7 @@ committed_by _ = []
 
 -- and a number to the requests that have no answer
 abbrev pub lacking : List Record → ℕ → List ℕ
-lacking log n = if is_answered log n then [] else n ∷ []
+lacking log n = if lacks_answer log n then n ∷ [] else []
 
 -- what is found once the first records were read, up to this number
 pub record IsFound (log : List Record) (end : ℕ) (f : Findings) : Type 0 where
