@@ -1,5 +1,5 @@
 -- Which refusal a call gives: the first whose cause holds; where none does, want of memory or a failed device.
-use Rattle.std.specs.Prelude.{◌≡◌, ◌⊎◌, ℕ, Bool, List, [], ◌∷◌, Option, Some, None, Result, Err, if◌then◌else◌}
+use Rattle.std.specs.Prelude.{◌≡◌, ◌⊎◌, Bool, List, [], ◌∷◌, Option, Some, None, if◌then◌else◌}
 use Rattle.record_key.specs.declared.refusal.Refusal.{Refusal}
 use Rattle.record_key.specs.declared.refusal.Refusal.TheVariants.{NoMemory, Device}
 
@@ -20,12 +20,3 @@ RefusesAs None given = given ≡ NoMemory
 abbrev pub MayRefuse : Option Refusal → Refusal → Type 0
 MayRefuse (Some r) given = given ≡ r
 MayRefuse None given = (given ≡ NoMemory) ⊎ (given ≡ Device)
-
--- how many failures of a device a refusal tells, and an answer
-abbrev pub failures_of : Refusal → ℕ
-failures_of Device = 1
-failures_of _ = 0
-
-abbrev pub failures_in : {T : Type 0} → Result T Refusal → ℕ
-failures_in (Err Device) = 1
-failures_in _ = 0

@@ -3,8 +3,8 @@ use Rattle.std.specs.Prelude.{ℕ, ◌+◌, ◌||◌, Bool, false, nat_le, Optio
 use Rattle.stable.specs.declared.error.DeviceError.{DeviceError}
 use Rattle.stable.specs.declared.error.DeviceError.TheVariants.{NoMemory, Device}
 
+-- how many calls were made, and how many of them failed; and which fails
 pub record Usage : Type 0 where
-  -- how many calls were made, and how many of them failed
   pub calls : ℕ
   pub failures : ℕ
   -- the number of the call that was set to fail, if it is still to come

@@ -93,10 +93,6 @@ room_more pages spelling leaves p within so_far here =
     subst (HaveRoom pages spelling) (sym (take_more leaves p first within))
     (all_appended (HasRoom pages spelling) (take p leaves) (get_or leaves p first ∷ []) so_far (here, tt))
 
-pub room_all : (pages : ℕ → ℕ → Bool) (spelling : ℕ) (leaves : List LeafView) (p : ℕ) → length leaves ≤ p
-    → HaveRoom pages spelling (take p leaves) → HaveRoom pages spelling leaves
-room_all pages spelling leaves p past all = subst (HaveRoom pages spelling) (take_all p leaves past) all
-
 pub room_at : (pages : ℕ → ℕ → Bool) (spelling : ℕ) (leaves : List LeafView) (p : ℕ) → p < length leaves
     → HaveRoom pages spelling leaves → HasRoom pages spelling (get_or leaves p first)
 room_at pages spelling leaves p within all = at_place (HasRoom pages spelling) leaves p within all

@@ -33,18 +33,6 @@ unused_so_far most u = record { calls = 0; within = omega arith; after = sym (of
 pub used_all : (n : ℕ) (old new : Usage) → new ≡ called_often n old → UsesUpTo n old new
 used_all n old new after = record { calls = n; within = omega arith; after = after }
 
--- the first call of a device was refused
-pub stops_at_once : (r : Refusal) (old new : Usage) → FailsWhenDue old r → new ≡ refused_use old r
-    → StopsWithin 1 r old new
-stops_at_once r old new due after =
-    let same : old ≡ called_often 0 old = sym (often_none old) in
-    record {
-      calls = 0;
-      within = omega arith;
-      due = subst (λ (u : Usage). FailsWhenDue u r) same due;
-      after = after ∙ ap (λ (u : Usage). refused_use u r) same;
-    }
-
 -- the device failed in its first call
 pub fails_at_once : (most : ℕ) (r : Refusal) (old new : Usage) → r ≡ Device → IsTrue (is_due old) → new ≡ failed old
     → StopsWithin most r old new

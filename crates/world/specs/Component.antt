@@ -10,6 +10,7 @@ use Rattle.stable.specs.PagesState.{PagesState}
 use Rattle.logical_log.specs.Low.{stable_part}
 use Rattle.logical_log.specs.Spelled as records
 use Rattle.recovery_laws.specs.Shape.{beginning}
+use Rattle.system_txn.specs.SystemView.{with_usage}
 use Rattle.system_txn.specs.Uses.{StopsOpening, page_calls}
 use Rattle.system_txn.specs.Devices.{spelled}
 use Rattle.system_txn.specs.Crashed.{found, crashed}
@@ -91,7 +92,7 @@ DcCrashesTo old more bytes false new = (old.up ≡ false) × (new ≡ old)
 
 -- the same, its devices used so
 abbrev pub dc_used : DcView → Usage → Usage → DcView
-dc_used w log pages = with_system w (record w.system { log_usage = log; page_usage = pages })
+dc_used w log pages = with_system w (with_usage w.system log pages)
 
 -- it is opened as what it was seen as, and its devices were called as that takes
 pub record IsUp (old new : DcView) : Type 0 where

@@ -22,11 +22,11 @@ use Rattle.system_txn.specs.Crashed.{found, crashed}
 use Rattle.system_txn.proofs.AfterCrash.{crashed_kept}
 use Rattle.system_txn.proofs.Crashed.{crashes_leave_frames}
 use Rattle.system_txn.proofs.Fresh.{fresh_kept, no_page}
-use Rattle.system_txn.proofs.Keeps.{keeps_usage}
 use Rattle.system_txn.proofs.ReadOnce.{frames_read_once, just_frames}
 use Rattle.system_txn.proofs.Restarting.{restarts, never_bad}
 use Rattle.dc_core.specs.DcView.{DcView}
 use Rattle.dc_core.specs.Kept.{IsDc}
+use Rattle.dc_core.proofs.KeepsSystems.{usage_keeps}
 use Rattle.dc_core.specs.Restarting.{restarted}
 use Rattle.system_txn.specs.Uses.{StopsOpening, log_calls, page_calls}
 use Rattle.tc_core.specs.Opened.{UsedByOpening}
@@ -104,18 +104,6 @@ down_with device device' pages pages' log later r is rec holds left again same s
   used = stops;
 }
 
--- however its devices were used, it is what it must be
-usage_kept : (w : DcView) (log pages : Usage) → IsDc w → IsDc (dc_used w log pages)
-usage_kept w log pages is = record {
-  system = keeps_usage w.system log pages is.system;
-  rows = is.rows;
-  once = is.once;
-  captured = is.captured;
-  saved = is.saved;
-  session = is.session;
-  stored = is.stored;
-}
-
 pub down_kept : (device device' : LogState) (pages pages' : PagesState) (log later : List DcRecord)
     → IsDc (found_on device pages log)
     → HoldsFrames device.forced log → device'.forced ≡ device.forced → HoldsFrames device'.forced later
@@ -124,7 +112,7 @@ pub down_kept : (device device' : LogState) (pages pages' : PagesState) (log lat
 down_kept device device' pages pages' log later is holds left again same =
     subst IsDc (sym (same_down device device' pages pages' log later
     (same_records device.forced device'.forced log later holds left again) same))
-    (usage_kept (found_on device pages log) device'.usage pages'.usage is)
+    (usage_keeps (found_on device pages log) device'.usage pages'.usage is)
 
 -- ---- a crash
 
