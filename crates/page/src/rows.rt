@@ -80,7 +80,8 @@ pub fn drop_rows_from(rows: &mut Vec<(Key, Value)>, key: &Key)
     rows.truncate(start);
 }
 
-/// Puts copies of the rows at the end.
+/// Puts copies of the rows at the end. Refused NoMemory: the first of them may stand there then, so whoever is refused
+/// lets the rows go.
 pub fn add_rows(rows: &mut Vec<(Key, Value)>, more: &[(Key, Value)]) -> Result<(), Refusal>
     ensures added { OnOk result (rows.new.items ≡ rows.old.items ++ more.now) }
     ensures refused { IfErr result (λ refusal. refusal ≡ Refusal.NoMemory) }
