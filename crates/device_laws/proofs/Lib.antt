@@ -1,0 +1,4 @@
+pub mod Causes
+pub mod TcCalls
+pub mod DcCalls
+pub mod Steps

@@ -1,0 +1,10 @@
+use Rattle.device_laws.proofs.Steps.{fresh_is_sound, steps_are_sound, chains_are_sound, settles_soundly}
+use Rattle.device_laws.proofs.laws.device_law.Goals as goal
+
+pub returns : goal.returns
+returns c = record {
+  fresh = fresh_is_sound;
+  step = steps_are_sound;
+  run = chains_are_sound;
+  settle = settles_soundly;
+}

@@ -1,0 +1,36 @@
+-- Devices that don't fail, and what a node never answers that stands on them.
+use Rattle.std.specs.Prelude.{◌≡◌, ◌≢◌, ℕ, Bool, false, List, Option, None, Result, Err}
+use Rattle.std.specs.List.{AllByRecursion}
+use Rattle.record_key.specs.declared.refusal.Refusal.{Refusal}
+use Rattle.record_key.specs.declared.refusal.Refusal.TheVariants.{Device}
+use Rattle.stable.specs.Usage.{Usage}
+use Rattle.world.specs.declared.event.Event.{Event}
+use Rattle.world.specs.declared.event.Out.{Out}
+use Rattle.world.specs.declared.event.Out.TheVariants as out
+use Rattle.world.specs.Node.{NodeView, fresh_node}
+use Rattle.world.specs.Stepping.{IsStep, Chain}
+use Rattle.world.specs.Rounds.{Settles}
+
+-- no call of the device was set to fail, and none may fail otherwise
+pub record IsSound (u : Usage) : Type 0 where
+  pub unset : u.failing ≡ None
+  pub firm : u.freely ≡ false
+
+-- each device of the node is, also while its component doesn't run
+pub record HasSoundDevices (w : NodeView) : Type 0 where
+  pub log : IsSound w.tc.usage
+  pub system_log : IsSound w.dc.system.log_usage
+  pub pages : IsSound w.dc.system.page_usage
+
+-- it doesn't say that a device failed
+abbrev pub SaysNoFailure : Out → Type 0
+SaysNoFailure o = o ≢ out.Refused Device
+
+pub record DeviceLaw : Type 0 where
+  pub fresh : HasSoundDevices fresh_node
+  pub step : (old new : NodeView) (e : Event) (o : Out) → HasSoundDevices old → IsStep old e o new
+      → HasSoundDevices new × SaysNoFailure o
+  pub run : (old new : NodeView) (events : List Event) (outs : List Out) → HasSoundDevices old
+      → Chain old events outs new → HasSoundDevices new × AllByRecursion SaysNoFailure outs
+  pub settle : (old new : NodeView) (most : Option ℕ) (before after : List Out) (result : Result Bool Refusal)
+      → HasSoundDevices old → Settles old most before after result new → HasSoundDevices new × (result ≢ Err Device)
