@@ -407,7 +407,8 @@ safe old new event.Begin o s h = if_up old new old.tc_up NotConnected o _ s refl
 safe old new (event.Act t op) o s h = if_up old new old.tc_up NotConnected o _ s refl (acts old new t op o s) h
 safe old new (event.Get t k) o s h = if_up old new old.tc_up NotConnected o _ s refl (reads old new t (Key k) o s) h
 safe old new (event.Scan t low high) o s h =
-    if_up old new old.tc_up (down_refusal low high) o _ s (range_other low high) (reads old new t (Range low high) o s) h
+    if_up old new old.tc_up (down_refusal low high) o _ s (range_other low high)
+    (reads old new t (Range low high) o s) h
 safe old new (event.Save t) o s h = if_up old new old.tc_up NotConnected o _ s refl (saves old new t o s) h
 safe old new (event.GoBack t p) o s h = if_up old new old.tc_up NotConnected o _ s refl (goes_back old new t p o s) h
 safe old new (event.Rollback t) o s h = if_up old new old.tc_up NotConnected o _ s refl (rolls_back old new t o s) h

@@ -26,6 +26,8 @@ pub record HasSoundDevices (w : NodeView) : Type 0 where
 abbrev pub SaysNoFailure : Out → Type 0
 SaysNoFailure o = o ≢ out.Refused Device
 
+-- a new node's devices are sound; no event of a node with sound devices says that one failed, and no `settle`; and they
+-- stay sound
 pub record DeviceLaw : Type 0 where
   pub fresh : HasSoundDevices fresh_node
   pub step : (old new : NodeView) (e : Event) (o : Out) → HasSoundDevices old → IsStep old e o new
