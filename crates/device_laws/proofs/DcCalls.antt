@@ -8,14 +8,14 @@ use Rattle.record_key.specs.declared.refusal.Refusal.TheVariants.{Device}
 use Rattle.stable.specs.Usage.{Usage, called_often}
 use Rattle.stable.specs.PagesState.{Pages}
 use Rattle.page.specs.Leaf.{LeafView}
-use Rattle.btree.specs.Leaves.{leaf_at}
+use Rattle.btree.specs.Leaves.{leaf_at, place_at}
 use Rattle.codec.specs.declared.request.Request.{Request}
 use Rattle.codec.specs.declared.request.Request.TheVariants as asks
 use Rattle.codec.specs.declared.reply.Reply.{Reply}
 use Rattle.system_txn.specs.SystemView.{SystemView}
 use Rattle.system_txn.specs.Uses.{FailsWhenDue, StopsWithin, StopsOpening, refused_use, page_calls}
-use Rattle.system_txn.specs.Changes.{covered, written_to, written_all, lowered, accepted, forced}
-use Rattle.system_txn.specs.Gives.{StopsAppend, SplitGives, MergeGives, TendGives, FlushGives, CheckpointGives, AcceptGives, Tending, SplitsAt, MergesAt, Rests, tending, TendsTo, StopsTending, FailsWriting, FailsAmong, append_refusal, make_refusal}
+use Rattle.system_txn.specs.Changes.{split_to, merged_to, covered, written_to, written_all, lowered, accepted, forced}
+use Rattle.system_txn.specs.Gives.{Splits, Merges, StopsAppend, SplitGives, MergeGives, TendGives, FlushGives, CheckpointGives, AcceptGives, Tending, SplitsAt, MergesAt, Rests, tending, TendsTo, StopsTending, FailsWriting, FailsAmong, append_refusal, make_refusal}
 use Rattle.system_txn.specs.declared.tended.Neighbours.{Neighbours}
 use Rattle.system_txn.specs.declared.tended.Tended.{Tended}
 use Rattle.system_txn.specs.declared.tended.Tended.TheVariants as tended
@@ -66,26 +66,32 @@ ends_append cause old r new s h =
 
 -- ---- splits and merges
 
+splits : (old : SystemView) (p : ℕ) (pair : Neighbours) (new : SystemView) → AreSound old → Splits old p pair new
+    → AreSound new
+splits old p pair new s h =
+    sound_as new (split_to old p) h.after (record { log = sound_called old.log_usage s.log; pages = s.pages })
+
+merges : (old : SystemView) (p : ℕ) (pair : Neighbours) (new : SystemView) → AreSound old → Merges old p pair new
+    → AreSound new
+merges old p pair new s h =
+    sound_as new (merged_to old p) h.after (record { log = sound_called old.log_usage s.log; pages = s.pages })
+
 sound_split : (old : SystemView) (k : Bytes) (result : Result Neighbours Refusal) (new : SystemView) → AreSound old
     → SplitGives old k result new → Leaves result new
-sound_split old k (Ok pair) new s h =
-    sound_as new _ h.after (record { log = sound_called old.log_usage s.log; pages = s.pages })
+sound_split old k (Ok pair) new s h = splits old (place_at old.leaves k) pair new s h
 sound_split old k (Err r) new s h = ends_append _ old r new s h
 
 sound_merge : (old : SystemView) (k : Bytes) (result : Result Neighbours Refusal) (new : SystemView) → AreSound old
     → MergeGives old k result new → Leaves result new
-sound_merge old k (Ok pair) new s h =
-    sound_as new _ h.after (record { log = sound_called old.log_usage s.log; pages = s.pages })
+sound_merge old k (Ok pair) new s h = merges old (place_at old.leaves k) pair new s h
 sound_merge old k (Err r) new s h = ends_append _ old r new s h
 
 tends : (old : SystemView) (what : Tending) (given : Tended) (new : SystemView) → AreSound old
     → TendsTo old what given new → AreSound new
-tends old (SplitsAt p) (tended.Split pair) new s h =
-    sound_as new _ h.after (record { log = sound_called old.log_usage s.log; pages = s.pages })
+tends old (SplitsAt p) (tended.Split pair) new s h = splits old p pair new s h
 tends old (SplitsAt p) (tended.Merged pair) new s h = absurd h
 tends old (SplitsAt p) tended.Nothing new s h = absurd h
-tends old (MergesAt p) (tended.Merged pair) new s h =
-    sound_as new _ h.after (record { log = sound_called old.log_usage s.log; pages = s.pages })
+tends old (MergesAt p) (tended.Merged pair) new s h = merges old p pair new s h
 tends old (MergesAt p) (tended.Split pair) new s h = absurd h
 tends old (MergesAt p) tended.Nothing new s h = absurd h
 tends old Rests tended.Nothing new s h = sound_as new old h s
