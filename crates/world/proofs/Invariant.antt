@@ -14,6 +14,7 @@ pub mod Repeats
 pub mod Running
 pub mod Sends
 pub mod Serves
+pub mod Sources
 pub mod Spellable
 pub mod Systems
 pub mod Tends

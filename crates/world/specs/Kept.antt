@@ -35,13 +35,19 @@ use Rattle.tc_core.specs.declared.phase.Phase.TheVariants as phase
 use Rattle.tc_core.specs.OpenTxns.{find}
 use Rattle.tc_core.specs.Changes.{shared}
 use Rattle.tc_core.specs.TcView.{TcView}
-use Rattle.tc_core.specs.LowWater.{MayAnnounce}
+use Rattle.history.specs.Legal.{FitsCheckpoint}
+use Rattle.logical_log.specs.Low.{stable_part}
 use Rattle.tc_core.specs.Kept.{IsTc}
 use Rattle.world.specs.Node.{NodeView}
+use Rattle.world.specs.Source.{Source, IsWaiting, IsSource, own}
+
+-- every request up to a number has its answer among the log's first records, so many
+abbrev pub IsAnsweredBy : List Record → ℕ → ℕ → Type 0
+IsAnsweredBy log end l = FitsCheckpoint (stable_part log end) l
 
 -- every request up to a stable number has a stable answer
 abbrev pub IsAnsweredTo : TcView → ℕ → Type 0
-IsAnsweredTo w l = MayAnnounce w l
+IsAnsweredTo w l = IsAnsweredBy w.log w.stable l
 
 -- a session of this number or a later one was begun: its record is stable, and the one that runs is no earlier
 pub record IsBegun (stable session s : ℕ) : Type 0 where
@@ -79,30 +85,53 @@ pub record InSession (dc : DcView) (s : ℕ) (Holds : Type 0) : Type 0 where
   pub begun : s ≤ dc.stored
   pub holds : runs dc s ≡ true → Holds
 
--- what was sent stands: an operation is that of its record, which is stable, and where its session still runs each
--- earlier request on its key was performed, unless both are Adds; where redo was ended all that is answered was performed
-abbrev pub IsSent : TcView → DcView → Request → Type 0
-IsSent w dc (asks.Connect s) = IsBegun w.stable w.session s
-IsSent w dc (asks.Perform s n o) =
-    (n ≤ w.stable) × Requests w.log n o × InSession dc s (EarlierAreCaptured w.log dc n o)
-IsSent w dc (asks.Get s n k) = IsReadTrue w s n (λ q. q ≡ Key k)
-IsSent w dc (asks.Scan s n low high) = IsReadTrue w s n (λ q. q ≡ Range low high)
-IsSent w dc (asks.LowWater s l) = IsAnsweredTo w l
-IsSent w dc (asks.Checkpoint s l) = IsAnsweredTo w l
-IsSent w dc (asks.RedoEnd s) = InSession dc s (AnsweredAreCaptured w.log dc)
+-- while the transaction component waits, an operation and its answer are of an earlier session than its own
+pub record IsOlder (w : TcView) (s : ℕ) : Type 0 where
+  pub some : 0 < s
+  pub older : IsWaiting w.phase → 0 < w.session → s < w.session
+
+-- an operation is that of its record, which is sure, and each earlier request on its key was performed, unless both are
+-- Adds
+pub record IsNext (x : Source) (dc : DcView) (n : ℕ) (o : Op) : Type 0 where
+  pub sure : n ≤ x.sure
+  pub requests : Requests x.log n o
+  pub earlier : EarlierAreCaptured x.log dc n o
+
+-- what was sent stands, where its session still runs: of the source what an operation asks for, and up to which number
+-- all is answered; where redo was ended all that is answered was performed
+abbrev pub IsSent : TcView → DcView → Source → Request → Type 0
+IsSent w dc x (asks.Connect s) = IsBegun w.stable w.session s
+IsSent w dc x (asks.Perform s n o) = IsOlder w s × InSession dc s (IsNext x dc n o)
+IsSent w dc x (asks.Get s n k) = IsReadTrue w s n (λ q. q ≡ Key k)
+IsSent w dc x (asks.Scan s n low high) = IsReadTrue w s n (λ q. q ≡ Range low high)
+IsSent w dc x (asks.LowWater s l) = InSession dc s (IsAnsweredBy x.log x.sure l)
+IsSent w dc x (asks.Checkpoint s l) = InSession dc s (IsAnsweredBy x.log x.sure l)
+IsSent w dc x (asks.RedoEnd s) = InSession dc s (AnsweredAreCaptured x.log dc)
 
 -- the right answer; or none, where all up to the number is answered
-abbrev pub IsRightOrNone : TcView → ℕ → Option Answer → Type 0
-IsRightOrNone w n None = IsAnsweredTo w n
-IsRightOrNone w n (Some a) = IsRight w.log n a
+abbrev pub IsRightOrNone : Source → ℕ → Option Answer → Type 0
+IsRightOrNone x n None = IsAnsweredBy x.log x.sure n
+IsRightOrNone x n (Some a) = IsRight x.log n a
 
--- the answer of a stable request, which is captured where the reply's session still runs
-pub record IsAnswered (w : TcView) (dc : DcView) (s n : ℕ) (a : Option Answer) : Type 0 where
+-- the answer of a request of the log, which is among its first records, so many
+pub record IsAnswerIn (x : Source) (n : ℕ) (a : Option Answer) : Type 0 where
   pub op : Op
-  pub requests : Requests w.log n op
-  pub stable : n ≤ w.stable
-  pub answer : IsRightOrNone w n a
-  pub captured : InSession dc s (captures_at dc (key_of op) n ≡ true)
+  pub requests : Requests x.log n op
+  pub sure : n ≤ x.sure
+  pub answer : IsRightOrNone x n a
+
+-- a request of the source that was performed
+pub record IsCaptured (x : Source) (dc : DcView) (n : ℕ) : Type 0 where
+  pub op : Op
+  pub requests : Requests x.log n op
+  pub captured : captures_at dc (key_of op) n ≡ true
+
+-- where the reply's session still runs its request was performed, and as long as it is the transaction component's, which
+-- has heard that it was taken, it has the answer of a request of the log
+pub record IsAnswered (w : TcView) (dc : DcView) (x : Source) (s n : ℕ) (a : Option Answer) : Type 0 where
+  pub older : IsOlder w s
+  pub captured : InSession dc s (IsCaptured x dc n)
+  pub own : (IsWaiting w.phase → ⊥) → s ≡ w.session → IsAnswerIn (own w) n a
 
 -- a row is what the log gives at the key, and rows are those of a table that the log gives in the range
 abbrev pub IsValue : List Record → Option Bytes → Span → Type 0
@@ -120,13 +149,13 @@ AreRows log rows (Range low high) = AreRowsOf log rows (shared (Range low high))
 AreRows log rows _ = Unit {0}
 
 -- what was replied stays true: also a row or rows, while they are waited for; and that all leaves are low
-abbrev pub IsGiven : TcView → DcView → Reply → Type 0
-IsGiven w dc (says.Connected s) = s ≤ dc.stored
-IsGiven w dc (says.Answered s n a) = IsAnswered w dc s n a
-IsGiven w dc (says.Row s n v) = IsReadTrue w s n (IsValue w.log v)
-IsGiven w dc (says.Rows s n rows) = IsReadTrue w s n (AreRows w.log rows)
-IsGiven w dc (says.Checkpointed s l) = IsChecked l dc.system
-IsGiven w dc (says.RedoEnded s) = InSession dc s (dc.redo ≡ false)
+abbrev pub IsGiven : TcView → DcView → Source → Reply → Type 0
+IsGiven w dc x (says.Connected s) = s ≤ dc.stored
+IsGiven w dc x (says.Answered s n a) = IsAnswered w dc x s n a
+IsGiven w dc x (says.Row s n v) = IsReadTrue w s n (IsValue w.log v)
+IsGiven w dc x (says.Rows s n rows) = IsReadTrue w s n (AreRows w.log rows)
+IsGiven w dc x (says.Checkpointed s l) = IsChecked l dc.system
+IsGiven w dc x (says.RedoEnded s) = InSession dc s (dc.redo ≡ false)
 
 -- until redo ends nothing is requested anew
 abbrev pub AreBefore : List Record → ℕ → Type 0
@@ -146,17 +175,18 @@ pub record AreSessions (stable session : ℕ) (at : Phase) (log : List Record) (
   pub begun : IsBegun stable session (stored_session dc.system.log)
   pub served : IsServed at session log dc
 
--- every request up to the leaf's low number is answered
-abbrev pub IsLowAnswered : TcView → LeafView → Type 0
-IsLowAnswered w leaf = IsAnsweredTo w leaf.ab.low
+-- every request up to the leaf's low number is answered among the log's first records, so many
+abbrev pub IsLowAnswered : List Record → ℕ → LeafView → Type 0
+IsLowAnswered log end leaf = IsAnsweredBy log end leaf.ab.low
 
--- the leaves and what outlives them are true to the transactions' log: each leaf, each page and each leaf in a record
--- is honest for it and has captured stable numbers only, and every request up to its low number is answered
-pub record IsTrueTo (w : TcView) (v : SystemView) : Type 0 where
-  pub leaves : AllByRecursion (IsHonestTo w.log w.stable) v.leaves
+-- each cached leaf is honest for the source and has captured sure numbers only, each page and each leaf in a record is
+-- honest for the transactions' log and has captured stable numbers only; and every request up to its low number is
+-- answered
+pub record IsTrueTo (w : TcView) (x : Source) (v : SystemView) : Type 0 where
+  pub leaves : AllByRecursion (IsHonestTo x.log x.sure) v.leaves
+  pub low : AllByRecursion (IsLowAnswered x.log x.sure) v.leaves
   pub written : AllHave (IsHonestTo w.log w.stable) (pages_of v.pages) v.log
-  pub low : AllByRecursion (IsLowAnswered w) v.leaves
-  pub written_low : AllHave (IsLowAnswered w) (pages_of v.pages) v.log
+  pub written_low : AllHave (IsLowAnswered w.log w.stable) (pages_of v.pages) v.log
 
 -- the node's invariant; docs/PROOF.md goes by these numbers
 pub record IsKept (w : NodeView) : Type 0 where
@@ -168,17 +198,19 @@ pub record IsKept (w : NodeView) : Type 0 where
   -- after any crash recovery would give leaves that have all keys among them
   pub dc : IsDc w.dc
   pub recoverable : IsRecoverable w.dc.system
-  -- 4. leaves, pages and leaves in the data component's log are honest, and have captured stable numbers only;
-  -- every request up to a leaf's low number is answered
-  pub true_to : IsTrueTo w.tc w.dc.system
-  -- 5. what was performed is the log's
-  pub performed : AllByRecursion (λ (p : Performance). Requests w.tc.log p.number p.op) w.dc.performed
+  -- 4. the cached leaves have their effects from the source, which is the log or was it before a crash; they, pages and
+  -- leaves in the data component's log are honest, and every request up to a leaf's low number is answered
+  pub source : Source
+  pub from : IsSource w.tc w.dc.stored source
+  pub true_to : IsTrueTo w.tc source w.dc.system
+  -- 5. what was performed is the source's
+  pub performed : AllByRecursion (λ (p : Performance). Requests source.log p.number p.op) w.dc.performed
   -- 6. past the redo of a session a request that is answered was performed
-  pub answered : may_merge w.dc ≡ true → AnsweredAreCaptured w.tc.log w.dc
+  pub answered : may_merge w.dc ≡ true → AnsweredAreCaptured source.log w.dc
   -- 7. what was ever sent stands
-  pub sent : AllByRecursion (IsSent w.tc w.dc) w.requests
+  pub sent : AllByRecursion (IsSent w.tc w.dc source) w.requests
   -- 8. what was ever replied stays true
-  pub given : AllByRecursion (IsGiven w.tc w.dc) w.replies
+  pub given : AllByRecursion (IsGiven w.tc w.dc source) w.replies
   -- 9. the data component has taken only sessions that the other has started, and while clients are served the same
   pub sessions : AreSessions w.tc.stable w.tc.session w.tc.phase w.tc.log w.dc
   -- 10. every leaf, also after any crash, has captured what redo doesn't send again

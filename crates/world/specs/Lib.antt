@@ -1,6 +1,7 @@
 pub mod Component
 pub mod Node
 pub mod Messages
+pub mod Source
 pub mod Kept
 pub mod Simulation
 pub mod Stepping

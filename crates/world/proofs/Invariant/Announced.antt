@@ -6,27 +6,25 @@ use Rattle.history.specs.declared.record.Record.{Record}
 use Rattle.history.specs.Legal.{FitsCheckpoint, AreAnswered}
 use Rattle.logical_log.specs.Low.{stable_part}
 use Rattle.logical_log.proofs.Answered.{answered_whole}
-use Rattle.tc_core.specs.TcView.{TcView}
-use Rattle.world.specs.Kept.{IsAnsweredTo}
+use Rattle.world.specs.Kept.{IsAnsweredBy}
 
 -- they are answered
-pub all_answered : (w : TcView) (l : ℕ) → IsAnsweredTo w l → AreAnswered w.log l
-all_answered w l h = (answered_whole (length w.log - w.stable) w.log l h).answered
+pub all_answered : (log : List Record) (end l : ℕ) → IsAnsweredBy log end l → AreAnswered log l
+all_answered log end l h = (answered_whole (length log - end) log l h).answered
 
--- the number is stable
-pub most_stable : (w : TcView) (l : ℕ) → w.stable ≤ length w.log → IsAnsweredTo w l → l ≤ w.stable
-most_stable w l within h =
-    let short : length (stable_part w.log w.stable) ≡ length w.log - (length w.log - w.stable) =
-    length-drop (length w.log - w.stable) w.log in
+-- the number is among the first records
+pub most_sure : (log : List Record) (end l : ℕ) → end ≤ length log → IsAnsweredBy log end l → l ≤ end
+most_sure log end l within h =
+    let short : length (stable_part log end) ≡ length log - (length log - end) = length-drop (length log - end) log in
     omega (arith, h.within, short, within)
 
-pub answered_less : (w : TcView) (n l : ℕ) → n ≤ l → IsAnsweredTo w l → IsAnsweredTo w n
-answered_less w n l less h = record {
+pub answered_less : (log : List Record) (end n l : ℕ) → n ≤ l → IsAnsweredBy log end l → IsAnsweredBy log end n
+answered_less log end n l less h = record {
   within = omega (arith, less, h.within);
   answered = λ m o below asks. h.answered m o (omega (arith, below, less)) asks;
 }
 
--- so it stays where more is stable
+-- so it stays where more records are first
 pub part_grows : (log : List Record) (s t l : ℕ) → s ≤ t → t ≤ length log → FitsCheckpoint (stable_part log s) l
     → FitsCheckpoint (stable_part log t) l
 part_grows log s t l le within h =

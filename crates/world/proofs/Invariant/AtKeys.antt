@@ -10,20 +10,35 @@ use Rattle.recovery_laws.specs.Ready.{IsHonestTo, IsLow}
 use Rattle.system_txn.specs.Checked.{IsChecked}
 use Rattle.dc_core.specs.DcView.{leaves, captures_at, value_at}
 use Rattle.world.specs.Node.{NodeView}
-use Rattle.world.specs.Kept.{IsKept, IsLowAnswered}
+use Rattle.dc_core.specs.Tends.{may_merge}
+use Rattle.world.specs.Kept.{IsKept, IsLowAnswered, AnsweredAreCaptured}
+use Rattle.world.specs.Source.{Source, own}
+use Rattle.world.proofs.Invariant.Sources.{of_log}
 
-pub own_leaf : (w : NodeView) (key : Bytes) → IsKept w → IsHonestTo w.tc.log w.tc.stable (leaf_at (leaves w.dc) key)
-own_leaf w key k = all_at (IsHonestTo w.tc.log w.tc.stable) (leaves w.dc) key k.dc.system.leaves k.true_to.leaves
+pub own_leaf : (w : NodeView) (key : Bytes) (k : IsKept w)
+    → IsHonestTo k.source.log k.source.sure (leaf_at (leaves w.dc) key)
+own_leaf w key k =
+    all_at (IsHonestTo k.source.log k.source.sure) (leaves w.dc) key k.dc.system.leaves k.true_to.leaves
 
-pub honest_at : (w : NodeView) (key : Bytes) → IsKept w
+pub own_low : (w : NodeView) (key : Bytes) (k : IsKept w)
+    → IsLowAnswered k.source.log k.source.sure (leaf_at (leaves w.dc) key)
+own_low w key k = all_at (IsLowAnswered k.source.log k.source.sure) (leaves w.dc) key k.dc.system.leaves k.true_to.low
+
+pub captured_sure : (w : NodeView) (key : Bytes) (n : ℕ) (k : IsKept w) → captures_at w.dc key n ≡ true
+    → n ≤ k.source.sure
+captured_sure w key n k h = (own_leaf w key k).within n h
+
+-- where the source is the log
+pub honest_at : (w : NodeView) (key : Bytes) (k : IsKept w) → k.source ≡ own w.tc
     → IsHonestAt w.tc.log (captures_at w.dc key) key (value_at w.dc key)
-honest_at w key k = (own_leaf w key k).honest.at key (within_at (leaves w.dc) key k.dc.system.leaves)
+honest_at w key k live =
+    of_log w.tc k.source (λ (x : Source). IsHonestAt x.log (captures_at w.dc key) key (value_at w.dc key)) live
+    ((own_leaf w key k).honest.at key (within_at (leaves w.dc) key k.dc.system.leaves))
 
-pub captured_stable : (w : NodeView) (key : Bytes) (n : ℕ) → IsKept w → captures_at w.dc key n ≡ true → n ≤ w.tc.stable
-captured_stable w key n k h = (own_leaf w key k).within n h
-
-pub own_low : (w : NodeView) (key : Bytes) → IsKept w → IsLowAnswered w.tc (leaf_at (leaves w.dc) key)
-own_low w key k = all_at (IsLowAnswered w.tc) (leaves w.dc) key k.dc.system.leaves k.true_to.low
+pub answered_captured : (w : NodeView) (k : IsKept w) → k.source ≡ own w.tc → may_merge w.dc ≡ true
+    → AnsweredAreCaptured w.tc.log w.dc
+answered_captured w k live may =
+    of_log w.tc k.source (λ (x : Source). AnsweredAreCaptured x.log w.dc) live (k.answered may)
 
 -- a leaf that is so low has captured it
 pub low_captured : (w : NodeView) (l n : ℕ) (key : Bytes) → IsKept w → IsChecked l w.dc.system → n ≤ l

@@ -1,5 +1,6 @@
 -- What the data component does by itself keeps what was sent, replied and captured.
-use Rattle.std.proofs.Common.{◌≡◌, ◌≢◌, ℕ, ◌≤◌, true, false, Option, sym, ◌∙◌, subst, arith, inl, inr}
+use Rattle.std.proofs.Common.{◌≡◌, ℕ, ◌≤◌, true, false, List, [], ◌∷◌, ◌++◌, Option, Some, None, IfSome, refl, sym, subst, arith, inl, inr}
+use Rattle.history.specs.declared.record.Record.{Record}
 use Rattle.std.specs.List.{AllByRecursion}
 use Rattle.record_key.specs.declared.op.Op.{Op}
 use Rattle.record_key.specs.declared.op.Answer.{Answer}
@@ -18,94 +19,187 @@ use Rattle.dc_core.specs.Serves.{runs}
 use Rattle.dc_core.specs.Tends.{may_merge}
 use Rattle.dc_core.specs.Kept.{IsDc}
 use Rattle.world.specs.Node.{NodeView, with_dc}
-use Rattle.world.specs.Kept.{IsKept, InSession, IsSent, IsAnswered, IsGiven, IsTrueTo, AreSessions, AnsweredAreCaptured, EarlierAreCaptured}
-use Rattle.world.proofs.Invariant.Running.{run_is, some_session}
+use Rattle.world.specs.Kept.{IsKept, IsAnsweredBy, InSession, IsNext, IsSent, IsCaptured, IsAnswered, IsGiven, IsTrueTo, AreSessions, AnsweredAreCaptured, EarlierAreCaptured}
+use Rattle.world.specs.Source.{Source, IsSource, own}
+use Rattle.world.proofs.Invariant.ByNumber.{all_push}
+use Rattle.world.proofs.Invariant.Keeps.{with_reply}
 
--- where a session runs it ran before, as far past its redo at least, and no request's number was lost at its key; nor
--- is
--- a leaf less low
-pub record Carries (w : NodeView) (dc : DcView) : Type 0 where
-  pub captured : dc.session ≢ 0 → (n : ℕ) (o : Op) → Requests w.tc.log n o → captures_at w.dc (key_of o) n ≡ true
-      → captures_at dc (key_of o) n ≡ true
-  pub stored : w.dc.stored ≤ dc.stored
-  pub ran : (s : ℕ) → s ≤ w.dc.stored → runs dc s ≡ true → runs w.dc s ≡ true
-  pub past : (s : ℕ) → s ≤ w.dc.stored → runs dc s ≡ true → w.dc.redo ≡ false → dc.redo ≡ false
-  pub checks : Checks w.dc.system dc.system
+-- the data component has become this, and it has replied, or not
+abbrev pub replied : NodeView → DcView → Option Reply → NodeView
+replied w dc None = with_dc w dc
+replied w dc (Some reply) = with_reply (with_dc w dc) reply
 
-module _ (w : NodeView) (dc : DcView) (k : IsKept w) (is : IsDc dc) (c : Carries w dc) where
+-- the same sessions ran, as far past their redo at least, and no request's number was lost at its key; nor is a leaf less
+-- low
+pub record Carries (log : List Record) (old new : DcView) : Type 0 where
+  pub captured : (n : ℕ) (o : Op) → Requests log n o → captures_at old (key_of o) n ≡ true
+      → captures_at new (key_of o) n ≡ true
+  pub stored : new.stored ≡ old.stored
+  pub ran : (s : ℕ) → runs new s ≡ true → runs old s ≡ true
+  pub past : old.redo ≡ false → new.redo ≡ false
+  pub checks : Checks old.system new.system
+
+module _ (w : NodeView) (dc : DcView) (k : IsKept w) (c : Carries k.source.log w.dc dc) where
+  abbrev x : Source
+  x = k.source
+
   -- what holds in a session that still runs
-  carried : (s : ℕ) (P Q : Type 0) → (runs dc s ≡ true → P → Q) → InSession w.dc s P → InSession dc s Q
+  carried : (s : ℕ) (P Q : Type 0) → (P → Q) → InSession w.dc s P → InSession dc s Q
   carried s P Q from h = record {
     begun = omega (arith, h.begun, c.stored);
-    holds = λ r. from r (h.holds (c.ran s h.begun r));
+    holds = λ r. from (h.holds (c.ran s r));
   }
 
-  earlier_carried : (s n : ℕ) (o : Op) → runs dc s ≡ true → EarlierAreCaptured w.tc.log w.dc n o
-      → EarlierAreCaptured w.tc.log dc n o
-  earlier_carried s n o r h m q asks below on =
-      let run = run_is dc s r in
+  earlier_carried : (n : ℕ) (o : Op) → EarlierAreCaptured x.log w.dc n o → EarlierAreCaptured x.log dc n o
+  earlier_carried n o h m q asks below on =
       elim (h m q asks below on) [
         | inl captured ↦ inl (subst (λ (z : Bytes). captures_at dc z m ≡ true) on
-            (c.captured (λ zero. run.some (sym run.is ∙ zero)) m q asks
-            (subst (λ (z : Bytes). captures_at w.dc z m ≡ true) (sym on) captured)))
+            (c.captured m q asks (subst (λ (z : Bytes). captures_at w.dc z m ≡ true) (sym on) captured)))
         | inr both ↦ inr both
       ]
 
-  all_carried : dc.session ≢ 0 → AnsweredAreCaptured w.tc.log w.dc → AnsweredAreCaptured w.tc.log dc
-  all_carried some h n o asks answered = c.captured some n o asks (h n o asks answered)
+  next_carried : (n : ℕ) (o : Op) → IsNext x w.dc n o → IsNext x dc n o
+  next_carried n o h =
+      record { sure = h.sure; requests = h.requests; earlier = earlier_carried n o h.earlier }
 
-  some_run : (s : ℕ) → runs dc s ≡ true → dc.session ≢ 0
-  some_run s r zero = let run = run_is dc s r in run.some (sym run.is ∙ zero)
+  all_carried : AnsweredAreCaptured x.log w.dc → AnsweredAreCaptured x.log dc
+  all_carried h n o asks answered = c.captured n o asks (h n o asks answered)
 
-  sent_carried : (q : Request) → IsSent w.tc w.dc q → IsSent w.tc dc q
+  low_carried : (s l : ℕ) → InSession w.dc s (IsAnsweredBy x.log x.sure l)
+      → InSession dc s (IsAnsweredBy x.log x.sure l)
+  low_carried s l = carried s (IsAnsweredBy x.log x.sure l) (IsAnsweredBy x.log x.sure l) (λ to. to)
+
+  sent_carried : (q : Request) → IsSent w.tc w.dc x q → IsSent w.tc dc x q
   sent_carried (asks.Connect s) h = h
-  sent_carried (asks.Perform s n o) h = (
-    h.0,
-    h.1,
-    carried s (EarlierAreCaptured w.tc.log w.dc n o) (EarlierAreCaptured w.tc.log dc n o) (earlier_carried s n o) h.2,
-  )
+  sent_carried (asks.Perform s n o) h = (h.0, carried s (IsNext x w.dc n o) (IsNext x dc n o) (next_carried n o) h.1)
   sent_carried (asks.Get s n key) h = h
   sent_carried (asks.Scan s n low high) h = h
-  sent_carried (asks.LowWater s l) h = h
-  sent_carried (asks.Checkpoint s l) h = h
+  sent_carried (asks.LowWater s l) h = low_carried s l h
+  sent_carried (asks.Checkpoint s l) h = low_carried s l h
   sent_carried (asks.RedoEnd s) h =
-      carried s (AnsweredAreCaptured w.tc.log w.dc) (AnsweredAreCaptured w.tc.log dc) (λ r. all_carried (some_run s r))
-      h
+      carried s (AnsweredAreCaptured x.log w.dc) (AnsweredAreCaptured x.log dc) all_carried h
 
-  answered_carried : (s n : ℕ) (a : Option Answer) → IsAnswered w.tc w.dc s n a → IsAnswered w.tc dc s n a
+  captured_carried : (n : ℕ) → IsCaptured x w.dc n → IsCaptured x dc n
+  captured_carried n h =
+      record { op = h.op; requests = h.requests; captured = c.captured n h.op h.requests h.captured }
+
+  answered_carried : (s n : ℕ) (a : Option Answer) → IsAnswered w.tc w.dc x s n a → IsAnswered w.tc dc x s n a
   answered_carried s n a h = record {
-    op = h.op;
-    requests = h.requests;
-    stable = h.stable;
-    answer = h.answer;
-    captured = carried s (captures_at w.dc (key_of h.op) n ≡ true) (captures_at dc (key_of h.op) n ≡ true)
-        (λ r. c.captured (some_run s r) n h.op h.requests) h.captured;
+    older = h.older;
+    captured = carried s (IsCaptured x w.dc n) (IsCaptured x dc n) (captured_carried n) h.captured;
+    own = h.own;
   }
 
-  pub given_carried : (reply : Reply) → IsGiven w.tc w.dc reply → IsGiven w.tc dc reply
+  given_carried : (reply : Reply) → IsGiven w.tc w.dc x reply → IsGiven w.tc dc x reply
   given_carried (says.Connected s) h = omega (arith, h, c.stored)
   given_carried (says.Answered s n a) h = answered_carried s n a h
   given_carried (says.Row s m v) h = h
   given_carried (says.Rows s m rows) h = h
   given_carried (says.Checkpointed s l) h = c.checks l h
-  given_carried (says.RedoEnded s) h =
-      record { begun = omega (arith, h.begun, c.stored); holds = λ r. c.past s h.begun r (h.holds (c.ran s h.begun r)) }
+  given_carried (says.RedoEnded s) h = carried s (w.dc.redo ≡ false) (dc.redo ≡ false) c.past h
 
   -- what is past redo now was, or its redo has ended
-  pub keeps_dc : IsRecoverable dc.system → IsTrueTo w.tc dc.system
-      → AllByRecursion (λ (p : Performance). Requests w.tc.log p.number p.op) dc.performed
-      → (may_merge dc ≡ true → AnsweredAreCaptured w.tc.log w.dc)
-      → AreSessions w.tc.stable w.tc.session w.tc.phase w.tc.log dc → IsKept (with_dc w dc)
-  keeps_dc recoverable true_to performed past sessions = record {
-    tc = k.tc;
-    right = k.right;
-    dc = is;
-    recoverable = recoverable;
-    true_to = true_to;
-    performed = performed;
-    answered = λ may. all_carried (some_session dc may) (past may);
-    sent = all_from (IsSent w.tc w.dc) (IsSent w.tc dc) sent_carried w.requests k.sent;
-    given = all_from (IsGiven w.tc w.dc) (IsGiven w.tc dc) given_carried w.replies k.given;
-    sessions = sessions;
-    checked = c.checks w.tc.checkpointed k.checked;
+  pub keeps_dc : (reply : Option Reply) → IfSome reply (IsGiven w.tc dc x) → IsDc dc → IsRecoverable dc.system → IsTrueTo w.tc x dc.system
+      → AllByRecursion (λ (p : Performance). Requests x.log p.number p.op) dc.performed
+      → (may_merge dc ≡ true → AnsweredAreCaptured x.log w.dc)
+      → AreSessions w.tc.stable w.tc.session w.tc.phase w.tc.log dc → IsKept (replied w dc reply)
+  keeps_dc reply given is recoverable true_to performed past sessions = by reply given
+    where
+      all : AllByRecursion (IsGiven w.tc dc x) w.replies
+      all = all_from (IsGiven w.tc w.dc x) (IsGiven w.tc dc x) given_carried w.replies k.given
+
+      kept : (replies : List Reply) → AllByRecursion (IsGiven w.tc dc x) replies
+          → IsKept (record w { dc = dc; replies = replies })
+      kept replies given = record {
+        tc = k.tc;
+        right = k.right;
+        dc = is;
+        recoverable = recoverable;
+        source = x;
+        from = subst (λ (stored : ℕ). IsSource w.tc stored x) (sym c.stored) k.from;
+        true_to = true_to;
+        performed = performed;
+        answered = λ may. all_carried (past may);
+        sent = all_from (IsSent w.tc w.dc x) (IsSent w.tc dc x) sent_carried w.requests k.sent;
+        given = given;
+        sessions = sessions;
+        checked = c.checks w.tc.checkpointed k.checked;
+      }
+
+      by : (reply : Option Reply) → IfSome reply (IsGiven w.tc dc x) → IsKept (replied w dc reply)
+      by None none = kept w.replies all
+      by (Some reply) given =
+          kept (w.replies ++ reply ∷ []) (all_push (IsGiven w.tc dc x) w.replies reply all given)
+
+-- ---- a session was taken, or the data component has crashed: its leaves have their effects from the log itself
+
+-- no session that was taken before runs now
+pub record StartsAnew (old new : DcView) : Type 0 where
+  pub stored : old.stored ≤ new.stored
+  pub other : (s : ℕ) → s ≤ old.stored → runs new s ≡ true → ⊥
+  pub unmerged : may_merge new ≡ true → ⊥
+  pub checks : Checks old.system new.system
+
+module _ (w : NodeView) (dc : DcView) (k : IsKept w) (a : StartsAnew w.dc dc) where
+  abbrev y : Source
+  y = own w.tc
+
+  past : (s : ℕ) (P Q : Type 0) → InSession w.dc s P → InSession dc s Q
+  past s P Q h = record {
+    begun = omega (arith, h.begun, a.stored);
+    holds = λ r. absurd (a.other s h.begun r);
   }
+
+  sent_past : (q : Request) → IsSent w.tc w.dc k.source q → IsSent w.tc dc y q
+  sent_past (asks.Connect s) h = h
+  sent_past (asks.Perform s n o) h = (h.0, past s (IsNext k.source w.dc n o) (IsNext y dc n o) h.1)
+  sent_past (asks.Get s n key) h = h
+  sent_past (asks.Scan s n low high) h = h
+  sent_past (asks.LowWater s l) h =
+      past s (IsAnsweredBy k.source.log k.source.sure l) (IsAnsweredBy y.log y.sure l) h
+  sent_past (asks.Checkpoint s l) h =
+      past s (IsAnsweredBy k.source.log k.source.sure l) (IsAnsweredBy y.log y.sure l) h
+  sent_past (asks.RedoEnd s) h = past s (AnsweredAreCaptured k.source.log w.dc) (AnsweredAreCaptured y.log dc) h
+
+  given_past : (reply : Reply) → IsGiven w.tc w.dc k.source reply → IsGiven w.tc dc y reply
+  given_past (says.Connected s) h = omega (arith, h, a.stored)
+  given_past (says.Answered s n v) h = record {
+    older = h.older;
+    captured = past s (IsCaptured k.source w.dc n) (IsCaptured y dc n) h.captured;
+    own = h.own;
+  }
+  given_past (says.Row s m v) h = h
+  given_past (says.Rows s m rows) h = h
+  given_past (says.Checkpointed s l) h = a.checks l h
+  given_past (says.RedoEnded s) h = past s (w.dc.redo ≡ false) (dc.redo ≡ false) h
+
+  pub keeps_anew : (reply : Option Reply) → IfSome reply (IsGiven w.tc dc y) → IsDc dc → IsRecoverable dc.system → IsTrueTo w.tc y dc.system
+      → AllByRecursion (λ (p : Performance). Requests y.log p.number p.op) dc.performed
+      → AreSessions w.tc.stable w.tc.session w.tc.phase w.tc.log dc → IsKept (replied w dc reply)
+  keeps_anew reply given is recoverable true_to performed sessions = by reply given
+    where
+      all : AllByRecursion (IsGiven w.tc dc y) w.replies
+      all = all_from (IsGiven w.tc w.dc k.source) (IsGiven w.tc dc y) given_past w.replies k.given
+
+      kept : (replies : List Reply) → AllByRecursion (IsGiven w.tc dc y) replies
+          → IsKept (record w { dc = dc; replies = replies })
+      kept replies given = record {
+        tc = k.tc;
+        right = k.right;
+        dc = is;
+        recoverable = recoverable;
+        source = y;
+        from = inl refl;
+        true_to = true_to;
+        performed = performed;
+        answered = λ may. absurd (a.unmerged may);
+        sent = all_from (IsSent w.tc w.dc k.source) (IsSent w.tc dc y) sent_past w.requests k.sent;
+        given = given;
+        sessions = sessions;
+        checked = a.checks w.tc.checkpointed k.checked;
+      }
+
+      by : (reply : Option Reply) → IfSome reply (IsGiven w.tc dc y) → IsKept (replied w dc reply)
+      by None none = kept w.replies all
+      by (Some reply) given =
+          kept (w.replies ++ reply ∷ []) (all_push (IsGiven w.tc dc y) w.replies reply all given)

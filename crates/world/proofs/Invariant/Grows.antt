@@ -1,5 +1,5 @@
 -- A log that grows keeps what was sent, replied and captured.
-use Rattle.std.proofs.Common.{◌≡◌, ◌≢◌, ℕ, ◌+◌, ◌<◌, ◌≤◌, ◌⊎◌, true, false, List, ◌∷◌, length, Option, Some, None, refl, sym, ap, ◌∙◌, subst, arith, inl, inr, true≢false}
+use Rattle.std.proofs.Common.{◌≡◌, ◌≢◌, ℕ, ◌+◌, ◌<◌, ◌≤◌, ◌⊎◌, true, List, ◌∷◌, length, Option, Some, None, refl, sym, ap, ◌∙◌, subst, arith, inl, inr, true≢false}
 use Rattle.std.specs.List.{AllByRecursion}
 use Rattle.std.proofs.lemmas.Bool.{cases_Bool}
 use Rattle.record_key.specs.declared.op.Op.{Op}
@@ -11,8 +11,7 @@ use Rattle.history.specs.Legal.{IsLegal, FitsCheckpoint}
 use Rattle.history.specs.Log.{answer_of, request_of, Requests}
 use Rattle.history.specs.Spans.{is_within}
 use Rattle.history.specs.Values.{is_on, value_with, value_on, IsRight, HasRightAnswers}
-use Rattle.log_laws.proofs.Records.{ARequest, kept_at, older_at, at_newest}
-use Rattle.log_laws.proofs.LegalLogs.{request_number}
+use Rattle.log_laws.proofs.Records.{ARequest, older_at, at_newest}
 use Rattle.logical_log.specs.Low.{stable_part}
 use Rattle.range_locks.specs.declared.span.Span.{Span}
 use Rattle.range_locks.specs.declared.span.Span.TheVariants.{Key, Range}
@@ -20,7 +19,6 @@ use Rattle.codec.specs.declared.request.Request.{Request}
 use Rattle.codec.specs.declared.request.Request.TheVariants as asks
 use Rattle.codec.specs.declared.reply.Reply.{Reply}
 use Rattle.codec.specs.declared.reply.Reply.TheVariants as says
-use Rattle.ab_lsn.specs.AbLsn.{captures}
 use Rattle.page.specs.Leaf.{LeafView}
 use Rattle.recovery_laws.specs.Ready.{IsHonestTo}
 use Rattle.system_txn.specs.SystemView.{SystemView}
@@ -40,12 +38,14 @@ use Rattle.tc_core.proofs.Low.{may_longer}
 use Rattle.tc_core.specs.TcView.{TcView}
 use Rattle.tc_core.specs.Kept.{IsTc}
 use Rattle.world.specs.Node.{NodeView, with_tc}
-use Rattle.world.specs.Kept.{IsKept, IsAnsweredTo, IsBegun, IsReadTrue, InSession, IsSent, IsRightOrNone, IsAnswered, IsValue, AreRows, IsGiven, AreSessions, IsTrueTo, IsLowAnswered, AnsweredAreCaptured, EarlierAreCaptured}
+use Rattle.world.specs.Kept.{IsKept, IsAnsweredBy, IsBegun, IsReadTrue, InSession, IsOlder, IsNext, IsSent, IsRightOrNone, IsAnswerIn, IsCaptured, IsAnswered, IsValue, AreRows, IsGiven, AreSessions, IsTrueTo, IsLowAnswered, AnsweredAreCaptured, EarlierAreCaptured}
+use Rattle.world.specs.Source.{Source, IsWaiting, IsSource, own}
 use Rattle.record_key.proofs.Lists.{all_from}
 use Rattle.page.proofs.OnKey.{key_on}
 use Rattle.world.proofs.Invariant.Announced.{part_grows}
 use Rattle.world.proofs.Machine.Readers.{NoneAnew}
-use Rattle.world.proofs.Invariant.Running.{run_is, some_session, in_session}
+use Rattle.world.proofs.Invariant.Running.{run_is, some_session, in_session, stored_recorded}
+use Rattle.world.proofs.Invariant.Sources.{waiting_or, request_longer, uncaptured_above}
 use Rattle.world.proofs.Invariant.Unread.{unread}
 use Rattle.world.proofs.Invariant.Written.{have_all}
 
@@ -59,34 +59,38 @@ pub extend : (P : List Record → Type 0) (old new : List Record) → Extends ol
 extend P old new (inl same) more h = subst P (sym same) h
 extend P old new (inr grown) more h = subst P (sym grown.1) (more grown.0 h)
 
-request_longer : (r : Record) (log : List Record) (n : ℕ) (o : Op) → Requests log n o → Requests (r ∷ log) n o
-request_longer r log n o h = kept_at (ARequest o) r log n (request_number log n o h) h
-
 -- the session is the same, or a new one
 abbrev pub IsLater : TcView → TcView → Type 0
 IsLater old new = (new.session ≡ old.session) ⊎ (old.stable < new.session)
 
+-- a log has grown by a record at most, and no fewer of its records are sure
+pub record IsGrown (old new : Source) : Type 0 where
+  pub within : old.sure ≤ length old.log
+  pub log : Extends old.log new.log
+  pub sure : old.sure ≤ new.sure
+  pub now_within : new.sure ≤ length new.log
+
 -- the transaction component went on
 pub record GoesOn (old new : TcView) : Type 0 where
-  pub within : old.stable ≤ length old.log
-  pub log : Extends old.log new.log
-  pub stable : old.stable ≤ new.stable
-  pub now_within : new.stable ≤ length new.log
-  -- it has its session still, or a later one than was ever begun
+  pub grown : IsGrown (own old) (own new)
+  -- it has its session still, or a later one than was ever begun, and waits for its Connect only if it did, or for a
+  -- later one's
   pub session : IsLater old new
+  pub waits : IsWaiting new.phase → IsWaiting old.phase ⊎ (old.stable < new.session)
   pub reads : old.reads ≤ new.reads
   pub none_anew : NoneAnew old.reads old.open_txns new.open_txns
 
-answered_on : (old new : TcView) (l : ℕ) → GoesOn old new → IsAnsweredTo old l → IsAnsweredTo new l
+pub answered_on : (old new : Source) (l : ℕ) → IsGrown old new → IsAnsweredBy old.log old.sure l
+    → IsAnsweredBy new.log new.sure l
 answered_on old new l on h =
-    part_grows new.log old.stable new.stable l on.stable on.now_within
-    (extend (λ log. FitsCheckpoint (stable_part log old.stable) l) old.log new.log on.log
-    (λ r. may_longer r old.log old.stable l on.within) h)
+    part_grows new.log old.sure new.sure l on.sure on.now_within
+    (extend (λ log. FitsCheckpoint (stable_part log old.sure) l) old.log new.log on.log
+    (λ r. may_longer r old.log old.sure l on.within) h)
 
 pub begun_on : (old new : TcView) (s : ℕ) → GoesOn old new → IsBegun old.stable old.session s
     → IsBegun new.stable new.session s
 begun_on old new s on h = record {
-  recorded = omega (arith, h.recorded, on.stable);
+  recorded = omega (arith, h.recorded, on.grown.sure);
   most = λ some. elim on.session [
     | inl same ↦ omega (arith, same, h.most (omega (arith, some, same)))
     | inr later ↦ omega (arith, h.recorded, later)
@@ -100,6 +104,19 @@ same_session old new s on begun is = elim on.session [
   | inr later ↦ absurd (omega (arith, begun, is, later))
 ]
 
+-- what is older than the session stays so
+older_on : (old new : TcView) (s : ℕ) → GoesOn old new → s ≤ old.stable → IsOlder old s → IsOlder new s
+older_on old new s on begun h = record {
+  some = h.some;
+  older = λ waits some. elim (on.waits waits) [
+    | inl waited ↦ elim on.session [
+      | inl same ↦ omega (arith, same, h.older waited (omega (arith, some, same)))
+      | inr later ↦ omega (arith, begun, later)
+    ]
+    | inr later ↦ omega (arith, begun, later)
+  ];
+}
+
 -- what is said of a reader stays, where it does for each span
 told_on : (old new : TcView) (s n : ℕ) (P Q : Span → Type 0) → GoesOn old new
     → ((t : ℕ) (x : OpenTxn) (q : Span) → find t new.open_txns ≡ Some x → x.reading
@@ -107,7 +124,7 @@ told_on : (old new : TcView) (s n : ℕ) (P Q : Span → Type 0) → GoesOn old 
     → IsReadTrue old s n P → IsReadTrue new s n Q
 told_on old new s n P Q on from h = record {
   some = h.some;
-  begun = omega (arith, h.begun, on.stable);
+  begun = omega (arith, h.begun, on.grown.sure);
   asked = λ is. omega (arith, h.asked (same_session old new s on h.begun is), on.reads);
   holds = λ is t o q found reading.
       let here = same_session old new s on h.begun is in
@@ -116,8 +133,8 @@ told_on old new s n P Q on from h = record {
 }
 
 -- where a session runs, what is answered now was performed, if what was answered before was
-abbrev pub Captures : TcView → TcView → DcView → Type 0
-Captures old new dc = dc.session ≢ 0 → AnsweredAreCaptured old.log dc → AnsweredAreCaptured new.log dc
+abbrev pub Captures : List Record → List Record → DcView → Type 0
+Captures old new dc = dc.session ≢ 0 → AnsweredAreCaptured old dc → AnsweredAreCaptured new dc
 
 -- a number of the log is older than the next one
 earlier_longer : (r : Record) (log : List Record) (dc : DcView) (n : ℕ) (o : Op) → n ≤ length log
@@ -126,42 +143,75 @@ earlier_longer : (r : Record) (log : List Record) (dc : DcView) (n : ℕ) (o : O
 earlier_longer r log dc n o within h m q asks below =
     h m q (older_at (ARequest q) r log m (λ e. omega (arith, e, within, below)) asks) below
 
-pub sent_on : (old new : TcView) (dc : DcView) → GoesOn old new → Captures old new dc → (q : Request)
-    → IsSent old dc q → IsSent new dc q
-sent_on old new dc on captured (asks.Connect s) h = begun_on old new s on h
-sent_on old new dc on captured (asks.Perform s n o) h = (
-  omega (arith, h.0, on.stable),
-  extend (λ log. Requests log n o) old.log new.log on.log (λ r. request_longer r old.log n o) h.1,
-  extend (λ log. InSession dc s (EarlierAreCaptured log dc n o)) old.log new.log on.log
-      (λ r. in_session dc s (EarlierAreCaptured old.log dc n o) (EarlierAreCaptured (r ∷ old.log) dc n o)
-      (λ running. earlier_longer r old.log dc n o (omega (arith, h.0, on.within)))) h.2,
-)
-sent_on old new dc on captured (asks.Get s n k) h =
-    told_on old new s n (λ q. q ≡ Key k) (λ q. q ≡ Key k) on (λ t x q found reading is. is) h
-sent_on old new dc on captured (asks.Scan s n low high) h =
-    told_on old new s n (λ q. q ≡ Range low high) (λ q. q ≡ Range low high) on (λ t x q found reading is. is) h
-sent_on old new dc on captured (asks.LowWater s l) h = answered_on old new l on h
-sent_on old new dc on captured (asks.Checkpoint s l) h = answered_on old new l on h
-sent_on old new dc on captured (asks.RedoEnd s) h =
-    in_session dc s (AnsweredAreCaptured old.log dc) (AnsweredAreCaptured new.log dc)
-    (λ running. let run = run_is dc s running in captured (λ zero. run.some (sym run.is ∙ zero))) h
+pub next_on : (old new : Source) (dc : DcView) (n : ℕ) (o : Op) → IsGrown old new → IsNext old dc n o → IsNext new dc n o
+next_on old new dc n o on h = record {
+  sure = omega (arith, h.sure, on.sure);
+  requests = extend (λ log. Requests log n o) old.log new.log on.log (λ r. request_longer r old.log n o) h.requests;
+  earlier = extend (λ log. EarlierAreCaptured log dc n o) old.log new.log on.log
+      (λ r. earlier_longer r old.log dc n o (omega (arith, h.sure, on.within))) h.earlier;
+}
 
-right_on : (old new : TcView) (n : ℕ) (o : Op) (a : Option Answer) → GoesOn old new → Requests old.log n o
+-- what was sent stands where the source has grown so
+module _ (old new : TcView) (dc : DcView) (x y : Source) (on : GoesOn old new) (grown : IsGrown x y)
+    (captured : Captures x.log y.log dc) (stored : dc.stored ≤ old.stable) where
+  low_on : (s l : ℕ) → InSession dc s (IsAnsweredBy x.log x.sure l) → InSession dc s (IsAnsweredBy y.log y.sure l)
+  low_on s l = in_session dc s (IsAnsweredBy x.log x.sure l) (IsAnsweredBy y.log y.sure l)
+      (λ running. answered_on x y l grown)
+
+  pub sent_on : (q : Request) → IsSent old dc x q → IsSent new dc y q
+  sent_on (asks.Connect s) h = begun_on old new s on h
+  sent_on (asks.Perform s n o) h = (
+    older_on old new s on (omega (arith, h.1.begun, stored)) h.0,
+    in_session dc s (IsNext x dc n o) (IsNext y dc n o) (λ running. next_on x y dc n o grown) h.1,
+  )
+  sent_on (asks.Get s n k) h =
+      told_on old new s n (λ q. q ≡ Key k) (λ q. q ≡ Key k) on (λ t o q found reading is. is) h
+  sent_on (asks.Scan s n low high) h =
+      told_on old new s n (λ q. q ≡ Range low high) (λ q. q ≡ Range low high) on (λ t o q found reading is. is) h
+  sent_on (asks.LowWater s l) h = low_on s l h
+  sent_on (asks.Checkpoint s l) h = low_on s l h
+  sent_on (asks.RedoEnd s) h =
+      in_session dc s (AnsweredAreCaptured x.log dc) (AnsweredAreCaptured y.log dc)
+      (λ running. let run = run_is dc s running in captured (λ zero. run.some (sym run.is ∙ zero))) h
+
+right_on : (old new : Source) (n : ℕ) (o : Op) (a : Option Answer) → IsGrown old new → Requests old.log n o
     → IsRightOrNone old n a → IsRightOrNone new n a
 right_on old new n o None on asks h = answered_on old new n on h
 right_on old new n o (Some a) on asks h =
     extend (λ log. IsRight log n a) old.log new.log on.log (λ r. right_longer r old.log n o a asks) h
 
-answer_on : (old new : TcView) (dc : DcView) (s n : ℕ) (a : Option Answer) → GoesOn old new → IsAnswered old dc s n a
-    → IsAnswered new dc s n a
-answer_on old new dc s n a on h = record {
+answer_in_on : (old new : Source) (n : ℕ) (a : Option Answer) → IsGrown old new → IsAnswerIn old n a → IsAnswerIn new n a
+answer_in_on old new n a on h = record {
   op = h.op;
   requests = extend (λ log. Requests log n h.op) old.log new.log on.log (λ r. request_longer r old.log n h.op)
       h.requests;
-  stable = omega (arith, h.stable, on.stable);
+  sure = omega (arith, h.sure, on.sure);
   answer = right_on old new n h.op a on h.requests h.answer;
+}
+
+pub captured_on : (old new : Source) (dc : DcView) (n : ℕ) → IsGrown old new → IsCaptured old dc n → IsCaptured new dc n
+captured_on old new dc n on h = record {
+  op = h.op;
+  requests = extend (λ log. Requests log n h.op) old.log new.log on.log (λ r. request_longer r old.log n h.op)
+      h.requests;
   captured = h.captured;
 }
+
+answer_on : (old new : TcView) (dc : DcView) (x y : Source) (s n : ℕ) (a : Option Answer) → GoesOn old new
+    → IsGrown x y → dc.stored ≤ old.stable → IsAnswered old dc x s n a → IsAnswered new dc y s n a
+answer_on old new dc x y s n a on grown stored h = record {
+  older = older_on old new s on begun h.older;
+  captured = in_session dc s (IsCaptured x dc n) (IsCaptured y dc n) (λ running. captured_on x y dc n grown) h.captured;
+  own = λ unwaiting is.
+      let here : s ≡ old.session = same_session old new s on begun is in
+      elim (waiting_or old.phase) [
+        | inl waited ↦ absurd (omega (arith, h.older.older waited (omega (arith, h.older.some, here)), here))
+        | inr served ↦ answer_in_on (own old) (own new) n a on.grown (h.own served here)
+      ];
+}
+  where
+    begun : s ≤ old.stable
+    begun = omega (arith, h.captured.begun, stored)
 
 -- ---- nothing is logged on what is read
 
@@ -212,7 +262,7 @@ value_on_span : (old new : TcView) (v : Option Bytes) → BothKept old new → G
     → (t : ℕ) (x : OpenTxn) (n : ℕ) (q : Span) → find t new.open_txns ≡ Some x
     → x.reading ≡ Some (record { number = n; span = q }) → IsValue old.log v q → IsValue new.log v q
 value_on_span old new v both on t x n (Key key) found reading h =
-    h ∙ sym (value_stays old new both on.log t x n (Key key) found reading key (within_itself key))
+    h ∙ sym (value_stays old new both on.grown.log t x n (Key key) found reading key (within_itself key))
 value_on_span old new v both on t x n (Range low high) found reading h = h
 
 rows_on_span : (old new : TcView) (rows : List (Bytes × Bytes)) → BothKept old new → GoesOn old new
@@ -223,50 +273,60 @@ rows_on_span old new rows both on t x n (Range low high) found reading h = recor
   table = h.table;
   rows_are = h.rows_are;
   values = λ key within. h.values key within
-      ∙ sym (value_stays old new both on.log t x n (Range low high) found reading key within);
+      ∙ sym (value_stays old new both on.grown.log t x n (Range low high) found reading key within);
 }
 
 -- what was replied of a read that is still waited for
-pub given_on : (old new : TcView) (dc : DcView) → BothKept old new → GoesOn old new → (reply : Reply)
-    → IsGiven old dc reply → IsGiven new dc reply
-given_on old new dc both on (says.Connected s) h = h
-given_on old new dc both on (says.Answered s n a) h = answer_on old new dc s n a on h
-given_on old new dc both on (says.Row s n v) h =
+pub given_on : (old new : TcView) (dc : DcView) (x y : Source) → BothKept old new → GoesOn old new → IsGrown x y
+    → dc.stored ≤ old.stable → (reply : Reply) → IsGiven old dc x reply → IsGiven new dc y reply
+given_on old new dc x y both on grown stored (says.Connected s) h = h
+given_on old new dc x y both on grown stored (says.Answered s n a) h = answer_on old new dc x y s n a on grown stored h
+given_on old new dc x y both on grown stored (says.Row s n v) h =
     told_on old new s n (IsValue old.log v) (IsValue new.log v) on
-    (λ t x q found reading. value_on_span old new v both on t x n q found reading) h
-given_on old new dc both on (says.Rows s n rows) h =
+    (λ t z q found reading. value_on_span old new v both on t z n q found reading) h
+given_on old new dc x y both on grown stored (says.Rows s n rows) h =
     told_on old new s n (AreRows old.log rows) (AreRows new.log rows) on
-    (λ t x q found reading. rows_on_span old new rows both on t x n q found reading) h
-given_on old new dc both on (says.Checkpointed s l) h = h
-given_on old new dc both on (says.RedoEnded s) h = h
+    (λ t z q found reading. rows_on_span old new rows both on t z n q found reading) h
+given_on old new dc x y both on grown stored (says.Checkpointed s l) h = h
+given_on old new dc x y both on grown stored (says.RedoEnded s) h = h
 
--- a leaf that is honest, and has captured stable numbers only, stays so
-honest_to_on : (old new : TcView) → GoesOn old new → (leaf : LeafView) → IsHonestTo old.log old.stable leaf
-    → IsHonestTo new.log new.stable leaf
+-- a leaf that is honest, and has captured sure numbers only, stays so
+honest_to_on : (old new : Source) → IsGrown old new → (leaf : LeafView) → IsHonestTo old.log old.sure leaf
+    → IsHonestTo new.log new.sure leaf
 honest_to_on old new on leaf h = record {
-  honest = extend (λ log. IsHonestLeaf log leaf) old.log new.log on.log (λ r. honest_uncaptured r old.log leaf next)
-      h.honest;
-  within = λ n captured. omega (arith, h.within n captured, on.stable);
-}
-  where
-    next : captures leaf.ab (length old.log + 1) ≡ false
-    next = elim (cases_Bool (captures leaf.ab (length old.log + 1))) [
-      | inl captured ↦ absurd (omega (arith, h.within (length old.log + 1) captured, on.within))
-      | inr uncaptured ↦ uncaptured
-    ]
-
-true_on : (old new : TcView) (v : SystemView) → GoesOn old new → IsTrueTo old v → IsTrueTo new v
-true_on old new v on h = record {
-  leaves = all_from (IsHonestTo old.log old.stable) (IsHonestTo new.log new.stable) (honest_to_on old new on) v.leaves
-      h.leaves;
-  written = have_all (IsHonestTo old.log old.stable) (IsHonestTo new.log new.stable) (honest_to_on old new on)
-      (pages_of v.pages) v.log h.written;
-  low = all_from (IsLowAnswered old) (IsLowAnswered new) (λ leaf. answered_on old new leaf.ab.low on) v.leaves h.low;
-  written_low = have_all (IsLowAnswered old) (IsLowAnswered new) (λ leaf. answered_on old new leaf.ab.low on)
-      (pages_of v.pages) v.log h.written_low;
+  honest = extend (λ log. IsHonestLeaf log leaf) old.log new.log on.log (λ r. honest_uncaptured r old.log leaf
+      (uncaptured_above leaf old.sure (length old.log + 1) h.within (omega (arith, on.within)))) h.honest;
+  within = λ n captured. omega (arith, h.within n captured, on.sure);
 }
 
-performed_on : (old new : TcView) → GoesOn old new → (ps : List Performance)
+low_answered_on : (old new : Source) → IsGrown old new → (leaf : LeafView) → IsLowAnswered old.log old.sure leaf
+    → IsLowAnswered new.log new.sure leaf
+low_answered_on old new on leaf = answered_on old new leaf.ab.low on
+
+pub leaves_on : (old new : Source) → IsGrown old new → (leaves : List LeafView)
+    → AllByRecursion (IsHonestTo old.log old.sure) leaves
+    → AllByRecursion (IsHonestTo new.log new.sure) leaves
+leaves_on old new on leaves =
+    all_from (IsHonestTo old.log old.sure) (IsHonestTo new.log new.sure) (honest_to_on old new on) leaves
+
+pub lows_on : (old new : Source) → IsGrown old new → (leaves : List LeafView)
+    → AllByRecursion (IsLowAnswered old.log old.sure) leaves
+    → AllByRecursion (IsLowAnswered new.log new.sure) leaves
+lows_on old new on leaves =
+    all_from (IsLowAnswered old.log old.sure) (IsLowAnswered new.log new.sure) (low_answered_on old new on) leaves
+
+true_on : (old new : TcView) (x y : Source) (v : SystemView) → IsGrown (own old) (own new) → IsGrown x y
+    → IsTrueTo old x v → IsTrueTo new y v
+true_on old new x y v on grown h = record {
+  leaves = leaves_on x y grown v.leaves h.leaves;
+  low = lows_on x y grown v.leaves h.low;
+  written = have_all (IsHonestTo old.log old.stable) (IsHonestTo new.log new.stable)
+      (honest_to_on (own old) (own new) on) (pages_of v.pages) v.log h.written;
+  written_low = have_all (IsLowAnswered old.log old.stable) (IsLowAnswered new.log new.stable)
+      (low_answered_on (own old) (own new) on) (pages_of v.pages) v.log h.written_low;
+}
+
+pub performed_on : (old new : Source) → IsGrown old new → (ps : List Performance)
     → AllByRecursion (λ (p : Performance). Requests old.log p.number p.op) ps
     → AllByRecursion (λ (p : Performance). Requests new.log p.number p.op) ps
 performed_on old new on ps h =
@@ -275,20 +335,25 @@ performed_on old new on ps h =
     (λ r. request_longer r old.log p.number p.op)) ps h
 
 -- all holds still, where the answers are right and what is answered is captured
-pub keeps_on : (w : NodeView) (tc : TcView) → IsKept w → IsTc tc → GoesOn w.tc tc
-    → AreSessions tc.stable tc.session tc.phase tc.log w.dc → HasRightAnswers tc.log → Captures w.tc tc w.dc
-    → IsChecked tc.checkpointed w.dc.system → IsKept (with_tc w tc)
-keeps_on w tc k is on sessions right captured checked = record {
+pub keeps_on : (w : NodeView) (tc : TcView) (k : IsKept w) (y : Source) → IsTc tc → GoesOn w.tc tc
+    → IsSource tc w.dc.stored y → IsGrown k.source y → AreSessions tc.stable tc.session tc.phase tc.log w.dc
+    → HasRightAnswers tc.log → Captures k.source.log y.log w.dc → IsChecked tc.checkpointed w.dc.system
+    → IsKept (with_tc w tc)
+keeps_on w tc k y is on from grown sessions right captured checked = record {
   tc = is;
   right = right;
   dc = k.dc;
   recoverable = k.recoverable;
-  true_to = true_on w.tc tc w.dc.system on k.true_to;
-  performed = performed_on w.tc tc on w.dc.performed k.performed;
+  source = y;
+  from = from;
+  true_to = true_on w.tc tc k.source y w.dc.system on.grown grown k.true_to;
+  performed = performed_on k.source y grown w.dc.performed k.performed;
   answered = λ may. captured (some_session w.dc may) (k.answered may);
-  sent = all_from (IsSent w.tc w.dc) (IsSent tc w.dc) (sent_on w.tc tc w.dc on captured) w.requests k.sent;
-  given = all_from (IsGiven w.tc w.dc) (IsGiven tc w.dc) (given_on w.tc tc w.dc (record { was = k.tc; now = is }) on)
-      w.replies k.given;
+  sent = all_from (IsSent w.tc w.dc k.source) (IsSent tc w.dc y)
+      (sent_on w.tc tc w.dc k.source y on grown captured (stored_recorded w k)) w.requests k.sent;
+  given = all_from (IsGiven w.tc w.dc k.source) (IsGiven tc w.dc y)
+      (given_on w.tc tc w.dc k.source y (record { was = k.tc; now = is }) on grown (stored_recorded w k)) w.replies
+      k.given;
   sessions = sessions;
   checked = checked;
 }

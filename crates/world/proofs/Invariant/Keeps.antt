@@ -1,5 +1,5 @@
 -- What the transaction component does by itself keeps what holds of a node.
-use Rattle.std.proofs.Common.{◌≡◌, ◌≢◌, ℕ, ◌+◌, ◌<◌, ◌≤◌, Bool, true, false, cond, List, [], ◌∷◌, ◌++◌, length, Some, None, IsSome, is_some, sym, ap, ◌∙◌, subst, inl, inr, true≢false, ne_eqb}
+use Rattle.std.proofs.Common.{◌≡◌, ◌≢◌, ◌⊎◌, ℕ, ◌+◌, ◌<◌, ◌≤◌, Bool, true, false, cond, List, [], ◌∷◌, ◌++◌, length, Some, None, IsSome, is_some, refl, sym, ap, arith, ◌∙◌, subst, inl, inr, true≢false, ne_eqb}
 use Rattle.std.specs.List.{AllByRecursion}
 use Rattle.std.proofs.lemmas.Bool.{cases_eq}
 use Rattle.record_key.specs.declared.op.Op.{Op}
@@ -29,7 +29,10 @@ use Rattle.world.specs.Node.{NodeView, with_tc}
 use Rattle.world.specs.Kept.{IsKept, IsSent, IsGiven, IsServed, AreSessions, AnsweredAreCaptured, AreBefore, AllAreCaptured}
 use Rattle.world.proofs.Invariant.ByNumber.{all_push}
 use Rattle.world.proofs.Machine.Readers.{NoneAnew}
-use Rattle.world.proofs.Invariant.Grows.{IsLater, keeps_on}
+use Rattle.world.specs.Source.{Source, IsWaiting, IsAsking, own}
+use Rattle.world.proofs.Invariant.Grows.{IsLater, IsGrown, GoesOn, Captures, keeps_on}
+use Rattle.world.proofs.Invariant.Running.{stored_recorded}
+use Rattle.world.proofs.Invariant.Sources.{unwaited, of_source, sure_within}
 
 -- a record that neither asks nor answers leaves what is answered captured
 pub still_captured : (w : NodeView) (r : Record) → ((o : Op) → ARequest o (Some r) → ⊥)
@@ -103,41 +106,112 @@ awaited_number w k t o n found some =
     (waits_at w.log o n (open_at w o k (found_own t w.open_txns o found)) some).request in
     step_number w.log n o.txn own.step
 
+-- ---- the transaction component logs a record, or none
+
+-- while it waits it goes on to wait, and logs nothing but a session
+pub record WaitsOn (asking : Type 0) (old new : TcView) : Type 0 where
+  pub asks : asking → IsWaiting new.phase × ((new.log ≡ old.log) ⊎ (new.log ≡ is.Session ∷ old.log))
+  pub waits : IsWaiting new.phase → IsWaiting old.phase ⊎ (old.stable < new.session)
+
+-- what it logs stands above what the source and the log have in common
+asks_on : (stored : ℕ) (x : Source) (old new : TcView) → stored ≤ old.stable → old.stable ≤ new.stable
+    → IsLater old new → WaitsOn (IsAsking old stored x) old new → IsAsking old stored x → IsAsking new stored x
+asks_on stored x old new taken stable session waits h =
+    let a = waits.asks h in record {
+      common = h.common;
+      lost = h.lost;
+      since = (above a.1).0;
+      source_is = h.source_is;
+      log_is = (above a.1).1;
+      count = h.count;
+      stable = omega (arith, h.stable, stable);
+      sessions = (above a.1).2;
+      waits = a.0;
+      later = λ some. elim session [
+        | inl same ↦ omega (arith, same, h.later (omega (arith, some, same)))
+        | inr later ↦ omega (arith, later, taken)
+      ];
+    }
+  where
+    above : (new.log ≡ old.log) ⊎ (new.log ≡ is.Session ∷ old.log)
+        → (since : List Record) × (new.log ≡ since ++ h.common) × AllByRecursion (λ r. r ≡ is.Session) since
+    above (inl same) = (h.since, same ∙ h.log_is, h.sessions)
+    above (inr more) = (
+      is.Session ∷ h.since,
+      more ∙ ap (λ (log : List Record). is.Session ∷ log) h.log_is,
+      (refl, h.sessions),
+    )
+
+abbrev pub Waits : (w : NodeView) → IsKept w → TcView → Type 0
+Waits w k tc = WaitsOn (IsAsking w.tc w.dc.stored k.source) w.tc tc
+
+-- neither phase nor log changes
+pub same_waiting : (w : NodeView) (k : IsKept w) (tc : TcView) → tc.phase ≡ w.tc.phase → tc.log ≡ w.tc.log → Waits w k tc
+same_waiting w k tc same log = record {
+  asks = λ h. (subst IsWaiting (sym same) h.waits, inl log);
+  waits = λ h. inl (subst IsWaiting same h);
+}
+
+-- it doesn't wait
+pub none_waiting : (w : NodeView) (k : IsKept w) (tc : TcView) → (IsWaiting w.tc.phase → ⊥) → (IsWaiting tc.phase → ⊥)
+    → Waits w k tc
+none_waiting w k tc old new = record { asks = λ h. absurd (old h.waits); waits = λ h. absurd (new h) }
+
+-- since it serves clients
+pub serving_on : (w : NodeView) (k : IsKept w) (tc : TcView) → tc.phase ≡ w.tc.phase → is_serving w.tc.phase ≡ true
+    → Waits w k tc
+serving_on w k tc same serves =
+    none_waiting w k tc (unwaited w.tc.phase serves) (λ h. unwaited w.tc.phase serves (subst IsWaiting same h))
+
+-- one record more, or none
+keeps_going : (w : NodeView) (tc : TcView) (k : IsKept w) → IsTc tc → GoesOn w.tc tc → Waits w k tc
+    → AreSessions tc.stable tc.session tc.phase tc.log w.dc → HasRightAnswers tc.log
+    → Captures w.tc.log tc.log w.dc → IsChecked tc.checkpointed w.dc.system → IsKept (with_tc w tc)
+keeps_going w tc k is on waits sessions right captured checked =
+    elim k.from [
+      | inl live ↦
+          keeps_on w tc k (own tc) is on (inl refl)
+          (of_source w.tc k.source (λ (x : Source). IsGrown x (own tc)) live on.grown) sessions right
+          (of_source w.tc k.source (λ (x : Source). Captures x.log tc.log w.dc) live captured) checked
+      | inr asks ↦
+          let within = sure_within w.tc w.dc.stored k.source k.tc.within k.from in
+          keeps_on w tc k k.source is on
+          (inr (asks_on w.dc.stored k.source w.tc tc (stored_recorded w k) on.grown.sure on.session waits asks))
+          (record { within = within; log = inl refl; sure = omega arith; now_within = within }) sessions right
+          (λ some h. h) checked
+    ]
+
 -- one record more
-pub keeps_appended : (w : NodeView) (tc : TcView) (r : Record) → IsKept w → IsTc tc
+pub keeps_appended : (w : NodeView) (tc : TcView) (r : Record) (k : IsKept w) → IsTc tc
     → IsChecked tc.checkpointed w.dc.system → tc.log ≡ r ∷ w.tc.log → w.tc.stable ≤ tc.stable → IsLater w.tc tc
     → w.tc.reads ≤ tc.reads
-    → NoneAnew w.tc.reads w.tc.open_txns tc.open_txns → AreSessions tc.stable tc.session tc.phase tc.log w.dc
-    → HasRightAnswers (r ∷ w.tc.log)
+    → NoneAnew w.tc.reads w.tc.open_txns tc.open_txns → Waits w k tc
+    → AreSessions tc.stable tc.session tc.phase tc.log w.dc → HasRightAnswers (r ∷ w.tc.log)
     → (w.dc.session ≢ 0 → AnsweredAreCaptured w.tc.log w.dc → AnsweredAreCaptured (r ∷ w.tc.log) w.dc)
     → IsKept (with_tc w tc)
-keeps_appended w tc r k is checked log stable session reads none_anew sessions right captured =
-    keeps_on w tc k is (record {
-      within = k.tc.within;
-      now_within = is.within;
-      log = inr (r, log);
-      stable = stable;
+keeps_appended w tc r k is checked log stable session reads none_anew waits sessions right captured =
+    keeps_going w tc k is (record {
+      grown = record { within = k.tc.within; log = inr (r, log); sure = stable; now_within = is.within };
       session = session;
+      waits = waits.waits;
       reads = reads;
       none_anew = none_anew;
-    }) sessions (subst HasRightAnswers (sym log) right)
+    }) waits sessions (subst HasRightAnswers (sym log) right)
     (λ some h. subst (λ (log : List Record). AnsweredAreCaptured log w.dc) (sym log) (captured some h)) checked
 
 -- the same log
-pub keeps_same_log : (w : NodeView) (tc : TcView) → IsKept w → IsTc tc → IsChecked tc.checkpointed w.dc.system
+pub keeps_same_log : (w : NodeView) (tc : TcView) (k : IsKept w) → IsTc tc → IsChecked tc.checkpointed w.dc.system
     → tc.log ≡ w.tc.log → w.tc.stable ≤ tc.stable → IsLater w.tc tc → w.tc.reads ≤ tc.reads
-    → NoneAnew w.tc.reads w.tc.open_txns tc.open_txns → AreSessions tc.stable tc.session tc.phase tc.log w.dc
-    → IsKept (with_tc w tc)
-keeps_same_log w tc k is checked log stable session reads none_anew sessions =
-    keeps_on w tc k is (record {
-      within = k.tc.within;
-      now_within = is.within;
-      log = inl log;
-      stable = stable;
+    → NoneAnew w.tc.reads w.tc.open_txns tc.open_txns → Waits w k tc
+    → AreSessions tc.stable tc.session tc.phase tc.log w.dc → IsKept (with_tc w tc)
+keeps_same_log w tc k is checked log stable session reads none_anew waits sessions =
+    keeps_going w tc k is (record {
+      grown = record { within = k.tc.within; log = inl log; sure = stable; now_within = is.within };
       session = session;
+      waits = waits.waits;
       reads = reads;
       none_anew = none_anew;
-    }) sessions (subst HasRightAnswers (sym log) k.right)
+    }) waits sessions (subst HasRightAnswers (sym log) k.right)
     (λ some h. subst (λ (log : List Record). AnsweredAreCaptured log w.dc) (sym log) h) checked
 
 -- where clients are served both components run in one session, past redo
@@ -175,14 +249,16 @@ logs_on w log k serves = record {
 }
 
 -- messages that were sent and given stand beside it
-keeps_messages : (w : NodeView) (requests : List Request) (replies : List Reply) → IsKept w
-    → AllByRecursion (IsSent w.tc w.dc) requests → AllByRecursion (IsGiven w.tc w.dc) replies
+keeps_messages : (w : NodeView) (requests : List Request) (replies : List Reply) (k : IsKept w)
+    → AllByRecursion (IsSent w.tc w.dc k.source) requests → AllByRecursion (IsGiven w.tc w.dc k.source) replies
     → IsKept (record w { requests = requests; replies = replies })
 keeps_messages w requests replies k sent given = record {
   tc = k.tc;
   right = k.right;
   dc = k.dc;
   recoverable = k.recoverable;
+  source = k.source;
+  from = k.from;
   true_to = k.true_to;
   performed = k.performed;
   answered = k.answered;
@@ -196,15 +272,16 @@ keeps_messages w requests replies k sent given = record {
 abbrev pub with_request : NodeView → Request → NodeView
 with_request w q = record w { requests = w.requests ++ q ∷ [] }
 
-pub keeps_sent : (w : NodeView) (q : Request) → IsKept w → IsSent w.tc w.dc q → IsKept (with_request w q)
+pub keeps_sent : (w : NodeView) (q : Request) (k : IsKept w) → IsSent w.tc w.dc k.source q → IsKept (with_request w q)
 keeps_sent w q k sent = keeps_messages w (w.requests ++ q ∷ []) w.replies k
-    (all_push (IsSent w.tc w.dc) w.requests q k.sent sent) k.given
+    (all_push (IsSent w.tc w.dc k.source) w.requests q k.sent sent) k.given
 
 -- one reply more
 abbrev pub with_reply : NodeView → Reply → NodeView
 with_reply w reply = record w { replies = w.replies ++ reply ∷ [] }
 
-pub keeps_given : (w : NodeView) (reply : Reply) → IsKept w → IsGiven w.tc w.dc reply → IsKept (with_reply w reply)
+pub keeps_given : (w : NodeView) (reply : Reply) (k : IsKept w) → IsGiven w.tc w.dc k.source reply
+    → IsKept (with_reply w reply)
 keeps_given w reply k given =
     keeps_messages w w.requests (w.replies ++ reply ∷ []) k k.sent
-    (all_push (IsGiven w.tc w.dc) w.replies reply k.given given)
+    (all_push (IsGiven w.tc w.dc k.source) w.replies reply k.given given)

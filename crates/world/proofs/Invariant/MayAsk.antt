@@ -17,28 +17,31 @@ use Rattle.dc_core.specs.DcView.{leaves}
 use Rattle.dc_core.specs.Serves.{MayAsk}
 use Rattle.world.specs.Node.{NodeView}
 use Rattle.world.specs.Kept.{IsKept, IsSent}
+use Rattle.world.proofs.Invariant.Running.{let_runs}
 
-module _ (w : NodeView) (k : IsKept w) (n : ℕ) (o : Op) (requests : Requests w.tc.log n o) where
-  one : (m : ℕ) (p : Op) → Requests w.tc.log m p → m ≡ n → p ≡ o
-  one m p asks same = one_request w.tc.log n o p requests (subst (λ (z : ℕ). Requests w.tc.log z p) same asks)
+module _ (w : NodeView) (k : IsKept w) (n : ℕ) (o : Op) (requests : Requests k.source.log n o) where
+  one : (m : ℕ) (p : Op) → Requests k.source.log m p → m ≡ n → p ≡ o
+  one m p asks same = one_request k.source.log n o p requests (subst (λ (z : ℕ). Requests k.source.log z p) same asks)
 
   listed : AllByRecursion (λ (p : Performance). p.number ≡ n → key_of p.op ≡ key_of o) w.dc.performed
-  listed = all_from (λ (p : Performance). Requests w.tc.log p.number p.op)
+  listed = all_from (λ (p : Performance). Requests k.source.log p.number p.op)
       (λ (p : Performance). p.number ≡ n → key_of p.op ≡ key_of o)
       (λ p asks same. ap key_of (one p.number p.op asks same)) w.dc.performed k.performed
 
   saved : AllByRecursion (λ (leaf : LeafView). AllByRecursion (λ (e : Entry). e.number ≡ n → e.key ≡ key_of o)
       leaf.ab.entries) (leaves w.dc)
-  saved = all_from (IsHonestTo w.tc.log w.tc.stable)
+  saved = all_from (IsHonestTo k.source.log k.source.sure)
       (λ (leaf : LeafView). AllByRecursion (λ (e : Entry). e.number ≡ n → e.key ≡ key_of o) leaf.ab.entries)
-      (λ leaf h. all_from (IsSavedRight w.tc.log) (λ (e : Entry). e.number ≡ n → e.key ≡ key_of o)
+      (λ leaf h. all_from (IsSavedRight k.source.log) (λ (e : Entry). e.number ≡ n → e.key ≡ key_of o)
       (λ e right same. sym right.on_key ∙ ap key_of (one e.number right.op right.requests same)) leaf.ab.entries
       h.honest.saved) (leaves w.dc) k.true_to.leaves
 
-pub may_ask : (w : NodeView) (q : Request) → IsKept w → IsSent w.tc w.dc q → MayAsk w.dc q
+pub may_ask : (w : NodeView) (q : Request) (k : IsKept w) → IsSent w.tc w.dc k.source q → MayAsk w.dc q
 may_ask w (asks.Connect s) k sent = tt
 may_ask w (asks.Perform s n o) k sent =
-    λ running. record { listed = listed w k n o sent.1; saved = saved w k n o sent.1 }
+    λ allowed.
+    let next = sent.1.holds (let_runs w.dc s allowed) in
+    record { listed = listed w k n o next.requests; saved = saved w k n o next.requests }
 may_ask w (asks.Get s n key) k sent = tt
 may_ask w (asks.Scan s n low high) k sent = tt
 may_ask w (asks.LowWater s l) k sent = tt

@@ -1,5 +1,5 @@
 -- A new number is performed, which keeps what holds of a node.
-use Rattle.std.proofs.Common.{◌≡◌, ℕ, true, false, List, Option, Some, IfSome, refl, sym, ◌∙◌, subst, arith, inl, inr, eqb-true}
+use Rattle.std.proofs.Common.{◌≡◌, ℕ, true, false, List, Some, refl, sym, ◌∙◌, subst, arith, inl, inr, eqb-true}
 use Rattle.std.specs.Prelude.{◌==◌}
 use Rattle.std.proofs.lemmas.Bool.{or_cases, cases_eq}
 use Rattle.record_key.specs.declared.op.Op.{Op}
@@ -7,7 +7,6 @@ use Rattle.record_key.specs.Table.{key_of, answer_in}
 use Rattle.history.specs.declared.record.Record.{Record}
 use Rattle.history.specs.Log.{Requests}
 use Rattle.codec.specs.declared.request.Request.TheVariants as asks
-use Rattle.codec.specs.declared.reply.Reply.{Reply}
 use Rattle.codec.specs.declared.reply.Reply.TheVariants as says
 use Rattle.ab_lsn.specs.AbLsn.{captures}
 use Rattle.ab_lsn.proofs.Capturing.{noted_captures}
@@ -25,103 +24,130 @@ use Rattle.dc_core.specs.Serves.{performs, runs}
 use Rattle.dc_core.specs.Kept.{IsDc}
 use Rattle.tc_core.specs.declared.phase.Phase.{Phase}
 use Rattle.tc_core.specs.declared.phase.Phase.TheVariants as phase
-use Rattle.world.specs.Node.{NodeView, with_dc}
-use Rattle.world.specs.Kept.{IsKept, IsSent, IsGiven, IsServed, IsTrueTo, IsLowAnswered}
+use Rattle.world.specs.Node.{NodeView}
+use Rattle.world.specs.Kept.{IsKept, IsNext, IsSent, IsAnswerIn, IsServed, IsTrueTo, IsLowAnswered}
+use Rattle.world.specs.Source.{Source, IsWaiting, own}
 use Rattle.world.proofs.Invariant.AtKeys.{own_leaf}
-use Rattle.world.proofs.Invariant.Carries.{Carries, keeps_dc}
+use Rattle.world.proofs.Invariant.Sources.{live, run_live, of_log}
+use Rattle.world.proofs.Invariant.Carries.{Carries, replied, keeps_dc}
 
--- what came of a request
-pub record KeepsServing (w : NodeView) (reply : Option Reply) (dc : DcView) : Type 0 where
-  pub kept : IsKept (with_dc w dc)
-  pub given : IfSome reply (IsGiven w.tc dc)
-
--- the same session runs, as far past its redo, and no request's number was lost
+-- the same session runs, as far past its redo, and no request's number was lost, where redo goes by them
 pub served_alike : (at : Phase) (session : ℕ) (log : List Record) (old new : DcView) → new.stored ≡ old.stored
     → new.session ≡ old.session → new.redo ≡ old.redo
-    → ((n : ℕ) (o : Op) → Requests log n o → captures_at old (key_of o) n ≡ true → captures_at new (key_of o) n ≡ true)
+    → ((IsWaiting at → ⊥) → (n : ℕ) (o : Op) → Requests log n o → captures_at old (key_of o) n ≡ true
+    → captures_at new (key_of o) n ≡ true)
     → IsServed at session log old → IsServed at session log new
 served_alike phase.Unconnected session log old new stored same past captured h = tt
 served_alike phase.Connecting session log old new stored same past captured h = h
-served_alike (phase.Redoing next ending) session log old new stored same past captured h =
-    (h.0, stored ∙ h.1, λ runs n o asks below. captured n o asks (h.2 (sym same ∙ runs) n o asks below))
+served_alike (phase.Redoing next ending) session log old new stored same past captured h = (
+  h.0,
+  stored ∙ h.1,
+  λ runs n o asks below. captured (λ waits. waits) n o asks (h.2 (sym same ∙ runs) n o asks below),
+)
 served_alike (phase.Undoing waiting) session log old new stored same past captured h =
     (stored ∙ h.0, λ runs. past ∙ h.1 (sym same ∙ runs))
 served_alike phase.Running session log old new stored same past captured h =
     (stored ∙ h.0, λ runs. past ∙ h.1 (sym same ∙ runs))
 
+-- so what carries on the requests of the source does those of the log
+pub served_carried : (w : NodeView) (k : IsKept w) (dc : DcView) → dc.session ≡ w.dc.session → dc.redo ≡ w.dc.redo
+    → Carries k.source.log w.dc dc → IsServed w.tc.phase w.tc.session w.tc.log dc
+served_carried w k dc same past c =
+    served_alike w.tc.phase w.tc.session w.tc.log w.dc dc c.stored same past
+    (λ unwaiting.
+    of_log w.tc k.source
+    (λ (x : Source). (n : ℕ) (o : Op) → Requests x.log n o → captures_at w.dc (key_of o) n ≡ true
+    → captures_at dc (key_of o) n ≡ true)
+    (live w k unwaiting) c.captured) k.sessions.served
+
 -- a new number is the next on its key
 module _ (w : NodeView) (s n : ℕ) (o : Op) (k : IsKept w) (is : IsDc (performs w.dc n o))
     (recoverable : IsRecoverable (performs w.dc n o).system) (checks : Checks w.dc.system (performs w.dc n o).system)
     (running : runs w.dc s ≡ true)
-    (sent : IsSent w.tc w.dc (asks.Perform s n o)) (new : captures_at w.dc (key_of o) n ≡ false) where
+    (sent : IsSent w.tc w.dc k.source (asks.Perform s n o)) (new : captures_at w.dc (key_of o) n ≡ false) where
+  abbrev x : Source
+  x = k.source
+
   abbrev old : LeafView
   old = leaf_at (leaves w.dc) (key_of o)
 
   abbrev leaf : LeafView
   leaf = performed old n o
 
-  next_on : IsNextOn w.tc.log old n o
+  next : IsNext x w.dc n o
+  next = sent.1.holds running
+
+  next_on : IsNextOn x.log old n o
   next_on = record {
-    requests = sent.1;
+    requests = next.requests;
     within = within_at (leaves w.dc) (key_of o) k.dc.system.leaves;
     uncaptured = new;
-    others = λ m q asks same below. sent.2.holds running m q asks below same;
+    others = λ m q asks on below. next.earlier m q asks below on;
   }
 
   captures_it : captures_at (performs w.dc n o) (key_of o) n ≡ true
   captures_it = captured_performed (leaves w.dc) k.dc.system.leaves n o
 
-  captures_more : (m : ℕ) (p : Op) → Requests w.tc.log m p → captures_at w.dc (key_of p) m ≡ true
+  captures_more : (m : ℕ) (p : Op) → Requests x.log m p → captures_at w.dc (key_of p) m ≡ true
       → captures_at (performs w.dc n o) (key_of p) m ≡ true
   captures_more m p asks h = elim (cases_eq m n) [
     | inl same ↦
-        let one : p ≡ o = one_request w.tc.log n o p sent.1 (subst (λ (z : ℕ). Requests w.tc.log z p) same asks) in
+        let one : p ≡ o = one_request x.log n o p next.requests (subst (λ (z : ℕ). Requests x.log z p) same asks) in
         rw (same, one) captures_it
     | inr apart ↦ captured_not_performed (leaves w.dc) k.dc.system.leaves n o (key_of p) m apart ∙ h
   ]
 
-  carries : Carries w (performs w.dc n o)
+  carries : Carries x.log w.dc (performs w.dc n o)
   carries = record {
-    captured = λ some. captures_more;
-    stored = omega arith;
-    ran = λ t begun r. r;
-    past = λ t begun r past. past;
+    captured = captures_more;
+    stored = refl;
+    ran = λ t r. r;
+    past = λ past. past;
     checks = checks;
   }
 
-  honest_to : IsHonestTo w.tc.log w.tc.stable leaf
+  honest_to : IsHonestTo x.log x.sure leaf
   honest_to = record {
-    honest = honest_performed w.tc.log old n o (own_leaf w (key_of o) k).honest next_on;
+    honest = honest_performed x.log old n o (own_leaf w (key_of o) k).honest next_on;
     within = λ m h. elim (or_cases (captures old.ab m) (m == n)
         (sym (noted_captures old.ab n (key_of o) (answer_in old.rows o) m) ∙ h)) [
           | inl before ↦ (own_leaf w (key_of o) k).within m before
-          | inr it ↦ omega (arith, eqb-true m n it, sent.0)
+          | inr it ↦ omega (arith, eqb-true m n it, next.sure)
         ];
   }
 
-  true_to : IsTrueTo w.tc (performs w.dc n o).system
+  true_to : IsTrueTo w.tc x (performs w.dc n o).system
   true_to = record {
-    leaves = all_changed (IsHonestTo w.tc.log w.tc.stable) (key_of o) (λ (l : LeafView). performed l n o) (leaves w.dc)
+    leaves = all_changed (IsHonestTo x.log x.sure) (key_of o) (λ (l : LeafView). performed l n o) (leaves w.dc)
         (λ was. honest_to) k.true_to.leaves;
+    low = all_changed (IsLowAnswered x.log x.sure) (key_of o) (λ (l : LeafView). performed l n o) (leaves w.dc)
+        (λ low. low) k.true_to.low;
     written = k.true_to.written;
-    low = all_changed (IsLowAnswered w.tc) (key_of o) (λ (l : LeafView). performed l n o) (leaves w.dc) (λ low. low)
-        k.true_to.low;
     written_low = k.true_to.written_low;
   }
 
-  pub performs_next : KeepsServing w (Some (says.Answered s n (Some (answer_in old.rows o)))) (performs w.dc n o)
-  performs_next = record {
-    kept = keeps_dc w (performs w.dc n o) k is carries recoverable true_to (sent.1, k.performed) k.answered
-        (record {
-          begun = k.sessions.begun;
-          served = served_alike w.tc.phase w.tc.session w.tc.log w.dc (performs w.dc n o) refl refl refl captures_more
-              k.sessions.served;
-        });
-    given = record {
-      op = o;
-      requests = sent.1;
-      stable = sent.0;
-      answer = right_answer w.tc.log old n o (own_leaf w (key_of o) k).honest next_on;
-      captured = record { begun = sent.2.begun; holds = λ r. captures_it };
-    };
-  }
+  -- its answer is the log's, where that session is the transaction component's
+  own_answer : s ≡ w.tc.session → IsAnswerIn (own w.tc) n (Some (answer_in old.rows o))
+  own_answer same = of_log w.tc x (λ (y : Source). IsAnswerIn y n (Some (answer_in old.rows o)))
+      (run_live w s k running same)
+      (record {
+        op = o;
+        requests = next.requests;
+        sure = next.sure;
+        answer = right_answer x.log old n o (own_leaf w (key_of o) k).honest next_on;
+      })
+
+  pub performs_next : IsKept
+      (replied w (performs w.dc n o) (Some (says.Answered s n (Some (answer_in old.rows o)))))
+  performs_next =
+      keeps_dc w (performs w.dc n o) k carries (Some (says.Answered s n (Some (answer_in old.rows o))))
+      (record {
+        older = sent.0;
+        captured = record {
+          begun = sent.1.begun;
+          holds = λ r. record { op = o; requests = next.requests; captured = captures_it };
+        };
+        own = λ unwaiting same. own_answer same;
+      })
+      is recoverable true_to (next.requests, k.performed) k.answered
+      (record { begun = k.sessions.begun; served = served_carried w k (performs w.dc n o) refl refl carries })

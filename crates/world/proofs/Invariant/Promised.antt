@@ -21,6 +21,8 @@ use Rattle.world.specs.Kept.{IsKept}
 use Rattle.world.specs.Node.{NodeView}
 use Rattle.world.specs.Promises.{IsNoneRefused, Promises}
 use Rattle.world.specs.Simulation.{clients}
+use Rattle.dc_core.specs.DcView.{leaves}
+use Rattle.world.proofs.Invariant.Trees.{honest_all_now}
 use Rattle.world.proofs.Restarts.Crashes.{crash_true}
 use Rattle.world.proofs.Machine.Settled.{calm, settled_rows}
 
@@ -57,7 +59,7 @@ none_refused log legal right n t u x i a at answered =
 pub promised : (w : NodeView) → IsKept w → Promises w
 promised w k = record {
   honest = record {
-    cached = k.true_to.leaves;
+    cached = honest_all_now w k (leaves w.dc) k.true_to.leaves;
     written = k.true_to.written;
     recovered = λ n le. (crash_true w n k le).leaves;
   };

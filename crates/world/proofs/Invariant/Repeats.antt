@@ -14,8 +14,12 @@ use Rattle.record_key.specs.Entries.{numbers}
 use Rattle.page.specs.Honest.{IsSavedRight}
 use Rattle.btree.specs.Leaves.{leaf_at}
 use Rattle.dc_core.specs.DcView.{leaves, captures_at}
+use Rattle.page.specs.Leaf.{LeafView}
 use Rattle.world.specs.Node.{NodeView}
-use Rattle.world.specs.Kept.{IsKept, IsSent, IsRightOrNone, IsAnswered}
+use Rattle.dc_core.specs.Serves.{runs}
+use Rattle.world.specs.Kept.{IsKept, IsNext, IsSent, IsRightOrNone, IsAnswerIn, IsAnswered}
+use Rattle.world.specs.Source.{Source}
+use Rattle.world.proofs.Invariant.Sources.{of_log, run_live}
 use Rattle.world.proofs.Invariant.Announced.{answered_less}
 use Rattle.world.proofs.Invariant.AtKeys.{own_leaf, own_low}
 
@@ -56,24 +60,38 @@ unsaved_low v n captured none = pick (nat_le n v.low) refl captured
     pick false above h = absurd (not_listed n v.entries none h)
 
 -- a captured number is answered as it was
-pub repeated : (w : NodeView) (s n : ℕ) (o : Op) → IsKept w → IsSent w.tc w.dc (asks.Perform s n o)
-    → captures_at w.dc (key_of o) n ≡ true
-    → IsAnswered w.tc w.dc s n (saved_in (leaf_at (leaves w.dc) (key_of o)).ab.entries n)
-repeated w s n o k sent captured = record {
-  op = o;
-  requests = sent.1;
-  stable = sent.0;
-  answer = by (saved_in (leaf_at (leaves w.dc) (key_of o)).ab.entries n) refl;
-  captured = record { begun = sent.2.begun; holds = λ r. captured };
-}
-  where
-    by_parts : (m : ℕ) (b a : Answer) → m ≡ n → b ≡ a → IsRight w.tc.log m b → IsRight w.tc.log n a
-    by_parts m b a same answer right = rw (← same, ← answer) right
+module _ (w : NodeView) (s n : ℕ) (o : Op) (k : IsKept w) (sent : IsSent w.tc w.dc k.source (asks.Perform s n o))
+    (running : runs w.dc s ≡ true) (captured : captures_at w.dc (key_of o) n ≡ true) where
+  abbrev x : Source
+  x = k.source
 
-    by : (a : Option Answer) → saved_in (leaf_at (leaves w.dc) (key_of o)).ab.entries n ≡ a → IsRightOrNone w.tc n a
-    by None none = answered_less w.tc n (leaf_at (leaves w.dc) (key_of o)).ab.low
-        (unsaved_low (leaf_at (leaves w.dc) (key_of o)).ab n captured none) (own_low w (key_of o) k)
-    by (Some a) found =
-        let f = saved_found (IsSavedRight w.tc.log) n a (leaf_at (leaves w.dc) (key_of o)).ab.entries
-        (own_leaf w (key_of o) k).honest.saved found in
-        by_parts f.entry.number f.entry.answer a f.number f.answer f.holds.right
+  abbrev leaf : LeafView
+  leaf = leaf_at (leaves w.dc) (key_of o)
+
+  abbrev saved : Option Answer
+  saved = saved_in leaf.ab.entries n
+
+  next : IsNext x w.dc n o
+  next = sent.1.holds running
+
+  by_parts : (m : ℕ) (b a : Answer) → m ≡ n → b ≡ a → IsRight x.log m b → IsRight x.log n a
+  by_parts m b a same answer right = rw (← same, ← answer) right
+
+  right : (a : Option Answer) → saved ≡ a → IsRightOrNone x n a
+  right None none =
+      answered_less x.log x.sure n leaf.ab.low (unsaved_low leaf.ab n captured none) (own_low w (key_of o) k)
+  right (Some a) found =
+      let f = saved_found (IsSavedRight x.log) n a leaf.ab.entries (own_leaf w (key_of o) k).honest.saved found in
+      by_parts f.entry.number f.entry.answer a f.number f.answer f.holds.right
+
+  pub repeated : IsAnswered w.tc w.dc x s n saved
+  repeated = record {
+    older = sent.0;
+    captured = record {
+      begun = sent.1.begun;
+      holds = λ r. record { op = o; requests = next.requests; captured = captured };
+    };
+    own = λ unwaiting same.
+        of_log w.tc x (λ (y : Source). IsAnswerIn y n saved) (run_live w s k running same)
+        (record { op = o; requests = next.requests; sure = next.sure; answer = right saved refl });
+  }

@@ -41,15 +41,17 @@ use Rattle.world.specs.declared.event.Event.TheVariants as event
 use Rattle.world.specs.declared.event.Out.{Out}
 use Rattle.world.specs.declared.event.Out.TheVariants as out
 use Rattle.world.specs.Node.{NodeView, with_tc, ReconnectsTo, RecoversTo, SendsTo, LowersTo, AsksCheckpoint}
-use Rattle.world.specs.Kept.{IsKept, IsReadTrue, IsSent, IsServed, AreSessions, AreBefore, AllAreCaptured, EarlierAreCaptured}
+use Rattle.world.specs.Kept.{IsKept, IsAnsweredBy, IsReadTrue, InSession, IsNext, IsSent, IsServed, AreSessions, AreBefore, AllAreCaptured, AnsweredAreCaptured, EarlierAreCaptured}
+use Rattle.world.specs.Source.{Source, IsWaiting, own}
+use Rattle.world.proofs.Invariant.AtKeys.{answered_captured}
+use Rattle.world.proofs.Invariant.Sources.{unwaited, live, run_live, of_source}
 use Rattle.world.specs.Simulation.{Stands, clients, told_committed}
 use Rattle.world.proofs.Invariant.CallsKeep.{reconnect_keeps, session_keeps, recover_keeps, low_water_keeps, checkpoint_keeps}
 use Rattle.world.proofs.Machine.Standing.{stands_logged, stands_reconnected, stands_lost_compensated, stands_lost_ended}
-use Rattle.world.proofs.Invariant.Grows.{GoesOn, sent_on}
 use Rattle.tc_core.proofs.KeepsTc.{reading_at}
 use Rattle.world.proofs.Machine.Readers.{none_same}
-use Rattle.world.proofs.Machine.Idle.{both_none, serves_open}
-use Rattle.world.proofs.Invariant.Keeps.{still_captured, asked_captured, quiet_served, served_so, keeps_appended, keeps_same_log, with_request, keeps_sent, IsPastRedo, past_redo}
+use Rattle.world.proofs.Machine.Idle.{both_none, serves_open, serves_clients}
+use Rattle.world.proofs.Invariant.Keeps.{still_captured, asked_captured, quiet_served, served_so, same_waiting, none_waiting, keeps_appended, keeps_same_log, with_request, keeps_sent, IsPastRedo, past_redo}
 use Rattle.world.proofs.Invariant.Running.{run_is, past_is}
 use Rattle.world.proofs.Machine.Follows.{Follows, at_new, at_tc, no_line, one_line, unchanged, left_refused, kept_left, keeps_used, stands_left}
 
@@ -65,6 +67,7 @@ begins w k after =
     (λ e. let none : ARequest o (Some is.Session) = newest_at (ARequest o) is.Session w.tc.log n e asks in cc) asks) in
     keeps_appended w (reconnected w.tc) is.Session k after k.checked refl (omega (arith, k.tc.within))
     (inr (omega (arith, k.tc.within))) (omega arith) (none_same w.tc.reads w.tc.open_txns)
+    (record { asks = λ h. (tt, inr refl); waits = λ h. inr (omega (arith, k.tc.within)) })
     (record {
       begun = record {
         recorded = omega (arith, k.sessions.begun.recorded, k.tc.within);
@@ -79,6 +82,7 @@ logs_session : (w : NodeView) → IsKept w → IsTc (logged_session w.tc) → Is
 logs_session w k after =
     keeps_appended w (logged_session w.tc) is.Session k after k.checked refl (omega arith) (inl refl) (omega arith)
     (none_same w.tc.reads w.tc.open_txns)
+    (record { asks = λ h. (h.waits, inr refl); waits = λ h. inl h })
     (record {
       begun = k.sessions.begun;
       served = quiet_served w.tc.phase w.tc.session is.Session w.tc.log w.dc (λ o h. cc) k.sessions.served;
@@ -139,6 +143,11 @@ pub redo_served : (w : NodeView) (next : ℕ) (ending : Bool) → IsKept w → w
 redo_served w next ending k at = let P : Phase → Type 0 = λ p. IsServed p w.tc.session w.tc.log w.dc in
     subst P at k.sessions.served
 
+-- in redo the transaction component doesn't wait
+redo_unwaiting : (w : NodeView) (next : ℕ) (ending : Bool) → w.tc.phase ≡ phase.Redoing next ending
+    → IsWaiting w.tc.phase → ⊥
+redo_unwaiting w next ending at waits = subst IsWaiting at waits
+
 -- redo stands at a number up to the session's
 pub keeps_redoing : (w : NodeView) (next : ℕ) (was : Bool) (n : ℕ) (ending : Bool) → IsKept w
     → w.tc.phase ≡ phase.Redoing next was → IsTc (redoing w.tc n ending)
@@ -147,14 +156,15 @@ keeps_redoing w next was n ending k at tc captured =
     let was_served = redo_served w next was k at in
     keeps_same_log w (redoing w.tc n ending) k tc k.checked refl (omega arith) (inl refl) (omega arith)
     (none_same w.tc.reads w.tc.open_txns)
+    (none_waiting w k (redoing w.tc n ending) (redo_unwaiting w next was at) (λ waits. waits))
     (record { begun = k.sessions.begun; served = (was_served.0, was_served.1, captured) })
 
 -- the place of redo, and what it sends
-pub record IsRedo (w : NodeView) (found : Option (ℕ × Op)) : Type 0 where
+pub record IsRedo (w : NodeView) (x : Source) (found : Option (ℕ × Op)) : Type 0 where
   pub some : 0 < redo_place w.tc.session found
   pub most : redo_place w.tc.session found ≤ w.tc.session
   pub captured : w.dc.session ≡ w.tc.session → AllAreCaptured w.tc.log w.dc (redo_place w.tc.session found)
-  pub sent : IsSent w.tc w.dc (redo_request w.tc.session found)
+  pub sent : IsSent w.tc w.dc x (redo_request w.tc.session found)
 
 -- nothing is asked for between the two
 all_further : (w : NodeView) (next n : ℕ) → AsksNothing w.tc.log next n → AllAreCaptured w.tc.log w.dc next
@@ -164,9 +174,9 @@ all_further w next n nothing all m o asks below = elim (cases_lt m next) [
   | inr from ↦ absurd (nothing m o from below asks)
 ]
 
-pub redo_found : (w : NodeView) (next : ℕ) (ending : Bool) (found : Option (ℕ × Op)) → IsKept w
+pub redo_found : (w : NodeView) (next : ℕ) (ending : Bool) (found : Option (ℕ × Op)) (k : IsKept w)
     → w.tc.phase ≡ phase.Redoing next ending → 0 < next → next ≤ w.tc.session
-    → FindsRequest w.tc.log next w.tc.session found → IsRedo w found
+    → FindsRequest w.tc.log next w.tc.session found → IsRedo w k.source found
 redo_found w next ending None k at some most h =
     let served = redo_served w next ending k at in
     let captured : w.dc.session ≡ w.tc.session → AllAreCaptured w.tc.log w.dc w.tc.session =
@@ -177,11 +187,14 @@ redo_found w next ending None k at some most h =
       captured = captured;
       sent = record {
         begun = omega (arith, served.1);
-        holds = λ r n o asks answered. captured (run_is w.dc w.tc.session r).is n o asks (served.0 n o asks);
+        holds = λ r. of_source w.tc k.source (λ (x : Source). AnsweredAreCaptured x.log w.dc)
+            (live w k (redo_unwaiting w next ending at))
+            (λ n o asks answered. captured (run_is w.dc w.tc.session r).is n o asks (served.0 n o asks));
       };
     }
 redo_found w next ending (Some x) k at some most h =
     let served = redo_served w next ending k at in
+    let unwaiting = redo_unwaiting w next ending at in
     let captured : w.dc.session ≡ w.tc.session → AllAreCaptured w.tc.log w.dc x.0 =
     λ runs. all_further w next x.0 h.3 (served.2 runs) in
     record {
@@ -189,12 +202,16 @@ redo_found w next ending (Some x) k at some most h =
       most = omega (arith, h.1);
       captured = captured;
       sent = (
-        omega (arith, h.1, k.tc.session),
-        h.2,
+        record { some = omega (arith, some, most); older = λ waits. absurd (unwaiting waits) },
         record {
           begun = omega (arith, served.1);
-          holds = λ r m o asks below on. inl (subst (λ (z : Bytes). captures_at w.dc z m ≡ true) on
-              (captured (run_is w.dc w.tc.session r).is m o asks below));
+          holds = λ r. of_source w.tc k.source (λ (y : Source). IsNext y w.dc x.0 x.1) (live w k unwaiting)
+              (record {
+                sure = omega (arith, h.1, k.tc.session);
+                requests = h.2;
+                earlier = λ m o asks below on. inl (subst (λ (z : Bytes). captures_at w.dc z m ≡ true) on
+                    (captured (run_is w.dc w.tc.session r).is m o asks below));
+              });
         },
       );
     }
@@ -205,10 +222,10 @@ redoing_phase w next ending k at =
     let P : Phase → Type 0 = IsPhase w.tc.checkpointed w.tc.session in let h = subst P at k.tc.phase in (h.0, h.1)
 
 -- what is sent past redo: the earlier requests on its key are answered, so captured, unless both are Adds
-earlier_captured : (w : NodeView) (n : ℕ) (o : Op) → IsKept w → IsPastRedo w → Requests w.tc.log n o
-    → runs w.dc w.tc.session ≡ true
+earlier_captured : (w : NodeView) (n : ℕ) (o : Op) (k : IsKept w) → k.source ≡ own w.tc → IsPastRedo w
+    → Requests w.tc.log n o → runs w.dc w.tc.session ≡ true
     → EarlierAreCaptured w.tc.log w.dc n o
-earlier_captured w n o k past_redo asks r m p earlier below on =
+earlier_captured w n o k live past_redo asks r m p earlier below on =
     let run = run_is w.dc w.tc.session r in
     let past = past_is w.dc w.tc.session run.some run.is (past_redo.past run.is) in
     elim (one_at_a_time w.tc.log k.tc.legal m n p o earlier below asks (sym on)) [
@@ -217,20 +234,27 @@ earlier_captured w n o k past_redo asks r m p earlier below on =
         adds_request w.tc.log m p k.tc.legal k.right earlier ∙ both.0,
       )
       | inr answered ↦ inl (subst (λ (z : Bytes). captures_at w.dc z m ≡ true) on
-          (k.answered past m p earlier
+          (answered_captured w k live past m p earlier
           (since (λ x. IsSome (answer_of x m)) (answered_push m) w.tc.log n answered)))
     ]
 
-sent_past : (w : NodeView) (n : ℕ) (o : Op) → IsKept w → IsPastRedo w → n ≤ w.tc.stable → Requests w.tc.log n o
-    → IsSent w.tc w.dc (asks.Perform w.tc.session n o)
-sent_past w n o k past stable requests = (
-  stable,
-  requests,
-  record {
-    begun = omega (arith, past.stored);
-    holds = λ runs. earlier_captured w n o k past requests runs;
-  },
-)
+sent_past : (w : NodeView) (n : ℕ) (o : Op) (k : IsKept w) → is_serving w.tc.phase ≡ true → n ≤ w.tc.stable
+    → Requests w.tc.log n o → IsSent w.tc w.dc k.source (asks.Perform w.tc.session n o)
+sent_past w n o k serves stable requests =
+    let past = past_redo w k serves in
+    let unwaiting = unwaited w.tc.phase serves in
+    let own_log = live w k unwaiting in (
+      record { some = past.some; older = λ waits. absurd (unwaiting waits) },
+      record {
+        begun = omega (arith, past.stored);
+        holds = λ runs. of_source w.tc k.source (λ (x : Source). IsNext x w.dc n o) own_log
+            (record {
+              sure = stable;
+              requests = requests;
+              earlier = earlier_captured w n o k own_log past requests runs;
+            });
+      },
+    )
 
 -- what recovery sends, by its phase
 pub recovers : (old new : NodeView) (q : Request) (p : Phase) → old.tc.phase ≡ p → IsKept old
@@ -241,7 +265,7 @@ recovers old new q phase.Unconnected at k h after left = absurd h
 recovers old new q phase.Connecting at k h after left =
     let same : new ≡ with_request old q =
     left ∙ ap (λ tc. record old { tc = tc; requests = old.requests ++ q ∷ [] }) h.1 in
-    let P : Request → Type 0 = IsSent old.tc old.dc in (
+    let P : Request → Type 0 = IsSent old.tc old.dc k.source in (
       subst IsKept (sym same)
           (keeps_sent old q k (subst P (sym h.0) (record { recorded = k.tc.session; most = λ some. omega arith }))),
       λ m stands. subst (λ x. StandsFor (clients x) m) (sym h.1) stands,
@@ -251,35 +275,22 @@ recovers old new q (phase.Redoing next ending) at k h after left =
     let sent_end : Bool = not (is_some h.found) in
     let bounds = redoing_phase old next ending k at in
     let redo = redo_found old next ending h.found k at (omega (arith, bounds.0)) bounds.1 h.finds in
-    let mid : NodeView = with_tc old (redoing old.tc place sent_end) in
-    let same : new ≡ with_request mid q =
+    let mid : NodeView = with_request old q in
+    let same : new ≡ with_tc mid (redoing old.tc place sent_end) =
     left ∙ ap (λ tc. record old { tc = tc; requests = old.requests ++ q ∷ [] }) h.left in
-    let P : Request → Type 0 = IsSent old.tc old.dc in (
+    let P : Request → Type 0 = IsSent old.tc old.dc k.source in (
       subst IsKept (sym same)
-          (keeps_sent mid q (keeps_redoing old next ending place sent_end k at (subst IsTc h.left after) redo.captured)
-          (sent_on old.tc (redoing old.tc place sent_end) old.dc (stays old place sent_end k) (λ some all. all) q
-          (subst P (sym h.request_is) redo.sent))),
+          (keeps_redoing mid next ending place sent_end (keeps_sent old q k (subst P (sym h.request_is) redo.sent)) at
+          (subst IsTc h.left after) redo.captured),
       λ m stands. subst (λ x. StandsFor (clients x) m) (sym h.left) stands,
     )
-  where
-    stays : (w : NodeView) (n : ℕ) (e : Bool) → IsKept w → GoesOn w.tc (redoing w.tc n e)
-    stays w n e k = record {
-      within = k.tc.within;
-      now_within = k.tc.within;
-      log = inl refl;
-      stable = omega arith;
-      session = inl refl;
-      reads = omega arith;
-      none_anew = none_same w.tc.reads w.tc.open_txns;
-    }
 recovers old new q (phase.Undoing None) at k h after left = absurd h
 recovers old new q (phase.Undoing (Some n)) at k h after left =
     let same : new ≡ with_request old q =
     left ∙ ap (λ tc. record old { tc = tc; requests = old.requests ++ q ∷ [] }) h.unchanged in
-    let P : Request → Type 0 = IsSent old.tc old.dc in
-    let past = past_redo old k (ap is_serving at) in (
+    let P : Request → Type 0 = IsSent old.tc old.dc k.source in (
       subst IsKept (sym same) (keeps_sent old q k
-          (subst P (sym h.request_is) (sent_past old n h.op k past h.stable h.requests))),
+          (subst P (sym h.request_is) (sent_past old n h.op k (ap is_serving at) h.stable h.requests))),
       λ m stands. subst (λ x. StandsFor (clients x) m) (sym h.unchanged) stands,
     )
 recovers old new q phase.Running at k h after left = absurd h
@@ -290,6 +301,10 @@ losing_on : (w : NodeView) (waiting : Option ℕ) (next : Phase) (log : List Rec
     → AreSessions w.tc.stable w.tc.session next log w.dc
 losing_on w waiting next log k at serves =
     record { begun = k.sessions.begun; served = served_so w log next (past_redo w k (ap is_serving at)) serves }
+
+-- while losers are undone the transaction component doesn't wait
+losing_unwaiting : (w : NodeView) (waiting : Option ℕ) → w.tc.phase ≡ phase.Undoing waiting → IsWaiting w.tc.phase → ⊥
+losing_unwaiting w waiting at waits = subst IsWaiting at waits
 
 -- a compensation of a loser's operation
 lost_compensates : (old new : NodeView) (n : ℕ) → IsKept old → IsTc new.tc → CompensatesLatest old.tc n new.tc
@@ -304,6 +319,7 @@ lost_compensates old new n k is_tc h left =
           (λ m stands. stands_lost_compensated old.tc m h.loser new.tc.losers k.tc after h.same h.next.loser stands);
       kept = keeps_appended old tc c k after k.checked refl (omega arith) (inl refl) (omega arith)
           (none_same old.tc.reads old.tc.open_txns)
+          (none_waiting old k tc (losing_unwaiting old None h.undoing) (λ waits. waits))
           (losing_on old None tc.phase tc.log k h.undoing refl) k.right (λ some. asked_captured old c k (λ m. refl));
     })
 
@@ -320,6 +336,8 @@ lost_ends old new t k is_tc h left =
           (λ m stands. stands_lost_ended old.tc m t new.tc.losers k.tc after h.same h.least.is.loser stands);
       kept = keeps_appended old tc e k after k.checked refl (omega arith) (inl refl) (omega arith)
           (none_same old.tc.reads old.tc.open_txns)
+          (none_waiting old k tc (losing_unwaiting old None h.undoing)
+          (unwaited tc.phase (serves (is_none_lost new.tc.losers))))
           (losing_on old None tc.phase tc.log k h.undoing (serves (is_none_lost new.tc.losers))) k.right
           (λ some. still_captured old e (λ q asks. cc) (λ m. refl));
     })
@@ -372,21 +390,21 @@ read_of w o r k some at reads = record {
     span_same : (x y : Option Read) → x ≡ y → span_in x ≡ span_in y
     span_same x y e = ap span_in e
 
-sent_read : (w : TcView) (dc : DcView) (n : ℕ) (s : Span) → IsReadTrue w w.session n (λ q. q ≡ s)
-    → IsSent w dc (read_request w.session n s)
-sent_read w dc n (Key key) h = h
-sent_read w dc n (Range low high) h = h
+sent_read : (w : TcView) (dc : DcView) (x : Source) (n : ℕ) (s : Span) → IsReadTrue w w.session n (λ q. q ≡ s)
+    → IsSent w dc x (read_request w.session n s)
+sent_read w dc x n (Key key) h = h
+sent_read w dc x n (Range low high) h = h
 
 -- what clients wait for is sent while they are served
-sent_of : (old : NodeView) (t : ℕ) (q : Request) → IsKept old → IsPastRedo old → IsRequestOf old.tc t q
-    → IsSent old.tc old.dc q
-sent_of old t q k past (inl r) =
-    let P : Request → Type 0 = IsSent old.tc old.dc in
-    subst P (sym r.is) (sent_past old r.number r.op k past r.stable r.requests)
-sent_of old t q k past (inr r) =
-    let P : Request → Type 0 = IsSent old.tc old.dc in
-    subst P (sym r.is) (sent_read old.tc old.dc r.read.number r.read.span
-    (read_of old.tc r.open_txn r.read k.tc past.some r.at.is r.reading))
+sent_of : (old : NodeView) (t : ℕ) (q : Request) (k : IsKept old) → is_serving old.tc.phase ≡ true
+    → IsRequestOf old.tc t q → IsSent old.tc old.dc k.source q
+sent_of old t q k serves (inl r) =
+    let P : Request → Type 0 = IsSent old.tc old.dc k.source in
+    subst P (sym r.is) (sent_past old r.number r.op k serves r.stable r.requests)
+sent_of old t q k serves (inr r) =
+    let P : Request → Type 0 = IsSent old.tc old.dc k.source in
+    subst P (sym r.is) (sent_read old.tc old.dc k.source r.read.number r.read.span
+    (read_of old.tc r.open_txn r.read k.tc (past_redo old k serves).some r.at.is r.reading))
 
 pub follows_send : (old new : NodeView) (t : ℕ) (output : Out) → IsKept old → SendsTo old t output new
     → Follows old (event.Send t) output new
@@ -395,20 +413,30 @@ follows_send old new t (out.Sent i) k h =
     (record {
       leads = no_line old (with_request old h.0) (event.Send t) (out.Sent i) refl (λ m stands. stands);
       kept = keeps_sent old h.0 k
-          (sent_of old t h.0 k (past_redo old k (serves_open old.tc t (both_none (open_refusal old.tc t) _ h.1.0).0))
-          h.1.1);
+          (sent_of old t h.0 k (serves_open old.tc t (both_none (open_refusal old.tc t) _ h.1.0).0) h.1.1);
     })
 follows_send old new t (out.Refused r) k h = unchanged old new (event.Send t) (out.Refused r) k h.1 refl
 follows_send old new t _ k h = absurd h
+
+-- a number up to which all is answered, in the session that both run
+sent_low : (w : NodeView) (l : ℕ) (k : IsKept w) → w.tc.phase ≡ phase.Running → IsAnsweredBy w.tc.log w.tc.stable l
+    → InSession w.dc w.tc.session (IsAnsweredBy k.source.log k.source.sure l)
+sent_low w l k running to =
+    let past = past_redo w k (ap is_serving running) in
+    record {
+      begun = omega (arith, past.stored);
+      holds = λ r. of_source w.tc k.source (λ (x : Source). IsAnsweredBy x.log x.sure l)
+          (run_live w w.tc.session k r refl) to;
+    }
 
 -- what was announced and asked for is nobody's but the transaction component's
 announces : (w : NodeView) (announced : ℕ) (asked : Option ℕ) → IsKept w
     → IsTc (record w.tc { announced = announced; checkpointing = asked })
     → IsKept (with_tc w (record w.tc { announced = announced; checkpointing = asked }))
 announces w announced asked k after =
-    keeps_same_log w (record w.tc { announced = announced; checkpointing = asked }) k after k.checked refl (omega arith)
-    (inl refl) (omega arith)
-    (none_same w.tc.reads w.tc.open_txns) k.sessions
+    let tc : TcView = record w.tc { announced = announced; checkpointing = asked } in
+    keeps_same_log w tc k after k.checked refl (omega arith) (inl refl) (omega arith)
+    (none_same w.tc.reads w.tc.open_txns) (same_waiting w k tc refl refl) k.sessions
 
 pub follows_low_water : (old new : NodeView) (l : ℕ) (output : Out) → IsKept old → LowersTo old l output new
     → Follows old (event.LowWater l) output new
@@ -420,8 +448,8 @@ follows_low_water old new l (out.Sent i) k h =
     let after : IsTc tc = subst IsTc h.0.2 (low_water_keeps old.tc new.tc l (Ok q) k.tc h.0) in
     at_new old new (with_request (with_tc old tc) q) (event.LowWater l) (out.Sent i) same (record {
       leads = no_line old (with_request (with_tc old tc) q) (event.LowWater l) (out.Sent i) refl (λ m stands. stands);
-      kept = keeps_sent (with_tc old tc) q (announces old (announced old.tc l).announced old.tc.checkpointing k after)
-          h.0.0.allowed;
+      kept = announces (with_request old q) (announced old.tc l).announced old.tc.checkpointing
+          (keeps_sent old q k (sent_low old l k (serves_clients old.tc h.0.0.running) h.0.0.allowed)) after;
     })
 follows_low_water old new l (out.Refused r) k h = unchanged old new (event.LowWater l) (out.Refused r) k h.1 refl
 follows_low_water old new l _ k h = absurd h
@@ -436,8 +464,8 @@ follows_checkpoint old new (out.Sent i) k h =
     let after : IsTc tc = subst IsTc h.0.2 (checkpoint_keeps old.tc new.tc (Ok q) k.tc h.0) in
     at_new old new (with_request (with_tc old tc) q) event.Checkpoint (out.Sent i) same (record {
       leads = no_line old (with_request (with_tc old tc) q) event.Checkpoint (out.Sent i) refl (λ m stands. stands);
-      kept = keeps_sent (with_tc old tc) q (announces old old.tc.announced (Some old.tc.announced) k after)
-          k.tc.low.announced;
+      kept = announces (with_request old q) old.tc.announced (Some old.tc.announced)
+          (keeps_sent old q k (sent_low old old.tc.announced k (serves_clients old.tc h.0.0) k.tc.low.announced)) after;
     })
 follows_checkpoint old new (out.Refused r) k h = unchanged old new event.Checkpoint (out.Refused r) k h.1 refl
 follows_checkpoint old new _ k h = absurd h

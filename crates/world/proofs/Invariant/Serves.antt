@@ -1,5 +1,5 @@
 -- A served request keeps what holds of a node, and its reply is true.
-use Rattle.std.proofs.Common.{◌≡◌, ℕ, ◌+◌, ◌<◌, ◌≤◌, Bool, true, false, List, ◌∷◌, length, Option, Some, None, IfSome, MatchBool, refl, sym, ap, ◌∙◌, subst, arith, inl, inr, true≢false}
+use Rattle.std.proofs.Common.{◌≡◌, ℕ, ◌<◌, ◌≤◌, Bool, true, false, List, [], ◌∷◌, length, Option, Some, None, IfSome, MatchBool, refl, sym, ap, ◌∙◌, subst, arith, inl, inr, true≢false}
 use Rattle.std.specs.Prelude.{◌&&◌, not, max, nat_lt, if◌then◌else◌, Err}
 use Rattle.std.proofs.lemmas.Bool.Decides.{nat_tests}
 use Rattle.record_key.specs.declared.refusal.Refusal.{Refusal}
@@ -8,6 +8,7 @@ use Rattle.stable.specs.Usage.{Usage, called, failed}
 use Rattle.system_txn.specs.Uses.{refused_use}
 use Rattle.record_key.specs.Table.{Bytes, key_of, answer_in}
 use Rattle.history.specs.declared.record.Record.{Record}
+use Rattle.history.specs.Log.{Requests}
 use Rattle.history.specs.Spans.{is_within, rows_in}
 use Rattle.history.specs.Values.{value_on}
 use Rattle.range_locks.specs.declared.span.Span.{Span}
@@ -22,10 +23,12 @@ use Rattle.btree.specs.Leaves.{leaf_at, rows_of}
 use Rattle.btree.proofs.Together.{one_table}
 use Rattle.recovery_laws.specs.Recovery.{stored_session}
 use Rattle.system_txn.specs.Kept.{IsRecoverable}
-use Rattle.system_txn.specs.Checked.{Checks}
+use Rattle.system_txn.specs.Checked.{Checks, IsChecked}
 use Rattle.system_txn.specs.SystemView.{SystemView, log_refused}
 use Rattle.system_txn.specs.Changes.{lowered, accepted, written_all}
 use Rattle.system_txn.specs.Gives.{HaveImages, CheckpointGives, AcceptGives}
+use Rattle.std.specs.List.{AllByRecursion}
+use Rattle.dc_core.specs.declared.performance.Performance.{Performance}
 use Rattle.dc_core.specs.DcView.{DcView, leaves, captures_at, value_at}
 use Rattle.dc_core.specs.Kept.{IsDc}
 use Rattle.dc_core.specs.Serves.{Serves, ServeGives, Stops, StopsUnless, serve_refusal, runs, with_system, connected, performs, lowers, range}
@@ -40,14 +43,18 @@ use Rattle.tc_core.specs.Kept.{IsPhase}
 use Rattle.tc_core.proofs.Finding.{found_own}
 use Rattle.tc_core.proofs.HeldSpans.{within_itself}
 use Rattle.world.specs.Node.{NodeView, with_dc}
-use Rattle.world.specs.Kept.{IsKept, IsBegun, IsAnsweredTo, IsReadTrue, IsSent, IsValue, AreRows, IsGiven, IsServed, IsTrueTo}
+use Rattle.world.specs.Kept.{IsKept, IsBegun, IsAnsweredBy, IsReadTrue, IsSent, IsValue, AreRows, IsGiven, IsServed, IsTrueTo}
+use Rattle.world.specs.Source.{Source, own}
 use Rattle.world.proofs.Invariant.Repeats.{repeated}
-use Rattle.world.proofs.Invariant.Carries.{keeps_dc}
-use Rattle.world.proofs.Invariant.Performs.{KeepsServing, performs_next}
+use Rattle.world.proofs.Invariant.AtKeys.{captured_sure}
+use Rattle.world.proofs.Invariant.Carries.{replied, keeps_dc, StartsAnew, keeps_anew}
+use Rattle.world.proofs.Invariant.Keeps.{keeps_given}
+use Rattle.world.proofs.Invariant.Performs.{performs_next}
+use Rattle.world.proofs.Invariant.Sources.{run_live, request_now}
 use Rattle.world.proofs.Machine.Reading.{read_logged}
-use Rattle.world.proofs.Invariant.Running.{run_is, run_stored, let_runs, let_past, redo_goes_on}
+use Rattle.world.proofs.Invariant.Running.{run_is, run_stored, IsPast, let_runs, let_past, redo_goes_on}
 use Rattle.world.proofs.Invariant.Systems.{LeavesCarry, same_leaves, keeps_system}
-use Rattle.world.proofs.Invariant.Trees.{lowered_true, lowered_carries}
+use Rattle.world.proofs.Invariant.Trees.{honest_all_now, low_all_now, lowered_true, lowered_carries}
 use Rattle.world.proofs.Invariant.Written.{used_true, written_all_true, written_all_leaves, written_all_log, failed_among}
 
 -- the later of two sessions that were begun
@@ -84,16 +91,16 @@ past_redo (phase.Redoing next ending) session log dc h = h
 past_redo (phase.Undoing waiting) session log dc h = (h.0, λ runs. refl)
 past_redo phase.Running session log dc h = (h.0, λ runs. refl)
 
-accepted_true : (w : TcView) (v : SystemView) (s stable : ℕ) (usage : Usage) → IsTrueTo w v
-    → IsTrueTo w (record v { log = dc_record.Accept s ∷ v.log; stable = stable; log_usage = usage })
-accepted_true w v s stable usage h = record {
+accepted_true : (w : TcView) (x : Source) (v : SystemView) (s stable : ℕ) (usage : Usage) → IsTrueTo w x v
+    → IsTrueTo w x (record v { log = dc_record.Accept s ∷ v.log; stable = stable; log_usage = usage })
+accepted_true w x v s stable usage h = record {
   leaves = h.leaves;
+  low = h.low;
   written = record {
     first_leaf = h.written.first_leaf;
     page = h.written.page;
     logged = (λ leaf is. absurd (cc), h.written.logged);
   };
-  low = h.low;
   written_low = record {
     first_leaf = h.written_low.first_leaf;
     page = h.written_low.page;
@@ -101,82 +108,113 @@ accepted_true w v s stable usage h = record {
   };
 }
 
+-- what was true to the source is true to the log, from which the leaves go on
+true_now : (w : NodeView) (k : IsKept w) → IsTrueTo w.tc (own w.tc) w.dc.system
+true_now w k = record {
+  leaves = honest_all_now w k (leaves w.dc) k.true_to.leaves;
+  low = low_all_now w k (leaves w.dc) k.true_to.low;
+  written = k.true_to.written;
+  written_low = k.true_to.written_low;
+}
+
+-- so is what was performed, which is captured and so sure
+performed_now : (w : NodeView) (k : IsKept w) → (ps : List Performance)
+    → AllByRecursion (λ (p : Performance). captures_at w.dc (key_of p.op) p.number ≡ true) ps
+    → AllByRecursion (λ (p : Performance). Requests k.source.log p.number p.op) ps
+    → AllByRecursion (λ (p : Performance). Requests w.tc.log p.number p.op) ps
+performed_now w k [] captured all = tt
+performed_now w k (p ∷ ps) captured all = (
+  request_now w.tc w.dc.stored k.source k.from p.number p.op
+      (captured_sure w (key_of p.op) p.number k captured.0) all.0,
+  performed_now w k ps captured.1 all.1,
+)
+
 connects : (w : NodeView) (s : ℕ) → IsKept w → IsDc (connected w.dc s) → IsRecoverable (connected w.dc s).system
     → Checks w.dc.system (connected w.dc s).system → IsBegun w.tc.stable w.tc.session s → w.dc.stored < s
-    → IsKept (with_dc w (connected w.dc s))
+    → IsKept (replied w (connected w.dc s) (Some (says.Connected s)))
 connects w s k is recoverable checks most less =
     let dc : DcView = connected w.dc s in
-    let other : (t : ℕ) → t ≤ w.dc.stored → runs dc t ≡ true → ⊥ =
-    λ t before r. omega (arith, (run_is dc t r).is, before, less) in
-    keeps_dc w dc k is
-    (record {
-      captured = λ some n o asks h. h;
+    let anew : StartsAnew w.dc dc = record {
       stored = omega (arith, less);
-      ran = λ t before r. absurd (other t before r);
-      past = λ t before r past. absurd (other t before r);
+      other = λ t before r. omega (arith, (run_is dc t r).is, before, less);
+      unmerged = λ may. redo_goes_on dc refl may;
       checks = checks;
-    })
-    recoverable (accepted_true w.tc w.dc.system s (length (dc_record.Accept s ∷ w.dc.system.log))
-    (called (called w.dc.system.log_usage)) k.true_to) k.performed
-    (λ may. absurd (redo_goes_on dc refl may))
+    } in
+    keeps_anew w dc k anew (Some (says.Connected s)) (omega arith) is
+    recoverable (accepted_true w.tc (own w.tc) w.dc.system s (length (dc_record.Accept s ∷ w.dc.system.log))
+    (called (called w.dc.system.log_usage)) (true_now w k))
+    (performed_now w k w.dc.performed k.dc.captured k.performed)
     (record {
       begun = later_begun w.tc.stable w.tc.session s (stored_session w.dc.system.log) most k.sessions.begun;
       served = begins_over w.tc.phase w.tc.checkpointed w.tc.session w.tc.log w.dc s k.tc.phase k.sessions.served less
           most.most;
     })
 
-redo_ends : (w : NodeView) (s : ℕ) → IsKept w → IsDc (record w.dc { redo = false }) → runs w.dc s ≡ true
-    → IsSent w.tc w.dc (asks.RedoEnd s)
-    → IsKept (with_dc w (record w.dc { redo = false }))
+redo_ends : (w : NodeView) (s : ℕ) (k : IsKept w) → IsDc (record w.dc { redo = false }) → runs w.dc s ≡ true
+    → IsSent w.tc w.dc k.source (asks.RedoEnd s)
+    → IsKept (replied w (record w.dc { redo = false }) (Some (says.RedoEnded s)))
 redo_ends w s k is running sent =
-    keeps_dc w (record w.dc { redo = false }) k is
+    let dc : DcView = record w.dc { redo = false } in
+    keeps_dc w dc k
     (record {
-      captured = λ some n o asks h. h;
-      stored = omega arith;
-      ran = λ t before r. r;
-      past = λ t before r past. refl;
+      captured = λ n o asks h. h;
+      stored = refl;
+      ran = λ t r. r;
+      past = λ past. refl;
       checks = λ l h. h;
     })
+    (Some (says.RedoEnded s)) (record { begun = sent.begun; holds = λ r. refl }) is
     k.recoverable k.true_to k.performed (λ may. sent.holds running)
     (record { begun = k.sessions.begun; served = past_redo w.tc.phase w.tc.session w.tc.log w.dc k.sessions.served })
 
--- nothing changes at the data component
-stays : (w : NodeView) (dc : DcView) (reply r : Option Reply) → IsKept w → reply ≡ r → dc ≡ w.dc
-    → IfSome r (IsGiven w.tc w.dc) → KeepsServing w reply dc
-stays w dc reply r k same dc_same given = rw (same, dc_same) (record { kept = k; given = given })
-
-goes : (w : NodeView) (dc new : DcView) (reply r : Option Reply) → reply ≡ r → dc ≡ new → KeepsServing w r new
-    → KeepsServing w reply dc
-goes w dc new reply r same dc_same h = rw (same, dc_same) h
-
 -- all leaves are raised
-lowers_all : (w : NodeView) (l : ℕ) → IsKept w → IsDc (lowers w.dc l) → IsRecoverable (lowers w.dc l).system
-    → Checks w.dc.system (lowers w.dc l).system → may_merge w.dc ≡ true → IsAnsweredTo w.tc l
+lowers_all : (w : NodeView) (l : ℕ) (k : IsKept w) → IsDc (lowers w.dc l) → IsRecoverable (lowers w.dc l).system
+    → Checks w.dc.system (lowers w.dc l).system → may_merge w.dc ≡ true → IsAnsweredBy k.source.log k.source.sure l
     → IsKept (with_dc w (lowers w.dc l))
 lowers_all w l k is recoverable checks past to =
-    keeps_system w (lowered w.dc.system l) k is recoverable checks (lowered_carries w l k (k.answered past) to)
+    keeps_system w (lowered w.dc.system l) k None tt is recoverable checks
+    (lowered_carries w l k (k.answered past) to)
     (lowered_true w l k (k.answered past) to) k.sessions.begun
 
 -- and written
-checkpoints : (w : NodeView) (l : ℕ) (dc : DcView) → IsKept w → IsDc dc → IsRecoverable dc.system
-    → Checks w.dc.system dc.system → may_merge w.dc ≡ true → IsAnsweredTo w.tc l
+checkpoints : (w : NodeView) (l : ℕ) (s : ℕ) (dc : DcView) (k : IsKept w) → IsDc dc → IsRecoverable dc.system
+    → Checks w.dc.system dc.system → may_merge w.dc ≡ true → IsAnsweredBy k.source.log k.source.sure l
     → HaveImages (lowered w.dc.system l).leaves
-    → dc ≡ with_system w.dc (written_all (lowered w.dc.system l) (lowered w.dc.system l).leaves) → IsKept (with_dc w dc)
-checkpoints w l dc k is recoverable checks past to images same =
+    → IsChecked l dc.system
+    → dc ≡ with_system w.dc (written_all (lowered w.dc.system l) (lowered w.dc.system l).leaves)
+    → IsKept (replied w dc (Some (says.Checkpointed s l)))
+checkpoints w l s dc k is recoverable checks past to images checked same =
     let v : SystemView = lowered w.dc.system l in
-    let t : IsTrueTo w.tc v = lowered_true w l k (k.answered past) to in
-    subst (λ (x : DcView). IsKept (with_dc w x)) (sym same)
-    (keeps_system w (written_all v v.leaves) k (subst IsDc same is)
+    let t : IsTrueTo w.tc k.source v = lowered_true w l k (k.answered past) to in
+    subst (λ (x : DcView). IsKept (replied w x (Some (says.Checkpointed s l)))) (sym same)
+    (keeps_system w (written_all v v.leaves) k (Some (says.Checkpointed s l))
+    (subst (λ (x : DcView). IsChecked l x.system) same checked)
+    (subst IsDc same is)
     (subst (λ (x : DcView). IsRecoverable x.system) same recoverable)
     (subst (λ (x : DcView). Checks w.dc.system x.system) same checks)
-    (subst (LeavesCarry w.tc.log (leaves w.dc)) (sym (written_all_leaves v v.leaves))
+    (subst (LeavesCarry k.source.log (leaves w.dc)) (sym (written_all_leaves v v.leaves))
     (lowered_carries w l k (k.answered past) to))
-    (written_all_true w.tc v v.leaves t images t.leaves t.low)
+    (written_all_true w.tc k.source v v.leaves t images (honest_all_now w k v.leaves t.leaves)
+    (low_all_now w k v.leaves t.low))
     (subst (λ log. IsBegun w.tc.stable w.tc.session (stored_session log)) (sym (written_all_log v v.leaves))
     k.sessions.begun))
 
+-- nothing changes at the data component
+stays : (w : NodeView) (dc : DcView) (reply r : Option Reply) (k : IsKept w) → reply ≡ r → dc ≡ w.dc
+    → IfSome r (IsGiven w.tc w.dc k.source) → IsKept (replied w dc reply)
+stays w dc reply r k same dc_same given =
+    rw (same, dc_same) (by r given)
+  where
+    by : (r : Option Reply) → IfSome r (IsGiven w.tc w.dc k.source) → IsKept (replied w w.dc r)
+    by None none = k
+    by (Some reply) given = keeps_given w reply k given
+
+goes : (w : NodeView) (dc new : DcView) (reply r : Option Reply) → reply ≡ r → dc ≡ new → IsKept (replied w new r)
+    → IsKept (replied w dc reply)
+goes w dc new reply r same dc_same h = rw (same, dc_same) h
+
 -- what a read is replied is what the log gives
-reads_row : (w : NodeView) (s n : ℕ) (key : Bytes) → IsKept w → may_merge w.dc ≡ true
+reads_row : (w : NodeView) (s n : ℕ) (key : Bytes) (k : IsKept w) → IsPast w.dc s
     → IsReadTrue w.tc s n (λ q. q ≡ Key key)
     → IsReadTrue w.tc s n (IsValue w.tc.log (value_at w.dc key))
 reads_row w s n key k past sent = record {
@@ -187,11 +225,12 @@ reads_row w s n key k past sent = record {
       let same : q ≡ Key key = sent.holds is t x q found reading in
       let P : Span → Type 0 = IsValue w.tc.log (value_at w.dc key) in
       subst P (sym same)
-      (read_logged w x (record { number = n; span = q }) k (found_own t w.tc.open_txns x found) reading past key
+      (read_logged w x (record { number = n; span = q }) k (found_own t w.tc.open_txns x found) reading
+      (run_live w s k past.runs is) past.past key
       (let Q : Span → Type 0 = λ z. is_within (shared z) key ≡ true in subst Q (sym same) (within_itself key)));
 }
 
-reads_rows : (w : NodeView) (s n : ℕ) (low : Bytes) (high : Option Bytes) → IsKept w → may_merge w.dc ≡ true
+reads_rows : (w : NodeView) (s n : ℕ) (low : Bytes) (high : Option Bytes) (k : IsKept w) → IsPast w.dc s
     → IsReadTrue w.tc s n (λ q. q ≡ Range low high)
     → IsReadTrue w.tc s n (AreRows w.tc.log (rows_in (range low high) (rows_of (leaves w.dc))))
 reads_rows w s n low high k past sent = record {
@@ -204,7 +243,7 @@ reads_rows w s n low high k past sent = record {
       let Q : Span → Type 0 = λ z. (key : Bytes) → is_within (shared z) key ≡ true → value_at w.dc key
       ≡ value_on key w.tc.log in
       let there : Q q = read_logged w x (record { number = n; span = q }) k (found_own t w.tc.open_txns x found) reading
-      past in
+      (run_live w s k past.runs is) past.past in
       subst P (sym same) (record {
         table = rows_of (leaves w.dc);
         rows_are = refl;
@@ -212,12 +251,13 @@ reads_rows w s n low high k past sent = record {
       });
 }
 
-pub serves : (w : NodeView) (q : Request) (reply : Option Reply) (dc : DcView) → IsKept w → IsDc dc
-    → IsRecoverable dc.system → Checks w.dc.system dc.system → IsSent w.tc w.dc q → serve_refusal w.dc q ≡ None
-    → Serves w.dc q reply dc → KeepsServing w reply dc
+pub serves : (w : NodeView) (q : Request) (reply : Option Reply) (dc : DcView) (k : IsKept w) → IsDc dc
+    → IsRecoverable dc.system → Checks w.dc.system dc.system → IsSent w.tc w.dc k.source q
+    → serve_refusal w.dc q ≡ None → Serves w.dc q reply dc → IsKept (replied w dc reply)
 serves w (asks.Connect s) reply dc k is rec checks sent allowed h = pick (runs w.dc s) refl h.1
   where
-    pick : (b : Bool) → runs w.dc s ≡ b → MatchBool b (dc ≡ w.dc) (dc ≡ connected w.dc s) → KeepsServing w reply dc
+    pick : (b : Bool) → runs w.dc s ≡ b → MatchBool b (dc ≡ w.dc) (dc ≡ connected w.dc s)
+        → IsKept (replied w dc reply)
     pick true running same =
         stays w dc reply (Some (says.Connected s)) k h.0 same (omega (arith, run_stored w.dc s k.dc running))
     pick false isnt same =
@@ -225,21 +265,18 @@ serves w (asks.Connect s) reply dc k is rec checks sent allowed h = pick (runs w
         connect_allowed (runs w.dc s) (nat_lt w.dc.stored s) _ _ allowed isnt in
         let less : w.dc.stored < s = grind (arith, nat_tests, flag) in
         goes w dc (connected w.dc s) reply (Some (says.Connected s)) h.0 same
-        (record {
-          kept = connects w s k (subst IsDc same is) (subst (λ (x : DcView). IsRecoverable x.system) same rec)
-              (subst (λ (x : DcView). Checks w.dc.system x.system) same checks) sent less;
-          given = omega arith;
-        })
+        (connects w s k (subst IsDc same is) (subst (λ (x : DcView). IsRecoverable x.system) same rec)
+        (subst (λ (x : DcView). Checks w.dc.system x.system) same checks) sent less)
 serves w (asks.Perform s n o) reply dc k is rec checks sent allowed h = pick (captures_at w.dc (key_of o) n) refl h
   where
     pick : (b : Bool) → captures_at w.dc (key_of o) n ≡ b
         → MatchBool b ((reply ≡ Some (says.Answered s n (saved_in (leaf_at (leaves w.dc) (key_of o)).ab.entries n)))
         × (dc ≡ w.dc))
         ((reply ≡ Some (says.Answered s n (Some (answer_in (leaf_at (leaves w.dc) (key_of o)).rows o))))
-        × (dc ≡ performs w.dc n o)) → KeepsServing w reply dc
+        × (dc ≡ performs w.dc n o)) → IsKept (replied w dc reply)
     pick true captured h =
         stays w dc reply (Some (says.Answered s n (saved_in (leaf_at (leaves w.dc) (key_of o)).ab.entries n))) k h.0 h.1
-        (repeated w s n o k sent captured)
+        (repeated w s n o k sent (let_runs w.dc s allowed) captured)
     pick false isnt h =
         goes w dc (performs w.dc n o) reply
         (Some (says.Answered s n (Some (answer_in (leaf_at (leaves w.dc) (key_of o)).rows o)))) h.0 h.1
@@ -247,31 +284,23 @@ serves w (asks.Perform s n o) reply dc k is rec checks sent allowed h = pick (ca
         (subst (λ (x : DcView). Checks w.dc.system x.system) h.1 checks) (let_runs w.dc s allowed) sent isnt)
 serves w (asks.Get s n key) reply dc k is rec checks sent allowed h =
     stays w dc reply (Some (says.Row s n (value_at w.dc key))) k h.0 h.1
-    (reads_row w s n key k (let_past w.dc s allowed).past sent)
+    (reads_row w s n key k (let_past w.dc s allowed) sent)
 serves w (asks.Scan s n low high) reply dc k is rec checks sent allowed h =
     stays w dc reply (Some (says.Rows s n (rows_in (range low high) (rows_of (leaves w.dc))))) k h.0 h.1
-    (reads_rows w s n low high k (let_past w.dc s allowed).past sent)
+    (reads_rows w s n low high k (let_past w.dc s allowed) sent)
 serves w (asks.LowWater s l) reply dc k is rec checks sent allowed h =
+    let past : IsPast w.dc s = let_past w.dc s allowed in
     goes w dc (lowers w.dc l) reply None h.0 h.1
-    (record {
-      kept = lowers_all w l k (subst IsDc h.1 is) (subst (λ (x : DcView). IsRecoverable x.system) h.1 rec)
-          (subst (λ (x : DcView). Checks w.dc.system x.system) h.1 checks) (let_past w.dc s allowed).past sent;
-      given = tt;
-    })
+    (lowers_all w l k (subst IsDc h.1 is) (subst (λ (x : DcView). IsRecoverable x.system) h.1 rec)
+    (subst (λ (x : DcView). Checks w.dc.system x.system) h.1 checks) past.past (sent.holds past.runs))
 serves w (asks.Checkpoint s l) reply dc k is rec checks sent allowed h =
+    let past : IsPast w.dc s = let_past w.dc s allowed in
     goes w dc dc reply (Some (says.Checkpointed s l)) h.0 refl
-    (record {
-      kept = checkpoints w l dc k is rec checks (let_past w.dc s allowed).past sent h.1.0
-          (h.2 ∙ ap (with_system w.dc) h.1.1);
-      given = checkpoint_checked w.dc s l reply dc k.dc k.recoverable h;
-    })
+    (checkpoints w l s dc k is rec checks past.past (sent.holds past.runs) h.1.0
+    (checkpoint_checked w.dc s l reply dc k.dc k.recoverable h) (h.2 ∙ ap (with_system w.dc) h.1.1))
 serves w (asks.RedoEnd s) reply dc k is rec checks sent allowed h =
-    let running : runs w.dc s ≡ true = let_runs w.dc s allowed in
     goes w dc (record w.dc { redo = false }) reply (Some (says.RedoEnded s)) h.0 h.1
-    (record {
-      kept = redo_ends w s k (subst IsDc h.1 is) running sent;
-      given = record { begun = sent.begun; holds = λ r. refl };
-    })
+    (redo_ends w s k (subst IsDc h.1 is) (let_runs w.dc s allowed) sent)
 
 -- ---- a request that isn't served
 
@@ -280,33 +309,34 @@ stops_accepting : (w : NodeView) (s : ℕ) (r : Refusal) (v : SystemView) → Is
     → IsKept (with_dc w (with_system w.dc v))
 stops_accepting w s r v k is rec checks most h = elim h [
   | inl append ↦ let same : v ≡ log_refused w.dc.system r = append.1 in
-      keeps_system w v k is rec checks
-      (subst (λ (x : SystemView). LeavesCarry w.tc.log (leaves w.dc) x.leaves) (sym same)
-      (same_leaves w.tc.log (leaves w.dc)))
-      (subst (IsTrueTo w.tc) (sym same)
-      (used_true w.tc w.dc.system (refused_use w.dc.system.log_usage r) w.dc.system.page_usage k.true_to))
+      keeps_system w v k None tt is rec checks
+      (subst (λ (x : SystemView). LeavesCarry k.source.log (leaves w.dc) x.leaves) (sym same)
+      (same_leaves k.source.log (leaves w.dc)))
+      (subst (IsTrueTo w.tc k.source) (sym same)
+      (used_true w.tc k.source w.dc.system (refused_use w.dc.system.log_usage r) w.dc.system.page_usage k.true_to))
       (subst (λ (x : SystemView). IsBegun w.tc.stable w.tc.session (stored_session x.log)) (sym same) k.sessions.begun)
   | inr force ↦ let more : v ≡ log_refused (accepted w.dc.system s) Device = force.2.0 in
-      keeps_system w v k is rec checks
-      (subst (λ (x : SystemView). LeavesCarry w.tc.log (leaves w.dc) x.leaves) (sym more)
-      (same_leaves w.tc.log (leaves w.dc)))
-      (subst (IsTrueTo w.tc) (sym more)
-      (accepted_true w.tc w.dc.system s w.dc.system.stable (failed (called w.dc.system.log_usage)) k.true_to))
+      keeps_system w v k None tt is rec checks
+      (subst (λ (x : SystemView). LeavesCarry k.source.log (leaves w.dc) x.leaves) (sym more)
+      (same_leaves k.source.log (leaves w.dc)))
+      (subst (IsTrueTo w.tc k.source) (sym more)
+      (accepted_true w.tc k.source w.dc.system s w.dc.system.stable (failed (called w.dc.system.log_usage)) k.true_to))
       (subst (λ (x : SystemView). IsBegun w.tc.stable w.tc.session (stored_session x.log)) (sym more)
       (later_begun w.tc.stable w.tc.session s (stored_session w.dc.system.log) most k.sessions.begun))
 ]
 
-stops_checkpoint : (w : NodeView) (l : ℕ) (r : Refusal) (v : SystemView) → IsKept w → IsDc (with_system w.dc v)
-    → IsRecoverable v → Checks w.dc.system v → may_merge w.dc ≡ true → IsAnsweredTo w.tc l
+stops_checkpoint : (w : NodeView) (l : ℕ) (r : Refusal) (v : SystemView) (k : IsKept w) → IsDc (with_system w.dc v)
+    → IsRecoverable v → Checks w.dc.system v → may_merge w.dc ≡ true → IsAnsweredBy k.source.log k.source.sure l
     → CheckpointGives w.dc.system l (Err r) v → IsKept (with_dc w (with_system w.dc v))
 stops_checkpoint w l r v k is rec checks past to (inl h) =
     subst (λ (x : SystemView). IsKept (with_dc w (with_system w.dc x))) (sym h.1) k
 stops_checkpoint w l r v k is rec checks past to (inr h) =
     let u : SystemView = lowered w.dc.system l in
-    let t : IsTrueTo w.tc u = lowered_true w l k (k.answered past) to in
-    let stopped = failed_among w.tc u u.leaves v t t.leaves t.low h.1 in
-    keeps_system w v k is rec checks
-    (subst (LeavesCarry w.tc.log (leaves w.dc)) (sym stopped.leaves) (lowered_carries w l k (k.answered past) to))
+    let t : IsTrueTo w.tc k.source u = lowered_true w l k (k.answered past) to in
+    let stopped = failed_among w.tc k.source u u.leaves v t (honest_all_now w k u.leaves t.leaves)
+    (low_all_now w k u.leaves t.low) h.1 in
+    keeps_system w v k None tt is rec checks
+    (subst (LeavesCarry k.source.log (leaves w.dc)) (sym stopped.leaves) (lowered_carries w l k (k.answered past) to))
     stopped.true_to
     (subst (λ log. IsBegun w.tc.stable w.tc.session (stored_session log)) (sym stopped.log) k.sessions.begun)
 
@@ -314,9 +344,9 @@ at_system : (w : NodeView) (dc : DcView) → dc ≡ with_system w.dc dc.system
     → IsKept (with_dc w (with_system w.dc dc.system)) → IsKept (with_dc w dc)
 at_system w dc same h = subst (λ (x : DcView). IsKept (with_dc w x)) (sym same) h
 
-stops_keep : (w : NodeView) (q : Request) (r : Refusal) (dc : DcView) → IsKept w → IsDc dc → IsRecoverable dc.system
-    → Checks w.dc.system dc.system → IsSent w.tc w.dc q → serve_refusal w.dc q ≡ None → Stops w.dc q r dc
-    → IsKept (with_dc w dc)
+stops_keep : (w : NodeView) (q : Request) (r : Refusal) (dc : DcView) (k : IsKept w) → IsDc dc
+    → IsRecoverable dc.system → Checks w.dc.system dc.system → IsSent w.tc w.dc k.source q
+    → serve_refusal w.dc q ≡ None → Stops w.dc q r dc → IsKept (with_dc w dc)
 stops_keep w (asks.Connect s) r dc k is rec checks sent allowed h =
     at_system w dc h.2 (stops_accepting w s r dc.system k (subst IsDc h.2 is) rec checks sent h.1)
 stops_keep w (asks.Perform s n o) r dc k is rec checks sent allowed h =
@@ -326,12 +356,13 @@ stops_keep w (asks.Scan s n low high) r dc k is rec checks sent allowed h =
     subst (λ (x : DcView). IsKept (with_dc w x)) (sym h.1) k
 stops_keep w (asks.LowWater s l) r dc k is rec checks sent allowed h = absurd h
 stops_keep w (asks.Checkpoint s l) r dc k is rec checks sent allowed h =
-    at_system w dc h.1 (stops_checkpoint w l r dc.system k (subst IsDc h.1 is) rec checks (let_past w.dc s allowed).past
-    sent h.0)
+    let past : IsPast w.dc s = let_past w.dc s allowed in
+    at_system w dc h.1
+    (stops_checkpoint w l r dc.system k (subst IsDc h.1 is) rec checks past.past (sent.holds past.runs) h.0)
 stops_keep w (asks.RedoEnd s) r dc k is rec checks sent allowed h = absurd h
 
-pub stops_serving : (w : NodeView) (q : Request) (r : Refusal) (dc : DcView) → IsKept w → IsDc dc → IsSent w.tc w.dc q
-    → ServeGives w.dc q (Err r) dc → IsKept (with_dc w dc)
+pub stops_serving : (w : NodeView) (q : Request) (r : Refusal) (dc : DcView) (k : IsKept w) → IsDc dc
+    → IsSent w.tc w.dc k.source q → ServeGives w.dc q (Err r) dc → IsKept (with_dc w dc)
 stops_serving w q r dc k is sent h = by (serve_refusal w.dc q) refl h
   where
     by : (x : Option Refusal) → serve_refusal w.dc q ≡ x → StopsUnless x w.dc q r dc → IsKept (with_dc w dc)

@@ -1,5 +1,6 @@
 -- Changes of the leaves and their devices that leave what is captured at each key keep what holds of a node.
-use Rattle.std.proofs.Common.{◌≡◌, ℕ, true, List, refl, arith}
+use Rattle.std.proofs.Common.{◌≡◌, ℕ, true, List, Option, IfSome, refl}
+use Rattle.codec.specs.declared.reply.Reply.{Reply}
 use Rattle.record_key.specs.declared.op.Op.{Op}
 use Rattle.record_key.specs.Table.{key_of}
 use Rattle.history.specs.declared.record.Record.{Record}
@@ -13,10 +14,10 @@ use Rattle.system_txn.specs.Kept.{IsRecoverable}
 use Rattle.system_txn.specs.Checked.{Checks}
 use Rattle.dc_core.specs.Serves.{with_system}
 use Rattle.dc_core.specs.Kept.{IsDc}
-use Rattle.world.specs.Node.{NodeView, with_dc}
-use Rattle.world.specs.Kept.{IsKept, IsBegun, IsTrueTo}
-use Rattle.world.proofs.Invariant.Carries.{keeps_dc}
-use Rattle.world.proofs.Invariant.Performs.{served_alike}
+use Rattle.world.specs.Node.{NodeView}
+use Rattle.world.specs.Kept.{IsKept, IsBegun, IsGiven, IsTrueTo}
+use Rattle.world.proofs.Invariant.Carries.{Carries, replied, keeps_dc}
+use Rattle.world.proofs.Invariant.Performs.{served_carried}
 
 -- no request's number is lost at its key
 pub record LeavesCarry (log : List Record) (old new : List LeafView) : Type 0 where
@@ -27,21 +28,17 @@ pub same_leaves : (log : List Record) (leaves : List LeafView) → LeavesCarry l
 same_leaves log leaves = record { captured = λ n o asks h. h }
 
 -- the leaves' log accepts no later session than the transaction component's
-pub keeps_system : (w : NodeView) (v : SystemView) → IsKept w → IsDc (with_system w.dc v) → IsRecoverable v
-    → Checks w.dc.system v → LeavesCarry w.tc.log w.dc.system.leaves v.leaves → IsTrueTo w.tc v
-    → IsBegun w.tc.stable w.tc.session (stored_session v.log) → IsKept (with_dc w (with_system w.dc v))
-keeps_system w v k is recoverable checks c true_to begun =
-    keeps_dc w (with_system w.dc v) k is
-    (record {
-      captured = λ some. c.captured;
-      stored = omega arith;
-      ran = λ s begun r. r;
-      past = λ s begun r past. past;
+pub keeps_system : (w : NodeView) (v : SystemView) (k : IsKept w) (reply : Option Reply)
+    → IfSome reply (IsGiven w.tc (with_system w.dc v) k.source) → IsDc (with_system w.dc v) → IsRecoverable v
+    → Checks w.dc.system v → LeavesCarry k.source.log w.dc.system.leaves v.leaves → IsTrueTo w.tc k.source v
+    → IsBegun w.tc.stable w.tc.session (stored_session v.log) → IsKept (replied w (with_system w.dc v) reply)
+keeps_system w v k reply given is recoverable checks c true_to begun =
+    let carries : Carries k.source.log w.dc (with_system w.dc v) = record {
+      captured = c.captured;
+      stored = refl;
+      ran = λ s r. r;
+      past = λ past. past;
       checks = checks;
-    })
-    recoverable true_to k.performed k.answered
-    (record {
-      begun = begun;
-      served = served_alike w.tc.phase w.tc.session w.tc.log w.dc (with_system w.dc v) refl refl refl c.captured
-          k.sessions.served;
-    })
+    } in
+    keeps_dc w (with_system w.dc v) k carries reply given is recoverable true_to k.performed k.answered
+    (record { begun = begun; served = served_carried w k (with_system w.dc v) refl refl carries })

@@ -24,6 +24,7 @@ use Rattle.dc_core.proofs.Checked.{checked_split, checked_merge, checked_tend, c
 use Rattle.world.specs.Node.{NodeView, with_dc}
 use Rattle.world.specs.Kept.{IsKept, IsBegun}
 use Rattle.world.proofs.Invariant.AtKeys.{own_leaf, own_low}
+use Rattle.world.proofs.Invariant.Sources.{honest_now, low_now}
 use Rattle.world.proofs.Invariant.Systems.{LeavesCarry, same_leaves, keeps_system}
 use Rattle.world.proofs.Invariant.Trees.{split_true, split_carries, merged_true, merged_carries}
 use Rattle.world.proofs.Invariant.Written.{covered_leaves, covered_log, written_true, used_true, stops_true}
@@ -36,23 +37,23 @@ keeps_split : (w : NodeView) (p : ℕ) (pair : Neighbours) (v : SystemView) → 
     → Keeps w v
 keeps_split w p pair v k h =
     subst (Keeps w) (sym h.after)
-    (λ is recoverable checks. keeps_system w (split_to w.dc.system p) k is recoverable checks
+    (λ is recoverable checks. keeps_system w (split_to w.dc.system p) k None tt is recoverable checks
     (split_carries w p k h.may) (split_true w p k h.may) k.sessions.begun)
 
 keeps_merge : (w : NodeView) (p : ℕ) (pair : Neighbours) (v : SystemView) → IsKept w → may_merge w.dc ≡ true
     → Merges w.dc.system p pair v → Keeps w v
 keeps_merge w p pair v k let_merge h =
     subst (Keeps w) (sym h.after) (λ is recoverable checks.
-    keeps_system w (merged_to w.dc.system p) k is recoverable checks (merged_carries w p k (k.answered let_merge) h.may)
+    keeps_system w (merged_to w.dc.system p) k None tt is recoverable checks (merged_carries w p k (k.answered let_merge) h.may)
     (merged_true w p k (k.answered let_merge) h.may)
     k.sessions.begun)
 
 keeps_refused : (w : NodeView) (r : Refusal) (v : SystemView) → IsKept w → v ≡ log_refused w.dc.system r → Keeps w v
 keeps_refused w r v k same =
     subst (Keeps w) (sym same)
-    (λ is recoverable checks. keeps_system w (log_refused w.dc.system r) k is recoverable checks
-    (same_leaves w.tc.log (leaves w.dc))
-    (used_true w.tc w.dc.system (refused_use w.dc.system.log_usage r) w.dc.system.page_usage k.true_to)
+    (λ is recoverable checks. keeps_system w (log_refused w.dc.system r) k None tt is recoverable checks
+    (same_leaves k.source.log (leaves w.dc))
+    (used_true w.tc k.source w.dc.system (refused_use w.dc.system.log_usage r) w.dc.system.page_usage k.true_to)
     k.sessions.begun)
 
 split_keeps : (w : NodeView) (key : Bytes) (given : Result Neighbours Refusal) (v : SystemView) → IsKept w
@@ -103,17 +104,19 @@ flush_keeps : (w : NodeView) (key : Bytes) (given : Result ℕ Refusal) (v : Sys
     → FlushGives w.dc.system key given v → Keeps w v
 flush_keeps w key (Ok id) v k h =
     subst (Keeps w) (sym h.2)
-    (λ is recoverable checks. keeps_system w (written_to w.dc.system (leaf_at (leaves w.dc) key)) k is recoverable
+    (λ is recoverable checks. keeps_system w (written_to w.dc.system (leaf_at (leaves w.dc) key)) k None tt is recoverable
     checks
-    (subst (LeavesCarry w.tc.log (leaves w.dc)) (sym (covered_leaves w.dc.system (leaf_at (leaves w.dc) key)))
-    (same_leaves w.tc.log (leaves w.dc)))
-    (written_true w.tc w.dc.system (leaf_at (leaves w.dc) key) k.true_to h.1 (own_leaf w key k) (own_low w key k))
+    (subst (LeavesCarry k.source.log (leaves w.dc)) (sym (covered_leaves w.dc.system (leaf_at (leaves w.dc) key)))
+    (same_leaves k.source.log (leaves w.dc)))
+    (written_true w.tc k.source w.dc.system (leaf_at (leaves w.dc) key) k.true_to h.1
+    (honest_now w.tc w.dc.stored k.source k.from (leaf_at (leaves w.dc) key) (own_leaf w key k))
+    (low_now w.tc w.dc.stored k.source k.tc.within k.from (leaf_at (leaves w.dc) key) (own_low w key k)))
     (subst (λ log. IsBegun w.tc.stable w.tc.session (stored_session log))
     (sym (covered_log w.dc.system (leaf_at (leaves w.dc) key))) k.sessions.begun))
 flush_keeps w key (Err r) v k h =
-    let stopped = stops_true w.tc w.dc.system (leaf_at (leaves w.dc) key) r v k.true_to h in
-    λ is recoverable checks. keeps_system w v k is recoverable checks
-    (subst (LeavesCarry w.tc.log (leaves w.dc)) (sym stopped.leaves) (same_leaves w.tc.log (leaves w.dc)))
+    let stopped = stops_true w.tc k.source w.dc.system (leaf_at (leaves w.dc) key) r v k.true_to h in
+    λ is recoverable checks. keeps_system w v k None tt is recoverable checks
+    (subst (LeavesCarry k.source.log (leaves w.dc)) (sym stopped.leaves) (same_leaves k.source.log (leaves w.dc)))
     stopped.true_to
     (subst (λ log. IsBegun w.tc.stable w.tc.session (stored_session log)) (sym stopped.log) k.sessions.begun)
 

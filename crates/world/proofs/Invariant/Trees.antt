@@ -38,18 +38,21 @@ use Rattle.system_txn.specs.Changes.{next_id, next_number, split_to, merged_to, 
 use Rattle.dc_core.specs.DcView.{leaves}
 use Rattle.dc_core.proofs.KeepsDc.{all_both}
 use Rattle.world.specs.Node.{NodeView}
-use Rattle.world.specs.Kept.{IsKept, IsAnsweredTo, IsTrueTo, IsLowAnswered, AnsweredAreCaptured}
-use Rattle.world.proofs.Invariant.Announced.{all_answered, most_stable}
+use Rattle.world.specs.Kept.{IsKept, IsAnsweredBy, IsTrueTo, IsLowAnswered, AnsweredAreCaptured}
+use Rattle.world.specs.Source.{Source}
+use Rattle.world.proofs.Invariant.Announced.{all_answered, most_sure}
+use Rattle.world.proofs.Invariant.Sources.{honest_now, low_now, sure_within}
 use Rattle.world.proofs.Invariant.Systems.{LeavesCarry}
 
 -- ---- what is answered up to a number is captured by the leaf of its key
 
-captured_leaf : (w : NodeView) (l : ℕ) (leaf : LeafView) → AnsweredAreCaptured w.tc.log w.dc
-    → ((key : Bytes) → is_in_fences leaf key ≡ true → leaf_at (leaves w.dc) key ≡ leaf) → IsAnsweredTo w.tc l
-    → IsCapturedTo w.tc.log leaf l
-captured_leaf w l leaf all own to = record {
-  all = λ n o asks within below. subst (λ (x : LeafView). captures x.ab n ≡ true) (own (key_of o) within)
-      (all n o asks (all_answered w.tc l to n o below asks));
+captured_leaf : (w : NodeView) (x : Source) (l : ℕ) (leaf : LeafView) → AnsweredAreCaptured x.log w.dc
+    → ((key : Bytes) → is_in_fences leaf key ≡ true → leaf_at (leaves w.dc) key ≡ leaf)
+    → IsAnsweredBy x.log x.sure l
+    → IsCapturedTo x.log leaf l
+captured_leaf w x l leaf all own to = record {
+  all = λ n o asks within below. subst (λ (y : LeafView). captures y.ab n ≡ true) (own (key_of o) within)
+      (all n o asks (all_answered x.log x.sure l to n o below asks));
 }
 
 abbrev IsOwn : NodeView → LeafView → Type 0
@@ -59,37 +62,50 @@ all_own : (w : NodeView) → IsKept w → AllByRecursion (IsOwn w) (leaves w.dc)
 all_own w k = own_leaves (leaves w.dc) k.dc.system.leaves
 
 -- so two that are joined have captured what they must of each other
-are_captured : (w : NodeView) (p : ℕ) → IsKept w → AnsweredAreCaptured w.tc.log w.dc
+are_captured : (w : NodeView) (p : ℕ) (k : IsKept w) → AnsweredAreCaptured k.source.log w.dc
     → may_merge_at (leaves w.dc) p ≡ true
-    → AreCapturedAt w.tc.log (leaves w.dc) p
+    → AreCapturedAt k.source.log (leaves w.dc) p
 are_captured w p k all may =
+    let x : Source = k.source in
     let within = merge_within (leaves w.dc) p may in
     let own = both_there (λ left right. IsOwn w left × IsOwn w right) (leaves w.dc) p
     (pair_all (IsOwn w) (leaves w.dc) p (all_own w k)) within in
-    let low = both_there (λ left right. IsAnsweredTo w.tc left.ab.low × IsAnsweredTo w.tc right.ab.low) (leaves w.dc) p
-    (pair_all (λ (leaf : LeafView). IsAnsweredTo w.tc leaf.ab.low) (leaves w.dc) p k.true_to.low) within in
-    record { left = captured_leaf w _ _ all own.0 low.1; right = captured_leaf w _ _ all own.1 low.0 }
+    let low = both_there (λ left right. IsLowAnswered x.log x.sure left × IsLowAnswered x.log x.sure right)
+    (leaves w.dc) p (pair_all (IsLowAnswered x.log x.sure) (leaves w.dc) p k.true_to.low) within in
+    record { left = captured_leaf w x _ _ all own.0 low.1; right = captured_leaf w x _ _ all own.1 low.0 }
 
--- ---- parts of what is true to a log
+-- ---- parts of what is true to the source
 
-are_honest : (w : NodeView) → IsKept w → AreHonest w.tc.log (leaves w.dc)
-are_honest w k = all_from (IsHonestTo w.tc.log w.tc.stable) (IsHonestLeaf w.tc.log) (λ leaf h. h.honest) (leaves w.dc)
-    k.true_to.leaves
+are_honest : (w : NodeView) (k : IsKept w) → AreHonest k.source.log (leaves w.dc)
+are_honest w k = all_from (IsHonestTo k.source.log k.source.sure) (IsHonestLeaf k.source.log) (λ leaf h. h.honest)
+    (leaves w.dc) k.true_to.leaves
 
--- whatever the leaf has captured is stable
-abbrev HasStable : ℕ → LeafView → Type 0
-HasStable stable leaf = (n : ℕ) → captures leaf.ab n ≡ true → n ≤ stable
+-- whatever the leaf has captured is among the first records
+abbrev HasSure : ℕ → LeafView → Type 0
+HasSure sure leaf = (n : ℕ) → captures leaf.ab n ≡ true → n ≤ sure
 
-have_stable : (w : NodeView) → IsKept w → AllByRecursion (HasStable w.tc.stable) (leaves w.dc)
-have_stable w k = all_from (IsHonestTo w.tc.log w.tc.stable) (HasStable w.tc.stable) (λ leaf h. h.within) (leaves w.dc)
-    k.true_to.leaves
+have_sure : (w : NodeView) (k : IsKept w) → AllByRecursion (HasSure k.source.sure) (leaves w.dc)
+have_sure w k = all_from (IsHonestTo k.source.log k.source.sure) (HasSure k.source.sure) (λ leaf h. h.within)
+    (leaves w.dc) k.true_to.leaves
 
-honest_to_all : (log : List Record) (stable : ℕ) (ls : List LeafView) → AllByRecursion (IsHonestLeaf log) ls
-    → AllByRecursion (HasStable stable) ls
-    → AllByRecursion (IsHonestTo log stable) ls
-honest_to_all log stable ls honest within =
-    all_both (IsHonestLeaf log) (HasStable stable) (IsHonestTo log stable)
+honest_to_all : (log : List Record) (sure : ℕ) (ls : List LeafView) → AllByRecursion (IsHonestLeaf log) ls
+    → AllByRecursion (HasSure sure) ls
+    → AllByRecursion (IsHonestTo log sure) ls
+honest_to_all log sure ls honest within =
+    all_both (IsHonestLeaf log) (HasSure sure) (IsHonestTo log sure)
     (λ leaf h s. record { honest = h; within = s }) ls honest within
+
+-- leaves that are true to the source are so to the log
+pub honest_all_now : (w : NodeView) (k : IsKept w) (ls : List LeafView)
+    → AllByRecursion (IsHonestTo k.source.log k.source.sure) ls → AllByRecursion (IsHonestTo w.tc.log w.tc.stable) ls
+honest_all_now w k = all_from (IsHonestTo k.source.log k.source.sure) (IsHonestTo w.tc.log w.tc.stable)
+    (honest_now w.tc w.dc.stored k.source k.from)
+
+pub low_all_now : (w : NodeView) (k : IsKept w) (ls : List LeafView)
+    → AllByRecursion (IsLowAnswered k.source.log k.source.sure) ls
+    → AllByRecursion (IsLowAnswered w.tc.log w.tc.stable) ls
+low_all_now w k = all_from (IsLowAnswered k.source.log k.source.sure) (IsLowAnswered w.tc.log w.tc.stable)
+    (low_now w.tc w.dc.stored k.source k.tc.within k.from)
 
 -- a record more, whose leaf is one of these
 have_logged : (P : LeafView → Type 0) (pages : Pages) (r : DcRecord) (log : List DcRecord) → AllHave P pages log
@@ -102,9 +118,9 @@ in_image P leaf x h e = subst P (let same : leaf_of (image_of leaf) ≡ x = cc i
 
 -- ---- splits
 
-stable_split : (stable : ℕ) (leaf : LeafView) (k : Bytes) (id d : ℕ) → HasStable stable leaf
-    → HasStable stable (lower_of leaf k d) × HasStable stable (upper_of leaf k id d)
-stable_split stable leaf k id d h = (
+sure_split : (sure : ℕ) (leaf : LeafView) (k : Bytes) (id d : ℕ) → HasSure sure leaf
+    → HasSure sure (lower_of leaf k d) × HasSure sure (upper_of leaf k id d)
+sure_split sure leaf k id d h = (
   λ n captured. h n (captures_fewer leaf.ab (is_under k) n captured),
   λ n captured. h n (captures_fewer leaf.ab (is_from k) n captured),
 )
@@ -113,127 +129,139 @@ module _ (w : NodeView) (p : ℕ) (k : IsKept w) (may : may_split_at (leaves w.d
   abbrev v : SystemView
   v = w.dc.system
 
+  abbrev x : Source
+  x = k.source
+
   abbrev split_leaves : List LeafView
   split_leaves = split_at p (next_id v) (next_number v) (leaves w.dc)
 
-  split_honest_to : AllByRecursion (IsHonestTo w.tc.log w.tc.stable) split_leaves
+  split_honest_to : AllByRecursion (IsHonestTo x.log x.sure) split_leaves
   split_honest_to =
-      honest_to_all w.tc.log w.tc.stable split_leaves
-      (split_honest w.tc.log (leaves w.dc) p (next_id v) (next_number v) k.dc.system.leaves may (are_honest w k))
-      (all_split (HasStable w.tc.stable) (next_id v) (next_number v)
-      (λ leaf is may h. stable_split w.tc.stable leaf (middle leaf) (next_id v) (next_number v) h)
-      (leaves w.dc) p k.dc.system.leaves.each may (have_stable w k))
+      honest_to_all x.log x.sure split_leaves
+      (split_honest x.log (leaves w.dc) p (next_id v) (next_number v) k.dc.system.leaves may (are_honest w k))
+      (all_split (HasSure x.sure) (next_id v) (next_number v)
+      (λ leaf is may h. sure_split x.sure leaf (middle leaf) (next_id v) (next_number v) h)
+      (leaves w.dc) p k.dc.system.leaves.each may (have_sure w k))
 
-  split_low : AllByRecursion (IsLowAnswered w.tc) split_leaves
-  split_low = lows_split (IsAnsweredTo w.tc) (leaves w.dc) p (next_id v) (next_number v) k.dc.system.leaves may
+  split_low : AllByRecursion (IsLowAnswered x.log x.sure) split_leaves
+  split_low = lows_split (IsAnsweredBy x.log x.sure) (leaves w.dc) p (next_id v) (next_number v) k.dc.system.leaves may
       k.true_to.low
 
-  pub split_true : IsTrueTo w.tc (split_to v p)
+  pub split_true : IsTrueTo w.tc x (split_to v p)
   split_true = record {
     leaves = split_honest_to;
+    low = split_low;
     written = have_logged (IsHonestTo w.tc.log w.tc.stable) (pages_of v.pages) _ v.log k.true_to.written
         (λ leaf is. in_image (IsHonestTo w.tc.log w.tc.stable) _ leaf
-        (the_upper (IsHonestTo w.tc.log w.tc.stable) (leaves w.dc) p (next_id v) (next_number v) may split_honest_to)
-        is);
-    low = split_low;
-    written_low = have_logged (IsLowAnswered w.tc) (pages_of v.pages) _ v.log k.true_to.written_low
-        (λ leaf is. in_image (IsLowAnswered w.tc) _ leaf
-        (the_upper (IsLowAnswered w.tc) (leaves w.dc) p (next_id v) (next_number v) may split_low) is);
+        (the_upper (IsHonestTo w.tc.log w.tc.stable) (leaves w.dc) p (next_id v) (next_number v) may
+        (honest_all_now w k split_leaves split_honest_to)) is);
+    written_low = have_logged (IsLowAnswered w.tc.log w.tc.stable) (pages_of v.pages) _ v.log k.true_to.written_low
+        (λ leaf is. in_image (IsLowAnswered w.tc.log w.tc.stable) _ leaf
+        (the_upper (IsLowAnswered w.tc.log w.tc.stable) (leaves w.dc) p (next_id v) (next_number v) may
+        (low_all_now w k split_leaves split_low)) is);
   }
 
-  pub split_carries : LeavesCarry w.tc.log (leaves w.dc) split_leaves
+  pub split_carries : LeavesCarry x.log (leaves w.dc) split_leaves
   split_carries = record {
     captured = λ n o asks h.
-        captured_split (leaves w.dc) k.dc.system.leaves p (next_id v) (next_number v) may (key_of o) w.tc.log
+        captured_split (leaves w.dc) k.dc.system.leaves p (next_id v) (next_number v) may (key_of o) x.log
         (are_honest w k) n o asks refl ∙ h;
   }
 
 -- ---- merges
 
-stable_joined : (stable : ℕ) (left right : LeafView) (d : ℕ) → HasStable stable left → HasStable stable right
-    → HasStable stable (joined_of left right d)
-stable_joined stable left right d h g n captured =
+sure_joined : (sure : ℕ) (left right : LeafView) (d : ℕ) → HasSure sure left → HasSure sure right
+    → HasSure sure (joined_of left right d)
+sure_joined sure left right d h g n captured =
     elim (or_cases (captures left.ab n) (captures right.ab n) (sym (joined_captures left.ab right.ab n) ∙ captured))
     [ inl l ↦ h n l | inr r ↦ g n r ]
 
-module _ (w : NodeView) (p : ℕ) (k : IsKept w) (all : AnsweredAreCaptured w.tc.log w.dc)
+module _ (w : NodeView) (p : ℕ) (k : IsKept w) (all : AnsweredAreCaptured k.source.log w.dc)
     (may : may_merge_at (leaves w.dc) p ≡ true) where
   abbrev u : SystemView
   u = w.dc.system
 
+  abbrev y : Source
+  y = k.source
+
   abbrev merged_leaves : List LeafView
   merged_leaves = merged_at p (next_number u) (leaves w.dc)
 
-  abbrev AreStable : LeafView → LeafView → Type 0
-  AreStable left right = HasStable w.tc.stable left × HasStable w.tc.stable right
+  abbrev AreSure : LeafView → LeafView → Type 0
+  AreSure left right = HasSure y.sure left × HasSure y.sure right
 
-  stable_pair : AtPair AreStable (leaves w.dc) p
-  stable_pair = pair_all (HasStable w.tc.stable) (leaves w.dc) p (have_stable w k)
+  sure_pair : AtPair AreSure (leaves w.dc) p
+  sure_pair = pair_all (HasSure y.sure) (leaves w.dc) p (have_sure w k)
 
-  merged_honest_to : AllByRecursion (IsHonestTo w.tc.log w.tc.stable) merged_leaves
+  merged_honest_to : AllByRecursion (IsHonestTo y.log y.sure) merged_leaves
   merged_honest_to =
-      honest_to_all w.tc.log w.tc.stable merged_leaves
-      (merged_honest w.tc.log (leaves w.dc) p (next_number u) k.dc.system.leaves (are_honest w k)
+      honest_to_all y.log y.sure merged_leaves
+      (merged_honest y.log (leaves w.dc) p (next_number u) k.dc.system.leaves (are_honest w k)
       (are_captured w p k all may))
-      (all_merged (HasStable w.tc.stable) (next_number u) (leaves w.dc) p
-      (pair_with AreStable AreStable
-      _ (λ left right both again. stable_joined w.tc.stable left right (next_number u) both.0 both.1) (leaves w.dc)
-      p stable_pair stable_pair)
-      (have_stable w k))
+      (all_merged (HasSure y.sure) (next_number u) (leaves w.dc) p
+      (pair_with AreSure AreSure
+      _ (λ left right both again. sure_joined y.sure left right (next_number u) both.0 both.1) (leaves w.dc)
+      p sure_pair sure_pair)
+      (have_sure w k))
 
-  merged_low : AllByRecursion (IsLowAnswered w.tc) merged_leaves
-  merged_low = lows_merged (IsAnsweredTo w.tc) (leaves w.dc) p (next_number u) k.true_to.low
+  merged_low : AllByRecursion (IsLowAnswered y.log y.sure) merged_leaves
+  merged_low = lows_merged (IsAnsweredBy y.log y.sure) (leaves w.dc) p (next_number u) k.true_to.low
 
-  pub merged_true : IsTrueTo w.tc (merged_to u p)
+  pub merged_true : IsTrueTo w.tc y (merged_to u p)
   merged_true = record {
     leaves = merged_honest_to;
+    low = merged_low;
     written = have_logged (IsHonestTo w.tc.log w.tc.stable) (pages_of u.pages) _ u.log k.true_to.written
         (λ leaf is. in_image (IsHonestTo w.tc.log w.tc.stable) _ leaf
-        (the_merged (IsHonestTo w.tc.log w.tc.stable) (leaves w.dc) p (next_number u) may merged_honest_to) is);
-    low = merged_low;
-    written_low = have_logged (IsLowAnswered w.tc) (pages_of u.pages) _ u.log k.true_to.written_low
-        (λ leaf is. in_image (IsLowAnswered w.tc) _ leaf
-        (the_merged (IsLowAnswered w.tc) (leaves w.dc) p (next_number u) may merged_low) is);
+        (the_merged (IsHonestTo w.tc.log w.tc.stable) (leaves w.dc) p (next_number u) may
+        (honest_all_now w k merged_leaves merged_honest_to)) is);
+    written_low = have_logged (IsLowAnswered w.tc.log w.tc.stable) (pages_of u.pages) _ u.log k.true_to.written_low
+        (λ leaf is. in_image (IsLowAnswered w.tc.log w.tc.stable) _ leaf
+        (the_merged (IsLowAnswered w.tc.log w.tc.stable) (leaves w.dc) p (next_number u) may
+        (low_all_now w k merged_leaves merged_low)) is);
   }
 
-  pub merged_carries : LeavesCarry w.tc.log (leaves w.dc) merged_leaves
+  pub merged_carries : LeavesCarry y.log (leaves w.dc) merged_leaves
   merged_carries = record {
     captured = λ n o asks h.
-        captured_merged w.tc.log (leaves w.dc) k.dc.system.leaves (are_honest w k) p
+        captured_merged y.log (leaves w.dc) k.dc.system.leaves (are_honest w k) p
         (next_number u) (are_captured w p k all may) (key_of o) n o asks refl ∙ h;
   }
 
 -- ---- low water
 
-abbrev IsOwnHonest : NodeView → LeafView → Type 0
-IsOwnHonest w leaf = IsOwn w leaf × IsHonestTo w.tc.log w.tc.stable leaf
+abbrev IsOwnHonest : NodeView → Source → LeafView → Type 0
+IsOwnHonest w x leaf = IsOwn w leaf × IsHonestTo x.log x.sure leaf
 
-module _ (w : NodeView) (l : ℕ) (k : IsKept w) (all : AnsweredAreCaptured w.tc.log w.dc)
-    (to : IsAnsweredTo w.tc l) where
-  raised_honest_to : (leaf : LeafView) → IsOwn w leaf → IsHonestTo w.tc.log w.tc.stable leaf
-      → IsHonestTo w.tc.log w.tc.stable (raised_to leaf l)
+module _ (w : NodeView) (l : ℕ) (k : IsKept w) (all : AnsweredAreCaptured k.source.log w.dc)
+    (to : IsAnsweredBy k.source.log k.source.sure l) where
+  abbrev z : Source
+  z = k.source
+
+  raised_honest_to : (leaf : LeafView) → IsOwn w leaf → IsHonestTo z.log z.sure leaf
+      → IsHonestTo z.log z.sure (raised_to leaf l)
   raised_honest_to leaf own h = record {
-    honest = honest_raised w.tc.log leaf l h.honest (captured_leaf w l leaf all own to);
+    honest = honest_raised z.log leaf l h.honest (captured_leaf w z l leaf all own to);
     within = λ n captured. elim (or_cases (captures leaf.ab n) (nat_le n l)
         (sym (raised_captures leaf.ab l n) ∙ captured)) [
           | inl before ↦ h.within n before
           | inr below ↦ let less : n ≤ l = grind (arith, nat_tests, below) in
-              omega (arith, less, most_stable w.tc l k.tc.within to)
+              omega (arith, less, most_sure z.log z.sure l (sure_within w.tc w.dc.stored z k.tc.within k.from) to)
         ];
   }
 
-  pub lowered_true : IsTrueTo w.tc (lowered w.dc.system l)
+  pub lowered_true : IsTrueTo w.tc z (lowered w.dc.system l)
   lowered_true = record {
-    leaves = all_mapped (IsOwnHonest w) (IsHonestTo w.tc.log w.tc.stable) (λ leaf. raised_to leaf l)
+    leaves = all_mapped (IsOwnHonest w z) (IsHonestTo z.log z.sure) (λ leaf. raised_to leaf l)
         (λ leaf both. raised_honest_to leaf both.0 both.1) (leaves w.dc)
-        (all_both (IsOwn w) (IsHonestTo w.tc.log w.tc.stable) (IsOwnHonest w) (λ leaf own h. (own, h)) (leaves w.dc)
+        (all_both (IsOwn w) (IsHonestTo z.log z.sure) (IsOwnHonest w z) (λ leaf own h. (own, h)) (leaves w.dc)
         (all_own w k) k.true_to.leaves);
+    low = lows_raised (IsAnsweredBy z.log z.sure) (leaves w.dc) l to k.true_to.low;
     written = k.true_to.written;
-    low = lows_raised (IsAnsweredTo w.tc) (leaves w.dc) l to k.true_to.low;
     written_low = k.true_to.written_low;
   }
 
-  pub lowered_carries : LeavesCarry w.tc.log (leaves w.dc) (map (λ leaf. raised_to leaf l) (leaves w.dc))
+  pub lowered_carries : LeavesCarry z.log (leaves w.dc) (map (λ leaf. raised_to leaf l) (leaves w.dc))
   lowered_carries = record {
     captured = λ n o asks h. captured_raised (leaves w.dc) k.dc.system.leaves l (key_of o) n
         ∙ ap (λ (b : Bool). b || nat_le n l) h;

@@ -1,5 +1,5 @@
 -- What a call of the transaction component may do is a step of the list machine, and keeps what holds.
-use Rattle.std.proofs.Common.{◌≡◌, ℕ, ◌+◌, ◌≤◌, Bool, true, false, List, [], ◌∷◌, length, Option, Some, None, refl, sym, ap, ◌∙◌, subst, arith, inl, inr, ◌⊎◌, true≢false}
+use Rattle.std.proofs.Common.{◌≡◌, ℕ, ◌+◌, ◌≤◌, Bool, true, false, List, [], ◌∷◌, length, Option, Some, None, refl, sym, ap, ◌∙◌, subst, arith, inl, inr, true≢false}
 use Rattle.std.specs.Prelude.{◌&&◌, not, Result, Ok, Err, nat_le}
 use Rattle.std.proofs.lemmas.Bool.Decides.{nat_tests}
 use Rattle.std.proofs.lemmas.Bool.{cases_Bool}
@@ -54,7 +54,7 @@ use Rattle.world.proofs.Machine.Refused.{RefusesSo, begin_refused, act_refused, 
 use Rattle.tc_core.proofs.Refused.{at_number}
 use Rattle.world.proofs.Machine.Idle.{both_none, one_false, idle_found, waits_for_none, serves_serving, serves_idle, serves_undo}
 use Rattle.world.proofs.Machine.Readers.{NoneAnew, ReadsOnly, none_same, none_begun, none_replaced, none_without, reads_same}
-use Rattle.world.proofs.Invariant.Keeps.{still_captured, asked_captured, keeps_appended, keeps_same_log, logs_on}
+use Rattle.world.proofs.Invariant.Keeps.{still_captured, asked_captured, keeps_appended, keeps_same_log, logs_on, same_waiting, serving_on}
 
 pub record Follows (old : NodeView) (e : Event) (output : Out) (new : NodeView) : Type 0 where
   pub leads : Leads old e output new
@@ -90,7 +90,7 @@ unchanged old new e output k same none =
 pub keeps_used : (w : NodeView) (usage : Usage) → IsKept w → IsKept (with_tc w (used_so w.tc usage))
 keeps_used w usage k = keeps_same_log w (used_so w.tc usage) k (tc_used w.tc usage k.tc) k.checked refl (omega arith)
     (inl refl)
-    (omega arith) (none_same w.tc.reads w.tc.open_txns) k.sessions
+    (omega arith) (none_same w.tc.reads w.tc.open_txns) (same_waiting w k (used_so w.tc usage) refl refl) k.sessions
 
 -- what a refused call leaves: all as it was, but that the device was called
 abbrev pub IsLeft : TcView → TcView → Type 0
@@ -151,15 +151,16 @@ pub follows_begin : (old new : NodeView) (output : Out) → IsKept old → Begin
     → Follows old event.Begin output new
 follows_begin old new (out.Begun t) k h =
     let number : ℕ = length old.tc.log + 1 in
+    let serves = serves_serving old.tc (both_none (serving_refusal old.tc) _ h.0.0).0 in
     let after : IsTc (begun old.tc) = subst IsTc h.0.2 (begin_keeps old.tc new.tc (Ok t) k.tc h.0) in
     at_tc old new (begun old.tc) event.Begin (out.Begun t) h.1 h.0.2 (record {
       leads = one_line old (with_tc old (begun old.tc)) event.Begin (out.Begun t) (Begins t) refl
           (λ m stands. subst (λ (x : ℕ). LeadsTo (clients old.tc) m (Begins x) (clients (begun old.tc))) (sym h.0.1)
           (stands_begun old.tc m k.tc (next_unfound old.tc k.tc) (next_unlisted old.tc k.tc) stands));
       kept = keeps_appended old (begun old.tc) is.Begin k after k.checked refl (omega arith) (inl refl) (omega arith)
-          (none_begun old.tc.reads old.tc.open_txns number)
-          (logs_on old (begun old.tc).log k (serves_serving old.tc (both_none (serving_refusal old.tc) _ h.0.0).0))
-          k.right (λ some. still_captured old is.Begin (λ o h. cc) (λ m. refl));
+          (none_begun old.tc.reads old.tc.open_txns number) (serving_on old k (begun old.tc) refl serves)
+          (logs_on old (begun old.tc).log k serves) k.right
+          (λ some. still_captured old is.Begin (λ o h. cc) (λ m. refl));
     })
 follows_begin old new (out.Refused r) k h =
     refused old new event.Begin ToBegin r k refl h.1 (left_refused (begin_refusal old.tc) true true old.tc r new.tc h.0)
@@ -185,6 +186,7 @@ follows_act old new t op (out.Logged n) k h =
       kept = keeps_appended old tc (is.Op o.txn o.last op) k after k.checked refl (omega arith) (inl refl) (omega arith)
           (none_replaced old.tc.reads old.tc.open_txns o (acted_txn o (length old.tc.log + 1)) a.at.is
           (reads_same old.tc.reads o (acted_txn o (length old.tc.log + 1)) refl))
+          (serving_on old k tc refl (serves_idle old.tc t a.allowed))
           (logs_on old tc.log k (serves_idle old.tc t a.allowed)) k.right
           (λ some. asked_captured old (is.Op o.txn o.last op) k (λ m. refl));
     })
@@ -206,6 +208,7 @@ module _ (old : NodeView) (k : IsKept old) (o : OpenTxn) (new : OpenTxn) (tc : T
       (omega (arith, stable)) (inl session) reads
       (subst (NoneAnew old.tc.reads old.tc.open_txns) (sym opens)
       (none_replaced old.tc.reads old.tc.open_txns o new at only))
+      (same_waiting old k tc phases log)
       (rw (log, stable, session, phases) k.sessions)
 
 -- get, scan
@@ -371,6 +374,7 @@ follows_commit old new t (out.CommitLogged n) k h =
     let found = commit_found old.tc t h.0.0 in
     let o : OpenTxn = found.open_txn in
     let after : IsTc tc = subst IsTc h.0.2 (commit_keeps old.tc new.tc t (Ok n) k.tc h.0) in
+    let serves = serves_idle old.tc t (both_none (idle_refusal old.tc t) (spent_refusal old.tc.log) h.0.0).0 in
     let r : Record = is.Commit t in
     at_tc old new tc (event.Commit t) (out.CommitLogged n) h.1 h.0.2 (record {
       leads = one_line old (with_tc old tc) (event.Commit t) (out.CommitLogged n) (Commits t) refl
@@ -380,8 +384,7 @@ follows_commit old new t (out.CommitLogged n) k h =
           (subst (λ (x : ℕ). IsTc (committed old.tc x)) (sym found.at.number) after)));
       kept = keeps_appended old tc r k after k.checked refl (omega arith) (inl refl) (omega arith)
           (none_without old.tc.reads old.tc.open_txns t)
-          (logs_on old tc.log k (serves_idle old.tc t
-          (both_none (idle_refusal old.tc t) (spent_refusal old.tc.log) h.0.0).0)) k.right
+          (serving_on old k tc refl serves) (logs_on old tc.log k serves) k.right
           (λ some. still_captured old r (λ q asks. cc) (λ m. refl));
     })
 follows_commit old new t (out.Refused r) k h =
@@ -401,7 +404,7 @@ follows_force old new (out.Stable end cs) k h =
       leads = λ m stands. let l = stands_forced old.tc m k.tc stands in
           (l.0, subst (λ (ts : List ℕ). Steps m (told_committed ts) l.0) (sym h.0.1) l.1, l.2);
       kept = keeps_same_log old tc k after k.checked refl k.tc.within (inl refl) (omega arith)
-          (none_same old.tc.reads old.tc.open_txns)
+          (none_same old.tc.reads old.tc.open_txns) (same_waiting old k tc refl refl)
           (record {
             begun = record {
               recorded = omega (arith, k.sessions.begun.recorded, k.tc.within);
@@ -447,6 +450,7 @@ module _ (old : NodeView) (t : ℕ) (k : IsKept old) where
             (λ m stands. stands_compensated old.tc m o k.tc at.is stands r rolling h.0 after);
         kept = keeps_appended old tc c k after k.checked refl (omega arith) (inl refl) (omega arith)
             (none_replaced old.tc.reads old.tc.open_txns o mine at.is (reads_same old.tc.reads o mine refl))
+            (serving_on old k tc refl (serves_undo old.tc t allowed))
             (logs_on old tc.log k (serves_undo old.tc t allowed)) k.right (λ some. asked_captured old c k (λ m. refl));
       })
 
@@ -464,6 +468,7 @@ module _ (old : NodeView) (t : ℕ) (k : IsKept old) where
             (stands_ended old.tc m o k.tc at.is stands r rolling h.1 after));
         kept = keeps_appended old tc e k after k.checked refl (omega arith) (inl refl) (omega arith)
             (none_without old.tc.reads old.tc.open_txns o.txn)
+            (serving_on old k tc refl (serves_undo old.tc t allowed))
             (logs_on old tc.log k (serves_undo old.tc t allowed)) k.right
             (λ some. still_captured old e (λ q asks. cc) (λ m. refl));
       })

@@ -15,7 +15,6 @@ use Rattle.system_txn.specs.Devices.{pages_of}
 use Rattle.system_txn.specs.Crashed.{crashed}
 use Rattle.system_txn.proofs.Recoverable.{recoverable_fresh}
 use Rattle.dc_core.specs.Restarting.{restarted}
-use Rattle.dc_core.specs.Serves.{with_system}
 use Rattle.dc_core.proofs.Recoverable.{recoverable_served}
 use Rattle.dc_core.proofs.Checked.{checked_served, fresh_checked}
 use Rattle.tc_core.specs.Kept.{IsTc}
@@ -39,26 +38,27 @@ use Rattle.world.specs.declared.event.Out.TheVariants as out
 use Rattle.world.specs.Node.{NodeView, with_dc, StepsTo, IfUp, IfTcUp, IfDcUp, down_refusal, ServesTo, Served, PartsTo, JoinsTo, KeepsUpTo, WritesTo, CrashesDcTo, RestartsDcTo, fresh_node}
 use Rattle.world.specs.Stepping.{IsStep, Chain}
 use Rattle.world.specs.Kept.{IsKept, IsSent, IsAnsweredTo}
+use Rattle.world.specs.Source.{own}
 use Rattle.world.specs.Simulation.{StepsIf, lines_of, Happens, Run, Leads, LeadsAll, Stands}
 use Rattle.world.proofs.Invariant.CallsKeep.{fresh_tc}
 use Rattle.simulation.proofs.Told.{fresh_stands}
 use Rattle.world.proofs.Invariant.ByNumber.{all_at}
-use Rattle.world.proofs.Invariant.Performs.{KeepsServing}
+use Rattle.world.proofs.Invariant.Carries.{replied}
 use Rattle.world.proofs.Invariant.Serves.{serves, stops_serving}
 use Rattle.world.proofs.Invariant.Tends.{splits_keep, merges_keep, tends_keep, flushes_keep}
-use Rattle.world.proofs.Invariant.Keeps.{with_reply, keeps_given}
+use Rattle.world.proofs.Invariant.Keeps.{with_reply}
 use Rattle.world.proofs.Machine.Follows.{Follows, at_new, no_line, unchanged, follows_begin, follows_act, follows_get, follows_scan, follows_save, follows_go_back, follows_rollback, follows_commit, follows_undo, follows_force}
 use Rattle.world.proofs.Invariant.Sends.{follows_reconnect, follows_recover, follows_send, follows_low_water, follows_checkpoint}
 use Rattle.world.proofs.Machine.Replies.{follows_reply}
 use Rattle.world.proofs.Restarts.TcCrashes.{follows_tc_crash, follows_tc_restart}
 
 -- a request reaches the data component
-sent_there : (old : NodeView) (i : ℕ) (given : Result (Option Reply) Refusal) (dc : DcView) → IsKept old
-    → (h : Served old i given dc) → IsSent old.tc old.dc h.request
-sent_there old i given dc k h = all_at (IsSent old.tc old.dc) old.requests i h.request k.sent h.found
+sent_there : (old : NodeView) (i : ℕ) (given : Result (Option Reply) Refusal) (dc : DcView) (k : IsKept old)
+    → (h : Served old i given dc) → IsSent old.tc old.dc k.source h.request
+sent_there old i given dc k h = all_at (IsSent old.tc old.dc k.source) old.requests i h.request k.sent h.found
 
 served : (old : NodeView) (i : ℕ) (reply : Option Reply) (dc : DcView) → IsKept old → IsDc dc
-    → Served old i (Ok reply) dc → KeepsServing old reply dc
+    → Served old i (Ok reply) dc → IsKept (replied old dc reply)
 served old i reply dc k is h =
     serves old h.request reply dc k is (recoverable_served old.dc h.request (Ok reply) dc k.dc k.recoverable h.gives)
     (checked_served old.dc h.request (Ok reply) dc k.dc k.recoverable h.gives) (sent_there old i (Ok reply) dc k h)
@@ -74,15 +74,14 @@ follows_dc old new e output quiet kept same =
 follows_request : (old new : NodeView) (i : ℕ) (output : Out) → IsKept old → IsDc new.dc → ServesTo old i output new
     → Follows old (event.Request i) output new
 follows_request old new i (out.Replied j) k is h =
-    let s = served old i (Some h.0) new.dc k is h.1 in
     let next : NodeView = with_reply (with_dc old new.dc) h.0 in
     at_new old new next (event.Request i) (out.Replied j) h.3
     (record {
       leads = no_line old next (event.Request i) (out.Replied j) refl (λ m stands. stands);
-      kept = keeps_given (with_dc old new.dc) h.0 s.kept s.given;
+      kept = served old i (Some h.0) new.dc k is h.1;
     })
 follows_request old new i out.Noted k is h =
-    follows_dc old new (event.Request i) out.Noted refl (served old i None new.dc k is h.0).kept h.1
+    follows_dc old new (event.Request i) out.Noted refl (served old i None new.dc k is h.0) h.1
 follows_request old new i (out.Refused r) k is (inl h) = unchanged old new (event.Request i) (out.Refused r) k h.1 refl
 follows_request old new i (out.Refused r) k is (inr h) =
     follows_dc old new (event.Request i) (out.Refused r) refl
@@ -272,10 +271,12 @@ kept_fresh is = record {
   right = tt;
   dc = is;
   recoverable = recoverable_fresh unused unused;
+  source = own (fresh unused);
+  from = inl refl;
   true_to = record {
     leaves = (first_honest, tt);
-    written = record { first_leaf = first_honest; page = λ id page h. absurd (no_page id page h); logged = tt };
     low = (low_answered, tt);
+    written = record { first_leaf = first_honest; page = λ id page h. absurd (no_page id page h); logged = tt };
     written_low = record { first_leaf = low_answered; page = λ id page h. absurd (no_page id page h); logged = tt };
   };
   performed = tt;

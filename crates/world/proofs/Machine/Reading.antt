@@ -31,7 +31,8 @@ use Rattle.tc_core.proofs.KeepsTc.{reading_at}
 use Rattle.world.specs.Node.{NodeView}
 use Rattle.world.specs.Kept.{IsKept}
 use Rattle.world.specs.Simulation.{Stands, clients, rolling_as, reading_as, waiting_as, doing_of, doing_in}
-use Rattle.world.proofs.Invariant.AtKeys.{honest_at}
+use Rattle.world.specs.Source.{own}
+use Rattle.world.proofs.Invariant.AtKeys.{honest_at, answered_captured}
 use Rattle.world.proofs.Invariant.Unread.{unread}
 
 -- who isn't rolling back has nothing to undo
@@ -109,14 +110,14 @@ module _ (w : NodeView) (o : OpenTxn) (r : Read) (k : IsKept w) (at : find o.txn
       by_txn (Some p) some = ap (λ y. is_to_undo (doing_in y) n) some ∙ by_rolling p some p.rolling refl
 
   -- what the leaf has there is what the log gives
-  pub read_logged : may_merge w.dc ≡ true → (key : Bytes) → is_within (shared r.span) key ≡ true
+  pub read_logged : k.source ≡ own w.tc → may_merge w.dc ≡ true → (key : Bytes) → is_within (shared r.span) key ≡ true
       → value_at w.dc key ≡ value_on key log
-  read_logged past key within =
-      (honest_at w key k).right
+  read_logged live past key within =
+      (honest_at w key k live).right
       ∙ value_of-captured log key (captures_at w.dc key)
       (all_done (λ n. captures_at w.dc key n ≡ true) key log (λ n q asks on.
       subst (λ (z : Bytes). captures_at w.dc z n ≡ true) on
-      (k.answered past n q asks (answered_there key within n q asks on))))
+      (answered_captured w k live past n q asks (answered_there key within n q asks on))))
 
   -- and that is what the plain map has
   pub logged_plain : (m : Machine) → Stands w m → (key : Bytes) → is_within (shared r.span) key ≡ true

@@ -27,7 +27,7 @@ use Rattle.tc_core.specs.declared.phase.Phase.TheVariants as phase
 use Rattle.tc_core.specs.declared.told.Told.TheVariants as told
 use Rattle.logical_log.specs.LogView.{is_spent}
 use Rattle.tc_core.specs.OpenTxns.{find}
-use Rattle.tc_core.specs.TcView.{TcView, is_none_lost}
+use Rattle.tc_core.specs.TcView.{TcView, is_none_lost, is_serving}
 use Rattle.system_txn.specs.Checked.{IsChecked}
 use Rattle.tc_core.specs.Changes.{answered, answered_txn, answered_lost, was_told, told_txn, checkpointed, undoing_or_running}
 use Rattle.tc_core.specs.Replies.{Outcome, takes, awaiting, lacks, told_lost, next_phase, passed, on_awaited, on_answered, on_connected, on_redo_ended, on_checkpointed, on_reply, on_row, on_rows, is_number, is_key, is_range, span_read, reader, logs, reply_refusal}
@@ -39,7 +39,9 @@ use Rattle.world.specs.declared.event.Event.TheVariants as event
 use Rattle.world.specs.declared.event.Out.{Out}
 use Rattle.world.specs.declared.event.Out.TheVariants as out
 use Rattle.world.specs.Node.{NodeView, with_tc, as_out, IsUnsent, Taken, Untaken, Unread, TakesTo}
-use Rattle.world.specs.Kept.{IsKept, IsTrueOfReader, InSession, IsValue, AreRows, IsAnswered, IsGiven, IsServed, AreSessions}
+use Rattle.world.specs.Kept.{IsKept, IsTrueOfReader, InSession, IsValue, AreRows, IsAnswerIn, IsCaptured, IsAnswered, IsGiven, IsServed, AreSessions}
+use Rattle.world.specs.Source.{Source, IsWaiting, own}
+use Rattle.world.proofs.Invariant.Sources.{live, of_log}
 use Rattle.world.specs.Simulation.{Leads, Stands, lines_of, clients}
 use Rattle.world.proofs.Invariant.ByNumber.{all_at}
 use Rattle.world.proofs.Invariant.CallsKeep.{reply_keeps}
@@ -48,7 +50,7 @@ use Rattle.world.proofs.Invariant.AtKeys.{low_captured}
 use Rattle.world.proofs.Machine.Standing.{stands_answered, stands_undone, stands_lost_answered, stands_checkpointed}
 use Rattle.world.proofs.Machine.ToldReads.{tells_row, tells_rows}
 use Rattle.world.proofs.Machine.Readers.{none_same, none_replaced, reads_same, reads_none}
-use Rattle.world.proofs.Invariant.Keeps.{answer_captured, still_captured, quiet_served, keeps_appended, keeps_same_log}
+use Rattle.world.proofs.Invariant.Keeps.{answer_captured, still_captured, quiet_served, Waits, same_waiting, none_waiting, serving_on, keeps_appended, keeps_same_log}
 use Rattle.world.proofs.Invariant.Running.{is_run, stored_begun, same_runs}
 use Rattle.world.proofs.Invariant.Sends.{redo_served, redoing_phase}
 use Rattle.world.proofs.Machine.Follows.{Follows, at_new, no_line, one_line, unchanged, left_refused, kept_left, stands_left}
@@ -97,40 +99,66 @@ some_taken (phase.Redoing next ending) c n s taken h = omega (arith, h.0, h.1)
 some_taken (phase.Undoing waiting) c n s taken h = h
 some_taken phase.Running c n s taken h = h
 
+-- who takes a reply to a request doesn't wait
+taking_unwaiting : (p : Phase) (s n : ℕ) → takes s p n ≡ true → IsWaiting p → ⊥
+taking_unwaiting phase.Unconnected s n taken waits = true≢false (sym taken)
+taking_unwaiting phase.Connecting s n taken waits = true≢false (sym taken)
+taking_unwaiting (phase.Redoing next ending) s n taken waits = waits
+taking_unwaiting (phase.Undoing waiting) s n taken waits = waits
+taking_unwaiting phase.Running s n taken waits = waits
+
+passed_unwaiting : (p : Phase) (n : ℕ) → (IsWaiting p → ⊥) → IsWaiting (next_phase p n) → ⊥
+passed_unwaiting phase.Unconnected n none waits = none waits
+passed_unwaiting phase.Connecting n none waits = none waits
+passed_unwaiting (phase.Redoing next ending) n none waits = waits
+passed_unwaiting (phase.Undoing waiting) n none waits = waits
+passed_unwaiting phase.Running n none waits = waits
+
 -- an answer of the session that runs
-pub record IsTaken (w : NodeView) (s n : ℕ) (a : Option Answer) : Type 0 where
+pub record IsTaken (w : NodeView) (k : IsKept w) (s n : ℕ) (a : Option Answer) : Type 0 where
   pub taken : takes w.tc.session w.tc.phase n ≡ true
   pub same : s ≡ w.tc.session
-  pub given : IsAnswered w.tc w.dc s n a
+  pub given : IsAnswered w.tc w.dc k.source s n a
 
--- is of a captured number, while the data component runs some session
-taken_captured : (w : NodeView) (s n : ℕ) (a : Option Answer) (k : IsKept w) (t : IsTaken w s n a) → w.dc.session ≢ 0
-    → captures_at w.dc (key_of t.given.op) n ≡ true
-taken_captured w s n a k t some =
-    t.given.captured.holds (same_runs w s k (some_taken w.tc.phase w.tc.checkpointed n w.tc.session t.taken k.tc.phase)
-    t.same t.given.captured.begun some)
+module _ (w : NodeView) (s n : ℕ) (a : Option Answer) (k : IsKept w) (t : IsTaken w k s n a) where
+  unwaiting : IsWaiting w.tc.phase → ⊥
+  unwaiting = taking_unwaiting w.tc.phase w.tc.session n t.taken
 
-taken_there : (w : NodeView) (s n : ℕ) (a : Option Answer) → IsKept w → IsTaken w s n a → w.dc.session ≡ w.tc.session
-    → (o : Op) → Requests w.tc.log n o
-    → captures_at w.dc (key_of o) n ≡ true
-taken_there w s n a k t runs o asks =
-    let begun : 0 < w.tc.session = some_taken w.tc.phase w.tc.checkpointed n w.tc.session t.taken k.tc.phase in
-    let some : w.dc.session ≢ 0 = λ zero. absurd (omega (arith, begun, runs, zero)) in
-    let one : t.given.op ≡ o = one_request w.tc.log n o t.given.op asks t.given.requests in
-    subst (λ (p : Op). captures_at w.dc (key_of p) n ≡ true) one (taken_captured w s n a k t some)
+  -- it is that of a request of the log
+  answer_taken : IsAnswerIn (own w.tc) n a
+  answer_taken = t.given.own unwaiting t.same
 
-passes : (w : NodeView) (s n : ℕ) (a : Option Answer) → IsKept w → IsTaken w s n a → IsTc (passed w.tc n)
+  goes_on : (tc : TcView) → tc.phase ≡ next_phase w.tc.phase n → Waits w k tc
+  goes_on tc at = none_waiting w k tc unwaiting
+      (λ waits. passed_unwaiting w.tc.phase n unwaiting (subst IsWaiting at waits))
+
+  -- whose number is captured, while the data component runs some session
+  taken_captured : w.dc.session ≢ 0 → (o : Op) → Requests w.tc.log n o → captures_at w.dc (key_of o) n ≡ true
+  taken_captured some o asks =
+      let running = same_runs w s k
+      (some_taken w.tc.phase w.tc.checkpointed n w.tc.session t.taken k.tc.phase) t.same t.given.captured.begun some in
+      let c = of_log w.tc k.source (λ (x : Source). IsCaptured x w.dc n) (live w k unwaiting)
+      (t.given.captured.holds running) in
+      let one : c.op ≡ o = one_request w.tc.log n o c.op asks c.requests in
+      subst (λ (p : Op). captures_at w.dc (key_of p) n ≡ true) one c.captured
+
+  taken_there : w.dc.session ≡ w.tc.session → (o : Op) → Requests w.tc.log n o → captures_at w.dc (key_of o) n ≡ true
+  taken_there runs o asks =
+      let begun : 0 < w.tc.session = some_taken w.tc.phase w.tc.checkpointed n w.tc.session t.taken k.tc.phase in
+      taken_captured (λ zero. absurd (omega (arith, begun, runs, zero))) o asks
+
+passes : (w : NodeView) (s n : ℕ) (a : Option Answer) (k : IsKept w) → IsTaken w k s n a → IsTc (passed w.tc n)
     → IsKept (with_tc w (passed w.tc n))
 passes w s n a k t after =
     keeps_same_log w (passed w.tc n) k after k.checked refl (omega arith) (inl refl) (omega arith)
-    (none_same w.tc.reads w.tc.open_txns)
+    (none_same w.tc.reads w.tc.open_txns) (goes_on w s n a k t (passed w.tc n) refl)
     (record {
       begun = k.sessions.begun;
       served = next_served w.tc.phase n w.tc.session w.tc.log w.dc t.taken (taken_there w s n a k t)
           k.sessions.served;
     })
 
-answer_sessions : (w : NodeView) (s n : ℕ) (a : Answer) → IsKept w → IsTaken w s n (Some a)
+answer_sessions : (w : NodeView) (s n : ℕ) (a : Answer) (k : IsKept w) → IsTaken w k s n (Some a)
     → AreSessions w.tc.stable w.tc.session (next_phase w.tc.phase n) (is.Answer n a ∷ w.tc.log) w.dc
 answer_sessions w s n a k t = record {
   begun = k.sessions.begun;
@@ -139,20 +167,23 @@ answer_sessions w s n a k t = record {
 }
 
 -- the answer that is waited for
-answers : (w : NodeView) (o : OpenTxn) (s n : ℕ) (a : Answer) → IsKept w → find o.txn w.tc.open_txns ≡ Some o
-    → IsTc (passed (answered w.tc o n a) n) → IsTaken w s n (Some a)
+answers : (w : NodeView) (o : OpenTxn) (s n : ℕ) (a : Answer) (k : IsKept w) → find o.txn w.tc.open_txns ≡ Some o
+    → IsTc (passed (answered w.tc o n a) n) → IsTaken w k s n (Some a)
     → IsKept (with_tc w (passed (answered w.tc o n a) n))
 answers w o s n a k at after t =
+    let given = answer_taken w s n (Some a) k t in
     keeps_appended w (passed (answered w.tc o n a) n) (is.Answer n a) k after k.checked refl (omega arith) (inl refl)
     (omega arith)
     (none_replaced w.tc.reads w.tc.open_txns o (answered_txn o) at (reads_same w.tc.reads o (answered_txn o) refl))
+    (goes_on w s n (Some a) k t (passed (answered w.tc o n a) n) refl)
     (answer_sessions w s n a k t)
-    (t.given.answer, k.right)
-    (λ some. answer_captured w n a t.given.op t.given.requests (taken_captured w s n (Some a) k t some))
+    (given.answer, k.right)
+    (λ some. answer_captured w n a given.op given.requests
+    (taken_captured w s n (Some a) k t some given.op given.requests))
 
 -- is told to its client, or is that of a compensation
 tells : (w : NodeView) (i : ℕ) (o : OpenTxn) (s n : ℕ) (a : Answer) → IsKept w → find o.txn w.tc.open_txns ≡ Some o
-    → o.waiting ≡ Some n → IsAnswered w.tc w.dc s n (Some a)
+    → o.waiting ≡ Some n → IsAnswerIn (own w.tc) n (Some a)
     → IsTc (passed (answered w.tc o n a) n) → (x : Option Rollback) → o.rolling ≡ x
     → Leads w (event.Reply i) (as_out (if is_some x then told.Undone n else told.Answered o.txn a))
     (with_tc w (passed (answered w.tc o n a) n))
@@ -164,22 +195,25 @@ tells w i o s n a k at waiting given after None flat =
     one_line w (with_tc w (passed (answered w.tc o n a) n)) (event.Reply i) (out.Answered o.txn a) (TellsAnswer o.txn a)
     refl (λ m stands.
     stands_answered w.tc m o k.tc at stands n a flat (reads_nothing w.tc o n k.tc at waiting) waiting after.legal
-    (given.answer, k.right) given.stable)
+    (given.answer, k.right) given.sure)
 
 -- the answer of a loser's request
-lost_answers : (w : NodeView) (s n : ℕ) (a : Answer) → IsKept w → IsTc (passed (answered_lost w.tc n a) n)
-    → IsTaken w s n (Some a)
+lost_answers : (w : NodeView) (s n : ℕ) (a : Answer) (k : IsKept w) → IsTc (passed (answered_lost w.tc n a) n)
+    → IsTaken w k s n (Some a)
     → IsKept (with_tc w (passed (answered_lost w.tc n a) n))
 lost_answers w s n a k after t =
+    let given = answer_taken w s n (Some a) k t in
     keeps_appended w (passed (answered_lost w.tc n a) n) (is.Answer n a) k after k.checked refl (omega arith) (inl refl)
     (omega arith)
-    (none_same w.tc.reads w.tc.open_txns) (answer_sessions w s n a k t)
-    (t.given.answer, k.right)
-    (λ some. answer_captured w n a t.given.op t.given.requests (taken_captured w s n (Some a) k t some))
+    (none_same w.tc.reads w.tc.open_txns) (goes_on w s n (Some a) k t (passed (answered_lost w.tc n a) n) refl)
+    (answer_sessions w s n a k t)
+    (given.answer, k.right)
+    (λ some. answer_captured w n a given.op given.requests
+    (taken_captured w s n (Some a) k t some given.op given.requests))
 
 -- is told to nobody
-lost_answered : (w : NodeView) (i s n : ℕ) (a : Answer) → IsKept w → IsDue w.tc.log w.tc.losers.below n
-    → IsTaken w s n (Some a) → Goes w i (told_lost (record_at w.tc.log n) n, passed (answered_lost w.tc n a) n)
+lost_answered : (w : NodeView) (i s n : ℕ) (a : Answer) (k : IsKept w) → IsDue w.tc.log w.tc.losers.below n
+    → IsTaken w k s n (Some a) → Goes w i (told_lost (record_at w.tc.log n) n, passed (answered_lost w.tc n a) n)
 lost_answered w i s n a k due t after =
     quietly w i (told_lost (record_at w.tc.log n) n, passed (answered_lost w.tc n a) n) (by (record_at w.tc.log n))
     (λ m stands. stands_lost_answered w.tc m n a k.tc after.legal due stands) (lost_answers w s n a k after t)
@@ -189,12 +223,12 @@ lost_answered w i s n a k due t after =
     by (Some r) = refl
     by None = refl
 
-awaited_goes : (w : NodeView) (i s n : ℕ) (a : Option Answer) (x : Option OpenTxn) → IsKept w → awaiting w.tc n ≡ x
-    → IsTaken w s n a → Goes w i (on_awaited w.tc n a x)
+awaited_goes : (w : NodeView) (i s n : ℕ) (a : Option Answer) (x : Option OpenTxn) (k : IsKept w)
+    → awaiting w.tc n ≡ x → IsTaken w k s n a → Goes w i (on_awaited w.tc n a x)
 awaited_goes w i s n a None k none t after =
     by (lacks w.tc n) refl a t after
   where
-    by : (b : Bool) → lacks w.tc n ≡ b → (a : Option Answer) → IsTaken w s n a → Goes w i (lost_if w.tc n a b)
+    by : (b : Bool) → lacks w.tc n ≡ b → (a : Option Answer) → IsTaken w k s n a → Goes w i (lost_if w.tc n a b)
     by false lacks_none a t after =
         quietly w i (told.Nothing, passed w.tc n) refl (λ m stands. stands) (passes w s n a k t after)
     by true lacking None t after = nothing w i k after
@@ -203,12 +237,12 @@ awaited_goes w i s n None (Some o) k some t after = nothing w i k after
 awaited_goes w i s n (Some a) (Some o) k some t after =
     let at = awaited_is w.tc n o some in
     record {
-      leads = tells w i o s n a k at.0 at.1 t.given after o.rolling refl;
+      leads = tells w i o s n a k at.0 at.1 (answer_taken w s n (Some a) k t) after o.rolling refl;
       kept = answers w o s n a k at.0 after t;
     }
 
-answered_goes : (w : NodeView) (i s n : ℕ) (a : Option Answer) → IsKept w → s ≡ w.tc.session
-    → IsAnswered w.tc w.dc s n a → Goes w i (on_answered w.tc n a)
+answered_goes : (w : NodeView) (i s n : ℕ) (a : Option Answer) (k : IsKept w) → s ≡ w.tc.session
+    → IsAnswered w.tc w.dc k.source s n a → Goes w i (on_answered w.tc n a)
 answered_goes w i s n a k same given = pick (takes w.tc.session w.tc.phase n) refl
   where
     pick : (b : Bool) → takes w.tc.session w.tc.phase n ≡ b
@@ -230,6 +264,10 @@ connected_goes w i s phase.Connecting at k same given after =
     (keeps_same_log w tc k after k.checked refl (omega arith) (inl refl) (omega arith)
     (none_same w.tc.reads w.tc.open_txns)
     (record {
+      asks = λ h. absurd (omega (arith, h.later some, same, given));
+      waits = λ waits. absurd waits;
+    })
+    (record {
       begun = k.sessions.begun;
       served = (
         subst P at k.sessions.served,
@@ -250,10 +288,11 @@ redo_ended_goes w i s (phase.Redoing next false) at k same past after = nothing 
 redo_ended_goes w i s (phase.Redoing next true) at k same past after =
     let served = redo_served w next true k at in
     let bounds = redoing_phase w next true k at in
-    quietly w i (told.RedoEnded w.tc.session, record w.tc { phase = undoing_or_running w.tc.losers }) refl
-    (λ m stands. stands)
-    (keeps_same_log w (record w.tc { phase = undoing_or_running w.tc.losers }) k after k.checked refl (omega arith)
-    (inl refl) (omega arith) (none_same w.tc.reads w.tc.open_txns)
+    let tc : TcView = record w.tc { phase = undoing_or_running w.tc.losers } in
+    quietly w i (told.RedoEnded w.tc.session, tc) refl (λ m stands. stands)
+    (keeps_same_log w tc k after k.checked refl (omega arith) (inl refl) (omega arith)
+    (none_same w.tc.reads w.tc.open_txns)
+    (none_waiting w k tc (λ waits. subst IsWaiting at waits) (ended_unwaiting (is_none_lost w.tc.losers)))
     (record {
       begun = k.sessions.begun;
       served =
@@ -264,6 +303,10 @@ redo_ended_goes w i s (phase.Redoing next true) at k same past after =
           );
     }))
   where
+    ended_unwaiting : (b : Bool) → IsWaiting (if b then phase.Running else phase.Undoing None) → ⊥
+    ended_unwaiting true waits = waits
+    ended_unwaiting false waits = waits
+
     ended_served : (b : Bool) → (w.dc.stored ≡ w.tc.session) × (w.dc.session ≡ w.tc.session → w.dc.redo ≡ false)
         → IsServed (if b then phase.Running else phase.Undoing None) w.tc.session w.tc.log w.dc
     ended_served true h = h
@@ -271,13 +314,21 @@ redo_ended_goes w i s (phase.Redoing next true) at k same past after =
 redo_ended_goes w i s (phase.Undoing waiting) at k same past after = nothing w i k after
 redo_ended_goes w i s phase.Running at k same past after = nothing w i k after
 
--- of a checkpoint that was asked for, the data component is as low
-checkpoint_logged : (w : NodeView) (l : ℕ) → IsKept w → IsChecked l w.dc.system → IsTc (checkpointed w.tc l)
-    → IsKept (with_tc w (checkpointed w.tc l))
-checkpoint_logged w l k given after =
+-- a checkpoint is asked for only where clients are served
+asked_running : (w : TcView) (l : ℕ) → IsTc w → is_number w.checkpointing l ≡ true → is_serving w.phase ≡ true
+asked_running w l k asked = by w.checkpointing refl asked
+  where
+    by : (x : Option ℕ) → w.checkpointing ≡ x → is_number x l ≡ true → is_serving w.phase ≡ true
+    by None none asked = absurd (true≢false (sym asked))
+    by (Some m) some asked = ap is_serving (k.asking m some)
+
+-- of one that was asked for, the data component is as low
+checkpoint_logged : (w : NodeView) (l : ℕ) → IsKept w → is_serving w.tc.phase ≡ true → IsChecked l w.dc.system
+    → IsTc (checkpointed w.tc l) → IsKept (with_tc w (checkpointed w.tc l))
+checkpoint_logged w l k serves given after =
     let r : Record = is.Checkpoint l in
     keeps_appended w (checkpointed w.tc l) r k after (pick (nat_lt w.tc.checkpointed l)) refl (omega arith) (inl refl)
-    (omega arith) (none_same w.tc.reads w.tc.open_txns)
+    (omega arith) (none_same w.tc.reads w.tc.open_txns) (serving_on w k (checkpointed w.tc l) refl serves)
     (record {
       begun = k.sessions.begun;
       served = quiet_served w.tc.phase w.tc.session r w.tc.log w.dc (λ o h. cc) k.sessions.served;
@@ -289,15 +340,15 @@ checkpoint_logged w l k given after =
     pick false = k.checked
 
 checkpointed_goes : (w : NodeView) (i l : ℕ) → IsKept w → IsChecked l w.dc.system → Goes w i (on_checkpointed w.tc l)
-checkpointed_goes w i l k given = pick (is_number w.tc.checkpointing l)
+checkpointed_goes w i l k given = pick (is_number w.tc.checkpointing l) refl
   where
-    pick : (b : Bool)
+    pick : (b : Bool) → is_number w.tc.checkpointing l ≡ b
         → Goes w i (if b then (told.CheckpointLogged (length w.tc.log + 1), checkpointed w.tc l) else
         (told.Nothing, w.tc))
-    pick true after =
+    pick true asked after =
         quietly w i (told.CheckpointLogged (length w.tc.log + 1), checkpointed w.tc l) refl (stands_checkpointed w.tc l)
-        (checkpoint_logged w l k given after)
-    pick false after = nothing w i k after
+        (checkpoint_logged w l k (asked_running w.tc l k.tc asked) given after)
+    pick false unasked after = nothing w i k after
 
 -- a reply that isn't refused is of the session
 fresh_session : (s session : ℕ) (c : Bool)
@@ -315,7 +366,8 @@ kept_told : (w : NodeView) (o : OpenTxn) → IsKept w → find o.txn w.tc.open_t
     → IsKept (with_tc w (was_told w.tc o))
 kept_told w o k at after =
     keeps_same_log w (was_told w.tc o) k after k.checked refl (omega arith) (inl refl) (omega arith)
-    (none_replaced w.tc.reads w.tc.open_txns o (told_txn o) at (reads_none w.tc.reads o (told_txn o) refl)) k.sessions
+    (none_replaced w.tc.reads w.tc.open_txns o (told_txn o) at (reads_none w.tc.reads o (told_txn o) refl))
+    (same_waiting w k (was_told w.tc o) refl refl) k.sessions
 
 row_goes : (w : NodeView) (i n : ℕ) (v : Option Bytes) (x : Option OpenTxn) → IsKept w → reader w.tc n ≡ x
     → IsTrueOfReader w.tc n (IsValue w.tc.log v) → Goes w i (on_row w.tc v x)
@@ -363,7 +415,7 @@ rows_goes w i n rows (Some o) k is given =
           kept = kept_told w o k at after;
         })
 
-replied : (w : NodeView) (i : ℕ) (reply : Reply) → IsKept w → IsGiven w.tc w.dc reply
+replied : (w : NodeView) (i : ℕ) (reply : Reply) (k : IsKept w) → IsGiven w.tc w.dc k.source reply
     → reply_refusal w.tc reply ≡ None → Goes w i (on_reply w.tc reply)
 replied w i (says.Connected s) k given allowed =
     connected_goes w i s w.tc.phase refl k
@@ -386,7 +438,7 @@ pub taken : (old new : NodeView) (i : ℕ) (output : Out) → IsKept old → Tak
     → Follows old (event.Reply i) output new
 taken old new i output k t =
     let x : Outcome = on_reply old.tc t.reply in
-    let given = all_at (IsGiven old.tc old.dc) old.replies i t.reply k.given t.found in
+    let given = all_at (IsGiven old.tc old.dc k.source) old.replies i t.reply k.given t.found in
     let after : IsTc x.1 = subst IsTc t.taken.1.left (reply_keeps old.tc new.tc t.reply (Ok t.what) k.tc t.taken) in
     let P : Out → Type 0 = λ o. Follows old (event.Reply i) o new in
     subst P (sym (t.output_is ∙ ap as_out t.taken.1.told))

@@ -36,7 +36,9 @@ use Rattle.simulation.proofs.Answering.{plain_uncrossed}
 use Rattle.world.proofs.Machine.Awaited.{IsOpOf, op_waited}
 use Rattle.world.proofs.Machine.Idle.{none_rolls}
 use Rattle.world.proofs.Machine.Reading.{flat_undoes_none}
-use Rattle.world.proofs.Invariant.AtKeys.{honest_at, captured_stable}
+use Rattle.world.specs.Source.{Source, IsWaiting, own}
+use Rattle.world.proofs.Invariant.AtKeys.{honest_at, answered_captured, captured_sure}
+use Rattle.world.proofs.Invariant.Sources.{live, of_log}
 use Rattle.world.proofs.Restarts.LosersHold.{running_unlost, nobody_listed}
 use Rattle.world.proofs.Machine.Waited.{IsAwaited, answered_or}
 
@@ -48,6 +50,10 @@ settled_past w k settled =
     let some : 0 < w.tc.session = subst Q settled.running k.tc.phase in
     past_is w.dc w.tc.session (λ zero. absurd (omega (arith, some, zero))) settled.session
     ((subst P settled.running k.sessions.served).1 settled.session)
+
+-- so its cached leaves go on from the log itself
+settled_live : (w : NodeView) (k : IsKept w) → IsSettled w → k.source ≡ own w.tc
+settled_live w k settled = live w k (λ waits. subst IsWaiting settled.running waits)
 
 -- once the component runs nobody is left whom a crash found open
 none_left : (w : NodeView) → IsKept w → w.tc.phase ≡ phase.Running → is_none_lost w.tc.losers ≡ true
@@ -73,13 +79,17 @@ captured_answered : (w : NodeView) → IsKept w → IsSettled w → (key : Bytes
 captured_answered w k settled key n o asks on =
     elim (cases_Bool (is_some (answer_of w.tc.log n))) [
       | inl some ↦ subst (λ (q : Bytes). captures_at w.dc q n ≡ true) on
-          (k.answered (settled_past w k settled) n o asks some) ∙ sym some
+          (answered_captured w k (settled_live w k settled) (settled_past w k settled) n o asks some) ∙ sym some
       | inr none ↦ elim (cases_Bool (captures_at w.dc key n)) [
         | inl captured ↦ absurd (true≢false
-            (sym (settled.answered n o (captured_stable w key n k captured) asks) ∙ none))
+            (sym (settled.answered n o (is_stable captured) asks) ∙ none))
         | inr uncaptured ↦ uncaptured ∙ sym none
       ]
     ]
+  where
+    is_stable : captures_at w.dc key n ≡ true → n ≤ w.tc.stable
+    is_stable captured = of_log w.tc k.source (λ (x : Source). n ≤ x.sure) (settled_live w k settled)
+        (captured_sure w key n k captured)
 
 -- so at each key
 settled_value : (w : NodeView) → IsKept w → IsSettled w → (key : Bytes)
@@ -112,7 +122,7 @@ pub settled_rows : (w : NodeView) (m : Machine) → IsKept w → Stands w m → 
     → rows_of (leaves w.dc) ≡ plain m.h
 settled_rows w m k stands settled =
     same_table (rows_of (leaves w.dc)) (plain (hist w.tc.log))
-    (λ q. (one_table (leaves w.dc) k.dc.system.leaves).value q ∙ (honest_at w q k).right
+    (λ q. (one_table (leaves w.dc) k.dc.system.leaves).value q ∙ (honest_at w q k (settled_live w k settled)).right
     ∙ settled_value w k settled q)
     ∙ sym (sym (plain_uncrossed m.h)
     ∙ ap plain (calm_entries (clients w.tc) m stands (calm w k.tc settled.running settled.unrolled))

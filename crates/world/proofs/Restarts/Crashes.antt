@@ -1,6 +1,5 @@
 -- A crash of the data component, and its restart, keep what holds of a node.
-use Rattle.std.proofs.Common.{◌≡◌, ℕ, ◌<◌, ◌≤◌, Bool, true, List, length, refl, sym, ap, subst, arith, inl}
-use Rattle.record_key.specs.declared.refusal.Refusal.{Refusal}
+use Rattle.std.proofs.Common.{◌≡◌, ℕ, ◌<◌, ◌≤◌, Bool, true, List, length, None, refl, sym, ap, subst, arith, inl}
 use Rattle.recovery_laws.specs.Shape.{beginning}
 use Rattle.recovery_laws.specs.Recovery.{stored_session}
 use Rattle.recovery_laws.specs.Laws.{IsKeptByCuts}
@@ -19,7 +18,7 @@ use Rattle.dc_core.specs.Kept.{IsDc}
 use Rattle.dc_core.specs.Restarting.{restarted}
 use Rattle.dc_core.proofs.KeepsDc.{nothing_saved}
 use Rattle.dc_core.proofs.Stored.{stored_within}
-use Rattle.dc_core.specs.Serves.{runs, with_system}
+use Rattle.dc_core.specs.Serves.{runs}
 use Rattle.tc_core.specs.declared.phase.Phase.{Phase}
 use Rattle.tc_core.specs.declared.phase.Phase.TheVariants as phase
 use Rattle.tc_core.specs.TcView.{TcView}
@@ -29,7 +28,8 @@ use Rattle.stable.specs.Usage.{Usage}
 use Rattle.world.specs.Component.{dc_used}
 use Rattle.world.specs.Node.{NodeView, with_dc}
 use Rattle.world.specs.Kept.{IsKept, IsBegun, IsServed, IsTrueTo, IsLowAnswered}
-use Rattle.world.proofs.Invariant.Carries.{keeps_dc}
+use Rattle.world.specs.Source.{own}
+use Rattle.world.proofs.Invariant.Carries.{keeps_anew}
 use Rattle.world.proofs.Invariant.Running.{run_is, some_session}
 use Rattle.world.proofs.Invariant.Systems.{same_leaves, keeps_system}
 use Rattle.world.proofs.Invariant.Written.{used_true}
@@ -79,18 +79,20 @@ cuts_honest w leaf d cut less inside h = record {
   within = λ n got. h.within n (captures_fewer leaf.ab (is_under cut) n got);
 }
 
-cuts_low : (w : TcView) → IsKeptByCuts (IsLowAnswered w)
+cuts_low : (w : TcView) → IsKeptByCuts (IsLowAnswered w.log w.stable)
 cuts_low w leaf d cut less inside h = h
 
-pub crash_true : (w : NodeView) (n : ℕ) → IsKept w → w.dc.system.stable ≤ n → IsTrueTo w.tc (crashed w.dc.system n)
+pub crash_true : (w : NodeView) (n : ℕ) → IsKept w → w.dc.system.stable ≤ n
+    → IsTrueTo w.tc (own w.tc) (crashed w.dc.system n)
 crash_true w n k le =
     let v : SystemView = w.dc.system in record {
       leaves = all_recovered (IsHonestTo w.tc.log w.tc.stable) (pages_of v.pages) v.log v.stable n (cuts_honest w.tc)
           k.recoverable.legal k.recoverable.fit le k.true_to.written;
+      low = all_recovered (IsLowAnswered w.tc.log w.tc.stable) (pages_of v.pages) v.log v.stable n (cuts_low w.tc)
+          k.recoverable.legal k.recoverable.fit le k.true_to.written_low;
       written = have_beginning (IsHonestTo w.tc.log w.tc.stable) (pages_of v.pages) v.log n k.true_to.written;
-      low = all_recovered (IsLowAnswered w.tc) (pages_of v.pages) v.log v.stable n (cuts_low w.tc) k.recoverable.legal
-          k.recoverable.fit le k.true_to.written_low;
-      written_low = have_beginning (IsLowAnswered w.tc) (pages_of v.pages) v.log n k.true_to.written_low;
+      written_low = have_beginning (IsLowAnswered w.tc.log w.tc.stable) (pages_of v.pages) v.log n
+          k.true_to.written_low;
     }
 
 pub crash_kept : (w : NodeView) (n : ℕ) → IsKept w → w.dc.system.stable ≤ n → IsDc (restarted (crashed w.dc.system n))
@@ -107,16 +109,14 @@ crash_keeps w n k le =
       recorded = omega (arith, stored_within w.dc.system.log n, k.sessions.begun.recorded);
       most = λ some. omega (arith, stored_within w.dc.system.log n, k.sessions.begun.most some);
     } in
-    keeps_dc w (restarted v) k (crash_kept w n k le)
+    keeps_anew w (restarted v) k
     (record {
-      captured = λ some n o asks h. absurd (some refl);
       stored = least;
-      ran = λ s before r. absurd (no_run v s r);
-      past = λ s before r past. refl;
+      other = λ s before r. no_run v s r;
+      unmerged = λ may. some_session (restarted v) may refl;
       checks = crashed_checked w.dc.system n k.recoverable le;
     })
-    (crashed_recoverable w.dc.system n k.recoverable le) (crash_true w n k le) tt
-    (λ may. absurd (some_session (restarted v) may refl))
+    None tt (crash_kept w n k le) (crashed_recoverable w.dc.system n k.recoverable le) (crash_true w n k le) tt
     (record {
       begun = begun;
       served = crash_served w.tc.phase w.tc.checkpointed w.tc.session w.tc.log w.dc v k.tc.phase begun.most least
@@ -130,6 +130,8 @@ keeps_up w tc_up dc_up k = record {
   right = k.right;
   dc = k.dc;
   recoverable = k.recoverable;
+  source = k.source;
+  from = k.from;
   true_to = k.true_to;
   performed = k.performed;
   answered = k.answered;
@@ -143,8 +145,8 @@ keeps_up w tc_up dc_up k = record {
 pub used_keeps : (w : NodeView) (log pages : Usage) → IsKept w → IsDc (dc_used w.dc log pages)
     → IsKept (with_dc w (dc_used w.dc log pages))
 used_keeps w log pages k is =
-    keeps_system w (record w.dc.system { log_usage = log; page_usage = pages }) k is
+    keeps_system w (record w.dc.system { log_usage = log; page_usage = pages }) k None tt is
     (record { legal = k.recoverable.legal; current = k.recoverable.current; fit = k.recoverable.fit })
-    (λ l c. record { leaves = c.leaves; ready = c.ready }) (same_leaves w.tc.log (leaves w.dc))
-    (used_true w.tc w.dc.system log pages k.true_to)
+    (λ l c. record { leaves = c.leaves; ready = c.ready }) (same_leaves k.source.log (leaves w.dc))
+    (used_true w.tc k.source w.dc.system log pages k.true_to)
     k.sessions.begun

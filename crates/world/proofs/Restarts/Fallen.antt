@@ -1,15 +1,13 @@
 -- What holds of a node survives where the transaction component loses records that weren't stable.
-use Rattle.std.proofs.Common.{◌≡◌, ℕ, ◌≤◌, true, List, [], ◌∷◌, Option, Some, None, sym, ◌∙◌, subst, arith}
+use Rattle.std.proofs.Common.{◌≡◌, ℕ, ◌-◌, ◌<◌, ◌≤◌, zero, suc, List, [], ◌∷◌, ◌++◌, length, take, refl, sym, ap, ◌∙◌, subst, arith, inl, inr}
+use Rattle.std.specs.Prelude.{drop}
 use Rattle.std.specs.List.{AllByRecursion}
-use Rattle.record_key.specs.declared.op.Op.{Op}
-use Rattle.record_key.specs.declared.op.Answer.{Answer}
-use Rattle.record_key.specs.Table.{key_of}
+use Rattle.std.proofs.lemmas.List.{length-append, length-drop, take-append-drop}
 use Rattle.history.specs.declared.record.Record.{Record}
+use Rattle.history.specs.declared.record.Record.TheVariants as is
 use Rattle.history.specs.Legal.{FitsCheckpoint}
-use Rattle.history.specs.Log.{Requests}
-use Rattle.history.specs.Values.{IsRight, HasRightAnswers}
-use Rattle.log_laws.proofs.Records.{ARequest, kept_at}
-use Rattle.log_laws.proofs.LegalLogs.{right_rest, answered_push, request_number}
+use Rattle.history.specs.Values.{HasRightAnswers}
+use Rattle.log_laws.proofs.LegalLogs.{right_rest}
 use Rattle.logical_log.specs.Low.{stable_part}
 use Rattle.range_locks.specs.declared.span.Span.{Span}
 use Rattle.range_locks.specs.declared.span.Span.TheVariants.{Key, Range}
@@ -25,29 +23,20 @@ use Rattle.recovery_laws.proofs.Ready.{ready_too}
 use Rattle.system_txn.specs.SystemView.{SystemView}
 use Rattle.system_txn.specs.Devices.{pages_of}
 use Rattle.system_txn.specs.Checked.{IsChecked}
-use Rattle.dc_core.specs.declared.performance.Performance.{Performance}
-use Rattle.dc_core.specs.DcView.{DcView, captures_at}
+use Rattle.dc_core.specs.DcView.{DcView}
 use Rattle.tc_core.specs.declared.phase.Phase.{Phase}
 use Rattle.tc_core.specs.TcView.{TcView}
 use Rattle.world.specs.Node.{NodeView}
-use Rattle.world.specs.Kept.{IsKept, IsAnsweredTo, IsBegun, IsReadTrue, AnsweredAreCaptured, EarlierAreCaptured, IsSent, IsRightOrNone, IsValue, AreRows, IsGiven, IsServed, AreSessions, IsLowAnswered, IsTrueTo}
+use Rattle.world.specs.Source.{Source, IsWaiting, IsSource}
+use Rattle.world.specs.Kept.{IsKept, IsAnsweredBy, IsAnsweredTo, IsBegun, IsReadTrue, InSession, IsOlder, IsNext, AnsweredAreCaptured, IsSent, IsCaptured, IsValue, AreRows, IsGiven, IsServed, AreSessions, IsLowAnswered, IsTrueTo}
 use Rattle.world.specs.Fallen.{IsFallen, FallenIsKept}
 use Rattle.world.proofs.Invariant.Announced.{part_grows}
-use Rattle.world.proofs.Invariant.AtKeys.{captured_stable}
-use Rattle.world.proofs.Restarts.Beginnings.{StaysTo, in_part, part_again, request_less, right_less}
+use Rattle.world.proofs.Invariant.Grows.{IsGrown, answered_on, next_on, captured_on, leaves_on, lows_on, performed_on}
+use Rattle.world.proofs.Invariant.Sources.{of_source, sure_within}
+use Rattle.world.proofs.Restarts.Beginnings.{StaysTo, in_part, part_again}
 use Rattle.world.proofs.Restarts.HonestShorter.{honest_less}
 use Rattle.world.proofs.Invariant.Running.{in_session}
 use Rattle.world.proofs.Invariant.Written.{have_all}
-
--- ---- with a record less no request is new, and none is answered anew
-
-earlier_less : (dc : DcView) (end n : ℕ) (o : Op) → StaysTo end (λ log. EarlierAreCaptured log dc n o)
-earlier_less dc end n o r log within h m q asks below =
-    h m q (kept_at (ARequest q) r log m (request_number log m q asks) asks) below
-
-captured_less : (dc : DcView) (end : ℕ) → StaysTo end (λ log. AnsweredAreCaptured log dc)
-captured_less dc end r log within h m o asks some =
-    h m o (kept_at (ARequest o) r log m (request_number log m o asks) asks) (answered_push m r log some)
 
 -- what is checked up to a number is checked up to a smaller one
 checked_less : (v : SystemView) (l m : ℕ) → l ≤ m → IsChecked m v → IsChecked l v
@@ -59,16 +48,92 @@ checked_less v l m le h = record {
     lower : (leaf : LeafView) → IsLow m leaf → IsLow l leaf
     lower leaf low = omega (arith, le, low)
 
+-- ---- the source stays, and as much of it is sure as the crash left
+
+-- of a log's records above others a crash leaves the older ones
+record IsLeftAbove (k : ℕ) (since common : List Record) : Type 0 where
+  left : List Record
+  left_is : drop k (since ++ common) ≡ left ++ common
+  sessions : AllByRecursion (λ r. r ≡ is.Session) left
+
+left_above : (k : ℕ) (since common : List Record) → k ≤ length since → AllByRecursion (λ r. r ≡ is.Session) since
+    → IsLeftAbove k since common
+left_above zero since common le all = record { left = since; left_is = refl; sessions = all }
+left_above (suc k) [] common le all = absurd (omega (arith, le))
+left_above (suc k) (r ∷ since) common le all =
+    let rest = left_above k since common (omega (arith, le)) all.1 in
+    record { left = rest.left; left_is = rest.left_is; sessions = rest.sessions }
+
+-- what the crash leaves goes on from that
+record IsSourceLeft (tc : TcView) (stored : ℕ) (x : Source) : Type 0 where
+  source : Source
+  from : IsSource tc stored source
+  grown : IsGrown x source
+  same : source.log ≡ x.log
+
+source_left : (w : NodeView) (tc : TcView) (k : IsKept w) → IsFallen w.tc tc → IsSourceLeft tc w.dc.stored k.source
+source_left w tc k f = by k.from
+  where
+    none : 0 < tc.session → w.dc.stored < tc.session
+    none some = absurd (omega (arith, some, f.session))
+
+    waits : IsWaiting tc.phase
+    waits = subst IsWaiting (sym f.unconnected) tt
+
+    within : k.source.sure ≤ length k.source.log
+    within = sure_within w.tc w.dc.stored k.source k.tc.within k.from
+
+    by : IsSource w.tc w.dc.stored k.source → IsSourceLeft tc w.dc.stored k.source
+    by (inl live) =
+        let log : List Record = w.tc.log in
+        let more : ℕ = length log - f.kept in
+        record {
+          source = record { log = log; sure = f.kept };
+          from = inr (record {
+            common = stable_part log f.kept;
+            lost = take more log;
+            since = [];
+            source_is = sym (take-append-drop more log);
+            log_is = f.log;
+            count = omega (arith, length-drop more log, f.within);
+            stable = omega (arith, f.all);
+            sessions = tt;
+            waits = waits;
+            later = none;
+          });
+          grown = of_source w.tc k.source (λ (x : Source). IsGrown x (record { log = log; sure = f.kept })) live
+              (record { within = k.tc.within; log = inl refl; sure = f.stable; now_within = f.within });
+          same = of_source w.tc k.source (λ (x : Source). log ≡ x.log) live refl;
+        }
+    by (inr asks) =
+        let more : ℕ = length w.tc.log - f.kept in
+        let long = ap length asks.log_is ∙ length-append asks.since asks.common in
+        let above = left_above more asks.since asks.common
+        (omega (arith, long, asks.count, asks.stable, f.stable, f.within)) asks.sessions in
+        record {
+          source = k.source;
+          from = inr (record {
+            common = asks.common;
+            lost = asks.lost;
+            since = above.left;
+            source_is = asks.source_is;
+            log_is = f.log ∙ ap (drop more) asks.log_is ∙ above.left_is;
+            count = asks.count;
+            stable = omega (arith, asks.stable, f.stable, f.all);
+            sessions = above.sessions;
+            waits = waits;
+            later = none;
+          });
+          grown = record { within = within; log = inl refl; sure = omega arith; now_within = within };
+          same = refl;
+        }
+
 module _ (old new : TcView) (f : IsFallen old new) where
   -- the log that is left has all that is stable
-  left : (P : List Record → Type 0) → StaysTo old.stable P → P old.log → P new.log
-  left P less h =
+  left_in : (P : List Record → Type 0) → StaysTo old.stable P → P old.log → P new.log
+  left_in P less h =
       subst P (sym f.log)
       (in_part P f.kept (λ r log within. less r log (omega (arith, within, f.stable))) old.log f.within h)
-
-  requests_left : (n : ℕ) (o : Op) → n ≤ old.stable → Requests old.log n o → Requests new.log n o
-  requests_left n o le =
-      left (λ log. Requests log n o) (λ r log within. request_less n o r log (omega (arith, within, le)))
 
   answered_left : (l : ℕ) → IsAnsweredTo old l → IsAnsweredTo new l
   answered_left l h =
@@ -80,21 +145,19 @@ module _ (old new : TcView) (f : IsFallen old new) where
 
   honest_left : (leaf : LeafView) → IsHonestTo old.log old.stable leaf → IsHonestTo new.log new.stable leaf
   honest_left leaf h = record {
-    honest = (left (λ log. IsHonestTo log old.stable leaf) (honest_less old.stable leaf) h).honest;
+    honest = (left_in (λ log. IsHonestTo log old.stable leaf) (honest_less old.stable leaf) h).honest;
     within = λ n captured. omega (arith, h.within n captured, f.stable, f.all);
   }
 
-  true_left : (v : SystemView) → IsTrueTo old v → IsTrueTo new v
-  true_left v h = record {
-    leaves = all_from (IsHonestTo old.log old.stable) (IsHonestTo new.log new.stable) honest_left v.leaves h.leaves;
+  true_left : (x y : Source) (v : SystemView) → IsGrown x y → IsTrueTo old x v → IsTrueTo new y v
+  true_left x y v grown h = record {
+    leaves = leaves_on x y grown v.leaves h.leaves;
+    low = lows_on x y grown v.leaves h.low;
     written = have_all (IsHonestTo old.log old.stable) (IsHonestTo new.log new.stable) honest_left
         (pages_of v.pages) v.log h.written;
-    low = all_from (IsLowAnswered old) (IsLowAnswered new) low_left v.leaves h.low;
-    written_low = have_all (IsLowAnswered old) (IsLowAnswered new) low_left (pages_of v.pages) v.log h.written_low;
+    written_low = have_all (IsLowAnswered old.log old.stable) (IsLowAnswered new.log new.stable)
+        (λ leaf. answered_left leaf.ab.low) (pages_of v.pages) v.log h.written_low;
   }
-    where
-      low_left : (leaf : LeafView) → IsLowAnswered old leaf → IsLowAnswered new leaf
-      low_left leaf = answered_left leaf.ab.low
 
   -- ---- 7. and 8. messages
 
@@ -103,6 +166,9 @@ module _ (old new : TcView) (f : IsFallen old new) where
     recorded = omega (arith, h.recorded, f.stable, f.all);
     most = λ some. absurd (omega (arith, some, f.session));
   }
+
+  older_left : (s : ℕ) → IsOlder old s → IsOlder new s
+  older_left s h = record { some = h.some; older = λ waits some. absurd (omega (arith, some, f.session)) }
 
   -- nobody reads, since no session has begun
   read_left : (s n : ℕ) (P Q : Span → Type 0) → IsReadTrue old s n P → IsReadTrue new s n Q
@@ -113,41 +179,44 @@ module _ (old new : TcView) (f : IsFallen old new) where
     holds = λ is. absurd (omega (arith, is, f.session, h.some));
   }
 
-  answers_left : (dc : DcView) → AnsweredAreCaptured old.log dc → AnsweredAreCaptured new.log dc
-  answers_left dc = left (λ log. AnsweredAreCaptured log dc) (captured_less dc old.stable)
+  low_left : (dc : DcView) (x y : Source) (s l : ℕ) → IsGrown x y → InSession dc s (IsAnsweredBy x.log x.sure l)
+      → InSession dc s (IsAnsweredBy y.log y.sure l)
+  low_left dc x y s l grown = in_session dc s (IsAnsweredBy x.log x.sure l) (IsAnsweredBy y.log y.sure l)
+      (λ runs. answered_on x y l grown)
 
-  sent_left : (dc : DcView) (q : Request) → IsSent old dc q → IsSent new dc q
-  sent_left dc (asks.Connect s) h = begun_left s h
-  sent_left dc (asks.Perform s n o) h = (
-    omega (arith, h.0, f.stable, f.all),
-    requests_left n o h.0 h.1,
-    in_session dc s (EarlierAreCaptured old.log dc n o) (EarlierAreCaptured new.log dc n o)
-        (λ runs. left (λ log. EarlierAreCaptured log dc n o) (earlier_less dc old.stable n o)) h.2,
+  answers_left : (dc : DcView) (x y : Source) → y.log ≡ x.log → AnsweredAreCaptured x.log dc
+      → AnsweredAreCaptured y.log dc
+  answers_left dc x y same = subst (λ log. AnsweredAreCaptured log dc) (sym same)
+
+  sent_left : (dc : DcView) (x y : Source) → IsGrown x y → y.log ≡ x.log → (q : Request) → IsSent old dc x q
+      → IsSent new dc y q
+  sent_left dc x y grown same (asks.Connect s) h = begun_left s h
+  sent_left dc x y grown same (asks.Perform s n o) h = (
+    older_left s h.0,
+    in_session dc s (IsNext x dc n o) (IsNext y dc n o) (λ runs. next_on x y dc n o grown) h.1,
   )
-  sent_left dc (asks.Get s n k) h = read_left s n (λ q. q ≡ Key k) (λ q. q ≡ Key k) h
-  sent_left dc (asks.Scan s n low high) h = read_left s n (λ q. q ≡ Range low high) (λ q. q ≡ Range low high) h
-  sent_left dc (asks.LowWater s l) h = answered_left l h
-  sent_left dc (asks.Checkpoint s l) h = answered_left l h
-  sent_left dc (asks.RedoEnd s) h =
-      in_session dc s (AnsweredAreCaptured old.log dc) (AnsweredAreCaptured new.log dc) (λ runs. answers_left dc) h
+  sent_left dc x y grown same (asks.Get s n k) h = read_left s n (λ q. q ≡ Key k) (λ q. q ≡ Key k) h
+  sent_left dc x y grown same (asks.Scan s n low high) h =
+      read_left s n (λ q. q ≡ Range low high) (λ q. q ≡ Range low high) h
+  sent_left dc x y grown same (asks.LowWater s l) h = low_left dc x y s l grown h
+  sent_left dc x y grown same (asks.Checkpoint s l) h = low_left dc x y s l grown h
+  sent_left dc x y grown same (asks.RedoEnd s) h =
+      in_session dc s (AnsweredAreCaptured x.log dc) (AnsweredAreCaptured y.log dc)
+      (λ runs. answers_left dc x y same) h
 
-  right_left : (n : ℕ) (a : Option Answer) → IsRightOrNone old n a → IsRightOrNone new n a
-  right_left n None h = answered_left n h
-  right_left n (Some a) h = left (λ log. IsRight log n a) (right_less old.stable n a) h
-
-  given_left : (dc : DcView) (reply : Reply) → IsGiven old dc reply → IsGiven new dc reply
-  given_left dc (says.Connected s) h = h
-  given_left dc (says.Answered s n a) h = record {
-    op = h.op;
-    requests = requests_left n h.op h.stable h.requests;
-    stable = omega (arith, h.stable, f.stable, f.all);
-    answer = right_left n a h.answer;
-    captured = h.captured;
+  -- an answer is told again only in a session that is taken
+  given_left : (dc : DcView) (x y : Source) → IsGrown x y → (reply : Reply) → IsGiven old dc x reply
+      → IsGiven new dc y reply
+  given_left dc x y grown (says.Connected s) h = h
+  given_left dc x y grown (says.Answered s n a) h = record {
+    older = older_left s h.older;
+    captured = in_session dc s (IsCaptured x dc n) (IsCaptured y dc n) (λ runs. captured_on x y dc n grown) h.captured;
+    own = λ unwaiting. absurd (unwaiting (subst IsWaiting (sym f.unconnected) tt));
   }
-  given_left dc (says.Row s n v) h = read_left s n (IsValue old.log v) (IsValue new.log v) h
-  given_left dc (says.Rows s n rows) h = read_left s n (AreRows old.log rows) (AreRows new.log rows) h
-  given_left dc (says.Checkpointed s l) h = h
-  given_left dc (says.RedoEnded s) h = h
+  given_left dc x y grown (says.Row s n v) h = read_left s n (IsValue old.log v) (IsValue new.log v) h
+  given_left dc x y grown (says.Rows s n rows) h = read_left s n (AreRows old.log rows) (AreRows new.log rows) h
+  given_left dc x y grown (says.Checkpointed s l) h = h
+  given_left dc x y grown (says.RedoEnded s) h = h
 
   -- ---- 9. sessions
 
@@ -158,30 +227,26 @@ module _ (old new : TcView) (f : IsFallen old new) where
     served = let P : Phase → Type 0 = λ p. IsServed p new.session new.log dc in subst P (sym f.unconnected) tt;
   }
 
--- ---- 5. what was performed is captured, and so stable
-
-performed_left : (w : NodeView) (tc : TcView) → IsKept w → IsFallen w.tc tc → (ps : List Performance)
-    → AllByRecursion (λ (p : Performance). captures_at w.dc (key_of p.op) p.number ≡ true) ps
-    → AllByRecursion (λ (p : Performance). Requests w.tc.log p.number p.op) ps
-    → AllByRecursion (λ (p : Performance). Requests tc.log p.number p.op) ps
-performed_left w tc k f [] captured all = tt
-performed_left w tc k f (p ∷ ps) captured all = (
-  requests_left w.tc tc f p.number p.op (captured_stable w (key_of p.op) p.number k captured.0) all.0,
-  performed_left w tc k f ps captured.1 all.1,
-)
-
 -- the law
 pub fallen_is_kept : FallenIsKept
-fallen_is_kept w tc k f is = record {
-  tc = is;
-  right = left w.tc tc f HasRightAnswers (λ r log within. right_rest r log) k.right;
-  dc = k.dc;
-  recoverable = k.recoverable;
-  true_to = true_left w.tc tc f w.dc.system k.true_to;
-  performed = performed_left w tc k f w.dc.performed k.dc.captured k.performed;
-  answered = λ may. answers_left w.tc tc f w.dc (k.answered may);
-  sent = all_from (IsSent w.tc w.dc) (IsSent tc w.dc) (sent_left w.tc tc f w.dc) w.requests k.sent;
-  given = all_from (IsGiven w.tc w.dc) (IsGiven tc w.dc) (given_left w.tc tc f w.dc) w.replies k.given;
-  sessions = sessions_left w.tc tc f w.dc k.sessions;
-  checked = checked_less w.dc.system tc.checkpointed w.tc.checkpointed f.checkpointed k.checked;
-}
+fallen_is_kept w tc k f is =
+    let s = source_left w tc k f in
+    let x : Source = k.source in
+    let y : Source = s.source in
+    record {
+      tc = is;
+      right = left_in w.tc tc f HasRightAnswers (λ r log within. right_rest r log) k.right;
+      dc = k.dc;
+      recoverable = k.recoverable;
+      source = y;
+      from = s.from;
+      true_to = true_left w.tc tc f x y w.dc.system s.grown k.true_to;
+      performed = performed_on x y s.grown w.dc.performed k.performed;
+      answered = λ may. answers_left w.tc tc f w.dc x y s.same (k.answered may);
+      sent = all_from (IsSent w.tc w.dc x) (IsSent tc w.dc y) (sent_left w.tc tc f w.dc x y s.grown s.same) w.requests
+          k.sent;
+      given = all_from (IsGiven w.tc w.dc x) (IsGiven tc w.dc y) (given_left w.tc tc f w.dc x y s.grown) w.replies
+          k.given;
+      sessions = sessions_left w.tc tc f w.dc k.sessions;
+      checked = checked_less w.dc.system tc.checkpointed w.tc.checkpointed f.checkpointed k.checked;
+    }

@@ -28,6 +28,7 @@ use Rattle.tc_core.proofs.KeepsReads.{reads}
 use Rattle.world.specs.Node.{NodeView}
 use Rattle.world.specs.Kept.{IsKept}
 use Rattle.world.proofs.Invariant.AtKeys.{own_low}
+use Rattle.world.proofs.Invariant.Sources.{low_now}
 use Rattle.world.proofs.Invariant.Announced.{all_answered}
 use Rattle.world.proofs.Invariant.Repeats.{unsaved_low}
 use Rattle.world.proofs.Settles.Exchanges.{HasReply}
@@ -54,7 +55,9 @@ sound_reply w s n o reply dc k requests h = pick (captures_at w.dc (key_of o) n)
     pick true captured h = record {
       answer = saved_in (leaf_at (leaves w.dc) (key_of o)).ab.entries n;
       reply_is = some_reply reply (says.Answered s n (saved_in (leaf_at (leaves w.dc) (key_of o)).ab.entries n)) h.0;
-      sound = λ none. all_answered w.tc (leaf_at (leaves w.dc) (key_of o)).ab.low (own_low w (key_of o) k) n o
+      sound = λ none. all_answered w.tc.log w.tc.stable (leaf_at (leaves w.dc) (key_of o)).ab.low
+          (low_now w.tc w.dc.stored k.source k.tc.within k.from (leaf_at (leaves w.dc) (key_of o))
+          (own_low w (key_of o) k)) n o
           (unsaved_low (leaf_at (leaves w.dc) (key_of o)).ab n captured none) requests;
     }
     pick false new h = record {

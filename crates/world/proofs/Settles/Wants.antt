@@ -7,8 +7,6 @@ use Rattle.record_key.specs.declared.op.Op.{Op}
 use Rattle.record_key.specs.declared.refusal.Refusal.{Refusal}
 use Rattle.record_key.specs.declared.refusal.Refusal.TheVariants.{Stale, NumbersSpent}
 use Rattle.record_key.specs.FirstCause.{first_of, RefusesAs, MayRefuse}
-use Rattle.page.specs.Leaf.{LeafView}
-use Rattle.system_txn.specs.SystemView.{SystemView}
 use Rattle.tc_core.specs.Refusing.{Refuses}
 use Rattle.range_locks.specs.declared.span.Span.{Span}
 use Rattle.range_locks.specs.declared.span.Span.TheVariants.{Key, Range}

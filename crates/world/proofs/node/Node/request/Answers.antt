@@ -17,9 +17,10 @@ pub serve_allowed-requires-clause-key : goal.serve_allowed-requires-clause-key
 serve_allowed-requires-clause-key c =
     let w = seen c.args.self.now in
     let q = c.in-Ok.value in
+    let k = c.requires in
     let Asks : DataComponent → Type 0 = λ component. MayAsk (dc_of component).dc q in
-    subst Asks c.in-Up.is (may_ask w q c.requires
-    (all_at (IsSent w.tc w.dc) w.requests c.args.number q c.requires.sent c.in-Ok.ensures.found))
+    subst Asks c.in-Up.is (may_ask w q k
+    (all_at (IsSent w.tc w.dc k.source) w.requests c.args.number q k.sent c.in-Ok.ensures.found))
 
 pub push-requires : goal.push-requires
 push-requires c =
