@@ -1,7 +1,7 @@
 -- The list machine: what clients may be told. One history for all, and for each transaction what it does,
 -- its savepoints, its last operation and the spans it holds. One step is a call with what it gave, a line
 -- that a client is told, or a crash of the transaction component.
-use Rattle.std.specs.Prelude.{◌≡◌, ◌≢◌, ◌⊎◌, ℕ, ◌+◌, ◌-◌, ◌<◌, ◌≤◌, ◌==◌, ◌||◌, Bool, true, false, not, List, [], ◌∷◌, ◌++◌, Option, Some, None, length, map, slice_get, take, if◌then◌else◌}
+use Rattle.std.specs.Prelude.{◌≡◌, ◌≢◌, ◌⊎◌, ℕ, ◌+◌, ◌-◌, ◌<◌, ◌≤◌, ◌==◌, ◌||◌, Bool, true, false, not, List, [], ◌∷◌, ◌++◌, Option, Some, None, length, map, nat_lt, slice_get, take, if◌then◌else◌}
 use Rattle.std.specs.List.{AllByRecursion, list_any}
 use Rattle.std.specs.FinMap.{get}
 use Rattle.record_key.specs.declared.op.Op.{Op}
@@ -9,7 +9,7 @@ use Rattle.record_key.specs.declared.op.Answer.{Answer}
 use Rattle.record_key.specs.declared.refusal.Refusal.{Refusal}
 use Rattle.record_key.specs.declared.refusal.Refusal.TheVariants as no
 use Rattle.record_key.specs.Table.{Bytes, answer_in}
-use Rattle.history.specs.History.{Entry, plain, placed, cross, numbers_of, entries_of}
+use Rattle.history.specs.History.{Entry, plain, placed, cross, numbers_of, is_left, left_of, lost}
 use Rattle.history.specs.Spans.{Span, Shared, IsRange, at_key, changed_span, AnyConflict, rows_in}
 
 -- what a read asks for: the record of a key, or the records of a range, to the end where it has no upper one
@@ -111,47 +111,56 @@ IsAboveAll n m =
     AllByRecursion (λ e. e.number < n) m.h × ((u : ℕ) → (m.txns u).begun ≡ true → u < n)
     × ((u : ℕ) → IsAbove n (m.txns u).status)
 
--- the keys of the transaction's entries, and by choice of its last operation
-abbrev pub entry_spans : ℕ → List Entry → List Span
-entry_spans t h = map (λ e. changed_span e.op) (entries_of t h)
+-- the keys of the transaction's entries that keep their numbers, and of its last operation
+abbrev pub entry_spans : ℕ → ℕ → List Entry → List Span
+entry_spans bound t h = map (λ e. changed_span e.op) (left_of bound t h)
 
 abbrev pub last_spans : Option (ℕ × Op) → List Span
 last_spans None = []
 last_spans (Some last) = changed_span last.1 ∷ []
 
-abbrev pub losing : Machine → ℕ → Bool → Txn
-losing m t kept = record {
+abbrev pub last_left : ℕ → Option (ℕ × Op) → Option (ℕ × Op)
+last_left bound None = None
+last_left bound (Some last) = if is_left bound last.0 then Some last else None
+
+-- a loser holds the keys of its operations that are left, answered or not
+abbrev pub losing : Machine → ℕ → ℕ → Txn
+losing m bound t = record {
   begun = true;
   status = Losing;
   saves = [];
-  last = (m.txns t).last;
-  spans = entry_spans t m.h ++ (if kept then last_spans (m.txns t).last else []);
+  last = last_left bound (m.txns t).last;
+  spans = entry_spans bound t m.h ++ last_spans (last_left bound (m.txns t).last);
 }
 
--- its Begin was lost, and so it has no entry
-abbrev pub IsUnbegun : Machine → ℕ → Txn → Type 0
-IsUnbegun m t new = (numbers_of t m.h ≡ []) × (new ≡ record (ended (m.txns t) Gone) { begun = false })
+-- it loses from now on, or its Begin is lost
+abbrev pub Falls : Machine → ℕ → ℕ → Txn → Type 0
+Falls m bound t new = ((t ≤ bound) × (new ≡ losing m bound t)) ⊎ ((bound < t) × (new ≡ nobody))
 
--- it loses from now on, or its Begin was lost
-abbrev pub Falls : Machine → ℕ → Txn → Type 0
-Falls m t new = ((kept : Bool) × (new ≡ losing m t kept)) ⊎ IsUnbegun m t new
+-- no entry of the transaction loses its number
+abbrev pub AreAllLeft : ℕ → ℕ → List Entry → Type 0
+AreAllLeft bound t h = AllByRecursion (λ e. e.txn ≡ t → e.number ≤ bound) h
 
--- what a crash makes of a transaction, and whether its entries are crossed
-abbrev pub Survives : Machine → ℕ → Status → Txn → Bool → Type 0
-Survives m t Committing new fell =
-    ((new ≡ ended (m.txns t) Committed) × (fell ≡ false)) ⊎ (Falls m t new × (fell ≡ true))
-Survives m t Committed new fell = (new ≡ m.txns t) × (fell ≡ false)
-Survives m t Losing new fell = (new ≡ m.txns t) × (fell ≡ false)
-Survives m t Gone new fell =
-    ((new ≡ m.txns t) ⊎ IsUnbegun m t new ⊎ (((m.txns t).begun ≡ true) × (kept : Bool) × (new ≡ losing m t kept)))
-    × (fell ≡ false)
-Survives m t Open new fell = Falls m t new × (fell ≡ true)
-Survives m t (Waiting n o) new fell = Falls m t new × (fell ≡ true)
-Survives m t (Reading q) new fell = Falls m t new × (fell ≡ true)
-Survives m t (Rolling s) new fell = Falls m t new × (fell ≡ true)
+-- it stays as it is, and its entries keep their numbers
+abbrev pub Stays : Machine → ℕ → ℕ → Txn → Type 0
+Stays m bound t new = (new ≡ m.txns t) × AreAllLeft bound t m.h
 
-abbrev pub fallen : (ℕ → Bool) → Entry → Entry
-fallen fell e = record e { crossed = e.crossed || fell e.txn }
+-- what a crash that loses all records above the bound makes of a transaction, and whether its entries are crossed
+abbrev pub Survives : Machine → ℕ → ℕ → Status → Txn → Bool → Type 0
+Survives m bound t Committing new fell =
+    ((new ≡ ended (m.txns t) Committed) × AreAllLeft bound t m.h × (fell ≡ false))
+    ⊎ (Falls m bound t new × (fell ≡ true))
+Survives m bound t Committed new fell = Stays m bound t new × (fell ≡ false)
+Survives m bound t Losing new fell = Stays m bound t new × (fell ≡ false)
+Survives m bound t Gone new fell =
+    (Stays m bound t new ⊎ (((m.txns t).begun ≡ true) × Falls m bound t new)) × (fell ≡ false)
+Survives m bound t Open new fell = Falls m bound t new × (fell ≡ true)
+Survives m bound t (Waiting n o) new fell = Falls m bound t new × (fell ≡ true)
+Survives m bound t (Reading q) new fell = Falls m bound t new × (fell ≡ true)
+Survives m bound t (Rolling s) new fell = Falls m bound t new × (fell ≡ true)
+
+abbrev pub fallen : (ℕ → Bool) → ℕ → Entry → Entry
+fallen fell bound e = if nat_lt bound e.number then lost e else record e { crossed = e.crossed || fell e.txn }
 
 -- whether it counts among the 64: it is neither committing nor over
 abbrev pub is_live : Status → Bool
@@ -271,7 +280,8 @@ Step m (TellsRolledBack t) n = HasStatus m t (Rolling None) × (n ≡ with_txn m
 Step m (Commits t) n = HasStatus m t Open × (n ≡ with_status m t Committing)
 Step m (TellsCommitted t) n = HasStatus m t Committing × (n ≡ with_txn m t (ended (m.txns t) Committed))
 Step m Crashes n =
-    (fell : ℕ → Bool) × ((t : ℕ) → Survives m t (m.txns t).status (n.txns t) (fell t)) × (n.h ≡ map (fallen fell) m.h)
+    (fell : ℕ → Bool) × (bound : ℕ) × ((t : ℕ) → Survives m bound t (m.txns t).status (n.txns t) (fell t))
+    × (n.h ≡ map (fallen fell bound) m.h)
 Step m (TellsLost t) n = HasStatus m t Losing × (n ≡ with_txn m t (ended (m.txns t) Gone))
 Step m (IsRefused call refusal) n = HasCause m call refusal × (n ≡ m)
 

@@ -16,21 +16,21 @@ use Rattle.history.specs.Log.{record_at, answer_of, is_crossed, IsOpen, IsOpBy, 
 use Rattle.history.specs.Legal.{IsLegal}
 use Rattle.history.specs.Values.{is_on, HasRightAnswers}
 use Rattle.history.specs.ListMachine.{Machine, Txn, Open, Waiting, TellsAnswer, with_txn}
-use Rattle.log_laws.proofs.Records.{AnOp, op_same, kept_at, both_same}
+use Rattle.log_laws.proofs.Records.{op_same, both_same}
 use Rattle.log_laws.proofs.LegalLogs.{op_number, kept_begun}
 use Rattle.log_laws.proofs.Plain.{get-after}
 use Rattle.log_laws.proofs.Sharing.{share_adds}
 use Rattle.log_laws.proofs.Named.{unanswered_uncrossed}
-use Rattle.simulation.specs.View.{View, Doing, Ready, Awaits, Looks, Rolls, counts, is_to_undo, standing, HasStatusOf, HasSaves, HasSavesOf, HoldsAs, HasEntry, IsUntold, IsUnentered, IsRecorded, StandsFor}
+use Rattle.simulation.specs.View.{View, Doing, Ready, Awaits, Looks, Rolls, counts, is_to_undo, standing, HasStatusOf, HasSaves, HasSavesOf, HoldsAs, HasEntry, IsUntold, IsFreeOf, IsUnentered, IsRecorded, StandsFor}
 use Rattle.simulation.specs.Running.{Leads, after_answer, AnswerIsTold}
 use Rattle.simulation.proofs.Entries.{Agrees, Both, alike}
 use Rattle.simulation.proofs.Told.{losing_is, recorded_push}
-use Rattle.simulation.proofs.Carrying.{CarriesEntries, Passes, passes, txn_kept, one_changed, op_before, begun_so}
+use Rattle.simulation.proofs.Carrying.{CarriesEntries, Passes, passes, txn_kept, one_changed, op_before, op_after, begun_so}
 use Rattle.simulation.proofs.Doings.{put_same, put_other, status_for, rolling_as}
 use Rattle.simulation.proofs.Calling.{counts_same}
 use Rattle.simulation.proofs.Undoing.{both_below}
 use Rattle.simulation.proofs.RightAnswers.{told_right}
-use Rattle.simulation.proofs.Placing.{hist_answer, all_hist, all_placed, filter_placed, placed_falling, placed_entry, placed_itself, hist_falling}
+use Rattle.simulation.proofs.Placing.{hist_answer, all_hist, all_placed, filter_placed, placed_falling, placed_over, placed_entry, placed_itself, hist_falling, hist_over}
 
 -- what an operation leaves at a key depends on what was there
 same_after : (m n : Table) (o : Op) (k : Bytes) → get m k ≡ get n k → get (after m o) k ≡ get (after n o) k
@@ -171,7 +171,8 @@ keys_apart log n t m u o q legal by open_t is_op open_u other =
     elim (cases_Bool (is_same (key_of o) (key_of q))) [
       | inl same ↦ inr (share_adds log n t m u o q legal by open_t is_op open_u other
           (is_same-true (key_of o) (key_of q) same))
-      | inr apart ↦ inl (λ same. true≢false (sym (ap (λ z. is_same z (key_of q)) same ∙ is_same-refl (key_of q)) ∙ apart))
+      | inr apart ↦ inl (λ same.
+          true≢false (sym (ap (λ z. is_same z (key_of q)) same ∙ is_same-refl (key_of q)) ∙ apart))
     ]
 
 -- flags
@@ -196,7 +197,7 @@ unlisted (j ∷ kept) n end lt all any =
 
 module _ (v : View) (m : Machine) (t n : ℕ) (a : Answer) (legal : IsLegal (is.Answer n a ∷ v.log))
     (right : HasRightAnswers (is.Answer n a ∷ v.log)) (stands : StandsFor v m)
-    (awaits : v.doing t ≡ Some (Awaits n)) (stable : n ≤ v.stable)
+    (awaits : v.doing t ≡ Some (Awaits n))
   where
     abbrev view : View
     view = after_answer v t n a
@@ -271,15 +272,19 @@ module _ (v : View) (m : Machine) (t n : ℕ) (a : Answer) (legal : IsLegal (is.
           (ap (λ d. is_to_undo d k) (ap view.doing e ∙ put_same v.doing t (Some Ready)))
     ])
 
+    positive : 0 < n
+    positive = (op_number v.log n t o waiting.1).positive
+
+    own_unentered : IsFreeOf n m.h
+    own_unentered = subst (IsUnentered m.h) is_waiting (stands.each t).unentered
+
     entries_so : standing (placed entry m.h) ≡ filter (counts view) (hist (is.Answer n a ∷ v.log))
     entries_so =
-        filter_placed (λ e. not e.crossed) entry m.h refl stands.falling
+        filter_placed (λ e. not e.crossed) entry m.h refl stands.falling own_unentered.1
         ∙ ap (placed entry) (stands.entries ∙ alike v.log v.log (counts v) (counts view) v.log answer_agrees)
-        ∙ sym (filter_placed (counts view) entry (hist v.log) counts_here (hist_falling v.log v.log))
+        ∙ sym (filter_placed (counts view) entry (hist v.log) counts_here (hist_falling v.log v.log)
+        (hist_over n v.log v.log))
         ∙ ap (filter (counts view)) (sym (hist_answer v.log n t o a waiting.2 uncrossed_yet waiting.1))
-
-    own_unentered : AllByRecursion (λ e. e.number ≡ n → ⊥) m.h
-    own_unentered = subst (IsUnentered m.h) is_waiting (stands.each t).unentered
 
     answer_passes : (u : ℕ) → (u ≡ t → ⊥) → Passes v view (is.Answer n a) u
     answer_passes u apart = record {
@@ -301,9 +306,12 @@ module _ (v : View) (m : Machine) (t n : ℕ) (a : Answer) (legal : IsLegal (is.
       entry = λ k q e. placed_entry entry m.h k u q e;
       remembers = λ kept end r.
           record { same = all_placed _ entry m.h (λ e. absurd (apart (sym e))) r.same; within = r.within };
-      unentered = λ k q by all. all_placed _ entry m.h
-          (λ e. apart (op_same u t q o (record_at v.log n) (subst (λ (z : ℕ). IsOpBy v.log z u q) (sym e) by)
-          waiting.1).0) all;
+      unentered = λ k q by free. (
+        all_placed _ entry m.h
+            (λ e. apart (op_same u t q o (record_at v.log n) (subst (λ (z : ℕ). IsOpBy v.log z u q) (sym e) by)
+            waiting.1).0) free.0,
+        placed_over entry k m.h positive free.1,
+      );
     }
 
     saves_so : (low high : ℕ) (saves : List (List ℕ)) (ends : List ℕ) → low ≤ n → low ≤ high
@@ -339,9 +347,13 @@ module _ (v : View) (m : Machine) (t n : ℕ) (a : Answer) (legal : IsLegal (is.
           (n, o, is_waiting, told_so, refl),
           record {
             entries = entries_so;
-            falling = placed_falling entry m.h own_unentered stands.falling;
-            recorded = all_placed (IsRecorded view) entry m.h (record { is = kept_op waiting.1; stable = stable })
-                (recorded_push v view (is.Answer n a) m.h refl refl stands.recorded);
+            falling = placed_falling entry m.h positive own_unentered stands.falling;
+            recorded = all_placed (IsRecorded view.log) entry m.h
+                (record {
+                  is = λ some. op_after (is.Answer n a) v.log t n o waiting.1;
+                  lost = λ none. absurd (omega (arith, none, positive));
+                })
+                (recorded_push (is.Answer n a) v.log m.h stands.recorded);
             each = one_changed m view (placed entry m.h) t new
                 (record {
                   begun = begun_so (is.Answer n a) v.log t (m.txns t).begun (λ e. cc) x.begun;
@@ -354,6 +366,7 @@ module _ (v : View) (m : Machine) (t n : ℕ) (a : Answer) (legal : IsLegal (is.
                       (omega (arith, (op_number v.log n t o waiting.1).bounded)) own_saves;
                   spans = subst (λ s. HoldsAs v t s (m.txns t).spans) is_waiting x.spans;
                   unentered = tt;
+                  logged = λ k q last. op_after (is.Answer n a) v.log t k q (x.logged k q last);
                   entered = λ k q by.
                       let was : IsOpBy v.log k t q = op_before (is.Answer n a) v.log t k q (λ z e. cc) by in
                       elim (x.entered k q was) [
@@ -366,9 +379,6 @@ module _ (v : View) (m : Machine) (t n : ℕ) (a : Answer) (legal : IsLegal (is.
           },
         )
       where
-        kept_op : IsOpBy v.log n t o → IsOpBy (is.Answer n a ∷ v.log) n t o
-        kept_op by = kept_at (AnOp t o) (is.Answer n a) v.log n (op_number v.log n t o by) by
-
         goes_on : IsOpen v.log t → IsOpen (is.Answer n a ∷ v.log) t
         goes_on h = record { begun = kept_begun (is.Answer n a) v.log t h.begun; goes_on = h.goes_on }
 
@@ -376,7 +386,7 @@ module _ (v : View) (m : Machine) (t n : ℕ) (a : Answer) (legal : IsLegal (is.
             → HasEntry (placed entry m.h) k t q
         its_own k q by h =
             elim ((stands.each t).entered n o waiting.1) [
-              | inl e ↦ absurd (no_entry m.h e own_unentered)
+              | inl e ↦ absurd (no_entry m.h e own_unentered.0)
               | inr l ↦
                   let same = both_same n k o q (sym l.0 ∙ h.0) in
                   subst (λ (z : ℕ). HasEntry (placed entry m.h) z t q) same.0
@@ -384,4 +394,4 @@ module _ (v : View) (m : Machine) (t n : ℕ) (a : Answer) (legal : IsLegal (is.
             ]
 
 pub answer_is_told : AnswerIsTold
-answer_is_told v m t n a legal right stands awaits stable = answers_so v m t n a legal right stands awaits stable
+answer_is_told v m t n a legal right stands awaits = answers_so v m t n a legal right stands awaits

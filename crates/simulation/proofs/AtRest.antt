@@ -1,8 +1,8 @@
 -- Keys that are at rest, by the log.
-use Rattle.std.proofs.Common.{◌≡◌, ℕ, Bool, true, false, cond, List, [], ◌∷◌, is_some, refl, sym, ap, ◌∙◌, subst, inl, inr, true≢false}
+use Rattle.std.proofs.Common.{◌≡◌, ℕ, ◌<◌, Bool, true, false, cond, List, [], ◌∷◌, is_some, refl, sym, ap, ◌∙◌, subst, arith, inl, inr, true≢false}
 use Rattle.std.specs.Prelude.{◌&&◌, not, filter}
 use Rattle.std.specs.List.{AllByRecursion}
-use Rattle.std.proofs.lemmas.Bool.{cases_Bool}
+use Rattle.std.proofs.lemmas.Bool.{cases_Bool, cases_lt}
 use Rattle.record_key.specs.declared.op.Op.{Op}
 use Rattle.record_key.specs.Table.{Bytes, key_of}
 use Rattle.history.specs.History.{Entry}
@@ -60,16 +60,23 @@ module _ (v : View) (m : Machine) (k : Bytes) (legal : IsLegal v.log) (stands : 
         (all_counted v (hist v.log)
         (all_hist (λ e. e.crossed ≡ is_crossed v.log e.number) v.log v.log (λ n t o by a. refl))))
 
-    owned : (e : Entry) → IsRecorded v e → (e.crossed ≡ false → Counts v e) → IsOwned m k e
+    -- who isn't crossed has its record
+    numbered : (e : Entry) → IsRecorded v.log e → e.crossed ≡ false → 0 < e.number
+    numbered e recorded here = elim (cases_lt 0 e.number) [
+      | inl some ↦ some
+      | inr none ↦ absurd (true≢false (sym (recorded.lost (omega (arith, none))) ∙ here))
+    ]
+
+    owned : (e : Entry) → IsRecorded v.log e → (e.crossed ≡ false → Counts v e) → IsOwned m k e
     owned e recorded fact here on =
-        elim (settled e.number e.txn e.op recorded.is on (fact here).1) [
+        elim (settled e.number e.txn e.op (recorded.is (numbered e recorded here)) on (fact here).1) [
           | inl loses ↦ absurd (true≢false (sym loses ∙ (fact here).0))
           | inr commit ↦
               let has = stable_is_committed v m e.txn commit.0 legal stands commit.1 commit.2 in
               (has.0.begun, has.0.status)
         ]
 
-    all_owned : (h : List Entry) → AllByRecursion (IsRecorded v) h
+    all_owned : (h : List Entry) → AllByRecursion (IsRecorded v.log) h
         → AllByRecursion (λ e. e.crossed ≡ false → Counts v e) h
         → AllByRecursion (IsOwned m k) h
     all_owned [] recorded facts = tt

@@ -5,7 +5,6 @@ use Rattle.std.specs.List.{AllByRecursion}
 use Rattle.std.proofs.lemmas.Bool.{cases_eq, cases_Bool}
 use Rattle.record_key.specs.declared.op.Op.{Op}
 use Rattle.record_key.specs.declared.op.Answer.{Answer}
-use Rattle.record_key.specs.Table.{key_of}
 use Rattle.history.specs.declared.record.Record.{Record}
 use Rattle.history.specs.declared.record.Record.TheVariants as is
 use Rattle.history.specs.History.{Entry}
@@ -13,10 +12,10 @@ use Rattle.history.specs.Spans.{changed_span}
 use Rattle.history.specs.Log.{record_at, answer_of, is_crossed, IsOpen, IsOpBy, hist_in, entry_with}
 use Rattle.history.specs.Legal.{IsLegal}
 use Rattle.history.specs.ListMachine.{Machine, Txn, Status, Open, Waiting, Begins, Acts, IsFree, IsAbove, IsAboveAll, with_txn, blank}
-use Rattle.log_laws.proofs.Records.{AnOp, at_newest, kept_at, op_step, op_same, which, newest_at, had_at}
+use Rattle.log_laws.proofs.Records.{AnOp, at_newest, kept_at, op_step, op_same, both_same, which, newest_at, had_at}
 use Rattle.log_laws.proofs.LegalLogs.{op_number, begun_number, unanswered_next}
 use Rattle.log_laws.proofs.Named.{txn_below, open_begun}
-use Rattle.simulation.specs.View.{View, Doing, Ready, Awaits, counts, is_to_undo, HasStatusOf, HasSaves, HasSavesOf, HoldsAs, AreSpans, IsUntold, StandsFor}
+use Rattle.simulation.specs.View.{View, Doing, Ready, Awaits, counts, is_to_undo, HasStatusOf, HasSaves, HasSavesOf, HoldsAs, AreSpans, IsUntold, StandsFor, IsOverLost, IsFreeOf}
 use Rattle.simulation.specs.Running.{Leads, after_begin, after_act, BeginIsAStep, ActIsAStep}
 use Rattle.simulation.proofs.Entries.{Agrees, Both, alike}
 use Rattle.simulation.proofs.Told.{losing_is, recorded_push}
@@ -86,7 +85,7 @@ module _ (v : View) (m : Machine) (legal : IsLegal v.log) (stands : StandsFor v 
           Both refl refl (λ a. counts_same v n u (is_crossed v.log n) ((after_begin v).doing u)
           (put_other v.doing new_txn (Some Ready) u (old_op n u o by))));
       falling = stands.falling;
-      recorded = recorded_push v (after_begin v) is.Begin m.h refl refl stands.recorded;
+      recorded = recorded_push is.Begin v.log m.h stands.recorded;
       each = one_changed m (after_begin v) m.h new_txn blank
           (record {
             begun = (λ e. (open_begun v.log legal).begun, λ at. refl);
@@ -98,6 +97,7 @@ module _ (v : View) (m : Machine) (legal : IsLegal v.log) (stands : StandsFor v 
             saves = subst (HasSaves m.h new_txn (length v.log + 1 + 1) []) (sym (put_same v.saves new_txn [])) tt;
             spans = subst (AreSpans []) (sym (put_same v.spans new_txn [])) (λ s. (λ a. a, λ a. a));
             unentered = tt;
+            logged = λ n o last. absurd (cc);
             entered = λ n o by. absurd (old_op n new_txn o (op_before is.Begin v.log new_txn n o (λ q e. cc) by) refl);
           })
           (λ u apart. txn_kept v (after_begin v) u (passes v (after_begin v) is.Begin u (begin_passes u apart)) m.h m.h
@@ -156,10 +156,17 @@ module _ (v : View) (m : Machine) (t p : ℕ) (o : Op) (legal : IsLegal (is.Op t
       waits = λ n q by d none. none;
     }
 
-    unentered_next : (h : List Entry) → AllByRecursion (λ e. e.number < act_number) h
+    free_next : (h : List Entry) → AllByRecursion (λ e. e.number < act_number) h
         → AllByRecursion (λ e. e.number ≡ act_number → ⊥) h
-    unentered_next [] all = tt
-    unentered_next (e ∷ h) all = (λ same. omega (arith, same, all.0), unentered_next h all.1)
+    free_next [] all = tt
+    free_next (e ∷ h) all = (λ same. omega (arith, same, all.0), free_next h all.1)
+
+    over_next : (h : List Entry) → AllByRecursion (λ e. e.number < act_number) h → IsOverLost act_number h
+    over_next [] all = tt
+    over_next (e ∷ h) all = (λ none. all.1, over_next h all.1)
+
+    unentered_next : (h : List Entry) → AllByRecursion (λ e. e.number < act_number) h → IsFreeOf act_number h
+    unentered_next h all = (free_next h all, over_next h all)
 
     acts_so : Leads v m (Acts t o (length v.log + 1)) (after_act v t p o)
     acts_so =
@@ -188,7 +195,7 @@ module _ (v : View) (m : Machine) (t p : ℕ) (o : Op) (legal : IsLegal (is.Op t
                 ∙ sym (ap (λ a. filter (counts act_view)
                 (entry_with (act_record ∷ v.log) act_number t o a (hist_in (act_record ∷ v.log) v.log))) act_next);
             falling = stands.falling;
-            recorded = recorded_push v act_view act_record m.h refl refl stands.recorded;
+            recorded = recorded_push act_record v.log m.h stands.recorded;
             each = one_changed m act_view m.h t new
                 (record {
                   begun = begun_so act_record v.log t (m.txns t).begun (λ e. cc) x.begun;
@@ -209,6 +216,9 @@ module _ (v : View) (m : Machine) (t p : ℕ) (o : Op) (legal : IsLegal (is.Op t
                         λ a. elim a [ inl e ↦ inl e | inr b ↦ inr ((own_spans s).1 b) ],
                       ));
                   unentered = unentered_next m.h (numbers_below v m.h stands.recorded);
+                  logged = λ n q last.
+                      let same = both_same act_number n o q last in
+                      at_newest (AnOp t q) act_record v.log n (sym same.0) (ap (λ z. Some (t, z)) same.1);
                   entered = λ n q by. elim (which act_record v.log n (op_number (act_record ∷ v.log) n t q by)) [
                     | inl e ↦
                         let q_same : o ≡ q = (op_same t t o q (Some act_record) refl

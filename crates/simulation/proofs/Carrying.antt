@@ -1,7 +1,6 @@
 -- A transaction that a change leaves alone.
 use Rattle.std.proofs.Common.{◌≡◌, ℕ, ◌+◌, ◌<◌, ◌≤◌, Bool, true, false, List, [], ◌∷◌, length, Some, None, sym, ◌∙◌, subst, arith, inl, inr, eq-eqb, ne_eqb}
 use Rattle.std.specs.Prelude.{◌↔◌, if◌then◌else◌}
-use Rattle.std.specs.List.{AllByRecursion}
 use Rattle.std.proofs.lemmas.Bool.{cases_eq}
 use Rattle.record_key.specs.declared.op.Op.{Op}
 use Rattle.history.specs.declared.record.Record.{Record}
@@ -12,7 +11,7 @@ use Rattle.history.specs.Log.{record_at, answer_of, has_ended, op_of, IsOpen, Is
 use Rattle.history.specs.ListMachine.{Machine, Txn, Status, Open, Waiting, Reading, Rolling, Committing, Committed, Losing, Gone, with_txn}
 use Rattle.log_laws.proofs.Records.{AnOp, within, older_at, newest_at, kept_at, had_at, which}
 use Rattle.log_laws.proofs.LegalLogs.{kept_begun, op_number}
-use Rattle.simulation.specs.View.{View, Doing, Awaits, IsActive, IsQuiet, IsCommitAt, HasStatusOf, HasSaves, HasSavesOf, Remembers, HoldsAs, HasEntry, IsUnentered, IsAmong, IsTxnOf}
+use Rattle.simulation.specs.View.{View, Doing, Awaits, IsActive, IsQuiet, IsCommitAt, HasStatusOf, HasSaves, HasSavesOf, Remembers, HoldsAs, HasEntry, IsFreeOf, IsUnentered, IsAmong, IsTxnOf}
 
 -- what a change of the component must leave of a transaction
 pub record Carries (v w : View) (u : ℕ) : Type 0 where
@@ -36,8 +35,7 @@ pub record Carries (v w : View) (u : ℕ) : Type 0 where
 pub record CarriesEntries (log : List Record) (h g : List Entry) (u : ℕ) : Type 0 where
   pub entry : (n : ℕ) (o : Op) → HasEntry h n u o → HasEntry g n u o
   pub remembers : (kept : List ℕ) (end : ℕ) → Remembers h u kept end → Remembers g u kept end
-  pub unentered : (n : ℕ) (o : Op) → IsOpBy log n u o → AllByRecursion (λ e. e.number ≡ n → ⊥) h
-      → AllByRecursion (λ e. e.number ≡ n → ⊥) g
+  pub unentered : (n : ℕ) (o : Op) → IsOpBy log n u o → IsFreeOf n h → IsFreeOf n g
 
 pub same_entries : (log : List Record) (h : List Entry) (u : ℕ) → CarriesEntries log h h u
 same_entries log h u = record { entry = λ n o e. e; remembers = λ kept end r. r; unentered = λ n o by all. all }
@@ -123,6 +121,7 @@ module _ (v w : View) (u : ℕ) (c : Carries v w u) where
       saves = saves_kept x.status x.saves so.saves;
       spans = spans_kept x.status x.spans so.spans;
       unentered = unentered_kept x.status so.status so.unentered;
+      logged = λ n o last. c.op_kept n o (so.logged n o last);
       entered = λ n o by. elim (so.entered n o (c.op_had n o by)) [ inl a ↦ inl (e.entry n o a) | inr a ↦ inr a ];
     }
 
@@ -147,6 +146,10 @@ op_before r log u n o none by =
       | inl e ↦ absurd (none o (newest_at (AnOp u o) r log n e by))
       | inr was ↦ had_at (AnOp u o) r log n was by
     ]
+
+-- any record leaves it those
+pub op_after : (r : Record) (log : List Record) (u n : ℕ) (o : Op) → IsOpBy log n u o → IsOpBy (r ∷ log) n u o
+op_after r log u n o by = kept_at (AnOp u o) r log n (op_number log n u o by) by
 
 -- a record that isn't its Begin leaves it begun or not
 pub begin_kept : (r : Record) (log : List Record) (u : ℕ) → (u ≡ length log + 1 → r ≡ is.Begin → ⊥)
@@ -190,8 +193,7 @@ passes v w r u p = record {
   longer = subst (λ l. length v.log ≤ length l) (sym p.log) (omega arith);
   goes_on = λ h. subst (λ l. IsOpen l u) (sym p.log)
       (record { begun = kept_begun r v.log u h.begun; goes_on = p.no_end ∙ h.goes_on });
-  op_kept = λ n o by. subst (λ l. IsOpBy l n u o) (sym p.log)
-      (kept_at (AnOp u o) r v.log n (op_number v.log n u o by) by);
+  op_kept = λ n o by. subst (λ l. IsOpBy l n u o) (sym p.log) (op_after r v.log u n o by);
   op_had = λ n o by. op_before r v.log u n o p.no_op (subst (λ l. IsOpBy l n u o) p.log by);
   waits = λ n o by d none. subst (λ l. answer_of l n ≡ None) (sym p.log) (p.waits n o by d none);
   commit = λ n at. kept n (is.Commit u) at;

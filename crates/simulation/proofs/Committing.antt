@@ -26,26 +26,25 @@ begun_with m n u x g each new is = subst EachHasBegun (sym is) (λ t. pick t (t 
 had_begun : (m : Machine) (u : ℕ) (s : Status) → EachHasBegun m → HasStatus m u s → s ≢ Gone → (m.txns u).begun ≡ true
 had_begun m u s each at here = elim (each u) [ inl b ↦ b | inr g ↦ absurd (here (sym at ∙ g)) ]
 
-falls_begun : (m : Machine) (t : ℕ) (new : Txn) → Falls m t new → IsBegunOrGone new
-falls_begun m t new (inl k) = inl (ap (λ x. x.begun) k.1)
-falls_begun m t new (inr b) = inr (ap (λ x. x.status) b.1)
+falls_begun : (m : Machine) (bound t : ℕ) (new : Txn) → Falls m bound t new → IsBegunOrGone new
+falls_begun m bound t new (inl k) = inl (ap (λ x. x.begun) k.1)
+falls_begun m bound t new (inr b) = inr (ap (λ x. x.status) b.1)
 
-survives_begun : (m : Machine) (t : ℕ) (s : Status) (new : Txn) (fell : Bool) → HasStatus m t s → EachHasBegun m
-    → Survives m t s new fell → IsBegunOrGone new
-survives_begun m t Open new fell at each h = falls_begun m t new h.0
-survives_begun m t (Waiting n o) new fell at each h = falls_begun m t new h.0
-survives_begun m t (Reading q) new fell at each h = falls_begun m t new h.0
-survives_begun m t (Rolling p) new fell at each h = falls_begun m t new h.0
-survives_begun m t Committing new fell at each (inl h) =
+survives_begun : (m : Machine) (bound t : ℕ) (s : Status) (new : Txn) (fell : Bool) → HasStatus m t s → EachHasBegun m
+    → Survives m bound t s new fell → IsBegunOrGone new
+survives_begun m bound t Open new fell at each h = falls_begun m bound t new h.0
+survives_begun m bound t (Waiting n o) new fell at each h = falls_begun m bound t new h.0
+survives_begun m bound t (Reading q) new fell at each h = falls_begun m bound t new h.0
+survives_begun m bound t (Rolling p) new fell at each h = falls_begun m bound t new h.0
+survives_begun m bound t Committing new fell at each (inl h) =
     inl (ap (λ x. x.begun) h.0 ∙ had_begun m t Committing each at (λ e. cc))
-survives_begun m t Committing new fell at each (inr h) = falls_begun m t new h.0
-survives_begun m t Committed new fell at each h = subst IsBegunOrGone (sym h.0) (each t)
-survives_begun m t Losing new fell at each h = subst IsBegunOrGone (sym h.0) (each t)
-survives_begun m t Gone new fell at each h =
+survives_begun m bound t Committing new fell at each (inr h) = falls_begun m bound t new h.0
+survives_begun m bound t Committed new fell at each h = subst IsBegunOrGone (sym h.0.0) (each t)
+survives_begun m bound t Losing new fell at each h = subst IsBegunOrGone (sym h.0.0) (each t)
+survives_begun m bound t Gone new fell at each h =
     elim (h.0) [
-      | inl same ↦ subst IsBegunOrGone (sym same) (each t)
-      | inr (inl b) ↦ inr (ap (λ x. x.status) b.1)
-      | inr (inr l) ↦ inl (ap (λ x. x.begun) l.2)
+      | inl stays ↦ subst IsBegunOrGone (sym stays.0) (each t)
+      | inr falls ↦ falls_begun m bound t new falls.1
     ]
 
 begun_step : (m n : Machine) (line : Line) → Step m line n → EachHasBegun m → EachHasBegun n
@@ -67,7 +66,7 @@ begun_step m n (TellsRolledBack u) h each = begun_with m n u _ _ each (inr refl)
 begun_step m n (Commits u) h each = begun_with m n u _ _ each (inl (had_begun m u Open each h.0 (λ e. cc))) h.1
 begun_step m n (TellsCommitted u) h each =
     begun_with m n u _ _ each (inl (had_begun m u Committing each h.0 (λ e. cc))) h.1
-begun_step m n Crashes h each = λ t. survives_begun m t (m.txns t).status (n.txns t) (h.0 t) refl each (h.1 t)
+begun_step m n Crashes h each = λ t. survives_begun m h.1 t (m.txns t).status (n.txns t) (h.0 t) refl each (h.2 t)
 begun_step m n (TellsLost u) h each = begun_with m n u _ _ each (inr refl) h.1
 begun_step m n (IsRefused call refusal) h each = subst EachHasBegun (sym h.1) each
 

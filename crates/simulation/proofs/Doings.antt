@@ -1,7 +1,8 @@
 -- What an open transaction does tells its status.
-use Rattle.std.proofs.Common.{◌≡◌, ℕ, ◌+◌, ◌<◌, Bool, List, [], ◌∷◌, length, Option, Some, None, refl, sym, ap, ◌∙◌, subst, arith, eq-eqb, ne_eqb}
+use Rattle.std.proofs.Common.{◌≡◌, ℕ, ◌+◌, ◌<◌, Bool, List, [], ◌∷◌, length, Option, Some, None, refl, sym, ap, ◌∙◌, subst, arith, inl, inr, eq-eqb, ne_eqb}
 use Rattle.std.specs.Prelude.{if◌then◌else◌}
 use Rattle.std.specs.List.{AllByRecursion}
+use Rattle.std.proofs.lemmas.Bool.{cases_lt}
 use Rattle.record_key.specs.declared.op.Op.{Op}
 use Rattle.history.specs.History.{Entry}
 use Rattle.history.specs.Spans.{Span}
@@ -61,11 +62,16 @@ pub not_active : (v : View) (t : ℕ) (d : Doing) → v.doing t ≡ None → v.d
 not_active v t d none some = let both : None ≡ Some d = sym none ∙ some in cc
 
 -- entries are of the log's numbers
-pub numbers_below : (v : View) (h : List Entry) → AllByRecursion (IsRecorded v) h
+pub numbers_below : (v : View) (h : List Entry) → AllByRecursion (IsRecorded v.log) h
     → AllByRecursion (λ e. e.number < length v.log + 1) h
 numbers_below v [] all = tt
-numbers_below v (e ∷ h) all =
-    (omega (arith, (op_number v.log e.number e.txn e.op all.0.is).bounded), numbers_below v h all.1)
+numbers_below v (e ∷ h) all = (
+  elim (cases_lt 0 e.number) [
+    | inl some ↦ let bounded = (op_number v.log e.number e.txn e.op (all.0.is some)).bounded in omega (arith, bounded)
+    | inr none ↦ omega (arith, none)
+  ],
+  numbers_below v h all.1,
+)
 
 -- a change that leaves the log leaves a transaction of which it leaves what the component has
 pub carries_view : (v : View) (d : ℕ → Option Doing) (saves : ℕ → List ℕ) (spans : ℕ → List Span) (u : ℕ)

@@ -1,21 +1,19 @@
 -- Commits, and rollbacks that end.
-use Rattle.std.proofs.Common.{◌≡◌, ℕ, ◌+◌, ◌≤◌, Bool, true, false, List, [], ◌∷◌, length, Some, None, refl, ap, ◌∙◌, subst, arith, inl, inr, ne_eqb}
+use Rattle.std.proofs.Common.{◌≡◌, ℕ, ◌+◌, ◌≤◌, Bool, true, false, ◌∷◌, length, Some, None, refl, ap, ◌∙◌, subst, arith, inl, inr, ne_eqb}
 use Rattle.std.specs.Prelude.{◌&&◌, ◌||◌, not}
-use Rattle.std.specs.List.{AllByRecursion}
 use Rattle.std.proofs.lemmas.Bool.{cases_eq, cases_Bool, le-ltb}
 use Rattle.record_key.specs.declared.op.Op.{Op}
 use Rattle.history.specs.declared.record.Record.TheVariants as is
-use Rattle.history.specs.History.{Entry}
 use Rattle.history.specs.Log.{is_crossed, has_ended, IsOpBy}
 use Rattle.history.specs.Legal.{IsLegal, Stands}
 use Rattle.history.specs.ListMachine.{Machine, Txn, Open, Committing, Gone, Commits, TellsRolledBack, TellsBack, with_txn, ended}
 use Rattle.log_laws.proofs.Records.{record_new}
-use Rattle.simulation.specs.View.{View, Ready, Rolls, counts, is_to_undo, HasSavesOf, HoldsAs, IsUntold, IsRecorded, StandsFor}
+use Rattle.simulation.specs.View.{View, Ready, Rolls, counts, is_to_undo, HasSavesOf, HoldsAs, IsUntold, StandsFor}
 use Rattle.simulation.specs.Running.{does, Leads, after_commit, after_rollback, CommitIsAStep, RolledBackIsTold, BackIsTold}
 use Rattle.simulation.proofs.Entries.{Agrees, Both, Neither, alike}
 use Rattle.simulation.proofs.Crash.{crossed_out}
 use Rattle.simulation.proofs.Told.{recorded_push}
-use Rattle.simulation.proofs.Carrying.{Passes, passes, same_entries, txn_kept, one_changed, op_before, begun_so}
+use Rattle.simulation.proofs.Carrying.{Passes, passes, same_entries, txn_kept, one_changed, op_before, op_after, begun_so}
 use Rattle.simulation.proofs.Doings.{put_same, put_other, open_as, rolling_as, carries_view}
 use Rattle.simulation.proofs.Calling.{counts_same}
 use Rattle.simulation.proofs.Undoing.{both_below}
@@ -61,7 +59,7 @@ module _ (v : View) (m : Machine) (t : ℕ) (legal : IsLegal (is.Commit t ∷ v.
           entries = stands.entries
               ∙ alike v.log (is.Commit t ∷ v.log) (counts v) (counts commit_view) v.log commit_agrees;
           falling = stands.falling;
-          recorded = recorded_push v commit_view (is.Commit t) m.h refl refl stands.recorded;
+          recorded = recorded_push (is.Commit t) v.log m.h stands.recorded;
           each = one_changed m commit_view m.h t new
               (record {
                 begun = begun_so (is.Commit t) v.log t (m.txns t).begun (λ e. cc) x.begun;
@@ -74,6 +72,7 @@ module _ (v : View) (m : Machine) (t : ℕ) (legal : IsLegal (is.Commit t ∷ v.
                 saves = tt;
                 spans = subst (λ s. HoldsAs v t s (m.txns t).spans) at.is_so x.spans;
                 unentered = tt;
+                logged = λ n q last. op_after (is.Commit t) v.log t n q (x.logged n q last);
                 entered = λ n q by. elim (x.entered n q (op_before (is.Commit t) v.log t n q (λ z e. cc) by))
                     [ inl a ↦ inl a | inr a ↦ absurd (subst IsUntold at.is_so a.1) ];
               })
@@ -130,7 +129,7 @@ module _ (v : View) (m : Machine) (t b : ℕ) (legal : IsLegal (is.End t ∷ v.l
         record {
           entries = stands.entries ∙ alike v.log (is.End t ∷ v.log) (counts v) (counts end_view) v.log end_agrees;
           falling = stands.falling;
-          recorded = recorded_push v end_view (is.End t) m.h refl refl stands.recorded;
+          recorded = recorded_push (is.End t) v.log m.h stands.recorded;
           each = one_changed m end_view m.h t new
               (record {
                 begun = begun_so (is.End t) v.log t (m.txns t).begun (λ e. cc) x.begun;
@@ -141,6 +140,7 @@ module _ (v : View) (m : Machine) (t b : ℕ) (legal : IsLegal (is.End t ∷ v.l
                 saves = tt;
                 spans = refl;
                 unentered = tt;
+                logged = λ n q last. op_after (is.End t) v.log t n q (x.logged n q last);
                 entered = λ n q by. elim (x.entered n q (op_before (is.End t) v.log t n q (λ z e. cc) by))
                     [ inl a ↦ inl a | inr a ↦ inr (a.0, tt) ];
               })
@@ -191,7 +191,7 @@ module _ (v : View) (m : Machine) (t s b : ℕ) (stands : StandsFor v m) (rolls 
         record {
           entries = stands.entries ∙ alike v.log v.log (counts v) (counts back_view) v.log back_agrees;
           falling = stands.falling;
-          recorded = stands_recorded m.h stands.recorded;
+          recorded = stands.recorded;
           each = one_changed m back_view m.h t new
               (record {
                 begun = x.begun;
@@ -203,6 +203,7 @@ module _ (v : View) (m : Machine) (t s b : ℕ) (stands : StandsFor v m) (rolls 
                 saves = subst (λ z. HasSavesOf v m.h t z (m.txns t).saves) at.is_so x.saves;
                 spans = subst (λ z. HoldsAs v t z (m.txns t).spans) at.is_so x.spans;
                 unentered = tt;
+                logged = x.logged;
                 entered = λ n q by. elim (x.entered n q by)
                     [ inl a ↦ inl a | inr a ↦ absurd (subst IsUntold at.is_so a.1) ];
               })
@@ -212,10 +213,6 @@ module _ (v : View) (m : Machine) (t s b : ℕ) (stands : StandsFor v m) (rolls 
               m.h m.h (same_entries v.log m.h u) (m.txns u) (stands.each u));
         },
       )
-    where
-      stands_recorded : (h : List Entry) → AllByRecursion (IsRecorded v) h → AllByRecursion (IsRecorded back_view) h
-      stands_recorded [] all = tt
-      stands_recorded (e ∷ h) all = (record { is = all.0.is; stable = all.0.stable }, stands_recorded h all.1)
 
 pub back_is_told : BackIsTold
 back_is_told v m t s b stands rolls done = back_so v m t s b stands rolls done

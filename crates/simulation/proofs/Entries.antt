@@ -1,18 +1,25 @@
 -- Histories of logs, filtered: what a crash leaves of them.
 use Rattle.std.proofs.Common.{◌≡◌, ℕ, ◌+◌, ◌<◌, ◌≤◌, Bool, true, false, cond, List, [], ◌∷◌, ◌++◌, length, Option, Some, None, refl, sym, ap, ◌∙◌, subst, arith, inl, inr}
-use Rattle.std.specs.Prelude.{map, filter, not, ◌&&◌, ◌||◌}
+use Rattle.std.specs.Prelude.{map, filter, nat_lt, not, ◌&&◌, ◌||◌, if◌then◌else◌}
+use Rattle.std.proofs.lemmas.Bool.{cases_lt, lt-ltb, le-ltb}
 use Rattle.std.specs.List.{AllByRecursion}
 use Rattle.record_key.specs.declared.op.Op.{Op}
 use Rattle.record_key.specs.declared.op.Answer.{Answer}
 use Rattle.history.specs.declared.record.Record.{Record}
 use Rattle.history.specs.declared.record.Record.TheVariants as is
-use Rattle.history.specs.History.{Entry}
+use Rattle.history.specs.History.{Entry, lost}
 use Rattle.history.specs.Log.{answer_of, is_crossed, op_of, IsOpBy, hist_in, entry_with}
 use Rattle.history.specs.ListMachine.{fallen}
 use Rattle.log_laws.proofs.Records.{AnOp, at_newest, kept_at}
 use Rattle.log_laws.proofs.LegalLogs.{op_number}
-use Rattle.simulation.specs.View.{standing, IsFalling, HasEntry}
+use Rattle.simulation.specs.View.{standing, IsFalling, IsOverLost, HasEntry}
 use Rattle.simulation.proofs.Beginnings.{longer_length}
+
+pub is_lt : (m n : ℕ) → nat_lt m n ≡ true → m < n
+is_lt m n h = elim (cases_lt m n) [ inl lt ↦ lt | inr ge ↦ let no : true ≡ false = sym h ∙ le-ltb m n ge in cc ]
+
+pub not_lt : (m n : ℕ) → nat_lt m n ≡ false → n ≤ m
+not_lt m n h = elim (cases_lt m n) [ inl lt ↦ let no : false ≡ true = sym h ∙ lt-ltb m n lt in cc | inr ge ↦ ge ]
 
 -- the entry of an operation, as this log crosses it
 abbrev pub as_entry : List Record → ℕ → ℕ → Op → Answer → Entry
@@ -100,38 +107,22 @@ alike x y p q (r ∷ rest) same =
     (alike x y p q rest (older_ops (Agrees x y p q) r rest same))
     ∙ ap (filter q) (sym (hist_step y r rest))
 
--- entries up to a number are those of the records up to it
-abbrev AreWithin : ℕ → List Entry → Type 0
-AreWithin k h = AllByRecursion (λ (e : Entry). e.number ≤ k) h
+-- a filter that takes none above a number leaves out the entries of the records above it
+over_step : (x : List Record) (p : Entry → Bool) (k n : ℕ) (by : Option (ℕ × Op)) (h : List Entry) → k < n
+    → ((e : Entry) → k < e.number → p e ≡ false) → filter p (entry_of x n by h) ≡ filter p h
+over_step x p k n None h above out = refl
+over_step x p k n (Some by) h above out =
+    pass_answered x p n by.0 by.1 (answer_of x n) h (λ b. out (as_entry x n by.0 by.1 b) above)
 
-drop_one : (p : Entry → Bool) (k : ℕ) (e : Entry) (h : List Entry) (b : Bool) → k < e.number
-    → AreWithin k (cond b (e ∷ filter p h) (filter p h))
-    → (cond b (e ∷ filter p h) (filter p h) ≡ filter p h) × AreWithin k (filter p h)
-drop_one p k e h true above all = absurd (omega (arith, above, all.0))
-drop_one p k e h false above all = (refl, all)
-
-drop_answered : (x : List Record) (p : Entry → Bool) (k n t : ℕ) (o : Op) (a : Option Answer) (h : List Entry) → k < n
-    → AreWithin k (filter p (entry_with x n t o a h))
-    → (filter p (entry_with x n t o a h) ≡ filter p h) × AreWithin k (filter p h)
-drop_answered x p k n t o None h above all = (refl, all)
-drop_answered x p k n t o (Some a) h above all = drop_one p k (as_entry x n t o a) h (p (as_entry x n t o a)) above all
-
-drop_step : (x : List Record) (p : Entry → Bool) (k n : ℕ) (by : Option (ℕ × Op)) (h : List Entry) → k < n
-    → AreWithin k (filter p (entry_of x n by h))
-    → (filter p (entry_of x n by h) ≡ filter p h) × AreWithin k (filter p h)
-drop_step x p k n None h above all = (refl, all)
-drop_step x p k n (Some by) h above all = drop_answered x p k n by.0 by.1 (answer_of x n) h above all
-
-pub drop_newer : (x : List Record) (p : Entry → Bool) (k : ℕ) (newer older : List Record) → k ≤ length older
-    → AreWithin k (filter p (hist_in x (newer ++ older)))
+pub drop_over : (x : List Record) (p : Entry → Bool) (k : ℕ) (newer older : List Record) → k ≤ length older
+    → ((e : Entry) → k < e.number → p e ≡ false)
     → filter p (hist_in x (newer ++ older)) ≡ filter p (hist_in x older)
-drop_newer x p k [] older within all = refl
-drop_newer x p k (r ∷ newer) older within all =
-    let step = hist_step x r (newer ++ older) in
-    let now = drop_step x p k (length (newer ++ older) + 1) (op_of r) (hist_in x (newer ++ older))
-    (omega (arith, within, longer_length newer older))
-    (subst (λ h. AreWithin k (filter p h)) step all) in
-    ap (filter p) step ∙ now.0 ∙ drop_newer x p k newer older within now.1
+drop_over x p k [] older within out = refl
+drop_over x p k (r ∷ newer) older within out =
+    ap (filter p) (hist_step x r (newer ++ older))
+    ∙ over_step x p k (length (newer ++ older) + 1) (op_of r) (hist_in x (newer ++ older))
+    (omega (arith, within, longer_length newer older)) out
+    ∙ drop_over x p k newer older within out
 
 -- two filters are one
 twice : (e : Entry) (x : List Entry) (a b : Bool) → cond b (cond a (e ∷ x) x) x ≡ cond (a && b) (e ∷ x) x
@@ -176,9 +167,26 @@ pub uncross_marked : (f : ℕ → ℕ → Bool) (h : List Entry)
 uncross_marked f [] = refl
 uncross_marked f (e ∷ h) = uncross_step f e.number e.txn e.op e.answer e.crossed h (uncross_marked f h)
 
-pub uncross_fallen : (f : ℕ → Bool) (h : List Entry)
-    → standing (map (fallen f) h) ≡ filter (λ e. not (f e.txn)) (standing h)
-uncross_fallen f h = uncross_marked (λ t n. f t) h
+-- an entry that falls or loses its number doesn't stand any more
+fall_step : (fell : ℕ → Bool) (bound n t : ℕ) (o : Op) (a : Answer) (c : Bool) (h : List Entry) (over : Bool)
+    → nat_lt bound n ≡ over
+    → standing (map (fallen fell bound) h) ≡ filter (λ e. not (nat_lt bound e.number) && not (fell e.txn)) (standing h)
+    → standing (map (fallen fell bound) (record { number = n; txn = t; op = o; answer = a; crossed = c } ∷ h))
+    ≡ filter (λ e. not (nat_lt bound e.number) && not (fell e.txn))
+    (standing (record { number = n; txn = t; op = o; answer = a; crossed = c } ∷ h))
+fall_step fell bound n t o a true h true e rest = rw e rest
+fall_step fell bound n t o a true h false e rest = rw e rest
+fall_step fell bound n t o a false h true e rest = rw e rest
+fall_step fell bound n t o a false h false e rest =
+    rw e (uncross_one n t o a (fell t) (standing (map (fallen fell bound) h))
+    (filter (λ e. not (nat_lt bound e.number) && not (fell e.txn)) (standing h)) rest)
+
+pub uncross_fallen : (fell : ℕ → Bool) (bound : ℕ) (h : List Entry)
+    → standing (map (fallen fell bound) h) ≡ filter (λ e. not (nat_lt bound e.number) && not (fell e.txn)) (standing h)
+uncross_fallen fell bound [] = refl
+uncross_fallen fell bound (e ∷ h) =
+    fall_step fell bound e.number e.txn e.op e.answer e.crossed h (nat_lt bound e.number) refl
+    (uncross_fallen fell bound h)
 
 -- a filter keeps what holds of all
 keep_one : (P : Entry → Type 0) (p : Entry → Bool) (e : Entry) (h : List Entry) (b : Bool) → P e
@@ -200,8 +208,15 @@ marked_all P Q f (e ∷ h) each all = (each e all.0, marked_all P Q f h each all
 pub marked_falling : (f : ℕ → ℕ → Bool) (h : List Entry) → IsFalling h → IsFalling (map (marked f) h)
 marked_falling f [] falls = tt
 marked_falling f (e ∷ h) falls = (
-  marked_all (λ x. x.number < e.number) (λ x. x.number < e.number) f h (λ x lt. lt) falls.0,
+  λ some. marked_all (λ x. x.number < e.number) (λ x. x.number < e.number) f h (λ x lt. lt) (falls.0 some),
   marked_falling f h falls.1,
+)
+
+pub marked_over : (f : ℕ → ℕ → Bool) (n : ℕ) (h : List Entry) → IsOverLost n h → IsOverLost n (map (marked f) h)
+marked_over f n [] over = tt
+marked_over f n (e ∷ h) over = (
+  λ none. marked_all (λ x. x.number < n) (λ x. x.number < n) f h (λ x lt. lt) (over.0 none),
+  marked_over f n h over.1,
 )
 
 pub marked_entry : (f : ℕ → ℕ → Bool) (h : List Entry) (n t : ℕ) (o : Op) → HasEntry h n t o
@@ -210,14 +225,54 @@ marked_entry f [] n t o has = absurd has
 marked_entry f (e ∷ h) n t o (inl is) = inl is
 marked_entry f (e ∷ h) n t o (inr has) = inr (marked_entry f h n t o has)
 
--- so for a fall
-pub fallen_all : (P Q : Entry → Type 0) (f : ℕ → Bool) (h : List Entry) → ((e : Entry) → P e → Q (fallen f e))
-    → AllByRecursion P h → AllByRecursion Q (map (fallen f) h)
-fallen_all P Q f h each all = marked_all P Q (λ t n. f t) h each all
+-- a fall leaves the numbers up to its bound
+fallen_one : (Q : Entry → Type 0) (fell : ℕ → Bool) (bound : ℕ) (e : Entry) (over : Bool) → nat_lt bound e.number ≡ over
+    → (bound < e.number → Q (lost e)) → (e.number ≤ bound → Q (marked (λ t n. fell t) e)) → Q (fallen fell bound e)
+fallen_one Q fell bound e true is over within = rw is (over (is_lt bound e.number is))
+fallen_one Q fell bound e false is over within = rw is (within (not_lt bound e.number is))
 
-pub fallen_falling : (f : ℕ → Bool) (h : List Entry) → IsFalling h → IsFalling (map (fallen f) h)
-fallen_falling f h falls = marked_falling (λ t n. f t) h falls
+pub fallen_all : (P Q : Entry → Type 0) (fell : ℕ → Bool) (bound : ℕ) (h : List Entry)
+    → ((e : Entry) → P e → bound < e.number → Q (lost e))
+    → ((e : Entry) → P e → e.number ≤ bound → Q (marked (λ t n. fell t) e))
+    → AllByRecursion P h → AllByRecursion Q (map (fallen fell bound) h)
+fallen_all P Q fell bound [] over within all = tt
+fallen_all P Q fell bound (e ∷ h) over within all = (
+  fallen_one Q fell bound e (nat_lt bound e.number) refl (over e all.0) (within e all.0),
+  fallen_all P Q fell bound h over within all.1,
+)
 
-pub fallen_entry : (f : ℕ → Bool) (h : List Entry) (n t : ℕ) (o : Op) → HasEntry h n t o
-    → HasEntry (map (fallen f) h) n t o
-fallen_entry f h n t o has = marked_entry (λ t n. f t) h n t o has
+falling_one : (fell : ℕ → Bool) (bound : ℕ) (e : Entry) (h : List Entry) (over : Bool) → nat_lt bound e.number ≡ over
+    → (0 < e.number → AllByRecursion (λ f. f.number < e.number) h)
+    → 0 < (fallen fell bound e).number
+    → AllByRecursion (λ f. f.number < (fallen fell bound e).number) (map (fallen fell bound) h)
+falling_one fell bound e h true is falls some =
+    let none : 0 < 0 = subst (λ (b : Bool). 0 < (if b then lost e else marked (λ t n. fell t) e).number) is some in
+    absurd (omega (arith, none))
+falling_one fell bound e h false is falls some =
+    let number : (fallen fell bound e).number ≡ e.number =
+    ap (λ (b : Bool). (if b then lost e else marked (λ t n. fell t) e).number) is in
+    let positive : 0 < e.number = omega (arith, some, number) in
+    subst (λ (n : ℕ). AllByRecursion (λ f. f.number < n) (map (fallen fell bound) h)) (sym number)
+    (fallen_all (λ f. f.number < e.number) (λ f. f.number < e.number) fell bound h
+    (λ f lt over. positive) (λ f lt within. lt) (falls positive))
+
+pub fallen_falling : (fell : ℕ → Bool) (bound : ℕ) (h : List Entry) → IsFalling h
+    → IsFalling (map (fallen fell bound) h)
+fallen_falling fell bound [] falls = tt
+fallen_falling fell bound (e ∷ h) falls = (
+  falling_one fell bound e h (nat_lt bound e.number) refl falls.0,
+  fallen_falling fell bound h falls.1,
+)
+
+entry_one : (fell : ℕ → Bool) (bound : ℕ) (e : Entry) (h : List Entry) (n t : ℕ) (o : Op) → n ≤ bound
+    → (e.number ≡ n) × (e.txn ≡ t) × (e.op ≡ o) → HasEntry (fallen fell bound e ∷ h) n t o
+entry_one fell bound e h n t o within is =
+    let number = is.0 in
+    inl (rw (le-ltb bound e.number (omega (arith, within, number))) is)
+
+pub fallen_entry : (fell : ℕ → Bool) (bound : ℕ) (h : List Entry) (n t : ℕ) (o : Op) → n ≤ bound → HasEntry h n t o
+    → HasEntry (map (fallen fell bound) h) n t o
+fallen_entry fell bound [] n t o within has = absurd has
+fallen_entry fell bound (e ∷ h) n t o within (inl is) =
+    entry_one fell bound e (map (fallen fell bound) h) n t o within is
+fallen_entry fell bound (e ∷ h) n t o within (inr has) = inr (fallen_entry fell bound h n t o within has)

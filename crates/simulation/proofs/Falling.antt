@@ -1,12 +1,12 @@
 -- What has fallen stays so; and what lasts of a transaction that hasn't.
-use Rattle.std.proofs.Common.{◌≡◌, ◌≢◌, ℕ, Bool, true, List, [], ◌∷◌, refl, sym, ap, ◌∙◌, subst, inl, inr, ◌⊎◌, eq-eqb}
+use Rattle.std.proofs.Common.{◌≡◌, ◌≢◌, ℕ, ◌≤◌, Bool, true, List, [], ◌∷◌, refl, sym, ap, ◌∙◌, subst, inl, inr, ◌⊎◌, eq-eqb}
 use Rattle.std.specs.Prelude.{not, ◌==◌, if◌then◌else◌}
 use Rattle.std.specs.List.{AllByRecursion, list_any}
 use Rattle.std.proofs.lemmas.Bool.{cases_eq}
 use Rattle.history.specs.History.{Entry, entries_of}
-use Rattle.history.specs.ListMachine.{Machine, Status, Committing, Committed, Losing, Gone, Line, Begins, Acts, TellsAnswer, Reads, TellsRow, TellsRows, Saves, GoesBack, TellsBack, RollsBack, TellsRolledBack, Commits, TellsCommitted, Crashes, TellsLost, IsRefused, HasStatus, Step, Steps, with_txn, with_status, ended}
+use Rattle.history.specs.ListMachine.{Machine, Status, Committing, Committed, Losing, Gone, Line, Begins, Acts, TellsAnswer, Reads, TellsRow, TellsRows, Saves, GoesBack, TellsBack, RollsBack, TellsRolledBack, Commits, TellsCommitted, Crashes, TellsLost, IsRefused, AreAllLeft, HasStatus, Step, Steps, with_txn, with_status, ended}
 use Rattle.simulation.specs.Lasting.{HasFallen, IsEntry, TakesNothingBack, AskedIsCommitted, EntriesLast}
-use Rattle.simulation.proofs.Owning.{IsClosed, IsUntouched, untouched, entry_marked, entry_placed, spared_by}
+use Rattle.simulation.proofs.Owning.{IsClosed, IsUntouched, untouched, entry_marked, entry_fallen, entry_placed, spared_by}
 use Rattle.simulation.proofs.Lasting.{survives_as, own_stays, falls_so, stays_or_falls, closed_as, other_than, committed_kept}
 
 -- one that has fallen stays so, unless its number is given again
@@ -19,12 +19,11 @@ closed_fallen m t (inl l) = closed_as m t Losing l tt
 closed_fallen m t (inr g) = closed_as m t Gone g tt
 
 fallen_in_crash : (m n : Machine) (t : ℕ) → Step m Crashes n → HasFallen m t → HasFallen n t
-fallen_in_crash m n t h (inl l) = fallen_kept m n t (inl l) (survives_as m n t Losing h l).0
+fallen_in_crash m n t h (inl l) = fallen_kept m n t (inl l) (survives_as m n t Losing h l).0.0
 fallen_in_crash m n t h (inr g) =
     elim ((survives_as m n t Gone h g).0) [
-      | inl same ↦ fallen_kept m n t (inr g) same
-      | inr (inl b) ↦ inr (ap (λ x. x.status) b.1)
-      | inr (inr l) ↦ inl (ap (λ x. x.status) l.2)
+      | inl stays ↦ fallen_kept m n t (inr g) stays.0
+      | inr falls ↦ falls_so m n h.1 t falls.1
     ]
 
 not_committing : (m : Machine) (t u : ℕ) → HasFallen m t → HasStatus m u Committing → t ≡ u → ⊥
@@ -76,8 +75,8 @@ asked_crash : (m n : Machine) (t : ℕ) (own : List Entry) → Step m Crashes n 
     → entries_of t m.h ≡ own → IsSince n t own
 asked_crash m n t own h is same =
     elim (survives_as m n t Committing h is) [
-      | inl stays ↦ Is_done (ap (λ x. x.status) stays.0) (own_stays m n t h stays.1 ∙ same)
-      | inr falls ↦ Fell (falls_so m n t falls.0)
+      | inl stays ↦ Is_done (ap (λ x. x.status) stays.0) (own_stays m n t h stays.2 stays.1 ∙ same)
+      | inr falls ↦ Fell (falls_so m n h.1 t falls.0)
     ]
 
 asked_step : (m n : Machine) (line : Line) (t : ℕ) (own : List Entry) → Step m line n → line ≢ Begins t
@@ -127,6 +126,13 @@ asked_is_committed m mid n lines t h steps anew is =
     by (Is_done at same) = same
     by (Fell has) = absurd (not_fallen n t is has)
 
+-- an entry of one that keeps its numbers keeps its own
+its_bound : (bound : ℕ) (e : Entry) (h : List Entry) → AreAllLeft bound e.txn h → IsEntry e h → e.number ≤ bound
+its_bound bound e [] left has = absurd has
+its_bound bound e (g ∷ h) left (inl is) =
+    subst (λ (n : ℕ). n ≤ bound) (ap (λ x. x.number) is) (left.0 (ap (λ x. x.txn) is))
+its_bound bound e (g ∷ h) left (inr has) = its_bound bound e h left.1 has
+
 -- an entry stays, or falls in a crash
 entry_step : (m n : Machine) (line : Line) (e : Entry) → Step m line n → TakesNothingBack e.txn line → IsEntry e m.h
     → IsEntry e n.h ⊎ HasFallen n e.txn
@@ -148,8 +154,10 @@ entry_step m n (TellsRolledBack u) e h spared has = inl (subst (λ y. IsEntry e 
 entry_step m n (Commits u) e h spared has = inl (subst (λ y. IsEntry e y.h) (sym h.1) has)
 entry_step m n (TellsCommitted u) e h spared has = inl (subst (λ y. IsEntry e y.h) (sym h.1) has)
 entry_step m n Crashes e h spared has =
-    elim (stays_or_falls m n e.txn (m.txns e.txn).status (h.0 e.txn) (h.1 e.txn)) [
-      | inl stays ↦ inl (subst (IsEntry e) (sym h.2) (entry_marked (λ u k. h.0 u) e m.h stays has))
+    elim (stays_or_falls m n h.1 e.txn (m.txns e.txn).status (h.0 e.txn) (h.2 e.txn)) [
+      | inl stays ↦
+          let here = entry_fallen h.0 h.1 e m.h stays.0 (its_bound h.1 e m.h stays.1 has) has in
+          inl (subst (IsEntry e) (sym h.3) here)
       | inr falls ↦ inr falls
     ]
 entry_step m n (TellsLost u) e h spared has = inl (subst (λ y. IsEntry e y.h) (sym h.1) has)

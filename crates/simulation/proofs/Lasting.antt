@@ -1,34 +1,36 @@
 -- What lasts over lines, one at a time and then all of a run.
 use Rattle.std.proofs.Common.{◌≡◌, ◌≢◌, ℕ, Bool, true, false, List, [], ◌∷◌, sym, ap, ◌∙◌, subst, arith, inl, inr, ◌⊎◌}
 use Rattle.history.specs.History.{Entry, entries_of}
-use Rattle.history.specs.ListMachine.{Machine, Status, Open, Waiting, Reading, Rolling, Committing, Committed, Losing, Gone, Line, Begins, TellsCommitted, Crashes, TellsLost, HasStatus, Falls, Survives, Step}
+use Rattle.history.specs.ListMachine.{Machine, Status, Open, Waiting, Reading, Rolling, Committing, Committed, Losing, Gone, Line, Begins, TellsCommitted, Crashes, TellsLost, HasStatus, Falls, AreAllLeft, Survives, Step}
 use Rattle.simulation.specs.Lasting.{HasCommitted, HasFallen, CommitsLast}
-use Rattle.simulation.proofs.Owning.{IsClosed, IsUntouched, untouched, own_marked}
+use Rattle.simulation.proofs.Owning.{IsClosed, IsUntouched, untouched, own_fallen}
 
 -- what a crash makes of one transaction
 pub survives_as : (m n : Machine) (t : ℕ) (s : Status) (h : Step m Crashes n) → HasStatus m t s
-    → Survives m t s (n.txns t) (h.0 t)
-survives_as m n t s h is = subst (λ x. Survives m t x (n.txns t) (h.0 t)) is (h.1 t)
+    → Survives m h.1 t s (n.txns t) (h.0 t)
+survives_as m n t s h is = subst (λ x. Survives m h.1 t x (n.txns t) (h.0 t)) is (h.2 t)
 
-pub own_stays : (m n : Machine) (t : ℕ) (h : Step m Crashes n) → h.0 t ≡ false → entries_of t n.h ≡ entries_of t m.h
-own_stays m n t h stays = ap (entries_of t) h.2 ∙ own_marked (λ u k. h.0 u) t m.h (λ k. stays)
+pub own_stays : (m n : Machine) (t : ℕ) (h : Step m Crashes n) → h.0 t ≡ false → AreAllLeft h.1 t m.h
+    → entries_of t n.h ≡ entries_of t m.h
+own_stays m n t h stays left = ap (entries_of t) h.3 ∙ own_fallen h.0 h.1 t m.h stays left
 
-pub falls_so : (m n : Machine) (t : ℕ) → Falls m t (n.txns t) → HasFallen n t
-falls_so m n t (inl k) = inl (ap (λ x. x.status) k.1)
-falls_so m n t (inr b) = inr (ap (λ x. x.status) b.1)
+pub falls_so : (m n : Machine) (bound t : ℕ) → Falls m bound t (n.txns t) → HasFallen n t
+falls_so m n bound t (inl k) = inl (ap (λ x. x.status) k.1)
+falls_so m n bound t (inr b) = inr (ap (λ x. x.status) b.1)
 
--- whether its entries stay or fall
-pub stays_or_falls : (m n : Machine) (t : ℕ) (s : Status) (fell : Bool) → Survives m t s (n.txns t) fell
-    → (fell ≡ false) ⊎ HasFallen n t
-stays_or_falls m n t Open fell h = inr (falls_so m n t h.0)
-stays_or_falls m n t (Waiting k o) fell h = inr (falls_so m n t h.0)
-stays_or_falls m n t (Reading q) fell h = inr (falls_so m n t h.0)
-stays_or_falls m n t (Rolling p) fell h = inr (falls_so m n t h.0)
-stays_or_falls m n t Committing fell (inl h) = inl h.1
-stays_or_falls m n t Committing fell (inr h) = inr (falls_so m n t h.0)
-stays_or_falls m n t Committed fell h = inl h.1
-stays_or_falls m n t Losing fell h = inl h.1
-stays_or_falls m n t Gone fell h = inl h.1
+-- whether its entries stay, or it has fallen
+pub stays_or_falls : (m n : Machine) (bound t : ℕ) (s : Status) (fell : Bool) → Survives m bound t s (n.txns t) fell
+    → ((fell ≡ false) × AreAllLeft bound t m.h) ⊎ HasFallen n t
+stays_or_falls m n bound t Open fell h = inr (falls_so m n bound t h.0)
+stays_or_falls m n bound t (Waiting k o) fell h = inr (falls_so m n bound t h.0)
+stays_or_falls m n bound t (Reading q) fell h = inr (falls_so m n bound t h.0)
+stays_or_falls m n bound t (Rolling p) fell h = inr (falls_so m n bound t h.0)
+stays_or_falls m n bound t Committing fell (inl h) = inl (h.2, h.1)
+stays_or_falls m n bound t Committing fell (inr h) = inr (falls_so m n bound t h.0)
+stays_or_falls m n bound t Committed fell h = inl (h.1, h.0.1)
+stays_or_falls m n bound t Losing fell h = inl (h.1, h.0.1)
+stays_or_falls m n bound t Gone fell h =
+    elim h.0 [ inl stays ↦ inl (h.1, stays.1) | inr falls ↦ inr (falls_so m n bound t falls.1) ]
 
 -- a committed transaction
 kept : (m n : Machine) (t : ℕ) (own : List Entry) → HasCommitted m t own → IsUntouched m n t → HasCommitted n t own
@@ -57,7 +59,7 @@ committed_kept m n (TellsLost u) t h anew is =
     untouched m n (TellsLost u) t h (closed_as m t Committed is tt) (other_than m t u Committed Losing is h.0 (λ e. cc))
 committed_kept m n Crashes t h anew is =
     let stays = survives_as m n t Committed h is in
-    record { txn = stays.0; own = own_stays m n t h stays.1 }
+    record { txn = stays.0.0; own = own_stays m n t h stays.1 stays.0.1 }
 committed_kept m n line t h anew is = untouched m n line t h (closed_as m t Committed is tt) tt
 
 -- and none does

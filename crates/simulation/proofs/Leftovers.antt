@@ -1,17 +1,15 @@
 -- What the component keeps of transactions that are over says nothing.
-use Rattle.std.proofs.Common.{◌≡◌, ℕ, arith, Some, None, Bool, true, false, List, [], ◌∷◌, refl, sym, ap, ◌∙◌, subst, inl, inr, ◌⊎◌}
-use Rattle.std.specs.List.{AllByRecursion}
+use Rattle.std.proofs.Common.{◌≡◌, ℕ, arith, Some, None, Bool, true, false, List, [], refl, sym, ap, ◌∙◌, subst, inl, inr, ◌⊎◌}
 use Rattle.std.proofs.lemmas.Bool.{cases_eq}
 use Rattle.history.specs.declared.record.Record.{Record}
 use Rattle.history.specs.declared.record.Record.TheVariants as is
-use Rattle.history.specs.History.{Entry}
 use Rattle.history.specs.Spans.{Span}
 use Rattle.history.specs.Log.{record_at}
 use Rattle.history.specs.Legal.{IsLegal}
 use Rattle.history.specs.ListMachine.{Machine, Status, Open, Waiting, Reading, Rolling, Committing, Committed, Losing, Gone}
 use Rattle.log_laws.proofs.Strict.{end_number, end_ends}
 use Rattle.log_laws.proofs.Named.{ended_begun}
-use Rattle.simulation.specs.View.{View, Doing, HasStatusOf, HasSaves, HasSavesOf, HoldsAs, AreSpans, IsActive, IsQuiet, IsCommitAt, IsOver, IsRecorded, IsTxnOf, opened, StandsFor}
+use Rattle.simulation.specs.View.{View, Doing, HasStatusOf, HasSaves, HasSavesOf, HoldsAs, AreSpans, IsActive, IsQuiet, IsCommitAt, IsOver, IsTxnOf, opened, StandsFor}
 use Rattle.simulation.specs.Running.{put}
 use Rattle.simulation.specs.Views.{IsUncommitting, LeftoversAreNoStep, LetGoIsNoStep, RebuiltSpansAreNoStep}
 use Rattle.simulation.proofs.Beginnings.{one_end}
@@ -108,12 +106,9 @@ module _ (v : View) (m : Machine) (saves : ℕ → List ℕ) (spans : ℕ → Li
             saves = saves_left (m.txns t).status (m.txns t).saves x.status x.saves;
             spans = spans_left (m.txns t).status (m.txns t).spans x.status x.spans;
             unentered = x.unentered;
+            logged = x.logged;
             entered = x.entered;
           }
-
-  recorded_left : (h : List Entry) → AllByRecursion (IsRecorded v) h → AllByRecursion (IsRecorded other) h
-  recorded_left [] all = tt
-  recorded_left (e ∷ h) all = (record { is = all.0.is; stable = all.0.stable }, recorded_left h all.1)
 
   pub left_over : ((t : ℕ) → (saves t ≡ v.saves t) ⊎ (v.doing t ≡ None))
       → ((t : ℕ) → (spans t ≡ v.spans t) ⊎ ((v.doing t ≡ None) × IsUncommitting v t))
@@ -121,7 +116,7 @@ module _ (v : View) (m : Machine) (saves : ℕ → List ℕ) (spans : ℕ → Li
   left_over same_saves same_spans = record {
     entries = stands.entries;
     falling = stands.falling;
-    recorded = recorded_left m.h stands.recorded;
+    recorded = stands.recorded;
     each = λ t. txn_left t (same_saves t) (same_spans t);
   }
 

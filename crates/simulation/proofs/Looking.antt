@@ -1,13 +1,11 @@
 -- Reads.
-use Rattle.std.proofs.Common.{◌≡◌, ℕ, false, List, [], ◌∷◌, Option, Some, refl, sym, ap, ◌∙◌, subst, inl, inr}
-use Rattle.std.specs.List.{AllByRecursion}
+use Rattle.std.proofs.Common.{◌≡◌, ℕ, false, List, ◌∷◌, Option, Some, refl, sym, ap, ◌∙◌, subst, inl, inr}
 use Rattle.std.proofs.lemmas.Bool.{cases_eq}
 use Rattle.record_key.specs.declared.op.Op.{Op}
-use Rattle.history.specs.History.{Entry}
 use Rattle.history.specs.Spans.{Span, IsRange}
 use Rattle.history.specs.Log.{is_crossed, IsOpBy}
 use Rattle.history.specs.ListMachine.{Query, OfKey, OfRange, asked_span, Machine, Txn, Open, Reading, Reads, IsFree, with_txn, with_status}
-use Rattle.simulation.specs.View.{View, Doing, Ready, Looks, counts, is_to_undo, HasStatusOf, HasSavesOf, HoldsAs, AreSpans, IsUntold, IsRecorded, IsTxnOf, StandsFor}
+use Rattle.simulation.specs.View.{View, Doing, Ready, Looks, counts, is_to_undo, HasStatusOf, HasSavesOf, HoldsAs, AreSpans, IsUntold, IsTxnOf, StandsFor}
 use Rattle.simulation.specs.Running.{put, does, Leads, after_read, ReadIsAStep, RowIsTold, RowsAreTold}
 use Rattle.simulation.proofs.Entries.{Agrees, Both, alike}
 use Rattle.simulation.proofs.Carrying.{same_entries, txn_kept, one_changed}
@@ -34,15 +32,11 @@ module _ (v : View) (m : Machine) (t : ℕ) (stands : StandsFor v m) (d : Option
           (ap (λ y. is_to_undo (moved.doing y) n) e ∙ ap (λ y. is_to_undo y n) (put_same v.doing t d) ∙ now n)
     ])
 
-    moved_recorded : (h : List Entry) → AllByRecursion (IsRecorded v) h → AllByRecursion (IsRecorded moved) h
-    moved_recorded [] all = tt
-    moved_recorded (e ∷ h) all = (record { is = all.0.is; stable = all.0.stable }, moved_recorded h all.1)
-
     pub moves : IsTxnOf moved m.h t x → StandsFor moved (with_txn m t x)
     moves here = record {
       entries = stands.entries ∙ alike v.log v.log (counts v) (counts moved) v.log moved_agrees;
       falling = stands.falling;
-      recorded = moved_recorded m.h stands.recorded;
+      recorded = stands.recorded;
       each = one_changed m moved m.h t x here (λ u apart.
           txn_kept v moved u (carries_view v moved.doing saves spans u (put_other v.doing t d u apart)
           (same_saves u apart) (same_spans u apart))
@@ -83,6 +77,7 @@ module _ (v : View) (m : Machine) (t : ℕ) (stands : StandsFor v m) where
                     λ a. elim a [ inl e ↦ inl e | inr b ↦ inr ((own r).1 b) ],
                   ));
               unentered = tt;
+              logged = x.logged;
               entered = λ n o by. elim (x.entered n o by)
                   [ inl a ↦ inl a | inr a ↦ absurd (subst IsUntold at.is_so a.1) ];
             }),
@@ -102,6 +97,7 @@ module _ (v : View) (m : Machine) (t : ℕ) (stands : StandsFor v m) where
         saves = subst (λ z. HasSavesOf v m.h t z (m.txns t).saves) is_so x.saves;
         spans = subst (λ z. HoldsAs v t z (m.txns t).spans) is_so x.spans;
         unentered = tt;
+        logged = x.logged;
         entered = λ n o by. elim (x.entered n o by) [ inl a ↦ inl a | inr a ↦ absurd (subst IsUntold is_so a.1) ];
       })
 

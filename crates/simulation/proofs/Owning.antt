@@ -1,10 +1,11 @@
 -- What a line leaves of one transaction and of its entries.
-use Rattle.std.proofs.Common.{◌≡◌, ℕ, Bool, true, false, cond, List, [], ◌∷◌, refl, sym, ap, ◌∙◌, subst, inl, inr, eqb-true, ne_eqb}
+use Rattle.std.proofs.Common.{◌≡◌, ℕ, ◌≤◌, Bool, true, false, cond, List, [], ◌∷◌, refl, sym, ap, ◌∙◌, subst, inl, inr, eqb-true, ne_eqb}
 use Rattle.std.specs.Prelude.{◌==◌, ◌||◌, ◌&&◌, not, map, nat_lt, if◌then◌else◌}
 use Rattle.std.specs.List.{list_any}
 use Rattle.std.proofs.Math.Bool.{or-false}
+use Rattle.std.proofs.lemmas.Bool.{le-ltb}
 use Rattle.history.specs.History.{Entry, placed, entries_of}
-use Rattle.history.specs.ListMachine.{Machine, Txn, Status, Open, Waiting, Reading, Rolling, Line, Begins, Acts, TellsAnswer, Reads, TellsRow, TellsRows, Saves, GoesBack, TellsBack, RollsBack, TellsRolledBack, Commits, TellsCommitted, Crashes, TellsLost, IsRefused, HasStatus, Step, with_txn}
+use Rattle.history.specs.ListMachine.{Machine, Txn, Status, Open, Waiting, Reading, Rolling, Line, Begins, Acts, TellsAnswer, Reads, TellsRow, TellsRows, Saves, GoesBack, TellsBack, RollsBack, TellsRolledBack, Commits, TellsCommitted, Crashes, TellsLost, IsRefused, AreAllLeft, HasStatus, Step, with_txn, fallen}
 use Rattle.simulation.specs.Lasting.{IsEntry}
 use Rattle.simulation.proofs.Entries.{marked}
 
@@ -31,6 +32,42 @@ pub entry_marked : (f : ℕ → ℕ → Bool) (e : Entry) (h : List Entry) → f
 entry_marked f e [] spared has = absurd has
 entry_marked f e (g ∷ h) spared (inl is) = inl (ap (marked f) is ∙ unmarked f e spared)
 entry_marked f e (g ∷ h) spared (inr has) = inr (entry_marked f e h spared has)
+
+-- a crash leaves those of one that doesn't fall and keeps its numbers
+same_fallen : (fell : ℕ → Bool) (bound : ℕ) (e : Entry) → e.number ≤ bound → fell e.txn ≡ false
+    → fallen fell bound e ≡ e
+same_fallen fell bound e le stays = rw (le-ltb bound e.number le) (unmarked (λ t n. fell t) e stays)
+
+txn_fallen : (fell : ℕ → Bool) (bound : ℕ) (e : Entry) (b : Bool) → nat_lt bound e.number ≡ b
+    → (fallen fell bound e).txn ≡ e.txn
+txn_fallen fell bound e true is = rw is refl
+txn_fallen fell bound e false is = rw is refl
+
+own_step : (t : ℕ) (e g : Entry) (h k : List Entry) (b : Bool) → (e.txn == t) ≡ b → g.txn ≡ e.txn → (e.txn ≡ t → g ≡ e)
+    → entries_of t k ≡ entries_of t h → entries_of t (g ∷ k) ≡ entries_of t (e ∷ h)
+own_step t e g h k true is txn same rest =
+    let one : g ≡ e = same (eqb-true e.txn t is) in
+    ap (λ x. entries_of t (x ∷ k)) one ∙ ap (λ y. cond (e.txn == t) (e ∷ y) y) rest
+own_step t e g h k false is txn same rest =
+    ap (λ (u : ℕ). cond (u == t) (g ∷ entries_of t k) (entries_of t k)) txn
+    ∙ ap (λ (c : Bool). cond c (g ∷ entries_of t k) (entries_of t k)) is ∙ rest
+    ∙ sym (ap (λ (c : Bool). cond c (e ∷ entries_of t h) (entries_of t h)) is)
+
+pub own_fallen : (fell : ℕ → Bool) (bound t : ℕ) (h : List Entry) → fell t ≡ false → AreAllLeft bound t h
+    → entries_of t (map (fallen fell bound) h) ≡ entries_of t h
+own_fallen fell bound t [] stays left = refl
+own_fallen fell bound t (e ∷ h) stays left =
+    own_step t e (fallen fell bound e) h (map (fallen fell bound) h) (e.txn == t) refl
+    (txn_fallen fell bound e (nat_lt bound e.number) refl)
+    (λ own. same_fallen fell bound e (left.0 own) (ap fell own ∙ stays))
+    (own_fallen fell bound t h stays left.1)
+
+pub entry_fallen : (fell : ℕ → Bool) (bound : ℕ) (e : Entry) (h : List Entry) → fell e.txn ≡ false → e.number ≤ bound
+    → IsEntry e h → IsEntry e (map (fallen fell bound) h)
+entry_fallen fell bound e [] stays le has = absurd has
+entry_fallen fell bound e (g ∷ h) stays le (inl is) =
+    inl (ap (fallen fell bound) is ∙ same_fallen fell bound e le stays)
+entry_fallen fell bound e (g ∷ h) stays le (inr has) = inr (entry_fallen fell bound e h stays le has)
 
 -- and so does an entry of another
 pub own_placed : (e : Entry) (t : ℕ) (h : List Entry) → (t ≡ e.txn → ⊥) → entries_of t (placed e h) ≡ entries_of t h

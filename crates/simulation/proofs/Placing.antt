@@ -3,6 +3,7 @@ use Rattle.std.proofs.Common.{◌≡◌, ◌≢◌, ℕ, ◌+◌, ◌<◌, ◌�
 use Rattle.std.specs.Prelude.{filter, nat_lt, if◌then◌else◌}
 use Rattle.std.specs.List.{AllByRecursion}
 use Rattle.std.proofs.lemmas.Bool.Decides.{nat_tests}
+use Rattle.std.proofs.lemmas.Bool.{cases_lt}
 use Rattle.record_key.specs.declared.op.Op.{Op}
 use Rattle.record_key.specs.declared.op.Answer.{Answer}
 use Rattle.history.specs.declared.record.Record.{Record}
@@ -11,7 +12,7 @@ use Rattle.history.specs.History.{Entry, placed}
 use Rattle.history.specs.Log.{answer_of, is_crossed, op_of, IsOpBy, hist_in, hist, entry_with}
 use Rattle.log_laws.proofs.Records.{AnOp, newest_at, had_at, which}
 use Rattle.log_laws.proofs.LegalLogs.{op_number}
-use Rattle.simulation.specs.View.{IsFalling, HasEntry}
+use Rattle.simulation.specs.View.{IsFalling, IsOverLost, IsFreeOf, HasEntry}
 use Rattle.simulation.proofs.Entries.{entry_of, hist_step, older_ops, newest_op, all_filtered}
 
 lt_nat_lt : (m n : ℕ) → m < n → nat_lt m n ≡ true
@@ -172,15 +173,22 @@ not_lt m n h = grind (arith, nat_tests)
 is_lt : (m n : ℕ) → nat_lt m n ≡ true → m < n
 is_lt m n h = grind (arith, nat_tests)
 
--- a filter that keeps it
-pub filter_placed : (p : Entry → Bool) (e : Entry) (h : List Entry) → p e ≡ true → IsFalling h
+-- a filter that keeps it, where all that is older than an entry without a number is below it
+pub filter_placed : (p : Entry → Bool) (e : Entry) (h : List Entry) → p e ≡ true → IsFalling h → IsOverLost e.number h
     → filter p (placed e h) ≡ placed e (filter p h)
-filter_placed p e [] keeps falls = ap (λ (b : Bool). cond b (e ∷ []) []) keeps
-filter_placed p e (f ∷ h) keeps falls = pick (nat_lt f.number e.number) refl (filter_placed p e h keeps falls.1)
+filter_placed p e [] keeps falls over = ap (λ (b : Bool). cond b (e ∷ []) []) keeps
+filter_placed p e (f ∷ h) keeps falls over =
+    pick (nat_lt f.number e.number) refl (filter_placed p e h keeps falls.1 over.1)
   where
+    older : f.number < e.number → AllByRecursion (λ x. x.number < e.number) h
+    older lt = elim (cases_lt 0 f.number) [
+      | inl some ↦ below_all f.number e.number h lt (falls.0 some)
+      | inr none ↦ over.0 (omega (arith, none))
+    ]
+
     front : f.number < e.number → placed e (filter p (f ∷ h)) ≡ e ∷ filter p (f ∷ h)
     front lt = placed_front e (filter p (f ∷ h))
-        (all_filtered (λ x. x.number < e.number) p (f ∷ h) (lt, below_all f.number e.number h lt falls.0))
+        (all_filtered (λ x. x.number < e.number) p (f ∷ h) (lt, older lt))
 
     past : (b : Bool) → nat_lt f.number e.number ≡ false
         → cond b (f ∷ placed e (filter p h)) (placed e (filter p h)) ≡ placed e (cond b (f ∷ filter p h) (filter p h))
@@ -194,25 +202,36 @@ filter_placed p e (f ∷ h) keeps falls = pick (nat_lt f.number e.number) refl (
     pick false ge rest = ap (λ x. cond (p f) (f ∷ x) x) rest ∙ past (p f) ge
 
 -- numbers fall still, where it has none of theirs
-pub placed_falling : (e : Entry) (h : List Entry) → AllByRecursion (λ f. f.number ≡ e.number → ⊥) h → IsFalling h
+pub placed_falling : (e : Entry) (h : List Entry) → 0 < e.number → IsFreeOf e.number h → IsFalling h
     → IsFalling (placed e h)
-placed_falling e [] apart falls = (tt, tt)
-placed_falling e (f ∷ h) apart falls = pick (nat_lt f.number e.number) refl (placed_falling e h apart.1 falls.1)
+placed_falling e [] some free falls = (λ _. tt, tt)
+placed_falling e (f ∷ h) some free falls =
+    pick (nat_lt f.number e.number) refl (placed_falling e h some (free.0.1, free.1.1) falls.1)
   where
+    older : f.number < e.number → AllByRecursion (λ x. x.number < e.number) h
+    older lt = elim (cases_lt 0 f.number) [
+      | inl positive ↦ below_all f.number e.number h lt (falls.0 positive)
+      | inr none ↦ free.1.0 (omega (arith, none))
+    ]
+
     pick : (b : Bool) → nat_lt f.number e.number ≡ b → IsFalling (placed e h)
         → IsFalling (if b then e ∷ f ∷ h else f ∷ placed e h)
-    pick true lt rest = (
-      (
-        is_lt f.number e.number lt,
-        below_all f.number e.number h (is_lt f.number e.number lt) falls.0,
-      ),
-      falls,
-    )
+    pick true lt rest = (λ _. (is_lt f.number e.number lt, older (is_lt f.number e.number lt)), falls)
     pick false ge rest = (
-      all_placed (λ x. x.number < f.number) e h
-          (omega (arith, not_lt f.number e.number ge, (λ (s : f.number ≡ e.number). apart.0 s))) falls.0,
+      λ positive. all_placed (λ x. x.number < f.number) e h
+          (omega (arith, not_lt f.number e.number ge, (λ (s : f.number ≡ e.number). free.0.0 s))) (falls.0 positive),
       rest,
     )
+
+-- and those without a number stay behind what is above what is older than them
+pub placed_over : (e : Entry) (n : ℕ) (h : List Entry) → 0 < e.number → IsOverLost n h → IsOverLost n (placed e h)
+placed_over e n [] some over = (λ none. absurd (omega (arith, some, none)), tt)
+placed_over e n (f ∷ h) some over = pick (nat_lt f.number e.number) refl (placed_over e n h some over.1)
+  where
+    pick : (b : Bool) → nat_lt f.number e.number ≡ b → IsOverLost n (placed e h)
+        → IsOverLost n (if b then e ∷ f ∷ h else f ∷ placed e h)
+    pick true lt rest = (λ none. absurd (omega (arith, some, none)), over)
+    pick false ge rest = (λ none. absurd (omega (arith, some, none, not_lt f.number e.number ge)), rest)
 
 -- it is there, and so are the others
 pub placed_entry : (e : Entry) (h : List Entry) (n t : ℕ) (o : Op) → HasEntry h n t o → HasEntry (placed e h) n t o
@@ -237,11 +256,28 @@ placed_itself e (f ∷ h) = pick (nat_lt f.number e.number) (placed_itself e h)
     pick true rest = inl (refl, refl, refl)
     pick false rest = inr rest
 
+-- a log's history has numbers
+over_answered : (m : ℕ) (log : List Record) (n t : ℕ) (o : Op) (a : Option Answer) (h : List Entry) → 0 < n
+    → IsOverLost m h → IsOverLost m (entry_with log n t o a h)
+over_answered m log n t o None h some over = over
+over_answered m log n t o (Some a) h some over = (λ none. absurd (omega (arith, some, none)), over)
+
+over_record : (m : ℕ) (log : List Record) (n : ℕ) (by : Option (ℕ × Op)) (h : List Entry) → 0 < n
+    → IsOverLost m h → IsOverLost m (entry_of log n by h)
+over_record m log n None h some over = over
+over_record m log n (Some by) h some over = over_answered m log n by.0 by.1 (answer_of log n) h some over
+
+pub hist_over : (m : ℕ) (log rest : List Record) → IsOverLost m (hist_in log rest)
+hist_over m log [] = tt
+hist_over m log (r ∷ rest) =
+    subst (IsOverLost m) (sym (hist_step log r rest))
+    (over_record m log (length rest + 1) (op_of r) (hist_in log rest) (omega arith) (hist_over m log rest))
+
 -- a log's history falls
 falling_answered : (log : List Record) (n t : ℕ) (o : Op) (a : Option Answer) (h : List Entry)
     → AllByRecursion (λ e. e.number < n) h → IsFalling h → IsFalling (entry_with log n t o a h)
 falling_answered log n t o None h below falls = falls
-falling_answered log n t o (Some a) h below falls = (below, falls)
+falling_answered log n t o (Some a) h below falls = (λ _. below, falls)
 
 falling_step : (log : List Record) (n : ℕ) (by : Option (ℕ × Op)) (h : List Entry)
     → AllByRecursion (λ e. e.number < n) h → IsFalling h → IsFalling (entry_of log n by h)

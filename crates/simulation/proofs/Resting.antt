@@ -1,20 +1,21 @@
 -- The value at a key on which nobody acts stays, where only committed transactions left it.
-use Rattle.std.proofs.Common.{◌≡◌, ◌≢◌, ℕ, Bool, true, false, List, [], ◌∷◌, Option, None, refl, sym, ap, ◌∙◌, subst, inl, inr, true≢false}
+use Rattle.std.proofs.Common.{◌≡◌, ◌≢◌, ℕ, ◌≤◌, Bool, true, false, List, [], ◌∷◌, Option, None, refl, sym, ap, ◌∙◌, subst, inl, inr, true≢false}
 use Rattle.std.specs.Prelude.{◌==◌, ◌&&◌, ◌||◌, not, map, nat_lt, if◌then◌else◌}
 use Rattle.std.specs.List.{AllByRecursion, list_any}
 use Rattle.std.specs.FinMap.{get, get-empty}
-use Rattle.std.proofs.lemmas.Bool.{cases_Bool}
+use Rattle.std.proofs.lemmas.Bool.{cases_Bool, le-ltb}
 use Rattle.record_key.specs.declared.op.Op.{Op}
+use Rattle.record_key.specs.declared.op.Answer.{Answer}
 use Rattle.record_key.specs.Table.{Bytes, key_of, value_after}
 use Rattle.record_key.specs.Laws.{key_cmp}
 use Rattle.record_key.proofs.Tables.{is_same-true}
 use Rattle.history.specs.History.{Entry, plain, placed, entries_of}
 use Rattle.history.specs.Values.{is_on}
-use Rattle.history.specs.ListMachine.{Machine, Txn, Status, Open, Waiting, Reading, Rolling, Committing, Committed, Losing, Gone, Line, Begins, Acts, TellsAnswer, Reads, TellsRow, TellsRows, Saves, GoesBack, TellsBack, RollsBack, TellsRolledBack, Commits, TellsCommitted, Crashes, TellsLost, IsRefused, HasStatus, Falls, Survives, Step, Steps, with_txn}
+use Rattle.history.specs.ListMachine.{Machine, Txn, Status, Open, Waiting, Reading, Rolling, Committing, Committed, Losing, Gone, Line, Begins, Acts, TellsAnswer, Reads, TellsRow, TellsRows, Saves, GoesBack, TellsBack, RollsBack, TellsRolledBack, Commits, TellsCommitted, Crashes, TellsLost, IsRefused, HasStatus, Falls, AreAllLeft, Survives, Step, Steps, with_txn, fallen}
 use Rattle.log_laws.proofs.Plain.{entry_leaves}
 use Rattle.log_laws.proofs.Statuses.{same_op}
 use Rattle.simulation.specs.Lasting.{HasCommitted, IsOwned, IsAtRest, ActsElsewhere, ValuesLast}
-use Rattle.simulation.proofs.Entries.{marked, marked_all}
+use Rattle.simulation.proofs.Entries.{marked, marked_all, fallen_all}
 use Rattle.simulation.proofs.Placing.{all_placed}
 use Rattle.simulation.proofs.Owning.{spared_by}
 use Rattle.simulation.proofs.Lasting.{survives_as, other_than, committed_step}
@@ -75,12 +76,47 @@ marked_value k f (e ∷ h) spared =
     by false false true spared rest = ap (value_after e.op) rest
     by false false false spared rest = rest
 
+-- and so does a crash that spares those that stand there
+abbrev IsSpared : Bytes → (ℕ → Bool) → ℕ → Entry → Type 0
+IsSpared k fell bound e = e.crossed ≡ false → key_of e.op ≡ k → (fell e.txn ≡ false) × (e.number ≤ bound)
+
+fallen_step : (k : Bytes) (fell : ℕ → Bool) (bound n t : ℕ) (o : Op) (a : Answer) (c : Bool) (v w : Option Bytes)
+    (over on : Bool) → nat_lt bound n ≡ over → is_on k o ≡ on
+    → (c ≡ false → on ≡ true → (fell t ≡ false) × (n ≤ bound)) → v ≡ w
+    → leaving (not (fallen fell bound (record { number = n; txn = t; op = o; answer = a; crossed = c })).crossed
+    && is_on k (fallen fell bound (record { number = n; txn = t; op = o; answer = a; crossed = c })).op)
+    (fallen fell bound (record { number = n; txn = t; op = o; answer = a; crossed = c })).op v
+    ≡ leaving (not c && is_on k o) o w
+fallen_step k fell bound n t o a true v w true on is at spared rest = rw is rest
+fallen_step k fell bound n t o a true v w false on is at spared rest = rw is rest
+fallen_step k fell bound n t o a false v w true true is at spared rest =
+    absurd (true≢false (sym is ∙ le-ltb bound n (spared refl refl).1))
+fallen_step k fell bound n t o a false v w true false is at spared rest = rw (is, at) rest
+fallen_step k fell bound n t o a false v w false true is at spared rest =
+    rw (is, at, (spared refl refl).0) (ap (value_after o) rest)
+fallen_step k fell bound n t o a false v w false false is at spared rest = rw (is, at) (off (fell t))
+  where
+    off : (b : Bool) → leaving (not b && false) o v ≡ w
+    off true = rest
+    off false = rest
+
+fallen_value : (k : Bytes) (fell : ℕ → Bool) (bound : ℕ) (h : List Entry) → AllByRecursion (IsSpared k fell bound) h
+    → value_in k (map (fallen fell bound) h) ≡ value_in k h
+fallen_value k fell bound [] spared = refl
+fallen_value k fell bound (e ∷ h) spared =
+    fallen_step k fell bound e.number e.txn e.op e.answer e.crossed (value_in k (map (fallen fell bound) h))
+    (value_in k h) (nat_lt bound e.number) (is_on k e.op) refl refl
+    (λ c on. spared.0 c (sym (is_same-true k (key_of e.op) on))) (fallen_value k fell bound h spared.1)
+
 -- how a line changes the history
 data Change (m n : Machine) : Type 0 where
   Stays : n.h ≡ m.h → Change m n
   Places : (e : Entry) → HasStatus m e.txn (Waiting e.number e.op) → n.h ≡ placed e m.h → Change m n
   Marks : (f : ℕ → ℕ → Bool) → ((t k : ℕ) → HasStatus m t Committed → f t k ≡ false) → n.h ≡ map (marked f) m.h
       → Change m n
+  Loses : (fell : ℕ → Bool) → (bound : ℕ)
+      → ((t : ℕ) → HasStatus m t Committed → (fell t ≡ false) × AreAllLeft bound t m.h)
+      → n.h ≡ map (fallen fell bound) m.h → Change m n
 
 change : (m n : Machine) (line : Line) → Step m line n → Change m n
 change m n (Begins u) h = Stays (ap (λ y. y.h) h.1)
@@ -103,7 +139,8 @@ change m n (RollsBack u) h =
 change m n (TellsRolledBack u) h = Stays (ap (λ y. y.h) h.1)
 change m n (Commits u) h = Stays (ap (λ y. y.h) h.1)
 change m n (TellsCommitted u) h = Stays (ap (λ y. y.h) h.1)
-change m n Crashes h = Marks (λ t k. h.0 t) (λ t k is. (survives_as m n t Committed h is).1) h.2
+change m n Crashes h =
+    Loses h.0 h.1 (λ t is. let s = survives_as m n t Committed h is in (s.1, s.0.1)) h.3
 change m n (TellsLost u) h = Stays (ap (λ y. y.h) h.1)
 change m n (IsRefused call refusal) h = Stays (ap (λ y. y.h) h.1)
 
@@ -137,6 +174,21 @@ owners_step m n line k h rest (Marks f spared same) =
     (marked_all (IsOwned n k) (IsOwned n k) f m.h
     (λ e owns stands on. owns (unmarked_before e.crossed (f e.txn e.number) stands) on)
     (each_on m n line k m.h h rest.owners))
+owners_step m n line k h rest (Loses fell bound spared same) =
+    subst (AllByRecursion (IsOwned n k)) (sym same)
+    (fallen_all (IsOwned n k) (IsOwned n k) fell bound m.h
+    (λ e owns over stands on. absurd (true≢false stands))
+    (λ e owns within stands on. owns (unmarked_before e.crossed (fell e.txn) stands) on)
+    (each_on m n line k m.h h rest.owners))
+
+spared_each : (m : Machine) (k : Bytes) (fell : ℕ → Bool) (bound : ℕ) (h : List Entry)
+    → ((t : ℕ) → HasStatus m t Committed → (fell t ≡ false) × AreAllLeft bound t h) → AllByRecursion (IsOwned m k) h
+    → AllByRecursion (IsSpared k fell bound) h
+spared_each m k fell bound [] spared all = tt
+spared_each m k fell bound (e ∷ h) spared all = (
+  λ stands on. let own = spared e.txn (all.0 stands on).1 in (own.0, own.1.0 refl),
+  spared_each m k fell bound h (λ t is. let own = spared t is in (own.0, own.1.1)) all.1,
+)
 
 spares_each : (m : Machine) (k : Bytes) (f : ℕ → ℕ → Bool) (h : List Entry)
     → ((t j : ℕ) → HasStatus m t Committed → f t j ≡ false) → AllByRecursion (IsOwned m k) h
@@ -151,6 +203,8 @@ value_step m n k rest (Places e waits same) =
     ap (value_in k) same ∙ placed_value k e m.h (rest.unasked e.txn e.number e.op waits)
 value_step m n k rest (Marks f spared same) =
     ap (value_in k) same ∙ marked_value k f m.h (spares_each m k f m.h spared rest.owners)
+value_step m n k rest (Loses fell bound spared same) =
+    ap (value_in k) same ∙ fallen_value k fell bound m.h (spared_each m k fell bound m.h spared rest.owners)
 
 -- whoever waits waits for an operation elsewhere
 abbrev WaitsElsewhere : Bytes → Txn → Type 0
@@ -177,29 +231,29 @@ still_with : (m n : Machine) (k : Bytes) (u : ℕ) (x : Txn) (g : List Entry) �
     → (t : ℕ) → WaitsElsewhere k (n.txns t)
 still_with m n k u x g rest idle is = waits_with m n k u x g rest (waits_not k x idle) is
 
-falls_waits : (m : Machine) (t : ℕ) (new : Txn) → Falls m t new → WaitsNot new.status
-falls_waits m t new (inl k) = subst WaitsNot (sym (ap (λ x. x.status) k.1)) tt
-falls_waits m t new (inr b) = subst WaitsNot (sym (ap (λ x. x.status) b.1)) tt
+falls_waits : (m : Machine) (bound t : ℕ) (new : Txn) → Falls m bound t new → WaitsNot new.status
+falls_waits m bound t new (inl k) = subst WaitsNot (sym (ap (λ x. x.status) k.1)) tt
+falls_waits m bound t new (inr b) = subst WaitsNot (sym (ap (λ x. x.status) b.1)) tt
 
 stays_waits : (m : Machine) (t : ℕ) (s : Status) (new : Txn) → HasStatus m t s → new ≡ m.txns t → WaitsNot s
     → WaitsNot new.status
 stays_waits m t s new is same idle = subst WaitsNot (sym (ap (λ x. x.status) same ∙ is)) idle
 
-crash_waits : (m : Machine) (t : ℕ) (s : Status) (new : Txn) (fell : Bool) → HasStatus m t s → Survives m t s new fell
+crash_waits : (m : Machine) (bound t : ℕ) (s : Status) (new : Txn) (fell : Bool) → HasStatus m t s
+    → Survives m bound t s new fell
     → WaitsNot new.status
-crash_waits m t Open new fell is h = falls_waits m t new h.0
-crash_waits m t (Waiting j o) new fell is h = falls_waits m t new h.0
-crash_waits m t (Reading q) new fell is h = falls_waits m t new h.0
-crash_waits m t (Rolling p) new fell is h = falls_waits m t new h.0
-crash_waits m t Committing new fell is (inl h) = subst WaitsNot (sym (ap (λ x. x.status) h.0)) tt
-crash_waits m t Committing new fell is (inr h) = falls_waits m t new h.0
-crash_waits m t Committed new fell is h = stays_waits m t Committed new is h.0 tt
-crash_waits m t Losing new fell is h = stays_waits m t Losing new is h.0 tt
-crash_waits m t Gone new fell is h =
+crash_waits m bound t Open new fell is h = falls_waits m bound t new h.0
+crash_waits m bound t (Waiting j o) new fell is h = falls_waits m bound t new h.0
+crash_waits m bound t (Reading q) new fell is h = falls_waits m bound t new h.0
+crash_waits m bound t (Rolling p) new fell is h = falls_waits m bound t new h.0
+crash_waits m bound t Committing new fell is (inl h) = subst WaitsNot (sym (ap (λ x. x.status) h.0)) tt
+crash_waits m bound t Committing new fell is (inr h) = falls_waits m bound t new h.0
+crash_waits m bound t Committed new fell is h = stays_waits m t Committed new is h.0.0 tt
+crash_waits m bound t Losing new fell is h = stays_waits m t Losing new is h.0.0 tt
+crash_waits m bound t Gone new fell is h =
     elim (h.0) [
-      | inl same ↦ stays_waits m t Gone new is same tt
-      | inr (inl b) ↦ subst WaitsNot (sym (ap (λ x. x.status) b.1)) tt
-      | inr (inr l) ↦ subst WaitsNot (sym (ap (λ x. x.status) l.2)) tt
+      | inl stays ↦ stays_waits m t Gone new is stays.0 tt
+      | inr falls ↦ falls_waits m bound t new falls.1
     ]
 
 waits_step : (m n : Machine) (line : Line) (k : Bytes) → Step m line n → ActsElsewhere k line → IsAtRest m k
@@ -219,7 +273,7 @@ waits_step m n (TellsRolledBack u) k h off rest = still_with m n k u _ _ rest tt
 waits_step m n (Commits u) k h off rest = still_with m n k u _ _ rest tt h.1
 waits_step m n (TellsCommitted u) k h off rest = still_with m n k u _ _ rest tt h.1
 waits_step m n Crashes k h off rest =
-    λ t. waits_not k (n.txns t) (crash_waits m t (m.txns t).status (n.txns t) (h.0 t) refl (h.1 t))
+    λ t. waits_not k (n.txns t) (crash_waits m h.1 t (m.txns t).status (n.txns t) (h.0 t) refl (h.2 t))
 waits_step m n (TellsLost u) k h off rest = still_with m n k u _ _ rest tt h.1
 waits_step m n (IsRefused call refusal) k h off rest =
     λ t. subst (λ y. WaitsElsewhere k (y.txns t)) (sym h.1) (rest.unasked t)

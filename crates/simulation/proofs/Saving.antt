@@ -1,6 +1,7 @@
 -- Savepoints, and rollbacks to them.
 use Rattle.std.proofs.Common.{◌≡◌, ℕ, zero, suc, ◌+◌, ◌-◌, ◌<◌, ◌≤◌, Bool, true, false, cond, List, [], ◌∷◌, ◌++◌, length, Some, refl, sym, ap, ◌∙◌, subst, arith, inl, inr, true≢false, eq-eqb, ne_eqb, take}
 use Rattle.std.specs.Prelude.{◌==◌, ◌&&◌, ◌||◌, ◌↔◌, not, map, filter, nat_lt, slice_get}
+use Rattle.std.proofs.lemmas.Bool.{or_left}
 use Rattle.std.specs.List.{AllByRecursion, list_any}
 use Rattle.std.proofs.lemmas.Bool.{cases_eq, cases_lt, lt-ltb, le-ltb}
 use Rattle.record_key.specs.declared.op.Op.{Op}
@@ -112,7 +113,7 @@ save_is_a_step v m t s stands idle count le =
       record {
         entries = stands.entries;
         falling = stands.falling;
-        recorded = again m.h stands.recorded;
+        recorded = stands.recorded;
         each = one_changed m w m.h t new
             (record {
               begun = x.begun;
@@ -124,6 +125,7 @@ save_is_a_step v m t s stands idle count le =
               spans = subst (λ z. HoldsAs w t z (m.txns t).spans) (sym at.is_so)
                   (subst (λ z. HoldsAs v t z (m.txns t).spans) at.is_so x.spans);
               unentered = x.unentered;
+              logged = x.logged;
               entered = x.entered;
             })
             (λ u apart. txn_kept v w u
@@ -132,10 +134,6 @@ save_is_a_step v m t s stands idle count le =
             m.h m.h (same_entries v.log m.h u) (m.txns u) (stands.each u));
       },
     )
-  where
-    again : (h : List Entry) → AllByRecursion (IsRecorded v) h → AllByRecursion (IsRecorded (after_save v t)) h
-    again [] all = tt
-    again (e ∷ h) all = (record { is = all.0.is; stable = all.0.stable }, again h all.1)
 
 -- the savepoint of a place
 record SaveAt (h : List Entry) (t : ℕ) (saves : List (List ℕ)) (i end : ℕ) : Type 0 where
@@ -246,8 +244,8 @@ module _ (v : View) (m : Machine) (t s end : ℕ) (stands : StandsFor v m) (idle
               ∙ filter_twice (λ e. not (past e.txn e.number)) (counts v) (hist v.log)
               ∙ alike v.log v.log (λ e. not (past e.txn e.number) && counts v e) (counts back) v.log past_agrees;
           falling = marked_falling past m.h stands.falling;
-          recorded = marked_all (IsRecorded v) (IsRecorded back) past m.h
-              (λ e r. record { is = r.is; stable = r.stable }) stands.recorded;
+          recorded = marked_all (IsRecorded v.log) (IsRecorded v.log) past m.h
+              (λ e r. record { is = r.is; lost = λ none. or_left e.crossed _ (r.lost none) }) stands.recorded;
           each = one_changed m back h t new
               (record {
                 begun = x.begun;
@@ -264,6 +262,7 @@ module _ (v : View) (m : Machine) (t s end : ℕ) (stands : StandsFor v m) (idle
                     (marked_saves (length v.log + 1) (take s (m.txns t).saves) (take s (v.saves t)) carried);
                 spans = subst (λ z. HoldsAs v t z (m.txns t).spans) at.is_so x.spans;
                 unentered = tt;
+                logged = x.logged;
                 entered = λ n q by. elim (x.entered n q by)
                     [ inl a ↦ inl (marked_entry past m.h n t q a) | inr a ↦ absurd (subst IsUntold at.is_so a.1) ];
               })

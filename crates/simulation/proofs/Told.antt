@@ -10,8 +10,7 @@ use Rattle.history.specs.History.{Entry}
 use Rattle.history.specs.Log.{record_at, is_crossed, has_ended, IsOpBy}
 use Rattle.history.specs.Legal.{IsLegal}
 use Rattle.history.specs.ListMachine.{Machine, Txn, Status, Open, Waiting, Reading, Rolling, Committing, Committed, Losing, Gone, Line, TellsCommitted, TellsLost, Step, Steps, with_txn, ended}
-use Rattle.log_laws.proofs.Records.{AnOp, kept_at, record_new}
-use Rattle.log_laws.proofs.LegalLogs.{op_number}
+use Rattle.log_laws.proofs.Records.{record_new}
 use Rattle.log_laws.proofs.Strict.{end_ends}
 use Rattle.log_laws.proofs.Named.{ended_begun}
 use Rattle.simulation.specs.View.{View, counts, is_to_undo, HasStatusOf, IsCommitAt, IsUntold, IsRecorded, IsTxnOf, StandsFor}
@@ -19,7 +18,7 @@ use Rattle.simulation.specs.Laws.{StartsFresh, CommitsAreTold, LosersAreTold, to
 use Rattle.simulation.proofs.Beginnings.{one_end}
 use Rattle.simulation.proofs.Entries.{Agrees, Both, Neither, alike}
 use Rattle.simulation.proofs.Crash.{loses_out, crossed_out}
-use Rattle.simulation.proofs.Carrying.{Carries, Passes, passes, same_entries, txn_kept, one_changed, op_before, begun_so}
+use Rattle.simulation.proofs.Carrying.{Carries, Passes, passes, same_entries, txn_kept, one_changed, op_before, op_after, begun_so}
 
 -- nothing was done yet
 pub fresh_stands : StartsFresh
@@ -33,6 +32,7 @@ fresh_stands = record {
     saves = tt;
     spans = refl;
     unentered = tt;
+    logged = λ n o last. absurd (cc);
     entered = λ n o by. absurd (cc);
   };
 }
@@ -49,16 +49,12 @@ losing_is v t Losing so l = refl
 losing_is v t Gone so l = absurd (true≢false (sym l ∙ so.0.loses_so))
 
 -- a record that is no operation leaves what is recorded
-pub recorded_push : (v w : View) (r : Record) (h : List Entry) → w.log ≡ r ∷ v.log → w.stable ≡ v.stable
-    → AllByRecursion (IsRecorded v) h → AllByRecursion (IsRecorded w) h
-recorded_push v w r [] log stable all = tt
-recorded_push v w r (e ∷ h) log stable all = (
-  record {
-    is = subst (λ l. IsOpBy l e.number e.txn e.op) (sym log)
-        (kept_at (AnOp e.txn e.op) r v.log e.number (op_number v.log e.number e.txn e.op all.0.is) all.0.is);
-    stable = omega (arith, stable, all.0.stable);
-  },
-  recorded_push v w r h log stable all.1,
+pub recorded_push : (r : Record) (log : List Record) (h : List Entry) → AllByRecursion (IsRecorded log) h
+    → AllByRecursion (IsRecorded (r ∷ log)) h
+recorded_push r log [] all = tt
+recorded_push r log (e ∷ h) all = (
+  record { is = λ some. op_after r log e.txn e.number e.op (all.0.is some); lost = all.0.lost },
+  recorded_push r log h all.1,
 )
 
 module _ (v : View) (m : Machine) (t : ℕ) (legal : IsLegal (is.End t ∷ v.log)) (stands : StandsFor v m)
@@ -116,7 +112,7 @@ module _ (v : View) (m : Machine) (t : ℕ) (legal : IsLegal (is.End t ∷ v.log
     record {
       entries = stands.entries ∙ alike v.log (is.End t ∷ v.log) (counts v) (counts w) v.log agrees_lost;
       falling = stands.falling;
-      recorded = recorded_push v w (is.End t) m.h refl refl stands.recorded;
+      recorded = recorded_push (is.End t) v.log m.h stands.recorded;
       each = one_changed m w m.h t (ended (m.txns t) Gone)
           (record {
             begun = begun_so (is.End t) v.log t (m.txns t).begun (λ e. cc) (stands.each t).begun;
@@ -127,6 +123,7 @@ module _ (v : View) (m : Machine) (t : ℕ) (legal : IsLegal (is.End t ∷ v.log
             saves = tt;
             spans = refl;
             unentered = tt;
+            logged = λ n o last. op_after (is.End t) v.log t n o ((stands.each t).logged n o last);
             entered = λ n o by. elim ((stands.each t).entered n o (op_before (is.End t) v.log t n o (λ q e. cc) by))
                 [ inl a ↦ inl a | inr a ↦ inr (a.0, tt) ];
           })
@@ -187,11 +184,6 @@ module _ (v : View) (m : Machine) (legal : IsLegal v.log) (stands : StandsFor v 
     begun = (λ at. at, λ at. at);
   }
 
-  recorded_stable : (h : List Entry) → AllByRecursion (IsRecorded v) h → AllByRecursion (IsRecorded one_more) h
-  recorded_stable [] all = tt
-  recorded_stable (e ∷ h) all =
-      (record { is = all.0.is; stable = omega (arith, all.0.stable) }, recorded_stable h all.1)
-
   txn_stable : (u : ℕ) → (IsCommitAt v.log u (v.stable + 1) → ⊥) → IsTxnOf one_more m.h u (m.txns u)
   txn_stable u none = txn_kept v one_more u (carries_stable u none) m.h m.h (same_entries v.log m.h u) (m.txns u)
       (stands.each u)
@@ -200,7 +192,7 @@ module _ (v : View) (m : Machine) (legal : IsLegal v.log) (stands : StandsFor v 
   no_commit none = record {
     entries = stands.entries;
     falling = stands.falling;
-    recorded = recorded_stable m.h stands.recorded;
+    recorded = stands.recorded;
     each = λ u. txn_stable u (none u);
   }
 
@@ -216,7 +208,7 @@ module _ (v : View) (m : Machine) (legal : IsLegal v.log) (stands : StandsFor v 
         record {
           entries = stands.entries;
           falling = stands.falling;
-          recorded = recorded_stable m.h stands.recorded;
+          recorded = stands.recorded;
           each = one_changed m one_more m.h t new
               (record {
                 begun = (stands.each t).begun;
@@ -229,6 +221,7 @@ module _ (v : View) (m : Machine) (legal : IsLegal v.log) (stands : StandsFor v 
                 saves = tt;
                 spans = refl;
                 unentered = tt;
+                logged = (stands.each t).logged;
                 entered = λ n o by. elim ((stands.each t).entered n o by)
                     [ inl a ↦ inl a | inr a ↦ absurd (subst IsUntold is_committing a.1) ];
               })

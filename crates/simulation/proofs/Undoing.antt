@@ -1,7 +1,7 @@
 -- Rollbacks, and what they append.
 use Rattle.std.proofs.Common.{◌≡◌, ℕ, Bool, true, false, cond, List, ◌∷◌, Option, Some, None, refl, sym, ap, ◌∙◌, subst, inl, inr, ◌⊎◌, eq-eqb, ne_eqb}
 use Rattle.std.specs.Prelude.{◌==◌, ◌&&◌, ◌||◌, not, map, filter}
-use Rattle.std.proofs.lemmas.Bool.{cases_eq, lt-ltb}
+use Rattle.std.proofs.lemmas.Bool.{cases_eq, lt-ltb, or_left}
 use Rattle.record_key.specs.declared.op.Op.{Op}
 use Rattle.record_key.specs.declared.op.Answer.{Answer}
 use Rattle.history.specs.declared.record.Record.{Record}
@@ -14,7 +14,7 @@ use Rattle.log_laws.proofs.Records.{op_same}
 use Rattle.log_laws.proofs.LegalLogs.{op_number}
 use Rattle.simulation.specs.View.{View, Doing, Ready, Awaits, Rolls, counts, is_to_undo, HasStatusOf, HoldsAs, IsUntold, IsRecorded, StandsFor}
 use Rattle.simulation.specs.Running.{does, Leads, RollbackIsAStep, CompIsNoStep, UndoneIsNoStep}
-use Rattle.simulation.proofs.Entries.{as_entry, Agrees, Both, Neither, alike, filter_twice, marked, uncross_marked, marked_all, marked_falling, marked_entry}
+use Rattle.simulation.proofs.Entries.{as_entry, Agrees, Both, Neither, alike, filter_twice, marked, uncross_marked, marked_all, marked_falling, marked_entry, marked_over}
 use Rattle.simulation.proofs.Crash.{loses_out}
 use Rattle.simulation.proofs.Told.{losing_is, recorded_push}
 use Rattle.simulation.proofs.Carrying.{CarriesEntries, Passes, passes, same_entries, txn_kept, one_changed}
@@ -38,7 +38,7 @@ pub marked_entries : (log : List Record) (f : ℕ → ℕ → Bool) (h : List En
 marked_entries log f h u = record {
   entry = λ n o e. marked_entry f h n u o e;
   remembers = λ kept end r. record { same = marked_all _ _ f h (λ e s. s) r.same; within = r.within };
-  unentered = λ n o by all. marked_all _ _ f h (λ e s. s) all;
+  unentered = λ n o by all. (marked_all _ _ f h (λ e s. s) all.0, marked_over f n h all.1);
 }
 
 -- a rollback
@@ -77,8 +77,8 @@ module _ (v : View) (m : Machine) (t : ℕ) (stands : StandsFor v m) (idle : v.d
               ∙ alike v.log v.log (λ e. not (crossing e.txn e.number) && counts v e) (counts roll_view) v.log
               roll_agrees;
           falling = marked_falling crossing m.h stands.falling;
-          recorded = marked_all (IsRecorded v) (IsRecorded roll_view) crossing m.h
-              (λ e r. record { is = r.is; stable = r.stable }) stands.recorded;
+          recorded = marked_all (IsRecorded v.log) (IsRecorded v.log) crossing m.h
+              (λ e r. record { is = r.is; lost = λ none. or_left e.crossed _ (r.lost none) }) stands.recorded;
           each = one_changed m roll_view h t new
               (record {
                 begun = x.begun;
@@ -93,6 +93,7 @@ module _ (v : View) (m : Machine) (t : ℕ) (stands : StandsFor v m) (idle : v.d
                 saves = tt;
                 spans = subst (λ s. HoldsAs v t s (m.txns t).spans) at.is_so x.spans;
                 unentered = tt;
+                logged = x.logged;
                 entered = λ n q by. elim (x.entered n q by)
                     [ inl a ↦ inl (marked_entry crossing m.h n t q a) | inr a ↦ absurd (subst IsUntold at.is_so a.1) ];
               })
@@ -154,7 +155,7 @@ module _ (v : View) (m : Machine) (t u x : ℕ) (i : Option Op) (legal : IsLegal
     comp_so = record {
       entries = stands.entries ∙ alike v.log (is.Comp t u x i ∷ v.log) (counts v) (counts comp_view) v.log comp_agrees;
       falling = stands.falling;
-      recorded = recorded_push v comp_view (is.Comp t u x i) m.h refl refl stands.recorded;
+      recorded = recorded_push (is.Comp t u x i) v.log m.h stands.recorded;
       each = λ w. txn_kept v comp_view w (passes v comp_view (is.Comp t u x i) w (comp_passes w)) m.h m.h
           (same_entries v.log m.h w) (m.txns w) (stands.each w);
     }
@@ -210,7 +211,7 @@ module _ (v : View) (m : Machine) (n : ℕ) (a : Answer) (legal : IsLegal (is.An
       entries = stands.entries
           ∙ alike v.log (is.Answer n a ∷ v.log) (counts v) (counts undone_view) v.log undone_agrees;
       falling = stands.falling;
-      recorded = recorded_push v undone_view (is.Answer n a) m.h refl refl stands.recorded;
+      recorded = recorded_push (is.Answer n a) v.log m.h stands.recorded;
       each = λ w. txn_kept v undone_view w (passes v undone_view (is.Answer n a) w (undone_passes w)) m.h m.h
           (same_entries v.log m.h w) (m.txns w) (stands.each w);
     }

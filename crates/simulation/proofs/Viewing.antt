@@ -111,7 +111,7 @@ pub neutral_is_no_step : NeutralIsNoStep
 neutral_is_no_step v m r low stands which = record {
   entries = stands.entries ∙ same_hist v m stands r low which;
   falling = stands.falling;
-  recorded = recorded_push v (record v { log = r ∷ v.log }) r m.h refl refl stands.recorded;
+  recorded = recorded_push r v.log m.h stands.recorded;
   each = λ u. txn_kept v (record v { log = r ∷ v.log }) u
       (passes v (record v { log = r ∷ v.log }) r u (neutral_passes v m stands r low u which))
       m.h m.h (same_entries v.log m.h u) (m.txns u) (stands.each u);

@@ -3,7 +3,7 @@ use Rattle.std.specs.Prelude.{◌≡◌, ◌⊎◌, ℕ, ◌+◌, ◌-◌, ◌�
 use Rattle.std.specs.FinMap.{get}
 use Rattle.record_key.specs.declared.op.Op.{Op}
 use Rattle.record_key.specs.declared.op.Answer.{Answer}
-use Rattle.record_key.specs.Table.{Bytes, key_of}
+use Rattle.record_key.specs.Table.{Bytes}
 use Rattle.history.specs.declared.record.Record.TheVariants as is
 use Rattle.history.specs.Spans.{IsRange, rows_in, changed_span}
 use Rattle.history.specs.History.{plain}
@@ -99,7 +99,7 @@ abbrev pub AnswerIsTold : Type 0
 AnswerIsTold =
     (v : View) (m : Machine) (t n : ℕ) (a : Answer) → IsLegal (is.Answer n a ∷ v.log)
     → HasRightAnswers (is.Answer n a ∷ v.log) → StandsFor v m
-    → v.doing t ≡ Some (Awaits n) → n ≤ v.stable → Leads v m (TellsAnswer t a) (after_answer v t n a)
+    → v.doing t ≡ Some (Awaits n) → Leads v m (TellsAnswer t a) (after_answer v t n a)
 
 abbrev pub after_save : View → ℕ → View
 after_save v t = record v { saves = put v.saves t (v.saves t ++ length v.log ∷ []) }

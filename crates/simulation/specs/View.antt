@@ -2,7 +2,6 @@
 use Rattle.std.specs.Prelude.{◌≡◌, ◌⊎◌, ◌↔◌, ℕ, ◌+◌, ◌<◌, ◌≤◌, ◌==◌, ◌&&◌, Bool, true, false, not, List, [], ◌∷◌, Option, Some, None, filter, length, nat_lt}
 use Rattle.std.specs.List.{AllByRecursion, list_any}
 use Rattle.record_key.specs.declared.op.Op.{Op}
-use Rattle.record_key.specs.Table.{key_of}
 use Rattle.history.specs.declared.record.Record.{Record}
 use Rattle.history.specs.declared.record.Record.TheVariants as is
 use Rattle.history.specs.History.{Entry}
@@ -40,15 +39,20 @@ counts v e = not e.crossed && (not (v.loses e.txn) && not (is_to_undo (v.doing e
 abbrev pub standing : List Entry → List Entry
 standing h = filter (λ e. not e.crossed) h
 
--- numbers fall from the newest on
+-- numbers fall from the newest on, but of entries that have none
 abbrev pub IsFalling : List Entry → Type 0
 IsFalling [] = Unit {0}
-IsFalling (e ∷ h) = AllByRecursion (λ f. f.number < e.number) h × IsFalling h
+IsFalling (e ∷ h) = (0 < e.number → AllByRecursion (λ f. f.number < e.number) h) × IsFalling h
 
--- it stands in the log, and is stable
-pub record IsRecorded (v : View) (e : Entry) : Type 0 where
-  pub is : IsOpBy v.log e.number e.txn e.op
-  pub stable : e.number ≤ v.stable
+-- all that is older than an entry without a number is below this one
+abbrev pub IsOverLost : ℕ → List Entry → Type 0
+IsOverLost n [] = Unit {0}
+IsOverLost n (e ∷ h) = (e.number ≡ 0 → AllByRecursion (λ f. f.number < n) h) × IsOverLost n h
+
+-- it stands in the log; or a crash lost its record, and it is crossed
+pub record IsRecorded (log : List Record) (e : Entry) : Type 0 where
+  pub is : 0 < e.number → IsOpBy log e.number e.txn e.op
+  pub lost : e.number ≡ 0 → e.crossed ≡ true
 
 abbrev pub HasEntry : List Entry → ℕ → ℕ → Op → Type 0
 HasEntry [] n t o = ⊥
@@ -110,9 +114,12 @@ HasSavesOf v h t (Reading s) saves = HasSaves h t (length v.log + 1) saves (v.sa
 HasSavesOf v h t (Rolling (Some s)) saves = HasSaves h t (length v.log + 1) saves (v.saves t)
 HasSavesOf v h t _ saves = Unit {0}
 
--- what is waited for has no entry yet
+-- what is waited for has no entry yet, and will stand before those without a number
+abbrev pub IsFreeOf : ℕ → List Entry → Type 0
+IsFreeOf n h = AllByRecursion (λ e. e.number ≡ n → ⊥) h × IsOverLost n h
+
 abbrev pub IsUnentered : List Entry → Status → Type 0
-IsUnentered h (Waiting n o) = AllByRecursion (λ e. e.number ≡ n → ⊥) h
+IsUnentered h (Waiting n o) = IsFreeOf n h
 IsUnentered h _ = Unit {0}
 
 abbrev pub IsAmong : Span → List Span → Type 0
@@ -142,21 +149,23 @@ IsUntold Losing = Unit {0}
 IsUntold Gone = Unit {0}
 IsUntold _ = ⊥
 
--- a transaction of the machine: it has begun where its Begin stands, and each of its operations in the log has
--- its entry, or is the last and was untold
+-- a transaction of the machine: it has begun where its Begin stands, its last operation is in the log, and each of
+-- its operations in the log has its entry, or is the last and was untold
 pub record IsTxnOf (v : View) (h : List Entry) (t : ℕ) (x : Txn) : Type 0 where
   pub begun : (x.begun ≡ true) ↔ (record_at v.log t ≡ Some is.Begin)
   pub status : HasStatusOf v t x.status
   pub saves : HasSavesOf v h t x.status x.saves
   pub spans : HoldsAs v t x.status x.spans
   pub unentered : IsUnentered h x.status
+  pub logged : (n : ℕ) (o : Op) → x.last ≡ Some (n, o) → IsOpBy v.log n t o
   pub entered : (n : ℕ) (o : Op) → IsOpBy v.log n t o → HasEntry h n t o ⊎ ((x.last ≡ Some (n, o)) × IsUntold x.status)
 
--- a relation: what was told and lost its Answer record in a crash keeps its entry, crossed
+-- a relation: what was told and lost its Answer record in a crash keeps its entry, crossed, and without a number where
+-- it lost its own record too
 pub record StandsFor (v : View) (m : Machine) : Type 0 where
   pub entries : standing m.h ≡ filter (counts v) (hist v.log)
   pub falling : IsFalling m.h
-  pub recorded : AllByRecursion (IsRecorded v) m.h
+  pub recorded : AllByRecursion (IsRecorded v.log) m.h
   pub each : (t : ℕ) → IsTxnOf v m.h t (m.txns t)
 
 -- it has begun, and neither Commit nor End stands

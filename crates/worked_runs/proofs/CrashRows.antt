@@ -2,12 +2,12 @@
 use Rattle.std.proofs.Common.{◌≡◌, ℕ, ◌<◌, Bool, true, false, List, [], ◌∷◌, refl, sym, ap, ◌∙◌, subst, arith, inl, inr, ◌⊎◌, true≢false, ne_eqb}
 use Rattle.std.proofs.lemmas.Bool.{cases_eq}
 use Rattle.std.specs.Prelude.{if◌then◌else◌}
-use Rattle.record_key.specs.declared.op.Answer.TheVariants.{Exists}
+use Rattle.record_key.specs.declared.op.Answer.TheVariants.{Exists, Inserted}
 use Rattle.record_key.specs.declared.refusal.Refusal.TheVariants.{Busy}
 use Rattle.history.specs.Spans.{Span, AnyConflict, changed_span}
-use Rattle.history.specs.ListMachine.{Machine, Line, Txn, Committing, Committed, Losing, Gone, Acts, TellsAnswer, Begins, RollsBack, TellsRolledBack, Commits, TellsCommitted, Crashes, TellsLost, IsRefused, ToAct, Steps, Survives, IsRun, IsFree, IsAbove, IsUnbegun, with_txn, with_status, blank, losing, ended, nobody, fresh}
-use Rattle.worked_runs.specs.Rows.{insert_a, commit_stays, commit_falls, told_commit_falls, end_is_lost, nobody_is_lost, key_stays_held, held_key_is_taken}
-use Rattle.worked_runs.proofs.Walking.{second_answer, begun, acted, told, rolling, gone, crashed, inserted, IsAlone, alone_with, alone_acted, alone_inserted, alone_above, alone_below, alone_crashed, second_holder, starts_acting, starts, crashes, after_insert}
+use Rattle.history.specs.ListMachine.{Machine, Line, Txn, Committing, Committed, Losing, Gone, Acts, TellsAnswer, Begins, RollsBack, TellsRolledBack, Commits, TellsCommitted, Crashes, TellsLost, IsRefused, ToAct, Steps, Survives, IsRun, IsFree, IsAbove, Stays, Falls, with_txn, with_status, blank, losing, ended, nobody, fresh}
+use Rattle.worked_runs.specs.Rows.{insert_a, after_insert_a, numbers_again, committed_again, commit_stays, commit_falls, told_commit_falls, end_is_lost, nobody_is_lost, key_stays_held, held_key_is_taken}
+use Rattle.worked_runs.proofs.Walking.{first_answer, alone_free, second_answer, begun, acted, told, rolling, gone, crashed, inserted, IsAlone, alone_with, alone_acted, alone_inserted, alone_above, alone_below, alone_crashed, second_holder, starts_acting, starts, crashes, after_insert}
 
 -- a commit is asked for
 abbrev committing : Machine
@@ -18,17 +18,17 @@ alone_committing = alone_with (inserted insert_a) 2 _ (alone_inserted insert_a)
 
 -- it stays
 abbrev kept : Machine
-kept = crashed committing (ended (committing.txns 2) Committed) false
+kept = crashed committing 5 (ended (committing.txns 2) Committed) false
 
-survives_kept : Survives committing 2 Committing (ended (committing.txns 2) Committed) false
-survives_kept = inl (refl, refl)
+survives_kept : Survives committing 5 2 Committing (ended (committing.txns 2) Committed) false
+survives_kept = inl (refl, (λ _. omega arith, tt), refl)
 
 -- then another inserts the same
 abbrev asks_again : Machine
 asks_again = acted (begun kept 6) 6 insert_a 7
 
 alone_kept : IsAlone kept 2
-alone_kept = alone_crashed committing (ended (committing.txns 2) Committed) false
+alone_kept = alone_crashed committing 5 (ended (committing.txns 2) Committed) false
 
 free_again : IsFree (begun kept 6) 6 (changed_span insert_a)
 free_again u apart h =
@@ -64,7 +64,7 @@ commit_stays_is_run =
         (refl, refl),
         (
           kept,
-          crashes committing (ended (committing.txns 2) Committed) false alone_committing survives_kept,
+          crashes committing 5 (ended (committing.txns 2) Committed) false alone_committing (refl, tt) survives_kept,
           (
             begun kept 6,
             (
@@ -84,7 +84,7 @@ commit_stays_is_run =
 -- it falls
 pub commit_falls_is_run : IsRun commit_falls
 commit_falls_is_run =
-    let fallen : Machine = crashed committing (losing committing 2 false) true in
+    let fallen : Machine = crashed committing 4 (losing committing 4 2) true in
     let last : Machine = gone fallen in (
       last,
       starts (97 ∷ []) (49 ∷ []) (Commits 2 ∷ Crashes ∷ TellsLost 2 ∷ []) last (
@@ -92,24 +92,31 @@ commit_falls_is_run =
         (refl, refl),
         (
           fallen,
-          crashes committing (losing committing 2 false) true alone_committing (inr (inl (false, refl), refl)),
+          crashes committing 4 (losing committing 4 2) true alone_committing (refl, tt)
+              (inr (inl (omega arith, refl), refl)),
           (last, (refl, refl), refl),
         ),
       ),
     )
 
--- a told one isn't lost
-pub told_commit_falls_is_none : IsRun told_commit_falls → ⊥
-told_commit_falls_is_none h =
-    let ends : List Line = Crashes ∷ TellsLost 2 ∷ [] in
+-- what follows a told commit and a crash
+after_told_commit : (lines : List Line) (last : Machine)
+    → Steps fresh (after_insert_a (Commits 2 ∷ TellsCommitted 2 ∷ Crashes ∷ lines)) last
+    → (mid : Machine) × (mid.txns 2 ≡ ended (committing.txns 2) Committed) × Steps mid lines last
+after_told_commit lines last h =
+    let ends : List Line = Crashes ∷ lines in
     let tells : List Line = TellsCommitted 2 ∷ ends in
     let committed : Machine = with_txn committing 2 (ended (committing.txns 2) Committed) in
-    let commits = after_insert insert_a (Commits 2 ∷ tells) h.0 h.1 in
-    let told_so : Steps committing tells h.0 = subst (λ m. Steps m tells h.0) commits.1.1 commits.2 in
-    let crash : Steps committed ends h.0 = subst (λ m. Steps m ends h.0) told_so.1.1 told_so.2 in
-    let stays : crash.0.txns 2 ≡ committed.txns 2 = (crash.1.1 2).0 in
-    let lost : (crash.0.txns 2).status ≡ Losing = crash.2.1.0 in
-    let wrong : Committed ≡ Losing = sym (ap (λ x. x.status) stays) ∙ lost in
+    let commits = after_insert insert_a (Commits 2 ∷ tells) last h in
+    let told_so : Steps committing tells last = subst (λ m. Steps m tells last) commits.1.1 commits.2 in
+    let crash : Steps committed ends last = subst (λ m. Steps m ends last) told_so.1.1 told_so.2 in
+    (crash.0, (crash.1.2 2).0.0, crash.2)
+
+-- it isn't lost
+pub told_commit_falls_is_none : IsRun told_commit_falls → ⊥
+told_commit_falls_is_none h =
+    let after = after_told_commit (TellsLost 2 ∷ []) h.0 h.1 in
+    let wrong : Committed ≡ Losing = sym (ap (λ x. x.status) after.1) ∙ after.2.1.0 in
     cc
 
 -- the end of a rollback
@@ -117,7 +124,7 @@ pub end_is_lost_is_run : IsRun end_is_lost
 end_is_lost_is_run =
     let m : Machine = inserted insert_a in
     let ends : Machine = gone (rolling m) in
-    let back : Machine = crashed ends (losing ends 2 false) false in
+    let back : Machine = crashed ends 6 (losing ends 6 2) false in
     let last : Machine = gone back in
     let alone : IsAlone ends 2 = alone_with (rolling m) 2 _ (alone_with m 2 _ (alone_inserted insert_a)) in (
       last,
@@ -129,32 +136,79 @@ end_is_lost_is_run =
           (refl, refl),
           (
             back,
-            crashes ends (losing ends 2 false) false alone (inr (inr (refl, false, refl)), refl),
+            crashes ends 6 (losing ends 6 2) false alone (refl, tt) (inr (refl, inl (omega arith, refl)), refl),
             (last, (refl, refl), refl),
           ),
         ),
       ),
     )
 
+-- all its records are lost
+abbrev never_was : Machine
+never_was = crashed (inserted insert_a) 1 nobody true
+
+alone_never : IsAlone never_was 2
+alone_never = alone_crashed (inserted insert_a) 1 nobody true
+
+none_begun : (k u : ℕ) → (never_was.txns u).begun ≡ true → u < k
+none_begun k u has_begun =
+    elim (cases_eq u 2) [
+      | inl e ↦ absurd (true≢false (sym (subst (λ (n : ℕ). (never_was.txns n).begun ≡ true) e has_begun)))
+      | inr apart ↦ absurd (true≢false (sym has_begun ∙ ap (λ x. x.begun) (alone_never u apart)))
+    ]
+
+pub numbers_again_is_run : IsRun numbers_again
+numbers_again_is_run =
+    let b : Machine = begun never_was 2 in
+    let alone : IsAlone b 2 = alone_with never_was 2 blank alone_never in
+    let a : Machine = acted b 2 insert_a 3 in
+    let last : Machine = told a 2 insert_a 3 Inserted in (
+      last,
+      starts (97 ∷ []) (49 ∷ []) (Crashes ∷ Begins 2 ∷ Acts 2 insert_a 3 ∷ TellsAnswer 2 Inserted ∷ []) last (
+        never_was,
+        crashes (inserted insert_a) 1 nobody true (alone_inserted insert_a) (refl, tt) (inr (omega arith, refl), refl),
+        (
+          b,
+          (((omega arith, tt), none_begun 2, alone_above never_was 2 2 alone_never tt), refl),
+          (
+            a,
+            (
+              refl,
+              alone_free b 2 (changed_span insert_a) alone,
+              omega arith,
+              ((omega arith, tt), alone_below b 2 3 alone (omega arith), alone_above b 2 3 alone tt),
+              refl,
+            ),
+            (last, (3, insert_a, refl, first_answer (97 ∷ []) (49 ∷ []), refl), refl),
+          ),
+        ),
+      ),
+    )
+
+pub committed_again_is_none : IsRun committed_again → ⊥
+committed_again_is_none h =
+    let after = after_told_commit (Begins 2 ∷ []) h.0 h.1 in
+    let below : 2 < 2 = after.2.1.0.1 2 (ap (λ x. x.begun) after.1) in
+    omega (arith, below)
+
 pub nobody_is_lost_is_none : IsRun nobody_is_lost → ⊥
 nobody_is_lost_is_none h =
     let crash = h.1.1 in
     let lost : (h.1.0.txns 999).status ≡ Losing = h.1.2.1.0 in
-    by (h.1.0.txns 999) (crash.1 999).0 lost
+    by crash.1 (h.1.0.txns 999) (crash.2 999).0 lost
   where
-    by : (x : Txn) → (x ≡ nobody) ⊎ IsUnbegun fresh 999 x
-        ⊎ ((false ≡ true) × (kept : Bool) × (x ≡ losing fresh 999 kept)) → x.status ≡ Losing → ⊥
-    by x (inl same) lost = let wrong : Gone ≡ Losing = sym (ap (λ y. y.status) same) ∙ lost in cc
-    by x (inr (inl unbegun)) lost = let wrong : Gone ≡ Losing = sym (ap (λ y. y.status) unbegun.1) ∙ lost in cc
-    by x (inr (inr back)) lost = true≢false (sym back.0)
+    by : (bound : ℕ) (x : Txn) → Stays fresh bound 999 x ⊎ ((false ≡ true) × Falls fresh bound 999 x)
+        → x.status ≡ Losing → ⊥
+    by bound x (inl stays) lost = let wrong : Gone ≡ Losing = sym (ap (λ y. y.status) stays.0) ∙ lost in cc
+    by bound x (inr falls) lost = true≢false (sym falls.0)
 
 -- a crash amid an operation
 abbrev cut_short : Machine
-cut_short = crashed (acted (begun fresh 2) 2 insert_a 3) (losing (acted (begun fresh 2) 2 insert_a 3) 2 true) true
+cut_short = crashed (acted (begun fresh 2) 2 insert_a 3) 3 (losing (acted (begun fresh 2) 2 insert_a 3) 3 2) true
 
 alone_cut_short : IsAlone cut_short 2
 alone_cut_short =
-    alone_crashed (acted (begun fresh 2) 2 insert_a 3) (losing (acted (begun fresh 2) 2 insert_a 3) 2 true) true
+    alone_crashed (acted (begun fresh 2) 2 insert_a 3) 3 (losing (acted (begun fresh 2) 2 insert_a 3) 3 2) true
 
 pub key_stays_held_is_run : IsRun key_stays_held
 key_stays_held_is_run =
@@ -163,7 +217,7 @@ key_stays_held_is_run =
       last,
       starts_acting insert_a (Crashes ∷ Begins 4 ∷ IsRefused (ToAct 4 insert_a) (Busy 2) ∷ []) last (
         cut_short,
-        crashes m (losing m 2 true) true (alone_acted insert_a 3) (inl (true, refl), refl),
+        crashes m 3 (losing m 3 2) true (alone_acted insert_a 3) tt (inl (omega arith, refl), refl),
         (
           last,
           (

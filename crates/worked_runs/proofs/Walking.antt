@@ -1,6 +1,7 @@
 -- Machines of short runs: what may follow a line, and what must.
 use Rattle.std.proofs.Common.{◌≡◌, ℕ, ◌<◌, Bool, true, false, List, [], ◌∷◌, Some, None, refl, sym, ap, ◌∙◌, subst, arith, inl, inr, ne_eqb, true≢false}
 use Rattle.std.specs.Prelude.{◌==◌, map, if◌then◌else◌}
+use Rattle.std.specs.List.{AllByRecursion}
 use Rattle.std.specs.FinMap.{get-empty}
 use Rattle.std.proofs.lemmas.Bool.{cases_eq}
 use Rattle.record_key.specs.declared.op.Op.{Op}
@@ -10,9 +11,9 @@ use Rattle.record_key.specs.declared.op.Answer.TheVariants.{Inserted, Exists}
 use Rattle.record_key.specs.Table.{Bytes, answer_at, answer_in, value_after}
 use Rattle.record_key.specs.Laws.{key_cmp}
 use Rattle.record_key.proofs.Tables.{get-with_record_same}
-use Rattle.history.specs.History.{plain, placed, cross}
+use Rattle.history.specs.History.{Entry, plain, placed, cross}
 use Rattle.history.specs.Spans.{Span, AnyConflict, changed_span}
-use Rattle.history.specs.ListMachine.{Machine, Txn, Open, Waiting, Rolling, Gone, Line, Begins, Acts, TellsAnswer, Crashes, Step, Steps, Survives, IsAbove, IsAboveAll, HasStatus, IsFree, IsHolder, with_txn, with_status, fallen, blank, nobody, ended, fresh}
+use Rattle.history.specs.ListMachine.{Machine, Txn, Open, Waiting, Rolling, Gone, Line, Begins, Acts, TellsAnswer, Crashes, Step, Steps, AreAllLeft, Survives, IsAbove, IsAboveAll, HasStatus, IsFree, IsHolder, with_txn, with_status, fallen, blank, nobody, ended, fresh}
 use Rattle.log_laws.proofs.Statuses.{same_number, same_op}
 
 -- the machine after a line
@@ -41,9 +42,9 @@ abbrev pub gone : Machine → Machine
 gone m = with_txn m 2 (ended (m.txns 2) Gone)
 
 -- a crash makes this of transaction 2, and there is no other
-abbrev pub crashed : Machine → Txn → Bool → Machine
-crashed m x fell = record {
-  h = map (fallen (λ u. if u == 2 then fell else false)) m.h;
+abbrev pub crashed : Machine → ℕ → Txn → Bool → Machine
+crashed m bound x fell = record {
+  h = map (fallen (λ u. if u == 2 then fell else false) bound) m.h;
   txns = λ u. if u == 2 then x else nobody;
 }
 
@@ -124,30 +125,36 @@ starts a b lines last rest =
     let o : Op = Insert a b in
     starts_acting o (TellsAnswer 2 Inserted ∷ lines) last (inserted o, (3, o, refl, first_answer a b, refl), rest)
 
--- a crash
-pub crashes : (m : Machine) (x : Txn) (fell : Bool) → IsAlone m 2 → Survives m 2 (m.txns 2).status x fell
-    → Step m Crashes (crashed m x fell)
-crashes m x fell alone survives = (λ u. if u == 2 then fell else false, each, refl)
+-- a crash leaves others, who have no entries
+all_left : (bound u : ℕ) (h : List Entry) → (u ≡ 2 → ⊥) → AllByRecursion (λ e. e.txn ≡ 2) h → AreAllLeft bound u h
+all_left bound u [] apart own = tt
+all_left bound u (e ∷ h) apart own = (λ same. absurd (apart (sym same ∙ own.0)), all_left bound u h apart own.1)
+
+pub crashes : (m : Machine) (bound : ℕ) (x : Txn) (fell : Bool) → IsAlone m 2 → AllByRecursion (λ e. e.txn ≡ 2) m.h
+    → Survives m bound 2 (m.txns 2).status x fell → Step m Crashes (crashed m bound x fell)
+crashes m bound x fell alone own survives = (λ u. if u == 2 then fell else false, bound, each, refl)
   where
-    each : (u : ℕ) → Survives m u (m.txns u).status (if u == 2 then x else nobody) (if u == 2 then fell else false)
+    each : (u : ℕ)
+        → Survives m bound u (m.txns u).status (if u == 2 then x else nobody) (if u == 2 then fell else false)
     each u =
         elim (cases_eq u 2) [
-          | inl e ↦ subst (λ (n : ℕ). Survives m n (m.txns n).status (if n == 2 then x else nobody)
+          | inl e ↦ subst (λ (n : ℕ). Survives m bound n (m.txns n).status (if n == 2 then x else nobody)
               (if n == 2 then fell else false)) (sym e) survives
-          | inr apart ↦ other (ap (λ y. y.status) (alone u apart))
+          | inr apart ↦ other apart (ap (λ y. y.status) (alone u apart))
               (ap (λ (b : Bool). if b then x else nobody) (ne_eqb u 2 apart) ∙ sym (alone u apart))
               (ap (λ (b : Bool). if b then fell else false) (ne_eqb u 2 apart))
         ]
       where
-        other : (m.txns u).status ≡ Gone → (if u == 2 then x else nobody) ≡ m.txns u
+        other : (u ≡ 2 → ⊥) → (m.txns u).status ≡ Gone → (if u == 2 then x else nobody) ≡ m.txns u
             → (if u == 2 then fell else false) ≡ false
-            → Survives m u (m.txns u).status (if u == 2 then x else nobody) (if u == 2 then fell else false)
-        other is_gone same stays =
-            subst (λ s. Survives m u s (if u == 2 then x else nobody) (if u == 2 then fell else false)) (sym is_gone)
-            (inl same, stays)
+            → Survives m bound u (m.txns u).status (if u == 2 then x else nobody) (if u == 2 then fell else false)
+        other apart is_gone same stays =
+            subst (λ s. Survives m bound u s (if u == 2 then x else nobody) (if u == 2 then fell else false))
+            (sym is_gone)
+            (inl (same, all_left bound u m.h apart own), stays)
 
-pub alone_crashed : (m : Machine) (x : Txn) (fell : Bool) → IsAlone (crashed m x fell) 2
-alone_crashed m x fell u apart = ap (λ (b : Bool). if b then x else nobody) (ne_eqb u 2 apart)
+pub alone_crashed : (m : Machine) (bound : ℕ) (x : Txn) (fell : Bool) → IsAlone (crashed m bound x fell) 2
+alone_crashed m bound x fell u apart = ap (λ (b : Bool). if b then x else nobody) (ne_eqb u 2 apart)
 
 -- transaction 2 alone may keep transaction 4 from a key
 pub second_holder : (m : Machine) → IsAlone m 2 → (s : Span) → AnyConflict s (m.txns 2).spans

@@ -63,6 +63,14 @@ told_commit_falls = after_insert_a (Commits 2 ∷ TellsCommitted 2 ∷ Crashes �
 abbrev pub end_is_lost : List Line
 end_is_lost = after_insert_a (RollsBack 2 ∷ TellsRolledBack 2 ∷ Crashes ∷ TellsLost 2 ∷ [])
 
+-- a crash loses all of a transaction, a told answer too, and its numbers are given again
+abbrev pub numbers_again : List Line
+numbers_again = after_insert_a (Crashes ∷ Begins 2 ∷ Acts 2 insert_a 3 ∷ TellsAnswer 2 Inserted ∷ [])
+
+-- but none of whoever was told that it committed
+abbrev pub committed_again : List Line
+committed_again = after_insert_a (Commits 2 ∷ TellsCommitted 2 ∷ Crashes ∷ Begins 2 ∷ [])
+
 -- nobody loses who never began
 abbrev pub nobody_is_lost : List Line
 nobody_is_lost = Crashes ∷ TellsLost 999 ∷ []

@@ -10,5 +10,5 @@ mod runs;
 
 pub use runs::{
     busy_read_run, commit_crash_run, held_key_run, increment_refused_run, increment_undone_run,
-    rollback_crash_run, rolled_back_run, savepoint_run, second_insert_run,
+    numbers_again_run, rollback_crash_run, rolled_back_run, savepoint_run, second_insert_run,
 };

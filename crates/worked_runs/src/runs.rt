@@ -1,6 +1,6 @@
 //! Short runs of the list machine, line by line, beside wrong versions of them.
 ghost use Rattle.history.specs.ListMachine.{IsRun};
-ghost use Rattle.worked_runs.specs.Rows.{insert_rolled_back, never_rolling_back, number_twice, insert_twice, inserted_twice, commit_stays, commit_falls, told_commit_falls, end_is_lost, nobody_is_lost, key_stays_held, held_key_is_taken, insert_again, crossed_is_seen, read_is_busy, held_key_is_read, increment_undone, old_value_restored, add_refused, stale_value_added};
+ghost use Rattle.worked_runs.specs.Rows.{insert_rolled_back, never_rolling_back, number_twice, insert_twice, inserted_twice, commit_stays, numbers_again, committed_again, commit_falls, told_commit_falls, end_is_lost, nobody_is_lost, key_stays_held, held_key_is_taken, insert_again, crossed_is_seen, read_is_busy, held_key_is_read, increment_undone, old_value_restored, add_refused, stale_value_added};
 
 /// A transaction inserts, is answered and rolls back. It isn't told so before it asks for it, and nobody gets its
 /// number again.
@@ -21,6 +21,13 @@ pub fn commit_crash_run()
     ensures stays { IsRun commit_stays }
     ensures falls { IsRun commit_falls }
     ensures is_none { IsRun told_commit_falls → ⊥ }
+{}
+
+/// A crash may lose all of a transaction that was answered, and then its numbers are given again; but none of one that
+/// was told that it committed.
+pub fn numbers_again_run()
+    ensures is_run { IsRun numbers_again }
+    ensures is_none { IsRun committed_again → ⊥ }
 {}
 
 /// A transaction that was rolled back may be lost in a crash, but none that never began.

@@ -113,11 +113,10 @@ abbrev pub IsRightOrNone : Source → ℕ → Option Answer → Type 0
 IsRightOrNone x n None = IsAnsweredBy x.log x.sure n
 IsRightOrNone x n (Some a) = IsRight x.log n a
 
--- the answer of a request of the log, which is among its first records, so many
+-- the answer of a request of the log
 pub record IsAnswerIn (x : Source) (n : ℕ) (a : Option Answer) : Type 0 where
   pub op : Op
   pub requests : Requests x.log n op
-  pub sure : n ≤ x.sure
   pub answer : IsRightOrNone x n a
 
 -- a request of the source that was performed

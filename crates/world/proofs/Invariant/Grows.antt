@@ -185,7 +185,6 @@ answer_in_on old new n a on h = record {
   op = h.op;
   requests = extend (λ log. Requests log n h.op) old.log new.log on.log (λ r. request_longer r old.log n h.op)
       h.requests;
-  sure = omega (arith, h.sure, on.sure);
   answer = right_on old new n h.op a on h.requests h.answer;
 }
 

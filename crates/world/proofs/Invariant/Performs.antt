@@ -133,7 +133,6 @@ module _ (w : NodeView) (s n : ℕ) (o : Op) (k : IsKept w) (is : IsDc (performs
       (record {
         op = o;
         requests = next.requests;
-        sure = next.sure;
         answer = right_answer x.log old n o (own_leaf w (key_of o) k).honest next_on;
       })
 

@@ -93,5 +93,5 @@ module _ (w : NodeView) (s n : ℕ) (o : Op) (k : IsKept w) (sent : IsSent w.tc 
     };
     own = λ unwaiting same.
         of_log w.tc x (λ (y : Source). IsAnswerIn y n saved) (run_live w s k running same)
-        (record { op = o; requests = next.requests; sure = next.sure; answer = right saved refl });
+        (record { op = o; requests = next.requests; answer = right saved refl });
   }

@@ -195,7 +195,7 @@ tells w i o s n a k at waiting given after None flat =
     one_line w (with_tc w (passed (answered w.tc o n a) n)) (event.Reply i) (out.Answered o.txn a) (TellsAnswer o.txn a)
     refl (λ m stands.
     stands_answered w.tc m o k.tc at stands n a flat (reads_nothing w.tc o n k.tc at waiting) waiting after.legal
-    (given.answer, k.right) given.sure)
+    (given.answer, k.right))
 
 -- the answer of a loser's request
 lost_answers : (w : NodeView) (s n : ℕ) (a : Answer) (k : IsKept w) → IsTc (passed (answered_lost w.tc n a) n)

@@ -327,12 +327,12 @@ module _ (w : TcView) (m : Machine) (o : OpenTxn) (k : IsTc w) (at : find o.txn 
 
   -- has its answer
   pub stands_answered : (n : ℕ) (a : Answer) → o.rolling ≡ None → o.reading ≡ None → o.waiting ≡ Some n
-      → IsLegal (is.Answer n a ∷ w.log) → HasRightAnswers (is.Answer n a ∷ w.log) → n ≤ w.stable
+      → IsLegal (is.Answer n a ∷ w.log) → HasRightAnswers (is.Answer n a ∷ w.log)
       → Leads (clients w) m (TellsAnswer o.txn a) (clients (answered w o n a))
-  stands_answered n a flat none waiting legal right stable =
+  stands_answered n a flat none waiting legal right =
       let new : OpenTxn = answered_txn o in
       let l = answer_is_told (clients w) m o.txn n a legal right stands
-      (does_this w o (Awaits n) at (awaits o n flat none waiting)) stable in (
+      (does_this w o (Awaits n) at (awaits o n flat none waiting)) in (
         l.0,
         l.1,
         stands_along (after_answer (clients w) o.txn n a) (clients (answered w o n a)) l.0 refl refl (λ u. refl)
