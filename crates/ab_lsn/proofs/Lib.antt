@@ -1,4 +1,5 @@
 pub mod Rising
 pub mod Capturing
 pub mod Noting
+pub mod Popping
 pub mod Placing

@@ -1,7 +1,7 @@
 -- An abstract page LSN: of which numbers a leaf has the effect. It has that of every number up to the low
 -- one, and that of each number in a set above it (the form is this project's; the notion is that of the
 -- CIDR 2009 paper on unbundled transaction services).
-use Rattle.std.specs.Prelude.{ℕ, ◌==◌, ◌||◌, Bool, List, [], ◌∷◌, Option, Some, None, filter, nat_le, nat_lt, if◌then◌else◌}
+use Rattle.std.specs.Prelude.{ℕ, ◌==◌, ◌||◌, Bool, List, [], ◌∷◌, Option, Some, None, filter, not, nat_le, nat_lt, if◌then◌else◌}
 use Rattle.std.specs.List.{list_any}
 use Rattle.record_key.specs.declared.op.Answer.{Answer}
 use Rattle.record_key.specs.declared.entry.Entry.{Entry}
@@ -45,3 +45,11 @@ above low entries = filter (λ (e : Entry). nat_lt low e.number) entries
 -- every number up to this one counts as captured, and its entries go
 abbrev pub raised : AbLsnView → ℕ → AbLsnView
 raised v l = if nat_lt v.low l then record { low = l; entries = above l v.entries } else v
+
+-- the entries whose numbers aren't above an end
+abbrev pub up_to : ℕ → List Entry → List Entry
+up_to end entries = filter (λ (e : Entry). not (nat_lt end e.number)) entries
+
+-- the entries above an end go; the low number stays
+abbrev pub popped : AbLsnView → ℕ → AbLsnView
+popped v end = record v { entries = up_to end v.entries }

@@ -1,7 +1,7 @@
 //! The abstract page LSN.
-ghost use Rattle.std.specs.Prelude.{◌≡◌, ℕ, ◌==◌, ◌||◌, false, nat_le, OnOk, OnErr, IfOk, IfErr};
+ghost use Rattle.std.specs.Prelude.{◌≡◌, ℕ, ◌==◌, ◌||◌, ◌&&◌, false, nat_le, OnOk, OnErr, IfOk, IfErr};
 ghost use Rattle.record_key.specs.Entries.{RiseAbove};
-ghost use Rattle.ab_lsn.specs.AbLsn.{blank, captures, saved_in, noted, raised};
+ghost use Rattle.ab_lsn.specs.AbLsn.{blank, stands_in, captures, saved_in, noted, raised, popped};
 ghost use Rattle.ab_lsn.specs.Parting.{is_under, is_from, stands_with, cut_under, cut_from, joined};
 
 use crate::entries::{copied_from, keep_above, place_all};
@@ -99,6 +99,16 @@ impl AbLsn {
         ensures captured { (m : ℕ) → captures self.new m ≡ (captures self.old m || nat_le m low) }
     {
         self.low = keep_above(&mut self.entries, self.low, low);
+    }
+
+    /// Drops the entries above an end, with their answers. Takes no memory.
+    pub fn pop_above(&mut self, end: u64)
+        ensures popped { self.new ≡ popped self.old end }
+        // Up to the low number all stay captured, also where the end is below it.
+        ensures captured { (m : ℕ) → captures self.new m
+            ≡ (nat_le m self.old.low || (stands_in self.old.entries m && nat_le m end)) }
+    {
+        self.entries.drop_above(end);
     }
 
     /// The same again. Refused NoMemory.

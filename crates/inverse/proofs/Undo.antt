@@ -96,7 +96,7 @@ swapped_adds m o p same both =
     ∙ ap (λ q. with_record m q (value_after o (value_after p (get m q)))) (sym same)
     ∙ sym (after-twice m p o (sym same))
 
-either_order : (m : Table) (o p : Op) → PassBy o p → after (after m o) p ≡ after (after m p) o
+pub either_order : (m : Table) (o p : Op) → PassBy o p → after (after m o) p ≡ after (after m p) o
 either_order m o p (inl apart) = swapped m o p apart
 either_order m o p (inr both) =
     elim (cases_Bool (is_same (key_of p) (key_of o))) [
@@ -105,7 +105,7 @@ either_order m o p (inr both) =
     ]
 
 -- and neither changes what the other is answered
-answer-after : (m : Table) (o p : Op) → PassBy o p → answer_in (after m o) p ≡ answer_in m p
+pub answer-after : (m : Table) (o p : Op) → PassBy o p → answer_in (after m o) p ≡ answer_in m p
 answer-after m o p (inl apart) = answer-elsewhere m (key_of o) (value_after o (get m (key_of o))) p apart
 answer-after m o p (inr both) =
     elim (cases_Bool (is_same (key_of p) (key_of o))) [
@@ -119,7 +119,7 @@ answer-after m o p (inr both) =
           (unlike (key_of p) (key_of o) other)
     ]
 
-passes_back : (o p : Op) → PassBy o p → PassBy p o
+pub passes_back : (o p : Op) → PassBy o p → PassBy p o
 passes_back o p (inl apart) = inl (λ e. apart (sym e))
 passes_back o p (inr both) = inr (both.1, both.0)
 

@@ -8,15 +8,22 @@
 #![tactic(auto)]
 
 ghost use Rattle.std.specs.Prelude.{◌≡◌};
-ghost use Rattle.inverse.specs.Inverse.{inverse_of, Undone, WithoutEffect};
+ghost use Rattle.inverse.specs.Inverse.{undo_of, inverse_of, Undone, WithoutEffect};
 
-use record_key::{Answer, Op};
+use record_key::{Answer, Key, Op};
 
 /// What undoes the operation that was answered so; none where it did nothing. Takes no memory.
 pub fn inverse(op: &Op, answer: &Answer) -> Option<Op>
     ensures { result ≡ inverse_of op.now answer.now }
 {
-    let key = op.key().copied();
+    inverse_on(op.key(), answer)
+}
+
+/// What undoes an operation on the key that was answered so; none where it did nothing. Takes no memory.
+pub fn inverse_on(key: &Key, answer: &Answer) -> Option<Op>
+    ensures { result ≡ undo_of key.now answer.now }
+{
+    let key = key.copied();
     match answer {
         Answer::Inserted | Answer::Was(None) => Some(Op::Delete(key)),
         Answer::Updated(old) | Answer::Was(Some(old)) => Some(Op::Update(key, old.copied())),

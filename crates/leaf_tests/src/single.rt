@@ -88,6 +88,7 @@ impl Subject for Single {
                 self.leaf.raise(words.number()?);
                 Ok(())
             }
+            "back" => self.leaf.take_back(words.number()?),
             name => self.read(name, words, answer),
         }
     }

@@ -1,5 +1,5 @@
--- An honest leaf where the log has one record more.
-use Rattle.std.proofs.Common.{◌≡◌, ℕ, ◌+◌, Bool, true, false, List, [], ◌∷◌, length, Option, Some, None, refl, sym, ap, ◌∙◌, true≢false}
+-- An honest leaf where the log has one record more, or one less.
+use Rattle.std.proofs.Common.{◌≡◌, ℕ, ◌+◌, ◌≤◌, Bool, true, false, List, [], ◌∷◌, length, Option, Some, None, refl, sym, ap, ◌∙◌, arith, true≢false}
 use Rattle.std.specs.Prelude.{if◌then◌else◌}
 use Rattle.std.specs.List.{AllByRecursion}
 use Rattle.record_key.specs.declared.op.Op.{Op}
@@ -9,12 +9,13 @@ use Rattle.history.specs.declared.record.Record.{Record}
 use Rattle.history.specs.Log.{request_of, Requests}
 use Rattle.history.specs.Values.{is_on, value_on, IsRight}
 use Rattle.history.specs.Honest.{Numbered, numbered_with, numbered_on, LeavesOutAdds, value_of}
-use Rattle.log_laws.proofs.Records.{ARequest, kept_at, had_at, before_old, not_newest}
+use Rattle.log_laws.proofs.Records.{ARequest, kept_at, had_at, older_at, before_old, not_newest}
 use Rattle.log_laws.proofs.LegalLogs.{request_number}
 use Rattle.record_key.specs.declared.entry.Entry.{Entry}
 use Rattle.ab_lsn.specs.AbLsn.{captures}
 use Rattle.page.specs.Leaf.{LeafView}
 use Rattle.page.specs.Honest.{IsSavedRight, IsHonestLeaf}
+use Rattle.page.proofs.UpTo.{AreUpTo}
 
 -- a right answer stays right
 pub right_longer : (r : Record) (log : List Record) (n : ℕ) (o : Op) (a : Answer) → Requests log n o → IsRight log n a
@@ -38,31 +39,35 @@ saved_longer r log (e ∷ es) all = (
   saved_longer r log es all.1,
 )
 
--- one number more on the key that isn't captured
-more_at : (cap : ℕ → Bool) (k : Bytes) (n : ℕ) (q : Option Op) (rest : List Numbered)
+-- a number on the key that isn't captured makes no difference
+record MakesNone (cap : ℕ → Bool) (done rest : List Numbered) : Type 0 where
+  more : LeavesOutAdds cap rest → LeavesOutAdds cap done
+  less : LeavesOutAdds cap done → LeavesOutAdds cap rest
+  value : value_of cap done ≡ value_of cap rest
+
+uncaptured_at : (cap : ℕ → Bool) (k : Bytes) (n : ℕ) (q : Option Op) (rest : List Numbered)
     → ((o : Op) → q ≡ Some o → cap n ≡ false)
-    → (LeavesOutAdds cap rest → LeavesOutAdds cap (numbered_with k n q rest))
-    × (value_of cap (numbered_with k n q rest) ≡ value_of cap rest)
-more_at cap k n None rest out = (λ h. h, refl)
-more_at cap k n (Some o) rest out =
+    → MakesNone cap (numbered_with k n q rest) rest
+uncaptured_at cap k n None rest out = record { more = λ h. h; less = λ h. h; value = refl }
+uncaptured_at cap k n (Some o) rest out =
     pick (is_on k o)
   where
-    pick : (b : Bool)
-        → (LeavesOutAdds cap rest → LeavesOutAdds cap (if b then record { number = n; op = o } ∷ rest else rest))
-        × (value_of cap (if b then record { number = n; op = o } ∷ rest else rest) ≡ value_of cap rest)
-    pick true = (
-      λ h. (λ got. absurd (true≢false (sym got ∙ out o refl)), h),
-      ap (λ b. if b then value_after o (value_of cap rest) else value_of cap rest) (out o refl),
-    )
-    pick false = (λ h. h, refl)
+    pick : (b : Bool) → MakesNone cap (if b then record { number = n; op = o } ∷ rest else rest) rest
+    pick true = record {
+      more = λ h. (λ got. absurd (true≢false (sym got ∙ out o refl)), h);
+      less = λ h. h.1;
+      value = ap (λ b. if b then value_after o (value_of cap rest) else value_of cap rest) (out o refl);
+    }
+    pick false = record { more = λ h. h; less = λ h. h; value = refl }
 
 pub honest_longer : (r : Record) (log : List Record) (leaf : LeafView)
     → ((o : Op) → request_of r ≡ Some o → captures leaf.ab (length log + 1) ≡ false)
     → IsHonestLeaf log leaf → IsHonestLeaf (r ∷ log) leaf
 honest_longer r log leaf out h = record {
   at = λ k within.
-      let more = more_at (λ (m : ℕ). captures leaf.ab m) k (length log + 1) (request_of r) (numbered_on k log) out in
-      record { left_out = more.0 (h.at k within).left_out; right = (h.at k within).right ∙ sym more.1 };
+      let none =
+      uncaptured_at (λ (m : ℕ). captures leaf.ab m) k (length log + 1) (request_of r) (numbered_on k log) out in
+      record { left_out = none.more (h.at k within).left_out; right = (h.at k within).right ∙ sym none.value };
   saved = saved_longer r log leaf.ab.entries h.saved;
 }
 
@@ -70,3 +75,33 @@ honest_longer r log leaf out h = record {
 pub honest_uncaptured : (r : Record) (log : List Record) (leaf : LeafView) → captures leaf.ab (length log + 1) ≡ false
     → IsHonestLeaf log leaf → IsHonestLeaf (r ∷ log) leaf
 honest_uncaptured r log leaf out h = honest_longer r log leaf (λ o asks. out) h
+
+-- and the other way: a saved answer whose number is left
+saved_less : (r : Record) (log : List Record) (e : Entry) → e.number ≤ length log → IsSavedRight (r ∷ log) e
+    → IsSavedRight log e
+saved_less r log e le h = record {
+  op = h.op;
+  requests = older_at (ARequest h.op) r log e.number (λ same. omega (arith, same, le)) h.requests;
+  on_key = h.on_key;
+  right = λ o asks.
+      let number = request_number log e.number o asks in
+      h.right o (kept_at (ARequest o) r log e.number number asks)
+      ∙ ap (λ x. answer_at o (value_on (key_of o) x)) (before_old r log e.number (not_newest log e.number number));
+}
+
+pub saved_shorter : (r : Record) (log : List Record) (es : List Entry) → AreUpTo (length log) es
+    → AllByRecursion (IsSavedRight (r ∷ log)) es → AllByRecursion (IsSavedRight log) es
+saved_shorter r log [] within all = tt
+saved_shorter r log (e ∷ es) within all =
+    (saved_less r log e within.0 all.0, saved_shorter r log es within.1 all.1)
+
+pub honest_shorter : (r : Record) (log : List Record) (leaf : LeafView) → AreUpTo (length log) leaf.ab.entries
+    → ((o : Op) → request_of r ≡ Some o → captures leaf.ab (length log + 1) ≡ false)
+    → IsHonestLeaf (r ∷ log) leaf → IsHonestLeaf log leaf
+honest_shorter r log leaf within out h = record {
+  at = λ k inside.
+      let none =
+      uncaptured_at (λ (m : ℕ). captures leaf.ab m) k (length log + 1) (request_of r) (numbered_on k log) out in
+      record { left_out = none.less (h.at k inside).left_out; right = (h.at k inside).right ∙ none.value };
+  saved = saved_shorter r log leaf.ab.entries within h.saved;
+}

@@ -9,3 +9,6 @@ pub mod Ranges
 pub mod Halves
 pub mod Sides
 pub mod Starts
+pub mod Undoing
+pub mod UpTo
+pub mod TakingBack

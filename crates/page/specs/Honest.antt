@@ -1,17 +1,20 @@
 -- When a leaf is honest for a log, and what keeps it so.
-use Rattle.std.specs.Prelude.{◌≡◌, ◌⊎◌, ℕ, ◌<◌, ◌≤◌, true, false, List}
+use Rattle.std.specs.Prelude.{◌≡◌, ◌⊎◌, ℕ, ◌<◌, ◌≤◌, true, false, List, ◌++◌, length, Some}
 use Rattle.std.specs.List.{AllByRecursion}
 use Rattle.std.specs.FinMap.{get}
 use Rattle.record_key.specs.declared.op.Op.{Op}
 use Rattle.record_key.specs.Table.{Bytes, key_of, AreAdds}
 use Rattle.history.specs.declared.record.Record.{Record}
-use Rattle.history.specs.Log.{Requests}
+use Rattle.history.specs.declared.record.Record.TheVariants as is
+use Rattle.history.specs.Log.{record_at, Requests}
 use Rattle.history.specs.Values.{IsRight}
 use Rattle.history.specs.Honest.{IsHonestAt}
 use Rattle.record_key.specs.declared.entry.Entry.{Entry}
+use Rattle.record_key.specs.Entries.{RiseAbove}
 use Rattle.ab_lsn.specs.AbLsn.{captures}
 use Rattle.page.specs.Leaf.{LeafView, is_in_fences, IsLeaf, performed, raised_to}
 use Rattle.page.specs.Parting.{upper_of, lower_of, joined_of, AreNeighbours}
+use Rattle.page.specs.TakingBack.{taken_back}
 
 -- a saved answer is the one given at its place
 pub record IsSavedRight (log : List Record) (e : Entry) : Type 0 where
@@ -40,9 +43,14 @@ pub record IsCapturedTo (log : List Record) (leaf : LeafView) (l : ℕ) : Type 0
   pub all : (n : ℕ) (o : Op) → Requests log n o → is_in_fences leaf (key_of o) ≡ true → n ≤ l
       → captures leaf.ab n ≡ true
 
+-- only Session records stand above the end, up to this number
+abbrev pub AreSessions : List Record → ℕ → ℕ → Type 0
+AreSessions log end l = (n : ℕ) → end < n → n ≤ l → record_at log n ≡ Some is.Session
+
 -- a leaf stays honest where it performs a number that may be the log's next on a key, where the low number rises over
 -- captured ones, and on both sides of a cut in its fences; and so is the leaf of two neighbours, each of which has
--- captured the log's numbers on its keys up to the low number of both
+-- captured the log's numbers on its keys up to the low number of both. Where only Session records, if any, stand above
+-- an end up to its low number, it is honest for the log up to that end once what is above is taken back
 pub record LeafLaw : Type 0 where
   pub performs : (log : List Record) (leaf : LeafView) (n : ℕ) (o : Op) → IsHonestLeaf log leaf → IsNextOn log leaf n o
       → IsHonestLeaf log (performed leaf n o)
@@ -59,3 +67,6 @@ pub record LeafLaw : Type 0 where
       → IsHonestLeaf log left → IsHonestLeaf log right → IsCapturedTo log left right.ab.low
       → IsCapturedTo log right left.ab.low
       → IsHonestLeaf log (joined_of left right d)
+  pub takes_back : (newer older : List Record) (leaf : LeafView) → RiseAbove leaf.ab.low leaf.ab.entries
+      → IsHonestLeaf (newer ++ older) leaf → AreSessions (newer ++ older) (length older) leaf.ab.low
+      → IsHonestLeaf older (taken_back leaf (length older))

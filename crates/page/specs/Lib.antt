@@ -1,6 +1,7 @@
 pub mod Leaf
 pub mod Places
 pub mod Performs
+pub mod TakingBack
 pub mod Honest
 pub mod Parting
 pub mod Tiles

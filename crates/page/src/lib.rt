@@ -3,7 +3,8 @@
 //! Knows: the table of operations of `record_key`, and abstract page LSNs.
 //! Must not know: transactions, compensation, sessions, who sends a request or how often.
 //! Promises the next crates: a new number is performed as the table says and captured with its answer, a
-//! captured one changes nothing; and a leaf that is honest for a log stays so, by the leaf law.
+//! captured one changes nothing; what stands above an end is taken back as if it had never been done; and a leaf that
+//! is honest for a log stays so, by the leaf law.
 #![tactic(auto)]
 
 mod laws;
@@ -11,6 +12,7 @@ mod leaf;
 mod parting;
 mod requests;
 mod rows;
+mod taking_back;
 
 pub use laws::leaf_law;
 pub use leaf::{Done, Leaf};

@@ -73,7 +73,8 @@ impl Leaf {
     }
 }
 
-fn copied_fence(fence: Option<&Key>) -> Option<Key>
+/// The same fence again. Takes no memory.
+pub fn copied_fence(fence: Option<&Key>) -> Option<Key>
     ensures { result ≡ option_copied fence.entry }
 {
     match fence {

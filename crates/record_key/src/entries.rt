@@ -1,5 +1,5 @@
 //! Many entries in little memory.
-ghost use Rattle.std.specs.Prelude.{◌≡◌, ◌<◌, ◌≤◌, ◌+◌, ◌++◌, ◌∷◌, [], length, get_or, filter, nat_lt, OnOk, OnErr, IfOk, IfErr};
+ghost use Rattle.std.specs.Prelude.{◌≡◌, ◌<◌, ◌≤◌, ◌+◌, ◌++◌, ◌∷◌, [], length, get_or, filter, not, nat_lt, OnOk, OnErr, IfOk, IfErr};
 ghost use Rattle.std.specs.List.{insert};
 ghost use Rattle.record_key.specs.declared.entry.Entry.{Entry as EntryValue};
 ghost use Rattle.record_key.specs.Order.{is_below};
@@ -120,6 +120,14 @@ impl Entries {
         ensures { self.new ≡ filter (λ (e : EntryValue). nat_lt low e.number) self.old }
     {
         self.slots.retain(|slot| low < slot.number);
+        self.forget_bytes();
+    }
+
+    /// Drops those whose numbers are above this one. Takes no memory.
+    pub fn drop_above(&mut self, high: u64)
+        ensures { self.new ≡ filter (λ (e : EntryValue). not (nat_lt high e.number)) self.old }
+    {
+        self.slots.retain(|slot| slot.number <= high);
         self.forget_bytes();
     }
 

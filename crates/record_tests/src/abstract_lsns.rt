@@ -35,6 +35,13 @@ impl AbstractLsns {
         }
         Ok(())
     }
+
+    /// Drops the entries above an end; of the numbers that were noted those above it go too.
+    fn pop_above(&mut self, end: u64) -> Result<(), Refusal> {
+        self.own.pop_above(end);
+        self.noted.retain(|number| *number <= end);
+        Ok(())
+    }
 }
 
 impl Subject for AbstractLsns {
@@ -45,6 +52,7 @@ impl Subject for AbstractLsns {
             "note" => return self.note_all(&mut words),
             "put" => return put_one(&mut self.own, &mut words),
             "raise" => self.own.raise(words.number()?),
+            "pop" => return self.pop_above(words.number()?),
             "swap" => mem::swap(&mut self.own, &mut self.other),
             "cut" => return cut_at(&mut self.own, &mut self.other, &mut words),
             "join" => return join(&mut self.own, &self.other),

@@ -1,6 +1,7 @@
 use Rattle.page.proofs.Performing.{honest_performed}
 use Rattle.page.proofs.Raising.{honest_raised}
 use Rattle.page.proofs.Sides.{honest_lower, honest_upper, honest_joined}
+use Rattle.page.proofs.TakingBack.{honest_back}
 use Rattle.page.proofs.laws.leaf_law.Goals as goal
 
 pub returns : goal.returns
@@ -10,4 +11,5 @@ returns c = record {
   lower = honest_lower;
   upper = honest_upper;
   joins = honest_joined;
+  takes_back = honest_back;
 }

@@ -1,0 +1,13 @@
+use Rattle.std.proofs.Common.{sym, ◌∙◌, arith}
+use Rattle.record_key.specs.Rows.{IsPlaceOf}
+use Rattle.record_key.specs.Table.{key_of}
+use Rattle.page.proofs.Undoing.{undone_rows}
+use Rattle.page.proofs.taking_back.undo.Goals as goal
+
+pub returns-clause-undone : goal.returns-clause-undone
+returns-clause-undone c =
+    let place : IsPlaceOf (key_of c.in-Some.op) c.args.rows.now.items c.place_of-place.result =
+    rw (c.as_slice.ensures.value, c.in_ok-reserve.ensures.items, c.key.ensures) at c.place_of-place.ensures.place in
+    undone_rows c.args.end c.args.rows.now.items c.write_at.new.rows.items c.args.entry.now c.in-Some.op
+    c.place_of-place.result c.requires (omega (arith, c.if-entry-end.false)) (sym c.inverse_on.ensures ∙ c.in-Some.is)
+    place (rw (c.in_ok-reserve.ensures.items) at c.write_at.ensures)

@@ -1,0 +1,3 @@
+mod Performed
+mod AtKey
+mod Listed

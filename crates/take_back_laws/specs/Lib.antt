@@ -1,0 +1,3 @@
+pub mod Performed
+pub mod Listed
+pub mod Example
