@@ -16,5 +16,6 @@ pub mod Ends
 pub mod Results
 pub mod Numbered
 pub mod Cuts
+pub mod ReadOnce
 mod Told
 mod Sessions

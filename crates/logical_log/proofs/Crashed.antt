@@ -3,6 +3,7 @@ use Rattle.std.proofs.Common.{◌≡◌, ℕ, ◌+◌, ◌<◌, ◌≤◌, ◌^�
 use Rattle.std.proofs.lemmas.Bool.{cases_lt}
 use Rattle.std.proofs.lemmas.List.{length-append, nil_from_length}
 use Rattle.codec.proofs.Cuts.{longer, after, part_cut}
+use Rattle.codec.proofs.ReadOnce.{GoesOn, ends, goes_on, what_follows, once, uncut}
 use Rattle.codec.specs.Frames.{frame, IsCut}
 use Rattle.codec.specs.Records.{record_bytes, IsRecord}
 use Rattle.codec.proofs.Records.{record_length}
@@ -14,7 +15,7 @@ use Rattle.logical_log.specs.Low.{stable_part}
 use Rattle.logical_log.specs.Opening.{IsLogOf, IsBadAt, IsUnfit}
 use Rattle.logical_log.specs.Spelled.{spelled, AreRecords}
 use Rattle.logical_log.proofs.Answered.{part_longer, part_whole}
-use Rattle.logical_log.proofs.ReadOnce.{IsOlder, GoesOn, none, one, oldest, older, goes_on, one_frame, uncut}
+use Rattle.logical_log.proofs.Spelled.{log_spelling}
 
 -- ---- a beginning of the bytes of all frames
 
@@ -129,54 +130,42 @@ crash_leaves log stable forced pending left legal records numbered within stored
 -- bytes are those of one log
 pub opens_once : OpensOnce
 opens_once bytes log other h o =
-    let was : IsOlder log other h.left o.left =
-    older log other h.left o.left h.begins.spellable o.begins.spellable h.cut (sym h.begins.parts ∙ o.begins.parts) in
-    elim (oldest was.newer) [
-      | none is ↦ was.all ∙ ap (λ (l : List Record). l ++ other) is
-      | one newer q is ↦
-          let on : GoesOn log other h.left o.left newer q =
-          goes_on log other h.left o.left was h.begins.spellable newer q is in
-          absurd (uncut q o.left (spelled newer ++ h.left) on.spells on.first o.cut)
-    ]
+    once log_spelling log other h.left o.left h.begins.spellable o.begins.spellable h.cut o.cut
+    (sym h.begins.parts ∙ o.begins.parts)
 
 -- the next record of a legal log fits, and has a number
-next_fits : (log other newer : List Record) (q : Record) (rest left : List ℕ) → IsLegal log → length log < 2 ^ 48
-    → GoesOn log other rest left newer q → IsUnfit other left → ⊥
-next_fits log other newer q rest left legal numbered on unfit =
-    let same = one_frame unfit.next q unfit.stands.rest (spelled newer ++ rest) unfit.stands.spells on.spells
-    (sym unfit.stands.parts ∙ on.first) in
+next_fits : (log other : List Record) (rest left : List ℕ) → IsLegal log → length log < 2 ^ 48
+    → GoesOn Record record_bytes IsRecord spelled log other rest left → IsUnfit other left → ⊥
+next_fits log other rest left legal numbered on unfit =
+    let same = log_spelling.one_frame unfit.next on.next unfit.stands.rest (spelled on.newer ++ rest)
+    unfit.stands.spells on.fits (sym unfit.stands.parts ∙ on.first) in
     elim unfit.unfit [
       | inl wrong ↦
-          let fits : IsLegal (q ∷ other) = legal_end newer (q ∷ other) (subst IsLegal on.all legal) in
+          let fits : IsLegal (on.next ∷ other) =
+          legal_end on.newer (on.next ∷ other) (subst IsLegal on.all legal) in
           wrong (subst (λ (r : Record). IsLegal (r ∷ other)) (sym same.0) fits).0
       | inr spent ↦
-          let count : length log ≡ length newer + length (q ∷ other) =
-          ap length on.all ∙ length-append newer (q ∷ other) in
+          let count : length log ≡ length on.newer + length (on.next ∷ other) =
+          ap length on.all ∙ length-append on.newer (on.next ∷ other) in
           absurd (omega (arith, spent, count, numbered))
     ]
 
 -- so no frame of it is bad
 frames_good : (bytes : List ℕ) (log : List Record) (place : ℕ) → IsLogOf bytes log → IsBadAt bytes place → ⊥
-unfolding spelled
 frames_good bytes log place h b =
-    let was : IsOlder log b.log h.left b.left =
-    older log b.log h.left b.left h.begins.spellable b.begins.spellable h.cut
-    (sym h.begins.parts ∙ b.begins.parts) in
-    elim (oldest was.newer) [
-      | none is ↦
-          let end : b.left ≡ h.left = was.left_is ∙ ap (λ (l : List Record). spelled l ++ h.left) is in
-          elim b.bad [
-            | inl wrong ↦ wrong.uncut (subst (IsCut 181) (sym end) h.cut)
-            | inr unfit ↦
-                uncut unfit.next h.left unfit.stands.rest unfit.stands.spells (sym end ∙ unfit.stands.parts) h.cut
-          ]
-      | one newer q is ↦
-          let on : GoesOn log b.log h.left b.left newer q =
-          goes_on log b.log h.left b.left was h.begins.spellable newer q is in
-          elim b.bad [
-            | inl wrong ↦ wrong.none q (record { spells = on.spells; rest = spelled newer ++ h.left; parts = on.first })
-            | inr unfit ↦ next_fits log b.log newer q h.left b.left h.begins.legal h.begins.numbered on unfit
-          ]
+    elim (what_follows log_spelling log b.log h.left b.left h.begins.spellable b.begins.spellable h.cut
+    (sym h.begins.parts ∙ b.begins.parts)) [
+      | ends is end ↦ elim b.bad [
+        | inl wrong ↦ wrong.uncut (subst (IsCut 181) (sym end) h.cut)
+        | inr unfit ↦
+            uncut log_spelling unfit.next h.left unfit.stands.rest unfit.stands.spells
+            (sym end ∙ unfit.stands.parts) h.cut
+      ]
+      | goes_on on ↦ elim b.bad [
+        | inl wrong ↦
+            wrong.none on.next (record { spells = on.fits; rest = spelled on.newer ++ h.left; parts = on.first })
+        | inr unfit ↦ next_fits log b.log h.left b.left h.begins.legal h.begins.numbered on unfit
+      ]
     ]
 
 -- and opening isn't refused for it

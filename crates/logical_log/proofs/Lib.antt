@@ -9,5 +9,4 @@ pub mod Index
 pub mod Kept
 pub mod Opening
 pub mod Puts
-pub mod ReadOnce
 pub mod Spelled

@@ -9,6 +9,7 @@ use Rattle.codec.specs.Frames.{frame}
 use Rattle.codec.specs.Records.{record_bytes, IsRecord}
 use Rattle.codec.specs.Reading.{record_at as read_record}
 use Rattle.codec.proofs.Frames as frames
+use Rattle.codec.proofs.ReadOnce.{IsSpelling}
 use Rattle.codec.proofs.Records.{record_reads, record_length}
 use Rattle.history.specs.declared.record.Record.{Record}
 use Rattle.history.specs.Log.{record_at}
@@ -16,6 +17,17 @@ use Rattle.log_laws.proofs.Records.{at_newest, at_older, newest_at, older_at, Is
 use Rattle.logical_log.specs.Low.{stable_part}
 use Rattle.logical_log.specs.Spelled.{spelled, places, read_at, records_at, taken_or_session, AreRecords}
 use Rattle.logical_log.proofs.Answered.{part_longer, part_whole}
+
+-- no record's frame begins another's
+pub log_spelling : IsSpelling Record record_bytes IsRecord 181 spelled
+unfolding spelled
+log_spelling = record {
+  bounds = record_length;
+  small = omega arith;
+  one_frame = frames.one_frame Record record_bytes IsRecord read_record record_reads 181 record_length (omega arith);
+  empty = refl;
+  longer = λ r log. refl;
+}
 
 -- the record's frame stands at the place, and more may follow
 pub record StandsAt (bytes : List ℕ) (place : ℕ) (r : Record) : Type 0 where

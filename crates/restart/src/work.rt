@@ -1,7 +1,8 @@
 //! Whom a restart rolls back, and where redo starts.
-ghost use Rattle.std.specs.Prelude.{◌≡◌, ◌+◌, ℕ, length, IfOk, IfErr};
+ghost use Rattle.std.specs.Prelude.{◌≡◌, ◌+◌, ◌<◌, ◌^◌, ℕ, length, IfOk, IfErr};
 ghost use Rattle.std.specs.BTreeMap.{get};
 ghost use Rattle.std.specs.Ordering.{nat_cmp};
+ghost use Rattle.history.specs.Legal.{IsLegal};
 ghost use Rattle.logical_log.specs.Replay.{KeptOf, IsAnalysis};
 ghost use Rattle.restart.specs.Losers.{AreLosers};
 ghost use Rattle.restart.specs.Plan.{IsRedoStart};
@@ -40,14 +41,17 @@ pub(crate) fn work_of(
     frames: &Frames,
     analysis: &Analysis,
 ) -> Result<Work, AllocError>
-    requires { IsAnalysis frames.now.records analysis.now }
+    requires known { IsAnalysis frames.now.records analysis.now }
+    requires legal { IsLegal frames.now.records }
+    requires numbered { length frames.now.records < 2 ^ 48 }
     ensures losers { IfOk result (λ work. AreLosers frames.now.records work.losers) }
     ensures all { IfOk result (λ work. work.losers.below ≡ length frames.now.records + 1) }
     ensures redo { IfOk result (λ work. IsRedoStart frames.now.records work.redo_start) }
 {
     Ok(Work {
         losers: losers_of(alloc, frames, &analysis.open_txns)?,
-        redo_start: redo_start(frames, analysis),
+        // No Checkpoint of a legal log names a number past the last.
+        redo_start: analysis.checkpointed + 1,
     })
 }
 
@@ -70,13 +74,4 @@ fn losers_of(
         });
     }
     Ok(Losers { heaps })
-}
-
-fn redo_start(frames: &Frames, analysis: &Analysis) -> u64
-    requires { IsAnalysis frames.now.records analysis.now }
-    ensures { IsRedoStart frames.now.records result }
-{
-    // Called for what it tells of the records: no Checkpoint names a number past the last.
-    let _count = frames.len();
-    analysis.checkpointed + 1
 }

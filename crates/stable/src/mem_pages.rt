@@ -91,6 +91,7 @@ impl PageDevice for MemPages {
         ensures room { OnOk result ((n : ℕ) → n ≤ len → has_room self.new.rooms id n ≡ true) }
         ensures kept { (other n : ℕ) → has_room self.old.rooms other n ≡ true
             → has_room self.new.rooms other n ≡ true }
+        ensures full { OnErr result (has_room self.old.rooms id len ≡ false) }
         ensures same { self.new.pages ≡ self.old.pages }
         ensures uncounted { self.new.usage ≡ self.old.usage }
     {

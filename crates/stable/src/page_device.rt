@@ -23,11 +23,13 @@ pub trait PageDevice {
     /// How many calls were made of it and how many of them failed, and which is set to fail.
     ghost usage: { Self → Usage };
 
-    /// Makes room for an image of at most this length in the place of a page, so that it can be written without more memory.
-    /// Nothing is written: this is no call that is counted, and the device can't fail in it.
+    /// Makes room for an image of at most this length in the place of a page, so that it can be written without more
+    /// memory. Nothing is written: this is no call that is counted, and the device can't fail in it. Refused only where
+    /// there is no such room yet.
     fn make_room(&mut self, id: u64, len: usize) -> Result<(), AllocError>
         ensures room { OnOk result ((n : ℕ) → n ≤ len → has_room self.new id n ≡ true) }
         ensures kept { (other n : ℕ) → has_room self.old other n ≡ true → has_room self.new other n ≡ true }
+        ensures full { OnErr result (has_room self.old id len ≡ false) }
         ensures same { pages self.new ≡ pages self.old }
         ensures uncounted { usage self.new ≡ usage self.old };
 

@@ -3,7 +3,9 @@ use Rattle.std.proofs.Common.{◌≡◌, ℕ, ◌+◌, ◌<◌, ◌^◌, List, [
 use Rattle.std.specs.FinMap as table
 use Rattle.std.proofs.lemmas.List.{length-append}
 use Rattle.codec.specs.declared.dc_record.DcRecord.{DcRecord}
+use Rattle.codec.specs.DcRecords.{dc_record_bytes, FitsFrame}
 use Rattle.codec.specs.Frames.{any_length, IsCut}
+use Rattle.codec.proofs.ReadOnce.{GoesOn, ends, goes_on, what_follows, uncut}
 use Rattle.stable.specs.PagesState.{Pages}
 use Rattle.page.specs.Leaf.{LeafView}
 use Rattle.recovery_laws.specs.Shape.{IsLegal}
@@ -19,7 +21,7 @@ use Rattle.recovery_laws.proofs.Readable.{readable}
 use Rattle.system_txn.specs.Devices.{spelled, IsPage, pages_of}
 use Rattle.system_txn.specs.Recovering.{HoldsFrames, AreOwnPages, IsBadFrame, AreBadPages, IsUnfit}
 use Rattle.system_txn.specs.Restarts.{RestartsGiveTheLog, RestartsAreNeverBad, BeginningsAreRecoverable}
-use Rattle.system_txn.proofs.ReadOnce.{IsOlder, GoesOn, none, one, oldest, older, goes_on, one_frame, uncut, frames_read_once}
+use Rattle.system_txn.proofs.ReadOnce.{log_spelling, frames_read_once}
 use Rattle.system_txn.proofs.PageReading.{image_found}
 
 -- ---- what is opened
@@ -57,44 +59,39 @@ older_readable pages [] older all = all
 older_readable pages (r ∷ newer) older all = older_readable pages newer older all.1
 
 -- the next record of a legal log fits, and has a number
-next_fits : (bytes : List ℕ) (pages : Pages) (log other newer : List DcRecord) (q : DcRecord) (rest left : List ℕ)
-    → IsLegal log → length log < 2 ^ 48 → GoesOn log other rest left newer q → IsUnfit pages other left → ⊥
-next_fits bytes pages log other newer q rest left legal room on unfit =
-    let same = one_frame unfit.next q unfit.stands.rest (spelled newer ++ rest) unfit.stands.fits on.fits
-    (sym unfit.stands.parts ∙ on.first) in
-    let all : AreReadable (pages_of pages) (newer ++ q ∷ other) =
-    readable (pages_of pages) (newer ++ q ∷ other) (subst IsLegal on.all legal) in
+next_fits : (pages : Pages) (log other : List DcRecord) (rest left : List ℕ) → IsLegal log → length log < 2 ^ 48
+    → GoesOn DcRecord dc_record_bytes FitsFrame spelled log other rest left → IsUnfit pages other left → ⊥
+next_fits pages log other rest left legal room on unfit =
+    let same = log_spelling.one_frame unfit.next on.next unfit.stands.rest (spelled on.newer ++ rest)
+    unfit.stands.fits on.fits (sym unfit.stands.parts ∙ on.first) in
+    let all : AreReadable (pages_of pages) (on.newer ++ on.next ∷ other) =
+    readable (pages_of pages) (on.newer ++ on.next ∷ other) (subst IsLegal on.all legal) in
     elim unfit.unfit [
       | inl wrong ↦
           wrong (subst (IsReadable (pages_of pages) other) (sym same.0)
-          (older_readable (pages_of pages) newer (q ∷ other) all).0)
+          (older_readable (pages_of pages) on.newer (on.next ∷ other) all).0)
       | inr spent ↦
-          let count : length log ≡ length newer + length (q ∷ other) =
-          ap length on.all ∙ length-append newer (q ∷ other) in
+          let count : length log ≡ length on.newer + length (on.next ∷ other) =
+          ap length on.all ∙ length-append on.newer (on.next ∷ other) in
           absurd (omega (arith, spent, count, room))
     ]
 
 -- so no frame of a legal log is bad
 frames_good : (bytes : List ℕ) (pages : Pages) (log : List DcRecord) (place : ℕ) → IsLegal log → length log < 2 ^ 48
     → HoldsFrames bytes log → IsBadFrame bytes pages place → ⊥
-unfolding spelled
 frames_good bytes pages log place legal room h b =
-    let was : IsOlder log b.log h.left b.left =
-    older log b.log h.left b.left h.records b.records h.cut (sym h.parts ∙ b.parts) in
-    elim (oldest was.newer) [
-      | none is ↦
-          let end : b.left ≡ h.left = was.left_is ∙ ap (λ (l : List DcRecord). spelled l ++ h.left) is in
-          elim b.bad [
-            | inl wrong ↦ wrong.uncut (subst (IsCut any_length) (sym end) h.cut)
-            | inr unfit ↦
-                uncut unfit.next h.left unfit.stands.rest unfit.stands.fits (sym end ∙ unfit.stands.parts) h.cut
-          ]
-      | one newer q is ↦
-          let on : GoesOn log b.log h.left b.left newer q = goes_on log b.log h.left b.left was h.records newer q is in
-          elim b.bad [
-            | inl wrong ↦ wrong.none q (record { fits = on.fits; rest = spelled newer ++ h.left; parts = on.first })
-            | inr unfit ↦ next_fits bytes pages log b.log newer q h.left b.left legal room on unfit
-          ]
+    elim (what_follows log_spelling log b.log h.left b.left h.records b.records h.cut (sym h.parts ∙ b.parts)) [
+      | ends is end ↦ elim b.bad [
+        | inl wrong ↦ wrong.uncut (subst (IsCut any_length) (sym end) h.cut)
+        | inr unfit ↦
+            uncut log_spelling unfit.next h.left unfit.stands.rest unfit.stands.fits (sym end ∙ unfit.stands.parts)
+            h.cut
+      ]
+      | goes_on on ↦ elim b.bad [
+        | inl wrong ↦
+            wrong.none on.next (record { fits = on.fits; rest = spelled on.newer ++ h.left; parts = on.first })
+        | inr unfit ↦ next_fits pages log b.log h.left b.left legal room on unfit
+      ]
     ]
 
 -- images of leaves that fit the log are images of their own leaves
