@@ -81,7 +81,7 @@ pub fn perform_each<L: LeafSet>(leaves: &mut L, operations: &[(u64, Op)]) -> Res
 /// Asks each time which leaf is to be split and which two are to be joined. Refused NotNow where there are such.
 pub fn tend_each<L: LeafSet>(same: &[&L]) -> Result<(), Refusal> {
     for leaves in same {
-        if leaves.first_large().is_some() || leaves.first_pair().is_some() {
+        if leaves.first_large(u64::MAX).is_some() || leaves.first_pair(u64::MAX).is_some() {
             return Err(Refusal::NotNow);
         }
     }

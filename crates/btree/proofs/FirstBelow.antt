@@ -1,14 +1,13 @@
 -- The first leaves to be tended below nodes, in the node that has them.
-use Rattle.std.proofs.Common.{◌≡◌, ℕ, zero, suc, ◌+◌, ◌<◌, ◌≤◌, Bool, true, false, List, [], ◌∷◌, ◌++◌, length, get_or, drop, take, Option, Some, None, refl, sym, ap, ◌∙◌, arith, append-nil, inl, inr, true≢false}
+use Rattle.std.proofs.Common.{◌≡◌, ℕ, zero, suc, ◌+◌, ◌<◌, ◌≤◌, true, false, List, [], ◌∷◌, ◌++◌, length, get_or, drop, take, Option, Some, None, refl, sym, ap, ◌∙◌, arith, append-nil, inl, inr, true≢false}
 use Rattle.std.specs.Option.{option_map, is_some}
 use Rattle.std.proofs.Math.Seq.{drop-cons}
 use Rattle.std.proofs.lemmas.Bool.{cases_lt}
 use Rattle.std.proofs.lemmas.List.{drop_all, get_or_default}
 use Rattle.page.specs.Leaf.{LeafView}
-use Rattle.btree.specs.Choosing.{first_large, first_pair, count_first, count_last, summary_of, both_of}
-use Rattle.btree.specs.declared.tree.summary.Summary.{Summary}
+use Rattle.btree.specs.Choosing.{first_large, first_pair, is_reached, pair_top, extent_first, extent_last, summary_of, both_of}
+use Rattle.btree.specs.declared.tree.summary.Extent.{Extent}
 use Rattle.btree.specs.Nodes.{NodeView, nothing, under, AreChildren}
-use Rattle.btree.specs.Parting.{are_few}
 use Rattle.btree.specs.Finding.{IsLargeIn, IsPairIn}
 use Rattle.btree.proofs.Summed.{summary_append, large_inside, large_past, pair_inside, pair_across, pair_past}
 use Rattle.btree.proofs.Under.{under_more}
@@ -29,37 +28,24 @@ summary_more height ns i some within are =
     length_some zero (n ∷ ns) some within = absurd (omega (arith, some))
     length_some (suc i) (n ∷ ns) some within = omega arith
 
--- the first ones below the nodes from the i-th on, with so many leaves before these, are the first of all
-abbrev pub LargeFrom : List NodeView → ℕ → ℕ → Type 0
-LargeFrom ns i before = first_large (under ns) ≡ option_map (λ q. before + q) (first_large (under (drop i ns)))
-
-abbrev pub PairFrom : List NodeView → ℕ → ℕ → Type 0
-PairFrom ns i before = first_pair (under ns) ≡ option_map (λ q. before + q) (first_pair (under (drop i ns)))
-
 -- a node that was read stands there
 pub stands : (ns : List NodeView) (i : ℕ) (n : NodeView) → i < length ns → n ≡ get_or ns i n → n ≡ get_or ns i nothing
 stands ns i n within is = is ∙ get_or_default ns i n nothing within
-
--- what its summary says
-pub large_asked : (ns : List NodeView) (i : ℕ) (n : NodeView) (s : Summary) (b : Bool) → i < length ns
-    → n ≡ get_or ns i n → s ≡ summary_of n.leaves → s.large ≡ b
-    → is_some (first_large (get_or ns i nothing).leaves) ≡ b
-large_asked ns i n s b within is of answer =
-    ap (λ (m : NodeView). is_some (first_large m.leaves)) (sym (stands ns i n within is))
-    ∙ ap (λ (t : Summary). t.large) (sym of) ∙ answer
-
-pub pair_asked : (ns : List NodeView) (i : ℕ) (n : NodeView) (s : Summary) (b : Bool) → i < length ns
-    → n ≡ get_or ns i n → s ≡ summary_of n.leaves → s.pair ≡ b
-    → is_some (first_pair (get_or ns i nothing).leaves) ≡ b
-pair_asked ns i n s b within is of answer =
-    ap (λ (m : NodeView). is_some (first_pair m.leaves)) (sym (stands ns i n within is))
-    ∙ ap (λ (t : Summary). t.pair) (sym of) ∙ answer
 
 -- none below the nodes that are past
 no_more : (o : Option ℕ) (f : ℕ → ℕ) → is_some o ≡ true → o ≡ option_map f None → ⊥
 no_more o f some none = true≢false (sym some ∙ ap is_some none)
 
-module _ (ns : List NodeView) (i before : ℕ) (within : i < length ns) where
+-- the first ones below the nodes from the i-th on, with so many leaves before these, are the first of all
+abbrev pub LargeFrom : ℕ → List NodeView → ℕ → ℕ → Type 0
+LargeFrom known ns i before =
+    first_large known (under ns) ≡ option_map (λ q. before + q) (first_large known (under (drop i ns)))
+
+abbrev pub PairFrom : ℕ → List NodeView → ℕ → ℕ → Type 0
+PairFrom known ns i before =
+    first_pair known (under ns) ≡ option_map (λ q. before + q) (first_pair known (under (drop i ns)))
+
+module _ (known : ℕ) (ns : List NodeView) (i before : ℕ) (within : i < length ns) where
   abbrev here : List LeafView
   here = (get_or ns i nothing).leaves
 
@@ -73,31 +59,31 @@ module _ (ns : List NodeView) (i before : ℕ) (within : i < length ns) where
   rest_none : length ns ≤ suc i → rest ≡ []
   rest_none last = ap under (drop_all (suc i) ns last)
 
-  large_next : LargeFrom ns i before → is_some (first_large here) ≡ false → LargeFrom ns (suc i) (before + length here)
+  large_next : LargeFrom known ns i before → is_some (first_large known here) ≡ false → LargeFrom known ns (suc i) (before + length here)
   large_next so_far none =
-      so_far ∙ ap (λ (leaves : List LeafView). option_map (λ q. before + q) (first_large leaves)) from_here
-      ∙ large_past before here rest none
+      so_far ∙ ap (λ (leaves : List LeafView). option_map (λ q. before + q) (first_large known leaves)) from_here
+      ∙ large_past known before here rest none
 
-  pub large_later_node : LargeFrom ns i before → is_some (first_large (under ns)) ≡ true
-      → is_some (first_large here) ≡ false
-      → (suc i < length ns) × LargeFrom ns (suc i) (before + length here)
+  pub large_later_node : LargeFrom known ns i before → is_some (first_large known (under ns)) ≡ true
+      → is_some (first_large known here) ≡ false
+      → (suc i < length ns) × LargeFrom known ns (suc i) (before + length here)
   large_later_node so_far some none =
       let next = large_next so_far none in
       elim (cases_lt (suc i) (length ns)) [
         | inl less ↦ (less, next)
         | inr last ↦ absurd (no_more _ (λ q. before + length here + q) some
-            (next ∙ ap (λ (leaves : List LeafView). option_map (λ q. before + length here + q) (first_large leaves))
+            (next ∙ ap (λ (leaves : List LeafView). option_map (λ q. before + length here + q) (first_large known leaves))
             (rest_none last)))
       ]
 
-  pub large_here_node : LargeFrom ns i before → is_some (first_large here) ≡ true → IsLargeIn ns i before
+  pub large_here_node : LargeFrom known ns i before → is_some (first_large known here) ≡ true → IsLargeIn known ns i before
   large_here_node so_far some = record {
     there = within;
     large = some;
     is = λ place is.
         so_far
-        ∙ ap (λ (leaves : List LeafView). option_map (λ q. before + q) (first_large leaves)) from_here
-        ∙ large_inside before here rest place is;
+        ∙ ap (λ (leaves : List LeafView). option_map (λ q. before + q) (first_large known leaves)) from_here
+        ∙ large_inside known before here rest place is;
   }
 
   -- ---- pairs
@@ -116,63 +102,63 @@ module _ (ns : List NodeView) (i before : ℕ) (within : i < length ns) where
         left (n ∷ m ∷ ns) (suc i) less = left (m ∷ ns) i (omega (arith, less))
 
     -- where the node has no pair another one comes after it
-    pub pair_not_last : PairFrom ns i before → is_some (first_pair (under ns)) ≡ true
-        → is_some (first_pair here) ≡ false → suc i < length ns
+    pub pair_not_last : PairFrom known ns i before → is_some (first_pair known (under ns)) ≡ true
+        → is_some (first_pair known here) ≡ false → suc i < length ns
     pair_not_last so_far some none =
         elim (cases_lt (suc i) (length ns)) [
           | inl less ↦ less
           | inr last ↦
               let all : under (drop i ns) ≡ here =
               from_here ∙ ap (λ (leaves : List LeafView). here ++ leaves) (rest_none last) ∙ append-nil here in
-              absurd (true≢false (sym some ∙ ap is_some so_far ∙ mapped (first_pair (under (drop i ns)))
-              ∙ ap (λ (leaves : List LeafView). is_some (first_pair leaves)) all ∙ none))
+              absurd (true≢false (sym some ∙ ap is_some so_far ∙ mapped (first_pair known (under (drop i ns)))
+              ∙ ap (λ (leaves : List LeafView). is_some (first_pair known leaves)) all ∙ none))
         ]
       where
         mapped : (o : Option ℕ) → is_some (option_map (λ q. before + q) o) ≡ is_some o
         mapped None = refl
         mapped (Some q) = refl
 
-    first_rest : suc i < length ns → count_first rest ≡ count_first (get_or ns (suc i) nothing).leaves
+    first_rest : suc i < length ns → extent_first rest ≡ extent_first (get_or ns (suc i) nothing).leaves
     first_rest less =
-        ap (λ (ms : List NodeView). count_first (under ms)) (drop-cons ns (suc i) nothing less)
+        ap (λ (ms : List NodeView). extent_first (under ms)) (drop-cons ns (suc i) nothing less)
         ∙ begins (get_or ns (suc i) nothing).leaves (under (drop (suc (suc i)) ns))
         (all_get _ ns (suc i) nothing less are).whole.some
       where
-        begins : (xs ys : List LeafView) → 0 < length xs → count_first (xs ++ ys) ≡ count_first xs
+        begins : (xs ys : List LeafView) → 0 < length xs → extent_first (xs ++ ys) ≡ extent_first xs
         begins [] ys some = absurd (omega (arith, some))
         begins (x ∷ xs) ys some = refl
 
-    pub pair_next : PairFrom ns i before → suc i < length ns → is_some (first_pair here) ≡ false
-        → are_few (count_last here) (count_first (get_or ns (suc i) nothing).leaves) ≡ false
-        → PairFrom ns (suc i) (before + length here)
+    pub pair_next : PairFrom known ns i before → suc i < length ns → is_some (first_pair known here) ≡ false
+        → is_reached known (pair_top (extent_last here) (extent_first (get_or ns (suc i) nothing).leaves)) ≡ false
+        → PairFrom known ns (suc i) (before + length here)
     pair_next so_far less none apart =
         so_far
-        ∙ ap (λ (leaves : List LeafView). option_map (λ q. before + q) (first_pair leaves)) from_here
-        ∙ pair_past before here rest some_here (some_rest less) none
-        (ap (are_few (count_last here)) (first_rest less) ∙ apart)
+        ∙ ap (λ (leaves : List LeafView). option_map (λ q. before + q) (first_pair known leaves)) from_here
+        ∙ pair_past known before here rest some_here (some_rest less) none
+        (ap (λ (next : Extent). is_reached known (pair_top (extent_last here) next)) (first_rest less) ∙ apart)
 
-    pair_there : PairFrom ns i before → (place : ℕ) → first_pair here ≡ Some place
-        → first_pair (under ns) ≡ Some (before + place)
+    pair_there : PairFrom known ns i before → (place : ℕ) → first_pair known here ≡ Some place
+        → first_pair known (under ns) ≡ Some (before + place)
     pair_there so_far place is =
         so_far
-        ∙ ap (λ (leaves : List LeafView). option_map (λ q. before + q) (first_pair leaves)) from_here
-        ∙ pair_inside before here rest place is
+        ∙ ap (λ (leaves : List LeafView). option_map (λ q. before + q) (first_pair known leaves)) from_here
+        ∙ pair_inside known before here rest place is
 
-    pub pair_here_node : PairFrom ns i before → is_some (first_pair here) ≡ true → IsPairIn ns i before
+    pub pair_here_node : PairFrom known ns i before → is_some (first_pair known here) ≡ true → IsPairIn known ns i before
     pair_here_node so_far some = record {
       there = within;
       inside = pair_there so_far;
       across = λ none. absurd (true≢false (sym some ∙ none));
     }
 
-    pub pair_met_node : PairFrom ns i before → suc i < length ns
-        → are_few (count_last here) (count_first (get_or ns (suc i) nothing).leaves) ≡ true → IsPairIn ns i before
+    pub pair_met_node : PairFrom known ns i before → suc i < length ns
+        → is_reached known (pair_top (extent_last here) (extent_first (get_or ns (suc i) nothing).leaves)) ≡ true → IsPairIn known ns i before
     pair_met_node so_far less few = record {
       there = within;
       inside = pair_there so_far;
       across = λ none.
           so_far
-          ∙ ap (λ (leaves : List LeafView). option_map (λ q. before + q) (first_pair leaves)) from_here
-          ∙ pair_across before here rest some_here (some_rest less) none
-          (ap (are_few (count_last here)) (first_rest less) ∙ few);
+          ∙ ap (λ (leaves : List LeafView). option_map (λ q. before + q) (first_pair known leaves)) from_here
+          ∙ pair_across known before here rest some_here (some_rest less) none
+          (ap (λ (next : Extent). is_reached known (pair_top (extent_last here) next)) (first_rest less) ∙ few);
     }

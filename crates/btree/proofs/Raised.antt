@@ -1,16 +1,14 @@
 -- A node whose leaves are raised.
-use Rattle.std.proofs.Common.{◌≡◌, ℕ, suc, ◌+◌, ◌<◌, ◌≤◌, List, [], ◌∷◌, ◌++◌, length, map, Option, Some, if◌then◌else◌, Box, Vec, vec_capacity, refl, sym, ap, ◌∙◌, subst}
+use Rattle.std.proofs.Common.{◌≡◌, ℕ, suc, ◌<◌, ◌≤◌, List, [], ◌∷◌, ◌++◌, length, map, Option, Box, Vec, vec_capacity, refl, sym, ap, ◌∙◌, subst}
 use Rattle.std.specs.declared.alloc.Global.{Global}
-use Rattle.std.specs.Option.{option_map, is_some}
 use Rattle.std.proofs.lemmas.List.{length-map}
 use Rattle.record_key.specs.Table.{Bytes}
 use Rattle.page.specs.Leaf.{LeafView, raised_to}
-use Rattle.btree.specs.Choosing.{first_large, first_pair, count_first, count_last, summary_of}
+use Rattle.btree.specs.Choosing.{summary_of}
 use Rattle.btree.specs.Nodes.{NodeView, under, height_in, over_nodes, low_of, IsWhole, AreChildren, raised_node}
 use Rattle.btree.specs.declared.tree.node.Below.{Below}
 use Rattle.btree.specs.declared.tree.node.Below.TheVariants.{Leaf, Inner}
 use Rattle.btree.specs.declared.tree.summary.Summary.{Summary}
-use Rattle.btree.specs.Parting.{is_large, may_join}
 use Rattle.btree.specs.Below.{seen, IsNode}
 
 module _ (l : ℕ) where
@@ -33,36 +31,6 @@ module _ (l : ℕ) where
   low_raised : (leaves : List LeafView) → low_of (map raise leaves) ≡ low_of leaves
   low_raised [] = refl
   low_raised (leaf ∷ leaves) = refl
-
-  large_raised : (leaves : List LeafView) → first_large (map raise leaves) ≡ first_large leaves
-  large_raised [] = refl
-  large_raised (leaf ∷ leaves) =
-      ap (λ (o : Option ℕ). if is_large leaf then Some 0 else option_map (λ p. p + 1) o) (large_raised leaves)
-
-  pair_raised : (leaves : List LeafView) → first_pair (map raise leaves) ≡ first_pair leaves
-  pair_raised [] = refl
-  pair_raised (leaf ∷ []) = refl
-  pair_raised (left ∷ right ∷ leaves) =
-      ap (λ (o : Option ℕ). if may_join left right then Some 0 else option_map (λ p. p + 1) o)
-      (pair_raised (right ∷ leaves))
-
-  first_raised : (leaves : List LeafView) → count_first (map raise leaves) ≡ count_first leaves
-  first_raised [] = refl
-  first_raised (leaf ∷ leaves) = refl
-
-  last_raised : (leaves : List LeafView) → count_last (map raise leaves) ≡ count_last leaves
-  last_raised [] = refl
-  last_raised (leaf ∷ []) = refl
-  last_raised (leaf ∷ next ∷ leaves) = last_raised (next ∷ leaves)
-
-  -- a raise changes no record
-  pub summary_raised : (leaves : List LeafView) → summary_of (map raise leaves) ≡ summary_of leaves
-  summary_raised leaves = λ i. record {
-    large = is_some (large_raised leaves i);
-    pair = is_some (pair_raised leaves i);
-    first_count = first_raised leaves i;
-    last_count = last_raised leaves i;
-  }
 
   pub whole_raised : (n : NodeView) → IsWhole n → IsWhole (raised_node l n)
   whole_raised n whole =
@@ -92,25 +60,26 @@ pub record IsRaised (l : ℕ) (low : Option Bytes) (count : ℕ) (summary : Summ
   pub kept : IsNode low count summary new
   pub raised : seen new ≡ raised_node l (seen old)
 
-pub leaf_raised : (l : ℕ) (low : Option Bytes) (count : ℕ) (summary : Summary) (old new : Box LeafView Global)
+pub leaf_raised : (l : ℕ) (low : Option Bytes) (count : ℕ) (summary again : Summary) (old new : Box LeafView Global)
     → IsNode low count summary (Leaf old)
-    → new.value ≡ raised_to old.value l → IsRaised l low count summary (Leaf old) (Leaf new)
-leaf_raised l low count summary old new kept is = record {
+    → new.value ≡ raised_to old.value l → again ≡ summary_of (new.value ∷ [])
+    → IsRaised l low count again (Leaf old) (Leaf new)
+leaf_raised l low count summary again old new kept is summed = record {
   kept = record {
     begins = kept.begins ∙ sym (ap (λ (leaf : LeafView). leaf.low_fence) is);
     counted = kept.counted;
     fits = kept.fits;
-    summed = kept.summed ∙ sym (ap (λ (leaf : LeafView). summary_of (leaf ∷ [])) is);
+    summed = summed;
     under_it = tt;
   };
   raised = ap (λ (leaf : LeafView). record { leaves = leaf ∷ []; height = 0; kids = 0 }) is;
 }
 
-pub inner_raised : (l : ℕ) (low : Option Bytes) (count : ℕ) (summary : Summary) (xs ys : Vec NodeView Global)
+pub inner_raised : (l : ℕ) (low : Option Bytes) (count : ℕ) (summary again : Summary) (xs ys : Vec NodeView Global)
     → IsNode low count summary (Inner xs)
-    → ys.items ≡ map (raised_node l) xs.items → vec_capacity ys ≡ vec_capacity xs
-    → IsRaised l low count summary (Inner xs) (Inner ys)
-inner_raised l low count summary xs ys kept items room =
+    → ys.items ≡ map (raised_node l) xs.items → vec_capacity ys ≡ vec_capacity xs → again ≡ summary_of (under ys.items)
+    → IsRaised l low count again (Inner xs) (Inner ys)
+inner_raised l low count summary again xs ys kept items room summed =
     let raised : over_nodes ys.items ≡ raised_node l (over_nodes xs.items) =
     ap over_nodes items ∙ nodes_raised l xs.items in
     let leaves : under ys.items ≡ map (λ leaf. raised_to leaf l) (under xs.items) =
@@ -122,7 +91,7 @@ inner_raised l low count summary xs ys kept items room =
         begins = kept.begins ∙ sym (ap low_of leaves ∙ low_raised l (under xs.items));
         counted = kept.counted ∙ sym (ap length leaves ∙ length-map (under xs.items) (λ leaf. raised_to leaf l));
         fits = kept.fits;
-        summed = kept.summed ∙ sym (ap summary_of leaves ∙ summary_raised l (under xs.items));
+        summed = summed;
         under_it = record {
           children =
               subst (λ (h : ℕ). AreChildren h ys.items) (sym height)

@@ -18,20 +18,20 @@ pub record IsNodeOf (nodes : List NodeView) (k : Bytes) (i : ℕ) : Type 0 where
   pub starts : 0 < i → starts_at_most (low_of (get_or nodes i nothing).leaves) k ≡ true
   pub ends : suc i < length nodes → starts_at_most (low_of (get_or nodes (suc i) nothing).leaves) k ≡ false
 
--- the first large leaf below some nodes lies below the i-th of them, after so many others
-pub record IsLargeIn (nodes : List NodeView) (i before : ℕ) : Type 0 where
+-- the first large leaf to be tended below some nodes lies below the i-th of them, after so many others
+pub record IsLargeIn (known : ℕ) (nodes : List NodeView) (i before : ℕ) : Type 0 where
   pub there : i < length nodes
-  pub large : is_some (first_large (get_or nodes i nothing).leaves) ≡ true
-  pub is : (place : ℕ) → first_large (get_or nodes i nothing).leaves ≡ Some place
-      → first_large (under nodes) ≡ Some (before + place)
+  pub large : is_some (first_large known (get_or nodes i nothing).leaves) ≡ true
+  pub is : (place : ℕ) → first_large known (get_or nodes i nothing).leaves ≡ Some place
+      → first_large known (under nodes) ≡ Some (before + place)
 
 -- the first pair below some nodes lies below the i-th of them, or begins with its last leaf, after so many others
-pub record IsPairIn (nodes : List NodeView) (i before : ℕ) : Type 0 where
+pub record IsPairIn (known : ℕ) (nodes : List NodeView) (i before : ℕ) : Type 0 where
   pub there : i < length nodes
-  pub inside : (place : ℕ) → first_pair (get_or nodes i nothing).leaves ≡ Some place
-      → first_pair (under nodes) ≡ Some (before + place)
-  pub across : is_some (first_pair (get_or nodes i nothing).leaves) ≡ false
-      → first_pair (under nodes) ≡ Some (before + (length (get_or nodes i nothing).leaves - 1))
+  pub inside : (place : ℕ) → first_pair known (get_or nodes i nothing).leaves ≡ Some place
+      → first_pair known (under nodes) ≡ Some (before + place)
+  pub across : is_some (first_pair known (get_or nodes i nothing).leaves) ≡ false
+      → first_pair known (under nodes) ≡ Some (before + (length (get_or nodes i nothing).leaves - 1))
 
 -- the leaf at a place begins at the key or below, and the next one above it
 pub record IsPlaceOf (leaves : List LeafView) (k : Bytes) (p : ℕ) : Type 0 where

@@ -1,8 +1,8 @@
 //! Which leaves are tended first: what is large, which two may be joined, and the first of each, by a walk.
-ghost use Rattle.std.specs.Prelude.{◌≡◌, ◌<◌, length};
-ghost use Rattle.btree.specs.Choosing.{first_large, first_pair};
+ghost use Rattle.std.specs.Prelude.{◌≡◌};
+ghost use Rattle.btree.specs.Choosing.{are_due, first_large, first_pair, is_due};
 ghost use Rattle.btree.specs.Lists.{leaves_in};
-ghost use Rattle.btree.specs.Parting.{are_few, is_many, may_merge_at};
+ghost use Rattle.btree.specs.Parting.{are_few, is_many};
 
 use page::Leaf;
 
@@ -20,35 +20,42 @@ pub fn may_join(left: usize, right: usize) -> bool
     left < 3 && right <= 6 - left
 }
 
-/// The place of the first large leaf.
-pub fn large_in(leaves: &[Box<Leaf>]) -> Option<usize>
-    ensures { result ≡ first_large (leaves_in leaves.now) }
+/// The place of the first large leaf without an entry above the known end.
+pub fn large_in(leaves: &[Box<Leaf>], known: u64) -> Option<usize>
+    ensures { result ≡ first_large known (leaves_in leaves.now) }
 {
     for place in 0..leaves.len() {
-        if is_large(leaves[place].rows().len()) {
+        if is_due(&leaves[place], known) {
             return Some(place);
         }
     }
     None
 }
 
-/// The place of the first leaf that may be joined with the one after it.
-pub fn pair_in(leaves: &[Box<Leaf>]) -> Option<usize>
-    ensures { result ≡ first_pair (leaves_in leaves.now) }
+/// Whether the leaf is large and has no entry above the known end.
+fn is_due(leaf: &Leaf, known: u64) -> bool
+    ensures { result ≡ is_due known leaf.now }
 {
-    for place in 0..leaves.len() {
-        if may_join_next(leaves, place) {
-            return Some(place);
+    is_large(leaf.rows().len()) && leaf.is_within(known)
+}
+
+/// The place of the first leaf that may be joined with the one after it, neither with an entry above the known end.
+pub fn pair_in(leaves: &[Box<Leaf>], known: u64) -> Option<usize>
+    ensures { result ≡ first_pair known (leaves_in leaves.now) }
+{
+    for next in 1..leaves.len() {
+        if are_due(&leaves[next - 1], &leaves[next], known) {
+            return Some(next - 1);
         }
     }
     None
 }
 
-/// Whether the leaf at a place may be joined with the one after it.
-fn may_join_next(leaves: &[Box<Leaf>], place: usize) -> bool
-    requires { place < length leaves.now }
-    ensures { result ≡ may_merge_at (leaves_in leaves.now) place }
+/// Whether two neighbours may be joined and have no entry above the known end.
+fn are_due(left: &Leaf, right: &Leaf, known: u64) -> bool
+    ensures { result ≡ are_due known left.now right.now }
 {
-    let next = place + 1;
-    next < leaves.len() && may_join(leaves[place].rows().len(), leaves[next].rows().len())
+    may_join(left.rows().len(), right.rows().len())
+        && left.is_within(known)
+        && right.is_within(known)
 }

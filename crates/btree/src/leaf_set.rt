@@ -72,13 +72,14 @@ pub trait LeafSet {
             (rows_of (leaves self.now))) }
         ensures memory { IsOkUnless result Refusal.NoMemory };
 
-    /// The place of the first large leaf. Takes no memory.
-    fn first_large(&self) -> Option<usize>
-        ensures { result ≡ first_large (leaves self.now) };
+    /// The place of the first large leaf without an entry above the known end. Takes no memory.
+    fn first_large(&self, known: u64) -> Option<usize>
+        ensures { result ≡ first_large known (leaves self.now) };
 
-    /// The place of the first leaf that may be joined with the one after it. Takes no memory.
-    fn first_pair(&self) -> Option<usize>
-        ensures { result ≡ first_pair (leaves self.now) };
+    /// The place of the first leaf that may be joined with the one after it, neither with an entry above the known end.
+    /// Takes no memory.
+    fn first_pair(&self, known: u64) -> Option<usize>
+        ensures { result ≡ first_pair known (leaves self.now) };
 
     /// Counts every request up to this number as performed at each leaf. Takes no memory.
     fn raise(&mut self, low: u64)

@@ -81,12 +81,12 @@ impl LeafSet for LeafList {
         scan_in(self.alloc, self.leaves.as_slice(), low, high)
     }
 
-    fn first_large(&self) -> Option<usize> {
-        large_in(self.leaves.as_slice())
+    fn first_large(&self, known: u64) -> Option<usize> {
+        large_in(self.leaves.as_slice(), known)
     }
 
-    fn first_pair(&self) -> Option<usize> {
-        pair_in(self.leaves.as_slice())
+    fn first_pair(&self, known: u64) -> Option<usize> {
+        pair_in(self.leaves.as_slice(), known)
     }
 
     fn raise(&mut self, low: u64) {

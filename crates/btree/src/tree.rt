@@ -96,12 +96,12 @@ impl LeafSet for Tree {
         scan_under(self.alloc, &self.root, low, high)
     }
 
-    fn first_large(&self) -> Option<usize> {
-        self.root.first_large()
+    fn first_large(&self, known: u64) -> Option<usize> {
+        self.root.first_large(known)
     }
 
-    fn first_pair(&self) -> Option<usize> {
-        self.root.first_pair()
+    fn first_pair(&self, known: u64) -> Option<usize> {
+        self.root.first_pair(known)
     }
 
     fn raise(&mut self, low: u64) {

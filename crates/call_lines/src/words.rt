@@ -51,6 +51,14 @@ impl<'a> Words<'a> {
         self.word().parse::<u64>().map_err(|_| UNREADABLE)
     }
 
+    /// The known end that a line ends with, or one that no entry is above.
+    pub fn known_end(&mut self) -> Result<u64, Refusal> {
+        if self.are_read() {
+            return Ok(u64::MAX);
+        }
+        self.number()
+    }
+
     pub fn bytes(&mut self) -> Result<Bytes, Refusal> {
         match self.word() {
             "" => Err(UNREADABLE),

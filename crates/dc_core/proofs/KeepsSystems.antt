@@ -2,7 +2,7 @@
 use Rattle.std.proofs.Common.{◌≡◌, ℕ, ◌≤◌, ◌==◌, Bool, true, false, List, [], ◌∷◌, refl, sym, ap, ◌∙◌, subst, arith, inl, inr, eqb-true}
 use Rattle.std.specs.Prelude.{Result, Ok, Err, ◌&&◌, nat_le, if◌then◌else◌}
 use Rattle.std.specs.List.{AllByRecursion}
-use Rattle.std.proofs.lemmas.Bool.{or_cases, or_left, or_right, and_from}
+use Rattle.std.proofs.lemmas.Bool.{cases_Bool, or_cases, or_left, or_right, and_from, MatchBool-at_true, MatchBool-at_false}
 use Rattle.record_key.specs.declared.refusal.Refusal.{Refusal}
 use Rattle.record_key.specs.declared.entry.Entry.{Entry}
 use Rattle.record_key.specs.Table.{Bytes, key_of}
@@ -24,12 +24,13 @@ use Rattle.system_txn.specs.SystemView.{SystemView, with_usage, log_refused}
 use Rattle.system_txn.specs.Kept.{IsSystem}
 use Rattle.system_txn.specs.Changes.{next_id, next_number, lowered, covered, forced, written_to, written_all}
 use Rattle.system_txn.specs.Gives as gives
-use Rattle.system_txn.specs.Gives.{Splits, Merges, SplitGives, MergeGives, TendGives, FlushGives, CheckpointGives, FailsWriting, FailsAmong, tending}
+use Rattle.page.specs.Tops.{is_within, all_within}
+use Rattle.system_txn.specs.Gives.{Splits, Merges, SplitGives, MergeGives, TendGives, FlushGives, StopsWriting, CheckpointGives, StopsCheckpoint, FailsWriting, FailsAmong, tending}
 use Rattle.system_txn.specs.declared.tended.Neighbours.{Neighbours}
 use Rattle.system_txn.specs.declared.tended.Tended.{Tended}
 use Rattle.system_txn.specs.declared.tended.Tended.TheVariants as tended
 use Rattle.dc_core.specs.declared.performance.Performance.{Performance}
-use Rattle.dc_core.specs.DcView.{DcView, leaves, captures_at}
+use Rattle.dc_core.specs.DcView.{DcView, leaves, captures_at, known_end}
 use Rattle.dc_core.specs.Serves.{with_system}
 use Rattle.dc_core.specs.Kept.{IsDc, Saves, IsListed, AreListed}
 use Rattle.dc_core.proofs.KeepsDc.{Carries, keeps_carried, same_leaves}
@@ -208,19 +209,19 @@ usage_keeps w log_usage page_usage k =
     (usage_alike w.system w.system log_usage page_usage (alike_itself w.system)))
 
 pub split_keeps : (w : DcView) (key : Bytes) (given : Result Neighbours Refusal) (v : SystemView) → IsDc w → IsSystem v
-    → SplitGives w.system key given v → IsDc (with_system w v)
-split_keeps w key (Ok pair) v k is h = keeps_carried w v k is (carries_split w _ pair v k h)
+    → SplitGives w.system key known_end given v → IsDc (with_system w v)
+split_keeps w key (Ok pair) v k is h = keeps_carried w v k is (carries_split w _ pair v k h.1)
 split_keeps w key (Err r) v k is h = keeps_carried w v k is (carries_refused w r v k h.1)
 
 pub merge_keeps : (w : DcView) (key : Bytes) (given : Result Neighbours Refusal) (v : SystemView) → IsDc w → IsSystem v
-    → MergeGives w.system key given v → IsDc (with_system w v)
-merge_keeps w key (Ok pair) v k is h = keeps_carried w v k is (carries_merge w _ pair v k h)
+    → MergeGives w.system key known_end given v → IsDc (with_system w v)
+merge_keeps w key (Ok pair) v k is h = keeps_carried w v k is (carries_merge w _ pair v k h.1)
 merge_keeps w key (Err r) v k is h = keeps_carried w v k is (carries_refused w r v k h.1)
 
 carries_tended : (w : DcView) (what : gives.Tending) (done : Tended) (v : SystemView) → IsDc w
-    → gives.TendsTo w.system what done v → Carries w v
-carries_tended w (gives.SplitsAt p) (tended.Split pair) v k h = carries_split w p pair v k h
-carries_tended w (gives.MergesAt p) (tended.Merged pair) v k h = carries_merge w p pair v k h
+    → gives.TendsTo known_end w.system what done v → Carries w v
+carries_tended w (gives.SplitsAt p) (tended.Split pair) v k h = carries_split w p pair v k h.1
+carries_tended w (gives.MergesAt p) (tended.Merged pair) v k h = carries_merge w p pair v k h.1
 carries_tended w gives.Rests tended.Nothing v k h = subst (Carries w) (sym h) (carries_same w k)
 carries_tended w (gives.SplitsAt p) (tended.Merged pair) v k h = absurd h
 carries_tended w (gives.SplitsAt p) tended.Nothing v k h = absurd h
@@ -236,33 +237,45 @@ carries_untended w (gives.MergesAt p) r v k h = carries_refused w r v k h.1
 carries_untended w gives.Rests r v k h = absurd h
 
 pub tend_keeps : (w : DcView) (merges : Bool) (given : Result Tended Refusal) (v : SystemView) → IsDc w → IsSystem v
-    → TendGives w.system merges given v → IsDc (with_system w v)
-tend_keeps w merges (Ok done) v k is h = keeps_carried w v k is (carries_tended w (tending w.system merges) done v k h)
+    → TendGives w.system merges known_end given v → IsDc (with_system w v)
+tend_keeps w merges (Ok done) v k is h =
+    keeps_carried w v k is (carries_tended w (tending w.system merges known_end) done v k h)
 tend_keeps w merges (Err r) v k is h =
-    keeps_carried w v k is (carries_untended w (tending w.system merges) r v k h)
+    keeps_carried w v k is (carries_untended w (tending w.system merges known_end) r v k h)
 
 pub flush_keeps : (w : DcView) (key : Bytes) (given : Result ℕ Refusal) (v : SystemView) → IsDc w → IsSystem v
-    → FlushGives w.system key given v → IsDc (with_system w v)
+    → FlushGives w.system key known_end given v → IsDc (with_system w v)
 flush_keeps w key (Ok id) v k is h =
-    keeps_carried w v k is (subst (Carries w) (sym h.2)
+    keeps_carried w v k is (subst (Carries w) (sym h.after)
     (carries_alike w w.system _ (carries_same w k) (written_alike w.system (leaf_at (leaves w) key))))
-flush_keeps w key (Err r) v k is (inl memory) =
-    keeps_carried w v k is (subst (Carries w) (sym memory.1) (carries_same w k))
-flush_keeps w key (Err r) v k is (inr fails) =
-    keeps_carried w v k is (carries_alike w w.system v (carries_same w k)
-    (failed_alike w.system (leaf_at (leaves w) key) v fails.1))
+flush_keeps w key (Err r) v k is h =
+    keeps_carried w v k is (elim (cases_Bool (is_within known_end (leaf_at (leaves w) key))) [
+      | inl within ↦ stops (MatchBool-at_true _ _ within h)
+      | inr above ↦ subst (Carries w) (sym (MatchBool-at_false _ _ above h).1) (carries_same w k)
+    ])
+  where
+    stops : StopsWriting w.system (leaf_at (leaves w) key) r v → Carries w v
+    stops (inl memory) = subst (Carries w) (sym memory.1) (carries_same w k)
+    stops (inr fails) = carries_alike w w.system v (carries_same w k)
+        (failed_alike w.system (leaf_at (leaves w) key) v fails.1)
 
 pub lower_keeps : (w : DcView) (l : ℕ) → IsDc w → IsSystem (lowered w.system l)
     → IsDc (with_system w (lowered w.system l))
 lower_keeps w l k is = keeps_carried w (lowered w.system l) k is (carries_lowered w l k)
 
 pub checkpoint_keeps : (w : DcView) (l : ℕ) (given : Result Unit Refusal) (v : SystemView) → IsDc w → IsSystem v
-    → CheckpointGives w.system l given v → IsDc (with_system w v)
+    → CheckpointGives w.system l known_end given v → IsDc (with_system w v)
 checkpoint_keeps w l (Ok done) v k is h =
     let u : SystemView = lowered w.system l in
-    keeps_carried w v k is (subst (Carries w) (sym h.1)
+    keeps_carried w v k is (subst (Carries w) (sym h.after)
     (carries_alike w u (written_all u u.leaves) (carries_lowered w l k) (all_alike u u.leaves)))
-checkpoint_keeps w l (Err r) v k is (inl h) = keeps_carried w v k is (subst (Carries w) (sym h.1) (carries_same w k))
-checkpoint_keeps w l (Err r) v k is (inr h) =
-    let u : SystemView = lowered w.system l in
-    keeps_carried w v k is (carries_alike w u v (carries_lowered w l k) (among_alike u u.leaves v h.1))
+checkpoint_keeps w l (Err r) v k is h =
+    keeps_carried w v k is (elim (cases_Bool (all_within known_end (leaves w))) [
+      | inl within ↦ stops (MatchBool-at_true _ _ within h)
+      | inr above ↦ subst (Carries w) (sym (MatchBool-at_false _ _ above h).1) (carries_same w k)
+    ])
+  where
+    stops : StopsCheckpoint w.system l r v → Carries w v
+    stops (inl memory) = subst (Carries w) (sym memory.1) (carries_same w k)
+    stops (inr fails) = carries_alike w (lowered w.system l) v (carries_lowered w l k)
+        (among_alike (lowered w.system l) (lowered w.system l).leaves v fails.1)

@@ -11,7 +11,7 @@ use Rattle.system_txn.specs.Kept.{IsRecoverable}
 use Rattle.system_txn.specs.declared.tended.Neighbours.{Neighbours}
 use Rattle.system_txn.specs.declared.tended.Tended.{Tended}
 use Rattle.system_txn.proofs.Recoverable as systems
-use Rattle.dc_core.specs.DcView.{DcView, captures_at}
+use Rattle.dc_core.specs.DcView.{DcView, captures_at, known_end}
 use Rattle.dc_core.specs.Kept.{IsDc}
 use Rattle.dc_core.specs.Serves.{runs, serve_refusal, Serves, Stops, StopsUnless, ServeGives}
 use Rattle.dc_core.specs.Tends.{may_merge, SplitsTo, MergesTo, TendsTo, FlushesTo}
@@ -45,7 +45,7 @@ served old (asks.Scan s r lo hi) reply new h gives = same_good old new h gives.1
 served old (asks.LowWater s l) reply new h gives =
     subst IsGood (sym gives.1) (systems.recoverable_lowered old.system l h)
 served old (asks.Checkpoint s l) reply new h gives =
-    systems.recoverable_checkpoint old.system l (Ok tt) new.system h gives.1
+    systems.recoverable_checkpoint old.system l known_end (Ok tt) new.system h gives.1
 served old (asks.RedoEnd s) reply new h gives = subst IsGood (sym gives.1) h
 
 stopped : (old : DcView) (request : Request) (r : Refusal) (new : DcView) → IsGood old → Stops old request r new
@@ -56,7 +56,7 @@ stopped old (asks.Get s n k) r new h gives = absurd gives
 stopped old (asks.Scan s n lo hi) r new h gives = same_good old new h gives.1
 stopped old (asks.LowWater s l) r new h gives = absurd gives
 stopped old (asks.Checkpoint s l) r new h gives =
-    systems.recoverable_checkpoint old.system l (Err r) new.system h gives.0
+    systems.recoverable_checkpoint old.system l known_end (Err r) new.system h gives.0
 stopped old (asks.RedoEnd s) r new h gives = absurd gives
 
 refused : (cause : Option Refusal) (old : DcView) (request : Request) (r : Refusal) (new : DcView) → IsGood old
@@ -74,22 +74,23 @@ recoverable_served old request (Err r) new kept h gives = refused (serve_refusal
 pub recoverable_split : (old : DcView) (k : Bytes) (given : Result Neighbours Refusal) (new : DcView) → IsDc old
     → IsRecoverable old.system → SplitsTo old k given new → IsRecoverable new.system
 recoverable_split old k given new kept h gives =
-    systems.recoverable_split old.system k given new.system kept.system h gives.0
+    systems.recoverable_split old.system k known_end given new.system kept.system h gives.0
 
 pub recoverable_merge : (old : DcView) (k : Bytes) (given : Result Neighbours Refusal) (new : DcView) → IsDc old
     → IsRecoverable old.system → MergesTo old k given new → IsRecoverable new.system
 recoverable_merge old k given new kept h gives =
     elim (cases_Bool (may_merge old)) [
-      | inl may ↦ systems.recoverable_merge old.system k given new.system h (MatchBool-at_true _ _ may gives).0
+      | inl may ↦
+          systems.recoverable_merge old.system k known_end given new.system h (MatchBool-at_true _ _ may gives).0
       | inr not ↦ same_good old new h (MatchBool-at_false _ _ not gives).1
     ]
 
 pub recoverable_tend : (old : DcView) (given : Result Tended Refusal) (new : DcView) → IsDc old
     → IsRecoverable old.system → TendsTo old given new → IsRecoverable new.system
 recoverable_tend old given new kept h gives =
-    systems.recoverable_tend old.system (may_merge old) given new.system kept.system h gives.0
+    systems.recoverable_tend old.system (may_merge old) known_end given new.system kept.system h gives.0
 
 pub recoverable_flush : (old : DcView) (k : Bytes) (given : Result ℕ Refusal) (new : DcView) → IsDc old
     → IsRecoverable old.system → FlushesTo old k given new → IsRecoverable new.system
 recoverable_flush old k given new kept h gives =
-    systems.recoverable_flush old.system k given new.system kept.system h gives.0
+    systems.recoverable_flush old.system k known_end given new.system kept.system h gives.0

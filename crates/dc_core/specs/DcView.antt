@@ -33,6 +33,10 @@ captures_at w k n = captures (leaf_at (leaves w) k).ab n
 abbrev pub value_at : DcView → Bytes → Option Bytes
 value_at w k = map.get (leaf_at (leaves w) k).rows k
 
+-- each request is stable when it is sent, so no leaf waits until its entries are known to be
+abbrev pub known_end : ℕ
+known_end = 18446744073709551615
+
 -- no session was taken, nothing was performed; the devices were used so
 abbrev pub fresh : Usage → Usage → DcView
 fresh log_usage page_usage = record {

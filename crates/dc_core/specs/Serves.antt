@@ -21,7 +21,7 @@ use Rattle.system_txn.specs.SystemView.{SystemView}
 use Rattle.system_txn.specs.Changes.{lowered, accepted, forced}
 use Rattle.system_txn.specs.Gives.{is_spent, CheckpointGives, AcceptGives}
 use Rattle.dc_core.specs.declared.performance.Performance.{Performance}
-use Rattle.dc_core.specs.DcView.{DcView, leaves, captures_at, value_at}
+use Rattle.dc_core.specs.DcView.{DcView, leaves, captures_at, value_at, known_end}
 
 -- this session runs
 abbrev pub runs : DcView → ℕ → Bool
@@ -95,7 +95,7 @@ Serves old (asks.Scan s r lo hi) reply new =
     (reply ≡ Some (says.Rows s r (rows_in (range lo hi) (rows_of (leaves old))))) × (new ≡ old)
 Serves old (asks.LowWater s l) reply new = (reply ≡ None) × (new ≡ lowers old l)
 Serves old (asks.Checkpoint s l) reply new =
-    (reply ≡ Some (says.Checkpointed s l)) × CheckpointGives old.system l (Ok tt) new.system
+    (reply ≡ Some (says.Checkpointed s l)) × CheckpointGives old.system l known_end (Ok tt) new.system
     × (new ≡ with_system old new.system)
 Serves old (asks.RedoEnd s) reply new = (reply ≡ Some (says.RedoEnded s)) × (new ≡ record old { redo = false })
 
@@ -111,7 +111,7 @@ Stops old (asks.Connect s) r new =
 Stops old (asks.Perform s n o) r new = (captures_at old (key_of o) n ≡ false) × LacksMemory old r new
 Stops old (asks.Scan s n lo hi) r new = LacksMemory old r new
 Stops old (asks.Checkpoint s l) r new =
-    CheckpointGives old.system l (Err r) new.system × (new ≡ with_system old new.system)
+    CheckpointGives old.system l known_end (Err r) new.system × (new ≡ with_system old new.system)
 Stops old _ r new = ⊥
 
 abbrev pub StopsUnless : Option Refusal → DcView → Request → Refusal → DcView → Type 0

@@ -5,6 +5,7 @@ ghost use Rattle.dc_core.specs.Kept.{IsDc};
 ghost use Rattle.dc_core.specs.Seen.{seen};
 
 use crate::parts::Parts;
+use crate::system::KNOWN_END;
 use codec::{Reply, Request};
 use record_key::Refusal;
 
@@ -51,7 +52,7 @@ impl Parts {
         ensures stopped { IfErr result (λ refusal.
             Stops (seen self.old) (Request.Checkpoint session low) refusal (seen self.new)) }
     {
-        let written = self.system.checkpoint(low);
+        let written = self.system.checkpoint(low, KNOWN_END);
         self.system.kept();
         written?;
         Ok(Reply::Checkpointed { session, low })

@@ -4,6 +4,7 @@ ghost use Rattle.dc_core.specs.Kept.{IsDc};
 ghost use Rattle.dc_core.specs.Seen.{seen};
 
 use crate::parts::Parts;
+use crate::system::KNOWN_END;
 use record_key::{Key, Refusal};
 use system_txn::{Neighbours, Tended};
 
@@ -13,7 +14,7 @@ impl Parts {
         ensures kept { IsDc (seen self.new) }
         ensures gives { SplitsTo (seen self.old) key.now result (seen self.new) }
     {
-        let given = self.system.split(key);
+        let given = self.system.split(key, KNOWN_END);
         self.system.kept();
         given
     }
@@ -26,7 +27,7 @@ impl Parts {
         if !self.may_merge() {
             return Err(Refusal::NotNow);
         }
-        let given = self.system.merge(key);
+        let given = self.system.merge(key, KNOWN_END);
         self.system.kept();
         given
     }
@@ -37,7 +38,7 @@ impl Parts {
         ensures gives { TendsTo (seen self.old) result (seen self.new) }
     {
         let merges = self.may_merge();
-        let given = self.system.tend(merges);
+        let given = self.system.tend(merges, KNOWN_END);
         self.system.kept();
         given
     }
@@ -47,7 +48,7 @@ impl Parts {
         ensures kept { IsDc (seen self.new) }
         ensures gives { FlushesTo (seen self.old) key.now result (seen self.new) }
     {
-        let given = self.system.flush(key);
+        let given = self.system.flush(key, KNOWN_END);
         self.system.kept();
         given
     }

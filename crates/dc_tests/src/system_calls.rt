@@ -23,14 +23,27 @@ pub fn call_of(
             let number = number_of(words)?;
             put_done(answer, &perform(system, number, &words.op()?)?);
         }
-        "split" => put_pair(answer, "split", split(system, &words.key()?)?),
-        "merge" => put_pair(answer, "merged", merge(system, &words.key()?)?),
-        "tend" => put_tended(answer, tend(system, words.word() == "merging")?),
-        "flush" => {
-            answer.put("flushed");
-            answer.put_number(flush(system, &words.key()?)?);
+        "split" => {
+            let key = words.key()?;
+            put_pair(answer, "split", split(system, &key, words.known_end()?)?);
         }
-        "checkpoint" => checkpoint(system, number_of(words)?)?,
+        "merge" => {
+            let key = words.key()?;
+            put_pair(answer, "merged", merge(system, &key, words.known_end()?)?);
+        }
+        "tend" => {
+            let merges = words.is_next("merging");
+            put_tended(answer, tend(system, merges, words.known_end()?)?);
+        }
+        "flush" => {
+            let key = words.key()?;
+            answer.put("flushed");
+            answer.put_number(flush(system, &key, words.known_end()?)?);
+        }
+        "checkpoint" => {
+            let low = number_of(words)?;
+            checkpoint(system, low, words.known_end()?)?;
+        }
         "accept" => accept(system, number_of(words)?)?,
         "lower" => lower(system, number_of(words)?),
         _ => read(system, name, words, answer)?,
@@ -67,24 +80,24 @@ fn perform(system: &mut System, number: u64, op: &Op) -> Result<Done, Refusal> {
     system.perform(number % NUMBERS, op)
 }
 
-fn split(system: &mut System, key: &Key) -> Result<Neighbours, Refusal> {
-    system.split(key)
+fn split(system: &mut System, key: &Key, known: u64) -> Result<Neighbours, Refusal> {
+    system.split(key, known)
 }
 
-fn merge(system: &mut System, key: &Key) -> Result<Neighbours, Refusal> {
-    system.merge(key)
+fn merge(system: &mut System, key: &Key, known: u64) -> Result<Neighbours, Refusal> {
+    system.merge(key, known)
 }
 
-fn tend(system: &mut System, merges: bool) -> Result<Tended, Refusal> {
-    system.tend(merges)
+fn tend(system: &mut System, merges: bool, known: u64) -> Result<Tended, Refusal> {
+    system.tend(merges, known)
 }
 
-fn flush(system: &mut System, key: &Key) -> Result<u64, Refusal> {
-    system.flush(key)
+fn flush(system: &mut System, key: &Key, known: u64) -> Result<u64, Refusal> {
+    system.flush(key, known)
 }
 
-fn checkpoint(system: &mut System, low: u64) -> Result<(), Refusal> {
-    system.checkpoint(low % NUMBERS)
+fn checkpoint(system: &mut System, low: u64, known: u64) -> Result<(), Refusal> {
+    system.checkpoint(low % NUMBERS, known)
 }
 
 fn accept(system: &mut System, session: u64) -> Result<(), Refusal> {

@@ -1,13 +1,14 @@
 -- What the calls of the data component leave where its devices don't fail.
 use Rattle.std.proofs.Common.{◌≡◌, ℕ, Bool, true, false, List, [], ◌∷◌, Option, Some, None, refl, sym, ap, ◌∙◌, subst, inl, inr, true≢false}
 use Rattle.std.specs.Prelude.{Result, Ok, Err, nat_le, if◌then◌else◌}
-use Rattle.std.proofs.lemmas.Bool.{MatchBool-at_true, MatchBool-at_false}
+use Rattle.std.proofs.lemmas.Bool.{cases_Bool, MatchBool-at_true, MatchBool-at_false}
 use Rattle.record_key.specs.Table.{Bytes, key_of}
 use Rattle.record_key.specs.declared.refusal.Refusal.{Refusal}
-use Rattle.record_key.specs.declared.refusal.Refusal.TheVariants.{Device}
+use Rattle.record_key.specs.declared.refusal.Refusal.TheVariants.{Device, NoMemory, NotNow}
 use Rattle.stable.specs.Usage.{Usage, called_often}
 use Rattle.stable.specs.PagesState.{Pages}
 use Rattle.page.specs.Leaf.{LeafView}
+use Rattle.page.specs.Tops.{is_within, all_within}
 use Rattle.btree.specs.Leaves.{leaf_at, place_at}
 use Rattle.codec.specs.declared.request.Request.{Request}
 use Rattle.codec.specs.declared.request.Request.TheVariants as asks
@@ -15,11 +16,11 @@ use Rattle.codec.specs.declared.reply.Reply.{Reply}
 use Rattle.system_txn.specs.SystemView.{SystemView}
 use Rattle.system_txn.specs.Uses.{FailsWhenDue, StopsWithin, StopsOpening, refused_use, page_calls}
 use Rattle.system_txn.specs.Changes.{split_to, merged_to, covered, written_to, written_all, lowered, accepted, forced}
-use Rattle.system_txn.specs.Gives.{Splits, Merges, StopsAppend, SplitGives, MergeGives, TendGives, FlushGives, CheckpointGives, AcceptGives, Tending, SplitsAt, MergesAt, Rests, tending, TendsTo, StopsTending, FailsWriting, FailsAmong, append_refusal, make_refusal}
+use Rattle.system_txn.specs.Gives.{Splits, Merges, StopsAppend, SplitGives, MergeGives, TendGives, FlushGives, StopsWriting, CheckpointGives, StopsCheckpoint, AcceptGives, Tending, SplitsAt, MergesAt, Rests, tending, TendsTo, StopsTending, FailsWriting, FailsAmong, append_refusal, make_refusal}
 use Rattle.system_txn.specs.declared.tended.Neighbours.{Neighbours}
 use Rattle.system_txn.specs.declared.tended.Tended.{Tended}
 use Rattle.system_txn.specs.declared.tended.Tended.TheVariants as tended
-use Rattle.dc_core.specs.DcView.{DcView, captures_at}
+use Rattle.dc_core.specs.DcView.{DcView, captures_at, known_end}
 use Rattle.dc_core.specs.Serves.{runs, connected, performs, Serves, Stops, StopsUnless, ServeGives, serve_refusal}
 use Rattle.dc_core.specs.Tends.{may_merge, IsNotNow, SplitsTo, MergesTo, TendsTo as TendsDcTo, FlushesTo}
 use Rattle.world.specs.Component.{IsDownWith, IsUp}
@@ -64,6 +65,11 @@ ends_append cause old r new s h =
           (record { log = subst IsSound (sym (refused_same old.log_usage r other)) s.log; pages = s.pages });
     }
 
+-- a refusal for another cause, by which nothing has changed
+ends_same : (old : SystemView) (r : Refusal) (new : SystemView) (cause : Refusal) → is_device cause ≡ false
+    → AreSound old → (r ≡ cause) × (new ≡ old) → Ends r new
+ends_same old r new cause other s h = record { other = ap is_device h.0 ∙ other; sound = sound_as new old h.1 s }
+
 -- ---- splits and merges
 
 splits : (old : SystemView) (p : ℕ) (pair : Neighbours) (new : SystemView) → AreSound old → Splits old p pair new
@@ -77,21 +83,21 @@ merges old p pair new s h =
     sound_as new (merged_to old p) h.after (record { log = sound_called old.log_usage s.log; pages = s.pages })
 
 sound_split : (old : SystemView) (k : Bytes) (result : Result Neighbours Refusal) (new : SystemView) → AreSound old
-    → SplitGives old k result new → Leaves result new
-sound_split old k (Ok pair) new s h = splits old (place_at old.leaves k) pair new s h
+    → SplitGives old k known_end result new → Leaves result new
+sound_split old k (Ok pair) new s h = splits old (place_at old.leaves k) pair new s h.1
 sound_split old k (Err r) new s h = ends_append _ old r new s h
 
 sound_merge : (old : SystemView) (k : Bytes) (result : Result Neighbours Refusal) (new : SystemView) → AreSound old
-    → MergeGives old k result new → Leaves result new
-sound_merge old k (Ok pair) new s h = merges old (place_at old.leaves k) pair new s h
+    → MergeGives old k known_end result new → Leaves result new
+sound_merge old k (Ok pair) new s h = merges old (place_at old.leaves k) pair new s h.1
 sound_merge old k (Err r) new s h = ends_append _ old r new s h
 
 tends : (old : SystemView) (what : Tending) (given : Tended) (new : SystemView) → AreSound old
-    → TendsTo old what given new → AreSound new
-tends old (SplitsAt p) (tended.Split pair) new s h = splits old p pair new s h
+    → TendsTo known_end old what given new → AreSound new
+tends old (SplitsAt p) (tended.Split pair) new s h = splits old p pair new s h.1
 tends old (SplitsAt p) (tended.Merged pair) new s h = absurd h
 tends old (SplitsAt p) tended.Nothing new s h = absurd h
-tends old (MergesAt p) (tended.Merged pair) new s h = merges old p pair new s h
+tends old (MergesAt p) (tended.Merged pair) new s h = merges old p pair new s h.1
 tends old (MergesAt p) (tended.Split pair) new s h = absurd h
 tends old (MergesAt p) tended.Nothing new s h = absurd h
 tends old Rests tended.Nothing new s h = sound_as new old h s
@@ -105,9 +111,9 @@ ends_tending old (MergesAt p) r new s h = ends_append (append_refusal old) old r
 ends_tending old Rests r new s h = absurd h
 
 sound_tend : (old : SystemView) (merges : Bool) (result : Result Tended Refusal) (new : SystemView) → AreSound old
-    → TendGives old merges result new → Leaves result new
-sound_tend old merges (Ok what) new s h = tends old (tending old merges) what new s h
-sound_tend old merges (Err r) new s h = ends_tending old (tending old merges) r new s h
+    → TendGives old merges known_end result new → Leaves result new
+sound_tend old merges (Ok what) new s h = tends old (tending old merges known_end) what new s h
+sound_tend old merges (Err r) new s h = ends_tending old (tending old merges known_end) r new s h
 
 -- ---- writes
 
@@ -131,11 +137,18 @@ no_failed_write v leaf new s (inr write) =
     not_due (covered v leaf).page_usage (sound_covered v leaf s).pages write.1
 
 sound_flush : (old : SystemView) (k : Bytes) (result : Result ℕ Refusal) (new : SystemView) → AreSound old
-    → FlushGives old k result new → Leaves result new
+    → FlushGives old k known_end result new → Leaves result new
 sound_flush old k (Ok id) new s h =
-    sound_as new (written_to old (leaf_at old.leaves k)) h.2 (sound_written old (leaf_at old.leaves k) s)
-sound_flush old k (Err r) new s (inl h) = record { other = ap is_device h.0; sound = sound_as new old h.1 s }
-sound_flush old k (Err r) new s (inr h) = absurd (no_failed_write old (leaf_at old.leaves k) new s h.1)
+    sound_as new (written_to old (leaf_at old.leaves k)) h.after (sound_written old (leaf_at old.leaves k) s)
+sound_flush old k (Err r) new s h =
+    elim (cases_Bool (is_within known_end (leaf_at old.leaves k))) [
+      | inl within ↦ stops (MatchBool-at_true _ _ within h)
+      | inr above ↦ ends_same old r new NotNow refl s (MatchBool-at_false _ _ above h)
+    ]
+  where
+    stops : StopsWriting old (leaf_at old.leaves k) r new → Ends r new
+    stops (inl h) = ends_same old r new NoMemory refl s h
+    stops (inr h) = absurd (no_failed_write old (leaf_at old.leaves k) new s h.1)
 
 sound_all_written : (v : SystemView) (leaves : List LeafView) → AreSound v → AreSound (written_all v leaves)
 sound_all_written v [] s = s
@@ -153,12 +166,18 @@ sound_lowered : (v : SystemView) (l : ℕ) → AreSound v → AreSound (lowered 
 sound_lowered v l s = record { log = s.log; pages = s.pages }
 
 sound_checkpoint : (old : SystemView) (l : ℕ) (result : Result Unit Refusal) (new : SystemView) → AreSound old
-    → CheckpointGives old l result new → Leaves result new
+    → CheckpointGives old l known_end result new → Leaves result new
 sound_checkpoint old l (Ok u) new s h =
-    sound_as new _ h.1 (sound_all_written (lowered old l) (lowered old l).leaves (sound_lowered old l s))
-sound_checkpoint old l (Err r) new s (inl h) = record { other = ap is_device h.0; sound = sound_as new old h.1 s }
-sound_checkpoint old l (Err r) new s (inr h) =
-    absurd (no_failed_writes (lowered old l) (lowered old l).leaves new (sound_lowered old l s) h.1)
+    sound_as new _ h.after (sound_all_written (lowered old l) (lowered old l).leaves (sound_lowered old l s))
+sound_checkpoint old l (Err r) new s h =
+    elim (cases_Bool (all_within known_end old.leaves)) [
+      | inl within ↦ stops (MatchBool-at_true _ _ within h)
+      | inr above ↦ ends_same old r new NotNow refl s (MatchBool-at_false _ _ above h)
+    ]
+  where
+    stops : StopsCheckpoint old l r new → Ends r new
+    stops (inl h) = ends_same old r new NoMemory refl s h
+    stops (inr h) = absurd (no_failed_writes (lowered old l) (lowered old l).leaves new (sound_lowered old l s) h.1)
 
 sound_accepted : (v : SystemView) (session : ℕ) → AreSound v → AreSound (accepted v session)
 sound_accepted v session s = record { log = sound_called v.log_usage s.log; pages = s.pages }

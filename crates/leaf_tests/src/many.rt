@@ -67,8 +67,8 @@ fn read<L: LeafSet>(
         "leaf" => show(leaves, words.number()?, answer),
         "place" => answer.put_number(leaves.place_of(&words.key()?) as u64),
         "count" => answer.put_number(leaves.len() as u64),
-        "large" => put_place(answer, leaves.first_large()),
-        "pair" => put_place(answer, leaves.first_pair()),
+        "large" => put_place(answer, leaves.first_large(words.known_end()?)),
+        "pair" => put_place(answer, leaves.first_pair(words.known_end()?)),
         _ => return Err(UNREADABLE),
     }
     Ok(())

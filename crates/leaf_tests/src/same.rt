@@ -27,13 +27,22 @@ fn are_same(one: &Leaf, other: &Leaf) -> bool {
         && are_same_entries(one.entries(), other.entries())
 }
 
+/// Whether the same ones are tended first where this is the known end.
+fn are_tended_alike(list: &LeafList, tree: &Tree, known: u64) -> bool {
+    list.first_large(known) == tree.first_large(known)
+        && list.first_pair(known) == tree.first_pair(known)
+}
+
 /// Whether the leaves of both are the same, and so are those that are tended first.
 pub fn are_same_leaves(list: &LeafList, tree: &Tree) -> bool {
-    if list.len() != tree.len()
-        || list.first_large() != tree.first_large()
-        || list.first_pair() != tree.first_pair()
-    {
+    if list.len() != tree.len() {
         return false;
+    }
+    let middle = list.leaf(list.len() / 2).top();
+    for known in [0, middle, u64::MAX] {
+        if !are_tended_alike(list, tree, known) {
+            return false;
+        }
     }
     for place in 0..list.len() {
         if !are_same(list.leaf(place), tree.leaf(place)) {

@@ -5,3 +5,4 @@ pub mod TakingBack
 pub mod Honest
 pub mod Parting
 pub mod Tiles
+pub mod Tops

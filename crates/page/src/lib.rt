@@ -13,6 +13,7 @@ mod parting;
 mod requests;
 mod rows;
 mod taking_back;
+mod tops;
 
 pub use laws::leaf_law;
 pub use leaf::{Done, Leaf};

@@ -1,5 +1,5 @@
 -- Entries whose numbers rise, and the place of a number among them.
-use Rattle.std.specs.Prelude.{ℕ, ◌<◌, IsTrue, List, [], ◌∷◌, Option, Result, map}
+use Rattle.std.specs.Prelude.{ℕ, ◌<◌, max, IsTrue, List, [], ◌∷◌, Option, Result, map}
 use Rattle.std.specs.List.{AllByRecursion}
 use Rattle.std.specs.Ordering.{nat_cmp}
 use Rattle.record_key.specs.Table.{Bytes}
@@ -9,6 +9,11 @@ use Rattle.record_key.specs.declared.entry.Entry.{Entry}
 
 abbrev pub numbers : List Entry → List ℕ
 numbers entries = map (λ (e : Entry). e.number) entries
+
+-- the greatest of them, 0 where there are none
+abbrev pub top_in : List Entry → ℕ
+top_in [] = 0
+top_in (e ∷ es) = max e.number (top_in es)
 
 -- numbers strictly rise, the first from above this one
 abbrev pub RiseAbove : ℕ → List Entry → Type 0

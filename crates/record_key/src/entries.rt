@@ -3,7 +3,7 @@ ghost use Rattle.std.specs.Prelude.{◌≡◌, ◌<◌, ◌≤◌, ◌+◌, ◌+
 ghost use Rattle.std.specs.List.{insert};
 ghost use Rattle.record_key.specs.declared.entry.Entry.{Entry as EntryValue};
 ghost use Rattle.record_key.specs.Order.{is_below};
-ghost use Rattle.record_key.specs.Entries.{RiseAbove, IsPlaceOfNumber};
+ghost use Rattle.record_key.specs.Entries.{RiseAbove, IsPlaceOfNumber, top_in};
 
 use crate::entry::Entry;
 use crate::key::Key;
@@ -73,6 +73,17 @@ impl Entries {
                 answer: answer_at(&self.bytes, slot.place),
             },
             None => unreachable!(),
+        }
+    }
+
+    /// The greatest number of rising ones, 0 where there are none. Takes no memory.
+    pub fn top(&self) -> u64
+        requires { RiseAbove 0 self.now }
+        ensures { result ≡ top_in self.now }
+    {
+        match self.slots.as_slice().last() {
+            Some(slot) => slot.number,
+            None => 0,
         }
     }
 

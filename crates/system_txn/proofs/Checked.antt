@@ -12,6 +12,7 @@ use Rattle.ab_lsn.specs.AbLsn.{AbLsnView, raised}
 use Rattle.codec.specs.declared.dc_record.DcRecord.TheVariants as is
 use Rattle.codec.specs.Images.{image_bytes, IsImage}
 use Rattle.page.specs.Leaf.{LeafView, raised_to}
+use Rattle.page.specs.Tops.{is_within, all_within}
 use Rattle.page.specs.Parting.{upper_of, joined_of}
 use Rattle.btree.specs.Leaves.{leaf_at}
 use Rattle.btree.specs.Parting.{middle, may_split_at, may_merge_at}
@@ -31,7 +32,7 @@ use Rattle.system_txn.specs.Changes.{next_id, next_number, leaf_in, split_to, me
 use Rattle.system_txn.specs.Checked.{IsChecked, Checks}
 use Rattle.system_txn.specs.Crashed.{crashed}
 use Rattle.system_txn.specs.Devices.{pages_of}
-use Rattle.system_txn.specs.Gives.{Splits, Merges, SplitGives, MergeGives, Tending, SplitsAt, MergesAt, Rests, tending, TendsTo, TendGives, FlushGives, CheckpointGives, AcceptGives, HaveImages, StopsTending, FailsWriting, FailsAmong}
+use Rattle.system_txn.specs.Gives.{Splits, Merges, SplitGives, MergeGives, Tending, SplitsAt, MergesAt, Rests, tending, TendsTo, TendGives, FlushGives, CheckpointGives, AcceptGives, HaveImages, StopsNotNow, StopsTending, FailsWriting, FailsAmong}
 use Rattle.system_txn.specs.Kept.{IsSystem, IsRecoverable}
 use Rattle.system_txn.specs.declared.tended.Neighbours.{Neighbours}
 use Rattle.system_txn.specs.declared.tended.Tended.{Tended}
@@ -206,27 +207,27 @@ checked_failed_among v (leaf ∷ leaves) new l h all lows (inr later) c =
 refused_at : (old : SystemView) (r : Refusal) (new : SystemView) → new ≡ log_refused old r → Checks old new
 refused_at old r new is = subst (Checks old) (sym is) (usage_checked old _ old.page_usage)
 
-pub checked_split : (old : SystemView) (k : Bytes) (given : Result Neighbours Refusal) (new : SystemView)
-    → IsSystem old → IsRecoverable old → SplitGives old k given new → Checks old new
-checked_split old k (Ok pair) new kept h gives = checked_splits old _ pair new kept h gives
-checked_split old k (Err r) new kept h gives = refused_at old r new gives.1
+pub checked_split : (old : SystemView) (k : Bytes) (known : ℕ) (given : Result Neighbours Refusal) (new : SystemView)
+    → IsSystem old → IsRecoverable old → SplitGives old k known given new → Checks old new
+checked_split old k known (Ok pair) new kept h gives = checked_splits old _ pair new kept h gives.1
+checked_split old k known (Err r) new kept h gives = refused_at old r new gives.1
 
-pub checked_merge : (old : SystemView) (k : Bytes) (given : Result Neighbours Refusal) (new : SystemView)
-    → IsRecoverable old → MergeGives old k given new → Checks old new
-checked_merge old k (Ok pair) new h gives = checked_merges old _ pair new h gives
-checked_merge old k (Err r) new h gives = refused_at old r new gives.1
+pub checked_merge : (old : SystemView) (k : Bytes) (known : ℕ) (given : Result Neighbours Refusal) (new : SystemView)
+    → IsRecoverable old → MergeGives old k known given new → Checks old new
+checked_merge old k known (Ok pair) new h gives = checked_merges old _ pair new h gives.1
+checked_merge old k known (Err r) new h gives = refused_at old r new gives.1
 
-checked_tends : (old : SystemView) (does : Tending) (what : Tended) (new : SystemView) → IsSystem old
-    → IsRecoverable old → TendsTo old does what new → Checks old new
-checked_tends old (SplitsAt p) (tended.Split pair) new kept h gives = checked_splits old p pair new kept h gives
-checked_tends old (SplitsAt p) (tended.Merged pair) new kept h gives = absurd gives
-checked_tends old (SplitsAt p) tended.Nothing new kept h gives = absurd gives
-checked_tends old (MergesAt p) (tended.Split pair) new kept h gives = absurd gives
-checked_tends old (MergesAt p) (tended.Merged pair) new kept h gives = checked_merges old p pair new h gives
-checked_tends old (MergesAt p) tended.Nothing new kept h gives = absurd gives
-checked_tends old Rests (tended.Split pair) new kept h gives = absurd gives
-checked_tends old Rests (tended.Merged pair) new kept h gives = absurd gives
-checked_tends old Rests tended.Nothing new kept h gives = subst (Checks old) (sym gives) (λ l c. c)
+checked_tends : (known : ℕ) (old : SystemView) (does : Tending) (what : Tended) (new : SystemView) → IsSystem old
+    → IsRecoverable old → TendsTo known old does what new → Checks old new
+checked_tends known old (SplitsAt p) (tended.Split pair) new kept h gives = checked_splits old p pair new kept h gives.1
+checked_tends known old (SplitsAt p) (tended.Merged pair) new kept h gives = absurd gives
+checked_tends known old (SplitsAt p) tended.Nothing new kept h gives = absurd gives
+checked_tends known old (MergesAt p) (tended.Split pair) new kept h gives = absurd gives
+checked_tends known old (MergesAt p) (tended.Merged pair) new kept h gives = checked_merges old p pair new h gives.1
+checked_tends known old (MergesAt p) tended.Nothing new kept h gives = absurd gives
+checked_tends known old Rests (tended.Split pair) new kept h gives = absurd gives
+checked_tends known old Rests (tended.Merged pair) new kept h gives = absurd gives
+checked_tends known old Rests tended.Nothing new kept h gives = subst (Checks old) (sym gives) (λ l c. c)
 
 checked_stops_tending : (old : SystemView) (does : Tending) (r : Refusal) (new : SystemView)
     → StopsTending old does r new → Checks old new
@@ -234,20 +235,26 @@ checked_stops_tending old (SplitsAt p) r new stops = refused_at old r new stops.
 checked_stops_tending old (MergesAt p) r new stops = refused_at old r new stops.1
 checked_stops_tending old Rests r new stops = absurd stops
 
-pub checked_tend : (old : SystemView) (merges : Bool) (given : Result Tended Refusal) (new : SystemView)
-    → IsSystem old → IsRecoverable old → TendGives old merges given new → Checks old new
-checked_tend old merges (Ok what) new kept h gives = checked_tends old (tending old merges) what new kept h gives
-checked_tend old merges (Err r) new kept h gives = checked_stops_tending old (tending old merges) r new gives
+pub checked_tend : (old : SystemView) (merges : Bool) (known : ℕ) (given : Result Tended Refusal) (new : SystemView)
+    → IsSystem old → IsRecoverable old → TendGives old merges known given new → Checks old new
+checked_tend old merges known (Ok what) new kept h gives = checked_tends known old (tending old merges known) what new kept h gives
+checked_tend old merges known (Err r) new kept h gives = checked_stops_tending old (tending old merges known) r new gives
 
-pub checked_flush : (old : SystemView) (k : Bytes) (given : Result ℕ Refusal) (new : SystemView)
-    → IsSystem old → IsRecoverable old → FlushGives old k given new → Checks old new
-checked_flush old k (Ok id) new kept h gives l c =
+pub checked_flush : (old : SystemView) (k : Bytes) (known : ℕ) (given : Result ℕ Refusal) (new : SystemView)
+    → IsSystem old → IsRecoverable old → FlushGives old k known given new → Checks old new
+checked_flush old k known (Ok id) new kept h gives l c =
     let at : IsCurrent old.log (leaf_at old.leaves k).id (leaf_at old.leaves k) =
     all_at (λ (leaf : LeafView). IsCurrent old.log leaf.id leaf) old.leaves k kept.leaves h.current.each in
     let low : IsLow l (leaf_at old.leaves k) = all_at (IsLow l) old.leaves k kept.leaves c.leaves in
-    subst (IsChecked l) (sym gives.2) (written_checked old (leaf_at old.leaves k) l h gives.1 at low c)
-checked_flush old k (Err r) new kept h (inl memory) l c = subst (IsChecked l) (sym memory.1) c
-checked_flush old k (Err r) new kept h (inr fails) l c = checked_failed old (leaf_at old.leaves k) new h fails.1 l c
+    subst (IsChecked l) (sym gives.after) (written_checked old (leaf_at old.leaves k) l h gives.fits at low c)
+checked_flush old k known (Err r) new kept h gives l c =
+    elim (cases_Bool (is_within known (leaf_at old.leaves k))) [
+      | inl within ↦ elim (rw within at gives) [
+        | inl memory ↦ subst (IsChecked l) (sym memory.1) c
+        | inr fails ↦ checked_failed old (leaf_at old.leaves k) new h fails.1 l c
+      ]
+      | inr above ↦ let none : StopsNotNow old r new = rw above at gives in subst (IsChecked l) (sym none.1) c
+    ]
 
 pub checked_accept : (old : SystemView) (s : ℕ) (given : Result Unit Refusal) (new : SystemView)
     → IsRecoverable old → AcceptGives old s given new → Checks old new
@@ -257,19 +264,25 @@ checked_accept old s (Err r) new h (inl append) l c = refused_at old r new appen
 checked_accept old s (Err r) new h (inr force) l c =
     refused_at (accepted old s) Device new force.2.0 l (accepted_checked old s h l c)
 
-pub checked_checkpoint : (old : SystemView) (to : ℕ) (given : Result Unit Refusal) (new : SystemView)
-    → IsRecoverable old → CheckpointGives old to given new → Checks old new
-checked_checkpoint old to (Ok done) new h gives l c =
+pub checked_checkpoint : (old : SystemView) (to known : ℕ) (given : Result Unit Refusal) (new : SystemView)
+    → IsRecoverable old → CheckpointGives old to known given new → Checks old new
+checked_checkpoint old to known (Ok done) new h gives l c =
     let raised : IsRecoverable (lowered old to) = recoverable_lowered old to h in
     let low : IsChecked l (lowered old to) = lowered_checked old to l c in
-    subst (IsChecked l) (sym gives.1)
-    (written_all_checked (lowered old to) (lowered old to).leaves l raised gives.0 raised.current.each low.leaves low)
-checked_checkpoint old to (Err r) new h (inl none) l c = subst (IsChecked l) (sym none.1) c
-checked_checkpoint old to (Err r) new h (inr stops) l c =
-    let raised : IsRecoverable (lowered old to) = recoverable_lowered old to h in
-    let low : IsChecked l (lowered old to) = lowered_checked old to l c in
-    checked_failed_among (lowered old to) (lowered old to).leaves new l raised raised.current.each low.leaves stops.1
-    low
+    subst (IsChecked l) (sym gives.after)
+    (written_all_checked (lowered old to) (lowered old to).leaves l raised gives.fit raised.current.each low.leaves low)
+checked_checkpoint old to known (Err r) new h gives l c =
+    elim (cases_Bool (all_within known old.leaves)) [
+      | inl within ↦ elim (rw within at gives) [
+        | inl none ↦ subst (IsChecked l) (sym none.1) c
+        | inr stops ↦
+            let raised : IsRecoverable (lowered old to) = recoverable_lowered old to h in
+            let low : IsChecked l (lowered old to) = lowered_checked old to l c in
+            checked_failed_among (lowered old to) (lowered old to).leaves new l raised raised.current.each low.leaves
+            stops.1 low
+      ]
+      | inr above ↦ let none : StopsNotNow old r new = rw above at gives in subst (IsChecked l) (sym none.1) c
+    ]
 
 -- ---- a crash
 

@@ -95,22 +95,22 @@ all_written v (leaf ∷ left) l fit w =
     all_written (written_to v leaf) left l fit.1 (leaf_written v leaf left l fit.0 w)
 
 -- once all leaves are raised and written the number is checked
-pub checkpoint_reaches : (old : SystemView) (l : ℕ) (new : SystemView) → IsRecoverable old
-    → CheckpointGives old l (Ok tt) new → IsChecked l new
-checkpoint_reaches old l new h gives =
+pub checkpoint_reaches : (old : SystemView) (l known : ℕ) (new : SystemView) → IsRecoverable old
+    → CheckpointGives old l known (Ok tt) new → IsChecked l new
+checkpoint_reaches old l known new h gives =
     let start : SystemView = lowered old l in
     let raised : IsRecoverable start = recoverable_lowered old l h in
     let end : SystemView = written_all start start.leaves in
     let low : AllByRecursion (IsLow l) start.leaves = lows_reach old.leaves l in
-    let good : IsRecoverable end = recoverable_written_all start start.leaves raised gives.0 raised.current.each in
+    let good : IsRecoverable end = recoverable_written_all start start.leaves raised gives.fit raised.current.each in
     let all : Writes l end [] =
-    all_written start start.leaves l gives.0 (record {
+    all_written start start.leaves l gives.fit (record {
       leaves = low;
       current = raised.current.each;
       lows = low;
       pages = λ id there. inr (λ none. there (ap (part_in id) (sym raised.current.parts) ∙ none));
     }) in
-    subst (IsChecked l) (sym gives.1) (record {
+    subst (IsChecked l) (sym gives.after) (record {
       leaves = all.leaves;
       ready =
           (ready_stays (IsLow l)).written_all (pages_of end.pages) end.log end.stable good.legal good.fit

@@ -30,4 +30,5 @@ pub mod Shelves
 pub mod Spelled
 pub mod Spelling
 pub mod Used
+pub mod Within
 pub mod Written

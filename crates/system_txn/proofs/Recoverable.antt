@@ -12,6 +12,7 @@ use Rattle.codec.specs.declared.dc_record.DcRecord.TheVariants as is
 use Rattle.codec.specs.Images.{image_bytes, IsImage}
 use Rattle.codec.specs.Reading.{◌>>=◌}
 use Rattle.page.specs.Leaf.{LeafView, is_in_fences, performed, raised_to}
+use Rattle.page.specs.Tops.{is_within, all_within}
 use Rattle.page.specs.Tiles.{parts_of}
 use Rattle.btree.specs.Leaves.{leaf_at, changed_at}
 use Rattle.btree.specs.Performs.{performed_at}
@@ -27,7 +28,7 @@ use Rattle.stable.specs.Usage.{Usage, called}
 use Rattle.system_txn.specs.SystemView.{SystemView, fresh, with_usage, log_refused}
 use Rattle.system_txn.specs.Changes.{accepted, covered, forced, lowered, written_to, written_all}
 use Rattle.system_txn.specs.Devices.{pages_of, page_in}
-use Rattle.system_txn.specs.Gives.{Splits, Merges, SplitGives, MergeGives, Tending, SplitsAt, MergesAt, Rests, tending, TendsTo, TendGives, FlushGives, CheckpointGives, AcceptGives, HaveImages, StopsTending, FailsWriting, FailsAmong}
+use Rattle.system_txn.specs.Gives.{Splits, Merges, SplitGives, MergeGives, Tending, SplitsAt, MergesAt, Rests, tending, TendsTo, TendGives, FlushGives, CheckpointGives, AcceptGives, HaveImages, StopsNotNow, StopsTending, FailsWriting, FailsAmong}
 use Rattle.system_txn.specs.Kept.{IsSystem, IsRecoverable}
 use Rattle.system_txn.specs.declared.tended.Neighbours.{Neighbours}
 use Rattle.system_txn.specs.declared.tended.Tended.{Tended}
@@ -202,27 +203,27 @@ refused_at : (old : SystemView) (r : Refusal) (new : SystemView) → IsRecoverab
     → IsRecoverable new
 refused_at old r new h is = subst IsRecoverable (sym is) (recoverable_usage old _ old.page_usage h)
 
-pub recoverable_split : (old : SystemView) (k : Bytes) (given : Result Neighbours Refusal) (new : SystemView)
-    → IsSystem old → IsRecoverable old → SplitGives old k given new → IsRecoverable new
-recoverable_split old k (Ok pair) new kept h gives = recoverable_splits old _ pair new kept h gives
-recoverable_split old k (Err r) new kept h gives = refused_at old r new h gives.1
+pub recoverable_split : (old : SystemView) (k : Bytes) (known : ℕ) (given : Result Neighbours Refusal) (new : SystemView)
+    → IsSystem old → IsRecoverable old → SplitGives old k known given new → IsRecoverable new
+recoverable_split old k known (Ok pair) new kept h gives = recoverable_splits old _ pair new kept h gives.1
+recoverable_split old k known (Err r) new kept h gives = refused_at old r new h gives.1
 
-pub recoverable_merge : (old : SystemView) (k : Bytes) (given : Result Neighbours Refusal) (new : SystemView)
-    → IsRecoverable old → MergeGives old k given new → IsRecoverable new
-recoverable_merge old k (Ok pair) new h gives = recoverable_merges old _ pair new h gives
-recoverable_merge old k (Err r) new h gives = refused_at old r new h gives.1
+pub recoverable_merge : (old : SystemView) (k : Bytes) (known : ℕ) (given : Result Neighbours Refusal) (new : SystemView)
+    → IsRecoverable old → MergeGives old k known given new → IsRecoverable new
+recoverable_merge old k known (Ok pair) new h gives = recoverable_merges old _ pair new h gives.1
+recoverable_merge old k known (Err r) new h gives = refused_at old r new h gives.1
 
-recoverable_tends : (old : SystemView) (does : Tending) (what : Tended) (new : SystemView) → IsSystem old
-    → IsRecoverable old → TendsTo old does what new → IsRecoverable new
-recoverable_tends old (SplitsAt p) (tended.Split pair) new kept h gives = recoverable_splits old p pair new kept h gives
-recoverable_tends old (SplitsAt p) (tended.Merged pair) new kept h gives = absurd gives
-recoverable_tends old (SplitsAt p) tended.Nothing new kept h gives = absurd gives
-recoverable_tends old (MergesAt p) (tended.Split pair) new kept h gives = absurd gives
-recoverable_tends old (MergesAt p) (tended.Merged pair) new kept h gives = recoverable_merges old p pair new h gives
-recoverable_tends old (MergesAt p) tended.Nothing new kept h gives = absurd gives
-recoverable_tends old Rests (tended.Split pair) new kept h gives = absurd gives
-recoverable_tends old Rests (tended.Merged pair) new kept h gives = absurd gives
-recoverable_tends old Rests tended.Nothing new kept h gives = subst IsRecoverable (sym gives) h
+recoverable_tends : (known : ℕ) (old : SystemView) (does : Tending) (what : Tended) (new : SystemView) → IsSystem old
+    → IsRecoverable old → TendsTo known old does what new → IsRecoverable new
+recoverable_tends known old (SplitsAt p) (tended.Split pair) new kept h gives = recoverable_splits old p pair new kept h gives.1
+recoverable_tends known old (SplitsAt p) (tended.Merged pair) new kept h gives = absurd gives
+recoverable_tends known old (SplitsAt p) tended.Nothing new kept h gives = absurd gives
+recoverable_tends known old (MergesAt p) (tended.Split pair) new kept h gives = absurd gives
+recoverable_tends known old (MergesAt p) (tended.Merged pair) new kept h gives = recoverable_merges old p pair new h gives.1
+recoverable_tends known old (MergesAt p) tended.Nothing new kept h gives = absurd gives
+recoverable_tends known old Rests (tended.Split pair) new kept h gives = absurd gives
+recoverable_tends known old Rests (tended.Merged pair) new kept h gives = absurd gives
+recoverable_tends known old Rests tended.Nothing new kept h gives = subst IsRecoverable (sym gives) h
 
 recoverable_stops_tending : (old : SystemView) (does : Tending) (r : Refusal) (new : SystemView) → IsRecoverable old
     → StopsTending old does r new → IsRecoverable new
@@ -230,33 +231,44 @@ recoverable_stops_tending old (SplitsAt p) r new h stops = refused_at old r new 
 recoverable_stops_tending old (MergesAt p) r new h stops = refused_at old r new h stops.1
 recoverable_stops_tending old Rests r new h stops = absurd stops
 
-pub recoverable_tend : (old : SystemView) (merges : Bool) (given : Result Tended Refusal) (new : SystemView)
-    → IsSystem old → IsRecoverable old → TendGives old merges given new → IsRecoverable new
-recoverable_tend old merges (Ok what) new kept h gives =
-    recoverable_tends old (tending old merges) what new kept h gives
-recoverable_tend old merges (Err r) new kept h gives =
-    recoverable_stops_tending old (tending old merges) r new h gives
+pub recoverable_tend : (old : SystemView) (merges : Bool) (known : ℕ) (given : Result Tended Refusal) (new : SystemView)
+    → IsSystem old → IsRecoverable old → TendGives old merges known given new → IsRecoverable new
+recoverable_tend old merges known (Ok what) new kept h gives =
+    recoverable_tends known old (tending old merges known) what new kept h gives
+recoverable_tend old merges known (Err r) new kept h gives =
+    recoverable_stops_tending old (tending old merges known) r new h gives
 
-pub recoverable_flush : (old : SystemView) (k : Bytes) (given : Result ℕ Refusal) (new : SystemView)
-    → IsSystem old → IsRecoverable old → FlushGives old k given new → IsRecoverable new
-recoverable_flush old k (Ok id) new kept h gives =
+pub recoverable_flush : (old : SystemView) (k : Bytes) (known : ℕ) (given : Result ℕ Refusal) (new : SystemView)
+    → IsSystem old → IsRecoverable old → FlushGives old k known given new → IsRecoverable new
+recoverable_flush old k known (Ok id) new kept h gives =
     let at : IsCurrent old.log (leaf_at old.leaves k).id (leaf_at old.leaves k) =
     all_at (λ (leaf : LeafView). IsCurrent old.log leaf.id leaf) old.leaves k kept.leaves h.current.each in
-    subst IsRecoverable (sym gives.2) (recoverable_written old (leaf_at old.leaves k) h gives.1 at)
-recoverable_flush old k (Err r) new kept h (inl memory) = subst IsRecoverable (sym memory.1) h
-recoverable_flush old k (Err r) new kept h (inr fails) =
-    recoverable_failed old (leaf_at old.leaves k) new h fails.1
+    subst IsRecoverable (sym gives.after) (recoverable_written old (leaf_at old.leaves k) h gives.fits at)
+recoverable_flush old k known (Err r) new kept h gives =
+    elim (cases_Bool (is_within known (leaf_at old.leaves k))) [
+      | inl within ↦ elim (rw within at gives) [
+        | inl memory ↦ subst IsRecoverable (sym memory.1) h
+        | inr fails ↦ recoverable_failed old (leaf_at old.leaves k) new h fails.1
+      ]
+      | inr above ↦ let none : StopsNotNow old r new = rw above at gives in subst IsRecoverable (sym none.1) h
+    ]
 
-pub recoverable_checkpoint : (old : SystemView) (l : ℕ) (given : Result Unit Refusal) (new : SystemView)
-    → IsRecoverable old → CheckpointGives old l given new → IsRecoverable new
-recoverable_checkpoint old l (Ok done) new h gives =
+pub recoverable_checkpoint : (old : SystemView) (l known : ℕ) (given : Result Unit Refusal) (new : SystemView)
+    → IsRecoverable old → CheckpointGives old l known given new → IsRecoverable new
+recoverable_checkpoint old l known (Ok done) new h gives =
     let raised : IsRecoverable (lowered old l) = recoverable_lowered old l h in
-    subst IsRecoverable (sym gives.1)
-    (recoverable_written_all (lowered old l) (lowered old l).leaves raised gives.0 raised.current.each)
-recoverable_checkpoint old l (Err r) new h (inl none) = subst IsRecoverable (sym none.1) h
-recoverable_checkpoint old l (Err r) new h (inr stops) =
-    let raised : IsRecoverable (lowered old l) = recoverable_lowered old l h in
-    recoverable_failed_among (lowered old l) (lowered old l).leaves new raised raised.current.each stops.1
+    subst IsRecoverable (sym gives.after)
+    (recoverable_written_all (lowered old l) (lowered old l).leaves raised gives.fit raised.current.each)
+recoverable_checkpoint old l known (Err r) new h gives =
+    elim (cases_Bool (all_within known old.leaves)) [
+      | inl within ↦ elim (rw within at gives) [
+        | inl none ↦ subst IsRecoverable (sym none.1) h
+        | inr stops ↦
+            let raised : IsRecoverable (lowered old l) = recoverable_lowered old l h in
+            recoverable_failed_among (lowered old l) (lowered old l).leaves new raised raised.current.each stops.1
+      ]
+      | inr above ↦ let none : StopsNotNow old r new = rw above at gives in subst IsRecoverable (sym none.1) h
+    ]
 
 pub recoverable_accept : (old : SystemView) (s : ℕ) (given : Result Unit Refusal) (new : SystemView)
     → IsRecoverable old → AcceptGives old s given new → IsRecoverable new

@@ -68,6 +68,6 @@ BeginningsAreRecoverable =
 
 -- what a checkpoint was done to is as low, and stays so over a crash, whichever records stay
 pub record CheckpointsLast : Type 0 where
-  pub reaches : (old : SystemView) (l : ℕ) (new : SystemView) → IsRecoverable old → CheckpointGives old l (Ok tt) new
-      → IsChecked l new
+  pub reaches : (old : SystemView) (l known : ℕ) (new : SystemView) → IsRecoverable old
+      → CheckpointGives old l known (Ok tt) new → IsChecked l new
   pub lasts : (v : SystemView) (n : ℕ) → IsRecoverable v → v.stable ≤ n → Checks v (crashed v n)

@@ -89,45 +89,48 @@ impl<L: LeafSet, D: LogDevice, P: PageDevice> SystemTxns<L, D, P> {
     }
 
     /// Splits the leaf that has the key at its middle record: one append to the log, then the leaves. Refused NotNow
-    /// where it has fewer than two records, NumbersSpent, NoMemory, Device.
-    pub fn split(&mut self, key: &Key) -> Result<Neighbours, Refusal>
-        ensures gives { SplitGives self.old key.now result self.new }
+    /// where it has fewer than two records or an entry above the known end, NumbersSpent, NoMemory, Device.
+    pub fn split(&mut self, key: &Key, known: u64) -> Result<Neighbours, Refusal>
+        ensures gives { SplitGives self.old key.now known result self.new }
     {
-        self.parts.split(key)
+        self.parts.split(key, known)
     }
 
     /// Joins the leaf that has the key with the one after it, under its own number: one append to the log, then the
-    /// leaves. Refused NotNow where the two may not be joined, NumbersSpent, NoMemory, Device.
-    pub fn merge(&mut self, key: &Key) -> Result<Neighbours, Refusal>
-        ensures gives { MergeGives self.old key.now result self.new }
+    /// leaves. Refused NotNow where the two may not be joined or one has an entry above the known end, NumbersSpent,
+    /// NoMemory, Device.
+    pub fn merge(&mut self, key: &Key, known: u64) -> Result<Neighbours, Refusal>
+        ensures gives { MergeGives self.old key.now known result self.new }
     {
-        self.parts.merge(key)
+        self.parts.merge(key, known)
     }
 
-    /// Splits the first large leaf; where there is none and merges are let, joins the first two that may be. Refused
-    /// NumbersSpent, NoMemory, Device, and never where nothing is to be done.
-    pub fn tend(&mut self, merges: bool) -> Result<Tended, Refusal>
-        ensures gives { TendGives self.old merges result self.new }
+    /// Splits the first large leaf; where there is none and merges are let, joins the first two that may be. Leaves
+    /// with an entry above the known end are passed over. Refused NumbersSpent, NoMemory, Device, and never where nothing
+    /// is to be done.
+    pub fn tend(&mut self, merges: bool, known: u64) -> Result<Tended, Refusal>
+        ensures gives { TendGives self.old merges known result self.new }
     {
-        self.parts.tend(merges)
+        self.parts.tend(merges, known)
     }
 
     /// Writes the leaf that has the key to its page, the log first where it has to be forced, and answers the leaf's
-    /// number: a force at most, and one write. Refused NoMemory, and unchanged then; Device, where the log may be
-    /// stable further.
-    pub fn flush(&mut self, key: &Key) -> Result<u64, Refusal>
-        ensures gives { FlushGives self.old key.now result self.new }
+    /// number: a force at most, and one write. Refused NotNow where it has an entry above the known end, or NoMemory,
+    /// and unchanged then; Device, where the log may be stable further.
+    pub fn flush(&mut self, key: &Key, known: u64) -> Result<u64, Refusal>
+        ensures gives { FlushGives self.old key.now known result self.new }
     {
-        self.parts.flush(key)
+        self.parts.flush(key, known)
     }
 
-    /// Counts every request up to this number as performed, and writes each leaf. Refused NoMemory, and unchanged then;
-    /// Device, where all leaves have been raised and some written.
-    pub fn checkpoint(&mut self, low: u64) -> Result<(), Refusal>
+    /// Counts every request up to this number as performed, and writes each leaf. Refused NotNow where one has an entry
+    /// above the known end, or NoMemory, and unchanged then; Device, where all leaves have been raised and some
+    /// written.
+    pub fn checkpoint(&mut self, low: u64, known: u64) -> Result<(), Refusal>
         requires { low < 2 ^ 48 }
-        ensures gives { CheckpointGives self.old low result self.new }
+        ensures gives { CheckpointGives self.old low known result self.new }
     {
-        self.parts.checkpoint(low)
+        self.parts.checkpoint(low, known)
     }
 
     /// Logs that the session is accepted, and forces the log. Refused NumbersSpent, NoMemory, Device: where the force

@@ -3,6 +3,7 @@ ghost use Rattle.std.specs.Prelude.{◌≡◌, ◌<◌, ◌≤◌, ◌^◌, ℕ,
 ghost use Rattle.std.specs.List.{AllByRecursion};
 ghost use Rattle.codec.specs.Images.{IsOrderedImage, IsImage, image_bytes};
 ghost use Rattle.page.specs.Leaf.{LeafView, first};
+ghost use Rattle.page.specs.Tops.{all_within};
 ghost use Rattle.recovery_laws.specs.Images.{image_of};
 ghost use Rattle.system_txn.specs.Changes.{covered, written_to, written_all};
 ghost use Rattle.system_txn.specs.Gives.{FlushGives, CheckpointGives, AcceptGives, HaveImages, ForceFails, FailsWriting, FailsAmong};
@@ -21,13 +22,16 @@ use stable::{LogDevice, PageDevice};
 
 impl<L: LeafSet, D: LogDevice, P: PageDevice> Parts<L, D, P> {
     /// All memory is taken before the log is forced, so that then only a device can fail.
-    pub fn flush(&mut self, key: &Key) -> Result<u64, Refusal>
+    pub fn flush(&mut self, key: &Key, known: u64) -> Result<u64, Refusal>
         requires { IsSystem (seen L.leaves P.pages P.usage self.old) }
         ensures kept { IsSystem (seen L.leaves P.pages P.usage self.new) }
-        ensures gives { FlushGives (seen L.leaves P.pages P.usage self.old) key.now result
+        ensures gives { FlushGives (seen L.leaves P.pages P.usage self.old) key.now known result
             (seen L.leaves P.pages P.usage self.new) }
     {
         let place = self.leaves.place_of(key);
+        if !self.leaves.leaf(place).is_within(known) {
+            return Err(Refusal::NotNow);
+        }
         if let Err(refusal) = self.prepare(place) {
             return Err(refusal);
         }
@@ -38,13 +42,16 @@ impl<L: LeafSet, D: LogDevice, P: PageDevice> Parts<L, D, P> {
     }
 
     /// Room for all images is made before any leaf is raised, which makes no image longer.
-    pub fn checkpoint(&mut self, low: u64) -> Result<(), Refusal>
+    pub fn checkpoint(&mut self, low: u64, known: u64) -> Result<(), Refusal>
         requires kept { IsSystem (seen L.leaves P.pages P.usage self.old) }
         requires number { low < 2 ^ 48 }
         ensures kept { IsSystem (seen L.leaves P.pages P.usage self.new) }
-        ensures gives { CheckpointGives (seen L.leaves P.pages P.usage self.old) low result
+        ensures gives { CheckpointGives (seen L.leaves P.pages P.usage self.old) low known result
             (seen L.leaves P.pages P.usage self.new) }
     {
+        if !all_within(&self.leaves, known) {
+            return Err(Refusal::NotNow);
+        }
         if let Err(refusal) = make_room(&self.leaves, &mut self.image, &mut self.pages) {
             return Err(refusal);
         }
@@ -158,6 +165,18 @@ impl<L: LeafSet, D: LogDevice, P: PageDevice> Parts<L, D, P> {
             Err(error) => Err(refusal_of(error)),
         }
     }
+}
+
+/// Whether no leaf has an entry above the known end.
+fn all_within<L: LeafSet>(leaves: &L, known: u64) -> bool
+    ensures { result ≡ all_within known (L.leaves leaves.now) }
+{
+    for place in 0..leaves.len() {
+        if !leaves.leaf(place).is_within(known) {
+            return false;
+        }
+    }
+    true
 }
 
 /// Spells the leaf's image in the place of what stood there.

@@ -125,8 +125,8 @@ pub record IsCaptured (x : Source) (dc : DcView) (n : ℕ) : Type 0 where
   pub requests : Requests x.log n op
   pub captured : captures_at dc (key_of op) n ≡ true
 
--- where the reply's session still runs its request was performed, and as long as it is the transaction component's, which
--- has heard that it was taken, it has the answer of a request of the log
+-- where the reply's session still runs its request was performed, and as long as it is the transaction component's,
+-- which has heard that it was taken, it has the answer of a request of the log
 pub record IsAnswered (w : TcView) (dc : DcView) (x : Source) (s n : ℕ) (a : Option Answer) : Type 0 where
   pub older : IsOlder w s
   pub captured : InSession dc s (IsCaptured x dc n)

@@ -56,11 +56,15 @@ impl Node {
         ensures { self.new ≡ raised_node low self.old }
     {
         match &mut self.below {
-            Below::Leaf(leaf) => leaf.raise(low),
+            Below::Leaf(leaf) => {
+                leaf.raise(low);
+                self.summary = Summary::of_leaf(leaf);
+            }
             Below::Inner(children) => {
                 for i in 0..children.len() {
                     children[i].raise(low);
                 }
+                self.summary = summary_in(children.as_slice());
             }
         }
     }

@@ -1,21 +1,67 @@
 //! What a node keeps of the leaves below it, so that the leaf that is tended first is found by one descent.
 ghost use Rattle.std.specs.Prelude.{◌≡◌, false, [], ◌∷◌};
-ghost use Rattle.btree.specs.Choosing.{both_of, summary_of};
+ghost use Rattle.btree.specs.Choosing.{both_of, extent_of, is_reached, large_top, least, no_extent, pair_top, summary_of};
 
 use crate::choosing::{is_large, may_join};
 use page::Leaf;
 
-/// Whether leaves are to be tended, and what decides it where others stand beside them.
+/// What of a leaf decides whether it is tended.
+#[derive(Clone, Copy, PartialEq, Eq)]
+pub struct Extent {
+    /// How many records it has.
+    pub count: usize,
+    /// Its top entry.
+    pub top: u64,
+}
+
+/// What tells for every known end whether leaves are to be tended, and decides it where others stand beside them.
 #[derive(Clone, Copy, PartialEq, Eq)]
 pub struct Summary {
-    /// Whether a leaf is large.
-    pub large: bool,
-    /// Whether two neighbours may be joined.
-    pub pair: bool,
-    /// How many records the first leaf has.
-    pub first_count: usize,
-    /// How many records the last leaf has.
-    pub last_count: usize,
+    /// The least top entry of a large leaf.
+    pub large: Option<u64>,
+    /// The least of two neighbours that may be joined, by the greater of theirs.
+    pub pair: Option<u64>,
+    pub first: Extent,
+    pub last: Extent,
+}
+
+impl Extent {
+    fn nothing() -> Extent
+        ensures { result ≡ no_extent }
+    {
+        Extent { count: 0, top: 0 }
+    }
+
+    fn of_leaf(leaf: &Leaf) -> Extent
+        ensures { result ≡ extent_of leaf.now }
+    {
+        Extent {
+            count: leaf.rows().len(),
+            top: leaf.top(),
+        }
+    }
+
+    /// The top entry, where the leaf is large.
+    fn large_top(self) -> Option<u64>
+        ensures { result ≡ large_top self }
+    {
+        if is_large(self.count) {
+            Some(self.top)
+        } else {
+            None
+        }
+    }
+
+    /// The greater top entry, where the leaf may be joined with the one after it.
+    pub fn pair_top(self, right: Extent) -> Option<u64>
+        ensures { result ≡ pair_top self right }
+    {
+        if may_join(self.count, right.count) {
+            Some(self.top.max(right.top))
+        } else {
+            None
+        }
+    }
 }
 
 impl Summary {
@@ -24,10 +70,10 @@ impl Summary {
         ensures { result ≡ summary_of [] }
     {
         Summary {
-            large: false,
-            pair: false,
-            first_count: 0,
-            last_count: 0,
+            large: None,
+            pair: None,
+            first: Extent::nothing(),
+            last: Extent::nothing(),
         }
     }
 
@@ -35,12 +81,12 @@ impl Summary {
     pub fn of_leaf(leaf: &Leaf) -> Summary
         ensures { result ≡ summary_of (leaf.now ∷ []) }
     {
-        let count = leaf.rows().len();
+        let extent = Extent::of_leaf(leaf);
         Summary {
-            large: is_large(count),
-            pair: false,
-            first_count: count,
-            last_count: count,
+            large: extent.large_top(),
+            pair: None,
+            first: extent,
+            last: extent,
         }
     }
 
@@ -48,12 +94,12 @@ impl Summary {
     pub fn before(self, after: Summary) -> Summary
         ensures { result ≡ both_of self after }
     {
-        let next = may_join(self.last_count, after.first_count);
+        let between = self.last.pair_top(after.first);
         Summary {
-            large: self.large || after.large,
-            pair: self.pair || next || after.pair,
-            first_count: self.first_count,
-            last_count: after.last_count,
+            large: least(self.large, after.large),
+            pair: least(self.pair, least(between, after.pair)),
+            first: self.first,
+            last: after.last,
         }
     }
 
@@ -65,5 +111,26 @@ impl Summary {
         let differs = *self != other;
         *self = other;
         differs
+    }
+}
+
+/// The lesser of two numbers, each of which may be missing.
+fn least(one: Option<u64>, other: Option<u64>) -> Option<u64>
+    ensures { result ≡ least one other }
+{
+    match (one, other) {
+        (Some(one), Some(other)) => Some(one.min(other)),
+        (Some(one), None) => Some(one),
+        (None, other) => other,
+    }
+}
+
+/// Whether there is such a number, and it is at most the known end.
+pub fn is_reached(least: Option<u64>, known: u64) -> bool
+    ensures { result ≡ is_reached known least }
+{
+    match least {
+        Some(top) => top <= known,
+        None => false,
     }
 }

@@ -29,8 +29,8 @@ abbrev pub replied : NodeView → DcView → Option Reply → NodeView
 replied w dc None = with_dc w dc
 replied w dc (Some reply) = with_reply (with_dc w dc) reply
 
--- the same sessions ran, as far past their redo at least, and no request's number was lost at its key; nor is a leaf less
--- low
+-- the same sessions ran, as far past their redo at least, and no request's number was lost at its key; nor is a leaf
+-- less low
 pub record Carries (log : List Record) (old new : DcView) : Type 0 where
   pub captured : (n : ℕ) (o : Op) → Requests log n o → captures_at old (key_of o) n ≡ true
       → captures_at new (key_of o) n ≡ true
@@ -99,7 +99,8 @@ module _ (w : NodeView) (dc : DcView) (k : IsKept w) (c : Carries k.source.log w
   given_carried (says.RedoEnded s) h = carried s (w.dc.redo ≡ false) (dc.redo ≡ false) c.past h
 
   -- what is past redo now was, or its redo has ended
-  pub keeps_dc : (reply : Option Reply) → IfSome reply (IsGiven w.tc dc x) → IsDc dc → IsRecoverable dc.system → IsTrueTo w.tc x dc.system
+  pub keeps_dc : (reply : Option Reply) → IfSome reply (IsGiven w.tc dc x) → IsDc dc → IsRecoverable dc.system
+      → IsTrueTo w.tc x dc.system
       → AllByRecursion (λ (p : Performance). Requests x.log p.number p.op) dc.performed
       → (may_merge dc ≡ true → AnsweredAreCaptured x.log w.dc)
       → AreSessions w.tc.stable w.tc.session w.tc.phase w.tc.log dc → IsKept (replied w dc reply)
@@ -173,7 +174,8 @@ module _ (w : NodeView) (dc : DcView) (k : IsKept w) (a : StartsAnew w.dc dc) wh
   given_past (says.Checkpointed s l) h = a.checks l h
   given_past (says.RedoEnded s) h = past s (w.dc.redo ≡ false) (dc.redo ≡ false) h
 
-  pub keeps_anew : (reply : Option Reply) → IfSome reply (IsGiven w.tc dc y) → IsDc dc → IsRecoverable dc.system → IsTrueTo w.tc y dc.system
+  pub keeps_anew : (reply : Option Reply) → IfSome reply (IsGiven w.tc dc y) → IsDc dc → IsRecoverable dc.system
+      → IsTrueTo w.tc y dc.system
       → AllByRecursion (λ (p : Performance). Requests y.log p.number p.op) dc.performed
       → AreSessions w.tc.stable w.tc.session w.tc.phase w.tc.log dc → IsKept (replied w dc reply)
   keeps_anew reply given is recoverable true_to performed sessions = by reply given

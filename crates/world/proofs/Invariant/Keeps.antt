@@ -146,7 +146,8 @@ abbrev pub Waits : (w : NodeView) → IsKept w → TcView → Type 0
 Waits w k tc = WaitsOn (IsAsking w.tc w.dc.stored k.source) w.tc tc
 
 -- neither phase nor log changes
-pub same_waiting : (w : NodeView) (k : IsKept w) (tc : TcView) → tc.phase ≡ w.tc.phase → tc.log ≡ w.tc.log → Waits w k tc
+pub same_waiting : (w : NodeView) (k : IsKept w) (tc : TcView) → tc.phase ≡ w.tc.phase → tc.log ≡ w.tc.log
+    → Waits w k tc
 same_waiting w k tc same log = record {
   asks = λ h. (subst IsWaiting (sym same) h.waits, inl log);
   waits = λ h. inl (subst IsWaiting same h);

@@ -1,6 +1,7 @@
 -- A served request keeps what holds of a node, and its reply is true.
 use Rattle.std.proofs.Common.{◌≡◌, ℕ, ◌<◌, ◌≤◌, Bool, true, false, List, [], ◌∷◌, length, Option, Some, None, IfSome, MatchBool, refl, sym, ap, ◌∙◌, subst, arith, inl, inr, true≢false}
 use Rattle.std.specs.Prelude.{◌&&◌, not, max, nat_lt, if◌then◌else◌, Err}
+use Rattle.std.proofs.lemmas.Bool.{cases_Bool, MatchBool-at_true, MatchBool-at_false}
 use Rattle.std.proofs.lemmas.Bool.Decides.{nat_tests}
 use Rattle.record_key.specs.declared.refusal.Refusal.{Refusal}
 use Rattle.record_key.specs.declared.refusal.Refusal.TheVariants.{Device}
@@ -26,10 +27,11 @@ use Rattle.system_txn.specs.Kept.{IsRecoverable}
 use Rattle.system_txn.specs.Checked.{Checks, IsChecked}
 use Rattle.system_txn.specs.SystemView.{SystemView, log_refused}
 use Rattle.system_txn.specs.Changes.{lowered, accepted, written_all}
-use Rattle.system_txn.specs.Gives.{HaveImages, CheckpointGives, AcceptGives}
+use Rattle.page.specs.Tops.{all_within}
+use Rattle.system_txn.specs.Gives.{HaveImages, CheckpointGives, StopsCheckpoint, AcceptGives}
 use Rattle.std.specs.List.{AllByRecursion}
 use Rattle.dc_core.specs.declared.performance.Performance.{Performance}
-use Rattle.dc_core.specs.DcView.{DcView, leaves, captures_at, value_at}
+use Rattle.dc_core.specs.DcView.{DcView, leaves, captures_at, value_at, known_end}
 use Rattle.dc_core.specs.Kept.{IsDc}
 use Rattle.dc_core.specs.Serves.{Serves, ServeGives, Stops, StopsUnless, serve_refusal, runs, with_system, connected, performs, lowers, range}
 use Rattle.dc_core.specs.Tends.{may_merge}
@@ -296,8 +298,8 @@ serves w (asks.LowWater s l) reply dc k is rec checks sent allowed h =
 serves w (asks.Checkpoint s l) reply dc k is rec checks sent allowed h =
     let past : IsPast w.dc s = let_past w.dc s allowed in
     goes w dc dc reply (Some (says.Checkpointed s l)) h.0 refl
-    (checkpoints w l s dc k is rec checks past.past (sent.holds past.runs) h.1.0
-    (checkpoint_checked w.dc s l reply dc k.dc k.recoverable h) (h.2 ∙ ap (with_system w.dc) h.1.1))
+    (checkpoints w l s dc k is rec checks past.past (sent.holds past.runs) h.1.fit
+    (checkpoint_checked w.dc s l reply dc k.dc k.recoverable h) (h.2 ∙ ap (with_system w.dc) h.1.after))
 serves w (asks.RedoEnd s) reply dc k is rec checks sent allowed h =
     goes w dc (record w.dc { redo = false }) reply (Some (says.RedoEnded s)) h.0 h.1
     (redo_ends w s k (subst IsDc h.1 is) (let_runs w.dc s allowed) sent)
@@ -327,18 +329,28 @@ stops_accepting w s r v k is rec checks most h = elim h [
 
 stops_checkpoint : (w : NodeView) (l : ℕ) (r : Refusal) (v : SystemView) (k : IsKept w) → IsDc (with_system w.dc v)
     → IsRecoverable v → Checks w.dc.system v → may_merge w.dc ≡ true → IsAnsweredBy k.source.log k.source.sure l
-    → CheckpointGives w.dc.system l (Err r) v → IsKept (with_dc w (with_system w.dc v))
-stops_checkpoint w l r v k is rec checks past to (inl h) =
-    subst (λ (x : SystemView). IsKept (with_dc w (with_system w.dc x))) (sym h.1) k
-stops_checkpoint w l r v k is rec checks past to (inr h) =
-    let u : SystemView = lowered w.dc.system l in
-    let t : IsTrueTo w.tc k.source u = lowered_true w l k (k.answered past) to in
-    let stopped = failed_among w.tc k.source u u.leaves v t (honest_all_now w k u.leaves t.leaves)
-    (low_all_now w k u.leaves t.low) h.1 in
-    keeps_system w v k None tt is rec checks
-    (subst (LeavesCarry k.source.log (leaves w.dc)) (sym stopped.leaves) (lowered_carries w l k (k.answered past) to))
-    stopped.true_to
-    (subst (λ log. IsBegun w.tc.stable w.tc.session (stored_session log)) (sym stopped.log) k.sessions.begun)
+    → CheckpointGives w.dc.system l known_end (Err r) v → IsKept (with_dc w (with_system w.dc v))
+stops_checkpoint w l r v k is rec checks past to h =
+    elim (cases_Bool (all_within known_end (leaves w.dc))) [
+      | inl within ↦ stops (MatchBool-at_true _ _ within h)
+      | inr above ↦ same (MatchBool-at_false _ _ above h).1
+    ]
+  where
+    same : v ≡ w.dc.system → IsKept (with_dc w (with_system w.dc v))
+    same is = subst (λ (x : SystemView). IsKept (with_dc w (with_system w.dc x))) (sym is) k
+
+    stops : StopsCheckpoint w.dc.system l r v → IsKept (with_dc w (with_system w.dc v))
+    stops (inl memory) = same memory.1
+    stops (inr fails) =
+        let u : SystemView = lowered w.dc.system l in
+        let t : IsTrueTo w.tc k.source u = lowered_true w l k (k.answered past) to in
+        let stopped = failed_among w.tc k.source u u.leaves v t (honest_all_now w k u.leaves t.leaves)
+        (low_all_now w k u.leaves t.low) fails.1 in
+        keeps_system w v k None tt is rec checks
+        (subst (LeavesCarry k.source.log (leaves w.dc)) (sym stopped.leaves)
+        (lowered_carries w l k (k.answered past) to))
+        stopped.true_to
+        (subst (λ log. IsBegun w.tc.stable w.tc.session (stored_session log)) (sym stopped.log) k.sessions.begun)
 
 at_system : (w : NodeView) (dc : DcView) → dc ≡ with_system w.dc dc.system
     → IsKept (with_dc w (with_system w.dc dc.system)) → IsKept (with_dc w dc)

@@ -1,5 +1,5 @@
 -- Splits, merges and writes of leaves keep what holds of a node.
-use Rattle.std.proofs.Common.{◌≡◌, ℕ, Bool, true, false, refl, sym, subst}
+use Rattle.std.proofs.Common.{◌≡◌, ℕ, Bool, true, false, refl, sym, subst, inl, inr}
 use Rattle.std.specs.Prelude.{Result, Ok, Err, MatchBool, Option, Some, None}
 use Rattle.record_key.specs.declared.refusal.Refusal.{Refusal}
 use Rattle.record_key.specs.Table.{Bytes}
@@ -10,12 +10,15 @@ use Rattle.system_txn.specs.Checked.{Checks}
 use Rattle.system_txn.specs.Uses.{refused_use}
 use Rattle.system_txn.specs.SystemView.{SystemView, log_refused}
 use Rattle.system_txn.specs.Changes.{split_to, merged_to, written_to, first_large, first_pair}
-use Rattle.system_txn.specs.Gives.{Splits, Merges, SplitGives, MergeGives, TendGives, FlushGives, tending}
+use Rattle.system_txn.specs.Gives.{Splits, Merges, SplitGives, MergeGives, TendGives, FlushGives, StopsWriting, tending}
 use Rattle.system_txn.specs.declared.tended.Neighbours.{Neighbours}
 use Rattle.system_txn.specs.declared.tended.Tended.{Tended}
 use Rattle.system_txn.specs.declared.tended.Tended.TheVariants as tended
 use Rattle.system_txn.specs.Gives as gives
-use Rattle.dc_core.specs.DcView.{DcView, leaves}
+use Rattle.std.proofs.lemmas.Bool.{cases_Bool, MatchBool-at_true, MatchBool-at_false}
+use Rattle.page.specs.Leaf.{LeafView}
+use Rattle.page.specs.Tops.{is_within}
+use Rattle.dc_core.specs.DcView.{DcView, leaves, known_end}
 use Rattle.dc_core.specs.Kept.{IsDc}
 use Rattle.dc_core.specs.Serves.{with_system}
 use Rattle.dc_core.specs.Tends.{may_merge, Changes, SplitsTo, MergesTo, TendsTo, FlushesTo, IsNotNow}
@@ -57,21 +60,21 @@ keeps_refused w r v k same =
     k.sessions.begun)
 
 split_keeps : (w : NodeView) (key : Bytes) (given : Result Neighbours Refusal) (v : SystemView) → IsKept w
-    → SplitGives w.dc.system key given v → Keeps w v
-split_keeps w key (Ok pair) v k h = keeps_split w _ pair v k h
+    → SplitGives w.dc.system key known_end given v → Keeps w v
+split_keeps w key (Ok pair) v k h = keeps_split w _ pair v k h.1
 split_keeps w key (Err r) v k h = keeps_refused w r v k h.1
 
 merge_keeps : (w : NodeView) (key : Bytes) (given : Result Neighbours Refusal) (v : SystemView) → IsKept w
-    → may_merge w.dc ≡ true → MergeGives w.dc.system key given v → Keeps w v
-merge_keeps w key (Ok pair) v k let_merge h = keeps_merge w _ pair v k let_merge h
+    → may_merge w.dc ≡ true → MergeGives w.dc.system key known_end given v → Keeps w v
+merge_keeps w key (Ok pair) v k let_merge h = keeps_merge w _ pair v k let_merge h.1
 merge_keeps w key (Err r) v k let_merge h = keeps_refused w r v k h.1
 
 -- tending merges only where it is let
 tended_keeps : (w : NodeView) (what : gives.Tending) (done : Tended) (v : SystemView) → IsKept w
     → ((p : ℕ) → what ≡ gives.MergesAt p → may_merge w.dc ≡ true)
-    → gives.TendsTo w.dc.system what done v → Keeps w v
-tended_keeps w (gives.SplitsAt p) (tended.Split pair) v k merges h = keeps_split w p pair v k h
-tended_keeps w (gives.MergesAt p) (tended.Merged pair) v k merges h = keeps_merge w p pair v k (merges p refl) h
+    → gives.TendsTo known_end w.dc.system what done v → Keeps w v
+tended_keeps w (gives.SplitsAt p) (tended.Split pair) v k merges h = keeps_split w p pair v k h.1
+tended_keeps w (gives.MergesAt p) (tended.Merged pair) v k merges h = keeps_merge w p pair v k (merges p refl) h.1
 tended_keeps w gives.Rests tended.Nothing v k merges h = subst (Keeps w) (sym h) (λ is recoverable checks. k)
 tended_keeps w (gives.SplitsAt p) (tended.Merged pair) v k merges h = absurd h
 tended_keeps w (gives.SplitsAt p) tended.Nothing v k merges h = absurd h
@@ -94,31 +97,38 @@ stops_tending w (gives.MergesAt p) r v k h = keeps_refused w r v k h.1
 stops_tending w gives.Rests r v k h = absurd h
 
 tend_keeps : (w : NodeView) (given : Result Tended Refusal) (v : SystemView) → IsKept w
-    → TendGives w.dc.system (may_merge w.dc) given v → Keeps w v
+    → TendGives w.dc.system (may_merge w.dc) known_end given v → Keeps w v
 tend_keeps w (Ok done) v k h =
-    tended_keeps w (tending w.dc.system (may_merge w.dc)) done v k
-    (merges_let (first_large (leaves w.dc)) (may_merge w.dc) (first_pair (leaves w.dc))) h
-tend_keeps w (Err r) v k h = stops_tending w (tending w.dc.system (may_merge w.dc)) r v k h
+    tended_keeps w (tending w.dc.system (may_merge w.dc) known_end) done v k
+    (merges_let (first_large known_end (leaves w.dc)) (may_merge w.dc) (first_pair known_end (leaves w.dc))) h
+tend_keeps w (Err r) v k h = stops_tending w (tending w.dc.system (may_merge w.dc) known_end) r v k h
 
 flush_keeps : (w : NodeView) (key : Bytes) (given : Result ℕ Refusal) (v : SystemView) → IsKept w
-    → FlushGives w.dc.system key given v → Keeps w v
+    → FlushGives w.dc.system key known_end given v → Keeps w v
 flush_keeps w key (Ok id) v k h =
-    subst (Keeps w) (sym h.2)
-    (λ is recoverable checks. keeps_system w (written_to w.dc.system (leaf_at (leaves w.dc) key)) k None tt is recoverable
-    checks
-    (subst (LeavesCarry k.source.log (leaves w.dc)) (sym (covered_leaves w.dc.system (leaf_at (leaves w.dc) key)))
+    let leaf : LeafView = leaf_at (leaves w.dc) key in
+    subst (Keeps w) (sym h.after)
+    (λ is recoverable checks. keeps_system w (written_to w.dc.system leaf) k None tt is recoverable checks
+    (subst (LeavesCarry k.source.log (leaves w.dc)) (sym (covered_leaves w.dc.system leaf))
     (same_leaves k.source.log (leaves w.dc)))
-    (written_true w.tc k.source w.dc.system (leaf_at (leaves w.dc) key) k.true_to h.1
-    (honest_now w.tc w.dc.stored k.source k.from (leaf_at (leaves w.dc) key) (own_leaf w key k))
-    (low_now w.tc w.dc.stored k.source k.tc.within k.from (leaf_at (leaves w.dc) key) (own_low w key k)))
-    (subst (λ log. IsBegun w.tc.stable w.tc.session (stored_session log))
-    (sym (covered_log w.dc.system (leaf_at (leaves w.dc) key))) k.sessions.begun))
+    (written_true w.tc k.source w.dc.system leaf k.true_to h.fits
+    (honest_now w.tc w.dc.stored k.source k.from leaf (own_leaf w key k))
+    (low_now w.tc w.dc.stored k.source k.tc.within k.from leaf (own_low w key k)))
+    (subst (λ log. IsBegun w.tc.stable w.tc.session (stored_session log)) (sym (covered_log w.dc.system leaf))
+    k.sessions.begun))
 flush_keeps w key (Err r) v k h =
-    let stopped = stops_true w.tc k.source w.dc.system (leaf_at (leaves w.dc) key) r v k.true_to h in
-    λ is recoverable checks. keeps_system w v k None tt is recoverable checks
-    (subst (LeavesCarry k.source.log (leaves w.dc)) (sym stopped.leaves) (same_leaves k.source.log (leaves w.dc)))
-    stopped.true_to
-    (subst (λ log. IsBegun w.tc.stable w.tc.session (stored_session log)) (sym stopped.log) k.sessions.begun)
+    elim (cases_Bool (is_within known_end (leaf_at (leaves w.dc) key))) [
+      | inl within ↦ stops (MatchBool-at_true _ _ within h)
+      | inr above ↦ subst (Keeps w) (sym (MatchBool-at_false _ _ above h).1) (λ is recoverable checks. k)
+    ]
+  where
+    stops : StopsWriting w.dc.system (leaf_at (leaves w.dc) key) r v → Keeps w v
+    stops h =
+        let stopped = stops_true w.tc k.source w.dc.system (leaf_at (leaves w.dc) key) r v k.true_to h in
+        λ is recoverable checks. keeps_system w v k None tt is recoverable checks
+        (subst (LeavesCarry k.source.log (leaves w.dc)) (sym stopped.leaves) (same_leaves k.source.log (leaves w.dc)))
+        stopped.true_to
+        (subst (λ log. IsBegun w.tc.stable w.tc.session (stored_session log)) (sym stopped.log) k.sessions.begun)
 
 -- the data component's calls
 at_dc : (w : NodeView) (dc : DcView) → IsDc dc → IsRecoverable dc.system → Checks w.dc.system dc.system
@@ -137,7 +147,7 @@ pub merges_keep : (w : NodeView) (key : Bytes) (given : Result Neighbours Refusa
 merges_keep w key given dc k is h = by (may_merge w.dc) refl h
   where
     by : (b : Bool) → may_merge w.dc ≡ b
-        → MatchBool b (Changes (MergeGives w.dc.system key given) w.dc dc) (IsNotNow w.dc given dc)
+        → MatchBool b (Changes (MergeGives w.dc.system key known_end given) w.dc dc) (IsNotNow w.dc given dc)
         → IsKept (with_dc w dc)
     by true may g = at_dc w dc is (recoverable_merge w.dc key given dc k.dc k.recoverable h)
         (checked_merge w.dc key given dc k.dc k.recoverable h) g.1 (merge_keeps w key given dc.system k may g.0)

@@ -1,27 +1,60 @@
-use Rattle.std.proofs.Common.{◌∙◌, ◌<◌, length, sym, arith}
+use Rattle.std.proofs.Common.{◌≡◌, ◌∙◌, ◌-◌, ◌<◌, ℕ, suc, get_or, length, sym, ap, subst, arith}
 use Rattle.std.proofs.lemmas.List.{length-map}
-use Rattle.btree.specs.Choosing.{first_pair}
+use Rattle.page.specs.Leaf.{first}
+use Rattle.btree.specs.Choosing.{first_pair, are_due}
 use Rattle.btree.specs.Lists.{leaf_of, leaves_in}
-use Rattle.btree.proofs.Firsts.{from_start, pair_here, pair_later, pair_nowhere}
+use Rattle.btree.proofs.Firsts.{FromPlace, from_start, pair_here, pair_later, pair_nowhere}
+use Rattle.btree.proofs.Places.{in_box}
 use Rattle.btree.proofs.choosing.pair_in.Goals as goal
+use Rattle.btree.proofs.choosing.pair_in.Goals.{After-are_due}
 
-pub loop-place-init : goal.loop-place-init
-loop-place-init c = from_start (first_pair (leaves_in c.args.leaves.now))
+pub loop-next-init : goal.loop-next-init
+loop-next-init c = λ p next.
+    let none : 0 ≡ p = omega (arith, next) in
+    subst (λ (q : ℕ). FromPlace (first_pair c.args.known) (leaves_in c.args.leaves.now) q) none
+    (from_start (first_pair c.args.known (leaves_in c.args.leaves.now)))
 
-pub loop-place-preserved : goal.loop-place-preserved
-loop-place-preserved c =
-    let leaves = leaves_in c.args.leaves.now in
-    let there : c.loop-place.place < length leaves =
-    omega (arith, c.loop-place-test.true, length-map c.args.leaves.now leaf_of) in
-    pair_later leaves c.loop-place.place there
-    (sym c.may_join_next.ensures ∙ c.if-may_join_next.false) c.loop-place.invariant
+module _ (c : After-are_due) where
+  abbrev p : ℕ
+  p = c.loop-next.next - 1
 
-pub returns-then-may_join_next : goal.returns-then-may_join_next
-returns-then-may_join_next c =
-    sym (pair_here (leaves_in c.args.leaves.now) c.loop-place.place
-    (sym c.may_join_next.ensures ∙ c.if-may_join_next.true) c.loop-place.invariant)
+  next : suc p ≡ c.loop-next.next
+  next = omega (arith, c.loop-next.auto.next)
+
+  within : suc p < length (leaves_in c.args.leaves.now)
+  within = omega (arith, next, c.loop-next-test.true, length-map c.args.leaves.now leaf_of)
+
+  -- what is asked of the leaf before the next one, and of that
+  asked : are_due c.args.known (get_or (leaves_in c.args.leaves.now) p first)
+      (get_or (leaves_in c.args.leaves.now) (suc p) first)
+      ≡ c.are_due.result
+  asked =
+      let boxes = c.args.leaves.now in
+      let left = in_box boxes p c.index-leaves-next.result (omega (arith, next, c.loop-next-test.true))
+      c.index-leaves-next.is ∙ sym c.deref.ensures in
+      let right =
+      ap (λ (q : ℕ). get_or (leaves_in boxes) q first) next
+      ∙ in_box boxes c.loop-next.next c.index-leaves-next-in-loop-next.result c.loop-next-test.true
+      c.index-leaves-next-in-loop-next.is ∙ sym c.deref-in-loop-next.ensures in
+      (λ i. are_due c.args.known (left i) (right i)) ∙ sym c.are_due.ensures
+
+pub loop-next-preserved : goal.loop-next-preserved
+loop-next-preserved c = λ q more.
+    let same : suc (p c.before) ≡ q = omega (arith, more, next c.before) in
+    subst (λ (n : ℕ). FromPlace (first_pair c.args.known) (leaves_in c.args.leaves.now) n) same
+    (pair_later c.args.known (leaves_in c.args.leaves.now) (p c.before) (within c.before)
+    (asked c.before ∙ c.if-are_due.false)
+    (c.loop-next.invariant (p c.before) (next c.before)))
+
+pub returns-then-are_due : goal.returns-then-are_due
+returns-then-are_due c =
+    sym (pair_here c.args.known (leaves_in c.args.leaves.now) (p c.before) (within c.before)
+    (asked c.before ∙ c.if-are_due.true)
+    (c.loop-next.invariant (p c.before) (next c.before)))
 
 pub returns : goal.returns
 returns c =
-    pair_nowhere (leaves_in c.args.leaves.now) c.loop-place.place
-    (omega (arith, c.loop-place-test.false, length-map c.args.leaves.now leaf_of)) c.loop-place.invariant
+    let before : suc (c.loop-next.next - 1) ≡ c.loop-next.next = omega (arith, c.loop-next.auto.next) in
+    pair_nowhere c.args.known (leaves_in c.args.leaves.now) (c.loop-next.next - 1)
+    (omega (arith, before, c.loop-next-test.false, length-map c.args.leaves.now leaf_of))
+    (c.loop-next.invariant (c.loop-next.next - 1) before)

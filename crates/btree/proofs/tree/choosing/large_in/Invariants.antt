@@ -6,7 +6,7 @@ use Rattle.btree.proofs.tree.choosing.large_in.Given as goal
 -- the first large leaf lies below the nodes from the i-th on
 abbrev pub invariant-loop-before : goal.invariant-loop-before
 invariant-loop-before l =
-    (l.i < length l.nodes) × (l.before ≡ length (under (take l.i l.nodes))) × LargeFrom l.nodes l.i l.before
+    (l.i < length l.nodes) × (l.before ≡ length (under (take l.i l.nodes))) × LargeFrom l.known l.nodes l.i l.before
 
 abbrev pub decreases-loop-before : goal.decreases-loop-before
 decreases-loop-before l = length l.nodes - l.i

@@ -1,12 +1,11 @@
-use Rattle.std.proofs.Common.{◌≡◌, ◌+◌, ◌<◌, suc, get_or, length, sym, ap, ◌∙◌, arith, add-one, ℕ}
-use Rattle.std.proofs.lemmas.Bool.{not-true, not-false}
-use Rattle.btree.specs.Choosing.{count_first, count_last}
+use Rattle.std.specs.Option.{is_some}
+use Rattle.std.proofs.Common.{List, ◌≡◌, ◌+◌, ◌<◌, suc, get_or, length, sym, ap, ◌∙◌, arith, add-one, ℕ}
+use Rattle.btree.specs.Choosing.{first_pair, is_reached, pair_top, extent_first, extent_last}
 use Rattle.btree.specs.Nodes.{NodeView, nothing}
-use Rattle.btree.specs.Parting.{are_few}
-use Rattle.btree.proofs.FirstBelow.{stands, pair_asked, pair_not_last, pair_next, pair_here_node, pair_met_node}
+use Rattle.btree.proofs.FirstBelow.{stands, pair_not_last, pair_next, pair_here_node, pair_met_node}
 use Rattle.btree.proofs.Under.{count_more, count_parts}
 use Rattle.btree.proofs.tree.choosing.pair_in.Goals as goal
-use Rattle.btree.proofs.tree.choosing.pair_in.Goals.{After-count-before}
+use Rattle.btree.proofs.tree.choosing.pair_in.Goals.{After-count-before, After-has_pair}
 
 taken : (c : After-count-before)
     → c.count-before.result ≡ length (get_or c.args.nodes.now c.loop-before.i nothing).leaves
@@ -14,11 +13,20 @@ taken c = c.count-before.ensures
     ∙ ap (λ (n : NodeView). length n.leaves)
     (stands _ _ _ c.loop-before.invariant.0 c.index-nodes-i-in-loop-before-3.is)
 
-met : (ns : Rattle.std.proofs.Common.List NodeView) (i : ℕ) (x y : NodeView) → i < length ns → i + 1 < length ns
+-- what is asked of the node at the place
+asked : (c : After-has_pair)
+    → is_some (first_pair c.args.known (get_or c.args.nodes.now c.loop-before.i nothing).leaves) ≡ c.has_pair.result
+asked c =
+    ap (λ (n : NodeView). is_some (first_pair c.args.known n.leaves))
+    (sym (stands _ _ _ c.loop-before.invariant.0 c.index-nodes-i.is))
+    ∙ sym c.has_pair.ensures
+
+met : (known : ℕ) (ns : List NodeView) (i : ℕ) (x y : NodeView) → i < length ns → i + 1 < length ns
     → x ≡ get_or ns i x → y ≡ get_or ns (i + 1) y
-    → are_few (count_last (get_or ns i nothing).leaves) (count_first (get_or ns (suc i) nothing).leaves) ≡ are_few
-    (count_last x.leaves) (count_first y.leaves)
-met ns i x y within next here there = rw (stands ns i x within here, stands ns (i + 1) y next there, add-one)
+    → is_reached known
+    (pair_top (extent_last (get_or ns i nothing).leaves) (extent_first (get_or ns (suc i) nothing).leaves))
+    ≡ is_reached known (pair_top (extent_last x.leaves) (extent_first y.leaves))
+met known ns i x y within next here there = rw (stands ns i x within here, stands ns (i + 1) y next there, add-one)
 
 pub overflow_add-before : goal.overflow_add-before
 overflow_add-before c =
@@ -36,14 +44,13 @@ loop-before-preserved c =
     let i = c.loop-before.i in
     let before = c.loop-before.before in
     let within = c.loop-before.invariant.0 in
-    let none = pair_asked ns i c.index-nodes-i.result c.summary.result _ within c.index-nodes-i.is c.summary.ensures
-    (not-true c.summary.result.pair c.loop-before-test.true) in
-    let less = pair_not_last ns i before within _ c.requires.children c.loop-before.invariant.2 c.requires.some none in
+    let none = asked c.before.before.before.before.before.before.before ∙ c.loop-before-test.true in
+    let less = pair_not_last c.args.known ns i before within _ c.requires.children c.loop-before.invariant.2 c.requires.some none in
     let apart =
-    met ns i c.index-nodes-i-in-loop-before.result c.index-nodes-i-in-loop-before-2.result within
+    met c.args.known ns i c.index-nodes-i-in-loop-before.result c.index-nodes-i-in-loop-before-2.result within
     (omega (arith, less)) c.index-nodes-i-in-loop-before.is c.index-nodes-i-in-loop-before-2.is ∙ sym c.meet.ensures
     ∙ c.if-not-meet.true in
-    let later = pair_next ns i before within _ c.requires.children c.loop-before.invariant.2 less none apart in
+    let later = pair_next c.args.known ns i before within _ c.requires.children c.loop-before.invariant.2 less none apart in
     rw (add-one, taken c) (less, omega (arith, count_more ns i nothing within, c.loop-before.invariant.1), later)
 
 pub returns-else-not-meet : goal.returns-else-not-meet
@@ -52,18 +59,15 @@ returns-else-not-meet c =
     let i = c.loop-before.i in
     let before = c.loop-before.before in
     let within = c.loop-before.invariant.0 in
-    let none = pair_asked ns i c.index-nodes-i.result c.summary.result _ within c.index-nodes-i.is c.summary.ensures
-    (not-true c.summary.result.pair c.loop-before-test.true) in
-    let less = pair_not_last ns i before within _ c.requires.children c.loop-before.invariant.2 c.requires.some none in
-    let few = met ns i c.index-nodes-i-in-loop-before.result c.index-nodes-i-in-loop-before-2.result within
+    let none = asked c.before.before.before.before.before ∙ c.loop-before-test.true in
+    let less = pair_not_last c.args.known ns i before within _ c.requires.children c.loop-before.invariant.2 c.requires.some none in
+    let few = met c.args.known ns i c.index-nodes-i-in-loop-before.result c.index-nodes-i-in-loop-before-2.result within
     (omega (arith, less)) c.index-nodes-i-in-loop-before.is c.index-nodes-i-in-loop-before-2.is ∙ sym c.meet.ensures
     ∙ c.if-not-meet.false in
-    pair_met_node ns i before within _ c.requires.children c.loop-before.invariant.2 less few
+    pair_met_node c.args.known ns i before within _ c.requires.children c.loop-before.invariant.2 less few
 
 pub returns-after-loop-before : goal.returns-after-loop-before
 returns-after-loop-before c =
-    let ns = c.args.nodes.now in
-    let within = c.loop-before.invariant.0 in
-    pair_here_node ns c.loop-before.i c.loop-before.before within _ c.requires.children c.loop-before.invariant.2
-    (pair_asked ns c.loop-before.i c.index-nodes-i.result c.summary.result _ within c.index-nodes-i.is c.summary.ensures
-    (not-false c.summary.result.pair c.loop-before-test.false))
+    pair_here_node c.args.known c.args.nodes.now c.loop-before.i c.loop-before.before c.loop-before.invariant.0 _
+    c.requires.children c.loop-before.invariant.2
+    (asked c.before ∙ c.loop-before-test.false)

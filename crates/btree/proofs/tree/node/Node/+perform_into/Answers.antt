@@ -84,6 +84,17 @@ after_same t c =
     c.index_mut.ensures.value c.perform_into.ensures.asked refl refl
     (c.perform_into.ensures.same c.if-not-perform_into.true)
 
+-- the children are whole still
+pub summary_in-requires : goal.summary_in-requires
+summary_in-requires t c =
+    rw c.as_slice-in-Inner.ensures.value
+    (inner_asked _ _ _ _ c.in-Inner.children (with_item c.in-Inner.children c.node_of-i.result c.perform_into.new.self)
+    c.node_of-i.result c.index_mut.result.now c.perform_into.new.self c.args.number c.args.op.now
+    c.perform_into.new.done
+    (subst (IsNode c.self.inside.low c.self.inside.count c.self.inside.summary) c.in-Inner.is c.self.invariant)
+    (rw (c.as_slice.ensures.value, c.key.ensures) at c.node_of-i.ensures)
+    c.index_mut.ensures.value c.perform_into.ensures.asked refl refl refl).kept.under_it.children
+
 -- and where it is another
 after_renewed : (t : ℕ) (c : After-renew-in-Inner t)
     → IsAfter c.self.inside.low c.self.inside.count c.renew-in-Inner.new.self c.in-Inner.children

@@ -1,13 +1,15 @@
-use Rattle.std.proofs.Common.{◌≡◌, ◌<◌, ◌+◌, ℕ, List, length, get_or, set, refl, ap, ◌∙◌, subst, arith, add-one}
+use Rattle.std.proofs.Common.{◌≡◌, ◌<◌, ◌+◌, ℕ, List, [], ◌∷◌, length, get_or, set, refl, sym, ap, ◌∙◌, subst, arith, add-one}
 use Rattle.std.specs.Box.{with_value}
 use Rattle.std.proofs.lemmas.List.{length-set, get_or-set_other}
 use Rattle.page.specs.Leaf.{LeafView, raised_to}
-use Rattle.btree.specs.Nodes.{NodeView, raised_node}
-use Rattle.btree.specs.Below.{IsNode}
+use Rattle.btree.specs.Choosing.{summary_of}
+use Rattle.btree.specs.Nodes.{NodeView, raised_node, under}
+use Rattle.btree.specs.declared.tree.node.Below.TheVariants.{Leaf, Inner}
+use Rattle.btree.specs.declared.tree.summary.Summary.{Summary}
+use Rattle.btree.specs.Below.{seen, IsNode}
 use Rattle.btree.proofs.Raised.{IsRaised, leaf_raised, inner_raised}
 use Rattle.btree.proofs.Raising.{each_below, each_all, each_next}
 use Rattle.btree.proofs.tree.node.Node.+raise.Goals as goal
-use Rattle.btree.proofs.tree.node.Node.+raise.Goals.{in-Leaf, in-Inner+else-loop-i-test}
 
 pub loop-i-init : goal.loop-i-init
 loop-i-init t c = (refl, refl, (refl, λ k d le. refl))
@@ -34,34 +36,48 @@ loop-i-preserved t c =
       ),
     )
 
--- what the call leaves
-after : (t : ℕ) (c : goal.Joined-self t)
-    → IsRaised c.args.low c.match-self.self-inside.low c.match-self.self-inside.count c.match-self.self-inside.summary
-    c.self.inside.below c.match-self.self-inside.below
-after t c =
-    let low = c.self.inside.low in
-    let count = c.self.inside.count in
-    let summary = c.self.inside.summary in
-    elim c.match-self.branch [
-      | in-Leaf w ↦
-          let kept = subst (IsNode low count summary) w.in-Leaf.is c.self.invariant in
-          let is = w.raise.ensures ∙ ap (λ (leaf : LeafView). raised_to leaf c.args.low) w.deref_mut.ensures.value in
-          rw (w.self-inside-is, w.in-Leaf.is)
-          (leaf_raised c.args.low low count summary w.in-Leaf.leaf (with_value w.in-Leaf.leaf w.raise.new.self) kept
-          is)
-      | in-Inner+else-loop-i-test w ↦
-          let xs = w.in-Inner.children in
-          let kept = subst (IsNode low count summary) w.in-Inner.is c.self.invariant in
-          let end : w.loop-i.i ≡ length xs.items =
-          omega (arith, w.loop-i-test.false, w.loop-i.auto.i-end, w.len-i-end.ensures) in
-          let all = w.loop-i.invariant.0 ∙ ap (λ (i : ℕ). each_below (raised_node c.args.low) i xs.items) end
-          ∙ each_all (raised_node c.args.low) xs.items in
-          rw (w.self-inside-is, w.in-Inner.is)
-          (inner_raised c.args.low low count summary xs w.loop-i.children kept all w.loop-i.invariant.1)
-    ]
+-- what the call leaves where there are nodes below
+raised : (t : ℕ) (c : goal.After-as_slice t) (summary : Summary) → summary ≡ summary_of (under c.loop-i.children.items)
+    → IsRaised c.args.low c.self.inside.low c.self.inside.count summary (Inner c.in-Inner.children)
+    (Inner c.loop-i.children)
+raised t c summary summed =
+    let xs = c.in-Inner.children in
+    let kept = subst (IsNode c.self.inside.low c.self.inside.count c.self.inside.summary) c.in-Inner.is
+    c.self.invariant in
+    let end : c.loop-i.i ≡ length xs.items =
+    omega (arith, c.loop-i-test.false, c.loop-i.auto.i-end, c.len-i-end.ensures) in
+    let all = c.loop-i.invariant.0 ∙ ap (λ (i : ℕ). each_below (raised_node c.args.low) i xs.items) end
+    ∙ each_all (raised_node c.args.low) xs.items in
+    inner_raised c.args.low c.self.inside.low c.self.inside.count c.self.inside.summary summary xs c.loop-i.children kept
+    all c.loop-i.invariant.1 summed
+
+pub summary_in-self-inside-requires : goal.summary_in-self-inside-requires
+summary_in-self-inside-requires t c = rw c.as_slice.ensures.value (raised t c _ refl).kept.under_it.children
+
+pub invariant_of-self-in-Inner : goal.invariant_of-self-in-Inner
+invariant_of-self-in-Inner t c =
+    (raised t c.before.before c.summary_in-self-inside.result
+    (c.summary_in-self-inside.ensures ∙ ap (λ ns. summary_of (under ns)) c.as_slice.ensures.value)).kept
+
+-- and where there is a leaf
+leaf_after : (t : ℕ) (c : goal.After-self-in-Leaf-1 t)
+    → IsRaised c.args.low c.self.inside.low c.self.inside.count c.of_leaf-self-inside.result (Leaf c.in-Leaf.leaf)
+    (Leaf (with_value c.in-Leaf.leaf c.raise.new.self))
+leaf_after t c =
+    leaf_raised c.args.low c.self.inside.low c.self.inside.count c.self.inside.summary c.of_leaf-self-inside.result
+    c.in-Leaf.leaf (with_value c.in-Leaf.leaf c.raise.new.self)
+    (subst (IsNode c.self.inside.low c.self.inside.count c.self.inside.summary) c.in-Leaf.is c.self.invariant)
+    (c.raise.ensures ∙ ap (λ (leaf : LeafView). raised_to leaf c.args.low) c.deref_mut.ensures.value)
+    (c.of_leaf-self-inside.ensures ∙ ap (λ (leaf : LeafView). summary_of (leaf ∷ [])) c.deref.ensures)
 
 pub invariant_of-self : goal.invariant_of-self
-invariant_of-self t c = (after t c).kept
+invariant_of-self t c = (leaf_after t c).kept
 
-pub returns : goal.returns
-returns t c = (after t c).raised ∙ ap (raised_node c.args.low) c.self.view_is
+pub returns-in-Leaf : goal.returns-in-Leaf
+returns-in-Leaf t c =
+    (leaf_after t c).raised ∙ ap (raised_node c.args.low) (ap seen (sym c.in-Leaf.is) ∙ c.self.view_is)
+
+pub returns-after-loop-i : goal.returns-after-loop-i
+returns-after-loop-i t c =
+    (raised t c.before.before _ refl).raised
+    ∙ ap (raised_node c.args.low) (ap seen (sym c.in-Inner.is) ∙ c.self.view_is)

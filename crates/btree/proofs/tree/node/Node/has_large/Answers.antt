@@ -1,0 +1,11 @@
+use Rattle.std.proofs.Common.{◌∙◌, sym, ap}
+use Rattle.btree.specs.Choosing.{is_reached}
+use Rattle.btree.specs.declared.tree.summary.Summary.{Summary}
+use Rattle.btree.proofs.Summed.{tells_large}
+use Rattle.btree.proofs.tree.node.Node.has_large.Goals as goal
+
+pub returns : goal.returns
+returns c =
+    c.is_reached.ensures
+    ∙ ap (λ (s : Summary). is_reached c.args.known s.large) c.summary.ensures
+    ∙ sym (tells_large c.args.known c.args.self.now.leaves)
