@@ -108,25 +108,32 @@ may_want true r h = inr (inl h)
 may_want false r (inl h) = inl h
 may_want false r (inr h) = inr (inr h)
 
-stopped_want : (dc : DcView) (q : Request) (r : Refusal) (new : DcView) → StopsServing dc q r new → IsWant r
-stopped_want dc (asks.Connect s) r new h = elim h.1 [
+-- a node that settles asks for no checkpoint, which may have to wait
+abbrev IsNoCheckpoint : Request → Type 0
+IsNoCheckpoint (asks.Checkpoint s l) = ⊥
+IsNoCheckpoint _ = Unit {0}
+
+no_checkpoint : (s n : ℕ) (q : Span) → IsNoCheckpoint (read_request s n q)
+no_checkpoint s n (Key k) = tt
+no_checkpoint s n (Range low high) = tt
+
+stopped_want : (dc : DcView) (q : Request) (r : Refusal) (new : DcView) → IsNoCheckpoint q → StopsServing dc q r new
+    → IsWant r
+stopped_want dc (asks.Connect s) r new none h = elim h.1 [
   | inl append ↦ may_want (is_spent (length dc.system.log)) r append.0
   | inr force ↦ inr (inr force.1)
 ]
-stopped_want dc (asks.Perform s n o) r new h = inl h.1.0
-stopped_want dc (asks.Get s n k) r new h = absurd h
-stopped_want dc (asks.Scan s n low high) r new h = inl h.0
-stopped_want dc (asks.LowWater s l) r new h = absurd h
-stopped_want dc (asks.Checkpoint s l) r new h = elim h.0 [
-  | inl memory ↦ inl memory.0
-  | inr later ↦ inr (inr later.0)
-]
-stopped_want dc (asks.RedoEnd s) r new h = absurd h
+stopped_want dc (asks.Perform s n o) r new none h = inl h.1.0
+stopped_want dc (asks.Get s n k) r new none h = absurd h
+stopped_want dc (asks.Scan s n low high) r new none h = inl h.0
+stopped_want dc (asks.LowWater s l) r new none h = absurd h
+stopped_want dc (asks.Checkpoint s l) r new none h = absurd none
+stopped_want dc (asks.RedoEnd s) r new none h = absurd h
 
 unserved_want : (x : Option Refusal) (dc : DcView) (q : Request) (r : Refusal) (new : DcView) → x ≡ None
-    → StopsUnless x dc q r new → IsWant r
-unserved_want None dc q r new e h = stopped_want dc q r new h
-unserved_want (Some cause) dc q r new e h = absurd (cc)
+    → IsNoCheckpoint q → StopsUnless x dc q r new → IsWant r
+unserved_want None dc q r new e none h = stopped_want dc q r new none h
+unserved_want (Some cause) dc q r new e none h = absurd (cc)
 
 -- after a request was sent
 later_session : (w : NodeView) → IsKept w → w.dc.stored < length w.tc.log + 1
@@ -141,7 +148,7 @@ stops_connect w r k (inr (inl h)) =
 stops_connect w r k (inr (inr (inl h))) =
     connect_causes (λ x. StopsUnless x w.dc (asks.Connect (length w.tc.log + 1)) r h.0 → IsWant r) w.dc
     (length w.tc.log + 1) (later_session w k)
-    (stopped_want w.dc (asks.Connect (length w.tc.log + 1)) r h.0) (λ spent. inr (inl spent.0)) h.1
+    (stopped_want w.dc (asks.Connect (length w.tc.log + 1)) r h.0 tt) (λ spent. inr (inl spent.0)) h.1
 stops_connect w r k (inr (inr (inr h))) =
     let reply : h.1 ≡ says.Connected (length w.tc.log + 1) =
     some_reply h.1 (says.Connected (length w.tc.log + 1)) h.3.0 in
@@ -155,7 +162,7 @@ stops_perform w tc n o r k session same some requests (inr (inl h)) =
     no_room (session_refusal w.dc w.tc.session) true r (serves_session w.dc w.tc.session same some) h
 stops_perform w tc n o r k session same some requests (inr (inr (inl h))) =
     unserved_want (session_refusal w.dc w.tc.session) w.dc (asks.Perform w.tc.session n o) r h.0
-    (serves_session w.dc w.tc.session same some) h.1
+    (serves_session w.dc w.tc.session same some) tt h.1
 stops_perform w tc n o r k session same some requests (inr (inr (inr h))) =
     let sound = sound_reply w w.tc.session n o h.1 h.0 k requests h.3 in
     reply_want tc h.1 r h.2 (ap session_of sound.reply_is ∙ sym session) (omega (arith, some, session)) h.4
@@ -168,7 +175,7 @@ stops_redo_end w tc r session same some (inr (inl h)) =
     no_room (session_refusal w.dc w.tc.session) true r (serves_session w.dc w.tc.session same some) h
 stops_redo_end w tc r session same some (inr (inr (inl h))) =
     unserved_want (session_refusal w.dc w.tc.session) w.dc (asks.RedoEnd w.tc.session) r h.0
-    (serves_session w.dc w.tc.session same some) h.1
+    (serves_session w.dc w.tc.session same some) tt h.1
 stops_redo_end w tc r session same some (inr (inr (inr h))) =
     let reply : h.1 ≡ says.RedoEnded w.tc.session = some_reply h.1 (says.RedoEnded w.tc.session) h.3.0 in
     reply_want tc h.1 r h.2 (ap session_of reply ∙ sym session) (omega (arith, some, session)) h.4
@@ -200,7 +207,7 @@ stops_read w n q r k serving some (inr (inl h)) =
     (read_allowed w n q k serving some) h
 stops_read w n q r k serving some (inr (inr (inl h))) =
     unserved_want (serve_refusal w.dc (read_request w.tc.session n q)) w.dc (read_request w.tc.session n q) r h.0
-    (read_allowed w n q k serving some) h.1
+    (read_allowed w n q k serving some) (no_checkpoint w.tc.session n q) h.1
 stops_read w n q r k serving some (inr (inr (inr h))) =
     reply_want w.tc h.1 r h.2 (read_session w.tc.session n q h.1 (read_reply w.tc.session n q w.dc h.0 h.1 h.3)) some
     h.4
