@@ -8,6 +8,7 @@ use Rattle.record_key.specs.declared.op.Op.{Op}
 use Rattle.record_key.specs.declared.entry.Entry.{Entry}
 use Rattle.record_key.specs.Entries.{RiseAbove}
 use Rattle.record_key.specs.Table.{Bytes, Table, key_of, is_add, answer_at, value_after, after}
+use Rattle.record_key.proofs.Lists.{all_from}
 use Rattle.record_key.proofs.Tables.{is_same, is_same-true, get-with_record_same, get-with_record_other}
 use Rattle.inverse.specs.Inverse.{undo_of}
 use Rattle.ab_lsn.proofs.Rising.{filtered_rises}
@@ -23,11 +24,6 @@ after_here R o k on =
 
 after_off : (R : Table) (o : Op) (k : Bytes) → (key_of o ≡ k → ⊥) → get (after R o) k ≡ get R k
 after_off R o k off = get-with_record_other R (key_of o) k (value_after o (get R (key_of o))) (λ e. off (sym e))
-
-map_all : {A : Type 0} (P Q : A → Type 0) → ((x : A) → P x → Q x) → (xs : List A) → AllByRecursion P xs
-    → AllByRecursion Q xs
-map_all P Q each [] all = tt
-map_all P Q each (x ∷ xs) all = (each x all.0, map_all P Q each xs all.1)
 
 -- an entry of an older one that isn't below it is an Add's, and so is it
 listed_adds : (opened : Table) (k : Bytes) (p : Performance) (ps : List Performance) (e : Entry) → e.key ≡ k
@@ -89,7 +85,7 @@ module _ (opened : Table) (k : Bytes) (end : ℕ) (p : Performance) (ps : List P
 
   -- where no entry is its own
   rest_listed : (key_of p.op ≡ k → end < p.number → ⊥) → AllCounted k end (IsListed ps) es
-  rest_listed none = map_all (λ (e : Entry). e.key ≡ k → end < e.number → IsListed (p ∷ ps) e)
+  rest_listed none = all_from (λ (e : Entry). e.key ≡ k → end < e.number → IsListed (p ∷ ps) e)
       (λ (e : Entry). e.key ≡ k → end < e.number → IsListed ps e)
       (λ e h on over. elim (h on over) [
         | inl here ↦ let number = here.number in absurd (none (here.key ∙ on) (omega (arith, number, over)))
@@ -111,7 +107,7 @@ module _ (opened : Table) (k : Bytes) (end : ℕ) (p : Performance) (ps : List P
         → back_on k end es (get (replayed opened (p ∷ ps)) k) ≡ get (replayed opened (kept end (p ∷ ps))) k
     within_step le rest =
         let pass : AllCounted k end (PassesBy k (Some p.op)) es =
-        map_all (λ (e : Entry). e.key ≡ k → end < e.number → IsListed ps e)
+        all_from (λ (e : Entry). e.key ≡ k → end < e.number → IsListed ps e)
         (λ (e : Entry). e.key ≡ k → end < e.number → PassesBy k (Some p.op) e)
         (λ e h at over. listed_adds opened k p ps e at (omega (arith, le, over)) answered.1 (falls.0 on) (h at over)) es
         (rest_listed (λ _ over. omega (arith, le, over))) in
@@ -139,7 +135,7 @@ module _ (opened : Table) (k : Bytes) (end : ℕ) (p : Performance) (ps : List P
         → back_on k end es (get (replayed opened (p ∷ ps)) k) ≡ get (replayed opened (kept end (p ∷ ps))) k
     over_step l over rising has rest =
         let pass : AllCounted k end (λ e. p.number < e.number → PassesBy k (undo_of k p.answer) e) es =
-        map_all (λ (e : Entry). e.key ≡ k → end < e.number → IsListed (p ∷ ps) e)
+        all_from (λ (e : Entry). e.key ≡ k → end < e.number → IsListed (p ∷ ps) e)
         (λ (e : Entry). e.key ≡ k → end < e.number → p.number < e.number → PassesBy k (undo_of k p.answer) e)
         (λ e h at above more. elim (h at above) [
           | inl here ↦ let number = here.number in absurd (omega (arith, number, more))
