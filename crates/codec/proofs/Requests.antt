@@ -16,9 +16,11 @@ use Rattle.codec.proofs.Readers.{IsReader, both, made_again, choice, one_of_take
 use Rattle.codec.proofs.Lists.{numbers_read}
 use Rattle.codec.proofs.Fields.{length-number, numbers_length, number_reads, optional_reads, key_reads, op_reads, op_length}
 
-perform_reads : IsReader (ℕ × (ℕ × Op)) (λ p. number p.0 ++ (number p.1.0 ++ op_bytes p.1.1))
-    (λ p. IsNumber p.0 × (IsNumber p.1.0 × IsOp p.1.1)) (pair number_at (pair number_at op_at))
-perform_reads = both number_reads (both number_reads op_reads)
+perform_reads : IsReader (ℕ × (ℕ × (ℕ × Op)))
+    (λ p. number p.0 ++ (number p.1.0 ++ (number p.1.1.0 ++ op_bytes p.1.1.1)))
+    (λ p. IsNumber p.0 × (IsNumber p.1.0 × (IsNumber p.1.1.0 × IsOp p.1.1.1)))
+    (pair number_at (pair number_at (pair number_at op_at)))
+perform_reads = both number_reads (both number_reads (both number_reads op_reads))
 
 get_reads : IsReader (ℕ × (ℕ × Bytes)) (λ p. number p.0 ++ (number p.1.0 ++ text p.1.1))
     (λ p. IsNumber p.0 × (IsNumber p.1.0 × IsKey p.1.1)) (pair number_at (pair number_at key_at))
@@ -32,9 +34,10 @@ scan_reads = both number_reads (both number_reads (both key_reads (optional_read
 
 request_again : (r : Request) (rest : List ℕ) → IsRequest r → request_at (request_bytes r ++ rest) ≡ Some (r, rest)
 unfolding request_bytes request_at
-request_again (is.Connect session) rest fits = made_again number_reads (λ n. is.Connect n) session rest fits
-request_again (is.Perform session n o) rest fits =
-    made_again perform_reads (λ p. is.Perform p.0 p.1.0 p.1.1) (session, (n, o)) rest fits
+request_again (is.Connect session end) rest fits =
+    made_again numbers_read (λ p. is.Connect p.0 p.1) (session, end) rest fits
+request_again (is.Perform session n stable o) rest fits =
+    made_again perform_reads (λ p. is.Perform p.0 p.1.0 p.1.1.0 p.1.1.1) (session, (n, (stable, o))) rest fits
 request_again (is.Get session read key) rest fits =
     made_again get_reads (λ p. is.Get p.0 p.1.0 p.1.1) (session, (read, key)) rest fits
 request_again (is.Scan session read low high) rest fits =
@@ -44,13 +47,18 @@ request_again (is.LowWater session low) rest fits =
 request_again (is.Checkpoint session low) rest fits =
     made_again numbers_read (λ p. is.Checkpoint p.0 p.1) (session, low) rest fits
 request_again (is.RedoEnd session) rest fits = made_again number_reads (λ n. is.RedoEnd n) session rest fits
+request_again (is.StableEnd session stable) rest fits =
+    made_again numbers_read (λ p. is.StableEnd p.0 p.1) (session, stable) rest fits
 
 pub request_reads : IsReader Request request_bytes IsRequest request_at
 unfolding request_bytes request_at
 request_reads = record {
   takes = one_of_takes Request request_bytes IsRequest
-      ((1, mapped (λ n. is.Connect n) number_at)
-      ∷ (2, mapped (λ p. is.Perform p.0 p.1.0 p.1.1) (pair number_at (pair number_at op_at)))
+      ((1, mapped (λ p. is.Connect p.0 p.1) (pair number_at number_at))
+      ∷ (
+        2,
+        mapped (λ p. is.Perform p.0 p.1.0 p.1.1.0 p.1.1.1) (pair number_at (pair number_at (pair number_at op_at))),
+      )
       ∷ (3, mapped (λ p. is.Get p.0 p.1.0 p.1.1) (pair number_at (pair number_at key_at)))
       ∷ (
         4,
@@ -59,11 +67,12 @@ request_reads = record {
       )
       ∷ (5, mapped (λ p. is.LowWater p.0 p.1) (pair number_at number_at))
       ∷ (6, mapped (λ p. is.Checkpoint p.0 p.1) (pair number_at number_at)) ∷ (7, mapped (λ n. is.RedoEnd n) number_at)
+      ∷ (8, mapped (λ p. is.StableEnd p.0 p.1) (pair number_at number_at))
       ∷ []) (
-        choice number_reads Request request_bytes IsRequest 1 (λ n. is.Connect n) (λ n. refl) (λ n has. has),
+        choice numbers_read Request request_bytes IsRequest 1 (λ p. is.Connect p.0 p.1) (λ p. refl) (λ p has. has),
         (
-          choice perform_reads Request request_bytes IsRequest 2 (λ p. is.Perform p.0 p.1.0 p.1.1) (λ p. refl)
-              (λ p has. has),
+          choice perform_reads Request request_bytes IsRequest 2 (λ p. is.Perform p.0 p.1.0 p.1.1.0 p.1.1.1)
+              (λ p. refl) (λ p has. has),
           (
             choice get_reads Request request_bytes IsRequest 3 (λ p. is.Get p.0 p.1.0 p.1.1) (λ p. refl) (λ p has. has),
             (
@@ -78,7 +87,11 @@ request_reads = record {
                   (
                     choice number_reads Request request_bytes IsRequest 7 (λ n. is.RedoEnd n) (λ n. refl)
                         (λ n has. has),
-                    tt,
+                    (
+                      choice numbers_read Request request_bytes IsRequest 8 (λ p. is.StableEnd p.0 p.1) (λ p. refl)
+                          (λ p has. has),
+                      tt,
+                    ),
                   ),
                 ),
               ),
@@ -98,11 +111,13 @@ optional_key_length (Some key) fits = omega (arith, fits.1)
 
 request_length : (r : Request) → IsRequest r → IsBody (request_bytes r)
 unfolding request_bytes
-request_length (is.Connect session) fits = let len = length-number session in (omega arith, omega arith)
-request_length (is.Perform session n o) fits =
-    let len = numbers_length session (number n ++ op_bytes o) in
-    let len2 = numbers_length n (op_bytes o) in
-    let most = op_length o fits.1.1 in
+request_length (is.Connect session end) fits = let len = numbers_length session (number end) in let len2 =
+    length-number end in (omega arith, omega arith)
+request_length (is.Perform session n stable o) fits =
+    let len = numbers_length session (number n ++ (number stable ++ op_bytes o)) in
+    let len2 = numbers_length n (number stable ++ op_bytes o) in
+    let len3 = numbers_length stable (op_bytes o) in
+    let most = op_length o fits.1.1.1 in
     (omega arith, omega arith)
 request_length (is.Get session read key) fits =
     let len = numbers_length session (number read ++ text key) in
@@ -121,6 +136,8 @@ request_length (is.LowWater session low) fits = let len = numbers_length session
 request_length (is.Checkpoint session low) fits = let len = numbers_length session (number low) in let len2 =
     length-number low in (omega arith, omega arith)
 request_length (is.RedoEnd session) fits = let len = length-number session in (omega arith, omega arith)
+request_length (is.StableEnd session stable) fits = let len = numbers_length session (number stable) in let len2 =
+    length-number stable in (omega arith, omega arith)
 
 pub request_fits : (r : Request) → IsRequest r
     → (0 < length (request_bytes r)) × (length (request_bytes r) ≤ any_length)

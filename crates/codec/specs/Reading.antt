@@ -163,8 +163,12 @@ record_at = one_of (
 
 unfoldable pub request_at : Reader Request
 request_at = one_of (
-    (1, mapped (λ session. asks.Connect session) number_at)
-    ∷ (2, mapped (λ p. asks.Perform p.0 p.1.0 p.1.1) (pair number_at (pair number_at op_at)))
+    (1, mapped (λ p. asks.Connect p.0 p.1) (pair number_at number_at))
+    ∷ (
+      2,
+      mapped (λ p. asks.Perform p.0 p.1.0 p.1.1.0 p.1.1.1)
+          (pair number_at (pair number_at (pair number_at op_at))),
+    )
     ∷ (3, mapped (λ p. asks.Get p.0 p.1.0 p.1.1) (pair number_at (pair number_at key_at)))
     ∷ (
       4,
@@ -174,6 +178,7 @@ request_at = one_of (
     ∷ (5, mapped (λ p. asks.LowWater p.0 p.1) (pair number_at number_at))
     ∷ (6, mapped (λ p. asks.Checkpoint p.0 p.1) (pair number_at number_at))
     ∷ (7, mapped (λ session. asks.RedoEnd session) number_at)
+    ∷ (8, mapped (λ p. asks.StableEnd p.0 p.1) (pair number_at number_at))
     ∷ [])
 
 unfoldable pub rows_at : Reader (List Row)

@@ -18,14 +18,16 @@ use std::convert::Infallible;
 /// A request of a session. Requests of other sessions than the last that connected are stale.
 #[derive(Debug, PartialEq, Eq, Drop)]
 pub enum Request {
-    /// The session begins.
+    /// The session begins. Each operation numbered above `end` was lost, and what it did is taken back.
     Connect {
         session: u64,
+        end: u64,
     },
-    /// Do the operation, unless it was done under this number before.
+    /// Do the operation, unless it was done under this number before. No record up to `stable` can be lost.
     Perform {
         session: u64,
         number: u64,
+        stable: u64,
         op: Op,
     },
     /// The value at the key.
@@ -54,6 +56,11 @@ pub enum Request {
     /// The operations of earlier sessions have all been sent again.
     RedoEnd {
         session: u64,
+    },
+    /// No record up to `stable` can be lost.
+    StableEnd {
+        session: u64,
+        stable: u64,
     },
 }
 
@@ -103,11 +110,14 @@ fn body_len(request: &Request) -> usize
     ensures spelled { IsRequest request.now }
 {
     match request {
-        Request::Connect { .. } | Request::RedoEnd { .. } => 9,
-        Request::Perform { op, .. } => 17 + op_len(op),
+        Request::RedoEnd { .. } => 9,
+        Request::Perform { op, .. } => 25 + op_len(op),
         Request::Get { key, .. } => 17 + key_len(key),
         Request::Scan { low, high, .. } => 17 + range_len(low, high.as_ref()),
-        Request::LowWater { .. } | Request::Checkpoint { .. } => 17,
+        Request::Connect { .. }
+        | Request::LowWater { .. }
+        | Request::Checkpoint { .. }
+        | Request::StableEnd { .. } => 17,
     }
 }
 
@@ -117,13 +127,15 @@ fn put_body(out: &mut Vec<u8>, request: &Request)
     ensures { Puts out.old out.new (request_bytes request.now) }
 {
     match request {
-        Request::Connect { session } => put_head(out, 1, *session),
+        Request::Connect { session, end } => put_long_head(out, 1, *session, *end),
         Request::Perform {
             session,
             number,
+            stable,
             op,
         } => {
             put_long_head(out, 2, *session, *number);
+            put_number(out, *stable);
             put_op(out, op);
         }
         Request::Get { session, read, key } => {
@@ -143,19 +155,23 @@ fn put_body(out: &mut Vec<u8>, request: &Request)
         Request::LowWater { session, low } => put_long_head(out, 5, *session, *low),
         Request::Checkpoint { session, low } => put_long_head(out, 6, *session, *low),
         Request::RedoEnd { session } => put_head(out, 7, *session),
+        Request::StableEnd { session, stable } => put_long_head(out, 8, *session, *stable),
     }
 }
 
 fn take_perform(bytes: &[u8]) -> Option<(Request, &[u8])>
     ensures { Gives (λ x. (x.0, x.1.now)) result
-        (mapped (λ p. Request.Perform p.0 p.1.0 p.1.1) (pair number_at (pair number_at op_at)) bytes.now) }
+        (mapped (λ p. Request.Perform p.0 p.1.0 p.1.1.0 p.1.1.1)
+        (pair number_at (pair number_at (pair number_at op_at))) bytes.now) }
 {
     let (session, rest) = take_number(bytes)?;
     let (number, rest) = take_number(rest)?;
+    let (stable, rest) = take_number(rest)?;
     let (op, rest) = take_op(rest)?;
     let perform = Request::Perform {
         session,
         number,
+        stable,
         op,
     };
     Some((perform, rest))
@@ -186,7 +202,8 @@ fn take_fields(bytes: &[u8]) -> Option<(Request, &[u8])>
     match *kind {
         1 => {
             let (session, rest) = take_number(rest)?;
-            Some((Request::Connect { session }, rest))
+            let (end, rest) = take_number(rest)?;
+            Some((Request::Connect { session, end }, rest))
         }
         2 => take_perform(rest),
         3 => {
@@ -209,6 +226,11 @@ fn take_fields(bytes: &[u8]) -> Option<(Request, &[u8])>
         7 => {
             let (session, rest) = take_number(rest)?;
             Some((Request::RedoEnd { session }, rest))
+        }
+        8 => {
+            let (session, rest) = take_number(rest)?;
+            let (stable, rest) = take_number(rest)?;
+            Some((Request::StableEnd { session, stable }, rest))
         }
         _ => None,
     }

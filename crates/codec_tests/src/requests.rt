@@ -4,7 +4,7 @@ ghost use Rattle.codec.specs.Requests.{HasRequestNumbers};
 use crate::walking::{Found, Reading};
 use crate::written::{marked, told, unwritten};
 use codec::{Request, Taken, put_request, take_request};
-use record_key::Refusal;
+use record_key::{Key, Refusal};
 use std::fmt::Write;
 use test_lines::{put_key, put_op};
 
@@ -34,15 +34,27 @@ fn written(reading: &Reading<'_>, found: &Request) -> Result<Vec<u8>, Refusal>
     }
 }
 
+fn put_range(answer: &mut String, low: &Key, high: &Option<Key>) -> Result<(), Refusal> {
+    put_key(answer, " from", low)?;
+    if let Some(high) = high {
+        put_key(answer, " to", high)?;
+    }
+    Ok(())
+}
+
 fn put_fields(answer: &mut String, request: &Request) -> Result<(), Refusal> {
     match request {
-        Request::Connect { session } => write!(answer, "connect session {session}")?,
+        Request::Connect { session, end } => write!(answer, "connect session {session} end {end}")?,
         Request::Perform {
             session,
             number,
+            stable,
             op,
         } => {
-            write!(answer, "perform session {session} number {number} ")?;
+            write!(
+                answer,
+                "perform session {session} number {number} stable {stable} "
+            )?;
             put_op(answer, op)?;
         }
         Request::Get { session, read, key } => {
@@ -56,10 +68,7 @@ fn put_fields(answer: &mut String, request: &Request) -> Result<(), Refusal> {
             high,
         } => {
             write!(answer, "scan session {session} read {read}")?;
-            put_key(answer, " from", low)?;
-            if let Some(high) = high {
-                put_key(answer, " to", high)?;
-            }
+            put_range(answer, low, high)?;
         }
         Request::LowWater { session, low } => {
             write!(answer, "lowwater session {session} low {low}")?;
@@ -68,6 +77,9 @@ fn put_fields(answer: &mut String, request: &Request) -> Result<(), Refusal> {
             write!(answer, "checkpoint session {session} low {low}")?;
         }
         Request::RedoEnd { session } => write!(answer, "redoend session {session}")?,
+        Request::StableEnd { session, stable } => {
+            write!(answer, "stableend session {session} stable {stable}")?;
+        }
     }
     Ok(())
 }
