@@ -18,6 +18,7 @@ pub fn put_question(
         "record" => put_record_at(log, words.number()?, answer),
         "answer" => put_answer_of(log, words.number()?, answer),
         "end" => put_end_of(log, words.number()?, answer),
+        "last" => put_number(Some(log.last_not_session()), answer),
         "redo" => put_number(redo_next(log, words.number()?, words.number()?), answer),
         "plan" => put_plan(alloc, log, answer),
         "undo" => put_order(alloc, log, answer),

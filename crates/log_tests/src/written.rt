@@ -104,13 +104,14 @@ fn force(written: &mut Written, answer: &mut String) -> Result<(), Refusal> {
     Ok(())
 }
 
-/// How many records are stable, and up to which one all answers are.
+/// How many records are stable, up to which one all answers are, and which is the last that isn't a Session.
 fn put_ends(log: &Log<MemLog>, answer: &mut String) -> Result<(), Refusal> {
     write!(
         answer,
-        "stable {} answered {}",
+        "stable {} answered {} last {}",
         log.stable_end(),
-        log.answered_end()
+        log.answered_end(),
+        log.last_not_session()
     )?;
     Ok(())
 }

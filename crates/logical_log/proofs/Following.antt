@@ -19,6 +19,8 @@ use Rattle.std.proofs.lemmas.Cmp.{nat_list_cmp_total, tied_itself}
 use Rattle.std.proofs.lemmas.Map.Lookups.{exact_bytes}
 use Rattle.logical_log.specs.declared.replay.Index.{Index}
 use Rattle.logical_log.specs.Adders.{stays, PutsAdders}
+use Rattle.logical_log.specs.NotSession.{last_with}
+use Rattle.logical_log.proofs.NotSession.{last_longer}
 use Rattle.logical_log.specs.Replay.{IsIndex, IsAnalysis, TakesIn, latest_in, holder_in, adders_of, is_among, KeptOf, KeptOn, AddsTo, AddedBy, Puts, Follows, Holds, Gains}
 
 -- the record neither begins nor ends the transaction, and is no step of it
@@ -509,8 +511,9 @@ gains (is.Checkpoint l) log latest old new had has legal fits kept holder same w
 pub followed : (log : List Record) (r : Record) (number : ℕ) (old new : Index) → IsIndex log old → Fits log r
     → number ≡ length log + 1 → TakesIn r number old.analysis new.analysis → Holds r (holder_in old) (holder_in new)
     → Gains r (latest_in new) (adders_of old) (adders_of new)
-    → FitsCheckpoint (r ∷ log) new.answered → IsIndex (r ∷ log) new
-followed log r number old new h fits is takes keys adders answered =
+    → FitsCheckpoint (r ∷ log) new.answered → new.last_not_session ≡ last_with r number old.last_not_session
+    → IsIndex (r ∷ log) new
+followed log r number old new h fits is takes keys adders answered last =
     let kept : IsAnalysis (r ∷ log) new.analysis = takes log h.analysis (fits, h.legal) is in
     record {
       legal = (fits, h.legal);
@@ -519,4 +522,5 @@ followed log r number old new h fits is takes keys adders answered =
       added_keys = gains r log (latest_in new) (holder_in old) (holder_in new) (adders_of old) (adders_of new) h.legal
           fits kept.open_txns keys adders h.added_keys;
       answered = answered;
+      last = last ∙ last_longer r log number old.last_not_session is h.last;
     }

@@ -7,6 +7,7 @@ pub mod Following
 pub mod Framed
 pub mod Index
 pub mod Kept
+pub mod NotSession
 pub mod Opening
 pub mod Puts
 pub mod Spelled

@@ -45,8 +45,8 @@ shorter left r left' is =
     )
 
 pub index_nothing : (index : Index) → IsAnalysis [] index.analysis → ((k : Bytes) → holder_in index k ≡ None)
-    → ((k : Bytes) → adders_of index k ≡ []) → index.answered ≡ 0 → IsIndex [] index
-index_nothing index analysis keys adders answered = record {
+    → ((k : Bytes) → adders_of index k ≡ []) → index.answered ≡ 0 → index.last_not_session ≡ 0 → IsIndex [] index
+index_nothing index analysis keys adders answered last = record {
   legal = tt;
   analysis = analysis;
   held_keys = λ k. let On : Option ℕ → Type 0 = λ v. KeptOn [] k v in
@@ -57,6 +57,7 @@ index_nothing index analysis keys adders answered = record {
         all = λ u has. absurd (let none = has.is in cc);
       });
   answered = record { within = omega (arith, answered); answered = λ n o below asks. absurd (cc) };
+  last = last;
 }
 
 -- a record that stands next and was refused is where the bytes are bad

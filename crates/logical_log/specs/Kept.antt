@@ -5,6 +5,7 @@ use Rattle.history.specs.declared.record.Record.{Record}
 use Rattle.history.specs.Legal.{IsLegal}
 use Rattle.stable.specs.Crash.{BeginsWith}
 use Rattle.logical_log.specs.Index.{index}
+use Rattle.logical_log.specs.LogView.{last_not_session}
 use Rattle.logical_log.specs.Low.{stable_part, IsGreatestLow}
 use Rattle.logical_log.specs.Spelled.{spelled, places, AreRecords}
 
@@ -32,10 +33,12 @@ pub record AreIndexed (log : List Record) (bytes left marks : List ℕ) (count :
 
 -- all bytes are frames, the device holds just these, and the stable records are among what every crash leaves; where
 -- the device forces all or nothing, they are just what it leaves
-pub record IsKept (whole : Bool) (frames : FramesView) (stable answered : ℕ) (forced pending : List ℕ) : Type 0 where
+pub record IsKept (whole : Bool) (frames : FramesView) (stable answered last : ℕ) (forced pending : List ℕ)
+    : Type 0 where
   pub all_read : frames.left ≡ []
   pub within : stable ≤ length frames.records
   pub greatest : IsGreatestLow frames.records stable answered
+  pub last_is : last ≡ last_not_session frames.records
   pub stored : forced ++ pending ≡ spelled frames.records
   pub covered : BeginsWith forced (spelled (stable_part frames.records stable))
   pub just : whole ≡ true → forced ≡ spelled (stable_part frames.records stable)

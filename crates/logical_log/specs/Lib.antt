@@ -6,6 +6,7 @@ pub mod Index
 pub mod Kept
 pub mod LogView
 pub mod Low
+pub mod NotSession
 pub mod Opening
 pub mod Replay
 pub mod Spelled

@@ -7,12 +7,19 @@ use Rattle.stable.specs.Usage.{Usage, called, failed}
 use Rattle.stable.specs.declared.error.DeviceError.{DeviceError}
 use Rattle.stable.specs.declared.error.DeviceError.TheVariants as device
 use Rattle.history.specs.declared.record.Record.{Record}
+use Rattle.history.specs.declared.record.Record.TheVariants.{Session}
 
 -- the records, the newest first, how many of them are stable, and how the device was used
 pub record LogView : Type 0 where
   pub records : List Record
   pub stable : ℕ
   pub usage : Usage
+
+-- the number of the last record that isn't a Session, 0 if there is none
+abbrev pub last_not_session : List Record → ℕ
+last_not_session [] = 0
+last_not_session (Session ∷ log) = last_not_session log
+last_not_session (r ∷ log) = length log + 1
 
 -- the next number would be 2 to the power of 48
 abbrev pub is_spent : List Record → Bool

@@ -16,6 +16,7 @@ use Rattle.logical_log.specs.declared.analysis.Analysis.{Analysis}
 use Rattle.logical_log.specs.declared.replay.Index.{Index}
 use Rattle.logical_log.specs.Adders.{adders_in, stays, PutsAdders}
 use Rattle.logical_log.specs.Checkpointed.{IsCheckpointed}
+use Rattle.logical_log.specs.LogView.{last_not_session}
 
 -- the transaction is open, and this is its latest Op or Comp record, 0 if it has none
 pub record OpenAt (log : List Record) (t s : ℕ) : Type 0 where
@@ -100,6 +101,7 @@ pub record IsIndex (log : List Record) (index : Index) : Type 0 where
   pub held_keys : (k : Bytes) → KeptOn log k (holder_in index k)
   pub added_keys : (k : Bytes) → AddedBy log k (holder_in index k) (adders_of index k)
   pub answered : FitsCheckpoint log index.answered
+  pub last : index.last_not_session ≡ last_not_session log
 
 -- what is kept of a transaction that may take its next step: nothing where it isn't open and idle
 abbrev pub ReadyOf : List Record → ℕ → Option ℕ → Type 0

@@ -16,6 +16,7 @@ mod frames;
 mod laws;
 mod log;
 mod low;
+mod not_session;
 mod note;
 mod open;
 mod read;

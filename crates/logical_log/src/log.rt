@@ -5,6 +5,7 @@ ghost use Rattle.history.specs.Legal.{IsLegal, FitsCheckpoint, IsLatest};
 ghost use Rattle.history.specs.Chains.{undo_from};
 ghost use Rattle.stable.specs.Crash.{BeginsWith};
 ghost use Rattle.logical_log.specs.Index.{lacks_answer};
+ghost use Rattle.logical_log.specs.LogView.{last_not_session};
 ghost use Rattle.logical_log.specs.Low.{stable_part, IsGreatestLow};
 ghost use Rattle.logical_log.specs.Spelled.{spelled, AreRecords};
 
@@ -24,6 +25,8 @@ pub struct Log<D: LogDevice> {
     pub(crate) stable: u64,
     // Up to where every stable request has a stable answer.
     pub(crate) answered: u64,
+    // The number of the last record that isn't a Session, 0 if there is none.
+    pub(crate) last_not_session: u64,
 }
 
 impl<D: LogDevice> Model for Log<D> {
@@ -38,7 +41,7 @@ impl<D: LogDevice> Model for Log<D> {
       usage = D.usage l.device;
     } };
 
-    ghost invariant = { λ l. IsKept D.forces_whole l.frames l.stable l.answered
+    ghost invariant = { λ l. IsKept D.forces_whole l.frames l.stable l.answered l.last_not_session
         (D.forced l.device) (D.pending l.device) };
 }
 
@@ -53,6 +56,7 @@ impl<D: LogDevice> Log<D> {
             frames: Frames::new(alloc, Vec::new(alloc)),
             stable: 0,
             answered: 0,
+            last_not_session: 0,
         }
     }
 
@@ -72,6 +76,7 @@ impl<D: LogDevice> Log<D> {
             frames: _,
             stable: _,
             answered: _,
+            last_not_session: _,
         } = self;
         device
     }
@@ -162,6 +167,13 @@ impl<D: LogDevice> Log<D> {
         ensures { IsGreatestLow self.now.records self.now.stable result }
     {
         self.answered
+    }
+
+    /// The number of the last record that isn't a Session, 0 if none. Takes no memory and makes no device call.
+    pub fn last_not_session(&self) -> u64
+        ensures { result ≡ last_not_session self.now.records }
+    {
+        self.last_not_session
     }
 
     /// The greatest number up to which every request has its answer.

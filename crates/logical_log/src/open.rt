@@ -50,6 +50,7 @@ impl<D: LogDevice> Found<D> {
             frames,
             stable,
             answered,
+            last_not_session: index.last_not_session,
         })
     }
 }

@@ -4,12 +4,14 @@ ghost use Rattle.std.specs.Bool.{MatchBool};
 ghost use Rattle.std.specs.List.{list_all};
 ghost use Rattle.record_key.specs.Table.{key_of, is_add};
 ghost use Rattle.history.specs.Legal.{IsKeyFree};
+ghost use Rattle.logical_log.specs.NotSession.{last_with as with_this};
 ghost use Rattle.logical_log.specs.Replay.{IsIndex, IsAnalysis, TakesIn, ReadyOf, latest_in, holder_in, adders_of, agrees, agrees_if, Holds, Gains, Puts};
 ghost use Rattle.logical_log.specs.Adders.{stays, PutsAdders};
 
 use crate::adders::Adders;
 use crate::analysis::Analysis;
 use crate::frames::Frames;
+use crate::not_session::last_with;
 use history::Record;
 use record_key::{Key, Op};
 use std::alloc::{AllocError, Global};
@@ -24,6 +26,8 @@ pub(crate) struct Index {
     pub(crate) adders: Adders,
     // Up to this number every request is answered.
     pub(crate) answered: u64,
+    // The number of the last record that isn't a Session, 0 if there is none.
+    pub(crate) last_not_session: u64,
 }
 
 impl Index {
@@ -32,12 +36,14 @@ impl Index {
         ensures holders { (k : List ℕ) → holder_in result k ≡ None }
         ensures adders { (k : List ℕ) → adders_of result k ≡ [] }
         ensures answered { result.answered ≡ 0 }
+        ensures last { result.last_not_session ≡ 0 }
     {
         Index {
             analysis: Analysis::new(alloc),
             holders: BTreeMap::new(alloc),
             adders: Adders::new(alloc),
             answered: 0,
+            last_not_session: 0,
         }
     }
 
@@ -103,8 +109,11 @@ impl Index {
         ensures adders { OnOk result
             (Gains accepted.now (latest_in self.new) (adders_of self.old) (adders_of self.new)) }
         ensures answered { self.new.answered ≡ self.old.answered }
+        ensures last { OnOk result (self.new.last_not_session
+            ≡ with_this accepted.now number self.old.last_not_session) }
     {
         self.analysis.follow(accepted, number)?;
+        self.last_not_session = last_with(accepted, number, self.last_not_session);
         if let Record::Op { txn, op, .. } = accepted {
             self.hold(op, *txn)?;
         }
@@ -122,6 +131,7 @@ impl Index {
             else [])) }
         ensures analysis { self.new.analysis ≡ self.old.analysis }
         ensures answered { self.new.answered ≡ self.old.answered }
+        ensures last { self.new.last_not_session ≡ self.old.last_not_session }
     {
         if op.is_add() {
             self.adders.add(op.key(), txn, &self.analysis.open_txns)

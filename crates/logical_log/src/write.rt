@@ -8,6 +8,7 @@ ghost use Rattle.stable.specs.Usage.{is_due, called};
 ghost use Rattle.logical_log.specs.LogView.{Appends, spent_refusal, after_refusal, usage_after, refusal_from};
 
 use crate::log::Log;
+use crate::not_session::last_with;
 use codec::put_record;
 use history::Record;
 use record_key::Refusal;
@@ -31,7 +32,9 @@ impl<D: LogDevice> Log<D> {
             return Err(Refusal::NumbersSpent);
         }
         self.frames.append(&mut self.device, appended)?;
-        Ok(self.frames.len())
+        let number = self.frames.len();
+        self.last_not_session = last_with(appended, number, self.last_not_session);
+        Ok(number)
     }
 
     /// Makes every record stable, in one device call, and answers the number of the last. The one refusal is Device.

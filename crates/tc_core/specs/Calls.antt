@@ -18,11 +18,11 @@ use Rattle.tc_core.specs.declared.told.Connecting.{Connecting}
 use Rattle.tc_core.specs.declared.told.Forced.{Forced}
 use Rattle.tc_core.specs.declared.told.UndoStep.{UndoStep}
 use Rattle.tc_core.specs.declared.told.UndoStep.TheVariants as step
-use Rattle.logical_log.specs.LogView.{spent_refusal}
+use Rattle.logical_log.specs.LogView.{spent_refusal, last_not_session}
 use Rattle.tc_core.specs.OpenTxns.{find}
 use Rattle.tc_core.specs.TcView.{TcView, is_serving, failed}
 use Rattle.tc_core.specs.Refusing.{Refuses}
-use Rattle.tc_core.specs.Causes.{idle_refusal, begin_refusal, commit_refusal, save_refusal, back_refusal, read_refusal, reads_spent, undo_refusal, undo_logs, resend_refusal, RefusesTaking}
+use Rattle.tc_core.specs.Causes.{running_refusal, idle_refusal, begin_refusal, commit_refusal, save_refusal, back_refusal, read_refusal, reads_spent, undo_refusal, undo_logs, resend_refusal, RefusesTaking}
 use Rattle.tc_core.specs.Changes.{forced, logged_session, reconnected, begun, acted, asked_read, shared, saved, rolled, going_back, committed, compensated, ended, is_back}
 
 -- the open transaction of this number
@@ -33,7 +33,8 @@ pub record IsAt (w : TcView) (t : ℕ) (o : OpenTxn) : Type 0 where
 -- a session is started, or it isn't: the device may have failed when its record was logged already
 abbrev pub ReconnectGives : TcView → Result Connecting Refusal → TcView → Type 0
 ReconnectGives old (Ok c) new =
-    (spent_refusal old.log ≡ None) × (c.request ≡ asks.Connect (length old.log + 1)) × (c.committed ≡ old.committing)
+    (spent_refusal old.log ≡ None) × (c.request ≡ asks.Connect (length old.log + 1) (last_not_session old.log))
+    × (c.committed ≡ old.committing)
     × (new ≡ reconnected old)
 ReconnectGives old (Err r) new =
     Refuses (spent_refusal old.log) true true old r new
@@ -141,7 +142,7 @@ abbrev pub ForceGives : TcView → Result Forced Refusal → TcView → Type 0
 ForceGives old (Ok f) new = (f.end ≡ length old.log) × (f.committed ≡ old.committing) × (new ≡ forced old)
 ForceGives old (Err r) new = (r ≡ Device) × (new ≡ failed old) × IsTrue (is_due old.usage)
 
--- the request that the transaction waits for: of its record, which is stable
+-- the request that the transaction waits for: of its record, with how much of the log is stable
 pub record IsOpRequest (w : TcView) (t : ℕ) (request : Request) : Type 0 where
   pub open_txn : OpenTxn
   pub number : ℕ
@@ -149,9 +150,8 @@ pub record IsOpRequest (w : TcView) (t : ℕ) (request : Request) : Type 0 where
   pub at : IsAt w t open_txn
   pub serving : is_serving w.phase ≡ true
   pub waiting : open_txn.waiting ≡ Some number
-  pub stable : number ≤ w.stable
   pub requests : Requests w.log number op
-  pub is : request ≡ asks.Perform w.session number op
+  pub is : request ≡ asks.Perform w.session number w.stable op
 
 -- or of its read
 abbrev pub read_request : ℕ → ℕ → Span → Request
@@ -173,3 +173,8 @@ IsRequestOf w t request = IsOpRequest w t request ⊎ IsReadRequest w t request
 abbrev pub ResendGives : TcView → ℕ → Result Request Refusal → Type 0
 ResendGives w t (Ok request) = (resend_refusal w t ≡ None) × IsRequestOf w t request
 ResendGives w t (Err r) = resend_refusal w t ≡ Some r
+
+-- how much of the log is stable
+abbrev pub TellStableGives : TcView → Result Request Refusal → Type 0
+TellStableGives w (Ok request) = (running_refusal w ≡ None) × (request ≡ asks.StableEnd w.session w.stable)
+TellStableGives w (Err r) = running_refusal w ≡ Some r

@@ -1,7 +1,7 @@
 -- What each call is refused for: the first of its causes that holds.
-use Rattle.std.specs.Prelude.{◌≡◌, ◌⊎◌, ℕ, ◌&&◌, ◌||◌, Bool, false, true, not, nat_le, nat_lt, List, [], ◌∷◌, Option, Some, None, is_some, unwrap_or, length}
+use Rattle.std.specs.Prelude.{◌≡◌, ◌⊎◌, ℕ, ◌&&◌, ◌||◌, Bool, false, true, not, nat_le, nat_lt, List, [], ◌∷◌, Option, Some, None, is_some, length}
 use Rattle.record_key.specs.declared.refusal.Refusal.{Refusal}
-use Rattle.record_key.specs.declared.refusal.Refusal.TheVariants.{NotConnected, Redoing, NotOpen, RollingBack, Unanswered, Full, BadSavepoint, BadRange, Busy, NumbersSpent, Unsent, BeyondStable}
+use Rattle.record_key.specs.declared.refusal.Refusal.TheVariants.{NotConnected, Redoing, NotOpen, RollingBack, Unanswered, Full, BadSavepoint, BadRange, Busy, NumbersSpent, Unsent}
 use Rattle.record_key.specs.FirstCause.{first_of, or_else}
 use Rattle.history.specs.Spans.{Span}
 use Rattle.record_key.specs.Order.{ends_above}
@@ -91,13 +91,7 @@ abbrev pub undo_refusal : TcView → ℕ → Option Refusal
 undo_refusal w t =
     or_else (answered_refusal w t) (first_of ((undo_logs (find t w.open_txns) && is_spent w.log, NumbersSpent) ∷ []))
 
--- the number that is waited for, 0 if none
-abbrev pub awaited : Option OpenTxn → ℕ
-awaited None = 0
-awaited (Some o) = unwrap_or o.waiting 0
-
 abbrev pub resend_refusal : TcView → ℕ → Option Refusal
 resend_refusal w t =
     or_else (open_refusal w t)
-    (first_of ((not (is_waiting (find t w.open_txns)), Unsent)
-    ∷ (nat_lt w.stable (awaited (find t w.open_txns)), BeyondStable) ∷ []))
+    (first_of ((not (is_waiting (find t w.open_txns)), Unsent) ∷ []))

@@ -1,8 +1,8 @@
 -- What recovery sends and logs.
-use Rattle.std.specs.Prelude.{◌≡◌, ℕ, ◌+◌, ◌≤◌, ◌&&◌, Bool, true, false, not, nat_lt, [], ◌∷◌, Option, Some, None, Result, Ok, Err, is_some, length}
+use Rattle.std.specs.Prelude.{◌≡◌, ℕ, ◌+◌, ◌&&◌, Bool, true, false, not, [], ◌∷◌, Option, Some, None, Result, Ok, Err, is_some, length}
 use Rattle.record_key.specs.declared.op.Op.{Op}
 use Rattle.record_key.specs.declared.refusal.Refusal.{Refusal}
-use Rattle.record_key.specs.declared.refusal.Refusal.TheVariants.{NotConnected, BeyondStable, NumbersSpent}
+use Rattle.record_key.specs.declared.refusal.Refusal.TheVariants.{NotConnected, NumbersSpent}
 use Rattle.record_key.specs.FirstCause.{first_of}
 use Rattle.codec.specs.declared.request.Request.{Request}
 use Rattle.codec.specs.declared.request.Request.TheVariants as asks
@@ -11,7 +11,7 @@ use Rattle.tc_core.specs.declared.phase.Phase.TheVariants as phase
 use Rattle.tc_core.specs.declared.told.RecoverStep.{RecoverStep}
 use Rattle.tc_core.specs.declared.told.RecoverStep.TheVariants as step
 use Rattle.history.specs.Log.{Requests}
-use Rattle.logical_log.specs.LogView.{is_spent}
+use Rattle.logical_log.specs.LogView.{is_spent, last_not_session}
 use Rattle.restart.specs.declared.loser.Loser.{Loser}
 use Rattle.restart.specs.Losers.{IsLeast, MayEnd, LosesNext}
 use Rattle.tc_core.specs.TcView.{TcView, is_unconnected}
@@ -19,18 +19,14 @@ use Rattle.tc_core.specs.Refusing.{Refuses}
 use Rattle.tc_core.specs.Changes.{lost_compensated, lost_ended}
 use Rattle.tc_core.specs.Undo.{FindsRequest}
 
--- undo waits until the compensation that is awaited is stable, and logs a record where none is awaited
-abbrev pub undo_unstable : Phase → ℕ → Bool
-undo_unstable (phase.Undoing (Some n)) stable = nat_lt stable n
-undo_unstable _ stable = false
-
+-- undo logs a record where no compensation is awaited
 abbrev pub undo_logs_at : Phase → Bool
 undo_logs_at (phase.Undoing None) = true
 undo_logs_at _ = false
 
 abbrev pub recover_refusal : TcView → Option Refusal
 recover_refusal w =
-    first_of ((is_unconnected w.phase, NotConnected) ∷ (undo_unstable w.phase w.stable, BeyondStable)
+    first_of ((is_unconnected w.phase, NotConnected)
     ∷ (undo_logs_at w.phase && is_spent w.log, NumbersSpent) ∷ [])
 
 -- redo stands at this number, and its end was sent or not
@@ -38,9 +34,9 @@ abbrev pub redoing : TcView → ℕ → Bool → TcView
 redoing w n ending = record w { phase = phase.Redoing n ending }
 
 -- the next number of redo with its operation; after the last one the end of redo
-abbrev pub redo_request : ℕ → Option (ℕ × Op) → Request
-redo_request s None = asks.RedoEnd s
-redo_request s (Some x) = asks.Perform s x.0 x.1
+abbrev pub redo_request : TcView → Option (ℕ × Op) → Request
+redo_request w None = asks.RedoEnd w.session
+redo_request w (Some x) = asks.Perform w.session x.0 w.stable x.1
 
 abbrev pub redo_place : ℕ → Option (ℕ × Op) → ℕ
 redo_place s None = s
@@ -50,19 +46,18 @@ redo_place s (Some x) = x.0
 pub record Redoes (old : TcView) (next : ℕ) (request : Request) (new : TcView) : Type 0 where
   pub found : Option (ℕ × Op)
   pub finds : FindsRequest old.log next old.session found
-  pub request_is : request ≡ redo_request old.session found
+  pub request_is : request ≡ redo_request old found
   pub left : new ≡ redoing old (redo_place old.session found) (not (is_some found))
 
 -- the compensation that is awaited
 pub record ResendsUndo (old : TcView) (number : ℕ) (request : Request) (new : TcView) : Type 0 where
   pub op : Op
   pub requests : Requests old.log number op
-  pub stable : number ≤ old.stable
-  pub request_is : request ≡ asks.Perform old.session number op
+  pub request_is : request ≡ asks.Perform old.session number old.stable op
   pub unchanged : new ≡ old
 
 abbrev pub SendsAt : TcView → Phase → Request → TcView → Type 0
-SendsAt old phase.Connecting request new = (request ≡ asks.Connect old.session) × (new ≡ old)
+SendsAt old phase.Connecting request new = (request ≡ asks.Connect old.session (last_not_session old.log)) × (new ≡ old)
 SendsAt old (phase.Redoing next ending) request new = Redoes old next request new
 SendsAt old (phase.Undoing (Some n)) request new = ResendsUndo old n request new
 SendsAt old _ request new = ⊥

@@ -44,7 +44,10 @@ impl<D: LogDevice> Parts<D> {
         self.announced = 0;
         self.checkpointing = None;
         Ok(Connecting {
-            request: Request::Connect { session },
+            request: Request::Connect {
+                session,
+                end: self.log.last_not_session(),
+            },
             committed,
         })
     }

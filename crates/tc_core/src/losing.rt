@@ -26,12 +26,10 @@ impl<D: LogDevice> Parts<D> {
         requires undoing { self.now.phase ≡ phase.Undoing (Some number) }
         ensures gives { RecoverGives (seen self.now) result (seen self.now) }
     {
-        if number > self.log.stable_end() {
-            return Err(Refusal::BeyondStable);
-        }
         Ok(RecoverStep::Sends(Request::Perform {
             session: self.session,
             number,
+            stable: self.log.stable_end(),
             op: request(&self.log, number),
         }))
     }

@@ -1,6 +1,7 @@
-//! What the data component may forget: low water marks, and checkpoints.
+//! How much of the log is stable, and what the data component may forget: low water marks, and checkpoints.
 ghost use Rattle.std.specs.Prelude.{◌≡◌, IfErr, OnOk};
 ghost use Rattle.tc_core.specs.LowWater.{Announces, RefusesLow, LowWaterGives, IsGreatestAnnounced};
+ghost use Rattle.tc_core.specs.Calls.{TellStableGives};
 ghost use Rattle.tc_core.specs.Checkpoint.{CheckpointGives};
 ghost use Rattle.tc_core.specs.Changes.{greater as greater_of};
 ghost use Rattle.tc_core.specs.Answering.{CheckpointedGives};
@@ -16,6 +17,16 @@ use record_key::Refusal;
 use stable::LogDevice;
 
 impl<D: LogDevice> Parts<D> {
+    pub fn tell_stable(&self) -> Result<Request, Refusal>
+        ensures gives { TellStableGives (seen self.now) result }
+    {
+        self.running()?;
+        Ok(Request::StableEnd {
+            session: self.session,
+            stable: self.log.stable_end(),
+        })
+    }
+
     /// Whether the number may be announced.
     pub fn can_announce(&self, low: u64) -> Result<(), Refusal>
         ensures allowed { OnOk result (Announces (seen self.now) low) }

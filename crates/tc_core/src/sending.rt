@@ -21,12 +21,10 @@ impl<D: LogDevice> Parts<D> {
         let Some(number) = opened.waiting else {
             return Err(Refusal::Unsent);
         };
-        if number > self.log.stable_end() {
-            return Err(Refusal::BeyondStable);
-        }
         Ok(Request::Perform {
             session: self.session,
             number,
+            stable: self.log.stable_end(),
             op: request(&self.log, number),
         })
     }

@@ -23,6 +23,7 @@ impl<D: LogDevice> Parts<D> {
             Phase::Unconnected => Err(Refusal::NotConnected),
             Phase::Connecting => Ok(RecoverStep::Sends(Request::Connect {
                 session: self.session,
+                end: self.log.last_not_session(),
             })),
             Phase::Redoing { next, .. } => Ok(RecoverStep::Sends(self.redo(next))),
             Phase::Undoing {
@@ -41,6 +42,7 @@ impl<D: LogDevice> Parts<D> {
         ensures redoes { Redoes (seen self.old) next result (seen self.new) }
     {
         let session = self.session;
+        let stable = self.log.stable_end();
         match redo_next(&self.log, next, session) {
             Some(number) => {
                 let op = request(&self.log, number);
@@ -51,6 +53,7 @@ impl<D: LogDevice> Parts<D> {
                 Request::Perform {
                     session,
                     number,
+                    stable,
                     op,
                 }
             }

@@ -9,7 +9,7 @@ ghost use Rattle.logical_log.specs.Spelled.{spelled, AreRecords};
 ghost use Rattle.logical_log.specs.LogView.{spent_refusal};
 ghost use Rattle.tc_core.specs.TcView.{TcView, fresh};
 ghost use Rattle.tc_core.specs.OpenTxns.{find, oldest, wants};
-ghost use Rattle.tc_core.specs.Calls.{ReconnectGives, BeginGives, ActGives, ReadGives, SaveGives, BackGives, RollbackGives, CommitGives, UndoGives, ForceGives, ResendGives};
+ghost use Rattle.tc_core.specs.Calls.{ReconnectGives, BeginGives, ActGives, ReadGives, SaveGives, BackGives, RollbackGives, CommitGives, UndoGives, ForceGives, ResendGives, TellStableGives};
 ghost use Rattle.codec.specs.Replies.{session_of};
 ghost use Rattle.tc_core.specs.Replies.{is_stale, ReplyGives};
 ghost use Rattle.tc_core.specs.Recovery.{RecoverGives};
@@ -199,12 +199,19 @@ impl<D: LogDevice> Tc<D> {
         self.parts.force()
     }
 
-    /// The request that the transaction waits for, first or again. Refused NotConnected, Redoing, NotOpen,
-    /// Unsent, BeyondStable where its record isn't stable.
+    /// The request that the transaction waits for, first or again; its record need not be stable. Refused NotConnected,
+    /// Redoing, NotOpen, Unsent.
     pub fn resend(&self, txn: u64) -> Result<Request, Refusal>
         ensures gives { ResendGives self.now txn result }
     {
         self.parts.resend(txn)
+    }
+
+    /// Tells the data component how much of the log is stable. Refused NotConnected, Redoing.
+    pub fn tell_stable(&self) -> Result<Request, Refusal>
+        ensures gives { TellStableGives self.now result }
+    {
+        self.parts.tell_stable()
     }
 
     /// Whether the number may be announced, memory aside. Refused as `low_water` is.
@@ -265,8 +272,8 @@ impl<D: LogDevice> Tc<D> {
 
     /// The request that recovery sends next, or again while its reply is awaited; then one record of the losers' undo
     /// after another: the End of the least loser that has nothing left to undo, else the compensation of the latest
-    /// operation of all of them; nothing where the component runs. Refused NotConnected, BeyondStable where the
-    /// compensation that is awaited isn't stable; where a record is logged NumbersSpent, NoMemory, Device.
+    /// operation of all of them; nothing where the component runs. Refused NotConnected; where a record is logged
+    /// NumbersSpent, NoMemory, Device.
     pub fn recover_step(&mut self) -> Result<RecoverStep, Refusal>
         ensures gives { RecoverGives self.old result self.new }
     {

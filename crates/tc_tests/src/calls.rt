@@ -28,6 +28,7 @@ pub fn call_of(
             numbers.put_plain(answer, forced.end);
             put_committed(answer, numbers, forced.committed.as_slice());
         }
+        "tell" => put_request(answer, numbers, &tell_stable(tc)?),
         "low" => {
             let low = numbers.read(words)?;
             put_request(answer, numbers, &announce(tc, low)?);
@@ -72,6 +73,10 @@ fn recover(tc: &mut Component) -> Result<RecoverStep, Refusal> {
 
 fn force(tc: &mut Component) -> Result<Forced, Refusal> {
     tc.force()
+}
+
+fn tell_stable(tc: &Component) -> Result<Request, Refusal> {
+    tc.tell_stable()
 }
 
 fn announce(tc: &mut Component, low: u64) -> Result<Request, Refusal> {

@@ -16,14 +16,15 @@ pub fn put_committed(text: &mut Text, numbers: Numbers, txns: &[u64]) {
 
 pub fn put_request(text: &mut Text, numbers: Numbers, request: &Request) {
     match request {
-        Request::Connect { session } => numbers.put(text, "connect", *session),
+        Request::Connect { session, end } => put_two(text, numbers, "connect", *session, *end),
         Request::Perform {
             session,
             number,
+            stable,
             op,
         } => {
-            numbers.put(text, "perform", *session);
-            numbers.put_plain(text, *number);
+            put_two(text, numbers, "perform", *session, *number);
+            numbers.put_plain(text, *stable);
             text.put_op(op);
         }
         Request::Get { session, read, key } => {
@@ -45,16 +46,21 @@ pub fn put_request(text: &mut Text, numbers: Numbers, request: &Request) {
                 None => text.put("*"),
             }
         }
-        Request::LowWater { session, low } => {
-            numbers.put(text, "low", *session);
-            numbers.put_plain(text, *low);
-        }
+        Request::LowWater { session, low } => put_two(text, numbers, "low", *session, *low),
         Request::Checkpoint { session, low } => {
-            numbers.put(text, "checkpoint", *session);
-            numbers.put_plain(text, *low);
+            put_two(text, numbers, "checkpoint", *session, *low);
         }
         Request::RedoEnd { session } => numbers.put(text, "redoend", *session),
+        Request::StableEnd { session, stable } => {
+            put_two(text, numbers, "stableend", *session, *stable);
+        }
     }
+}
+
+/// A request's name, its session and another number.
+fn put_two(text: &mut Text, numbers: Numbers, name: &str, session: u64, other: u64) {
+    numbers.put(text, name, session);
+    numbers.put_plain(text, other);
 }
 
 pub fn put_told(text: &mut Text, numbers: Numbers, told: &Told) {

@@ -19,7 +19,7 @@ loop-found-init c =
     subst Starts (sym c.new-frames.ensures) (
       begins_nothing c.args.bytes.items,
       index_nothing c.new-index.result c.new-index.ensures.analysis
-          c.new-index.ensures.holders c.new-index.ensures.adders c.new-index.ensures.answered,
+          c.new-index.ensures.holders c.new-index.ensures.adders c.new-index.ensures.answered c.new-index.ensures.last,
     )
 
 -- what was taken stands next

@@ -1,6 +1,7 @@
 use Rattle.std.proofs.Common.{◌≡◌, ◌∙◌, ℕ, ◌+◌, List, ◌∷◌, sym, ap, subst, arith, length}
 use Rattle.history.specs.declared.record.Record.{Record}
 use Rattle.history.specs.Legal.{Fits, FitsCheckpoint}
+use Rattle.logical_log.specs.NotSession.{last_with}
 use Rattle.logical_log.specs.Replay.{IsIndex, TakesIn, Holds, Gains, latest_in, holder_in, adders_of}
 use Rattle.logical_log.specs.declared.replay.Index.{Index}
 use Rattle.logical_log.proofs.Answered.{answered_longer}
@@ -12,12 +13,13 @@ index_now : (log log' : List Record) (r : Record) (number : ℕ) (old new : Inde
     → number ≡ length log' → IsIndex log old → Fits log r
     → TakesIn r number old.analysis new.analysis → Holds r (holder_in old) (holder_in new)
     → Gains r (latest_in new) (adders_of old) (adders_of new)
-    → FitsCheckpoint log' new.answered → IsIndex log' new
-index_now log log' r number old new grown is h fits txns keys adders answered =
+    → FitsCheckpoint log' new.answered → new.last_not_session ≡ last_with r number old.last_not_session
+    → IsIndex log' new
+index_now log log' r number old new grown is h fits txns keys adders answered last =
     let Of : List Record → Type 0 = λ l. IsIndex l new in
     let At : List Record → Type 0 = λ l. FitsCheckpoint l new.answered in
     let n : number ≡ length log + 1 = is ∙ ap length grown ∙ omega arith in
-    subst Of (sym grown) (followed log r number old new h fits n txns keys adders (subst At grown answered))
+    subst Of (sym grown) (followed log r number old new h fits n txns keys adders (subst At grown answered) last)
 
 pub returns-in-Checkpoint-clause-index : goal.returns-in-Checkpoint-clause-index
 returns-in-Checkpoint-clause-index c =
@@ -26,12 +28,12 @@ returns-in-Checkpoint-clause-index c =
       analysis = c.follow.new.self.analysis;
       holders = c.follow.new.self.holders;
       adders = c.follow.new.self.adders;
-      answered =
-          c.answered_from-index.result;
+      answered = c.answered_from-index.result;
+      last_not_session = c.follow.new.self.last_not_session;
     })
     c.in_ok-accept.ensures.records c.len-2.ensures.count c.requires.index (c.fits.ensures.0 c.if-not-fits.false)
     c.in_ok-follow.ensures.analysis c.in_ok-follow.ensures.holders c.in_ok-follow.ensures.adders
-    c.answered_from-index.ensures.is
+    c.answered_from-index.ensures.is c.in_ok-follow.ensures.last
 
 pub returns-in_default : goal.returns-in_default
 returns-in_default c = record {
@@ -47,6 +49,7 @@ returns-in_default c = record {
       index_now log c.accept.new.self.records r c.len-2.result c.args.index.now c.follow.new.self
       c.in_ok-accept.ensures.records c.len-2.ensures.count c.requires.index (c.fits.ensures.0 c.if-not-fits.false)
       c.in_ok-follow.ensures.analysis c.in_ok-follow.ensures.holders c.in_ok-follow.ensures.adders
-      (subst At (sym c.in_ok-accept.ensures.records) (answered_longer r log c.follow.new.self.answered known));
+      (subst At (sym c.in_ok-accept.ensures.records) (answered_longer r log c.follow.new.self.answered known))
+      c.in_ok-follow.ensures.last;
   refused = tt;
 }

@@ -8,7 +8,8 @@ invariant_of-self-2 g c =
     let end : c.len-end.result ≡ length c.self.inside.frames.records = c.len-end.ensures.count
     ∙ ap (λ (v : LogView). length v.records) (sym c.self.view_is) in
     rw end
-    (kept_all g.D.LogDevice.forces_whole c.self.inside.frames c.answered_of_all-answered.result _ _
+    (kept_all g.D.LogDevice.forces_whole c.self.inside.frames c.answered_of_all-answered.result
+    c.self.inside.last_not_session _ _
     c.self.invariant.all_read (c.in_default.ensures.all_forced ∙ c.self.invariant.stored)
     c.in_default.ensures.none_pending
-    (rw (← c.self.view_is) at c.answered_of_all-answered.ensures))
+    (rw (← c.self.view_is) at c.answered_of_all-answered.ensures) c.self.invariant.last_is)

@@ -9,5 +9,5 @@ invariant_of-result g c =
     let pending : List ℕ = g.D.LogDevice.pending c.args.device in
     let none : c.new-2.result ≡ record { records = []; left = [] } = c.new-2.ensures
     ∙ ap (λ (l : List ℕ). record { records = []; left = l }) c.new.ensures.items in
-    let Kept : FramesView → Type 0 = λ v. IsKept g.D.LogDevice.forces_whole v 0 0 forced pending in
+    let Kept : FramesView → Type 0 = λ v. IsKept g.D.LogDevice.forces_whole v 0 0 0 forced pending in
     subst Kept (sym none) (kept_empty g.D.LogDevice.forces_whole forced pending c.requires.empty.0 c.requires.empty.1)

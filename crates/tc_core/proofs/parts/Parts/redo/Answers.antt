@@ -1,4 +1,5 @@
-use Rattle.std.proofs.Common.{true, false, subst, arith, sym, true≢false, refl, Some}
+use Rattle.std.proofs.Common.{ℕ, true, false, subst, arith, sym, ap, true≢false, refl, Some}
+use Rattle.codec.specs.declared.request.Request.TheVariants.{Perform}
 use Rattle.tc_core.specs.declared.phase.Phase.{Phase}
 use Rattle.tc_core.specs.Kept.{IsPhase}
 use Rattle.tc_core.specs.Seen.{seen}
@@ -35,6 +36,6 @@ returns-in-Some-clause-redoes g c =
         c.request-op.ensures,
         none_before w.log c.args.next w.session c.in-Some.number found,
       );
-      request_is = refl;
+      request_is = ap (λ (n : ℕ). Perform w.session c.in-Some.number n c.request-op.result) c.stable_end-stable.ensures;
       left = refl;
     }

@@ -1,6 +1,4 @@
-use Rattle.std.proofs.Common.{◌≡◌, ℕ, false, Some, None, inr, refl, arith}
-use Rattle.std.specs.Prelude.{nat_lt}
-use Rattle.std.proofs.lemmas.Bool.Decides.{nat_tests}
+use Rattle.std.proofs.Common.{◌≡◌, ℕ, Some, None, inr, refl}
 use Rattle.tc_core.specs.declared.open_txn.OpenTxn.{OpenTxn}
 use Rattle.tc_core.specs.declared.open_txn.Read.{Read}
 use Rattle.tc_core.specs.OpenTxns.{find}
@@ -11,12 +9,9 @@ use Rattle.tc_core.proofs.KeepsTc.{reading_at}
 use Rattle.tc_core.proofs.Refused.{at_number}
 use Rattle.tc_core.proofs.parts.Parts.resend.Goals as goal
 
--- a read has no record that must be stable
 allowed : (w : TcView) (t : ℕ) (o : OpenTxn) (r : Read) → open_refusal w t ≡ None → find t w.open_txns ≡ Some o
     → o.waiting ≡ None → o.reading ≡ Some r → resend_refusal w t ≡ None
-allowed w t o r is_open at none some =
-    let stable : nat_lt w.stable 0 ≡ false = grind (arith, nat_tests) in
-    rw (is_open, at, none, some, stable) refl
+allowed w t o r is_open at none some = rw (is_open, at, none, some) refl
 
 pub returns-in-Some : goal.returns-in-Some
 returns-in-Some g c =
