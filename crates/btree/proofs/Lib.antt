@@ -16,6 +16,7 @@ pub mod Places
 pub mod Raised
 pub mod Raising
 pub mod Removed
+pub mod Replaced
 pub mod Resummed
 pub mod Scanning
 pub mod Searching

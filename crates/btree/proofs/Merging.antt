@@ -4,7 +4,6 @@ use Rattle.std.specs.List.{AllByRecursion}
 use Rattle.std.proofs.lemmas.Bool.{cases_Bool, and_parts, false_from_ne_true, not_from_false, not-true}
 use Rattle.record_key.specs.Table.{Bytes}
 use Rattle.record_key.specs.Order.{is_below, starts_at_most, ends_above, is_between}
-use Rattle.record_key.proofs.Lists.{all_from}
 use Rattle.page.specs.Leaf.{LeafView, first, IsLeaf, is_in_fences}
 use Rattle.page.specs.Parting.{joined_of, AreNeighbours}
 use Rattle.page.specs.Tiles.{parts_of, TileFrom}

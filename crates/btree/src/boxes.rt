@@ -1,5 +1,5 @@
-//! Leaves in boxes, in key order: the leaf of a key, what is done there, and what a split or a merge puts among them.
-ghost use Rattle.std.specs.Prelude.{◌≡◌, ◌+◌, ◌<◌, true, not, length, map, get_or, vec_len};
+//! Leaves in boxes, in key order: the leaf of a key, what is done there, and leaves that are put among them.
+ghost use Rattle.std.specs.Prelude.{◌≡◌, ◌+◌, ◌<◌, true, not, length, map, get_or, set, vec_len};
 ghost use Rattle.std.specs.Prelude.{OnErr, IfOk, IfErr, IsOk, IsOkUnless};
 ghost use Rattle.std.specs.Option.{option_copied};
 ghost use Rattle.std.specs.Vec.{vec_capacity};
@@ -119,4 +119,12 @@ pub fn merge_in(leaves: &mut Vec<Box<Leaf>>, place: usize, merge: Merge)
 {
     leaves[place] = merge.merged;
     leaves.remove(place + 1);
+}
+
+/// Puts a leaf in the place of another. Takes no memory.
+pub fn replace_in(leaves: &mut Vec<Box<Leaf>>, place: usize, leaf: Box<Leaf>)
+    requires { place < length (leaves_in leaves.old.items) }
+    ensures { leaves_in leaves.new.items ≡ set (leaves_in leaves.old.items) place leaf.value }
+{
+    leaves[place] = leaf;
 }

@@ -1,5 +1,5 @@
 //! What holds the leaves, seen as their list in key order.
-ghost use Rattle.std.specs.Prelude.{◌≡◌, ℕ, ◌+◌, ◌<◌, true, List, [], ◌∷◌, length, map, get_or};
+ghost use Rattle.std.specs.Prelude.{◌≡◌, ℕ, ◌+◌, ◌<◌, true, List, [], ◌∷◌, length, map, get_or, set};
 ghost use Rattle.std.specs.Prelude.{OnOk, OnErr, IfOk, IsOk, IsOkUnless};
 ghost use Rattle.std.specs.Option.{option_copied};
 ghost use Rattle.std.specs.FinMap as table;
@@ -106,6 +106,13 @@ pub trait LeafSet {
         requires both { IsMergeOf (get_or (leaves self.old) place first) (get_or (leaves self.old) (place + 1) first)
             merge.merged.value.last merge }
         ensures { leaves self.new ≡ merged_at place merge.merged.value.last (leaves self.old) };
+
+    /// Puts a leaf with the same fences in the place of another. Takes no memory.
+    fn replace(&mut self, place: usize, leaf: Box<Leaf>)
+        requires there { place < length (leaves self.old) }
+        requires low { leaf.value.low_fence ≡ (get_or (leaves self.old) place first).low_fence }
+        requires high { leaf.value.high_fence ≡ (get_or (leaves self.old) place first).high_fence }
+        ensures { leaves self.new ≡ set (leaves self.old) place leaf.value };
 }
 
 /// The leaves of a new tree: the first leaf alone. Refused NoMemory.

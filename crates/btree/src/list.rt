@@ -1,7 +1,7 @@
 //! Leaves in a plain list.
 ghost use Rattle.std.specs.Prelude.{◌≡◌};
 
-use crate::boxes::{merge_in, perform_in, place_in, raise_in, scan_in, split_in};
+use crate::boxes::{merge_in, perform_in, place_in, raise_in, replace_in, scan_in, split_in};
 use crate::choosing::{large_in, pair_in};
 use crate::leaf_set::LeafSet;
 use crate::parting::{Merge, Split};
@@ -104,5 +104,10 @@ impl LeafSet for LeafList {
 
     fn merge(&mut self, place: usize, merge: Merge) {
         merge_in(&mut self.leaves, place, merge);
+    }
+
+    fn replace(&mut self, place: usize, leaf: Box<Leaf>) {
+        leaf.kept();
+        replace_in(&mut self.leaves, place, leaf);
     }
 }

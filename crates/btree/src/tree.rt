@@ -127,4 +127,9 @@ impl LeafSet for Tree {
         self.root.put(place, merge.merged);
         remove_in(self.alloc, &mut self.root, place + 1);
     }
+
+    fn replace(&mut self, place: usize, leaf: Box<Leaf>) {
+        leaf.kept();
+        self.root.put(place, leaf);
+    }
 }

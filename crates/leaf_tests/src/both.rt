@@ -31,12 +31,7 @@ fn step(
     let more = call % 1000 < 500;
     let rest = n / 16;
     match n % 16 {
-        0 => {
-            let low = call.saturating_sub(rest % 64);
-            calls::raise(list, low);
-            calls::raise(tree, low);
-            Ok(true)
-        }
+        0 => raised(list, tree, call.saturating_sub(rest % 64)),
         1 => scanned(list, tree, rest, tally),
         2 => performed(
             list,
@@ -47,10 +42,26 @@ fn step(
         ),
         8 => split(list, tree, &key_of(rest)?, call, tally),
         9 => merged(list, tree, &key_of(rest)?, call, tally),
+        10 => {
+            let place = rest as usize % tree.len();
+            taken_back(
+                list,
+                tree,
+                place,
+                call.saturating_sub(rest / 64 % 64),
+                tally,
+            )
+        }
         3..=7 if more => split(list, tree, &key_of(rest)?, call, tally),
         3..=7 => merged(list, tree, &key_of(rest)?, call, tally),
         _ => performed(list, tree, call, &op_of(rest, more)?, tally),
     }
+}
+
+fn raised(list: &mut LeafList, tree: &mut Tree, low: u64) -> Result<bool, Refusal> {
+    calls::raise(list, low);
+    calls::raise(tree, low);
+    Ok(true)
 }
 
 /// One of 512 keys.
@@ -134,6 +145,28 @@ fn merged(
         expected => expected,
     };
     Ok(done == expected)
+}
+
+/// What the leaf at a place did above the end.
+fn taken_back(
+    list: &mut LeafList,
+    tree: &mut Tree,
+    place: usize,
+    end: u64,
+    tally: &mut Tally,
+) -> Result<bool, Refusal> {
+    match calls::take_back(tree, place, end) {
+        Err(Refusal::NoMemory) if are_same_leaves(list, tree) => {
+            tally.count_memory();
+            calls::take_back(tree, place, end)?;
+        }
+        done => done?,
+    }
+    match calls::take_back(list, place, end) {
+        Err(Refusal::NoMemory) => calls::take_back(list, place, end)?,
+        done => done?,
+    }
+    Ok(true)
 }
 
 /// The rows from one key on, to another or to the end.

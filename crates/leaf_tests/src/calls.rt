@@ -33,6 +33,16 @@ pub fn raise<L: LeafSet>(leaves: &mut L, low: u64) {
     leaves.raise(low);
 }
 
+/// Puts what the leaf at a place is once all above the end is taken back in its place, where there is such a leaf.
+pub fn take_back<L: LeafSet>(leaves: &mut L, place: usize, end: u64) -> Result<(), Refusal> {
+    if place < leaves.len() {
+        let copy = leaves.leaf(place).taken_back(end)?;
+        let leaf = Box::new(leaves.allocator(), copy)?;
+        leaves.replace(place, leaf);
+    }
+    Ok(())
+}
+
 /// One leaf, made again where memory is refused.
 pub fn one_leaf_again<L: LeafSet>(alloc: Global, tally: &mut Tally) -> Result<L, Refusal> {
     match one_leaf(alloc) {

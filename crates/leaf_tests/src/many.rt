@@ -45,6 +45,10 @@ fn change<L: LeafSet>(
             calls::raise(leaves, words.number()?);
             Ok(())
         }
+        "back" => {
+            let place = words.number()? as usize;
+            calls::take_back(leaves, place, words.number()?)
+        }
         _ => read(leaves, name, words, answer),
     }
 }

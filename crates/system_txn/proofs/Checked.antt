@@ -12,6 +12,7 @@ use Rattle.ab_lsn.specs.AbLsn.{AbLsnView, raised}
 use Rattle.codec.specs.declared.dc_record.DcRecord.TheVariants as is
 use Rattle.codec.specs.Images.{image_bytes, IsImage}
 use Rattle.page.specs.Leaf.{LeafView, raised_to}
+use Rattle.page.specs.TakingBack.{taken_back as leaf_taken_back}
 use Rattle.page.specs.Tops.{is_within, all_within}
 use Rattle.page.specs.Parting.{upper_of, joined_of}
 use Rattle.btree.specs.Leaves.{leaf_at}
@@ -28,7 +29,7 @@ use Rattle.recovery_laws.specs.Ready.{IsLow, IsReady}
 use Rattle.recovery_laws.proofs.Ready.{ready_stays}
 use Rattle.stable.specs.Usage.{Usage, called}
 use Rattle.system_txn.specs.SystemView.{SystemView, fresh, with_usage, log_refused}
-use Rattle.system_txn.specs.Changes.{next_id, next_number, leaf_in, split_to, merged_to, accepted, covered, forced, lowered, written_to, written_all}
+use Rattle.system_txn.specs.Changes.{next_id, next_number, leaf_in, split_to, merged_to, accepted, covered, forced, lowered, taken_back, written_to, written_all}
 use Rattle.system_txn.specs.Checked.{IsChecked, Checks}
 use Rattle.system_txn.specs.Crashed.{crashed}
 use Rattle.system_txn.specs.Devices.{pages_of}
@@ -90,11 +91,6 @@ accepted_checked v session h l c = record {
       c.ready;
 }
 
--- a session's record is stable
-pub session_checked : (v : SystemView) (session : ℕ) → IsRecoverable v → Checks v (forced (accepted v session))
-session_checked v session h l c =
-    forced_checked (accepted v session) (recoverable_accepted v session h) l (accepted_checked v session h l c)
-
 -- ---- leaves change
 
 pub performed_checked : (v : SystemView) (n : ℕ) (o : Op)
@@ -109,6 +105,19 @@ lowered_checked v to l c = record {
       (λ leaf low. omega (arith, low, low_grows leaf.ab to)) v.leaves c.leaves;
   ready = c.ready;
 }
+
+pub taken_back_checked : (v : SystemView) (end : ℕ) → Checks v (taken_back v end)
+taken_back_checked v end l c = record {
+  leaves = all_mapped (IsLow l) (IsLow l) (λ leaf. leaf_taken_back leaf end) (λ leaf low. low) v.leaves c.leaves;
+  ready = c.ready;
+}
+
+-- a session's record is stable, and what is above the end is taken back
+pub session_checked : (v : SystemView) (session end : ℕ) → IsRecoverable v
+    → Checks v (taken_back (forced (accepted v session)) end)
+session_checked v session end h l c =
+    taken_back_checked (forced (accepted v session)) end l
+    (forced_checked (accepted v session) (recoverable_accepted v session h) l (accepted_checked v session h l c))
 
 -- ---- leaves are split and joined
 
@@ -256,12 +265,12 @@ checked_flush old k known (Err r) new kept h gives l c =
       | inr above ↦ let none : StopsNotNow old r new = rw above at gives in subst (IsChecked l) (sym none.1) c
     ]
 
-pub checked_accept : (old : SystemView) (s : ℕ) (given : Result Unit Refusal) (new : SystemView)
-    → IsRecoverable old → AcceptGives old s given new → Checks old new
-checked_accept old s (Ok done) new h gives l c =
-    subst (IsChecked l) (sym gives.1) (session_checked old s h l c)
-checked_accept old s (Err r) new h (inl append) l c = refused_at old r new append.1 l c
-checked_accept old s (Err r) new h (inr force) l c =
+pub checked_accept : (old : SystemView) (s end : ℕ) (given : Result Unit Refusal) (new : SystemView)
+    → IsRecoverable old → AcceptGives old s end given new → Checks old new
+checked_accept old s end (Ok done) new h gives l c =
+    subst (IsChecked l) (sym gives.1) (session_checked old s end h l c)
+checked_accept old s end (Err r) new h (inl append) l c = refused_at old r new append.1 l c
+checked_accept old s end (Err r) new h (inr force) l c =
     refused_at (accepted old s) Device new force.2.0 l (accepted_checked old s h l c)
 
 pub checked_checkpoint : (old : SystemView) (to known : ℕ) (given : Result Unit Refusal) (new : SystemView)

@@ -1,13 +1,18 @@
 -- Leaves that change, and keep numbers that have spellings.
 use Rattle.std.proofs.Common.{◌≡◌, ℕ, false, List, map, sym, subst, inl, inr}
+use Rattle.std.specs.Prelude.{not, nat_lt}
 use Rattle.std.specs.List.{AllByRecursion}
 use Rattle.std.proofs.lemmas.Bool.{cases_Bool, MatchBool-at_true, MatchBool-at_false}
 use Rattle.record_key.specs.Table.{key_of}
+use Rattle.record_key.specs.declared.entry.Entry.{Entry}
 use Rattle.record_key.specs.declared.op.Op.{Op}
 use Rattle.ab_lsn.specs.AbLsn.{captures}
+use Rattle.codec.specs.Entries.{HasEntryNumber}
 use Rattle.codec.specs.Fields.{IsNumber}
 use Rattle.page.specs.declared.leaf.Done.{Done}
 use Rattle.page.specs.Leaf.{LeafView, performed, raised_to}
+use Rattle.page.specs.TakingBack.{taken_back as leaf_taken_back}
+use Rattle.page.proofs.Raising.{all_filtered}
 use Rattle.btree.specs.Leaves.{AreLeaves, leaf_at}
 use Rattle.btree.specs.Performs.{PerformsAt, performed_at}
 use Rattle.btree.proofs.Changing.{all_changed, all_mapped}
@@ -15,7 +20,7 @@ use Rattle.btree.proofs.Stays.{performed_leaves, raised_stays}
 use Rattle.recovery_laws.specs.Images.{HasLeafNumbers}
 use Rattle.recovery_laws.proofs.Images.{numbers_stay}
 use Rattle.system_txn.specs.SystemView.{SystemView}
-use Rattle.system_txn.specs.Changes.{lowered}
+use Rattle.system_txn.specs.Changes.{lowered, taken_back}
 use Rattle.system_txn.specs.Kept.{IsSystem}
 
 keeps_changed : (v : SystemView) (leaves : List LeafView) → IsSystem v → AreLeaves leaves
@@ -35,6 +40,21 @@ keeps_lowered v l small h =
     (raised_stays v.leaves l h.leaves).leaves
     (all_mapped HasLeafNumbers HasLeafNumbers (λ leaf. raised_to leaf l)
     (λ leaf has. numbers_stay.raise leaf l has small) v.leaves h.numbers)
+
+-- what is above an end is taken back
+pub keeps_taken_back : (v : SystemView) (end : ℕ) → IsSystem v → AreLeaves (taken_back v end).leaves
+    → IsSystem (taken_back v end)
+keeps_taken_back v end h kept =
+    keeps_changed v (taken_back v end).leaves h kept
+    (all_mapped HasLeafNumbers HasLeafNumbers (λ leaf. leaf_taken_back leaf end)
+    (λ leaf has. record {
+      id = has.id;
+      last = has.last;
+      low = has.low;
+      entries =
+          all_filtered HasEntryNumber (λ (e : Entry). not (nat_lt end e.number)) leaf.ab.entries has.entries;
+    })
+    v.leaves h.numbers)
 
 pub keeps_performed : (v : SystemView) (n : ℕ) (o : Op) → IsNumber n → IsSystem v
     → captures (leaf_at v.leaves (key_of o)).ab n ≡ false → IsSystem (record v { leaves = performed_at v.leaves n o })

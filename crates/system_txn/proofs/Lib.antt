@@ -24,6 +24,7 @@ pub mod Parted
 pub mod Places
 pub mod ReadOnce
 pub mod Recoverable
+pub mod Replacing
 pub mod Replayed
 pub mod Restarting
 pub mod Shelves

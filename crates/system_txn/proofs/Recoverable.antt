@@ -12,8 +12,9 @@ use Rattle.codec.specs.declared.dc_record.DcRecord.TheVariants as is
 use Rattle.codec.specs.Images.{image_bytes, IsImage}
 use Rattle.codec.specs.Reading.{◌>>=◌}
 use Rattle.page.specs.Leaf.{LeafView, is_in_fences, performed, raised_to}
+use Rattle.page.specs.TakingBack.{taken_back as leaf_taken_back}
 use Rattle.page.specs.Tops.{is_within, all_within}
-use Rattle.page.specs.Tiles.{parts_of}
+use Rattle.page.specs.Tiles.{part_of, parts_of}
 use Rattle.btree.specs.Leaves.{leaf_at, changed_at}
 use Rattle.btree.specs.Performs.{performed_at}
 use Rattle.btree.proofs.AtKey.{all_at}
@@ -26,7 +27,7 @@ use Rattle.recovery_laws.proofs.Fitting.{fit_stays}
 use Rattle.recovery_laws.proofs.Leaves.{leaves_are_the_shapes}
 use Rattle.stable.specs.Usage.{Usage, called}
 use Rattle.system_txn.specs.SystemView.{SystemView, fresh, with_usage, log_refused}
-use Rattle.system_txn.specs.Changes.{accepted, covered, forced, lowered, written_to, written_all}
+use Rattle.system_txn.specs.Changes.{accepted, covered, forced, lowered, taken_back, written_to, written_all}
 use Rattle.system_txn.specs.Devices.{pages_of, page_in}
 use Rattle.system_txn.specs.Gives.{Splits, Merges, SplitGives, MergeGives, Tending, SplitsAt, MergesAt, Rests, tending, TendsTo, TendGives, FlushGives, CheckpointGives, AcceptGives, HaveImages, StopsNotNow, StopsTending, FailsWriting, FailsAmong}
 use Rattle.system_txn.specs.Kept.{IsSystem, IsRecoverable}
@@ -90,14 +91,22 @@ in_place v leaves h parts lasts = record {
   fit = h.fit;
 }
 
-lasts_raised : (l : ℕ) (leaves : List LeafView) → lasts_of (map (λ leaf. raised_to leaf l) leaves) ≡ lasts_of leaves
-lasts_raised l [] = refl
-lasts_raised l (leaf ∷ leaves) = ap (λ (ns : List ℕ). leaf.last ∷ ns) (lasts_raised l leaves)
+module _ (change : LeafView → LeafView) (part : (leaf : LeafView) → part_of (change leaf) ≡ part_of leaf)
+    (last : (leaf : LeafView) → (change leaf).last ≡ leaf.last) where
+  lasts_mapped : (leaves : List LeafView) → lasts_of (map change leaves) ≡ lasts_of leaves
+  lasts_mapped [] = refl
+  lasts_mapped (leaf ∷ leaves) = λ i. last leaf i ∷ lasts_mapped leaves i
+
+  recoverable_mapped : (v : SystemView) → IsRecoverable v → IsRecoverable (record v { leaves = map change v.leaves })
+  recoverable_mapped v h =
+      in_place v (map change v.leaves) h (parts_mapped change part v.leaves) (lasts_mapped v.leaves)
 
 pub recoverable_lowered : (v : SystemView) (l : ℕ) → IsRecoverable v → IsRecoverable (lowered v l)
-recoverable_lowered v l h =
-    in_place v (map (λ leaf. raised_to leaf l) v.leaves) h
-    (parts_mapped (λ leaf. raised_to leaf l) (λ leaf. refl) v.leaves) (lasts_raised l v.leaves)
+recoverable_lowered v l h = recoverable_mapped (λ leaf. raised_to leaf l) (λ leaf. refl) (λ leaf. refl) v h
+
+pub recoverable_taken_back : (v : SystemView) (end : ℕ) → IsRecoverable v → IsRecoverable (taken_back v end)
+recoverable_taken_back v end h =
+    recoverable_mapped (λ leaf. leaf_taken_back leaf end) (λ leaf. refl) (λ leaf. refl) v h
 
 lasts_changed : (k : Bytes) (change : LeafView → LeafView) → ((leaf : LeafView) → (change leaf).last ≡ leaf.last)
     → (leaves : List LeafView) → lasts_of (changed_at k change leaves) ≡ lasts_of leaves
@@ -270,10 +279,12 @@ recoverable_checkpoint old l known (Err r) new h gives =
       | inr above ↦ let none : StopsNotNow old r new = rw above at gives in subst IsRecoverable (sym none.1) h
     ]
 
-pub recoverable_accept : (old : SystemView) (s : ℕ) (given : Result Unit Refusal) (new : SystemView)
-    → IsRecoverable old → AcceptGives old s given new → IsRecoverable new
-recoverable_accept old s (Ok done) new h gives =
-    subst IsRecoverable (sym gives.1) (recoverable_forced (accepted old s) (recoverable_accepted old s h))
-recoverable_accept old s (Err r) new h (inl append) = refused_at old r new h append.1
-recoverable_accept old s (Err r) new h (inr force) =
+pub recoverable_accept : (old : SystemView) (s end : ℕ) (given : Result Unit Refusal) (new : SystemView)
+    → IsRecoverable old → AcceptGives old s end given new → IsRecoverable new
+recoverable_accept old s end (Ok done) new h gives =
+    subst IsRecoverable (sym gives.1)
+    (recoverable_taken_back (forced (accepted old s)) end
+    (recoverable_forced (accepted old s) (recoverable_accepted old s h)))
+recoverable_accept old s end (Err r) new h (inl append) = refused_at old r new h append.1
+recoverable_accept old s end (Err r) new h (inr force) =
     refused_at (accepted old s) Device new (recoverable_accepted old s h) force.2.0

@@ -3,7 +3,7 @@ use Rattle.std.proofs.Common.{◌≡◌, ℕ, ◌+◌, ◌<◌, ◌≤◌, Bool,
 use Rattle.std.specs.Prelude.{nat_lt}
 use Rattle.std.specs.List.{flat_map}
 use Rattle.std.proofs.lemmas.Bool.{cases_lt}
-use Rattle.std.proofs.lemmas.List.{length-append, take_more, take_all}
+use Rattle.std.proofs.lemmas.List.{length-append, take_more}
 use Rattle.record_key.specs.declared.entry.Entry.{Entry}
 use Rattle.record_key.proofs.Lists.{all_from, all_appended}
 use Rattle.ab_lsn.specs.AbLsn.{AbLsnView, raised}

@@ -5,6 +5,7 @@ use Rattle.codec.specs.declared.dc_record.DcRecord.TheVariants as is
 use Rattle.codec.specs.Images.{image_bytes}
 use Rattle.stable.specs.Usage.{called}
 use Rattle.page.specs.Leaf.{LeafView, first, raised_to}
+use Rattle.page.specs.TakingBack.{taken_back as leaf_taken_back}
 pub use Rattle.btree.specs.Choosing.{first_large, first_pair}
 use Rattle.btree.specs.Parting.{middle, split_at, merged_at}
 use Rattle.recovery_laws.specs.Images.{image_of}
@@ -61,6 +62,10 @@ written_all v (leaf ∷ leaves) = written_all (written_to v leaf) leaves
 -- each leaf counts every number up to this one as performed
 abbrev pub lowered : SystemView → ℕ → SystemView
 lowered v l = record v { leaves = map (λ leaf. raised_to leaf l) v.leaves }
+
+-- what each leaf did above an end is taken back there
+abbrev pub taken_back : SystemView → ℕ → SystemView
+taken_back v end = record v { leaves = map (λ leaf. leaf_taken_back leaf end) v.leaves }
 
 -- a session's record stands in the log
 abbrev pub accepted : SystemView → ℕ → SystemView

@@ -17,7 +17,7 @@ use Rattle.recovery_laws.specs.Images.{image_of}
 use Rattle.recovery_laws.specs.Shape.{named}
 use Rattle.system_txn.specs.Uses.{FailsWhenDue}
 use Rattle.system_txn.specs.SystemView.{SystemView, log_refused, pages_refused}
-use Rattle.system_txn.specs.Changes.{next_id, leaf_in, split_to, merged_to, first_large, first_pair, covered, written_to, written_all, lowered, accepted, forced}
+use Rattle.system_txn.specs.Changes.{next_id, leaf_in, split_to, merged_to, first_large, first_pair, covered, written_to, written_all, lowered, taken_back, accepted, forced}
 use Rattle.system_txn.specs.declared.tended.Neighbours.{Neighbours}
 use Rattle.system_txn.specs.declared.tended.Tended.{Tended}
 use Rattle.system_txn.specs.declared.tended.Tended.TheVariants as tended
@@ -180,9 +180,10 @@ CheckpointGives old l known (Ok _) new = Checkpoints known old l new
 CheckpointGives old l known (Err r) new =
     MatchBool (all_within known old.leaves) (StopsCheckpoint old l r new) (StopsNotNow old r new)
 
--- the session's record is stable. Where the force fails it stands in the log
-abbrev pub AcceptGives : SystemView → ℕ → Result Unit Refusal → SystemView → Type 0
-AcceptGives old s (Ok _) new = (append_refusal old ≡ None) × (new ≡ forced (accepted old s))
-AcceptGives old s (Err r) new =
+-- the session's record is stable, and what leaves did above the end is taken back. Where the force fails the record
+-- stands in the log, and the leaves are as before
+abbrev pub AcceptGives : SystemView → ℕ → ℕ → Result Unit Refusal → SystemView → Type 0
+AcceptGives old s end (Ok _) new = (append_refusal old ≡ None) × (new ≡ taken_back (forced (accepted old s)) end)
+AcceptGives old s end (Err r) new =
     StopsAppend (append_refusal old) old r new
     ⊎ ((append_refusal old ≡ None) × (r ≡ Device) × ForceFails (accepted old s) new)

@@ -8,6 +8,7 @@ pub mod Recovering
 pub mod Changes
 pub mod Gives
 pub mod Writing
+pub mod Replacing
 pub mod Finding
 pub mod Known
 pub mod Reading

@@ -23,6 +23,7 @@ mod recovering;
 mod replaying;
 mod shelf;
 mod system;
+mod taking_back;
 mod tended;
 mod writing;
 

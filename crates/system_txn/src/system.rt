@@ -133,13 +133,14 @@ impl<L: LeafSet, D: LogDevice, P: PageDevice> SystemTxns<L, D, P> {
         self.parts.checkpoint(low, known)
     }
 
-    /// Logs that the session is accepted, and forces the log. Refused NumbersSpent, NoMemory, Device: where the force
+    /// Logs that the session is accepted, forces the log, and takes back in each leaf what its entries above the end of
+    /// the session's log did. Refused NumbersSpent, NoMemory, Device: the leaves are as before, and where the force
     /// fails the record stands in the log.
-    pub fn accept(&mut self, session: u64) -> Result<(), Refusal>
+    pub fn accept(&mut self, session: u64, end: u64) -> Result<(), Refusal>
         requires { session < 2 ^ 48 }
-        ensures gives { AcceptGives self.old session result self.new }
+        ensures gives { AcceptGives self.old session end result self.new }
     {
-        self.parts.accept(session)
+        self.parts.accept(session, end)
     }
 
     /// Whether the log has a number for one record more. Refused NumbersSpent.

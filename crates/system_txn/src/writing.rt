@@ -1,4 +1,4 @@
-//! Leaves that are written to their pages, the log first, and sessions that are accepted.
+//! Leaves that are written to their pages, the log first.
 ghost use Rattle.std.specs.Prelude.{◌≡◌, ◌<◌, ◌≤◌, ◌^◌, ℕ, true, length, get_or, vec_capacity, IfOk, IfErr, OnOk, OnErr};
 ghost use Rattle.std.specs.List.{AllByRecursion};
 ghost use Rattle.codec.specs.Images.{IsOrderedImage, IsImage, image_bytes};
@@ -6,16 +6,16 @@ ghost use Rattle.page.specs.Leaf.{LeafView, first};
 ghost use Rattle.page.specs.Tops.{all_within};
 ghost use Rattle.recovery_laws.specs.Images.{image_of};
 ghost use Rattle.system_txn.specs.Changes.{covered, written_to, written_all};
-ghost use Rattle.system_txn.specs.Gives.{FlushGives, CheckpointGives, AcceptGives, HaveImages, ForceFails, FailsWriting, FailsAmong};
+ghost use Rattle.system_txn.specs.Gives.{FlushGives, CheckpointGives, HaveImages, ForceFails, FailsWriting, FailsAmong};
 ghost use Rattle.system_txn.specs.Kept.{IsSystem};
 ghost use Rattle.system_txn.specs.Seen.{seen};
 ghost use Rattle.system_txn.specs.Writing.{image_len, HasRoom, HaveRoom};
 
 use crate::change_log::refusal_of;
 use crate::image::image_of;
-use crate::parts::{LAST_NUMBER, Parts};
+use crate::parts::Parts;
 use btree::LeafSet;
-use codec::{DcRecordRef, leaf_image_len, put_leaf_image};
+use codec::{leaf_image_len, put_leaf_image};
 use page::Leaf;
 use record_key::{Key, Refusal};
 use stable::{LogDevice, PageDevice};
@@ -57,21 +57,6 @@ impl<L: LeafSet, D: LogDevice, P: PageDevice> Parts<L, D, P> {
         }
         self.lower(low);
         self.write_all()
-    }
-
-    pub fn accept(&mut self, session: u64) -> Result<(), Refusal>
-        requires kept { IsSystem (seen L.leaves P.pages P.usage self.old) }
-        requires number { session < 2 ^ 48 }
-        ensures kept { IsSystem (seen L.leaves P.pages P.usage self.new) }
-        ensures gives { AcceptGives (seen L.leaves P.pages P.usage self.old) session result
-            (seen L.leaves P.pages P.usage self.new) }
-    {
-        if self.log.len() >= LAST_NUMBER {
-            return Err(Refusal::NumbersSpent);
-        }
-        self.log.append(&DcRecordRef::Accept { session })?;
-        self.log.force()?;
-        Ok(())
     }
 
     /// Writes each leaf. There is room for them.
