@@ -12,7 +12,7 @@ use Rattle.system_txn.specs.SystemView.{SystemView}
 use Rattle.system_txn.specs.Kept.{IsSystem}
 use Rattle.dc_core.specs.declared.performance.Performance.{Performance}
 use Rattle.dc_core.specs.DcView.{DcView, leaves, captures_at, noted}
-use Rattle.dc_core.specs.Serves.{KeepsKey, performs}
+use Rattle.dc_core.specs.Serves.{MayPerform, performs}
 use Rattle.dc_core.specs.Kept.{IsDc}
 use Rattle.dc_core.proofs.KeepsDc.{keeps_performed, is_performed}
 
@@ -23,9 +23,9 @@ pub record IsAsked (w : DcView) (n : ℕ) (o : Op) (came : Done) (v : SystemView
   pub list : ps ≡ noted came n o w.performed
 
 module _ (w : DcView) (n : ℕ) (o : Op) (v : SystemView) (ps : List Performance) (kept : IsDc w) where
-  pub keeps_asked : (a : Answer) → KeepsKey w n (key_of o) → IsSystem v → IsAsked w n o (Performed a) v ps
+  pub keeps_asked : (a : Answer) → MayPerform w n o → IsSystem v → IsAsked w n o (Performed a) v ps
       → IsDc (record w { system = v; performed = ps })
-  keeps_asked a key is asked =
+  keeps_asked a may is asked =
       elim (cases_Bool (captures_at w (key_of o) n)) [
         | inl captured ↦ let same = rw captured at asked.done in absurd (cc same.0)
         | inr out ↦
@@ -33,7 +33,7 @@ module _ (w : DcView) (n : ℕ) (o : Op) (v : SystemView) (ps : List Performance
             let answer : a ≡ answer_in (leaf_at (leaves w) (key_of o)).rows o = cc in
             let system : v ≡ (performs w n o).system = asked.rest ∙ ap (λ ls. record w.system { leaves = ls }) now.1 in
             subst IsDc (sym (is_performed w n o a v ps asked.list answer system))
-            (keeps_performed w n o kept key out (subst IsSystem system is))
+            (keeps_performed w n o kept may out (subst IsSystem system is))
       ]
 
   pub keeps_repeated : (a : Option Answer) → IsAsked w n o (Repeated a) v ps

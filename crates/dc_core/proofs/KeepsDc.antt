@@ -1,6 +1,6 @@
 -- What each call leaves of the data component is as it must be at every moment.
-use Rattle.std.proofs.Common.{◌≡◌, ◌≢◌, ℕ, ◌≤◌, ◌==◌, true, false, List, [], ◌∷◌, length, refl, sym, ap, ◌∙◌, subst, arith, inl, true≢false, eq-eqb, append-nil}
-use Rattle.std.specs.Prelude.{nat_le}
+use Rattle.std.proofs.Common.{◌≡◌, ◌≢◌, ℕ, ◌<◌, ◌≤◌, ◌==◌, true, false, List, [], ◌∷◌, length, refl, sym, ap, ◌∙◌, subst, arith, inl, inr, true≢false, eq-eqb, append-nil}
+use Rattle.std.specs.Prelude.{◌⊎◌, nat_le}
 use Rattle.std.specs.List.{AllByRecursion}
 use Rattle.std.proofs.lemmas.Bool.{or_left, or_right}
 use Rattle.record_key.proofs.Lists.{all_from}
@@ -8,13 +8,15 @@ use Rattle.record_key.specs.declared.op.Op.{Op}
 use Rattle.record_key.specs.declared.op.Answer.{Answer}
 use Rattle.record_key.specs.Rows.{table_of}
 use Rattle.std.specs.FinMap as map
-use Rattle.record_key.specs.Table.{Bytes, Table, key_of, answer_in, after}
+use Rattle.record_key.specs.Table.{Bytes, Table, key_of, AreAdds, answer_in, after}
 use Rattle.record_key.specs.declared.entry.Entry.{Entry}
+use Rattle.record_key.specs.Entries.{top_in}
 use Rattle.ab_lsn.specs.AbLsn.{stands_in, captures}
 use Rattle.page.specs.Leaf.{LeafView, IsLeaf, is_in_fences}
 use Rattle.page.proofs.Halves.{table_again}
 use Rattle.btree.specs.Leaves.{leaf_at, rows_of}
 use Rattle.btree.specs.Performs.{performed_at}
+use Rattle.btree.specs.TreeLaw.{PerformsOne}
 use Rattle.btree.proofs.AtKey.{captured_performed, captured_not_performed}
 use Rattle.btree.proofs.Carried.{entries_performed}
 use Rattle.btree.proofs.Owning.{own_leaves}
@@ -25,9 +27,11 @@ use Rattle.stable.specs.Usage.{Usage}
 use Rattle.system_txn.specs.SystemView.{SystemView, fresh as fresh_system}
 use Rattle.system_txn.specs.Kept.{IsSystem}
 use Rattle.dc_core.specs.declared.performance.Performance.{Performance}
-use Rattle.dc_core.specs.DcView.{DcView, leaves, captures_at}
-use Rattle.dc_core.specs.Serves.{KeepsKey, with_system, performs}
-use Rattle.dc_core.specs.Kept.{IsDc, Saves, IsListed, AreListed}
+use Rattle.take_back_laws.specs.Performed as laws
+use Rattle.take_back_laws.specs.Listed as listing
+use Rattle.dc_core.specs.DcView.{DcView, leaves, captures_at, top_of}
+use Rattle.dc_core.specs.Serves.{MayPerform, with_system, performs}
+use Rattle.dc_core.specs.Kept.{IsDc, Saves, IsListed, AreListed, for_law, for_laws, IsPerformed, ArePerformed}
 use Rattle.dc_core.proofs.Stored.{stored_all}
 
 -- what two facts give at each element
@@ -35,6 +39,12 @@ pub all_both : {X : Type 0} (P Q R : X → Type 0) → ((x : X) → P x → Q x 
     → AllByRecursion Q xs → AllByRecursion R xs
 all_both P Q R from [] all also = tt
 all_both P Q R from (x ∷ xs) all also = (from x all.0 also.0, all_both P Q R from xs all.1 also.1)
+
+-- what performances have, they have for the laws
+pub all_for : (P : laws.Performance → Type 0) (ps : List Performance)
+    → AllByRecursion (λ (p : Performance). P (for_law p)) ps → AllByRecursion P (for_laws ps)
+all_for P [] all = tt
+all_for P (p ∷ ps) all = (all.0, all_for P ps all.1)
 
 -- ---- the leaves and their devices change, and the records stay
 
@@ -51,6 +61,7 @@ pub record Carries (w : DcView) (v : SystemView) : Type 0 where
   pub rows : rows_of v.leaves ≡ rows_of (leaves w)
   pub captured : (p : Performance) → IsCaptured (leaves w) p → AllSave (leaves w) p → IsCaptured v.leaves p
   pub saved : AllByRecursion (AreListed w.performed) v.leaves
+  pub added : AllByRecursion (ArePerformed w.opened_to (for_laws w.performed)) v.leaves
   pub stored : stored_session (beginning w.system.log w.system.stable) ≤ stored_session (beginning v.log v.stable)
 
 -- what each entry says of all performances, each performance says of all entries
@@ -62,7 +73,7 @@ saves_of (p ∷ ps) es all = (
   saves_of ps es (all_from (IsListed (p ∷ ps)) (IsListed ps) (λ e listed. listed.1) es all),
 )
 
-all_save : (ps : List Performance) (ls : List LeafView) → AllByRecursion (AreListed ps) ls
+pub all_save : (ps : List Performance) (ls : List LeafView) → AllByRecursion (AreListed ps) ls
     → AllByRecursion (AllSave ls) ps
 all_save ps [] all = each ps
   where
@@ -82,6 +93,9 @@ keeps_carried w v k is c = record {
       all_both (IsCaptured (leaves w)) (AllSave (leaves w)) (IsCaptured v.leaves) c.captured w.performed k.captured
       (all_save w.performed (leaves w) k.saved);
   saved = c.saved;
+  answered = k.answered;
+  falls = k.falls;
+  added = c.added;
   session = k.session;
   stored = omega (arith, k.stored, c.stored);
 }
@@ -93,12 +107,13 @@ same_leaves w v k same stored = record {
   rows = ap rows_of same;
   captured = λ p was saves. ap (λ (ls : List LeafView). captures (leaf_at ls (key_of p.op)).ab p.number) same ∙ was;
   saved = subst (AllByRecursion (AreListed w.performed)) (sym same) k.saved;
+  added = subst (AllByRecursion (ArePerformed w.opened_to (for_laws w.performed))) (sym same) k.added;
   stored = stored;
 }
 
 -- ---- a new number
 
-module _ (w : DcView) (n : ℕ) (o : Op) (k : IsDc w) (key : KeepsKey w n (key_of o))
+module _ (w : DcView) (n : ℕ) (o : Op) (k : IsDc w) (may : MayPerform w n o)
     (out : captures_at w (key_of o) n ≡ false) where
   abbrev IsOther : Performance → Type 0
   IsOther q = q.number ≢ n
@@ -107,7 +122,7 @@ module _ (w : DcView) (n : ℕ) (o : Op) (k : IsDc w) (key : KeepsKey w n (key_o
   apart =
       all_both (IsCaptured (leaves w)) (λ (q : Performance). q.number ≡ n → key_of q.op ≡ key_of o) IsOther
       (λ q was on same. true≢false (sym was ∙ ap (λ (z : Bytes). captures_at w z q.number) (on same)
-      ∙ ap (captures_at w (key_of o)) same ∙ out)) w.performed k.captured key.listed
+      ∙ ap (captures_at w (key_of o)) same ∙ out)) w.performed k.captured may.key.listed
 
   abbrev now : Performance
   now = record { number = n; op = o; answer = answer_in (leaf_at (leaves w) (key_of o)).rows o }
@@ -149,7 +164,7 @@ module _ (w : DcView) (n : ℕ) (o : Op) (k : IsDc w) (key : KeepsKey w n (key_o
       (λ leaf is keys. entry_apart leaf is.0 is.1 keys) (leaves w)
       (all_both IsOwn IsLeaf IsOwnLeaf (λ leaf own kept. (own, kept)) (leaves w)
       (own_leaves (leaves w) k.system.leaves) k.system.leaves.each)
-      key.saved
+      may.key.saved
 
   saved_old : AllByRecursion (AreListed (now ∷ w.performed)) (leaves w)
   saved_old =
@@ -166,11 +181,41 @@ module _ (w : DcView) (n : ℕ) (o : Op) (k : IsDc w) (key : KeepsKey w n (key_o
         (λ q other same. absurd (other same)) w.performed apart,
   )
 
+  abbrev one : PerformsOne (leaves w) n o
+  one = performs_one (leaves w) n o k.system.leaves out
+
+  -- it is answered as the performances so far tell
+  answered_now : now.answer ≡ answer_in (laws.replayed w.opened (for_laws w.performed)) o
+  answered_now = one.answer ∙ ap (λ (rows : Table). answer_in rows o) k.rows
+
+  falls_now : (q : Bytes) → listing.FallOn q (for_laws (now ∷ w.performed))
+  falls_now q = (
+    λ on. all_for (λ (p : laws.Performance). key_of p.op ≡ q → (p.number < n) ⊎ AreAdds o p.op) w.performed
+        (all_from (λ (p : Performance). key_of p.op ≡ key_of o → (p.number < n) ⊎ AreAdds o p.op)
+        (λ (p : Performance). key_of p.op ≡ q → (p.number < n) ⊎ AreAdds o p.op)
+        (λ p next at. next (at ∙ sym on)) w.performed (may.next out)),
+    k.falls q,
+  )
+
+  abbrev IsAdded : Entry → Type 0
+  IsAdded = IsPerformed w.opened_to (for_laws (now ∷ w.performed))
+
+  added_old : AllByRecursion (ArePerformed w.opened_to (for_laws (now ∷ w.performed))) (leaves w)
+  added_old =
+      all_from (ArePerformed w.opened_to (for_laws w.performed))
+      (ArePerformed w.opened_to (for_laws (now ∷ w.performed)))
+      (λ leaf was.
+      all_from (IsPerformed w.opened_to (for_laws w.performed)) IsAdded (λ e listed over. inr (listed over))
+      leaf.ab.entries was) (leaves w) k.added
+
+  added_new : IsAdded (record { number = n; key = key_of o; answer = now.answer })
+  added_new over = inl (record { number = refl; key = refl; answer = refl })
+
   pub keeps_performed : IsSystem (performs w n o).system → IsDc (performs w n o)
   keeps_performed is = record {
     system = is;
-    rows = (performs_one (leaves w) n o k.system.leaves out).rows ∙ ap (λ rows. after rows o) k.rows;
-    once = (apart, k.once);
+    rows = one.rows ∙ ap (λ (rows : Table). after rows o) k.rows;
+    once = (all_for (λ (q : laws.Performance). q.number ≢ n) w.performed apart, k.once);
     captured = (
       captured_performed (leaves w) k.system.leaves n o,
       all_both (λ (q : Performance). q.number ≢ n) (λ (q : Performance). captures_at w (key_of q.op) q.number ≡ true)
@@ -179,6 +224,9 @@ module _ (w : DcView) (n : ℕ) (o : Op) (k : IsDc w) (key : KeepsKey w n (key_o
           w.performed apart k.captured,
     );
     saved = entries_performed (IsListed (now ∷ w.performed)) (leaves w) n o saved_new saved_old;
+    answered = (answered_now, k.answered);
+    falls = falls_now;
+    added = entries_performed IsAdded (leaves w) n o added_new added_old;
     session = k.session;
     stored = k.stored;
   }
@@ -205,18 +253,56 @@ nothing_saved (leaf ∷ leaves) = (each leaf.ab.entries, nothing_saved leaves)
     each [] = tt
     each (e ∷ es) = (tt, each es)
 
-pub keeps_opened : (v : SystemView) (stored : ℕ) (opened : Table) (ps : List Performance) → IsSystem v
-    → v.stable ≡ length v.log → stored ≡ stored_session v.log → opened ≡ rows_of v.leaves → ps ≡ []
-    → IsDc (record { stored = stored; session = 0; redo = false; system = v; opened = opened; performed = ps })
-keeps_opened v stored opened ps is stable greatest rows none =
-    let P : List Performance → Type 0 = λ x.
-    IsDc (record { stored = stored; session = 0; redo = false; system = v; opened = opened; performed = x }) in
+-- an entry isn't above the top one
+below_top : (n : ℕ) (es : List Entry) → top_in es ≤ n → AllByRecursion (λ (e : Entry). e.number ≤ n) es
+below_top n [] le = tt
+below_top n (e ∷ es) le = (omega (arith, le), below_top n es (omega (arith, le)))
+
+pub below_tops : (n : ℕ) (ls : List LeafView) → top_of ls ≤ n
+    → AllByRecursion (λ (leaf : LeafView). AllByRecursion (λ (e : Entry). e.number ≤ n) leaf.ab.entries) ls
+below_tops n [] le = tt
+below_tops n (leaf ∷ ls) le = (below_top n leaf.ab.entries (omega (arith, le)), below_tops n ls (omega (arith, le)))
+
+none_added : (ps : List laws.Performance) (ls : List LeafView) → AllByRecursion (ArePerformed (top_of ls) ps) ls
+none_added ps ls =
+    all_from (λ (leaf : LeafView). AllByRecursion (λ (e : Entry). e.number ≤ top_of ls) leaf.ab.entries)
+    (ArePerformed (top_of ls) ps)
+    (λ leaf within. all_from (λ (e : Entry). e.number ≤ top_of ls) (IsPerformed (top_of ls) ps)
+    (λ e le over. absurd (omega (arith, le, over))) leaf.ab.entries within) ls (below_tops (top_of ls) ls (omega arith))
+
+pub keeps_opened : (v : SystemView) (stored known to : ℕ) (opened : Table) (ps : List Performance) → IsSystem v
+    → v.stable ≡ length v.log → stored ≡ stored_session v.log → to ≡ top_of v.leaves → opened ≡ rows_of v.leaves
+    → ps ≡ []
+    → IsDc (record {
+      stored = stored;
+      session = 0;
+      redo = false;
+      known = known;
+      opened_to = to;
+      system = v;
+      opened = opened;
+      performed = ps;
+    })
+keeps_opened v stored known to opened ps is stable greatest top rows none =
+    let P : List Performance → Type 0 = λ x. IsDc (record {
+      stored = stored;
+      session = 0;
+      redo = false;
+      known = known;
+      opened_to = to;
+      system = v;
+      opened = opened;
+      performed = x;
+    }) in
     subst P (sym none) (record {
       system = is;
       rows = sym rows;
       once = tt;
       captured = tt;
       saved = nothing_saved v.leaves;
+      answered = tt;
+      falls = λ k. tt;
+      added = subst (λ (n : ℕ). AllByRecursion (ArePerformed n []) v.leaves) (sym top) (none_added [] v.leaves);
       session = inl refl;
       stored = omega (
         arith,

@@ -22,17 +22,17 @@ use Rattle.recovery_laws.specs.Shape.{beginning}
 use Rattle.stable.specs.Usage.{Usage}
 use Rattle.system_txn.specs.SystemView.{SystemView, with_usage, log_refused}
 use Rattle.system_txn.specs.Kept.{IsSystem}
-use Rattle.system_txn.specs.Changes.{next_id, next_number, lowered, covered, forced, written_to, written_all}
+use Rattle.system_txn.specs.Changes.{next_id, next_number, lowered, accepted, covered, forced, written_to, written_all}
 use Rattle.system_txn.specs.Gives as gives
 use Rattle.page.specs.Tops.{is_within, all_within}
-use Rattle.system_txn.specs.Gives.{Splits, Merges, SplitGives, MergeGives, TendGives, FlushGives, StopsWriting, CheckpointGives, StopsCheckpoint, FailsWriting, FailsAmong, tending}
+use Rattle.system_txn.specs.Gives.{Splits, Merges, SplitGives, MergeGives, TendGives, FlushGives, StopsWriting, CheckpointGives, StopsCheckpoint, AcceptGives, FailsWriting, FailsAmong, tending}
 use Rattle.system_txn.specs.declared.tended.Neighbours.{Neighbours}
 use Rattle.system_txn.specs.declared.tended.Tended.{Tended}
 use Rattle.system_txn.specs.declared.tended.Tended.TheVariants as tended
 use Rattle.dc_core.specs.declared.performance.Performance.{Performance}
-use Rattle.dc_core.specs.DcView.{DcView, leaves, captures_at, known_end}
+use Rattle.dc_core.specs.DcView.{DcView, leaves, captures_at}
 use Rattle.dc_core.specs.Serves.{with_system}
-use Rattle.dc_core.specs.Kept.{IsDc, Saves, IsListed, AreListed}
+use Rattle.dc_core.specs.Kept.{IsDc, Saves, IsListed, AreListed, for_laws, IsPerformed, ArePerformed}
 use Rattle.dc_core.proofs.KeepsDc.{Carries, keeps_carried, same_leaves}
 use Rattle.system_txn.proofs.Keeps.{keeps_usage}
 use Rattle.dc_core.proofs.Stored.{stored_grown, stored_forced}
@@ -92,6 +92,9 @@ carries_split w p pair v k h = subst (Carries w) (sym h.after) (record {
   saved =
       entries_split (IsListed w.performed) (leaves w) p (next_id w.system) (next_number w.system) k.system.leaves h.may
       k.saved;
+  added =
+      entries_split (IsPerformed w.opened_to (for_laws w.performed)) (leaves w) p (next_id w.system)
+      (next_number w.system) k.system.leaves h.may k.added;
   stored = stored_grown _ w.system.log w.system.stable;
 })
 
@@ -118,6 +121,8 @@ carries_merge w p pair v k h = subst (Carries w) (sym h.after) (record {
         ]
       ];
   saved = entries_merged (IsListed w.performed) (leaves w) p (next_number w.system) k.saved;
+  added =
+      entries_merged (IsPerformed w.opened_to (for_laws w.performed)) (leaves w) p (next_number w.system) k.added;
   stored = stored_grown _ w.system.log w.system.stable;
 })
 
@@ -130,6 +135,7 @@ carries_lowered w l k = record {
       captured_raised (leaves w) k.system.leaves l (key_of q.op) q.number
       ∙ or_left (captures_at w (key_of q.op) q.number) (nat_le q.number l) was;
   saved = entries_raised (IsListed w.performed) (leaves w) l k.saved;
+  added = entries_raised (IsPerformed w.opened_to (for_laws w.performed)) (leaves w) l k.added;
   stored = omega arith;
 }
 
@@ -142,6 +148,9 @@ record IsAlike (old v : SystemView) : Type 0 where
 
 alike_itself : (v : SystemView) → IsAlike v v
 alike_itself v = record { leaves = refl; stored = omega arith }
+
+accepted_alike : (v : SystemView) (s : ℕ) → IsAlike v (accepted v s)
+accepted_alike v s = record { leaves = refl; stored = stored_grown _ v.log v.stable }
 
 covered_alike : (v : SystemView) (leaf : LeafView) → IsAlike v (covered v leaf)
 covered_alike v leaf = by (nat_le leaf.last v.stable)
@@ -186,6 +195,7 @@ carries_alike w u v c h = record {
       ap (λ (ls : List LeafView). captures (leaf_at ls (key_of q.op)).ab q.number) h.leaves
       ∙ c.captured q was saves;
   saved = subst (AllByRecursion (AreListed w.performed)) (sym h.leaves) c.saved;
+  added = subst (AllByRecursion (ArePerformed w.opened_to (for_laws w.performed))) (sym h.leaves) c.added;
   stored = omega (arith, c.stored, h.stored);
 }
 
@@ -209,17 +219,17 @@ usage_keeps w log_usage page_usage k =
     (usage_alike w.system w.system log_usage page_usage (alike_itself w.system)))
 
 pub split_keeps : (w : DcView) (key : Bytes) (given : Result Neighbours Refusal) (v : SystemView) → IsDc w → IsSystem v
-    → SplitGives w.system key known_end given v → IsDc (with_system w v)
+    → SplitGives w.system key w.known given v → IsDc (with_system w v)
 split_keeps w key (Ok pair) v k is h = keeps_carried w v k is (carries_split w _ pair v k h.1)
 split_keeps w key (Err r) v k is h = keeps_carried w v k is (carries_refused w r v k h.1)
 
 pub merge_keeps : (w : DcView) (key : Bytes) (given : Result Neighbours Refusal) (v : SystemView) → IsDc w → IsSystem v
-    → MergeGives w.system key known_end given v → IsDc (with_system w v)
+    → MergeGives w.system key w.known given v → IsDc (with_system w v)
 merge_keeps w key (Ok pair) v k is h = keeps_carried w v k is (carries_merge w _ pair v k h.1)
 merge_keeps w key (Err r) v k is h = keeps_carried w v k is (carries_refused w r v k h.1)
 
 carries_tended : (w : DcView) (what : gives.Tending) (done : Tended) (v : SystemView) → IsDc w
-    → gives.TendsTo known_end w.system what done v → Carries w v
+    → gives.TendsTo w.known w.system what done v → Carries w v
 carries_tended w (gives.SplitsAt p) (tended.Split pair) v k h = carries_split w p pair v k h.1
 carries_tended w (gives.MergesAt p) (tended.Merged pair) v k h = carries_merge w p pair v k h.1
 carries_tended w gives.Rests tended.Nothing v k h = subst (Carries w) (sym h) (carries_same w k)
@@ -237,19 +247,19 @@ carries_untended w (gives.MergesAt p) r v k h = carries_refused w r v k h.1
 carries_untended w gives.Rests r v k h = absurd h
 
 pub tend_keeps : (w : DcView) (merges : Bool) (given : Result Tended Refusal) (v : SystemView) → IsDc w → IsSystem v
-    → TendGives w.system merges known_end given v → IsDc (with_system w v)
+    → TendGives w.system merges w.known given v → IsDc (with_system w v)
 tend_keeps w merges (Ok done) v k is h =
-    keeps_carried w v k is (carries_tended w (tending w.system merges known_end) done v k h)
+    keeps_carried w v k is (carries_tended w (tending w.system merges w.known) done v k h)
 tend_keeps w merges (Err r) v k is h =
-    keeps_carried w v k is (carries_untended w (tending w.system merges known_end) r v k h)
+    keeps_carried w v k is (carries_untended w (tending w.system merges w.known) r v k h)
 
 pub flush_keeps : (w : DcView) (key : Bytes) (given : Result ℕ Refusal) (v : SystemView) → IsDc w → IsSystem v
-    → FlushGives w.system key known_end given v → IsDc (with_system w v)
+    → FlushGives w.system key w.known given v → IsDc (with_system w v)
 flush_keeps w key (Ok id) v k is h =
     keeps_carried w v k is (subst (Carries w) (sym h.after)
     (carries_alike w w.system _ (carries_same w k) (written_alike w.system (leaf_at (leaves w) key))))
 flush_keeps w key (Err r) v k is h =
-    keeps_carried w v k is (elim (cases_Bool (is_within known_end (leaf_at (leaves w) key))) [
+    keeps_carried w v k is (elim (cases_Bool (is_within w.known (leaf_at (leaves w) key))) [
       | inl within ↦ stops (MatchBool-at_true _ _ within h)
       | inr above ↦ subst (Carries w) (sym (MatchBool-at_false _ _ above h).1) (carries_same w k)
     ])
@@ -259,18 +269,27 @@ flush_keeps w key (Err r) v k is h =
     stops (inr fails) = carries_alike w w.system v (carries_same w k)
         (failed_alike w.system (leaf_at (leaves w) key) v fails.1)
 
+-- a session that wasn't accepted
+pub refused_keeps : (w : DcView) (s end : ℕ) (r : Refusal) (v : SystemView) → IsDc w → IsSystem v
+    → AcceptGives w.system s end (Err r) v → IsDc (with_system w v)
+refused_keeps w s end r v k is (inl append) = keeps_carried w v k is (carries_refused w r v k append.1)
+refused_keeps w s end r v k is (inr force) =
+    keeps_carried w v k is (carries_alike w w.system v (carries_same w k)
+    (subst (IsAlike w.system) (sym force.2.0)
+    (usage_alike w.system (accepted w.system s) _ w.system.page_usage (accepted_alike w.system s))))
+
 pub lower_keeps : (w : DcView) (l : ℕ) → IsDc w → IsSystem (lowered w.system l)
     → IsDc (with_system w (lowered w.system l))
 lower_keeps w l k is = keeps_carried w (lowered w.system l) k is (carries_lowered w l k)
 
 pub checkpoint_keeps : (w : DcView) (l : ℕ) (given : Result Unit Refusal) (v : SystemView) → IsDc w → IsSystem v
-    → CheckpointGives w.system l known_end given v → IsDc (with_system w v)
+    → CheckpointGives w.system l w.known given v → IsDc (with_system w v)
 checkpoint_keeps w l (Ok done) v k is h =
     let u : SystemView = lowered w.system l in
     keeps_carried w v k is (subst (Carries w) (sym h.after)
     (carries_alike w u (written_all u u.leaves) (carries_lowered w l k) (all_alike u u.leaves)))
 checkpoint_keeps w l (Err r) v k is h =
-    keeps_carried w v k is (elim (cases_Bool (all_within known_end (leaves w))) [
+    keeps_carried w v k is (elim (cases_Bool (all_within w.known (leaves w))) [
       | inl within ↦ stops (MatchBool-at_true _ _ within h)
       | inr above ↦ subst (Carries w) (sym (MatchBool-at_false _ _ above h).1) (carries_same w k)
     ])

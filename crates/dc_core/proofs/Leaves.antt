@@ -1,9 +1,12 @@
--- The rows of leaves, one after another.
-use Rattle.std.proofs.Common.{◌≡◌, ℕ, ◌+◌, ◌<◌, List, [], ◌∷◌, ◌++◌, length, get_or, take, sym, ap, ◌∙◌, append_assoc, append-nil}
+-- The rows of leaves, one after another, and the greatest number of their entries.
+use Rattle.std.proofs.Common.{◌≡◌, ℕ, ◌+◌, ◌<◌, List, [], ◌∷◌, ◌++◌, length, get_or, take, refl, sym, ap, ◌∙◌, arith, append_assoc, append-nil}
+use Rattle.std.specs.Prelude.{max}
 use Rattle.std.proofs.lemmas.List.{take_more}
 use Rattle.std.specs.FinMap.{entries}
 use Rattle.page.specs.Leaf.{LeafView, first}
+use Rattle.page.specs.Tops.{top}
 use Rattle.btree.specs.Leaves.{all_rows}
+use Rattle.dc_core.specs.DcView.{top_of}
 
 rows_after : (xs : List LeafView) (leaf : LeafView) → all_rows (xs ++ leaf ∷ []) ≡ all_rows xs ++ entries leaf.rows
 rows_after [] leaf = append-nil (entries leaf.rows)
@@ -16,3 +19,13 @@ pub rows_more : (leaves : List LeafView) (p : ℕ) → p < length leaves
     → all_rows (take (p + 1) leaves) ≡ all_rows (take p leaves) ++ entries (get_or leaves p first).rows
 rows_more leaves p within =
     ap all_rows (take_more leaves p first within) ∙ rows_after (take p leaves) (get_or leaves p first)
+
+-- the greatest number of their entries, with one leaf more
+top_after : (xs : List LeafView) (leaf : LeafView) → top_of (xs ++ leaf ∷ []) ≡ max (top leaf) (top_of xs)
+top_after [] leaf = refl
+top_after (x ∷ xs) leaf = omega (arith, top_after xs leaf)
+
+pub top_more : (leaves : List LeafView) (p : ℕ) → p < length leaves
+    → top_of (take (p + 1) leaves) ≡ max (top (get_or leaves p first)) (top_of (take p leaves))
+top_more leaves p within =
+    ap top_of (take_more leaves p first within) ∙ top_after (take p leaves) (get_or leaves p first)

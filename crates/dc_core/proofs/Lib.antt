@@ -1,8 +1,11 @@
 pub mod Asked
+pub mod Begun
 pub mod Checked
+pub mod KeepsConnected
 pub mod KeepsDc
 pub mod KeepsSystems
 pub mod Leaves
+pub mod Oldest
 pub mod Places
 pub mod Recoverable
 pub mod Spelled

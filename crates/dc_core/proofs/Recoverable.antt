@@ -11,7 +11,7 @@ use Rattle.system_txn.specs.Kept.{IsRecoverable}
 use Rattle.system_txn.specs.declared.tended.Neighbours.{Neighbours}
 use Rattle.system_txn.specs.declared.tended.Tended.{Tended}
 use Rattle.system_txn.proofs.Recoverable as systems
-use Rattle.dc_core.specs.DcView.{DcView, captures_at, known_end}
+use Rattle.dc_core.specs.DcView.{DcView, captures_at}
 use Rattle.dc_core.specs.Kept.{IsDc}
 use Rattle.dc_core.specs.Serves.{runs, serve_refusal, Serves, Stops, StopsUnless, ServeGives}
 use Rattle.dc_core.specs.Tends.{may_merge, SplitsTo, MergesTo, TendsTo, FlushesTo}
@@ -27,16 +27,17 @@ same_good old new h same = subst IsGood (sym same) h
 
 served : (old : DcView) (request : Request) (reply : Option Reply) (new : DcView) → IsGood old
     → Serves old request reply new → IsGood new
-served old (asks.Connect s) reply new h gives =
+served old (asks.Connect s end) reply new h gives =
     elim (cases_Bool (runs old s)) [
       | inl again ↦ same_good old new h (MatchBool-at_true _ _ again gives.1)
       | inr begun ↦
           subst IsGood (sym (MatchBool-at_false _ _ begun gives.1))
-          (systems.recoverable_forced _ (systems.recoverable_accepted old.system s h))
+          (systems.recoverable_taken_back _ end
+          (systems.recoverable_forced _ (systems.recoverable_accepted old.system s h)))
     ]
-served old (asks.Perform s n o) reply new h gives =
+served old (asks.Perform s n stable o) reply new h gives =
     elim (cases_Bool (captures_at old (key_of o) n)) [
-      | inl again ↦ same_good old new h (MatchBool-at_true _ _ again gives).1
+      | inl again ↦ subst IsGood (sym (MatchBool-at_true _ _ again gives).1) h
       | inr out ↦
           subst IsGood (sym (MatchBool-at_false _ _ out gives).1) (systems.recoverable_changed old.system n o h)
     ]
@@ -45,19 +46,22 @@ served old (asks.Scan s r lo hi) reply new h gives = same_good old new h gives.1
 served old (asks.LowWater s l) reply new h gives =
     subst IsGood (sym gives.1) (systems.recoverable_lowered old.system l h)
 served old (asks.Checkpoint s l) reply new h gives =
-    systems.recoverable_checkpoint old.system l known_end (Ok tt) new.system h gives.1
+    systems.recoverable_checkpoint old.system l old.known (Ok tt) new.system h gives.1
 served old (asks.RedoEnd s) reply new h gives = subst IsGood (sym gives.1) h
+served old (asks.StableEnd s stable) reply new h gives = subst IsGood (sym gives.1) h
 
 stopped : (old : DcView) (request : Request) (r : Refusal) (new : DcView) → IsGood old → Stops old request r new
     → IsGood new
-stopped old (asks.Connect s) r new h gives = systems.recoverable_accept old.system s (Err r) new.system h gives.1
-stopped old (asks.Perform s n o) r new h gives = same_good old new h gives.1.1
+stopped old (asks.Connect s end) r new h gives =
+    systems.recoverable_accept old.system s end (Err r) new.system h gives.1
+stopped old (asks.Perform s n stable o) r new h gives = same_good old new h gives.1.1
 stopped old (asks.Get s n k) r new h gives = absurd gives
 stopped old (asks.Scan s n lo hi) r new h gives = same_good old new h gives.1
 stopped old (asks.LowWater s l) r new h gives = absurd gives
 stopped old (asks.Checkpoint s l) r new h gives =
-    systems.recoverable_checkpoint old.system l known_end (Err r) new.system h gives.0
+    systems.recoverable_checkpoint old.system l old.known (Err r) new.system h gives.0
 stopped old (asks.RedoEnd s) r new h gives = absurd gives
+stopped old (asks.StableEnd s stable) r new h gives = absurd gives
 
 refused : (cause : Option Refusal) (old : DcView) (request : Request) (r : Refusal) (new : DcView) → IsGood old
     → StopsUnless cause old request r new → IsGood new
@@ -74,23 +78,23 @@ recoverable_served old request (Err r) new kept h gives = refused (serve_refusal
 pub recoverable_split : (old : DcView) (k : Bytes) (given : Result Neighbours Refusal) (new : DcView) → IsDc old
     → IsRecoverable old.system → SplitsTo old k given new → IsRecoverable new.system
 recoverable_split old k given new kept h gives =
-    systems.recoverable_split old.system k known_end given new.system kept.system h gives.0
+    systems.recoverable_split old.system k old.known given new.system kept.system h gives.0
 
 pub recoverable_merge : (old : DcView) (k : Bytes) (given : Result Neighbours Refusal) (new : DcView) → IsDc old
     → IsRecoverable old.system → MergesTo old k given new → IsRecoverable new.system
 recoverable_merge old k given new kept h gives =
     elim (cases_Bool (may_merge old)) [
       | inl may ↦
-          systems.recoverable_merge old.system k known_end given new.system h (MatchBool-at_true _ _ may gives).0
+          systems.recoverable_merge old.system k old.known given new.system h (MatchBool-at_true _ _ may gives).0
       | inr not ↦ same_good old new h (MatchBool-at_false _ _ not gives).1
     ]
 
 pub recoverable_tend : (old : DcView) (given : Result Tended Refusal) (new : DcView) → IsDc old
     → IsRecoverable old.system → TendsTo old given new → IsRecoverable new.system
 recoverable_tend old given new kept h gives =
-    systems.recoverable_tend old.system (may_merge old) known_end given new.system kept.system h gives.0
+    systems.recoverable_tend old.system (may_merge old) old.known given new.system kept.system h gives.0
 
 pub recoverable_flush : (old : DcView) (k : Bytes) (given : Result ℕ Refusal) (new : DcView) → IsDc old
     → IsRecoverable old.system → FlushesTo old k given new → IsRecoverable new.system
 recoverable_flush old k given new kept h gives =
-    systems.recoverable_flush old.system k known_end given new.system kept.system h gives.0
+    systems.recoverable_flush old.system k old.known given new.system kept.system h gives.0

@@ -1,6 +1,7 @@
 -- What is read at the places of performances is what was performed, also when there is one more.
 use Rattle.std.proofs.Common.{◌≡◌, ℕ, ◌≤◌, List, [], ◌∷◌, ◌++◌, length, drop, reverse, refl, sym, ap, ◌∙◌, subst, arith, append_assoc}
 use Rattle.std.specs.Prelude.{map, slice_get, option_map, Some, None}
+use Rattle.std.specs.List.{AllByRecursion}
 use Rattle.std.proofs.lemmas.List.{append-nil, length-append, length-drop, length-reverse, length-map, reverse-append, reverse-reverse, map-append, drop_at, drop-append-le}
 use Rattle.std.proofs.lemmas.Option.{slice_get-map}
 use Rattle.codec.specs.Fields.{op_bytes, answer_bytes}
@@ -10,6 +11,7 @@ use Rattle.codec.proofs.Lists.{performed_reads}
 use Rattle.record_key.proofs.Lists.{all_from, all_appended}
 use Rattle.dc_core.specs.declared.performance.Performance.{Performance}
 use Rattle.dc_core.specs.Spelled.{parts_of, StandsAt, taken, read, performances_at, AreSpelled}
+use Rattle.dc_core.proofs.Walks.{all_turned}
 
 -- where a performance stands something is read
 pub is_read : (bytes : List ℕ) (place : ℕ) (p : Performance) (h : StandsAt bytes place p)
@@ -109,3 +111,15 @@ module _ (bytes places : List ℕ) (h : AreSpelled bytes places) (p : Performanc
       ap reverse (map-append (read longer) places (place ∷ []))
       ∙ reverse-append (map (read longer) places) (read longer place ∷ [])
       ∙ (λ i. newest i ∷ reverse (all_same bytes (performed_bytes (parts_of p)) places h i))
+
+-- ---- what stands there is well formed
+
+pub all_fit : (bytes places : List ℕ) → AreSpelled bytes places
+    → AllByRecursion (λ (p : Performance). IsPerformed (parts_of p)) (performances_at bytes places)
+all_fit bytes places all =
+    all_turned (λ (p : Performance). IsPerformed (parts_of p)) (map (read bytes) places) (each places all)
+  where
+    each : (places : List ℕ) → AreSpelled bytes places
+        → AllByRecursion (λ (p : Performance). IsPerformed (parts_of p)) (map (read bytes) places)
+    each [] all = tt
+    each (place ∷ places) all = (all.0.fits, each places all.1)

@@ -1,5 +1,5 @@
 -- What is seen of the data component.
-use Rattle.std.specs.Prelude.{ℕ, Bool, false, List, [], ◌∷◌, Option}
+use Rattle.std.specs.Prelude.{ℕ, Bool, false, List, [], ◌∷◌, Option, max}
 use Rattle.std.specs.FinMap as map
 use Rattle.record_key.specs.declared.op.Op.{Op}
 use Rattle.record_key.specs.Table.{Table, Bytes}
@@ -8,16 +8,21 @@ use Rattle.btree.specs.Leaves.{leaf_at}
 use Rattle.page.specs.declared.leaf.Done.{Done}
 use Rattle.page.specs.declared.leaf.Done.TheVariants.{Performed, Repeated}
 use Rattle.page.specs.Leaf.{LeafView}
+use Rattle.page.specs.Tops.{top}
 use Rattle.stable.specs.Usage.{Usage}
 use Rattle.system_txn.specs.SystemView.{SystemView, fresh as fresh_system}
 use Rattle.dc_core.specs.declared.performance.Performance.{Performance}
 
--- the greatest session taken and the one that runs, 0 if none; whether redo goes on; the leaves with their log and
--- pages; and the records when they were opened, with what was performed since, the newest first
+-- the greatest session taken and the one that runs, 0 if none; whether redo goes on; up to which number no request is
+-- lost any more, as far as is known, and the greatest number of an entry when the leaves were opened, 0 if none; the
+-- leaves with their log and pages; and the records when they were opened, with what was performed since and wasn't
+-- taken back, the newest first
 pub record DcView : Type 0 where
   pub stored : ℕ
   pub session : ℕ
   pub redo : Bool
+  pub known : ℕ
+  pub opened_to : ℕ
   pub system : SystemView
   pub opened : Table
   pub performed : List Performance
@@ -33,20 +38,23 @@ captures_at w k n = captures (leaf_at (leaves w) k).ab n
 abbrev pub value_at : DcView → Bytes → Option Bytes
 value_at w k = map.get (leaf_at (leaves w) k).rows k
 
--- each request is stable when it is sent, so no leaf waits until its entries are known to be
-abbrev pub known_end : ℕ
-known_end = 18446744073709551615
-
 -- no session was taken, nothing was performed; the devices were used so
 abbrev pub fresh : Usage → Usage → DcView
 fresh log_usage page_usage = record {
   stored = 0;
   session = 0;
   redo = false;
+  known = 0;
+  opened_to = 0;
   system = fresh_system log_usage page_usage;
   opened = map.empty;
   performed = [];
 }
+
+-- the greatest number of an entry of the leaves, 0 if none
+abbrev pub top_of : List LeafView → ℕ
+top_of [] = 0
+top_of (leaf ∷ leaves) = max (top leaf) (top_of leaves)
 
 -- the performances with a request's, where it was performed now
 abbrev pub noted : Done → ℕ → Op → List Performance → List Performance

@@ -3,14 +3,17 @@ use Rattle.std.specs.Prelude.{false, []}
 use Rattle.btree.specs.Leaves.{rows_of}
 use Rattle.recovery_laws.specs.Recovery.{stored_session}
 use Rattle.system_txn.specs.SystemView.{SystemView}
-use Rattle.dc_core.specs.DcView.{DcView}
+use Rattle.dc_core.specs.DcView.{DcView, top_of}
 
--- no session runs, the greatest one that the log accepted is stored, and nothing was performed yet
+-- no session runs, the greatest one that the log accepted is stored, and nothing was performed yet; all that the leaves
+-- have captured is known not to be lost
 abbrev pub restarted : SystemView → DcView
 restarted v = record {
   stored = stored_session v.log;
   session = 0;
   redo = false;
+  known = top_of v.leaves;
+  opened_to = top_of v.leaves;
   system = v;
   opened = rows_of v.leaves;
   performed = [];

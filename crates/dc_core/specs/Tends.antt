@@ -8,7 +8,7 @@ use Rattle.system_txn.specs.SystemView.{SystemView}
 use Rattle.system_txn.specs.Gives.{SplitGives, MergeGives, TendGives, FlushGives}
 use Rattle.system_txn.specs.declared.tended.Neighbours.{Neighbours}
 use Rattle.system_txn.specs.declared.tended.Tended.{Tended}
-use Rattle.dc_core.specs.DcView.{DcView, known_end}
+use Rattle.dc_core.specs.DcView.{DcView}
 use Rattle.dc_core.specs.Serves.{with_system}
 
 -- a merge is let only in a session past its redo: then each leaf has captured what it must
@@ -23,14 +23,14 @@ abbrev pub IsNotNow : {T : Type 0} → DcView → Result T Refusal → DcView �
 IsNotNow old result new = (result ≡ Err NotNow) × (new ≡ old)
 
 abbrev pub SplitsTo : DcView → Bytes → Result Neighbours Refusal → DcView → Type 0
-SplitsTo old k result new = Changes (SplitGives old.system k known_end result) old new
+SplitsTo old k result new = Changes (SplitGives old.system k old.known result) old new
 
 abbrev pub MergesTo : DcView → Bytes → Result Neighbours Refusal → DcView → Type 0
 MergesTo old k result new =
-    MatchBool (may_merge old) (Changes (MergeGives old.system k known_end result) old new) (IsNotNow old result new)
+    MatchBool (may_merge old) (Changes (MergeGives old.system k old.known result) old new) (IsNotNow old result new)
 
 abbrev pub TendsTo : DcView → Result Tended Refusal → DcView → Type 0
-TendsTo old result new = Changes (TendGives old.system (may_merge old) known_end result) old new
+TendsTo old result new = Changes (TendGives old.system (may_merge old) old.known result) old new
 
 abbrev pub FlushesTo : DcView → Bytes → Result ℕ Refusal → DcView → Type 0
-FlushesTo old k result new = Changes (FlushGives old.system k known_end result) old new
+FlushesTo old k result new = Changes (FlushGives old.system k old.known result) old new

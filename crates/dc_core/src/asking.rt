@@ -1,42 +1,125 @@
-//! What a caller asks who doesn't know a request's numbers.
-ghost use Rattle.std.specs.Prelude.{◌≡◌, ◌<◌, ◌^◌, ◌↔◌, IsTrue};
+//! What a caller asks who doesn't know what it owes of a request.
+ghost use Rattle.std.specs.Prelude.{◌≡◌, ◌<◌, ◌^◌, ◌↔◌, ◌⊎◌, false, None, IsTrue};
 ghost use Rattle.std.specs.List.{AllByRecursion};
-ghost use Rattle.record_key.specs.Table.{key_of};
+ghost use Rattle.record_key.specs.Table.{key_of, AreAdds};
 ghost use Rattle.record_key.specs.declared.entry.Entry.{Entry as EntryValue};
 ghost use Rattle.codec.specs.Requests.{HasRequestNumbers};
 ghost use Rattle.page.specs.Leaf.{LeafView};
+ghost use Rattle.btree.specs.Leaves.{leaf_at};
 ghost use Rattle.dc_core.specs.declared.performance.Performance.{Performance as PerformanceValue};
-ghost use Rattle.dc_core.specs.Serves.{KeepsKey, MayAsk};
+ghost use Rattle.dc_core.specs.DcView.{captures_at};
+ghost use Rattle.dc_core.specs.Serves.{runs, connect_refusal, KeepsKey, ComesNext, MayPerform, MayTakeBack, MayAsk};
 ghost use Rattle.dc_core.specs.Seen.{seen};
 
 use crate::parts::Parts;
 use codec::Request;
-use record_key::{Entries, Key};
+use record_key::{Entries, Key, Op};
 
 impl Parts {
-    /// Whether each number of the request is below its bound, and an operation's number is on the key that it has where
-    /// it is known.
+    /// Whether each number of the request is below its bound, an operation's number is on the key that it has where it
+    /// is known, and a new one comes after the others on its key; and whether a session that begins takes back only
+    /// what can be.
     pub fn may_ask(&self, request: &Request) -> bool
         ensures { IsTrue result ↔ (HasRequestNumbers request.now × MayAsk (seen self.now) request.now) }
     {
-        has_numbers(request) && self.keeps_key_of(request)
+        has_numbers(request) && self.may_serve(request)
     }
 
-    fn keeps_key_of(&self, request: &Request) -> bool
+    fn may_serve(&self, request: &Request) -> bool
         ensures { IsTrue result ↔ MayAsk (seen self.now) request.now }
     {
         match request {
+            Request::Connect { session, end } => self.may_connect(*session, *end),
             Request::Perform {
                 session,
                 number,
                 op,
+                ..
             } => match self.in_session(*session) {
-                Ok(()) => self.keeps_key(*number, op.key()),
+                Ok(()) => self.may_perform(*number, op),
                 // It will be refused.
                 Err(_) => true,
             },
             _ => true,
         }
+    }
+
+    fn may_connect(&self, session: u64, end: u64) -> bool
+        ensures { IsTrue result ↔ (connect_refusal (seen self.now) session ≡ None
+            → runs (seen self.now) session ≡ false → MayTakeBack (seen self.now) end) }
+    {
+        if self.runs(session) {
+            return true;
+        }
+        match self.can_connect(session) {
+            Ok(()) => self.may_take_back(end),
+            // It will be refused.
+            Err(_) => true,
+        }
+    }
+
+    fn may_take_back(&self, end: u64) -> bool
+        ensures { IsTrue result ↔ MayTakeBack (seen self.now) end }
+    {
+        self.opened_to <= end && self.shows_above(end)
+    }
+
+    /// Whether no low number has hidden a performance above the end.
+    fn shows_above(&self, end: u64) -> bool
+        ensures { IsTrue result ↔ AllByRecursion (λ (p : PerformanceValue). end < p.number
+            → (leaf_at self.now.system.leaves (key_of p.op)).ab.low < p.number) self.now.performed }
+    {
+        for place in 0..self.performed.len() {
+            let Some(done) = self.performed.get(place) else {
+                unreachable!();
+            };
+            if !self.shows(done.number, done.op.key(), end) {
+                return false;
+            }
+        }
+        true
+    }
+
+    fn shows(&self, number: u64, key: &Key, end: u64) -> bool
+        ensures { IsTrue result ↔ (end < number → (leaf_at self.now.system.leaves key.now).ab.low < number) }
+    {
+        number <= end || self.low_at(key) < number
+    }
+
+    /// The low number of the key's leaf.
+    fn low_at(&self, key: &Key) -> u64
+        ensures { result ≡ (leaf_at self.now.system.leaves key.now).ab.low }
+    {
+        let place = self.system.place_of(key);
+        self.system.leaf(place).low()
+    }
+
+    fn may_perform(&self, number: u64, op: &Op) -> bool
+        ensures { IsTrue result ↔ MayPerform (seen self.now) number op.now }
+    {
+        self.keeps_key(number, op.key()) && self.may_come(number, op)
+    }
+
+    fn may_come(&self, number: u64, op: &Op) -> bool
+        ensures { IsTrue result ↔ (captures_at (seen self.now) (key_of op.now) number ≡ false
+            → ComesNext (seen self.now) number op.now) }
+    {
+        self.captures(number, op.key()) || self.comes_next(number, op)
+    }
+
+    /// Whether each performance on the operation's key has a lower number, or both are Adds.
+    fn comes_next(&self, number: u64, op: &Op) -> bool
+        ensures { IsTrue result ↔ ComesNext (seen self.now) number op.now }
+    {
+        for place in 0..self.performed.len() {
+            let Some(done) = self.performed.get(place) else {
+                unreachable!();
+            };
+            if !may_follow(number, op, done.number, &done.op) {
+                return false;
+            }
+        }
+        true
     }
 
     fn keeps_key(&self, number: u64, key: &Key) -> bool
@@ -84,6 +167,13 @@ fn is_on(known: u64, its_key: &Key, number: u64, key: &Key) -> bool
     known != number || its_key == key
 }
 
+/// Whether an operation may follow another: on another key, above its number, or both being Adds.
+fn may_follow(number: u64, op: &Op, before: u64, other: &Op) -> bool
+    ensures { IsTrue result ↔ (key_of other.now ≡ key_of op.now → (before < number) ⊎ AreAdds op.now other.now) }
+{
+    other.key() != op.key() || before < number || (op.is_add() && other.is_add())
+}
+
 /// Whether no entry has the number on another key.
 fn are_on(entries: &Entries, number: u64, key: &Key) -> bool
     ensures { IsTrue result ↔ AllByRecursion (λ (e : EntryValue). e.number ≡ number → e.key ≡ key.now) entries.now }
@@ -104,17 +194,19 @@ fn has_numbers(request: &Request) -> bool
     ensures { IsTrue result ↔ HasRequestNumbers request.now }
 {
     match request {
-        Request::Connect { session } => *session < NUMBERS,
+        Request::Connect { session, end } => are_numbers(*session, *end),
         Request::Perform {
             session,
             number,
+            stable,
             ..
-        } => are_numbers(*session, *number),
+        } => are_numbers(*session, *number) && *stable < NUMBERS,
         Request::Get { session, read, .. } => are_numbers(*session, *read),
         Request::Scan { session, read, .. } => are_numbers(*session, *read),
         Request::LowWater { session, low } => are_numbers(*session, *low),
         Request::Checkpoint { session, low } => are_numbers(*session, *low),
         Request::RedoEnd { session } => *session < NUMBERS,
+        Request::StableEnd { session, stable } => are_numbers(*session, *stable),
     }
 }
 

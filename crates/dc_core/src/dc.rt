@@ -113,9 +113,10 @@ impl Dc {
         self.parts.allows(request)
     }
 
-    /// What a caller asks who doesn't know a request's numbers: whether each is below 2^48, and an operation's number
-    /// is on the key that it has among the performances and in each leaf's entries. It costs as much as the history is
-    /// long, so a caller that knows its numbers doesn't ask.
+    /// What a caller asks who doesn't know a request's numbers: whether each is below 2^48; whether an operation's
+    /// number is on the key that it has among the performances and in each leaf's entries, and a new one comes after
+    /// those performed on its key; and whether what was performed above the end of a session that begins can be taken
+    /// back. It costs as much as the history is long, so a caller that knows its numbers doesn't ask.
     pub fn may_ask(&self, request: &Request) -> bool
         ensures { IsTrue result ↔ (HasRequestNumbers request.now × MayAsk self.now request.now) }
     {
@@ -123,12 +124,13 @@ impl Dc {
     }
 
     /// Does what the request asks, and gives the reply to it, if there is one. Refused as `allows` says and unchanged
-    /// then; else NoMemory, and unchanged, for a new number, a Scan, a Checkpoint or a Connect; Device, only where a
-    /// device's call was due to fail, for a Connect, which may leave its record in the log and takes no session then,
-    /// and for a Checkpoint, which has raised all leaves then and may have written some.
+    /// then; else NoMemory, and unchanged, for a new number, a Scan, a Checkpoint or a Connect; NotNow, and unchanged,
+    /// for a Checkpoint where a leaf has an entry above the known end; Device, only where a device's call was due to
+    /// fail, for a Connect, which may leave its record in the log and takes no session then, and for a Checkpoint,
+    /// which has raised all leaves then and may have written some.
     pub fn serve(&mut self, request: &Request) -> Result<Option<Reply>, Refusal>
         requires numbers { HasRequestNumbers request.now }
-        requires key { MayAsk self.old request.now }
+        requires owed { MayAsk self.old request.now }
         ensures gives { ServeGives self.old request.now result self.new }
     {
         self.parts.serve(request)
@@ -138,22 +140,22 @@ impl Dc {
     pub fn serve_allowed(&mut self, request: &Request) -> Result<Option<Reply>, Refusal>
         requires allowed { serve_refusal self.old request.now ≡ None }
         requires numbers { HasRequestNumbers request.now }
-        requires key { MayAsk self.old request.now }
+        requires owed { MayAsk self.old request.now }
         ensures gives { ServeGives self.old request.now result self.new }
     {
         self.parts.reply_to(request)
     }
 
-    /// Splits the leaf of the key, where it has two records at least; else refused NotNow, then NumbersSpent, NoMemory
-    /// or Device, and unchanged.
+    /// Splits the leaf of the key, where it has two records at least and no entry above the known end; else refused
+    /// NotNow, then NumbersSpent, NoMemory or Device, and unchanged.
     pub fn split(&mut self, key: &Key) -> Result<Neighbours, Refusal>
         ensures gives { SplitsTo self.old key.now result self.new }
     {
         self.parts.split(key)
     }
 
-    /// Joins the leaf of the key and the one after it, in a session past redo, where they have few records; else
-    /// refused as `split` is.
+    /// Joins the leaf of the key and the one after it, in a session past redo, where they have few records and no entry
+    /// above the known end; else refused as `split` is.
     pub fn merge(&mut self, key: &Key) -> Result<Neighbours, Refusal>
         ensures gives { MergesTo self.old key.now result self.new }
     {
@@ -161,7 +163,8 @@ impl Dc {
     }
 
     /// Splits the first leaf of more than eight records, else joins the first two that may be joined, else does
-    /// nothing. Refused NumbersSpent, NoMemory or Device, and unchanged; never where there is nothing to do.
+    /// nothing. Leaves with an entry above the known end are passed over. Refused NumbersSpent, NoMemory or Device, and
+    /// unchanged; never where there is nothing to do.
     pub fn tend(&mut self) -> Result<Tended, Refusal>
         ensures gives { TendsTo self.old result self.new }
     {
@@ -169,7 +172,8 @@ impl Dc {
     }
 
     /// Writes the leaf of the key to its page, its last system transaction being stable first, and gives its number.
-    /// Refused NoMemory, and unchanged then, or Device, where the log may be stable further.
+    /// Refused NotNow where it has an entry above the known end, or NoMemory, and unchanged then; Device, where the log
+    /// may be stable further.
     pub fn flush(&mut self, key: &Key) -> Result<u64, Refusal>
         ensures gives { FlushesTo self.old key.now result self.new }
     {
@@ -235,7 +239,7 @@ impl Dc {
         self.parts.rows()
     }
 
-    /// How many operations were performed.
+    /// How many operations were performed since the leaves were opened, and weren't taken back.
     pub fn performances(&self) -> u64
         ensures { result ≡ length self.now.performed }
     {
@@ -250,7 +254,8 @@ impl Dc {
     }
 
     /// What holds at every moment: the leaves and their devices are well formed, the records are what was performed,
-    /// no number stands twice, each is captured, and what is saved under a number is its answer.
+    /// no number stands twice, each is captured, and what is saved under a number is its answer; on each key they came
+    /// in the order of their numbers, but for Adds among Adds.
     pub fn kept(&self)
         ensures { IsDc self.now }
     {

@@ -16,7 +16,7 @@ ghost use Rattle.dc_core.specs.Seen.{seen};
 
 use crate::base::Base;
 use crate::performances::Performances;
-use crate::system::System;
+use crate::system::{System, top_of};
 use codec::Request;
 use record_key::Refusal;
 use stable::{MemLog, MemPages};
@@ -31,9 +31,14 @@ pub struct Parts {
     /// The session that runs, 0 if none.
     pub session: u64,
     pub redo: bool,
+    /// No request up to this number is lost any more.
+    pub known: u64,
+    /// The greatest number of an entry when these leaves were opened, 0 if none.
+    pub opened_to: u64,
     pub system: System,
     /// The records when these leaves were opened.
     pub opened: Base,
+    /// What was performed since and wasn't taken back.
     pub performed: Performances,
 }
 
@@ -55,13 +60,16 @@ impl Parts {
             stored: 0,
             session: 0,
             redo: false,
+            known: 0,
+            opened_to: 0,
             system,
             opened,
             performed: Performances::new(alloc),
         })
     }
 
-    /// No session runs until a Connect above the greatest one that the log accepted, and nothing was performed yet.
+    /// No session runs until a Connect above the greatest one that the log accepted, and nothing was performed yet. All
+    /// that the leaves have captured is known not to be lost.
     pub fn restart(
         alloc: Global,
         devices: Devices<MemLog, MemPages>,
@@ -86,10 +94,13 @@ impl Parts {
         let opened = System::open(alloc, log, pages)?;
         opened.system.kept();
         let base = Base::of(&opened.system);
+        let top = top_of(&opened.system);
         Ok(Parts {
             stored: opened.stored_session,
             session: 0,
             redo: false,
+            known: top,
+            opened_to: top,
             system: opened.system,
             opened: base,
             performed: Performances::new(alloc),
@@ -108,6 +119,8 @@ impl Parts {
             stored: _,
             session: _,
             redo: _,
+            known: _,
+            opened_to: _,
             system,
             opened: _,
             performed: _,
@@ -135,8 +148,9 @@ impl Parts {
         ensures refused { IfErr result (λ refusal. serve_refusal (seen self.now) request.now ≡ Some refusal) }
     {
         match request {
-            Request::Connect { session } => self.can_connect(*session),
+            Request::Connect { session, .. } => self.can_connect(*session),
             Request::Perform { session, .. } => self.in_session(*session),
+            Request::StableEnd { session, .. } => self.in_session(*session),
             Request::RedoEnd { session } => self.in_session(*session),
             Request::Get { session, .. } => self.after_redo(*session),
             Request::Scan { session, .. } => self.after_redo(*session),
@@ -145,7 +159,8 @@ impl Parts {
         }
     }
 
-    fn can_connect(&self, session: u64) -> Result<(), Refusal>
+    /// Refused where the session is an earlier one, or its record has no number.
+    pub fn can_connect(&self, session: u64) -> Result<(), Refusal>
         ensures ok { OnOk result (connect_refusal (seen self.now) session ≡ None) }
         ensures refused { IfErr result (λ refusal. connect_refusal (seen self.now) session ≡ Some refusal) }
     {

@@ -1,15 +1,16 @@
 //! What was performed, kept as bytes.
-ghost use Rattle.std.specs.Prelude.{◌≡◌, ℕ, ◌*◌, ◌/◌, ◌<◌, ◌^◌, [], length, get_or, reverse, slice_get, vec_len, vec_capacity, IfOk, IfErr, OnErr};
+ghost use Rattle.std.specs.Prelude.{◌≡◌, ◌∷◌, ℕ, ◌*◌, ◌/◌, ◌<◌, ◌^◌, [], length, get_or, reverse, slice_get, vec_len, vec_capacity, IfOk, IfErr, OnOk, OnErr};
 ghost use Rattle.btree.specs.Performs.{PerformsAt};
 ghost use Rattle.codec.specs.Marks.{marked};
 ghost use Rattle.dc_core.specs.DcView.{noted};
+ghost use Rattle.dc_core.specs.Serves.{kept_to};
 ghost use Rattle.dc_core.specs.Spelled.{after, place_at};
 
 use crate::performance::Performance;
 use crate::system::System;
 use codec::{PERFORMED_LIMIT, put_performed, take_performed};
 use page::Done;
-use record_key::{Op, Refusal};
+use record_key::{Answer, Op, Refusal};
 use std::alloc::Global;
 use std::marker::Model;
 
@@ -49,11 +50,6 @@ impl Performances {
             marks: Vec::new(alloc),
             count: 0,
         }
-    }
-
-    /// What serves its memory.
-    pub fn allocator(&self) -> Global {
-        *self.bytes.allocator()
     }
 
     /// How many there are.
@@ -99,6 +95,38 @@ impl Performances {
             }
             repeated => Ok(repeated),
         }
+    }
+
+    /// Those whose numbers aren't above an end.
+    pub fn up_to(&self, end: u64) -> Result<Performances, Refusal>
+        ensures kept { IfOk result (λ left. left ≡ kept_to end self.now) }
+        ensures refused { IfErr result (λ refusal. refusal ≡ Refusal.NoMemory) }
+    {
+        let mut left = Performances::new(*self.bytes.allocator());
+        for before in 0..self.len() {
+            let Some(done) = self.get(before) else {
+                unreachable!();
+            };
+            if done.number <= end {
+                left.note(done.number, &done.op, &done.answer)?;
+            }
+        }
+        Ok(left)
+    }
+
+    /// Notes a performance.
+    fn note(&mut self, number: u64, op: &Op, answer: &Answer) -> Result<(), Refusal>
+        requires { number < 2 ^ 48 }
+        ensures noted { OnOk result (self.new
+            ≡ record { number = number; op = op.now; answer = answer.now } ∷ self.old) }
+        ensures refused { IfErr result (λ refusal. refusal ≡ Refusal.NoMemory) }
+    {
+        self.bytes.reserve(PERFORMED_LIMIT)?;
+        self.marks.reserve(1)?;
+        mark(&mut self.marks, self.count, self.bytes.len());
+        self.count += 1;
+        put_performed(&mut self.bytes, number, op, answer);
+        Ok(())
     }
 }
 

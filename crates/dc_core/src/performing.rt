@@ -4,7 +4,7 @@ ghost use Rattle.record_key.specs.Table.{key_of};
 ghost use Rattle.ab_lsn.specs.AbLsn.{captures, saved_in};
 ghost use Rattle.btree.specs.Leaves.{leaf_at};
 ghost use Rattle.dc_core.specs.DcView.{captures_at};
-ghost use Rattle.dc_core.specs.Serves.{KeepsKey};
+ghost use Rattle.dc_core.specs.Serves.{MayPerform};
 ghost use Rattle.dc_core.specs.Kept.{IsDc};
 ghost use Rattle.dc_core.specs.Seen.{seen, Answers};
 
@@ -17,7 +17,7 @@ impl Parts {
     pub fn perform(&mut self, number: u64, op: &Op) -> Result<Option<Answer>, Refusal>
         requires kept { IsDc (seen self.old) }
         requires numbered { number < 2 ^ 48 }
-        requires key { KeepsKey (seen self.old) number (key_of op.now) }
+        requires may { MayPerform (seen self.old) number op.now }
         ensures kept { IsDc (seen self.new) }
         ensures answered { IfOk result (λ answer. Answers (seen self.old) number op.now answer (seen self.new)) }
         ensures refused { IfErr result (λ refusal. refusal ≡ Refusal.NoMemory) }
@@ -55,7 +55,7 @@ impl Parts {
     }
 
     /// Whether the leaf of the key has captured the number.
-    fn captures(&self, number: u64, key: &Key) -> bool
+    pub fn captures(&self, number: u64, key: &Key) -> bool
         ensures { result ≡ captures_at (seen self.now) key.now number }
     {
         let place = self.system.place_of(key);

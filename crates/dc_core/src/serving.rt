@@ -14,7 +14,7 @@ impl Parts {
     pub fn serve(&mut self, request: &Request) -> Result<Option<Reply>, Refusal>
         requires kept { IsDc (seen self.old) }
         requires numbers { HasRequestNumbers request.now }
-        requires key { MayAsk (seen self.old) request.now }
+        requires owed { MayAsk (seen self.old) request.now }
         ensures kept { IsDc (seen self.new) }
         ensures gives { ServeGives (seen self.old) request.now result (seen self.new) }
     {
@@ -27,19 +27,21 @@ impl Parts {
         requires kept { IsDc (seen self.old) }
         requires allowed { serve_refusal (seen self.old) request.now ≡ None }
         requires numbers { HasRequestNumbers request.now }
-        requires key { MayAsk (seen self.old) request.now }
+        requires owed { MayAsk (seen self.old) request.now }
         ensures kept { IsDc (seen self.new) }
         ensures served { IfOk result (λ reply. Serves (seen self.old) request.now reply (seen self.new)) }
         ensures stopped { IfErr result (λ refusal. Stops (seen self.old) request.now refusal (seen self.new)) }
     {
         match request {
-            Request::Connect { session } => Ok(Some(self.connect(*session)?)),
+            Request::Connect { session, end } => Ok(Some(self.connect(*session, *end)?)),
             Request::Perform {
                 session,
                 number,
+                stable,
                 op,
             } => {
                 let answer = self.perform(*number, op)?;
+                self.learn(*stable);
                 Ok(Some(Reply::Answered {
                     session: *session,
                     number: *number,
@@ -59,6 +61,10 @@ impl Parts {
             }
             Request::Checkpoint { session, low } => Ok(Some(self.checkpoint(*session, *low)?)),
             Request::RedoEnd { session } => Ok(Some(self.end_redo(*session))),
+            Request::StableEnd { stable, .. } => {
+                self.learn(*stable);
+                Ok(None)
+            }
         }
     }
 }

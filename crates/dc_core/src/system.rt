@@ -1,10 +1,22 @@
 //! What the component keeps its leaves in.
+ghost use Rattle.std.specs.Prelude.{◌≡◌};
+ghost use Rattle.dc_core.specs.DcView.{top_of};
+
 use btree::Tree;
+use page::Leaf;
 use stable::{MemLog, MemPages};
 use system_txn::SystemTxns;
 
 /// A tree of leaves, with their log and their pages in memory.
 pub type System = SystemTxns<Tree, MemLog, MemPages>;
 
-/// Each request is stable when it is sent, so no leaf waits until its entries are known to be.
-pub const KNOWN_END: u64 = 18_446_744_073_709_551_615;
+/// The greatest number of an entry of the leaves, 0 if none.
+pub fn top_of(system: &System) -> u64
+    ensures { result ≡ top_of system.now.leaves }
+{
+    let mut most = 0;
+    for place in 0..system.len() {
+        most = system.leaf(place).top().max(most);
+    }
+    most
+}

@@ -4,7 +4,6 @@ ghost use Rattle.dc_core.specs.Kept.{IsDc};
 ghost use Rattle.dc_core.specs.Seen.{seen};
 
 use crate::parts::Parts;
-use crate::system::KNOWN_END;
 use record_key::{Key, Refusal};
 use system_txn::{Neighbours, Tended};
 
@@ -14,7 +13,7 @@ impl Parts {
         ensures kept { IsDc (seen self.new) }
         ensures gives { SplitsTo (seen self.old) key.now result (seen self.new) }
     {
-        let given = self.system.split(key, KNOWN_END);
+        let given = self.system.split(key, self.known);
         self.system.kept();
         given
     }
@@ -27,7 +26,7 @@ impl Parts {
         if !self.may_merge() {
             return Err(Refusal::NotNow);
         }
-        let given = self.system.merge(key, KNOWN_END);
+        let given = self.system.merge(key, self.known);
         self.system.kept();
         given
     }
@@ -38,7 +37,7 @@ impl Parts {
         ensures gives { TendsTo (seen self.old) result (seen self.new) }
     {
         let merges = self.may_merge();
-        let given = self.system.tend(merges, KNOWN_END);
+        let given = self.system.tend(merges, self.known);
         self.system.kept();
         given
     }
@@ -48,7 +47,7 @@ impl Parts {
         ensures kept { IsDc (seen self.new) }
         ensures gives { FlushesTo (seen self.old) key.now result (seen self.new) }
     {
-        let given = self.system.flush(key, KNOWN_END);
+        let given = self.system.flush(key, self.known);
         self.system.kept();
         given
     }

@@ -7,11 +7,11 @@ use record_key::{Answer, Key, Op, PlainTable, Refusal, Value};
 use stable::{MemLog, MemPages};
 use std::alloc::Global;
 
-/// So many numbered operations of both, each sent twice, compared after each. Leaves are split now and then, and
-/// answers don't tell.
+/// So many numbered operations of both, each sent twice, compared after each. Leaves are split now and then, and the
+/// last operations taken back, and answers don't tell.
 pub fn calls(alloc: Global, count: u64, tally: &mut Tally) {
     match connected(alloc, tally) {
-        Ok(mut dc) => calls_of(&mut dc, &mut PlainTable::new(alloc), count, tally),
+        Ok(mut dc) => calls_of(&mut dc, alloc, count, tally),
         Err(_) => tally.count(false),
     }
 }
@@ -30,36 +30,78 @@ fn fresh(alloc: Global) -> Result<Dc, Refusal> {
     Dc::new(alloc, MemLog::new(alloc), MemPages::new(alloc))
 }
 
-fn calls_of(dc: &mut Dc, table: &mut PlainTable, count: u64, tally: &mut Tally) {
-    let session = 4;
-    let begun = asked_again(dc, &Request::Connect { session }, tally).is_ok()
-        && asked_again(dc, &Request::RedoEnd { session }, tally).is_ok();
+fn calls_of(dc: &mut Dc, alloc: Global, count: u64, tally: &mut Tally) {
+    let mut table = PlainTable::new(alloc);
+    let begun = begin(dc, session_of(0), 0, tally).is_ok();
     tally.count(begun);
     for number in 1..=count {
-        let agrees = step(dc, table, number, tally) == Ok(true);
+        let agrees = step(dc, &mut table, session_of(number), number, tally) == Ok(true);
         tally.count(agrees);
+        if number % 60 == 59 {
+            let agrees = step_back(dc, alloc, number, tally) == Ok(true);
+            tally.count(agrees);
+        }
     }
     tally.count(dc.performances() == count && dc.leaves() > 1);
 }
 
-/// One operation, and again, with a split between now and then. Whether both answer the same and have the same rows.
+/// The session that sends this number first.
+fn session_of(number: u64) -> u64 {
+    4 + number / 60
+}
+
+/// What is stable once this number is sent: some of the last ones may be lost yet.
+fn stable_at(number: u64) -> u64 {
+    number / 25 * 25
+}
+
+fn begin(dc: &mut Dc, session: u64, end: u64, tally: &mut Tally) -> Result<(), Refusal> {
+    asked_again(dc, &Request::Connect { session, end }, tally)?;
+    asked_again(dc, &Request::RedoEnd { session }, tally)?;
+    Ok(())
+}
+
+/// One operation, and again, with a split between now and then, where none of its leaf may be lost. Whether both answer
+/// the same and have the same rows.
 fn step(
     dc: &mut Dc,
     table: &mut PlainTable,
+    session: u64,
     number: u64,
     tally: &mut Tally,
 ) -> Result<bool, Refusal> {
     let op = op_of(number)?;
-    let expected = match table.apply(&op) {
-        Ok(expected) => expected,
-        Err(_) => table.apply(&op)?,
-    };
-    let first = answered(dc, number, &op, tally)?;
-    if number % 9 == 0 {
+    let expected = applied(table, &op)?;
+    let first = answered(dc, session, number, &op, tally)?;
+    if number % 5 == 0 {
         split_again(dc, op.key(), tally)?;
     }
-    let second = answered(dc, number, &op, tally)?;
+    let second = answered(dc, session, number, &op, tally)?;
     Ok(first == Some(expected.copied()) && second == Some(expected) && has_rows_of(dc, table)?)
+}
+
+fn applied(table: &mut PlainTable, op: &Op) -> Result<Answer, Refusal> {
+    match table.apply(op) {
+        Ok(answer) => Ok(answer),
+        Err(_) => Ok(table.apply(op)?),
+    }
+}
+
+/// The next session takes back what was sent above an end, and sends it again. Whether the rows are those of a table
+/// that never had it, and after each step of one that has it again.
+fn step_back(dc: &mut Dc, alloc: Global, number: u64, tally: &mut Tally) -> Result<bool, Refusal> {
+    let end = stable_at(number).saturating_add(2);
+    let session = session_of(number.saturating_add(1));
+    begin(dc, session, end, tally)?;
+    let mut table = PlainTable::new(alloc);
+    for older in 1..=end {
+        applied(&mut table, &op_of(older)?)?;
+    }
+    let mut agrees = has_rows_of(dc, &table)?;
+    for lost in end.saturating_add(1)..=number {
+        agrees = step(dc, &mut table, session, lost, tally)? && agrees;
+    }
+    Ok(agrees)
 }
 
 /// Four operations and an Add on each of a few keys.
@@ -80,17 +122,19 @@ fn op_of(n: u64) -> Result<Op, Refusal> {
     })
 }
 
-/// What session 4 is answered, None where the answer is no longer kept.
+/// What the session is answered, None where the answer is no longer kept.
 fn answered(
     dc: &mut Dc,
+    session: u64,
     number: u64,
     op: &Op,
     tally: &mut Tally,
 ) -> Result<Option<Answer>, Refusal> {
     let op = op.copied();
     let request = Request::Perform {
-        session: 4,
+        session,
         number,
+        stable: stable_at(number),
         op,
     };
     let Some(reply) = asked_again(dc, &request, tally)? else {

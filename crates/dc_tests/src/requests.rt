@@ -7,12 +7,20 @@ use record_key::Refusal;
 pub fn request_of(name: &str, words: &mut Words) -> Result<Request, Refusal> {
     let session = words.number()?;
     match name {
-        "connect" => Ok(Request::Connect { session }),
+        "connect" => Ok(Request::Connect {
+            session,
+            end: words.number()?,
+        }),
         "redoend" => Ok(Request::RedoEnd { session }),
         "perform" => Ok(Request::Perform {
             session,
             number: words.number()?,
+            stable: words.number()?,
             op: words.op()?,
+        }),
+        "stable" => Ok(Request::StableEnd {
+            session,
+            stable: words.number()?,
         }),
         "get" => Ok(Request::Get {
             session,

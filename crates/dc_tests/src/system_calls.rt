@@ -44,7 +44,10 @@ pub fn call_of(
             let low = number_of(words)?;
             checkpoint(system, low, words.known_end()?)?;
         }
-        "accept" => accept(system, number_of(words)?)?,
+        "accept" => {
+            let session = number_of(words)?;
+            accept(system, session, words.known_end()?)?;
+        }
         "lower" => lower(system, number_of(words)?),
         _ => read(system, name, words, answer)?,
     }
@@ -100,8 +103,8 @@ fn checkpoint(system: &mut System, low: u64, known: u64) -> Result<(), Refusal> 
     system.checkpoint(low % NUMBERS, known)
 }
 
-fn accept(system: &mut System, session: u64) -> Result<(), Refusal> {
-    system.accept(session % NUMBERS)
+fn accept(system: &mut System, session: u64, end: u64) -> Result<(), Refusal> {
+    system.accept(session % NUMBERS, end)
 }
 
 fn lower(system: &mut System, low: u64) {

@@ -1,3 +1,4 @@
 mod Performed
 mod AtKey
-mod Listed
+pub mod Listed
+pub mod Kept

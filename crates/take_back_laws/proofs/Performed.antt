@@ -34,7 +34,7 @@ its_answer : (opened : Table) (a : List Performance) (p : Performance) (b : List
 its_answer opened [] p b all = all.0
 its_answer opened (q ∷ a) p b all = its_answer opened a p b all.1
 
-answered_without : (opened : Table) (a : List Performance) (p : Performance) (b : List Performance) → PassesAll p.op a
+pub answered_without : (opened : Table) (a : List Performance) (p : Performance) (b : List Performance) → PassesAll p.op a
     → AreAnswered opened (a ++ (p ∷ b)) → AreAnswered opened (a ++ b)
 answered_without opened [] p b pass all = all.1
 answered_without opened (q ∷ a) p b pass all = (

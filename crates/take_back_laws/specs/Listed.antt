@@ -59,3 +59,9 @@ TakenIsReplayed =
     (opened : Table) (ps : List Performance) (end : ℕ) (k : Bytes) (leaf : LeafView)
     → IsListedAt opened ps end k leaf
     → get (taken_back leaf end).rows k ≡ get (replayed opened (kept end ps)) k
+
+-- and each of the others was answered at its place among them
+abbrev pub KeptAreAnswered : Type 0
+KeptAreAnswered =
+    (opened : Table) (ps : List Performance) (end : ℕ) → AreAnswered opened ps → ((k : Bytes) → FallOn k ps)
+    → AreAnswered opened (kept end ps)

@@ -1,6 +1,6 @@
 //! The laws, each the contract of a function that does nothing.
 ghost use Rattle.take_back_laws.specs.Performed.{BackIsReplayed};
-ghost use Rattle.take_back_laws.specs.Listed.{TakenIsReplayed};
+ghost use Rattle.take_back_laws.specs.Listed.{TakenIsReplayed, KeptAreAnswered};
 ghost use Rattle.take_back_laws.specs.Example.{AddIsTakenBack};
 
 /// Performances that are taken back, each one that may pass by all that are newer and left, leave what the others give.
@@ -13,6 +13,11 @@ pub fn performed_law()
 /// leave there.
 pub fn listed_law()
     ensures { TakenIsReplayed }
+{}
+
+/// Each of the others was answered as it would have been without those above the end.
+pub fn kept_law()
+    ensures { KeptAreAnswered }
 {}
 
 /// An example: 5, to which 3 was added under number 9 and then 10 under number 4, is 15 once what is above 4 is taken

@@ -7,4 +7,4 @@
 
 mod laws;
 
-pub use laws::{add_taken_back, listed_law, performed_law};
+pub use laws::{add_taken_back, kept_law, listed_law, performed_law};

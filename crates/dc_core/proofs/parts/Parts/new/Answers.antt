@@ -1,15 +1,17 @@
 use Rattle.std.proofs.Common.{◌∙◌, false, ap, length, sym}
 use Rattle.recovery_laws.specs.Recovery.{stored_session}
 use Rattle.system_txn.specs.SystemView.{SystemView}
+use Rattle.dc_core.specs.DcView.{top_of}
 use Rattle.dc_core.proofs.KeepsDc.{keeps_opened, first_rows}
 use Rattle.dc_core.proofs.parts.Parts.new.Goals as goal
 
 pub returns-clause-kept : goal.returns-clause-kept
 returns-clause-kept c =
     let fresh = c.in-Ok.ensures.fresh in
-    keeps_opened c.in-Ok.system 0 c.of-opened.result.table c.new-2.result c.kept.ensures
+    keeps_opened c.in-Ok.system 0 0 0 c.of-opened.result.table c.new-2.result c.kept.ensures
     (ap (λ (v : SystemView). v.stable) fresh ∙ sym (ap (λ (v : SystemView). length v.log) fresh))
-    (sym (ap (λ (v : SystemView). stored_session v.log) fresh)) c.of-opened.ensures c.new-2.ensures
+    (sym (ap (λ (v : SystemView). stored_session v.log) fresh)) (sym (ap (λ (v : SystemView). top_of v.leaves) fresh))
+    c.of-opened.ensures c.new-2.ensures
 
 pub returns-clause-fresh : goal.returns-clause-fresh
 returns-clause-fresh c =
@@ -19,6 +21,8 @@ returns-clause-fresh c =
       stored = 0;
       session = 0;
       redo = false;
+      known = 0;
+      opened_to = 0;
       system = fresh i;
       opened = rows i;
       performed = c.new-2.ensures i;

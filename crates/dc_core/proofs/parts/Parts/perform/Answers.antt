@@ -7,7 +7,7 @@ returns-in-Ok-Performed-clause-kept c =
     let asked = rw c.in-Ok-Performed.field-0-is at c.in-Ok-Performed.ensures in
     keeps_asked (seen c.args.self.now) c.args.number c.args.op.now c.perform.new.system c.perform.new.self
     c.requires.kept
-    c.in-Ok-Performed.answer c.requires.key c.kept.ensures
+    c.in-Ok-Performed.answer c.requires.may c.kept.ensures
     (record { done = asked.done; rest = asked.rest; list = asked.noted })
 
 pub returns-in-Ok-Repeated-clause-kept : goal.returns-in-Ok-Repeated-clause-kept

@@ -4,5 +4,7 @@ use Rattle.dc_core.proofs.parts.Parts.restart.Goals as goal
 pub returns-clause-kept : goal.returns-clause-kept
 returns-clause-kept c =
     let opened = c.in_ok-opened.opened in
-    keeps_opened opened.system opened.stored_session c.of-base.result.table c.new.result c.kept.ensures
-    c.in_ok-opened.ensures.recovers.stable c.in_ok-opened.ensures.stored c.of-base.ensures c.new.ensures
+    let top = c.top_of-top.result in
+    keeps_opened opened.system opened.stored_session top top c.of-base.result.table c.new.result c.kept.ensures
+    c.in_ok-opened.ensures.recovers.stable c.in_ok-opened.ensures.stored c.top_of-top.ensures c.of-base.ensures
+    c.new.ensures
