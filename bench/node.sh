@@ -33,7 +33,7 @@ resident() {
     cat "$folder/memory"
 }
 
-for workload in a b c d e savepoints rising scattered adds updates; do
+for workload in a early b c d e savepoints rising scattered adds updates; do
     first=
     for operations in 1000 10000 100000; do
         rate=$(best "$workload" "$operations")

@@ -9,6 +9,8 @@ pub struct Client {
     world: World,
     outs: Vec<Out>,
     txn: u64,
+    /// Whether operations are sent before they are stable.
+    is_early: bool,
 }
 
 impl Client {
@@ -18,9 +20,15 @@ impl Client {
             world: World::new(alloc)?,
             outs: Vec::new(alloc),
             txn: 0,
+            is_early: false,
         };
         client.settle()?;
         Ok(client)
+    }
+
+    /// From now on operations are sent before they are stable.
+    pub fn send_early(&mut self) {
+        self.is_early = true;
     }
 
     pub fn begin(&mut self) -> Result<(), Refusal> {
@@ -98,6 +106,11 @@ impl Client {
     pub fn commit(&mut self) -> Result<(), Refusal> {
         self.step(&Event::Commit { txn: self.txn })?;
         self.step(&Event::Force)?;
+        if self.is_early {
+            self.step(&Event::Tell)?;
+            self.deliver()?;
+            self.tend_all()?;
+        }
         Ok(())
     }
 
@@ -106,9 +119,21 @@ impl Client {
         self.world.rows()
     }
 
-    /// A leaf that is large is split, or two that are small are joined.
+    /// A leaf that is large is split, or two that are small are joined. Where operations are sent early that is left to
+    /// the commit, since a leaf that was just changed has to wait for it.
     pub fn tend(&mut self) -> Result<(), Refusal> {
-        self.step(&Event::Tend)?;
+        if !self.is_early {
+            self.step(&Event::Tend)?;
+        }
+        Ok(())
+    }
+
+    fn tend_all(&mut self) -> Result<(), Refusal> {
+        for _ in 0..u64::MAX {
+            if self.step(&Event::Tend)? == Out::Nothing {
+                break;
+            }
+        }
         Ok(())
     }
 
@@ -124,10 +149,12 @@ impl Client {
         Ok(())
     }
 
-    /// What the transaction has logged last is made stable, sent, performed and answered. The answer is forced with
-    /// the next record.
+    /// What the transaction has logged last is made stable, unless it is sent before, and sent, performed and answered.
+    /// The answer is forced with the next record.
     fn perform(&mut self) -> Result<(), Refusal> {
-        self.step(&Event::Force)?;
+        if !self.is_early {
+            self.step(&Event::Force)?;
+        }
         self.exchange(&Event::Send { txn: self.txn })?;
         Ok(())
     }

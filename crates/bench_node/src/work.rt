@@ -93,6 +93,10 @@ impl Work {
     pub fn go(&mut self) -> Result<(), Refusal> {
         match self.workload {
             Workload::Base => Ok(()),
+            Workload::EarlyCommits => {
+                self.client.send_early();
+                self.transactions()
+            }
             Workload::Reopening | Workload::CleanReopening | Workload::CheckedReopening => {
                 self.reopen()
             }

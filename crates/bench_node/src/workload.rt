@@ -8,7 +8,9 @@ pub enum Workload {
     Base,
     /// Upserts.
     Commits,
-    /// The same, each transaction rolled back.
+    /// The same, each operation sent before it is stable: the log is forced at the commit, and the data component told.
+    EarlyCommits,
+    /// As `Commits`, each transaction rolled back.
     Rollbacks,
     /// Updates, of which a savepoint undoes the first five.
     Savepoints,
@@ -46,6 +48,7 @@ impl Workload {
         Some(match name.as_bytes() {
             b"base" => Workload::Base,
             b"a" => Workload::Commits,
+            b"early" => Workload::EarlyCommits,
             b"b" => Workload::Rollbacks,
             b"c" => Workload::Savepoints,
             b"d" => Workload::Reads,

@@ -72,7 +72,18 @@ impl Lines {
         false
     }
 
-    /// The operations above this number were never logged.
+    /// How many above this number were answered.
+    pub fn answered_above(&self, above: u64) -> usize {
+        let mut count = 0usize;
+        for line in &self.lines {
+            if line.answered && line.number > above {
+                count = count.saturating_add(1);
+            }
+        }
+        count
+    }
+
+    /// The operations above this number are lost, whether they were answered or not.
     pub fn forget(&mut self, above: u64) {
         self.lines.retain(|line| line.number <= above);
     }

@@ -2,16 +2,16 @@
 use Rattle.std.proofs.Common.{◌≡◌, ℕ, Bool, true, false, List, [], ◌∷◌, Option, Some, None, IsTrue, refl, sym, ap, ◌∙◌, subst, true≢false}
 use Rattle.std.specs.Prelude.{◌||◌, ◌&&◌, ◌==◌, not, nat_le, nat_lt, is_some, length, if◌then◌else◌}
 use Rattle.record_key.specs.declared.refusal.Refusal.{Refusal}
-use Rattle.record_key.specs.declared.refusal.Refusal.TheVariants.{NotConnected, Redoing, NotOpen, RollingBack, Unanswered, Full, BadSavepoint, BadRange, NumbersSpent, Unsent, BeyondStable, Stale, Device}
+use Rattle.record_key.specs.declared.refusal.Refusal.TheVariants.{NotConnected, Redoing, NotOpen, RollingBack, Unanswered, Full, BadSavepoint, BadRange, NumbersSpent, Unsent, Stale, Device}
 use Rattle.record_key.specs.FirstCause.{first_of, or_else, RefusesAs}
 use Rattle.stable.specs.Usage.{Usage, is_due, is_next, called, called_often}
 use Rattle.logical_log.specs.LogView.{is_spent, spent_refusal}
 use Rattle.range_locks.specs.declared.span.Span.{Span}
 use Rattle.tc_core.specs.TcView.{TcView, is_unconnected, is_running, is_serving, is_rolling, is_waiting}
 use Rattle.tc_core.specs.OpenTxns.{find}
-use Rattle.tc_core.specs.Causes.{is_full, saves_of, has_savepoint, undo_logs, awaited, running_refusal, serving_refusal, open_refusal, idle_refusal, begin_refusal, commit_refusal, save_refusal, back_refusal, read_refusal, reads_spent, answered_refusal, undo_refusal, resend_refusal}
+use Rattle.tc_core.specs.Causes.{is_full, saves_of, has_savepoint, undo_logs, running_refusal, serving_refusal, open_refusal, idle_refusal, begin_refusal, commit_refusal, save_refusal, back_refusal, read_refusal, reads_spent, answered_refusal, undo_refusal, resend_refusal}
 use Rattle.tc_core.specs.Changes.{shared}
-use Rattle.tc_core.specs.Recovery.{recover_refusal, undo_unstable, undo_logs_at}
+use Rattle.tc_core.specs.Recovery.{recover_refusal, undo_logs_at}
 use Rattle.tc_core.specs.Replies.{reply_refusal, is_stale, logs}
 use Rattle.codec.specs.declared.reply.Reply.{Reply}
 use Rattle.codec.specs.Replies.{session_of}
@@ -150,13 +150,12 @@ undo_other w t =
 pub resend_other : (w : TcView) (t : ℕ) → IsOther (resend_refusal w t)
 resend_other w t =
     or_other (open_refusal w t) _ (open_other w t)
-    (first_other ((not (is_waiting (find t w.open_txns)), Unsent)
-    ∷ (nat_lt w.stable (awaited (find t w.open_txns)), BeyondStable) ∷ []) (refl, (refl, tt)))
+    (first_other ((not (is_waiting (find t w.open_txns)), Unsent) ∷ []) (refl, tt))
 
 pub recover_other : (w : TcView) → IsOther (recover_refusal w)
 recover_other w =
-    first_other ((is_unconnected w.phase, NotConnected) ∷ (undo_unstable w.phase w.stable, BeyondStable)
-    ∷ (undo_logs_at w.phase && is_spent w.log, NumbersSpent) ∷ []) (refl, (refl, (refl, tt)))
+    first_other ((is_unconnected w.phase, NotConnected) ∷ (undo_logs_at w.phase && is_spent w.log, NumbersSpent) ∷ [])
+    (refl, (refl, tt))
 
 pub reply_other : (w : TcView) (reply : Reply) → IsOther (reply_refusal w reply)
 reply_other w reply =
@@ -172,12 +171,13 @@ after_redo_other w s =
     or_other (session_refusal w s) _ (session_other w s) (first_other ((w.redo, Redoing) ∷ []) (refl, tt))
 
 pub serve_other : (w : DcView) (q : Request) → IsOther (serve_refusal w q)
-serve_other w (asks.Connect s) =
+serve_other w (asks.Connect s end) =
     first_other ((not (runs w s) && not (nat_lt w.stored s), Stale)
     ∷ (not (runs w s) && is_full_log (length w.system.log), NumbersSpent) ∷ []) (refl, (refl, tt))
-serve_other w (asks.Perform s n o) = session_other w s
+serve_other w (asks.Perform s n stable o) = session_other w s
 serve_other w (asks.Get s r k) = after_redo_other w s
 serve_other w (asks.Scan s r lo hi) = after_redo_other w s
 serve_other w (asks.LowWater s l) = after_redo_other w s
 serve_other w (asks.Checkpoint s l) = after_redo_other w s
 serve_other w (asks.RedoEnd s) = session_other w s
+serve_other w (asks.StableEnd s stable) = session_other w s

@@ -15,13 +15,13 @@ use Rattle.codec.specs.declared.request.Request.TheVariants as asks
 use Rattle.codec.specs.declared.reply.Reply.{Reply}
 use Rattle.system_txn.specs.SystemView.{SystemView}
 use Rattle.system_txn.specs.Uses.{FailsWhenDue, StopsWithin, StopsOpening, refused_use, page_calls}
-use Rattle.system_txn.specs.Changes.{split_to, merged_to, covered, written_to, written_all, lowered, accepted, forced}
+use Rattle.system_txn.specs.Changes.{split_to, merged_to, covered, written_to, written_all, lowered, taken_back, accepted, forced}
 use Rattle.system_txn.specs.Gives.{Splits, Merges, StopsAppend, SplitGives, MergeGives, TendGives, FlushGives, StopsWriting, CheckpointGives, StopsCheckpoint, AcceptGives, Tending, SplitsAt, MergesAt, Rests, tending, TendsTo, StopsTending, FailsWriting, FailsAmong, append_refusal, make_refusal}
 use Rattle.system_txn.specs.declared.tended.Neighbours.{Neighbours}
 use Rattle.system_txn.specs.declared.tended.Tended.{Tended}
 use Rattle.system_txn.specs.declared.tended.Tended.TheVariants as tended
-use Rattle.dc_core.specs.DcView.{DcView, captures_at, known_end}
-use Rattle.dc_core.specs.Serves.{runs, connected, performs, Serves, Stops, StopsUnless, ServeGives, serve_refusal}
+use Rattle.dc_core.specs.DcView.{DcView, captures_at}
+use Rattle.dc_core.specs.Serves.{runs, connected, knows, performs, Serves, Stops, StopsUnless, ServeGives, serve_refusal}
 use Rattle.dc_core.specs.Tends.{may_merge, IsNotNow, SplitsTo, MergesTo, TendsTo as TendsDcTo, FlushesTo}
 use Rattle.world.specs.Component.{IsDownWith, IsUp}
 use Rattle.device_laws.specs.Sound.{IsSound}
@@ -82,27 +82,29 @@ merges : (old : SystemView) (p : ℕ) (pair : Neighbours) (new : SystemView) →
 merges old p pair new s h =
     sound_as new (merged_to old p) h.after (record { log = sound_called old.log_usage s.log; pages = s.pages })
 
-sound_split : (old : SystemView) (k : Bytes) (result : Result Neighbours Refusal) (new : SystemView) → AreSound old
-    → SplitGives old k known_end result new → Leaves result new
-sound_split old k (Ok pair) new s h = splits old (place_at old.leaves k) pair new s h.1
-sound_split old k (Err r) new s h = ends_append _ old r new s h
+sound_split : (old : SystemView) (k : Bytes) (known : ℕ) (result : Result Neighbours Refusal) (new : SystemView)
+    → AreSound old
+    → SplitGives old k known result new → Leaves result new
+sound_split old k known (Ok pair) new s h = splits old (place_at old.leaves k) pair new s h.1
+sound_split old k known (Err r) new s h = ends_append _ old r new s h
 
-sound_merge : (old : SystemView) (k : Bytes) (result : Result Neighbours Refusal) (new : SystemView) → AreSound old
-    → MergeGives old k known_end result new → Leaves result new
-sound_merge old k (Ok pair) new s h = merges old (place_at old.leaves k) pair new s h.1
-sound_merge old k (Err r) new s h = ends_append _ old r new s h
+sound_merge : (old : SystemView) (k : Bytes) (known : ℕ) (result : Result Neighbours Refusal) (new : SystemView)
+    → AreSound old
+    → MergeGives old k known result new → Leaves result new
+sound_merge old k known (Ok pair) new s h = merges old (place_at old.leaves k) pair new s h.1
+sound_merge old k known (Err r) new s h = ends_append _ old r new s h
 
-tends : (old : SystemView) (what : Tending) (given : Tended) (new : SystemView) → AreSound old
-    → TendsTo known_end old what given new → AreSound new
-tends old (SplitsAt p) (tended.Split pair) new s h = splits old p pair new s h.1
-tends old (SplitsAt p) (tended.Merged pair) new s h = absurd h
-tends old (SplitsAt p) tended.Nothing new s h = absurd h
-tends old (MergesAt p) (tended.Merged pair) new s h = merges old p pair new s h.1
-tends old (MergesAt p) (tended.Split pair) new s h = absurd h
-tends old (MergesAt p) tended.Nothing new s h = absurd h
-tends old Rests tended.Nothing new s h = sound_as new old h s
-tends old Rests (tended.Split pair) new s h = absurd h
-tends old Rests (tended.Merged pair) new s h = absurd h
+tends : (old : SystemView) (known : ℕ) (what : Tending) (given : Tended) (new : SystemView) → AreSound old
+    → TendsTo known old what given new → AreSound new
+tends old known (SplitsAt p) (tended.Split pair) new s h = splits old p pair new s h.1
+tends old known (SplitsAt p) (tended.Merged pair) new s h = absurd h
+tends old known (SplitsAt p) tended.Nothing new s h = absurd h
+tends old known (MergesAt p) (tended.Merged pair) new s h = merges old p pair new s h.1
+tends old known (MergesAt p) (tended.Split pair) new s h = absurd h
+tends old known (MergesAt p) tended.Nothing new s h = absurd h
+tends old known Rests tended.Nothing new s h = sound_as new old h s
+tends old known Rests (tended.Split pair) new s h = absurd h
+tends old known Rests (tended.Merged pair) new s h = absurd h
 
 ends_tending : (old : SystemView) (what : Tending) (r : Refusal) (new : SystemView) → AreSound old
     → StopsTending old what r new → Ends r new
@@ -110,10 +112,11 @@ ends_tending old (SplitsAt p) r new s h = ends_append (make_refusal old) old r n
 ends_tending old (MergesAt p) r new s h = ends_append (append_refusal old) old r new s h
 ends_tending old Rests r new s h = absurd h
 
-sound_tend : (old : SystemView) (merges : Bool) (result : Result Tended Refusal) (new : SystemView) → AreSound old
-    → TendGives old merges known_end result new → Leaves result new
-sound_tend old merges (Ok what) new s h = tends old (tending old merges known_end) what new s h
-sound_tend old merges (Err r) new s h = ends_tending old (tending old merges known_end) r new s h
+sound_tend : (old : SystemView) (merges : Bool) (known : ℕ) (result : Result Tended Refusal) (new : SystemView)
+    → AreSound old
+    → TendGives old merges known result new → Leaves result new
+sound_tend old merges known (Ok what) new s h = tends old known (tending old merges known) what new s h
+sound_tend old merges known (Err r) new s h = ends_tending old (tending old merges known) r new s h
 
 -- ---- writes
 
@@ -136,12 +139,12 @@ no_failed_write v leaf new s (inl force) = not_due v.log_usage s.log force.1.1
 no_failed_write v leaf new s (inr write) =
     not_due (covered v leaf).page_usage (sound_covered v leaf s).pages write.1
 
-sound_flush : (old : SystemView) (k : Bytes) (result : Result ℕ Refusal) (new : SystemView) → AreSound old
-    → FlushGives old k known_end result new → Leaves result new
-sound_flush old k (Ok id) new s h =
+sound_flush : (old : SystemView) (k : Bytes) (known : ℕ) (result : Result ℕ Refusal) (new : SystemView) → AreSound old
+    → FlushGives old k known result new → Leaves result new
+sound_flush old k known (Ok id) new s h =
     sound_as new (written_to old (leaf_at old.leaves k)) h.after (sound_written old (leaf_at old.leaves k) s)
-sound_flush old k (Err r) new s h =
-    elim (cases_Bool (is_within known_end (leaf_at old.leaves k))) [
+sound_flush old k known (Err r) new s h =
+    elim (cases_Bool (is_within known (leaf_at old.leaves k))) [
       | inl within ↦ stops (MatchBool-at_true _ _ within h)
       | inr above ↦ ends_same old r new NotNow refl s (MatchBool-at_false _ _ above h)
     ]
@@ -165,12 +168,12 @@ no_failed_writes v (leaf ∷ leaves) new s (inr h) =
 sound_lowered : (v : SystemView) (l : ℕ) → AreSound v → AreSound (lowered v l)
 sound_lowered v l s = record { log = s.log; pages = s.pages }
 
-sound_checkpoint : (old : SystemView) (l : ℕ) (result : Result Unit Refusal) (new : SystemView) → AreSound old
-    → CheckpointGives old l known_end result new → Leaves result new
-sound_checkpoint old l (Ok u) new s h =
+sound_checkpoint : (old : SystemView) (l known : ℕ) (result : Result Unit Refusal) (new : SystemView) → AreSound old
+    → CheckpointGives old l known result new → Leaves result new
+sound_checkpoint old l known (Ok u) new s h =
     sound_as new _ h.after (sound_all_written (lowered old l) (lowered old l).leaves (sound_lowered old l s))
-sound_checkpoint old l (Err r) new s h =
-    elim (cases_Bool (all_within known_end old.leaves)) [
+sound_checkpoint old l known (Err r) new s h =
+    elim (cases_Bool (all_within known old.leaves)) [
       | inl within ↦ stops (MatchBool-at_true _ _ within h)
       | inr above ↦ ends_same old r new NotNow refl s (MatchBool-at_false _ _ above h)
     ]
@@ -179,20 +182,23 @@ sound_checkpoint old l (Err r) new s h =
     stops (inl h) = ends_same old r new NoMemory refl s h
     stops (inr h) = absurd (no_failed_writes (lowered old l) (lowered old l).leaves new (sound_lowered old l s) h.1)
 
+sound_back : (v : SystemView) (end : ℕ) → AreSound v → AreSound (taken_back v end)
+sound_back v end s = record { log = s.log; pages = s.pages }
+
 sound_accepted : (v : SystemView) (session : ℕ) → AreSound v → AreSound (accepted v session)
 sound_accepted v session s = record { log = sound_called v.log_usage s.log; pages = s.pages }
 
-ends_accepting : (old : SystemView) (session : ℕ) (r : Refusal) (new : SystemView) → AreSound old
-    → AcceptGives old session (Err r) new → Ends r new
-ends_accepting old session r new s (inl h) = ends_append (append_refusal old) old r new s h
-ends_accepting old session r new s (inr h) =
+ends_accepting : (old : SystemView) (session end : ℕ) (r : Refusal) (new : SystemView) → AreSound old
+    → AcceptGives old session end (Err r) new → Ends r new
+ends_accepting old session end r new s (inl h) = ends_append (append_refusal old) old r new s h
+ends_accepting old session end r new s (inr h) =
     absurd (not_due (accepted old session).log_usage (sound_accepted old session s).log h.2.1)
 
 -- ---- the component
 
 pub parted : (old new : DcView) (k : Bytes) (result : Result Neighbours Refusal) → AreSound old.system
     → SplitsTo old k result new → Leaves result new.system
-parted old new k result s h = sound_split old.system k result new.system s h.0
+parted old new k result s h = sound_split old.system k old.known result new.system s h.0
 
 pub joined : (old new : DcView) (k : Bytes) (result : Result Neighbours Refusal) → AreSound old.system
     → MergesTo old k result new → Leaves result new.system
@@ -210,16 +216,16 @@ joined old new k result s h = by (may_merge old) refl
         is_device_in (Err x) = is_device x
 
     by : (b : Bool) → may_merge old ≡ b → Leaves result new.system
-    by true may = sound_merge old.system k result new.system s (MatchBool-at_true _ _ may h).0
+    by true may = sound_merge old.system k old.known result new.system s (MatchBool-at_true _ _ may h).0
     by false may = refused result (MatchBool-at_false _ _ may h)
 
 pub kept_up : (old new : DcView) (result : Result Tended Refusal) → AreSound old.system → TendsDcTo old result new
     → Leaves result new.system
-kept_up old new result s h = sound_tend old.system (may_merge old) result new.system s h.0
+kept_up old new result s h = sound_tend old.system (may_merge old) old.known result new.system s h.0
 
 pub flushed : (old new : DcView) (k : Bytes) (result : Result ℕ Refusal) → AreSound old.system
     → FlushesTo old k result new → Leaves result new.system
-flushed old new k result s h = sound_flush old.system k result new.system s h.0
+flushed old new k result s h = sound_flush old.system k old.known result new.system s h.0
 
 -- ---- requests
 
@@ -228,38 +234,42 @@ dc_as new dc same s = subst (λ (x : DcView). AreSound x.system) (sym same) s
 
 serves_soundly : (old new : DcView) (q : Request) (reply : Option Reply) → AreSound old.system
     → Serves old q reply new → AreSound new.system
-serves_soundly old new (asks.Connect session) reply s h = by (runs old session) refl
+serves_soundly old new (asks.Connect session end) reply s h = by (runs old session) refl
   where
     by : (b : Bool) → runs old session ≡ b → AreSound new.system
     by true is = dc_as new old (MatchBool-at_true _ _ is h.1) s
     by false is =
-        dc_as new (connected old session) (MatchBool-at_false _ _ is h.1)
-        (sound_forced (accepted old.system session) (sound_accepted old.system session s))
-serves_soundly old new (asks.Perform session n o) reply s h = by (captures_at old (key_of o) n) refl
+        dc_as new (connected old session end) (MatchBool-at_false _ _ is h.1)
+        (sound_back (forced (accepted old.system session)) end
+        (sound_forced (accepted old.system session) (sound_accepted old.system session s)))
+serves_soundly old new (asks.Perform session n stable o) reply s h = by (captures_at old (key_of o) n) refl
   where
     by : (b : Bool) → captures_at old (key_of o) n ≡ b → AreSound new.system
-    by true is = dc_as new old (MatchBool-at_true _ _ is h).1 s
+    by true is = dc_as new (knows old stable) (MatchBool-at_true _ _ is h).1 s
     by false is =
-        dc_as new (performs old n o) (MatchBool-at_false _ _ is h).1 (record { log = s.log; pages = s.pages })
+        dc_as new (knows (performs old n o) stable) (MatchBool-at_false _ _ is h).1
+        (record { log = s.log; pages = s.pages })
 serves_soundly old new (asks.Get session r k) reply s h = dc_as new old h.1 s
 serves_soundly old new (asks.Scan session r lo hi) reply s h = dc_as new old h.1 s
 serves_soundly old new (asks.LowWater session l) reply s h = dc_as new _ h.1 (sound_lowered old.system l s)
 serves_soundly old new (asks.Checkpoint session l) reply s h =
-    sound_checkpoint old.system l (Ok tt) new.system s h.1
+    sound_checkpoint old.system l old.known (Ok tt) new.system s h.1
 serves_soundly old new (asks.RedoEnd session) reply s h = dc_as new _ h.1 s
+serves_soundly old new (asks.StableEnd session stable) reply s h = dc_as new (knows old stable) h.1 s
 
 stops_soundly : (old new : DcView) (q : Request) (r : Refusal) → AreSound old.system → Stops old q r new
     → Ends r new.system
-stops_soundly old new (asks.Connect session) r s h = ends_accepting old.system session r new.system s h.1
-stops_soundly old new (asks.Perform session n o) r s h =
+stops_soundly old new (asks.Connect session end) r s h = ends_accepting old.system session end r new.system s h.1
+stops_soundly old new (asks.Perform session n stable o) r s h =
     record { other = ap is_device h.1.0; sound = dc_as new old h.1.1 s }
 stops_soundly old new (asks.Scan session n lo hi) r s h =
     record { other = ap is_device h.0; sound = dc_as new old h.1 s }
 stops_soundly old new (asks.Checkpoint session l) r s h =
-    sound_checkpoint old.system l (Err r) new.system s h.0
+    sound_checkpoint old.system l old.known (Err r) new.system s h.0
 stops_soundly old new (asks.Get session n k) r s h = absurd h
 stops_soundly old new (asks.LowWater session l) r s h = absurd h
 stops_soundly old new (asks.RedoEnd session) r s h = absurd h
+stops_soundly old new (asks.StableEnd session stable) r s h = absurd h
 
 stops_unless : (cause : Option Refusal) (old new : DcView) (q : Request) (r : Refusal) → AreSound old.system
     → IsOther cause → StopsUnless cause old q r new → Ends r new.system

@@ -32,7 +32,7 @@ use Rattle.world.specs.declared.event.Out.{Out}
 use Rattle.world.specs.declared.event.Out.TheVariants as out
 use Rattle.world.specs.declared.round.Round.{Round}
 use Rattle.world.specs.Component.{TcSide, DcSide}
-use Rattle.world.specs.Node.{NodeView, with_tc, with_dc, Calls, IfUp, down_refusal, ReconnectsTo, RecoversTo, BeginsTo, ActsTo, ReadsTo, SavesTo, GoesBackTo, RollsBackTo, CommitsTo, UndoesTo, ForcesTo, SendsTo, LowersTo, AsksCheckpoint, PartsTo, JoinsTo, KeepsUpTo, WritesTo, ServesTo, TakesTo, Taken, as_out, is_replied_to, IsUnsent, Unreplied, Unread, CrashesTcTo, RestartsTcTo, CrashesDcTo, RestartsDcTo, StepsTo, fresh_node}
+use Rattle.world.specs.Node.{NodeView, with_tc, with_dc, Calls, IfUp, down_refusal, ReconnectsTo, RecoversTo, BeginsTo, ActsTo, ReadsTo, SavesTo, GoesBackTo, RollsBackTo, CommitsTo, UndoesTo, ForcesTo, SendsTo, LowersTo, AsksCheckpoint, TellsTo, PartsTo, JoinsTo, KeepsUpTo, WritesTo, ServesTo, TakesTo, Taken, as_out, is_replied_to, IsUnsent, Unreplied, Unread, CrashesTcTo, RestartsTcTo, CrashesDcTo, RestartsDcTo, StepsTo, fresh_node}
 use Rattle.world.specs.Stepping.{IsStep, Chain}
 use Rattle.world.specs.Rounds.{Plays, StopsAt, Rounds, events_of, Settles}
 use Rattle.device_laws.specs.Sound.{IsSound, HasSoundDevices, SaysNoFailure}
@@ -229,6 +229,14 @@ asks_checkpoint old new (out.Refused r) s h =
     unchanged old new (out.Refused r) s h.1 (room_other (running_refusal old.tc) true r (running_other old.tc) h.0)
 asks_checkpoint old new _ s h = absurd h
 
+tells : (old new : NodeView) (o : Out) → HasSoundDevices old → TellsTo old o new → Safe new o
+tells old new (out.Sent i) s h =
+    tc_is old new old.tc (out.Sent i) s (ap (λ (x : NodeView). x.dc) h.1.left) (ap (λ (x : NodeView). x.tc) h.1.left)
+    s.log refl
+tells old new (out.Refused r) s h =
+    unchanged old new (out.Refused r) s h.1 (room_other (running_refusal old.tc) true r (running_other old.tc) h.0)
+tells old new _ s h = absurd h
+
 -- ---- replies
 
 told_quiet : (what : Told) → says_device (as_out what) ≡ false
@@ -418,6 +426,7 @@ safe old new event.Force o s h = if_up old new old.tc_up NotConnected o _ s refl
 safe old new (event.Send t) o s h = if_up old new old.tc_up NotConnected o _ s refl (sends old new t o s) h
 safe old new (event.LowWater l) o s h = if_up old new old.tc_up NotConnected o _ s refl (lowers old new l o s) h
 safe old new event.Checkpoint o s h = if_up old new old.tc_up NotConnected o _ s refl (asks_checkpoint old new o s) h
+safe old new event.Tell o s h = if_up old new old.tc_up NotConnected o _ s refl (tells old new o s) h
 safe old new (event.Split k) o s h = if_up old new old.dc_up NotConnected o _ s refl (parts old new k o s) h
 safe old new (event.Merge k) o s h = if_up old new old.dc_up NotConnected o _ s refl (joins old new k o s) h
 safe old new event.Tend o s h = if_up old new old.dc_up NotConnected o _ s refl (keeps_up old new o s) h

@@ -54,11 +54,12 @@ bare name =
     else (if bytes_eq name (codes "force") then Some (steps event.Force)
     else (if bytes_eq name (codes "tend") then Some (steps event.Tend)
     else (if bytes_eq name (codes "checkpoint") then Some (steps event.Checkpoint)
+    else (if bytes_eq name (codes "tell") then Some (steps event.Tell)
     else (if bytes_eq name (codes "connect") then Some (steps event.Reconnect)
     else (if bytes_eq name (codes "recover") then Some (steps event.Recover)
     else (if bytes_eq name (codes "table") then Some tables
     else (if bytes_eq name (codes "log") then Some (shows part.Log)
-    else (if bytes_eq name (codes "leaves") then Some (shows part.Leaves) else None))))))))
+    else (if bytes_eq name (codes "leaves") then Some (shows part.Leaves) else None)))))))))
 
 -- the name of what happens to a label's transaction
 abbrev pub call_named : List ℕ → Option Call

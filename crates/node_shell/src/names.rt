@@ -20,6 +20,8 @@ pub fn bare<'a>(name: &[u8]) -> Option<Line<'a>>
         Some(Line::Step(Event::Tend))
     } else if name == b"checkpoint".as_slice() {
         Some(Line::Step(Event::Checkpoint))
+    } else if name == b"tell".as_slice() {
+        Some(Line::Step(Event::Tell))
     } else if name == b"connect".as_slice() {
         Some(Line::Step(Event::Reconnect))
     } else if name == b"recover".as_slice() {

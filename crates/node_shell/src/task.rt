@@ -38,6 +38,7 @@ A script is lines; empty lines and lines that begin with # are skipped.
   low N         tells the data component that no number up to N is sent again
   checkpoint    asks the data component to write its leaves, so that redo may begin
                 past the greatest number that was announced by low
+  tell          tells the data component how much of the log is stable
   req N         delivers the request numbered N
   rep N         delivers the reply numbered N
   split K       splits the leaf that has the key K

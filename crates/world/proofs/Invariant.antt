@@ -3,10 +3,12 @@ pub mod Announced
 pub mod AtKeys
 pub mod ByNumber
 pub mod CallsKeep
+pub mod Captured
 pub mod Carries
 pub mod Framed
 pub mod Grows
 pub mod Keeps
+pub mod LastRecord
 pub mod MayAsk
 pub mod Performs
 pub mod Promised
@@ -17,6 +19,7 @@ pub mod Serves
 pub mod Sources
 pub mod Spellable
 pub mod Systems
+pub mod TakenBack
 pub mod Tends
 pub mod Trees
 pub mod Unread

@@ -18,6 +18,7 @@ use Rattle.codec.specs.declared.request.Request.TheVariants as asks
 use Rattle.codec.specs.declared.reply.Reply.{Reply}
 use Rattle.codec.specs.declared.reply.Reply.TheVariants as says
 use Rattle.page.specs.Leaf.{LeafView}
+use Rattle.page.specs.Honest.{IsHonestLeaf}
 use Rattle.recovery_laws.specs.Recovery.{stored_session}
 use Rattle.recovery_laws.specs.Ready.{IsHonestTo, AllHave}
 use Rattle.system_txn.specs.SystemView.{SystemView}
@@ -37,6 +38,7 @@ use Rattle.tc_core.specs.Changes.{shared}
 use Rattle.tc_core.specs.TcView.{TcView}
 use Rattle.history.specs.Legal.{FitsCheckpoint}
 use Rattle.logical_log.specs.Low.{stable_part}
+use Rattle.logical_log.specs.LogView.{last_not_session}
 use Rattle.tc_core.specs.Kept.{IsTc}
 use Rattle.world.specs.Node.{NodeView}
 use Rattle.world.specs.Source.{Source, IsWaiting, IsSource, own}
@@ -90,23 +92,30 @@ pub record IsOlder (w : TcView) (s : ℕ) : Type 0 where
   pub some : 0 < s
   pub older : IsWaiting w.phase → 0 < w.session → s < w.session
 
--- an operation is that of its record, which is sure, and each earlier request on its key was performed, unless both are
--- Adds
-pub record IsNext (x : Source) (dc : DcView) (n : ℕ) (o : Op) : Type 0 where
-  pub sure : n ≤ x.sure
+-- an operation is that of its record, and each earlier request on its key was performed, unless both are Adds; what it
+-- says to be stable is sure
+pub record IsNext (x : Source) (dc : DcView) (n stable : ℕ) (o : Op) : Type 0 where
+  pub sure : stable ≤ x.sure
   pub requests : Requests x.log n o
   pub earlier : EarlierAreCaptured x.log dc n o
+
+-- a session was begun; until it is taken the transaction component waits, and its log has nothing but sessions above
+-- the end, from which on the data component will take back
+pub record IsConnect (w : TcView) (stored s end : ℕ) : Type 0 where
+  pub begun : IsBegun w.stable w.session s
+  pub next : stored < s → IsWaiting w.phase × (end ≡ last_not_session w.log)
 
 -- what was sent stands, where its session still runs: of the source what an operation asks for, and up to which number
 -- all is answered; where redo was ended all that is answered was performed
 abbrev pub IsSent : TcView → DcView → Source → Request → Type 0
-IsSent w dc x (asks.Connect s) = IsBegun w.stable w.session s
-IsSent w dc x (asks.Perform s n o) = IsOlder w s × InSession dc s (IsNext x dc n o)
+IsSent w dc x (asks.Connect s end) = IsConnect w dc.stored s end
+IsSent w dc x (asks.Perform s n stable o) = IsOlder w s × InSession dc s (IsNext x dc n stable o)
 IsSent w dc x (asks.Get s n k) = IsReadTrue w s n (λ q. q ≡ Key k)
 IsSent w dc x (asks.Scan s n low high) = IsReadTrue w s n (λ q. q ≡ Range low high)
 IsSent w dc x (asks.LowWater s l) = InSession dc s (IsAnsweredBy x.log x.sure l)
 IsSent w dc x (asks.Checkpoint s l) = InSession dc s (IsAnsweredBy x.log x.sure l)
 IsSent w dc x (asks.RedoEnd s) = InSession dc s (AnsweredAreCaptured x.log dc)
+IsSent w dc x (asks.StableEnd s stable) = InSession dc s (stable ≤ x.sure)
 
 -- the right answer; or none, where all up to the number is answered
 abbrev pub IsRightOrNone : Source → ℕ → Option Answer → Type 0
@@ -178,11 +187,10 @@ pub record AreSessions (stable session : ℕ) (at : Phase) (log : List Record) (
 abbrev pub IsLowAnswered : List Record → ℕ → LeafView → Type 0
 IsLowAnswered log end leaf = IsAnsweredBy log end leaf.ab.low
 
--- each cached leaf is honest for the source and has captured sure numbers only, each page and each leaf in a record is
--- honest for the transactions' log and has captured stable numbers only; and every request up to its low number is
--- answered
+-- each cached leaf is honest for the source, each page and each leaf in a record is honest for the transactions' log
+-- and has captured stable numbers only; and every request up to its low number is answered
 pub record IsTrueTo (w : TcView) (x : Source) (v : SystemView) : Type 0 where
-  pub leaves : AllByRecursion (IsHonestTo x.log x.sure) v.leaves
+  pub leaves : AllByRecursion (IsHonestLeaf x.log) v.leaves
   pub low : AllByRecursion (IsLowAnswered x.log x.sure) v.leaves
   pub written : AllHave (IsHonestTo w.log w.stable) (pages_of v.pages) v.log
   pub written_low : AllHave (IsLowAnswered w.log w.stable) (pages_of v.pages) v.log
@@ -214,3 +222,8 @@ pub record IsKept (w : NodeView) : Type 0 where
   pub sessions : AreSessions w.tc.stable w.tc.session w.tc.phase w.tc.log w.dc
   -- 10. every leaf, also after any crash, has captured what redo doesn't send again
   pub checked : IsChecked w.tc.checkpointed w.dc.system
+  -- 11. what the data component knows not to be lost is sure, and what its leaves had when they were opened is stable;
+  -- and while the transaction component waits nothing but sessions is lost by a crash
+  pub known : w.dc.known ≤ source.sure
+  pub opened : w.dc.opened_to ≤ last_not_session (stable_part w.tc.log w.tc.stable)
+  pub quiet : IsWaiting w.tc.phase → last_not_session w.tc.log ≤ w.tc.stable

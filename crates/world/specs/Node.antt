@@ -27,7 +27,8 @@ use Rattle.tc_core.specs.declared.phase.Phase.{Phase}
 use Rattle.tc_core.specs.declared.phase.Phase.TheVariants as phase
 use Rattle.tc_core.specs.TcView.{TcView, fresh}
 use Rattle.tc_core.specs.Causes.{resend_refusal, running_refusal}
-use Rattle.tc_core.specs.Calls.{ReconnectGives, BeginGives, ActGives, ReadGives, SaveGives, BackGives, RollbackGives, CommitGives, UndoGives, ForceGives, ResendGives}
+use Rattle.tc_core.specs.Calls.{ReconnectGives, BeginGives, ActGives, ReadGives, SaveGives, BackGives, RollbackGives, CommitGives, UndoGives, ForceGives, ResendGives, TellStableGives}
+use Rattle.logical_log.specs.LogView.{last_not_session}
 use Rattle.tc_core.specs.Replies.{reply_refusal, ReplyGives}
 use Rattle.tc_core.specs.Recovery.{RecoverGives, recover_refusal}
 use Rattle.tc_core.specs.LowWater.{LowWaterGives, RefusesLow, Announces}
@@ -88,10 +89,14 @@ abbrev pub LacksRoom : Option Refusal → Bool → Refusal → Type 0
 LacksRoom (Some cause) sends r = r ≡ cause
 LacksRoom None sends r = (sends ≡ true) × (r ≡ NoMemory)
 
+-- what begins the next session
+abbrev pub next_connect : TcView → Request
+next_connect w = asks.Connect (length w.log + 1) (last_not_session w.log)
+
 abbrev pub ReconnectsTo : NodeView → Out → NodeView → Type 0
 ReconnectsTo old (out.Connects i committed) new =
-    ReconnectGives old.tc (Ok (record { request = asks.Connect (length old.tc.log + 1); committed = committed })) new.tc
-    × Sends old new.tc (asks.Connect (length old.tc.log + 1)) i new
+    ReconnectGives old.tc (Ok (record { request = next_connect old.tc; committed = committed })) new.tc
+    × Sends old new.tc (next_connect old.tc) i new
 ReconnectsTo old (out.Refused r) new = Calls (ReconnectGives old.tc (Err r)) old new
 ReconnectsTo old _ new = ⊥
 
@@ -182,12 +187,20 @@ AsksCheckpoint old (out.Sent i) new =
 AsksCheckpoint old (out.Refused r) new = LacksRoom (running_refusal old.tc) true r × (new ≡ old)
 AsksCheckpoint old _ new = ⊥
 
+abbrev pub TellsTo : NodeView → Out → NodeView → Type 0
+TellsTo old (out.Sent i) new =
+    TellStableGives old.tc (Ok (asks.StableEnd old.tc.session old.tc.stable))
+    × Sends old old.tc (asks.StableEnd old.tc.session old.tc.stable) i new
+TellsTo old (out.Refused r) new = LacksRoom (running_refusal old.tc) true r × (new ≡ old)
+TellsTo old _ new = ⊥
+
 -- there is no message of this number
 abbrev pub IsUnsent : {A : Type 0} → List A → ℕ → Refusal → Type 0
 IsUnsent messages i r = (r ≡ Unsent) × (message_at messages i ≡ None)
 
 abbrev pub is_replied_to : Request → Bool
 is_replied_to (asks.LowWater s l) = false
+is_replied_to (asks.StableEnd s stable) = false
 is_replied_to _ = true
 
 -- the request of this number reaches the data component
@@ -357,6 +370,7 @@ StepsTo old event.Force output new = IfTcUp old output new (ForcesTo old output 
 StepsTo old (event.Send t) output new = IfTcUp old output new (SendsTo old t output new)
 StepsTo old (event.LowWater l) output new = IfTcUp old output new (LowersTo old l output new)
 StepsTo old event.Checkpoint output new = IfTcUp old output new (AsksCheckpoint old output new)
+StepsTo old event.Tell output new = IfTcUp old output new (TellsTo old output new)
 StepsTo old (event.Split k) output new = IfDcUp old output new (PartsTo old k output new)
 StepsTo old (event.Merge k) output new = IfDcUp old output new (JoinsTo old k output new)
 StepsTo old event.Tend output new = IfDcUp old output new (KeepsUpTo old output new)

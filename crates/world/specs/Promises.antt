@@ -10,6 +10,10 @@ use Rattle.history.specs.History.{plain, entries_of}
 use Rattle.history.specs.ListMachine.{Machine}
 use Rattle.history.specs.Log.{record_at, answer_of, hist}
 use Rattle.log_laws.specs.Laws.{Names}
+use Rattle.logical_log.specs.LogView.{last_not_session}
+use Rattle.page.specs.Leaf.{LeafView}
+use Rattle.page.specs.Honest.{IsHonestLeaf}
+use Rattle.page.specs.TakingBack.{taken_back}
 use Rattle.btree.specs.Leaves.{rows_of}
 use Rattle.recovery_laws.specs.Ready.{IsHonestTo, AllHave}
 use Rattle.system_txn.specs.Crashed.{crashed}
@@ -18,13 +22,19 @@ use Rattle.dc_core.specs.DcView.{leaves}
 use Rattle.simulation.specs.Lasting.{HasCommitted}
 use Rattle.simulation.specs.View.{IsCommitAt, standing}
 use Rattle.world.specs.Node.{NodeView}
+use Rattle.world.specs.Source.{IsWaiting}
 use Rattle.world.specs.Simulation.{Stands, IsSettled}
 
--- every leaf is honest for the transactions' log, and has captured stable numbers only: each that is cached, each page
--- and
+-- the leaf is honest for the log once what stands above the end that the next Connect would carry is taken back
+abbrev pub IsHonestBack : List Record → LeafView → Type 0
+IsHonestBack log leaf = IsHonestLeaf log (taken_back leaf (last_not_session log))
+
+-- every leaf is honest for the transactions' log: each that is cached once what that has lost is taken back, and at once
+-- where the transaction component doesn't wait for a session; at once, with stable numbers captured only, each page and
 -- each leaf in the data component's log, and each that recovery would give, however much of that log a crash keeps
 pub record AreHonest (w : NodeView) : Type 0 where
-  pub cached : AllByRecursion (IsHonestTo w.tc.log w.tc.stable) (leaves w.dc)
+  pub cached : AllByRecursion (IsHonestBack w.tc.log) (leaves w.dc)
+  pub served : (IsWaiting w.tc.phase → ⊥) → AllByRecursion (IsHonestLeaf w.tc.log) (leaves w.dc)
   pub written : AllHave (IsHonestTo w.tc.log w.tc.stable) (pages_of w.dc.system.pages) w.dc.system.log
   pub recovered : (n : ℕ) → w.dc.system.stable ≤ n
       → AllByRecursion (IsHonestTo w.tc.log w.tc.stable) (crashed w.dc.system n).leaves

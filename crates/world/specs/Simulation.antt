@@ -1,5 +1,5 @@
 -- The list machines that a node stands for, and runs of events.
-use Rattle.std.specs.Prelude.{◌≡◌, ℕ, ◌≤◌, false, List, [], ◌∷◌, Option, Some, None, IsSome, map}
+use Rattle.std.specs.Prelude.{◌≡◌, ℕ, false, List, [], ◌∷◌, Option, Some, None, IsSome, map}
 use Rattle.record_key.specs.declared.op.Op.{Op}
 use Rattle.history.specs.ListMachine.{Machine, Line, Query, OfKey, OfRange, Begins, Acts, TellsAnswer, Reads, TellsRow, TellsRows, Saves, GoesBack, TellsBack, RollsBack, TellsRolledBack, Commits, TellsCommitted, Crashes, TellsLost, IsRefused, ToBegin, ToAct, ToRead, ToSave, ToGoBack, ToRollBack, ToCommit, Steps}
 use Rattle.history.specs.Log.{answer_of, Requests}
@@ -121,6 +121,8 @@ lines_of (event.LowWater l) (out.Sent i) = Some []
 lines_of (event.LowWater l) (out.Refused r) = Some []
 lines_of event.Checkpoint (out.Sent i) = Some []
 lines_of event.Checkpoint (out.Refused r) = Some []
+lines_of event.Tell (out.Sent i) = Some []
+lines_of event.Tell (out.Refused r) = Some []
 lines_of event.Recover (out.Sent i) = Some []
 lines_of event.Recover out.Nothing = Some []
 lines_of event.Recover (out.Compensated n) = Some []
@@ -164,10 +166,10 @@ LeadsAll old es os new = (m : Machine) → Stands old m → (n : Machine) × Run
 abbrev pub AreUnrolled : List OpenTxn → Type 0
 AreUnrolled os = (t : ℕ) → is_rolling (find t os) ≡ false
 
--- both components run in one session, nobody is being rolled back, and every stable request is answered
+-- both components run in one session, nobody is being rolled back, and every request is answered
 pub record IsSettled (w : NodeView) : Type 0 where
   pub running : w.tc.phase ≡ phase.Running
   pub up : AreUp w
   pub session : w.dc.session ≡ w.tc.session
   pub unrolled : AreUnrolled w.tc.open_txns
-  pub answered : (n : ℕ) (o : Op) → n ≤ w.tc.stable → Requests w.tc.log n o → IsSome (answer_of w.tc.log n)
+  pub answered : (n : ℕ) (o : Op) → Requests w.tc.log n o → IsSome (answer_of w.tc.log n)

@@ -18,12 +18,17 @@ IsWaiting phase.Unconnected = Unit {0}
 IsWaiting phase.Connecting = Unit {0}
 IsWaiting _ = ⊥
 
+-- it waits, and its session, if it has one, wasn't taken yet
+pub record IsUntaken (w : TcView) (stored : ℕ) : Type 0 where
+  pub waits : IsWaiting w.phase
+  pub later : 0 < w.session → stored < w.session
+
 -- the transaction component's own log, whose stable records are sure
 abbrev pub own : TcView → Source
 own w = record { log = w.log; sure = w.stable }
 
--- a crash took what the source has above its sure records, and since then the transaction component waits and has
--- logged nothing but sessions; its own, if it has one, wasn't taken yet
+-- a crash took what the source has above its sure records, and since then the transaction component waits for a session
+-- to be taken and has logged nothing but sessions
 pub record IsAsking (w : TcView) (stored : ℕ) (x : Source) : Type 0 where
   pub common : List Record
   pub lost : List Record
@@ -33,8 +38,7 @@ pub record IsAsking (w : TcView) (stored : ℕ) (x : Source) : Type 0 where
   pub count : x.sure ≡ length common
   pub stable : x.sure ≤ w.stable
   pub sessions : AllByRecursion (λ r. r ≡ is.Session) since
-  pub waits : IsWaiting w.phase
-  pub later : 0 < w.session → stored < w.session
+  pub untaken : IsUntaken w stored
 
 -- the source is the log itself; or what a crash took of it is still in the data component's cache, until that takes a
 -- session or crashes

@@ -90,5 +90,8 @@ impl Node {
 fn has_reply(request: &Request) -> bool
     ensures { result ≡ is_replied_to request.now }
 {
-    !matches!(request, Request::LowWater { .. })
+    !matches!(
+        request,
+        Request::LowWater { .. } | Request::StableEnd { .. }
+    )
 }

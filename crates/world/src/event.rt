@@ -58,6 +58,8 @@ pub enum Event {
     },
     /// The data component is asked to write all that is answered up to the greatest announced number.
     Checkpoint,
+    /// The data component is told how much of the log is stable.
+    Tell,
     /// The leaf that has the key is split.
     Split {
         key: Key,

@@ -75,6 +75,7 @@ impl Node {
             Event::Send { txn } => self.send(*txn),
             Event::LowWater { low } => self.low_water(*low),
             Event::Checkpoint => self.checkpoint(),
+            Event::Tell => self.tell(),
             Event::Split { key } => self.split(key),
             Event::Merge { key } => self.merge(key),
             Event::Tend => self.tend(),

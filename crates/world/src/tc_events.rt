@@ -1,7 +1,6 @@
 //! The calls of the transaction component, and the messages that they send and take.
-ghost use Rattle.std.specs.Prelude.{◌≡◌, ◌&&◌, not};
-ghost use Rattle.tc_core.specs.Recovery.{undo_unstable};
-ghost use Rattle.world.specs.Node.{ReconnectsTo, RecoversTo, BeginsTo, ActsTo, ReadsTo, SavesTo, GoesBackTo, RollsBackTo, CommitsTo, UndoesTo, ForcesTo, SendsTo, LowersTo, AsksCheckpoint, TakesTo, IfUp, IfTcUp, down_refusal, as_out, sends_at};
+ghost use Rattle.std.specs.Prelude.{◌≡◌};
+ghost use Rattle.world.specs.Node.{ReconnectsTo, RecoversTo, BeginsTo, ActsTo, ReadsTo, SavesTo, GoesBackTo, RollsBackTo, CommitsTo, UndoesTo, ForcesTo, SendsTo, LowersTo, AsksCheckpoint, TellsTo, TakesTo, IfUp, IfTcUp, down_refusal, as_out, sends_at};
 ghost use Rattle.world.specs.Seen.{seen};
 
 use crate::attempt::attempt;
@@ -40,7 +39,7 @@ impl Node {
             return Out::Refused(Refusal::NotConnected);
         };
         tc.kept();
-        if sends(tc.phase(), tc.stable_end()) {
+        if sends(tc.phase()) {
             attempt!(self.requests.make_room());
         }
         match attempt!(tc.recover_step()) {
@@ -219,6 +218,20 @@ impl Node {
     }
 
     #[inline(never)]
+    pub fn tell(&mut self) -> Out
+        ensures done { IfTcUp (seen self.old) result (seen self.new)
+            (TellsTo (seen self.old) result (seen self.new)) }
+    {
+        let TransactionComponent::Up(tc) = &mut self.tc else {
+            return Out::Refused(Refusal::NotConnected);
+        };
+        tc.kept();
+        let request = attempt!(tc.tell_stable());
+        attempt!(self.requests.push(&request));
+        Out::Sent(self.requests.len())
+    }
+
+    #[inline(never)]
     pub fn reply(&mut self, number: u64) -> Out
         ensures done { IfTcUp (seen self.old) result (seen self.new)
             (TakesTo (seen self.old) number result (seen self.new)) }
@@ -247,14 +260,11 @@ fn refused_down(low: &Key, high: &Option<Key>) -> Refusal
 }
 
 /// Whether a step of recovery sends a request.
-fn sends(phase: Phase, stable_end: u64) -> bool
-    ensures { result ≡ (sends_at phase && not (undo_unstable phase stable_end)) }
+fn sends(phase: Phase) -> bool
+    ensures { result ≡ sends_at phase }
 {
     match phase {
-        Phase::Connecting | Phase::Redoing { .. } => true,
-        Phase::Undoing {
-            waiting: Some(number),
-        } => number <= stable_end,
+        Phase::Connecting | Phase::Redoing { .. } | Phase::Undoing { waiting: Some(_) } => true,
         Phase::Undoing { waiting: None } | Phase::Unconnected | Phase::Running => false,
     }
 }

@@ -72,9 +72,10 @@ impl World {
         self.node.step(event)
     }
 
-    /// What holds at every moment, and what the node promises by that: every leaf is honest, also after any crash; no
-    /// operation is compensated twice, no compensation is refused, whose Commit record is stable has committed; and
-    /// where the node is settled, its records are those of a plain map, for each list machine that it stands for.
+    /// What holds at every moment, and what the node promises by that: every leaf is honest, also after any crash, a
+    /// cached one once what a crash has lost is taken back; no operation is compensated twice, no compensation is
+    /// refused, whose Commit record is stable has committed; and where the node is settled, its records are those of a
+    /// plain map, for each list machine that it stands for.
     pub fn kept(&self)
         ensures kept { IsKept self.now }
         ensures promised { Promises self.now }

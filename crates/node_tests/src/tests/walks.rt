@@ -3,6 +3,7 @@ mod choosing;
 mod counts;
 mod walking;
 
+use counts::Counts;
 use log_laws::is_legal;
 use std::alloc::Global;
 use std::process::Abort;
@@ -28,15 +29,17 @@ fn walk_far(rt: &impl Abort, alloc: Global, walk: &mut Walk) -> Result<(), Fail>
         walk_on(rt, alloc, walk)?;
     }
     assert!(rt; is_legal(&walk.log(alloc)?));
-    walk.counts.assert_enough(rt);
     Ok(())
 }
 
 #[test]
 fn as_the_plain_model(rt: HostRuntime) -> Result<(), Fail> {
+    let mut counts = Counts::new();
     for seed in 1..5 {
-        let mut walk = Walk::new(rt.alloc(), seed)?;
+        let mut walk = Walk::new(rt.alloc(), seed, counts)?;
         walk_far(&rt, rt.alloc(), &mut walk)?;
+        counts = walk.into_counts();
     }
+    counts.assert_enough(&rt);
     Ok(())
 }

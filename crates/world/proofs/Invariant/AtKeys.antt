@@ -6,7 +6,8 @@ use Rattle.record_key.specs.Table.{Bytes}
 use Rattle.history.specs.Honest.{IsHonestAt}
 use Rattle.btree.specs.Leaves.{leaf_at}
 use Rattle.btree.proofs.AtKey.{all_at, within_at}
-use Rattle.recovery_laws.specs.Ready.{IsHonestTo, IsLow}
+use Rattle.page.specs.Honest.{IsHonestLeaf}
+use Rattle.recovery_laws.specs.Ready.{IsLow}
 use Rattle.system_txn.specs.Checked.{IsChecked}
 use Rattle.dc_core.specs.DcView.{leaves, captures_at, value_at}
 use Rattle.world.specs.Node.{NodeView}
@@ -16,24 +17,19 @@ use Rattle.world.specs.Source.{Source, own}
 use Rattle.world.proofs.Invariant.Sources.{of_log}
 
 pub own_leaf : (w : NodeView) (key : Bytes) (k : IsKept w)
-    → IsHonestTo k.source.log k.source.sure (leaf_at (leaves w.dc) key)
-own_leaf w key k =
-    all_at (IsHonestTo k.source.log k.source.sure) (leaves w.dc) key k.dc.system.leaves k.true_to.leaves
+    → IsHonestLeaf k.source.log (leaf_at (leaves w.dc) key)
+own_leaf w key k = all_at (IsHonestLeaf k.source.log) (leaves w.dc) key k.dc.system.leaves k.true_to.leaves
 
 pub own_low : (w : NodeView) (key : Bytes) (k : IsKept w)
     → IsLowAnswered k.source.log k.source.sure (leaf_at (leaves w.dc) key)
 own_low w key k = all_at (IsLowAnswered k.source.log k.source.sure) (leaves w.dc) key k.dc.system.leaves k.true_to.low
-
-pub captured_sure : (w : NodeView) (key : Bytes) (n : ℕ) (k : IsKept w) → captures_at w.dc key n ≡ true
-    → n ≤ k.source.sure
-captured_sure w key n k h = (own_leaf w key k).within n h
 
 -- where the source is the log
 pub honest_at : (w : NodeView) (key : Bytes) (k : IsKept w) → k.source ≡ own w.tc
     → IsHonestAt w.tc.log (captures_at w.dc key) key (value_at w.dc key)
 honest_at w key k live =
     of_log w.tc k.source (λ (x : Source). IsHonestAt x.log (captures_at w.dc key) key (value_at w.dc key)) live
-    ((own_leaf w key k).honest.at key (within_at (leaves w.dc) key k.dc.system.leaves))
+    ((own_leaf w key k).at key (within_at (leaves w.dc) key k.dc.system.leaves))
 
 pub answered_captured : (w : NodeView) (k : IsKept w) → k.source ≡ own w.tc → may_merge w.dc ≡ true
     → AnsweredAreCaptured w.tc.log w.dc

@@ -7,6 +7,8 @@ use Rattle.record_key.specs.declared.op.Answer.{Answer}
 use Rattle.record_key.specs.Table.{Bytes, key_of}
 use Rattle.record_key.proofs.Lists.{all_from}
 use Rattle.history.specs.Log.{Requests}
+use Rattle.logical_log.specs.Low.{stable_part}
+use Rattle.logical_log.specs.LogView.{last_not_session}
 use Rattle.codec.specs.declared.request.Request.{Request}
 use Rattle.codec.specs.declared.request.Request.TheVariants as asks
 use Rattle.codec.specs.declared.reply.Reply.{Reply}
@@ -30,7 +32,7 @@ replied w dc None = with_dc w dc
 replied w dc (Some reply) = with_reply (with_dc w dc) reply
 
 -- the same sessions ran, as far past their redo at least, and no request's number was lost at its key; nor is a leaf
--- less low
+-- less low; and they are the same leaves that were opened
 pub record Carries (log : List Record) (old new : DcView) : Type 0 where
   pub captured : (n : ℕ) (o : Op) → Requests log n o → captures_at old (key_of o) n ≡ true
       → captures_at new (key_of o) n ≡ true
@@ -38,6 +40,7 @@ pub record Carries (log : List Record) (old new : DcView) : Type 0 where
   pub ran : (s : ℕ) → runs new s ≡ true → runs old s ≡ true
   pub past : old.redo ≡ false → new.redo ≡ false
   pub checks : Checks old.system new.system
+  pub opened : new.opened_to ≡ old.opened_to
 
 module _ (w : NodeView) (dc : DcView) (k : IsKept w) (c : Carries k.source.log w.dc dc) where
   abbrev x : Source
@@ -58,8 +61,8 @@ module _ (w : NodeView) (dc : DcView) (k : IsKept w) (c : Carries k.source.log w
         | inr both ↦ inr both
       ]
 
-  next_carried : (n : ℕ) (o : Op) → IsNext x w.dc n o → IsNext x dc n o
-  next_carried n o h =
+  next_carried : (n stable : ℕ) (o : Op) → IsNext x w.dc n stable o → IsNext x dc n stable o
+  next_carried n stable o h =
       record { sure = h.sure; requests = h.requests; earlier = earlier_carried n o h.earlier }
 
   all_carried : AnsweredAreCaptured x.log w.dc → AnsweredAreCaptured x.log dc
@@ -70,14 +73,17 @@ module _ (w : NodeView) (dc : DcView) (k : IsKept w) (c : Carries k.source.log w
   low_carried s l = carried s (IsAnsweredBy x.log x.sure l) (IsAnsweredBy x.log x.sure l) (λ to. to)
 
   sent_carried : (q : Request) → IsSent w.tc w.dc x q → IsSent w.tc dc x q
-  sent_carried (asks.Connect s) h = h
-  sent_carried (asks.Perform s n o) h = (h.0, carried s (IsNext x w.dc n o) (IsNext x dc n o) (next_carried n o) h.1)
+  sent_carried (asks.Connect s end) h =
+      record { begun = h.begun; next = λ less. h.next (omega (arith, less, c.stored)) }
+  sent_carried (asks.Perform s n stable o) h =
+      (h.0, carried s (IsNext x w.dc n stable o) (IsNext x dc n stable o) (next_carried n stable o) h.1)
   sent_carried (asks.Get s n key) h = h
   sent_carried (asks.Scan s n low high) h = h
   sent_carried (asks.LowWater s l) h = low_carried s l h
   sent_carried (asks.Checkpoint s l) h = low_carried s l h
   sent_carried (asks.RedoEnd s) h =
       carried s (AnsweredAreCaptured x.log w.dc) (AnsweredAreCaptured x.log dc) all_carried h
+  sent_carried (asks.StableEnd s stable) h = carried s (stable ≤ x.sure) (stable ≤ x.sure) (λ sure. sure) h
 
   captured_carried : (n : ℕ) → IsCaptured x w.dc n → IsCaptured x dc n
   captured_carried n h =
@@ -102,9 +108,9 @@ module _ (w : NodeView) (dc : DcView) (k : IsKept w) (c : Carries k.source.log w
   pub keeps_dc : (reply : Option Reply) → IfSome reply (IsGiven w.tc dc x) → IsDc dc → IsRecoverable dc.system
       → IsTrueTo w.tc x dc.system
       → AllByRecursion (λ (p : Performance). Requests x.log p.number p.op) dc.performed
-      → (may_merge dc ≡ true → AnsweredAreCaptured x.log w.dc)
+      → (may_merge dc ≡ true → AnsweredAreCaptured x.log w.dc) → dc.known ≤ x.sure
       → AreSessions w.tc.stable w.tc.session w.tc.phase w.tc.log dc → IsKept (replied w dc reply)
-  keeps_dc reply given is recoverable true_to performed past sessions = by reply given
+  keeps_dc reply given is recoverable true_to performed past known sessions = by reply given
     where
       all : AllByRecursion (IsGiven w.tc dc x) w.replies
       all = all_from (IsGiven w.tc w.dc x) (IsGiven w.tc dc x) given_carried w.replies k.given
@@ -125,6 +131,9 @@ module _ (w : NodeView) (dc : DcView) (k : IsKept w) (c : Carries k.source.log w
         given = given;
         sessions = sessions;
         checked = c.checks w.tc.checkpointed k.checked;
+        known = known;
+        opened = omega (arith, k.opened, c.opened);
+        quiet = k.quiet;
       }
 
       by : (reply : Option Reply) → IfSome reply (IsGiven w.tc dc x) → IsKept (replied w dc reply)
@@ -152,8 +161,10 @@ module _ (w : NodeView) (dc : DcView) (k : IsKept w) (a : StartsAnew w.dc dc) wh
   }
 
   sent_past : (q : Request) → IsSent w.tc w.dc k.source q → IsSent w.tc dc y q
-  sent_past (asks.Connect s) h = h
-  sent_past (asks.Perform s n o) h = (h.0, past s (IsNext k.source w.dc n o) (IsNext y dc n o) h.1)
+  sent_past (asks.Connect s end) h =
+      record { begun = h.begun; next = λ less. h.next (omega (arith, less, a.stored)) }
+  sent_past (asks.Perform s n stable o) h =
+      (h.0, past s (IsNext k.source w.dc n stable o) (IsNext y dc n stable o) h.1)
   sent_past (asks.Get s n key) h = h
   sent_past (asks.Scan s n low high) h = h
   sent_past (asks.LowWater s l) h =
@@ -161,6 +172,7 @@ module _ (w : NodeView) (dc : DcView) (k : IsKept w) (a : StartsAnew w.dc dc) wh
   sent_past (asks.Checkpoint s l) h =
       past s (IsAnsweredBy k.source.log k.source.sure l) (IsAnsweredBy y.log y.sure l) h
   sent_past (asks.RedoEnd s) h = past s (AnsweredAreCaptured k.source.log w.dc) (AnsweredAreCaptured y.log dc) h
+  sent_past (asks.StableEnd s stable) h = past s (stable ≤ k.source.sure) (stable ≤ y.sure) h
 
   given_past : (reply : Reply) → IsGiven w.tc w.dc k.source reply → IsGiven w.tc dc y reply
   given_past (says.Connected s) h = omega (arith, h, a.stored)
@@ -176,9 +188,10 @@ module _ (w : NodeView) (dc : DcView) (k : IsKept w) (a : StartsAnew w.dc dc) wh
 
   pub keeps_anew : (reply : Option Reply) → IfSome reply (IsGiven w.tc dc y) → IsDc dc → IsRecoverable dc.system
       → IsTrueTo w.tc y dc.system
-      → AllByRecursion (λ (p : Performance). Requests y.log p.number p.op) dc.performed
+      → AllByRecursion (λ (p : Performance). Requests y.log p.number p.op) dc.performed → dc.known ≤ y.sure
+      → dc.opened_to ≤ last_not_session (stable_part w.tc.log w.tc.stable)
       → AreSessions w.tc.stable w.tc.session w.tc.phase w.tc.log dc → IsKept (replied w dc reply)
-  keeps_anew reply given is recoverable true_to performed sessions = by reply given
+  keeps_anew reply given is recoverable true_to performed known opened sessions = by reply given
     where
       all : AllByRecursion (IsGiven w.tc dc y) w.replies
       all = all_from (IsGiven w.tc w.dc k.source) (IsGiven w.tc dc y) given_past w.replies k.given
@@ -199,6 +212,9 @@ module _ (w : NodeView) (dc : DcView) (k : IsKept w) (a : StartsAnew w.dc dc) wh
         given = given;
         sessions = sessions;
         checked = a.checks w.tc.checkpointed k.checked;
+        known = known;
+        opened = opened;
+        quiet = k.quiet;
       }
 
       by : (reply : Option Reply) → IfSome reply (IsGiven w.tc dc y) → IsKept (replied w dc reply)

@@ -12,6 +12,10 @@ use Rattle.history.specs.Log.{answer_of, request_of, Requests}
 use Rattle.history.specs.Spans.{is_within}
 use Rattle.history.specs.Values.{is_on, value_with, value_on, IsRight, HasRightAnswers}
 use Rattle.log_laws.proofs.Records.{ARequest, older_at, at_newest}
+use Rattle.log_laws.proofs.LegalLogs.{request_number}
+use Rattle.logical_log.specs.LogView.{last_not_session}
+use Rattle.logical_log.proofs.Answered.{part_longer}
+use Rattle.dc_core.proofs.KeepsDc.{all_both}
 use Rattle.logical_log.specs.Low.{stable_part}
 use Rattle.range_locks.specs.declared.span.Span.{Span}
 use Rattle.range_locks.specs.declared.span.Span.TheVariants.{Key, Range}
@@ -38,14 +42,16 @@ use Rattle.tc_core.proofs.Low.{may_longer}
 use Rattle.tc_core.specs.TcView.{TcView}
 use Rattle.tc_core.specs.Kept.{IsTc}
 use Rattle.world.specs.Node.{NodeView, with_tc}
-use Rattle.world.specs.Kept.{IsKept, IsAnsweredBy, IsBegun, IsReadTrue, InSession, IsOlder, IsNext, IsSent, IsRightOrNone, IsAnswerIn, IsCaptured, IsAnswered, IsValue, AreRows, IsGiven, AreSessions, IsTrueTo, IsLowAnswered, AnsweredAreCaptured, EarlierAreCaptured}
-use Rattle.world.specs.Source.{Source, IsWaiting, IsSource, own}
+use Rattle.world.specs.Kept.{IsKept, IsAnsweredBy, IsBegun, IsReadTrue, InSession, IsOlder, IsNext, IsConnect, IsSent, IsRightOrNone, IsAnswerIn, IsCaptured, IsAnswered, IsValue, AreRows, IsGiven, AreSessions, IsTrueTo, IsLowAnswered, AnsweredAreCaptured, EarlierAreCaptured}
+use Rattle.world.specs.Source.{Source, IsWaiting, IsUntaken, IsSource, own}
 use Rattle.record_key.proofs.Lists.{all_from}
 use Rattle.page.proofs.OnKey.{key_on}
-use Rattle.world.proofs.Invariant.Announced.{part_grows}
+use Rattle.world.proofs.Invariant.Announced.{part_grows, most_sure}
+use Rattle.world.proofs.Invariant.Captured.{uncaptured_above, captured_in}
+use Rattle.world.proofs.Invariant.LastRecord.{last_within, last_parts}
 use Rattle.world.proofs.Machine.Readers.{NoneAnew}
 use Rattle.world.proofs.Invariant.Running.{run_is, some_session, in_session, stored_recorded}
-use Rattle.world.proofs.Invariant.Sources.{waiting_or, request_longer, uncaptured_above}
+use Rattle.world.proofs.Invariant.Sources.{waiting_or, request_longer}
 use Rattle.world.proofs.Invariant.Unread.{unread}
 use Rattle.world.proofs.Invariant.Written.{have_all}
 
@@ -63,6 +69,19 @@ extend P old new (inr grown) more h = subst P (sym grown.1) (more grown.0 h)
 abbrev pub IsLater : TcView → TcView → Type 0
 IsLater old new = (new.session ≡ old.session) ⊎ (old.stable < new.session)
 
+-- the same log, or with a session more
+abbrev pub LogsSession : List Record → List Record → Type 0
+LogsSession old new = (new ≡ old) ⊎ (new ≡ is.Session ∷ old)
+
+-- what waits
+pub record WaitsOn (stored : ℕ) (old new : TcView) : Type 0 where
+  -- for its session to be taken goes on to wait, and logs nothing but a session
+  pub untaken : IsUntaken old stored → IsWaiting new.phase × LogsSession old.log new.log
+  -- now did before and logs so, or has begun a later session, and all that it logged is stable
+  pub waits : IsWaiting new.phase
+      → (IsWaiting old.phase × LogsSession old.log new.log)
+      ⊎ ((old.stable < new.session) × (length new.log ≤ new.stable))
+
 -- a log has grown by a record at most, and no fewer of its records are sure
 pub record IsGrown (old new : Source) : Type 0 where
   pub within : old.sure ≤ length old.log
@@ -76,7 +95,9 @@ pub record GoesOn (old new : TcView) : Type 0 where
   -- it has its session still, or a later one than was ever begun, and waits for its Connect only if it did, or for a
   -- later one's
   pub session : IsLater old new
-  pub waits : IsWaiting new.phase → IsWaiting old.phase ⊎ (old.stable < new.session)
+  pub waits : IsWaiting new.phase
+      → (IsWaiting old.phase × LogsSession old.log new.log)
+      ⊎ ((old.stable < new.session) × (length new.log ≤ new.stable))
   pub reads : old.reads ≤ new.reads
   pub none_anew : NoneAnew old.reads old.open_txns new.open_txns
 
@@ -110,10 +131,10 @@ older_on old new s on begun h = record {
   some = h.some;
   older = λ waits some. elim (on.waits waits) [
     | inl waited ↦ elim on.session [
-      | inl same ↦ omega (arith, same, h.older waited (omega (arith, some, same)))
+      | inl same ↦ omega (arith, same, h.older waited.0 (omega (arith, some, same)))
       | inr later ↦ omega (arith, begun, later)
     ]
-    | inr later ↦ omega (arith, begun, later)
+    | inr later ↦ omega (arith, begun, later.0)
   ];
 }
 
@@ -143,26 +164,43 @@ earlier_longer : (r : Record) (log : List Record) (dc : DcView) (n : ℕ) (o : O
 earlier_longer r log dc n o within h m q asks below =
     h m q (older_at (ARequest q) r log m (λ e. omega (arith, e, within, below)) asks) below
 
-pub next_on : (old new : Source) (dc : DcView) (n : ℕ) (o : Op) → IsGrown old new → IsNext old dc n o → IsNext new dc n o
-next_on old new dc n o on h = record {
+pub next_on : (old new : Source) (dc : DcView) (n stable : ℕ) (o : Op) → IsGrown old new → IsNext old dc n stable o
+    → IsNext new dc n stable o
+next_on old new dc n stable o on h = record {
   sure = omega (arith, h.sure, on.sure);
   requests = extend (λ log. Requests log n o) old.log new.log on.log (λ r. request_longer r old.log n o) h.requests;
   earlier = extend (λ log. EarlierAreCaptured log dc n o) old.log new.log on.log
-      (λ r. earlier_longer r old.log dc n o (omega (arith, h.sure, on.within))) h.earlier;
+      (λ r. earlier_longer r old.log dc n o (request_number old.log n o h.requests).bounded) h.earlier;
 }
+
+-- a log that grows by a session has the same last record that isn't one
+last_logged : (old new : List Record) → LogsSession old new → last_not_session new ≡ last_not_session old
+last_logged old new (inl same) = ap last_not_session same
+last_logged old new (inr more) = ap last_not_session more
 
 -- what was sent stands where the source has grown so
 module _ (old new : TcView) (dc : DcView) (x y : Source) (on : GoesOn old new) (grown : IsGrown x y)
-    (captured : Captures x.log y.log dc) (stored : dc.stored ≤ old.stable) where
+    (captured : Captures x.log y.log dc) (stored : dc.stored ≤ old.stable) (waits : WaitsOn dc.stored old new) where
+  -- a session that wasn't taken yet is the component's, which waits
+  connect_on : (s end : ℕ) → IsConnect old dc.stored s end → IsConnect new dc.stored s end
+  connect_on s end h = record {
+    begun = begun_on old new s on h.begun;
+    next = λ less.
+        let was = h.next less in
+        let now = waits.untaken
+        (record { waits = was.0; later = λ some. omega (arith, less, h.begun.most some) }) in
+        (now.0, was.1 ∙ sym (last_logged old.log new.log now.1));
+  }
+
   low_on : (s l : ℕ) → InSession dc s (IsAnsweredBy x.log x.sure l) → InSession dc s (IsAnsweredBy y.log y.sure l)
   low_on s l = in_session dc s (IsAnsweredBy x.log x.sure l) (IsAnsweredBy y.log y.sure l)
       (λ running. answered_on x y l grown)
 
   pub sent_on : (q : Request) → IsSent old dc x q → IsSent new dc y q
-  sent_on (asks.Connect s) h = begun_on old new s on h
-  sent_on (asks.Perform s n o) h = (
+  sent_on (asks.Connect s end) h = connect_on s end h
+  sent_on (asks.Perform s n stable o) h = (
     older_on old new s on (omega (arith, h.1.begun, stored)) h.0,
-    in_session dc s (IsNext x dc n o) (IsNext y dc n o) (λ running. next_on x y dc n o grown) h.1,
+    in_session dc s (IsNext x dc n stable o) (IsNext y dc n stable o) (λ running. next_on x y dc n stable o grown) h.1,
   )
   sent_on (asks.Get s n k) h =
       told_on old new s n (λ q. q ≡ Key k) (λ q. q ≡ Key k) on (λ t o q found reading is. is) h
@@ -173,6 +211,8 @@ module _ (old new : TcView) (dc : DcView) (x y : Source) (on : GoesOn old new) (
   sent_on (asks.RedoEnd s) h =
       in_session dc s (AnsweredAreCaptured x.log dc) (AnsweredAreCaptured y.log dc)
       (λ running. let run = run_is dc s running in captured (λ zero. run.some (sym run.is ∙ zero))) h
+  sent_on (asks.StableEnd s stable) h =
+      in_session dc s (stable ≤ x.sure) (stable ≤ y.sure) (λ running sure. omega (arith, sure, grown.sure)) h
 
 right_on : (old new : Source) (n : ℕ) (o : Op) (a : Option Answer) → IsGrown old new → Requests old.log n o
     → IsRightOrNone old n a → IsRightOrNone new n a
@@ -180,7 +220,8 @@ right_on old new n o None on asks h = answered_on old new n on h
 right_on old new n o (Some a) on asks h =
     extend (λ log. IsRight log n a) old.log new.log on.log (λ r. right_longer r old.log n o a asks) h
 
-answer_in_on : (old new : Source) (n : ℕ) (a : Option Answer) → IsGrown old new → IsAnswerIn old n a → IsAnswerIn new n a
+answer_in_on : (old new : Source) (n : ℕ) (a : Option Answer) → IsGrown old new → IsAnswerIn old n a
+    → IsAnswerIn new n a
 answer_in_on old new n a on h = record {
   op = h.op;
   requests = extend (λ log. Requests log n h.op) old.log new.log on.log (λ r. request_longer r old.log n h.op)
@@ -289,7 +330,7 @@ given_on old new dc x y both on grown stored (says.Rows s n rows) h =
 given_on old new dc x y both on grown stored (says.Checkpointed s l) h = h
 given_on old new dc x y both on grown stored (says.RedoEnded s) h = h
 
--- a leaf that is honest, and has captured sure numbers only, stays so
+-- a leaf that is honest, and has captured stable numbers only, stays so
 honest_to_on : (old new : Source) → IsGrown old new → (leaf : LeafView) → IsHonestTo old.log old.sure leaf
     → IsHonestTo new.log new.sure leaf
 honest_to_on old new on leaf h = record {
@@ -302,11 +343,22 @@ low_answered_on : (old new : Source) → IsGrown old new → (leaf : LeafView) �
     → IsLowAnswered new.log new.sure leaf
 low_answered_on old new on leaf = answered_on old new leaf.ab.low on
 
+-- so does a cached one that is low
+honest_on : (old new : Source) → IsGrown old new → (leaf : LeafView) → IsHonestLeaf old.log leaf
+    → IsLowAnswered old.log old.sure leaf → IsHonestLeaf new.log leaf
+honest_on old new on leaf h low =
+    let within : leaf.ab.low ≤ length old.log =
+    omega (arith, most_sure old.log old.sure leaf.ab.low on.within low, on.within) in
+    extend (λ log. IsHonestLeaf log leaf) old.log new.log on.log
+    (λ r. honest_uncaptured r old.log leaf
+    (uncaptured_above leaf (length old.log) (length old.log + 1) (captured_in old.log leaf h within) (omega arith))) h
+
 pub leaves_on : (old new : Source) → IsGrown old new → (leaves : List LeafView)
-    → AllByRecursion (IsHonestTo old.log old.sure) leaves
-    → AllByRecursion (IsHonestTo new.log new.sure) leaves
+    → AllByRecursion (IsHonestLeaf old.log) leaves → AllByRecursion (IsLowAnswered old.log old.sure) leaves
+    → AllByRecursion (IsHonestLeaf new.log) leaves
 leaves_on old new on leaves =
-    all_from (IsHonestTo old.log old.sure) (IsHonestTo new.log new.sure) (honest_to_on old new on) leaves
+    all_both (IsHonestLeaf old.log) (IsLowAnswered old.log old.sure) (IsHonestLeaf new.log)
+    (honest_on old new on) leaves
 
 pub lows_on : (old new : Source) → IsGrown old new → (leaves : List LeafView)
     → AllByRecursion (IsLowAnswered old.log old.sure) leaves
@@ -317,7 +369,7 @@ lows_on old new on leaves =
 true_on : (old new : TcView) (x y : Source) (v : SystemView) → IsGrown (own old) (own new) → IsGrown x y
     → IsTrueTo old x v → IsTrueTo new y v
 true_on old new x y v on grown h = record {
-  leaves = leaves_on x y grown v.leaves h.leaves;
+  leaves = leaves_on x y grown v.leaves h.leaves h.low;
   low = lows_on x y grown v.leaves h.low;
   written = have_all (IsHonestTo old.log old.stable) (IsHonestTo new.log new.stable)
       (honest_to_on (own old) (own new) on) (pages_of v.pages) v.log h.written;
@@ -333,12 +385,30 @@ performed_on old new on ps h =
     (λ p. extend (λ log. Requests log p.number p.op) old.log new.log on.log
     (λ r. request_longer r old.log p.number p.op)) ps h
 
+-- while it waits nothing but sessions may be lost
+quiet_on : (old new : TcView) → GoesOn old new → (IsWaiting old.phase → last_not_session old.log ≤ old.stable)
+    → IsWaiting new.phase → last_not_session new.log ≤ new.stable
+quiet_on old new on quiet waits = elim (on.waits waits) [
+  | inl was ↦ omega (arith, quiet was.0, last_logged old.log new.log was.1, on.grown.sure)
+  | inr all ↦ omega (arith, last_within new.log, all.1)
+]
+
+-- what the leaves had when they were opened is stable still
+opened_on : (old new : Source) (n : ℕ) → IsGrown old new → n ≤ last_not_session (stable_part old.log old.sure)
+    → n ≤ last_not_session (stable_part new.log new.sure)
+opened_on old new n on h =
+    let same : last_not_session (stable_part new.log old.sure) ≡ last_not_session (stable_part old.log old.sure) =
+    extend (λ log. last_not_session (stable_part log old.sure) ≡ last_not_session (stable_part old.log old.sure))
+    old.log new.log on.log (λ r was. ap last_not_session (part_longer r old.log old.sure on.within) ∙ was) refl in
+    omega (arith, h, same, last_parts new.log old.sure new.sure on.sure on.now_within)
+
 -- all holds still, where the answers are right and what is answered is captured
 pub keeps_on : (w : NodeView) (tc : TcView) (k : IsKept w) (y : Source) → IsTc tc → GoesOn w.tc tc
-    → IsSource tc w.dc.stored y → IsGrown k.source y → AreSessions tc.stable tc.session tc.phase tc.log w.dc
+    → WaitsOn w.dc.stored w.tc tc → IsSource tc w.dc.stored y → IsGrown k.source y
+    → AreSessions tc.stable tc.session tc.phase tc.log w.dc
     → HasRightAnswers tc.log → Captures k.source.log y.log w.dc → IsChecked tc.checkpointed w.dc.system
     → IsKept (with_tc w tc)
-keeps_on w tc k y is on from grown sessions right captured checked = record {
+keeps_on w tc k y is on waits from grown sessions right captured checked = record {
   tc = is;
   right = right;
   dc = k.dc;
@@ -349,10 +419,13 @@ keeps_on w tc k y is on from grown sessions right captured checked = record {
   performed = performed_on k.source y grown w.dc.performed k.performed;
   answered = λ may. captured (some_session w.dc may) (k.answered may);
   sent = all_from (IsSent w.tc w.dc k.source) (IsSent tc w.dc y)
-      (sent_on w.tc tc w.dc k.source y on grown captured (stored_recorded w k)) w.requests k.sent;
+      (sent_on w.tc tc w.dc k.source y on grown captured (stored_recorded w k) waits) w.requests k.sent;
   given = all_from (IsGiven w.tc w.dc k.source) (IsGiven tc w.dc y)
       (given_on w.tc tc w.dc k.source y (record { was = k.tc; now = is }) on grown (stored_recorded w k)) w.replies
       k.given;
   sessions = sessions;
   checked = checked;
+  known = omega (arith, k.known, grown.sure);
+  opened = opened_on (own w.tc) (own tc) w.dc.opened_to on.grown k.opened;
+  quiet = quiet_on w.tc tc on k.quiet;
 }

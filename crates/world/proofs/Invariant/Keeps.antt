@@ -30,7 +30,7 @@ use Rattle.world.specs.Kept.{IsKept, IsSent, IsGiven, IsServed, AreSessions, Ans
 use Rattle.world.proofs.Invariant.ByNumber.{all_push}
 use Rattle.world.proofs.Machine.Readers.{NoneAnew}
 use Rattle.world.specs.Source.{Source, IsWaiting, IsAsking, own}
-use Rattle.world.proofs.Invariant.Grows.{IsLater, IsGrown, GoesOn, Captures, keeps_on}
+use Rattle.world.proofs.Invariant.Grows.{IsLater, LogsSession, WaitsOn, IsGrown, GoesOn, Captures, keeps_on}
 use Rattle.world.proofs.Invariant.Running.{stored_recorded}
 use Rattle.world.proofs.Invariant.Sources.{unwaited, of_source, sure_within}
 
@@ -108,16 +108,11 @@ awaited_number w k t o n found some =
 
 -- ---- the transaction component logs a record, or none
 
--- while it waits it goes on to wait, and logs nothing but a session
-pub record WaitsOn (asking : Type 0) (old new : TcView) : Type 0 where
-  pub asks : asking → IsWaiting new.phase × ((new.log ≡ old.log) ⊎ (new.log ≡ is.Session ∷ old.log))
-  pub waits : IsWaiting new.phase → IsWaiting old.phase ⊎ (old.stable < new.session)
-
 -- what it logs stands above what the source and the log have in common
 asks_on : (stored : ℕ) (x : Source) (old new : TcView) → stored ≤ old.stable → old.stable ≤ new.stable
-    → IsLater old new → WaitsOn (IsAsking old stored x) old new → IsAsking old stored x → IsAsking new stored x
+    → IsLater old new → WaitsOn stored old new → IsAsking old stored x → IsAsking new stored x
 asks_on stored x old new taken stable session waits h =
-    let a = waits.asks h in record {
+    let a = waits.untaken h.untaken in record {
       common = h.common;
       lost = h.lost;
       since = (above a.1).0;
@@ -126,14 +121,16 @@ asks_on stored x old new taken stable session waits h =
       count = h.count;
       stable = omega (arith, h.stable, stable);
       sessions = (above a.1).2;
-      waits = a.0;
-      later = λ some. elim session [
-        | inl same ↦ omega (arith, same, h.later (omega (arith, some, same)))
-        | inr later ↦ omega (arith, later, taken)
-      ];
+      untaken = record {
+        waits = a.0;
+        later = λ some. elim session [
+          | inl same ↦ omega (arith, same, h.untaken.later (omega (arith, some, same)))
+          | inr later ↦ omega (arith, later, taken)
+        ];
+      };
     }
   where
-    above : (new.log ≡ old.log) ⊎ (new.log ≡ is.Session ∷ old.log)
+    above : LogsSession old.log new.log
         → (since : List Record) × (new.log ≡ since ++ h.common) × AllByRecursion (λ r. r ≡ is.Session) since
     above (inl same) = (h.since, same ∙ h.log_is, h.sessions)
     above (inr more) = (
@@ -143,20 +140,20 @@ asks_on stored x old new taken stable session waits h =
     )
 
 abbrev pub Waits : (w : NodeView) → IsKept w → TcView → Type 0
-Waits w k tc = WaitsOn (IsAsking w.tc w.dc.stored k.source) w.tc tc
+Waits w k tc = WaitsOn w.dc.stored w.tc tc
 
 -- neither phase nor log changes
 pub same_waiting : (w : NodeView) (k : IsKept w) (tc : TcView) → tc.phase ≡ w.tc.phase → tc.log ≡ w.tc.log
     → Waits w k tc
 same_waiting w k tc same log = record {
-  asks = λ h. (subst IsWaiting (sym same) h.waits, inl log);
-  waits = λ h. inl (subst IsWaiting same h);
+  untaken = λ h. (subst IsWaiting (sym same) h.waits, inl log);
+  waits = λ h. inl (subst IsWaiting same h, inl log);
 }
 
 -- it doesn't wait
 pub none_waiting : (w : NodeView) (k : IsKept w) (tc : TcView) → (IsWaiting w.tc.phase → ⊥) → (IsWaiting tc.phase → ⊥)
     → Waits w k tc
-none_waiting w k tc old new = record { asks = λ h. absurd (old h.waits); waits = λ h. absurd (new h) }
+none_waiting w k tc old new = record { untaken = λ h. absurd (old h.waits); waits = λ h. absurd (new h) }
 
 -- since it serves clients
 pub serving_on : (w : NodeView) (k : IsKept w) (tc : TcView) → tc.phase ≡ w.tc.phase → is_serving w.tc.phase ≡ true
@@ -171,12 +168,12 @@ keeps_going : (w : NodeView) (tc : TcView) (k : IsKept w) → IsTc tc → GoesOn
 keeps_going w tc k is on waits sessions right captured checked =
     elim k.from [
       | inl live ↦
-          keeps_on w tc k (own tc) is on (inl refl)
+          keeps_on w tc k (own tc) is on waits (inl refl)
           (of_source w.tc k.source (λ (x : Source). IsGrown x (own tc)) live on.grown) sessions right
           (of_source w.tc k.source (λ (x : Source). Captures x.log tc.log w.dc) live captured) checked
       | inr asks ↦
           let within = sure_within w.tc w.dc.stored k.source k.tc.within k.from in
-          keeps_on w tc k k.source is on
+          keeps_on w tc k k.source is on waits
           (inr (asks_on w.dc.stored k.source w.tc tc (stored_recorded w k) on.grown.sure on.session waits asks))
           (record { within = within; log = inl refl; sure = omega arith; now_within = within }) sessions right
           (λ some h. h) checked
@@ -267,6 +264,9 @@ keeps_messages w requests replies k sent given = record {
   given = given;
   sessions = k.sessions;
   checked = k.checked;
+  known = k.known;
+  opened = k.opened;
+  quiet = k.quiet;
 }
 
 -- one request more

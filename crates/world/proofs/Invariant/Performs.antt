@@ -1,31 +1,28 @@
 -- A new number is performed, which keeps what holds of a node.
-use Rattle.std.proofs.Common.{◌≡◌, ℕ, true, false, List, Some, refl, sym, ◌∙◌, subst, arith, inl, inr, eqb-true}
-use Rattle.std.specs.Prelude.{◌==◌}
-use Rattle.std.proofs.lemmas.Bool.{or_cases, cases_eq}
+use Rattle.std.proofs.Common.{◌≡◌, ℕ, ◌≤◌, true, false, List, Option, Some, IfSome, refl, sym, ◌∙◌, subst, arith, inl, inr}
+use Rattle.std.proofs.lemmas.Bool.{cases_eq}
 use Rattle.record_key.specs.declared.op.Op.{Op}
 use Rattle.record_key.specs.Table.{key_of, answer_in}
 use Rattle.history.specs.declared.record.Record.{Record}
 use Rattle.history.specs.Log.{Requests}
 use Rattle.codec.specs.declared.request.Request.TheVariants as asks
+use Rattle.codec.specs.declared.reply.Reply.{Reply}
 use Rattle.codec.specs.declared.reply.Reply.TheVariants as says
-use Rattle.ab_lsn.specs.AbLsn.{captures}
-use Rattle.ab_lsn.proofs.Capturing.{noted_captures}
 use Rattle.page.specs.Leaf.{LeafView, performed}
-use Rattle.page.specs.Honest.{IsNextOn}
+use Rattle.page.specs.Honest.{IsHonestLeaf, IsNextOn}
 use Rattle.page.proofs.Performing.{one_request, right_answer, honest_performed}
 use Rattle.btree.specs.Leaves.{leaf_at}
 use Rattle.btree.proofs.AtKey.{within_at, captured_performed, captured_not_performed}
 use Rattle.btree.proofs.Changing.{all_changed}
-use Rattle.recovery_laws.specs.Ready.{IsHonestTo}
 use Rattle.system_txn.specs.Kept.{IsRecoverable}
 use Rattle.system_txn.specs.Checked.{Checks}
 use Rattle.dc_core.specs.DcView.{DcView, leaves, captures_at}
-use Rattle.dc_core.specs.Serves.{performs, runs}
+use Rattle.dc_core.specs.Serves.{performs, knows, runs}
 use Rattle.dc_core.specs.Kept.{IsDc}
 use Rattle.tc_core.specs.declared.phase.Phase.{Phase}
 use Rattle.tc_core.specs.declared.phase.Phase.TheVariants as phase
 use Rattle.world.specs.Node.{NodeView}
-use Rattle.world.specs.Kept.{IsKept, IsNext, IsSent, IsAnswerIn, IsServed, IsTrueTo, IsLowAnswered}
+use Rattle.world.specs.Kept.{IsKept, IsNext, IsSent, IsGiven, IsAnswerIn, IsServed, IsTrueTo, IsLowAnswered}
 use Rattle.world.specs.Source.{Source, IsWaiting, own}
 use Rattle.world.proofs.Invariant.AtKeys.{own_leaf}
 use Rattle.world.proofs.Invariant.Sources.{live, run_live, of_log}
@@ -60,11 +57,28 @@ served_carried w k dc same past c =
     → captures_at dc (key_of o) n ≡ true)
     (live w k unwaiting) c.captured) k.sessions.served
 
+-- what a request says to be stable is known
+pub keeps_known : (w : NodeView) (stable : ℕ) (reply : Option Reply) (k : IsKept w) → IsDc (knows w.dc stable)
+    → stable ≤ k.source.sure → IfSome reply (IsGiven w.tc (knows w.dc stable) k.source)
+    → IsKept (replied w (knows w.dc stable) reply)
+keeps_known w stable reply k is sure given =
+    let c : Carries k.source.log w.dc (knows w.dc stable) = record {
+      captured = λ n o asks h. h;
+      stored = refl;
+      ran = λ t r. r;
+      past = λ past. past;
+      checks = λ l h. h;
+      opened = refl;
+    } in
+    keeps_dc w (knows w.dc stable) k c reply given is k.recoverable k.true_to k.performed k.answered
+    (omega (arith, k.known, sure))
+    (record { begun = k.sessions.begun; served = served_carried w k (knows w.dc stable) refl refl c })
+
 -- a new number is the next on its key
-module _ (w : NodeView) (s n : ℕ) (o : Op) (k : IsKept w) (is : IsDc (performs w.dc n o))
+module _ (w : NodeView) (s n stable : ℕ) (o : Op) (k : IsKept w) (is : IsDc (knows (performs w.dc n o) stable))
     (recoverable : IsRecoverable (performs w.dc n o).system) (checks : Checks w.dc.system (performs w.dc n o).system)
     (running : runs w.dc s ≡ true)
-    (sent : IsSent w.tc w.dc k.source (asks.Perform s n o)) (new : captures_at w.dc (key_of o) n ≡ false) where
+    (sent : IsSent w.tc w.dc k.source (asks.Perform s n stable o)) (new : captures_at w.dc (key_of o) n ≡ false) where
   abbrev x : Source
   x = k.source
 
@@ -74,7 +88,10 @@ module _ (w : NodeView) (s n : ℕ) (o : Op) (k : IsKept w) (is : IsDc (performs
   abbrev leaf : LeafView
   leaf = performed old n o
 
-  next : IsNext x w.dc n o
+  abbrev dc : DcView
+  dc = knows (performs w.dc n o) stable
+
+  next : IsNext x w.dc n stable o
   next = sent.1.holds running
 
   next_on : IsNextOn x.log old n o
@@ -97,29 +114,23 @@ module _ (w : NodeView) (s n : ℕ) (o : Op) (k : IsKept w) (is : IsDc (performs
     | inr apart ↦ captured_not_performed (leaves w.dc) k.dc.system.leaves n o (key_of p) m apart ∙ h
   ]
 
-  carries : Carries x.log w.dc (performs w.dc n o)
+  carries : Carries x.log w.dc dc
   carries = record {
     captured = captures_more;
     stored = refl;
     ran = λ t r. r;
     past = λ past. past;
     checks = checks;
+    opened = refl;
   }
 
-  honest_to : IsHonestTo x.log x.sure leaf
-  honest_to = record {
-    honest = honest_performed x.log old n o (own_leaf w (key_of o) k).honest next_on;
-    within = λ m h. elim (or_cases (captures old.ab m) (m == n)
-        (sym (noted_captures old.ab n (key_of o) (answer_in old.rows o) m) ∙ h)) [
-          | inl before ↦ (own_leaf w (key_of o) k).within m before
-          | inr it ↦ omega (arith, eqb-true m n it, next.sure)
-        ];
-  }
+  honest : IsHonestLeaf x.log leaf
+  honest = honest_performed x.log old n o (own_leaf w (key_of o) k) next_on
 
   true_to : IsTrueTo w.tc x (performs w.dc n o).system
   true_to = record {
-    leaves = all_changed (IsHonestTo x.log x.sure) (key_of o) (λ (l : LeafView). performed l n o) (leaves w.dc)
-        (λ was. honest_to) k.true_to.leaves;
+    leaves = all_changed (IsHonestLeaf x.log) (key_of o) (λ (l : LeafView). performed l n o) (leaves w.dc)
+        (λ was. honest) k.true_to.leaves;
     low = all_changed (IsLowAnswered x.log x.sure) (key_of o) (λ (l : LeafView). performed l n o) (leaves w.dc)
         (λ low. low) k.true_to.low;
     written = k.true_to.written;
@@ -133,13 +144,13 @@ module _ (w : NodeView) (s n : ℕ) (o : Op) (k : IsKept w) (is : IsDc (performs
       (record {
         op = o;
         requests = next.requests;
-        answer = right_answer x.log old n o (own_leaf w (key_of o) k).honest next_on;
+        answer = right_answer x.log old n o (own_leaf w (key_of o) k) next_on;
       })
 
   pub performs_next : IsKept
-      (replied w (performs w.dc n o) (Some (says.Answered s n (Some (answer_in old.rows o)))))
+      (replied w dc (Some (says.Answered s n (Some (answer_in old.rows o)))))
   performs_next =
-      keeps_dc w (performs w.dc n o) k carries (Some (says.Answered s n (Some (answer_in old.rows o))))
+      keeps_dc w dc k carries (Some (says.Answered s n (Some (answer_in old.rows o))))
       (record {
         older = sent.0;
         captured = record {
@@ -148,5 +159,5 @@ module _ (w : NodeView) (s n : ℕ) (o : Op) (k : IsKept w) (is : IsDc (performs
         };
         own = λ unwaiting same. own_answer same;
       })
-      is recoverable true_to (next.requests, k.performed) k.answered
-      (record { begun = k.sessions.begun; served = served_carried w k (performs w.dc n o) refl refl carries })
+      is recoverable true_to (next.requests, k.performed) k.answered (omega (arith, k.known, next.sure))
+      (record { begun = k.sessions.begun; served = served_carried w k dc refl refl carries })

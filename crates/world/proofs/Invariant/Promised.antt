@@ -21,9 +21,13 @@ use Rattle.world.specs.Kept.{IsKept}
 use Rattle.world.specs.Node.{NodeView}
 use Rattle.world.specs.Promises.{IsNoneRefused, Promises}
 use Rattle.world.specs.Simulation.{clients}
+use Rattle.std.specs.List.{AllByRecursion}
+use Rattle.page.specs.Honest.{IsHonestLeaf}
 use Rattle.dc_core.specs.DcView.{leaves}
-use Rattle.world.proofs.Invariant.Trees.{honest_all_now}
-use Rattle.world.proofs.Restarts.Crashes.{crash_true}
+use Rattle.world.specs.Source.{Source}
+use Rattle.world.proofs.Invariant.Sources.{live}
+use Rattle.world.proofs.Invariant.TakenBack.{all_back}
+use Rattle.world.proofs.Restarts.Crashes.{crash_honest}
 use Rattle.world.proofs.Machine.Settled.{calm, settled_rows}
 
 -- whatever compensates does something when it is performed
@@ -59,9 +63,11 @@ none_refused log legal right n t u x i a at answered =
 pub promised : (w : NodeView) → IsKept w → Promises w
 promised w k = record {
   honest = record {
-    cached = honest_all_now w k (leaves w.dc) k.true_to.leaves;
+    cached = all_back w k;
+    served = λ unwaiting. subst (λ (x : Source). AllByRecursion (IsHonestLeaf x.log) (leaves w.dc)) (live w k unwaiting)
+        k.true_to.leaves;
     written = k.true_to.written;
-    recovered = λ n le. (crash_true w n k le).leaves;
+    recovered = λ n le. crash_honest w n k le;
   };
   once = λ n m undoes one two. compensated_once w.tc.log n m undoes k.tc.legal one two;
   unrefused = none_refused w.tc.log k.tc.legal k.right;

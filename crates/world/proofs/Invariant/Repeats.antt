@@ -16,7 +16,7 @@ use Rattle.btree.specs.Leaves.{leaf_at}
 use Rattle.dc_core.specs.DcView.{leaves, captures_at}
 use Rattle.page.specs.Leaf.{LeafView}
 use Rattle.world.specs.Node.{NodeView}
-use Rattle.dc_core.specs.Serves.{runs}
+use Rattle.dc_core.specs.Serves.{runs, knows}
 use Rattle.world.specs.Kept.{IsKept, IsNext, IsSent, IsRightOrNone, IsAnswerIn, IsAnswered}
 use Rattle.world.specs.Source.{Source}
 use Rattle.world.proofs.Invariant.Sources.{of_log, run_live}
@@ -60,7 +60,8 @@ unsaved_low v n captured none = pick (nat_le n v.low) refl captured
     pick false above h = absurd (not_listed n v.entries none h)
 
 -- a captured number is answered as it was
-module _ (w : NodeView) (s n : ℕ) (o : Op) (k : IsKept w) (sent : IsSent w.tc w.dc k.source (asks.Perform s n o))
+module _ (w : NodeView) (s n stable : ℕ) (o : Op) (k : IsKept w)
+    (sent : IsSent w.tc w.dc k.source (asks.Perform s n stable o))
     (running : runs w.dc s ≡ true) (captured : captures_at w.dc (key_of o) n ≡ true) where
   abbrev x : Source
   x = k.source
@@ -71,7 +72,7 @@ module _ (w : NodeView) (s n : ℕ) (o : Op) (k : IsKept w) (sent : IsSent w.tc 
   abbrev saved : Option Answer
   saved = saved_in leaf.ab.entries n
 
-  next : IsNext x w.dc n o
+  next : IsNext x w.dc n stable o
   next = sent.1.holds running
 
   by_parts : (m : ℕ) (b a : Answer) → m ≡ n → b ≡ a → IsRight x.log m b → IsRight x.log n a
@@ -81,10 +82,10 @@ module _ (w : NodeView) (s n : ℕ) (o : Op) (k : IsKept w) (sent : IsSent w.tc 
   right None none =
       answered_less x.log x.sure n leaf.ab.low (unsaved_low leaf.ab n captured none) (own_low w (key_of o) k)
   right (Some a) found =
-      let f = saved_found (IsSavedRight x.log) n a leaf.ab.entries (own_leaf w (key_of o) k).honest.saved found in
+      let f = saved_found (IsSavedRight x.log) n a leaf.ab.entries (own_leaf w (key_of o) k).saved found in
       by_parts f.entry.number f.entry.answer a f.number f.answer f.holds.right
 
-  pub repeated : IsAnswered w.tc w.dc x s n saved
+  pub repeated : IsAnswered w.tc (knows w.dc stable) x s n saved
   repeated = record {
     older = sent.0;
     captured = record {

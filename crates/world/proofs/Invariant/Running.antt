@@ -1,12 +1,13 @@
 -- The session that the data component runs.
 use Rattle.std.proofs.Common.{◌≡◌, ◌≢◌, ℕ, ◌<◌, ◌≤◌, ◌==◌, Bool, true, false, [], ◌∷◌, Option, Some, None, refl, sym, ◌∙◌, arith, inl, inr, true≢false, eqb-true, eq-eqb}
-use Rattle.std.specs.Prelude.{◌&&◌, not}
+use Rattle.std.specs.Prelude.{◌&&◌, not, nat_lt, if◌then◌else◌}
 use Rattle.std.proofs.lemmas.Bool.{cases_Bool}
+use Rattle.std.proofs.lemmas.Bool.Decides.{nat_tests}
 use Rattle.record_key.specs.declared.refusal.Refusal.{Refusal}
 use Rattle.record_key.specs.declared.refusal.Refusal.TheVariants.{NotConnected, Stale, Redoing}
 use Rattle.record_key.specs.FirstCause.{first_of, or_else}
 use Rattle.dc_core.specs.DcView.{DcView}
-use Rattle.dc_core.specs.Serves.{runs, session_refusal, after_redo_refusal}
+use Rattle.dc_core.specs.Serves.{runs, session_refusal, after_redo_refusal, connect_refusal}
 use Rattle.dc_core.specs.Tends.{may_merge}
 use Rattle.dc_core.specs.Kept.{IsDc}
 use Rattle.dc_core.proofs.Stored.{stored_within}
@@ -52,6 +53,18 @@ let_runs dc s h = by (dc.session == 0) (dc.session == s) refl refl h
         let same : dc.session ≡ s = eqb-true dc.session s is in
         is_run dc s (λ e. true≢false (sym (eq-eqb dc.session 0 (same ∙ e)) ∙ some)) same
     by false false some is h = absurd (cc)
+
+-- a session that is let to begin is later than any that was taken
+pub connect_later : (dc : DcView) (s : ℕ) → connect_refusal dc s ≡ None → runs dc s ≡ false → dc.stored < s
+connect_later dc s h isnt =
+    let flag : nat_lt dc.stored s ≡ true = by (runs dc s) (nat_lt dc.stored s) _ h isnt in
+    grind (arith, nat_tests, flag)
+  where
+    by : (r b : Bool) (later : Option Refusal) → (if not r && not b then Some Stale else later) ≡ None → r ≡ false
+        → b ≡ true
+    by true b later h e = absurd (true≢false e)
+    by false true later h e = refl
+    by false false later h e = absurd (cc)
 
 -- past its redo, where that is let
 pub record IsPast (dc : DcView) (s : ℕ) : Type 0 where

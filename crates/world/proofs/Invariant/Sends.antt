@@ -40,7 +40,7 @@ use Rattle.tc_core.specs.Kept.{IsPhase, IsTc}
 use Rattle.world.specs.declared.event.Event.TheVariants as event
 use Rattle.world.specs.declared.event.Out.{Out}
 use Rattle.world.specs.declared.event.Out.TheVariants as out
-use Rattle.world.specs.Node.{NodeView, with_tc, ReconnectsTo, RecoversTo, SendsTo, LowersTo, AsksCheckpoint}
+use Rattle.world.specs.Node.{NodeView, with_tc, next_connect, ReconnectsTo, RecoversTo, SendsTo, LowersTo, AsksCheckpoint, TellsTo}
 use Rattle.world.specs.Kept.{IsKept, IsAnsweredBy, IsReadTrue, InSession, IsNext, IsSent, IsServed, AreSessions, AreBefore, AllAreCaptured, AnsweredAreCaptured, EarlierAreCaptured}
 use Rattle.world.specs.Source.{Source, IsWaiting, own}
 use Rattle.world.proofs.Invariant.AtKeys.{answered_captured}
@@ -67,7 +67,7 @@ begins w k after =
     (λ e. let none : ARequest o (Some is.Session) = newest_at (ARequest o) is.Session w.tc.log n e asks in cc) asks) in
     keeps_appended w (reconnected w.tc) is.Session k after k.checked refl (omega (arith, k.tc.within))
     (inr (omega (arith, k.tc.within))) (omega arith) (none_same w.tc.reads w.tc.open_txns)
-    (record { asks = λ h. (tt, inr refl); waits = λ h. inr (omega (arith, k.tc.within)) })
+    (record { untaken = λ h. (tt, inr refl); waits = λ h. inr (omega (arith, k.tc.within), omega arith) })
     (record {
       begun = record {
         recorded = omega (arith, k.sessions.begun.recorded, k.tc.within);
@@ -82,7 +82,7 @@ logs_session : (w : NodeView) → IsKept w → IsTc (logged_session w.tc) → Is
 logs_session w k after =
     keeps_appended w (logged_session w.tc) is.Session k after k.checked refl (omega arith) (inl refl) (omega arith)
     (none_same w.tc.reads w.tc.open_txns)
-    (record { asks = λ h. (h.waits, inr refl); waits = λ h. inl h })
+    (record { untaken = λ h. (h.waits, inr refl); waits = λ h. inl (h, inr refl) })
     (record {
       begun = k.sessions.begun;
       served = quiet_served w.tc.phase w.tc.session is.Session w.tc.log w.dc (λ o h. cc) k.sessions.served;
@@ -114,7 +114,7 @@ module _ (old new : NodeView) (r : Refusal) (k : IsKept old) (left : new ≡ wit
 pub follows_reconnect : (old new : NodeView) (output : Out) → IsKept old → ReconnectsTo old output new
     → Follows old event.Reconnect output new
 follows_reconnect old new (out.Connects i cs) k h =
-    let q : Request = asks.Connect (length old.tc.log + 1) in
+    let q : Request = next_connect old.tc in
     let tc : TcView = reconnected old.tc in
     let after : IsTc tc = subst IsTc h.0.3
     (reconnect_keeps old.tc new.tc (Ok (record { request = q; committed = cs })) k.tc h.0) in
@@ -125,7 +125,7 @@ follows_reconnect old new (out.Connects i cs) k h =
           let l = stands_reconnected old.tc m (session_keeps old.tc k.tc h.0.0) stands in
           (l.0, subst (λ (ts : List ℕ). Steps m (told_committed ts) l.0) (sym h.0.2) l.1, l.2);
       kept = keeps_sent (with_tc old tc) q (begins old k after)
-          (record { recorded = omega arith; most = λ some. omega arith });
+          (record { begun = record { recorded = omega arith; most = λ some. omega arith }; next = λ less. (tt, refl) });
     })
 follows_reconnect old new (out.Refused r) k h = by h.0
   where
@@ -164,7 +164,7 @@ pub record IsRedo (w : NodeView) (x : Source) (found : Option (ℕ × Op)) : Typ
   pub some : 0 < redo_place w.tc.session found
   pub most : redo_place w.tc.session found ≤ w.tc.session
   pub captured : w.dc.session ≡ w.tc.session → AllAreCaptured w.tc.log w.dc (redo_place w.tc.session found)
-  pub sent : IsSent w.tc w.dc x (redo_request w.tc.session found)
+  pub sent : IsSent w.tc w.dc x (redo_request w.tc found)
 
 -- nothing is asked for between the two
 all_further : (w : NodeView) (next n : ℕ) → AsksNothing w.tc.log next n → AllAreCaptured w.tc.log w.dc next
@@ -205,9 +205,9 @@ redo_found w next ending (Some x) k at some most h =
         record { some = omega (arith, some, most); older = λ waits. absurd (unwaiting waits) },
         record {
           begun = omega (arith, served.1);
-          holds = λ r. of_source w.tc k.source (λ (y : Source). IsNext y w.dc x.0 x.1) (live w k unwaiting)
+          holds = λ r. of_source w.tc k.source (λ (y : Source). IsNext y w.dc x.0 w.tc.stable x.1) (live w k unwaiting)
               (record {
-                sure = omega (arith, h.1, k.tc.session);
+                sure = omega arith;
                 requests = h.2;
                 earlier = λ m o asks below on. inl (subst (λ (z : Bytes). captures_at w.dc z m ≡ true) on
                     (captured (run_is w.dc w.tc.session r).is m o asks below));
@@ -238,18 +238,18 @@ earlier_captured w n o k live past_redo asks r m p earlier below on =
           (since (λ x. IsSome (answer_of x m)) (answered_push m) w.tc.log n answered)))
     ]
 
-sent_past : (w : NodeView) (n : ℕ) (o : Op) (k : IsKept w) → is_serving w.tc.phase ≡ true → n ≤ w.tc.stable
-    → Requests w.tc.log n o → IsSent w.tc w.dc k.source (asks.Perform w.tc.session n o)
-sent_past w n o k serves stable requests =
+sent_past : (w : NodeView) (n : ℕ) (o : Op) (k : IsKept w) → is_serving w.tc.phase ≡ true → Requests w.tc.log n o
+    → IsSent w.tc w.dc k.source (asks.Perform w.tc.session n w.tc.stable o)
+sent_past w n o k serves requests =
     let past = past_redo w k serves in
     let unwaiting = unwaited w.tc.phase serves in
     let own_log = live w k unwaiting in (
       record { some = past.some; older = λ waits. absurd (unwaiting waits) },
       record {
         begun = omega (arith, past.stored);
-        holds = λ runs. of_source w.tc k.source (λ (x : Source). IsNext x w.dc n o) own_log
+        holds = λ runs. of_source w.tc k.source (λ (x : Source). IsNext x w.dc n w.tc.stable o) own_log
             (record {
-              sure = stable;
+              sure = omega arith;
               requests = requests;
               earlier = earlier_captured w n o k own_log past requests runs;
             });
@@ -267,7 +267,10 @@ recovers old new q phase.Connecting at k h after left =
     left ∙ ap (λ tc. record old { tc = tc; requests = old.requests ++ q ∷ [] }) h.1 in
     let P : Request → Type 0 = IsSent old.tc old.dc k.source in (
       subst IsKept (sym same)
-          (keeps_sent old q k (subst P (sym h.0) (record { recorded = k.tc.session; most = λ some. omega arith }))),
+          (keeps_sent old q k (subst P (sym h.0) (record {
+            begun = record { recorded = k.tc.session; most = λ some. omega arith };
+            next = λ less. (subst IsWaiting (sym at) tt, refl);
+          }))),
       λ m stands. subst (λ x. StandsFor (clients x) m) (sym h.1) stands,
     )
 recovers old new q (phase.Redoing next ending) at k h after left =
@@ -290,7 +293,7 @@ recovers old new q (phase.Undoing (Some n)) at k h after left =
     left ∙ ap (λ tc. record old { tc = tc; requests = old.requests ++ q ∷ [] }) h.unchanged in
     let P : Request → Type 0 = IsSent old.tc old.dc k.source in (
       subst IsKept (sym same) (keeps_sent old q k
-          (subst P (sym h.request_is) (sent_past old n h.op k (ap is_serving at) h.stable h.requests))),
+          (subst P (sym h.request_is) (sent_past old n h.op k (ap is_serving at) h.requests))),
       λ m stands. subst (λ x. StandsFor (clients x) m) (sym h.unchanged) stands,
     )
 recovers old new q phase.Running at k h after left = absurd h
@@ -400,7 +403,7 @@ sent_of : (old : NodeView) (t : ℕ) (q : Request) (k : IsKept old) → is_servi
     → IsRequestOf old.tc t q → IsSent old.tc old.dc k.source q
 sent_of old t q k serves (inl r) =
     let P : Request → Type 0 = IsSent old.tc old.dc k.source in
-    subst P (sym r.is) (sent_past old r.number r.op k serves r.stable r.requests)
+    subst P (sym r.is) (sent_past old r.number r.op k serves r.requests)
 sent_of old t q k serves (inr r) =
     let P : Request → Type 0 = IsSent old.tc old.dc k.source in
     subst P (sym r.is) (sent_read old.tc old.dc k.source r.read.number r.read.span
@@ -427,6 +430,17 @@ sent_low w l k running to =
       begun = omega (arith, past.stored);
       holds = λ r. of_source w.tc k.source (λ (x : Source). IsAnsweredBy x.log x.sure l)
           (run_live w w.tc.session k r refl) to;
+    }
+
+-- how much of the log is stable, in the session that both run
+sent_stable : (w : NodeView) (k : IsKept w) → w.tc.phase ≡ phase.Running
+    → IsSent w.tc w.dc k.source (asks.StableEnd w.tc.session w.tc.stable)
+sent_stable w k running =
+    let past = past_redo w k (ap is_serving running) in
+    record {
+      begun = omega (arith, past.stored);
+      holds = λ r. of_source w.tc k.source (λ (x : Source). w.tc.stable ≤ x.sure)
+          (run_live w w.tc.session k r refl) (omega arith);
     }
 
 -- what was announced and asked for is nobody's but the transaction component's
@@ -469,3 +483,15 @@ follows_checkpoint old new (out.Sent i) k h =
     })
 follows_checkpoint old new (out.Refused r) k h = unchanged old new event.Checkpoint (out.Refused r) k h.1 refl
 follows_checkpoint old new _ k h = absurd h
+
+pub follows_tell : (old new : NodeView) (output : Out) → IsKept old → TellsTo old output new
+    → Follows old event.Tell output new
+follows_tell old new (out.Sent i) k h =
+    let q : Request = asks.StableEnd old.tc.session old.tc.stable in
+    at_new old new (with_request old q) event.Tell (out.Sent i) h.1.left
+    (record {
+      leads = no_line old (with_request old q) event.Tell (out.Sent i) refl (λ m stands. stands);
+      kept = keeps_sent old q k (sent_stable old k (serves_clients old.tc h.0.0));
+    })
+follows_tell old new (out.Refused r) k h = unchanged old new event.Tell (out.Refused r) k h.1 refl
+follows_tell old new _ k h = absurd h

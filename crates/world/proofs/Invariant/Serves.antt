@@ -26,14 +26,18 @@ use Rattle.recovery_laws.specs.Recovery.{stored_session}
 use Rattle.system_txn.specs.Kept.{IsRecoverable}
 use Rattle.system_txn.specs.Checked.{Checks, IsChecked}
 use Rattle.system_txn.specs.SystemView.{SystemView, log_refused}
-use Rattle.system_txn.specs.Changes.{lowered, accepted, written_all}
+use Rattle.system_txn.specs.Changes.{lowered, accepted, taken_back, written_all}
+use Rattle.page.specs.Honest.{IsHonestLeaf}
+use Rattle.page.specs.TakingBack.{taken_back as leaf_taken_back}
 use Rattle.page.specs.Tops.{all_within}
+use Rattle.btree.proofs.Changing.{all_mapped}
+use Rattle.logical_log.specs.LogView.{last_not_session}
 use Rattle.system_txn.specs.Gives.{HaveImages, CheckpointGives, StopsCheckpoint, AcceptGives}
 use Rattle.std.specs.List.{AllByRecursion}
 use Rattle.dc_core.specs.declared.performance.Performance.{Performance}
-use Rattle.dc_core.specs.DcView.{DcView, leaves, captures_at, value_at, known_end}
+use Rattle.dc_core.specs.DcView.{DcView, leaves, captures_at, value_at}
 use Rattle.dc_core.specs.Kept.{IsDc}
-use Rattle.dc_core.specs.Serves.{Serves, ServeGives, Stops, StopsUnless, serve_refusal, runs, with_system, connected, performs, lowers, range}
+use Rattle.dc_core.specs.Serves.{Serves, ServeGives, Stops, StopsUnless, serve_refusal, runs, with_system, connected, knows, performs, lowers, range}
 use Rattle.dc_core.specs.Tends.{may_merge}
 use Rattle.dc_core.proofs.Recoverable.{recoverable_served}
 use Rattle.dc_core.proofs.Checked.{checked_served, checkpoint_checked}
@@ -45,18 +49,18 @@ use Rattle.tc_core.specs.Kept.{IsPhase}
 use Rattle.tc_core.proofs.Finding.{found_own}
 use Rattle.tc_core.proofs.HeldSpans.{within_itself}
 use Rattle.world.specs.Node.{NodeView, with_dc}
-use Rattle.world.specs.Kept.{IsKept, IsBegun, IsAnsweredBy, IsReadTrue, IsSent, IsValue, AreRows, IsGiven, IsServed, IsTrueTo}
+use Rattle.world.specs.Kept.{IsKept, IsBegun, IsAnsweredBy, IsReadTrue, IsSent, IsValue, AreRows, IsGiven, IsServed, IsTrueTo, IsLowAnswered}
 use Rattle.world.specs.Source.{Source, own}
 use Rattle.world.proofs.Invariant.Repeats.{repeated}
-use Rattle.world.proofs.Invariant.AtKeys.{captured_sure}
 use Rattle.world.proofs.Invariant.Carries.{replied, keeps_dc, StartsAnew, keeps_anew}
 use Rattle.world.proofs.Invariant.Keeps.{keeps_given}
-use Rattle.world.proofs.Invariant.Performs.{performs_next}
-use Rattle.world.proofs.Invariant.Sources.{run_live, request_now}
+use Rattle.world.proofs.Invariant.Performs.{keeps_known, performs_next}
+use Rattle.world.proofs.Invariant.TakenBack.{IsBack, all_back, kept_performed}
+use Rattle.world.proofs.Invariant.Sources.{run_live}
 use Rattle.world.proofs.Machine.Reading.{read_logged}
-use Rattle.world.proofs.Invariant.Running.{run_is, run_stored, IsPast, let_runs, let_past, redo_goes_on}
+use Rattle.world.proofs.Invariant.Running.{run_is, run_stored, IsPast, let_runs, let_past, redo_goes_on, connect_later}
 use Rattle.world.proofs.Invariant.Systems.{LeavesCarry, same_leaves, keeps_system}
-use Rattle.world.proofs.Invariant.Trees.{honest_all_now, low_all_now, lowered_true, lowered_carries}
+use Rattle.world.proofs.Invariant.Trees.{low_all_now, lowered_true, lowered_sure, lowered_carries}
 use Rattle.world.proofs.Invariant.Written.{used_true, written_all_true, written_all_leaves, written_all_log, failed_among}
 
 -- the later of two sessions that were begun
@@ -68,21 +72,15 @@ later_begun stable session s t first second = record {
 }
 
 -- a session begins
-connect_allowed : (r b : Bool) (x : Refusal) (later : Option Refusal)
-    → (if not r && not b then Some x else later) ≡ None → r ≡ false → b ≡ true
-connect_allowed true b x later h e = absurd (true≢false e)
-connect_allowed false true x later h e = refl
-connect_allowed false false x later h e = absurd (cc)
-
-begins_over : (at : Phase) (c session : ℕ) (log : List Record) (dc : DcView) (s : ℕ) → IsPhase c session at
+begins_over : (at : Phase) (c session : ℕ) (log : List Record) (dc : DcView) (s end : ℕ) → IsPhase c session at
     → IsServed at session log dc → dc.stored < s
-    → (0 < session → s ≤ session) → IsServed at session log (connected dc s)
-begins_over phase.Unconnected c session log dc s is h less most = tt
-begins_over phase.Connecting c session log dc s is h less most = h
-begins_over (phase.Redoing next ending) c session log dc s is h less most =
+    → (0 < session → s ≤ session) → IsServed at session log (connected dc s end)
+begins_over phase.Unconnected c session log dc s end is h less most = tt
+begins_over phase.Connecting c session log dc s end is h less most = h
+begins_over (phase.Redoing next ending) c session log dc s end is h less most =
     absurd (omega (arith, h.1, less, most (omega (arith, is.0, is.1))))
-begins_over (phase.Undoing waiting) c session log dc s is h less most = absurd (omega (arith, h.0, less, most is))
-begins_over phase.Running c session log dc s is h less most = absurd (omega (arith, h.0, less, most is))
+begins_over (phase.Undoing waiting) c session log dc s end is h less most = absurd (omega (arith, h.0, less, most is))
+begins_over phase.Running c session log dc s end is h less most = absurd (omega (arith, h.0, less, most is))
 
 -- the end of redo is one in every phase
 past_redo : (at : Phase) (session : ℕ) (log : List Record) (dc : DcView) → IsServed at session log dc
@@ -110,32 +108,31 @@ accepted_true w x v s stable usage h = record {
   };
 }
 
--- what was true to the source is true to the log, from which the leaves go on
-true_now : (w : NodeView) (k : IsKept w) → IsTrueTo w.tc (own w.tc) w.dc.system
-true_now w k = record {
-  leaves = honest_all_now w k (leaves w.dc) k.true_to.leaves;
-  low = low_all_now w k (leaves w.dc) k.true_to.low;
-  written = k.true_to.written;
-  written_low = k.true_to.written_low;
-}
+-- what is above the log's last record that isn't a Session is taken back, and the leaves go on from the log
+taken_true : (w : NodeView) (k : IsKept w) (s : ℕ)
+    → IsTrueTo w.tc (own w.tc) (connected w.dc s (last_not_session w.tc.log)).system
+taken_true w k s =
+    let end : ℕ = last_not_session w.tc.log in
+    let v : SystemView = w.dc.system in
+    accepted_true w.tc (own w.tc) (taken_back v end) s (length (dc_record.Accept s ∷ v.log)) (called
+    (called v.log_usage))
+    (record {
+      leaves = all_mapped (IsBack w.tc.log end) (IsHonestLeaf w.tc.log) (λ leaf. leaf_taken_back leaf end)
+          (λ leaf h. h) v.leaves (all_back w k);
+      low = all_mapped (IsLowAnswered w.tc.log w.tc.stable) (IsLowAnswered w.tc.log w.tc.stable)
+          (λ leaf. leaf_taken_back leaf end) (λ leaf h. h) v.leaves (low_all_now w k v.leaves k.true_to.low);
+      written = k.true_to.written;
+      written_low = k.true_to.written_low;
+    })
 
--- so is what was performed, which is captured and so sure
-performed_now : (w : NodeView) (k : IsKept w) → (ps : List Performance)
-    → AllByRecursion (λ (p : Performance). captures_at w.dc (key_of p.op) p.number ≡ true) ps
-    → AllByRecursion (λ (p : Performance). Requests k.source.log p.number p.op) ps
-    → AllByRecursion (λ (p : Performance). Requests w.tc.log p.number p.op) ps
-performed_now w k [] captured all = tt
-performed_now w k (p ∷ ps) captured all = (
-  request_now w.tc w.dc.stored k.source k.from p.number p.op
-      (captured_sure w (key_of p.op) p.number k captured.0) all.0,
-  performed_now w k ps captured.1 all.1,
-)
-
-connects : (w : NodeView) (s : ℕ) → IsKept w → IsDc (connected w.dc s) → IsRecoverable (connected w.dc s).system
-    → Checks w.dc.system (connected w.dc s).system → IsBegun w.tc.stable w.tc.session s → w.dc.stored < s
-    → IsKept (replied w (connected w.dc s) (Some (says.Connected s)))
+connects : (w : NodeView) (s : ℕ) → IsKept w → IsDc (connected w.dc s (last_not_session w.tc.log))
+    → IsRecoverable (connected w.dc s (last_not_session w.tc.log)).system
+    → Checks w.dc.system (connected w.dc s (last_not_session w.tc.log)).system → IsBegun w.tc.stable w.tc.session s
+    → w.dc.stored < s
+    → IsKept (replied w (connected w.dc s (last_not_session w.tc.log)) (Some (says.Connected s)))
 connects w s k is recoverable checks most less =
-    let dc : DcView = connected w.dc s in
+    let end : ℕ = last_not_session w.tc.log in
+    let dc : DcView = connected w.dc s end in
     let anew : StartsAnew w.dc dc = record {
       stored = omega (arith, less);
       other = λ t before r. omega (arith, (run_is dc t r).is, before, less);
@@ -143,12 +140,11 @@ connects w s k is recoverable checks most less =
       checks = checks;
     } in
     keeps_anew w dc k anew (Some (says.Connected s)) (omega arith) is
-    recoverable (accepted_true w.tc (own w.tc) w.dc.system s (length (dc_record.Accept s ∷ w.dc.system.log))
-    (called (called w.dc.system.log_usage)) (true_now w k))
-    (performed_now w k w.dc.performed k.dc.captured k.performed)
+    recoverable (taken_true w k s) (kept_performed w k w.dc.performed k.performed) (omega
+    (arith, most.recorded)) k.opened
     (record {
       begun = later_begun w.tc.stable w.tc.session s (stored_session w.dc.system.log) most k.sessions.begun;
-      served = begins_over w.tc.phase w.tc.checkpointed w.tc.session w.tc.log w.dc s k.tc.phase k.sessions.served less
+      served = begins_over w.tc.phase w.tc.checkpointed w.tc.session w.tc.log w.dc s end k.tc.phase k.sessions.served less
           most.most;
     })
 
@@ -164,9 +160,10 @@ redo_ends w s k is running sent =
       ran = λ t r. r;
       past = λ past. refl;
       checks = λ l h. h;
+      opened = refl;
     })
     (Some (says.RedoEnded s)) (record { begun = sent.begun; holds = λ r. refl }) is
-    k.recoverable k.true_to k.performed (λ may. sent.holds running)
+    k.recoverable k.true_to k.performed (λ may. sent.holds running) k.known
     (record { begun = k.sessions.begun; served = past_redo w.tc.phase w.tc.session w.tc.log w.dc k.sessions.served })
 
 -- all leaves are raised
@@ -181,11 +178,10 @@ lowers_all w l k is recoverable checks past to =
 -- and written
 checkpoints : (w : NodeView) (l : ℕ) (s : ℕ) (dc : DcView) (k : IsKept w) → IsDc dc → IsRecoverable dc.system
     → Checks w.dc.system dc.system → may_merge w.dc ≡ true → IsAnsweredBy k.source.log k.source.sure l
-    → HaveImages (lowered w.dc.system l).leaves
-    → IsChecked l dc.system
+    → all_within w.dc.known (leaves w.dc) ≡ true → HaveImages (lowered w.dc.system l).leaves → IsChecked l dc.system
     → dc ≡ with_system w.dc (written_all (lowered w.dc.system l) (lowered w.dc.system l).leaves)
     → IsKept (replied w dc (Some (says.Checkpointed s l)))
-checkpoints w l s dc k is recoverable checks past to images checked same =
+checkpoints w l s dc k is recoverable checks past to within images checked same =
     let v : SystemView = lowered w.dc.system l in
     let t : IsTrueTo w.tc k.source v = lowered_true w l k (k.answered past) to in
     subst (λ (x : DcView). IsKept (replied w x (Some (says.Checkpointed s l)))) (sym same)
@@ -196,7 +192,7 @@ checkpoints w l s dc k is recoverable checks past to images checked same =
     (subst (λ (x : DcView). Checks w.dc.system x.system) same checks)
     (subst (LeavesCarry k.source.log (leaves w.dc)) (sym (written_all_leaves v v.leaves))
     (lowered_carries w l k (k.answered past) to))
-    (written_all_true w.tc k.source v v.leaves t images (honest_all_now w k v.leaves t.leaves)
+    (written_all_true w.tc k.source v v.leaves t images (lowered_sure w l k (k.answered past) to within)
     (low_all_now w k v.leaves t.low))
     (subst (λ log. IsBegun w.tc.stable w.tc.session (stored_session log)) (sym (written_all_log v v.leaves))
     k.sessions.begun))
@@ -256,34 +252,40 @@ reads_rows w s n low high k past sent = record {
 pub serves : (w : NodeView) (q : Request) (reply : Option Reply) (dc : DcView) (k : IsKept w) → IsDc dc
     → IsRecoverable dc.system → Checks w.dc.system dc.system → IsSent w.tc w.dc k.source q
     → serve_refusal w.dc q ≡ None → Serves w.dc q reply dc → IsKept (replied w dc reply)
-serves w (asks.Connect s) reply dc k is rec checks sent allowed h = pick (runs w.dc s) refl h.1
+serves w (asks.Connect s end) reply dc k is rec checks sent allowed h = pick (runs w.dc s) refl h.1
   where
-    pick : (b : Bool) → runs w.dc s ≡ b → MatchBool b (dc ≡ w.dc) (dc ≡ connected w.dc s)
+    pick : (b : Bool) → runs w.dc s ≡ b → MatchBool b (dc ≡ w.dc) (dc ≡ connected w.dc s end)
         → IsKept (replied w dc reply)
     pick true running same =
         stays w dc reply (Some (says.Connected s)) k h.0 same (omega (arith, run_stored w.dc s k.dc running))
     pick false isnt same =
-        let flag : nat_lt w.dc.stored s ≡ true =
-        connect_allowed (runs w.dc s) (nat_lt w.dc.stored s) _ _ allowed isnt in
-        let less : w.dc.stored < s = grind (arith, nat_tests, flag) in
-        goes w dc (connected w.dc s) reply (Some (says.Connected s)) h.0 same
-        (connects w s k (subst IsDc same is) (subst (λ (x : DcView). IsRecoverable x.system) same rec)
-        (subst (λ (x : DcView). Checks w.dc.system x.system) same checks) sent less)
-serves w (asks.Perform s n o) reply dc k is rec checks sent allowed h = pick (captures_at w.dc (key_of o) n) refl h
+        let less : w.dc.stored < s = connect_later w.dc s allowed isnt in
+        let last : dc ≡ connected w.dc s (last_not_session w.tc.log) =
+        same ∙ ap (connected w.dc s) (sent.next less).1 in
+        goes w dc (connected w.dc s (last_not_session w.tc.log)) reply (Some (says.Connected s)) h.0 last
+        (connects w s k (subst IsDc last is) (subst (λ (x : DcView). IsRecoverable x.system) last rec)
+        (subst (λ (x : DcView). Checks w.dc.system x.system) last checks) sent.begun less)
+serves w (asks.Perform s n stable o) reply dc k is rec checks sent allowed h =
+    pick (captures_at w.dc (key_of o) n) refl h
   where
+    running : runs w.dc s ≡ true
+    running = let_runs w.dc s allowed
+
     pick : (b : Bool) → captures_at w.dc (key_of o) n ≡ b
         → MatchBool b ((reply ≡ Some (says.Answered s n (saved_in (leaf_at (leaves w.dc) (key_of o)).ab.entries n)))
-        × (dc ≡ w.dc))
+        × (dc ≡ knows w.dc stable))
         ((reply ≡ Some (says.Answered s n (Some (answer_in (leaf_at (leaves w.dc) (key_of o)).rows o))))
-        × (dc ≡ performs w.dc n o)) → IsKept (replied w dc reply)
+        × (dc ≡ knows (performs w.dc n o) stable)) → IsKept (replied w dc reply)
     pick true captured h =
-        stays w dc reply (Some (says.Answered s n (saved_in (leaf_at (leaves w.dc) (key_of o)).ab.entries n))) k h.0 h.1
-        (repeated w s n o k sent (let_runs w.dc s allowed) captured)
+        goes w dc (knows w.dc stable) reply
+        (Some (says.Answered s n (saved_in (leaf_at (leaves w.dc) (key_of o)).ab.entries n))) h.0 h.1
+        (keeps_known w stable (Some (says.Answered s n (saved_in (leaf_at (leaves w.dc) (key_of o)).ab.entries n))) k
+        (subst IsDc h.1 is) (sent.1.holds running).sure (repeated w s n stable o k sent running captured))
     pick false isnt h =
-        goes w dc (performs w.dc n o) reply
+        goes w dc (knows (performs w.dc n o) stable) reply
         (Some (says.Answered s n (Some (answer_in (leaf_at (leaves w.dc) (key_of o)).rows o)))) h.0 h.1
-        (performs_next w s n o k (subst IsDc h.1 is) (subst (λ (x : DcView). IsRecoverable x.system) h.1 rec)
-        (subst (λ (x : DcView). Checks w.dc.system x.system) h.1 checks) (let_runs w.dc s allowed) sent isnt)
+        (performs_next w s n stable o k (subst IsDc h.1 is) (subst (λ (x : DcView). IsRecoverable x.system) h.1 rec)
+        (subst (λ (x : DcView). Checks w.dc.system x.system) h.1 checks) running sent isnt)
 serves w (asks.Get s n key) reply dc k is rec checks sent allowed h =
     stays w dc reply (Some (says.Row s n (value_at w.dc key))) k h.0 h.1
     (reads_row w s n key k (let_past w.dc s allowed) sent)
@@ -298,18 +300,22 @@ serves w (asks.LowWater s l) reply dc k is rec checks sent allowed h =
 serves w (asks.Checkpoint s l) reply dc k is rec checks sent allowed h =
     let past : IsPast w.dc s = let_past w.dc s allowed in
     goes w dc dc reply (Some (says.Checkpointed s l)) h.0 refl
-    (checkpoints w l s dc k is rec checks past.past (sent.holds past.runs) h.1.fit
+    (checkpoints w l s dc k is rec checks past.past (sent.holds past.runs) h.1.within h.1.fit
     (checkpoint_checked w.dc s l reply dc k.dc k.recoverable h) (h.2 ∙ ap (with_system w.dc) h.1.after))
 serves w (asks.RedoEnd s) reply dc k is rec checks sent allowed h =
     goes w dc (record w.dc { redo = false }) reply (Some (says.RedoEnded s)) h.0 h.1
     (redo_ends w s k (subst IsDc h.1 is) (let_runs w.dc s allowed) sent)
+serves w (asks.StableEnd s stable) reply dc k is rec checks sent allowed h =
+    goes w dc (knows w.dc stable) reply None h.0 h.1
+    (keeps_known w stable None k (subst IsDc h.1 is) (sent.holds (let_runs w.dc s allowed)) tt)
 
 -- ---- a request that isn't served
 
-stops_accepting : (w : NodeView) (s : ℕ) (r : Refusal) (v : SystemView) → IsKept w → IsDc (with_system w.dc v)
-    → IsRecoverable v → Checks w.dc.system v → IsBegun w.tc.stable w.tc.session s → AcceptGives w.dc.system s (Err r) v
+stops_accepting : (w : NodeView) (s end : ℕ) (r : Refusal) (v : SystemView) → IsKept w → IsDc (with_system w.dc v)
+    → IsRecoverable v → Checks w.dc.system v → IsBegun w.tc.stable w.tc.session s
+    → AcceptGives w.dc.system s end (Err r) v
     → IsKept (with_dc w (with_system w.dc v))
-stops_accepting w s r v k is rec checks most h = elim h [
+stops_accepting w s end r v k is rec checks most h = elim h [
   | inl append ↦ let same : v ≡ log_refused w.dc.system r = append.1 in
       keeps_system w v k None tt is rec checks
       (subst (λ (x : SystemView). LeavesCarry k.source.log (leaves w.dc) x.leaves) (sym same)
@@ -329,22 +335,23 @@ stops_accepting w s r v k is rec checks most h = elim h [
 
 stops_checkpoint : (w : NodeView) (l : ℕ) (r : Refusal) (v : SystemView) (k : IsKept w) → IsDc (with_system w.dc v)
     → IsRecoverable v → Checks w.dc.system v → may_merge w.dc ≡ true → IsAnsweredBy k.source.log k.source.sure l
-    → CheckpointGives w.dc.system l known_end (Err r) v → IsKept (with_dc w (with_system w.dc v))
+    → CheckpointGives w.dc.system l w.dc.known (Err r) v → IsKept (with_dc w (with_system w.dc v))
 stops_checkpoint w l r v k is rec checks past to h =
-    elim (cases_Bool (all_within known_end (leaves w.dc))) [
-      | inl within ↦ stops (MatchBool-at_true _ _ within h)
+    elim (cases_Bool (all_within w.dc.known (leaves w.dc))) [
+      | inl within ↦ stops within (MatchBool-at_true _ _ within h)
       | inr above ↦ same (MatchBool-at_false _ _ above h).1
     ]
   where
     same : v ≡ w.dc.system → IsKept (with_dc w (with_system w.dc v))
     same is = subst (λ (x : SystemView). IsKept (with_dc w (with_system w.dc x))) (sym is) k
 
-    stops : StopsCheckpoint w.dc.system l r v → IsKept (with_dc w (with_system w.dc v))
-    stops (inl memory) = same memory.1
-    stops (inr fails) =
+    stops : all_within w.dc.known (leaves w.dc) ≡ true → StopsCheckpoint w.dc.system l r v
+        → IsKept (with_dc w (with_system w.dc v))
+    stops within (inl memory) = same memory.1
+    stops within (inr fails) =
         let u : SystemView = lowered w.dc.system l in
         let t : IsTrueTo w.tc k.source u = lowered_true w l k (k.answered past) to in
-        let stopped = failed_among w.tc k.source u u.leaves v t (honest_all_now w k u.leaves t.leaves)
+        let stopped = failed_among w.tc k.source u u.leaves v t (lowered_sure w l k (k.answered past) to within)
         (low_all_now w k u.leaves t.low) fails.1 in
         keeps_system w v k None tt is rec checks
         (subst (LeavesCarry k.source.log (leaves w.dc)) (sym stopped.leaves)
@@ -359,9 +366,9 @@ at_system w dc same h = subst (λ (x : DcView). IsKept (with_dc w x)) (sym same)
 stops_keep : (w : NodeView) (q : Request) (r : Refusal) (dc : DcView) (k : IsKept w) → IsDc dc
     → IsRecoverable dc.system → Checks w.dc.system dc.system → IsSent w.tc w.dc k.source q
     → serve_refusal w.dc q ≡ None → Stops w.dc q r dc → IsKept (with_dc w dc)
-stops_keep w (asks.Connect s) r dc k is rec checks sent allowed h =
-    at_system w dc h.2 (stops_accepting w s r dc.system k (subst IsDc h.2 is) rec checks sent h.1)
-stops_keep w (asks.Perform s n o) r dc k is rec checks sent allowed h =
+stops_keep w (asks.Connect s end) r dc k is rec checks sent allowed h =
+    at_system w dc h.2 (stops_accepting w s end r dc.system k (subst IsDc h.2 is) rec checks sent.begun h.1)
+stops_keep w (asks.Perform s n stable o) r dc k is rec checks sent allowed h =
     subst (λ (x : DcView). IsKept (with_dc w x)) (sym h.1.1) k
 stops_keep w (asks.Get s n key) r dc k is rec checks sent allowed h = absurd h
 stops_keep w (asks.Scan s n low high) r dc k is rec checks sent allowed h =
@@ -372,6 +379,7 @@ stops_keep w (asks.Checkpoint s l) r dc k is rec checks sent allowed h =
     at_system w dc h.1
     (stops_checkpoint w l r dc.system k (subst IsDc h.1 is) rec checks past.past (sent.holds past.runs) h.0)
 stops_keep w (asks.RedoEnd s) r dc k is rec checks sent allowed h = absurd h
+stops_keep w (asks.StableEnd s stable) r dc k is rec checks sent allowed h = absurd h
 
 pub stops_serving : (w : NodeView) (q : Request) (r : Refusal) (dc : DcView) (k : IsKept w) → IsDc dc
     → IsSent w.tc w.dc k.source q → ServeGives w.dc q (Err r) dc → IsKept (with_dc w dc)

@@ -1,9 +1,11 @@
 -- The source of the cached leaves, and what follows for the transactions' log from what holds of it.
-use Rattle.std.proofs.Common.{◌≡◌, ℕ, ◌+◌, ◌<◌, ◌≤◌, true, false, List, [], ◌∷◌, ◌++◌, length, sym, ap, subst, arith, inl, inr, ◌⊎◌, true≢false}
+use Rattle.std.proofs.Common.{◌≡◌, ℕ, ◌+◌, ◌<◌, ◌≤◌, true, false, List, [], ◌∷◌, ◌++◌, length, refl, sym, ap, subst, arith, inl, inr, ◌⊎◌, true≢false}
 use Rattle.std.proofs.lemmas.Bool.{cases_Bool}
+use Rattle.std.specs.List.{AllByRecursion}
 use Rattle.std.proofs.lemmas.List.{length-append}
 use Rattle.record_key.specs.declared.op.Op.{Op}
 use Rattle.history.specs.declared.record.Record.{Record}
+use Rattle.history.specs.declared.record.Record.TheVariants as is
 use Rattle.history.specs.Legal.{FitsCheckpoint}
 use Rattle.history.specs.Log.{Requests}
 use Rattle.log_laws.proofs.Records.{ARequest, kept_at}
@@ -23,6 +25,7 @@ use Rattle.world.specs.Node.{NodeView}
 use Rattle.world.specs.Source.{Source, IsWaiting, IsSource, own}
 use Rattle.world.proofs.Invariant.Announced.{part_grows}
 use Rattle.world.proofs.Invariant.Running.{run_is, run_stored}
+use Rattle.world.proofs.Invariant.Captured.{uncaptured_above}
 use Rattle.world.proofs.Restarts.Beginnings.{StaysTo, request_less}
 use Rattle.world.proofs.Restarts.HonestShorter.{honest_less}
 
@@ -46,7 +49,7 @@ unwaited phase.Running serves waits = waits
 pub live : (w : NodeView) (k : IsKept w) → (IsWaiting w.tc.phase → ⊥) → k.source ≡ own w.tc
 live w k unwaiting = elim k.from [
   | inl same ↦ same
-  | inr asks ↦ absurd (unwaiting asks.waits)
+  | inr asks ↦ absurd (unwaiting asks.untaken.waits)
 ]
 
 -- where the data component runs the session of the transaction component
@@ -56,7 +59,7 @@ run_live w s k running same = elim k.from [
   | inr asks ↦
       let some = (run_is w.dc s running).some in
       let last : s ≡ w.dc.stored = run_stored w.dc s k.dc running in
-      absurd (omega (arith, asks.later (omega (arith, some, same)), same, last))
+      absurd (omega (arith, asks.untaken.later (omega (arith, some, same)), same, last))
 ]
 
 -- so what holds of the source holds of the log
@@ -84,13 +87,48 @@ with_more P end more [] common le h = h
 with_more P end more (r ∷ since) common le h =
     more r (since ++ common) (omega (arith, le, length-append since common)) (with_more P end more since common le h)
 
-at_log : (P : List Record → Type 0) (w : TcView) (stored : ℕ) (x : Source) → IsSource w stored x → StaysTo x.sure P
-    → GrowsFrom x.sure P → P x.log → P w.log
-at_log P w stored x (inl same) less more h = subst (λ (y : Source). P y.log) same h
-at_log P w stored x (inr asks) less more h =
-    let le : x.sure ≤ length asks.common = omega (arith, asks.count) in
-    subst P (sym asks.log_is) (with_more P x.sure more asks.since asks.common le
-    (without P x.sure less asks.lost asks.common le (subst P asks.source_is h)))
+-- the records that the source and the log have in common, and what each has above them: the log nothing but sessions
+pub record AreShared (w : TcView) (x : Source) : Type 0 where
+  pub common : List Record
+  pub lost : List Record
+  pub since : List Record
+  pub source_is : x.log ≡ lost ++ common
+  pub log_is : w.log ≡ since ++ common
+  pub sessions : AllByRecursion (λ r. r ≡ is.Session) since
+  pub sure : x.sure ≤ length common
+
+pub shared : (w : TcView) (stored : ℕ) (x : Source) → w.stable ≤ length w.log → IsSource w stored x → AreShared w x
+shared w stored x within (inl same) = record {
+  common = w.log;
+  lost = [];
+  since = [];
+  source_is = ap (λ (y : Source). y.log) same;
+  log_is = refl;
+  sessions = tt;
+  sure = subst (λ (y : Source). y.sure ≤ length w.log) (sym same) within;
+}
+shared w stored x within (inr asks) = record {
+  common = asks.common;
+  lost = asks.lost;
+  since = asks.since;
+  source_is = asks.source_is;
+  log_is = asks.log_is;
+  sessions = asks.sessions;
+  sure = omega (arith, asks.count);
+}
+
+-- what is said of records that they have in common
+pub at_shared : (P : List Record → Type 0) (end : ℕ) (w : TcView) (x : Source) (s : AreShared w x)
+    → end ≤ length s.common
+    → StaysTo end P → GrowsFrom end P → P x.log → P w.log
+at_shared P end w x s le less more h =
+    subst P (sym s.log_is)
+    (with_more P end more s.since s.common le (without P end less s.lost s.common le (subst P s.source_is h)))
+
+at_log : (P : List Record → Type 0) (w : TcView) (stored : ℕ) (x : Source) → w.stable ≤ length w.log
+    → IsSource w stored x → StaysTo x.sure P → GrowsFrom x.sure P → P x.log → P w.log
+at_log P w stored x within from =
+    let s = shared w stored x within from in at_shared P x.sure w x s s.sure
 
 pub sure_stable : (w : TcView) (stored : ℕ) (x : Source) → IsSource w stored x → x.sure ≤ w.stable
 sure_stable w stored x (inl same) = let e : x.sure ≡ w.stable = ap (λ (y : Source). y.sure) same in omega (arith, e)
@@ -102,30 +140,20 @@ sure_within w stored x within (inl same) = subst (λ (y : Source). y.sure ≤ le
 sure_within w stored x within (inr asks) =
     omega (arith, asks.count, ap length asks.source_is, length-append asks.lost asks.common)
 
--- what a leaf hasn't captured above an end
-pub uncaptured_above : (leaf : LeafView) (end n : ℕ) → ((m : ℕ) → captures leaf.ab m ≡ true → m ≤ end) → end < n
-    → captures leaf.ab n ≡ false
-uncaptured_above leaf end n within above = elim (cases_Bool (captures leaf.ab n)) [
-  | inl captured ↦ absurd (omega (arith, within n captured, above))
-  | inr uncaptured ↦ uncaptured
-]
-
 pub request_longer : (r : Record) (log : List Record) (n : ℕ) (o : Op) → Requests log n o → Requests (r ∷ log) n o
 request_longer r log n o h = kept_at (ARequest o) r log n (request_number log n o h) h
 
--- a sure request, a leaf that has captured sure numbers only, and what is answered among sure records
-pub request_now : (w : TcView) (stored : ℕ) (x : Source) → IsSource w stored x → (n : ℕ) (o : Op) → n ≤ x.sure
+-- a request that both have, a leaf that has captured sure numbers only, and what is answered among sure records
+pub request_now : (w : TcView) (x : Source) (s : AreShared w x) (n : ℕ) (o : Op) → n ≤ length s.common
     → Requests x.log n o → Requests w.log n o
-request_now w stored x from n o sure =
-    at_log (λ log. Requests log n o) w stored x from
-    (λ r log within. request_less n o r log (omega (arith, within, sure)))
-    (λ r log within. request_longer r log n o)
+request_now w x s n o within =
+    at_shared (λ log. Requests log n o) n w x s within (request_less n o) (λ r log le. request_longer r log n o)
 
-pub honest_now : (w : TcView) (stored : ℕ) (x : Source) → IsSource w stored x → (leaf : LeafView)
-    → IsHonestTo x.log x.sure leaf → IsHonestTo w.log w.stable leaf
-honest_now w stored x from leaf h =
+pub honest_now : (w : TcView) (stored : ℕ) (x : Source) → w.stable ≤ length w.log → IsSource w stored x
+    → (leaf : LeafView) → IsHonestTo x.log x.sure leaf → IsHonestTo w.log w.stable leaf
+honest_now w stored x within from leaf h =
     let there : IsHonestTo w.log x.sure leaf =
-    at_log (λ log. IsHonestTo log x.sure leaf) w stored x from (honest_less x.sure leaf)
+    at_log (λ log. IsHonestTo log x.sure leaf) w stored x within from (honest_less x.sure leaf)
     (λ r log within old. record {
       honest = honest_uncaptured r log leaf
           (uncaptured_above leaf x.sure (length log + 1) old.within (omega (arith, within))) old.honest;
@@ -138,7 +166,7 @@ pub answered_now : (w : TcView) (stored : ℕ) (x : Source) → w.stable ≤ len
     → IsAnsweredBy x.log x.sure l → IsAnsweredBy w.log w.stable l
 answered_now w stored x within from l h =
     let there : IsAnsweredBy w.log x.sure l =
-    at_log (λ log. IsAnsweredBy log x.sure l) w stored x from
+    at_log (λ log. IsAnsweredBy log x.sure l) w stored x within from
     (λ r log le old. let P : List Record → Type 0 = λ part. FitsCheckpoint part l in
     subst P (part_longer r log x.sure le) old)
     (λ r log le. may_longer r log x.sure l le) h in

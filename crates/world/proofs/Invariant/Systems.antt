@@ -39,6 +39,7 @@ keeps_system w v k reply given is recoverable checks c true_to begun =
       ran = λ s r. r;
       past = λ past. past;
       checks = checks;
+      opened = refl;
     } in
-    keeps_dc w (with_system w.dc v) k carries reply given is recoverable true_to k.performed k.answered
+    keeps_dc w (with_system w.dc v) k carries reply given is recoverable true_to k.performed k.answered k.known
     (record { begun = begun; served = served_carried w k (with_system w.dc v) refl refl carries })

@@ -10,7 +10,7 @@ use Rattle.system_txn.specs.Checked.{Checks}
 use Rattle.system_txn.specs.Uses.{refused_use}
 use Rattle.system_txn.specs.SystemView.{SystemView, log_refused}
 use Rattle.system_txn.specs.Changes.{split_to, merged_to, written_to, first_large, first_pair}
-use Rattle.system_txn.specs.Gives.{Splits, Merges, SplitGives, MergeGives, TendGives, FlushGives, StopsWriting, tending}
+use Rattle.system_txn.specs.Gives.{SplitsWithin, MergesWithin, SplitGives, MergeGives, TendGives, FlushGives, StopsWriting, tending}
 use Rattle.system_txn.specs.declared.tended.Neighbours.{Neighbours}
 use Rattle.system_txn.specs.declared.tended.Tended.{Tended}
 use Rattle.system_txn.specs.declared.tended.Tended.TheVariants as tended
@@ -18,7 +18,7 @@ use Rattle.system_txn.specs.Gives as gives
 use Rattle.std.proofs.lemmas.Bool.{cases_Bool, MatchBool-at_true, MatchBool-at_false}
 use Rattle.page.specs.Leaf.{LeafView}
 use Rattle.page.specs.Tops.{is_within}
-use Rattle.dc_core.specs.DcView.{DcView, leaves, known_end}
+use Rattle.dc_core.specs.DcView.{DcView, leaves}
 use Rattle.dc_core.specs.Kept.{IsDc}
 use Rattle.dc_core.specs.Serves.{with_system}
 use Rattle.dc_core.specs.Tends.{may_merge, Changes, SplitsTo, MergesTo, TendsTo, FlushesTo, IsNotNow}
@@ -27,28 +27,28 @@ use Rattle.dc_core.proofs.Checked.{checked_split, checked_merge, checked_tend, c
 use Rattle.world.specs.Node.{NodeView, with_dc}
 use Rattle.world.specs.Kept.{IsKept, IsBegun}
 use Rattle.world.proofs.Invariant.AtKeys.{own_leaf, own_low}
-use Rattle.world.proofs.Invariant.Sources.{honest_now, low_now}
+use Rattle.world.proofs.Invariant.Sources.{low_now}
 use Rattle.world.proofs.Invariant.Systems.{LeavesCarry, same_leaves, keeps_system}
-use Rattle.world.proofs.Invariant.Trees.{split_true, split_carries, merged_true, merged_carries}
+use Rattle.world.proofs.Invariant.Trees.{sure_now, split_true, split_carries, merged_true, merged_carries}
 use Rattle.world.proofs.Invariant.Written.{covered_leaves, covered_log, written_true, used_true, stops_true}
 
 -- what is kept where the leaves and their devices become these
 abbrev Keeps : NodeView → SystemView → Type 0
 Keeps w v = IsDc (with_system w.dc v) → IsRecoverable v → Checks w.dc.system v → IsKept (with_dc w (with_system w.dc v))
 
-keeps_split : (w : NodeView) (p : ℕ) (pair : Neighbours) (v : SystemView) → IsKept w → Splits w.dc.system p pair v
-    → Keeps w v
+keeps_split : (w : NodeView) (p : ℕ) (pair : Neighbours) (v : SystemView) → IsKept w
+    → SplitsWithin w.dc.known w.dc.system p pair v → Keeps w v
 keeps_split w p pair v k h =
-    subst (Keeps w) (sym h.after)
+    subst (Keeps w) (sym h.1.after)
     (λ is recoverable checks. keeps_system w (split_to w.dc.system p) k None tt is recoverable checks
-    (split_carries w p k h.may) (split_true w p k h.may) k.sessions.begun)
+    (split_carries w p k h.1.may h.0) (split_true w p k h.1.may h.0) k.sessions.begun)
 
 keeps_merge : (w : NodeView) (p : ℕ) (pair : Neighbours) (v : SystemView) → IsKept w → may_merge w.dc ≡ true
-    → Merges w.dc.system p pair v → Keeps w v
+    → MergesWithin w.dc.known w.dc.system p pair v → Keeps w v
 keeps_merge w p pair v k let_merge h =
-    subst (Keeps w) (sym h.after) (λ is recoverable checks.
-    keeps_system w (merged_to w.dc.system p) k None tt is recoverable checks (merged_carries w p k (k.answered let_merge) h.may)
-    (merged_true w p k (k.answered let_merge) h.may)
+    subst (Keeps w) (sym h.1.after)
+    (λ is recoverable checks. keeps_system w (merged_to w.dc.system p) k None tt is recoverable checks
+    (merged_carries w p k (k.answered let_merge) h.1.may h.0) (merged_true w p k (k.answered let_merge) h.1.may h.0)
     k.sessions.begun)
 
 keeps_refused : (w : NodeView) (r : Refusal) (v : SystemView) → IsKept w → v ≡ log_refused w.dc.system r → Keeps w v
@@ -60,21 +60,21 @@ keeps_refused w r v k same =
     k.sessions.begun)
 
 split_keeps : (w : NodeView) (key : Bytes) (given : Result Neighbours Refusal) (v : SystemView) → IsKept w
-    → SplitGives w.dc.system key known_end given v → Keeps w v
-split_keeps w key (Ok pair) v k h = keeps_split w _ pair v k h.1
+    → SplitGives w.dc.system key w.dc.known given v → Keeps w v
+split_keeps w key (Ok pair) v k h = keeps_split w _ pair v k h
 split_keeps w key (Err r) v k h = keeps_refused w r v k h.1
 
 merge_keeps : (w : NodeView) (key : Bytes) (given : Result Neighbours Refusal) (v : SystemView) → IsKept w
-    → may_merge w.dc ≡ true → MergeGives w.dc.system key known_end given v → Keeps w v
-merge_keeps w key (Ok pair) v k let_merge h = keeps_merge w _ pair v k let_merge h.1
+    → may_merge w.dc ≡ true → MergeGives w.dc.system key w.dc.known given v → Keeps w v
+merge_keeps w key (Ok pair) v k let_merge h = keeps_merge w _ pair v k let_merge h
 merge_keeps w key (Err r) v k let_merge h = keeps_refused w r v k h.1
 
 -- tending merges only where it is let
 tended_keeps : (w : NodeView) (what : gives.Tending) (done : Tended) (v : SystemView) → IsKept w
     → ((p : ℕ) → what ≡ gives.MergesAt p → may_merge w.dc ≡ true)
-    → gives.TendsTo known_end w.dc.system what done v → Keeps w v
-tended_keeps w (gives.SplitsAt p) (tended.Split pair) v k merges h = keeps_split w p pair v k h.1
-tended_keeps w (gives.MergesAt p) (tended.Merged pair) v k merges h = keeps_merge w p pair v k (merges p refl) h.1
+    → gives.TendsTo w.dc.known w.dc.system what done v → Keeps w v
+tended_keeps w (gives.SplitsAt p) (tended.Split pair) v k merges h = keeps_split w p pair v k h
+tended_keeps w (gives.MergesAt p) (tended.Merged pair) v k merges h = keeps_merge w p pair v k (merges p refl) h
 tended_keeps w gives.Rests tended.Nothing v k merges h = subst (Keeps w) (sym h) (λ is recoverable checks. k)
 tended_keeps w (gives.SplitsAt p) (tended.Merged pair) v k merges h = absurd h
 tended_keeps w (gives.SplitsAt p) tended.Nothing v k merges h = absurd h
@@ -97,14 +97,14 @@ stops_tending w (gives.MergesAt p) r v k h = keeps_refused w r v k h.1
 stops_tending w gives.Rests r v k h = absurd h
 
 tend_keeps : (w : NodeView) (given : Result Tended Refusal) (v : SystemView) → IsKept w
-    → TendGives w.dc.system (may_merge w.dc) known_end given v → Keeps w v
+    → TendGives w.dc.system (may_merge w.dc) w.dc.known given v → Keeps w v
 tend_keeps w (Ok done) v k h =
-    tended_keeps w (tending w.dc.system (may_merge w.dc) known_end) done v k
-    (merges_let (first_large known_end (leaves w.dc)) (may_merge w.dc) (first_pair known_end (leaves w.dc))) h
-tend_keeps w (Err r) v k h = stops_tending w (tending w.dc.system (may_merge w.dc) known_end) r v k h
+    tended_keeps w (tending w.dc.system (may_merge w.dc) w.dc.known) done v k
+    (merges_let (first_large w.dc.known (leaves w.dc)) (may_merge w.dc) (first_pair w.dc.known (leaves w.dc))) h
+tend_keeps w (Err r) v k h = stops_tending w (tending w.dc.system (may_merge w.dc) w.dc.known) r v k h
 
 flush_keeps : (w : NodeView) (key : Bytes) (given : Result ℕ Refusal) (v : SystemView) → IsKept w
-    → FlushGives w.dc.system key known_end given v → Keeps w v
+    → FlushGives w.dc.system key w.dc.known given v → Keeps w v
 flush_keeps w key (Ok id) v k h =
     let leaf : LeafView = leaf_at (leaves w.dc) key in
     subst (Keeps w) (sym h.after)
@@ -112,12 +112,12 @@ flush_keeps w key (Ok id) v k h =
     (subst (LeavesCarry k.source.log (leaves w.dc)) (sym (covered_leaves w.dc.system leaf))
     (same_leaves k.source.log (leaves w.dc)))
     (written_true w.tc k.source w.dc.system leaf k.true_to h.fits
-    (honest_now w.tc w.dc.stored k.source k.from leaf (own_leaf w key k))
+    (sure_now w k leaf (own_low w key k) h.within (own_leaf w key k))
     (low_now w.tc w.dc.stored k.source k.tc.within k.from leaf (own_low w key k)))
     (subst (λ log. IsBegun w.tc.stable w.tc.session (stored_session log)) (sym (covered_log w.dc.system leaf))
     k.sessions.begun))
 flush_keeps w key (Err r) v k h =
-    elim (cases_Bool (is_within known_end (leaf_at (leaves w.dc) key))) [
+    elim (cases_Bool (is_within w.dc.known (leaf_at (leaves w.dc) key))) [
       | inl within ↦ stops (MatchBool-at_true _ _ within h)
       | inr above ↦ subst (Keeps w) (sym (MatchBool-at_false _ _ above h).1) (λ is recoverable checks. k)
     ]
@@ -147,7 +147,7 @@ pub merges_keep : (w : NodeView) (key : Bytes) (given : Result Neighbours Refusa
 merges_keep w key given dc k is h = by (may_merge w.dc) refl h
   where
     by : (b : Bool) → may_merge w.dc ≡ b
-        → MatchBool b (Changes (MergeGives w.dc.system key known_end given) w.dc dc) (IsNotNow w.dc given dc)
+        → MatchBool b (Changes (MergeGives w.dc.system key w.dc.known given) w.dc dc) (IsNotNow w.dc given dc)
         → IsKept (with_dc w dc)
     by true may g = at_dc w dc is (recoverable_merge w.dc key given dc k.dc k.recoverable h)
         (checked_merge w.dc key given dc k.dc k.recoverable h) g.1 (merge_keeps w key given dc.system k may g.0)

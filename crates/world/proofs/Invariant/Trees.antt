@@ -1,8 +1,8 @@
 -- Leaves that are raised, split or merged stay true to the log, and carry on what stands at each key.
-use Rattle.std.proofs.Common.{◌≡◌, ℕ, ◌≤◌, Bool, true, List, ◌∷◌, Some, refl, sym, ap, ◌∙◌, subst, arith, inl, inr}
-use Rattle.std.specs.Prelude.{map, nat_le, ◌||◌}
+use Rattle.std.proofs.Common.{◌≡◌, ℕ, ◌+◌, ◌≤◌, Bool, true, List, [], ◌∷◌, Some, refl, sym, ap, ◌∙◌, subst, arith, inl, inr}
+use Rattle.std.specs.Prelude.{map, nat_le, ◌||◌, get_or}
 use Rattle.std.specs.List.{AllByRecursion}
-use Rattle.std.proofs.lemmas.Bool.{or_cases}
+use Rattle.std.proofs.lemmas.Bool.{or_cases, and_parts}
 use Rattle.std.proofs.lemmas.Bool.Decides.{nat_tests}
 use Rattle.record_key.specs.Table.{Bytes, key_of}
 use Rattle.record_key.proofs.Lists.{all_from}
@@ -11,7 +11,8 @@ use Rattle.codec.specs.declared.dc_record.DcRecord.{DcRecord}
 use Rattle.ab_lsn.specs.AbLsn.{captures}
 use Rattle.ab_lsn.specs.Parting.{is_under, is_from}
 use Rattle.ab_lsn.proofs.Capturing.{raised_captures, joined_captures}
-use Rattle.page.specs.Leaf.{LeafView, is_in_fences, raised_to}
+use Rattle.page.specs.Leaf.{LeafView, first, is_in_fences, raised_to}
+use Rattle.page.specs.Tops.{is_within, are_within, all_within}
 use Rattle.page.specs.Parting.{lower_of, upper_of, joined_of}
 use Rattle.page.specs.Honest.{IsHonestLeaf, IsCapturedTo}
 use Rattle.page.proofs.Raising.{honest_raised}
@@ -22,7 +23,8 @@ use Rattle.btree.proofs.AtKey.{captured_split, captured_merged, captured_raised}
 use Rattle.btree.proofs.Changing.{all_mapped}
 use Rattle.btree.proofs.Splitting.{all_split}
 use Rattle.btree.proofs.Merging.{AtPair, all_merged, both_there, pair_all, pair_with}
-use Rattle.btree.proofs.Places.{merge_within}
+use Rattle.btree.proofs.Places.{split_within, merge_within}
+use Rattle.btree.proofs.Whole.{all_get}
 use Rattle.btree.proofs.Stays.{split_honest, merged_honest}
 use Rattle.btree.proofs.Carried.{lows_raised, lows_split, lows_merged}
 use Rattle.btree.proofs.Owning.{own_leaves, the_upper, the_merged}
@@ -41,6 +43,7 @@ use Rattle.world.specs.Node.{NodeView}
 use Rattle.world.specs.Kept.{IsKept, IsAnsweredBy, IsTrueTo, IsLowAnswered, AnsweredAreCaptured}
 use Rattle.world.specs.Source.{Source}
 use Rattle.world.proofs.Invariant.Announced.{all_answered, most_sure}
+use Rattle.world.proofs.Invariant.Captured.{sure_leaf}
 use Rattle.world.proofs.Invariant.Sources.{honest_now, low_now, sure_within}
 use Rattle.world.proofs.Invariant.Systems.{LeavesCarry}
 
@@ -77,29 +80,32 @@ are_captured w p k all may =
 -- ---- parts of what is true to the source
 
 are_honest : (w : NodeView) (k : IsKept w) → AreHonest k.source.log (leaves w.dc)
-are_honest w k = all_from (IsHonestTo k.source.log k.source.sure) (IsHonestLeaf k.source.log) (λ leaf h. h.honest)
-    (leaves w.dc) k.true_to.leaves
+are_honest w k = k.true_to.leaves
 
--- whatever the leaf has captured is among the first records
-abbrev HasSure : ℕ → LeafView → Type 0
-HasSure sure leaf = (n : ℕ) → captures leaf.ab n ≡ true → n ≤ sure
+-- a leaf without an entry above the known end has captured sure numbers only
+is_sure : (w : NodeView) (k : IsKept w) (leaf : LeafView) → IsLowAnswered k.source.log k.source.sure leaf
+    → is_within w.dc.known leaf ≡ true → IsHonestLeaf k.source.log leaf → IsHonestTo k.source.log k.source.sure leaf
+is_sure w k leaf = sure_leaf k.source w.dc.known leaf
+    (sure_within w.tc w.dc.stored k.source k.tc.within k.from) k.known
 
-have_sure : (w : NodeView) (k : IsKept w) → AllByRecursion (HasSure k.source.sure) (leaves w.dc)
-have_sure w k = all_from (IsHonestTo k.source.log k.source.sure) (HasSure k.source.sure) (λ leaf h. h.within)
-    (leaves w.dc) k.true_to.leaves
-
-honest_to_all : (log : List Record) (sure : ℕ) (ls : List LeafView) → AllByRecursion (IsHonestLeaf log) ls
-    → AllByRecursion (HasSure sure) ls
-    → AllByRecursion (IsHonestTo log sure) ls
-honest_to_all log sure ls honest within =
-    all_both (IsHonestLeaf log) (HasSure sure) (IsHonestTo log sure)
-    (λ leaf h s. record { honest = h; within = s }) ls honest within
+are_sure : (w : NodeView) (k : IsKept w) (ls : List LeafView) → all_within w.dc.known ls ≡ true
+    → AllByRecursion (IsHonestLeaf k.source.log) ls
+    → AllByRecursion (IsLowAnswered k.source.log k.source.sure) ls
+    → AllByRecursion (IsHonestTo k.source.log k.source.sure) ls
+are_sure w k [] within honest low = tt
+are_sure w k (leaf ∷ ls) within honest low =
+    let both = and_parts (is_within w.dc.known leaf) (all_within w.dc.known ls) within in
+    (is_sure w k leaf low.0 both.0 honest.0, are_sure w k ls both.1 honest.1 low.1)
 
 -- leaves that are true to the source are so to the log
-pub honest_all_now : (w : NodeView) (k : IsKept w) (ls : List LeafView)
-    → AllByRecursion (IsHonestTo k.source.log k.source.sure) ls → AllByRecursion (IsHonestTo w.tc.log w.tc.stable) ls
-honest_all_now w k = all_from (IsHonestTo k.source.log k.source.sure) (IsHonestTo w.tc.log w.tc.stable)
-    (honest_now w.tc w.dc.stored k.source k.from)
+pub own_now : (w : NodeView) (k : IsKept w) (leaf : LeafView) → IsHonestTo k.source.log k.source.sure leaf
+    → IsHonestTo w.tc.log w.tc.stable leaf
+own_now w k = honest_now w.tc w.dc.stored k.source k.tc.within k.from
+
+-- a leaf that is written is so true
+pub sure_now : (w : NodeView) (k : IsKept w) (leaf : LeafView) → IsLowAnswered k.source.log k.source.sure leaf
+    → is_within w.dc.known leaf ≡ true → IsHonestLeaf k.source.log leaf → IsHonestTo w.tc.log w.tc.stable leaf
+sure_now w k leaf low within h = own_now w k leaf (is_sure w k leaf low within h)
 
 pub low_all_now : (w : NodeView) (k : IsKept w) (ls : List LeafView)
     → AllByRecursion (IsLowAnswered k.source.log k.source.sure) ls
@@ -118,14 +124,8 @@ in_image P leaf x h e = subst P (let same : leaf_of (image_of leaf) ≡ x = cc i
 
 -- ---- splits
 
-sure_split : (sure : ℕ) (leaf : LeafView) (k : Bytes) (id d : ℕ) → HasSure sure leaf
-    → HasSure sure (lower_of leaf k d) × HasSure sure (upper_of leaf k id d)
-sure_split sure leaf k id d h = (
-  λ n captured. h n (captures_fewer leaf.ab (is_under k) n captured),
-  λ n captured. h n (captures_fewer leaf.ab (is_from k) n captured),
-)
-
-module _ (w : NodeView) (p : ℕ) (k : IsKept w) (may : may_split_at (leaves w.dc) p ≡ true) where
+module _ (w : NodeView) (p : ℕ) (k : IsKept w) (may : may_split_at (leaves w.dc) p ≡ true)
+    (known : is_within w.dc.known (get_or (leaves w.dc) p first) ≡ true) where
   abbrev v : SystemView
   v = w.dc.system
 
@@ -135,13 +135,27 @@ module _ (w : NodeView) (p : ℕ) (k : IsKept w) (may : may_split_at (leaves w.d
   abbrev split_leaves : List LeafView
   split_leaves = split_at p (next_id v) (next_number v) (leaves w.dc)
 
-  split_honest_to : AllByRecursion (IsHonestTo x.log x.sure) split_leaves
+  abbrev parted : LeafView
+  parted = get_or (leaves w.dc) p first
+
+  abbrev half : LeafView
+  half = upper_of parted (middle parted) (next_id v) (next_number v)
+
+  split_honest_to : AllByRecursion (IsHonestLeaf x.log) split_leaves
   split_honest_to =
-      honest_to_all x.log x.sure split_leaves
-      (split_honest x.log (leaves w.dc) p (next_id v) (next_number v) k.dc.system.leaves may (are_honest w k))
-      (all_split (HasSure x.sure) (next_id v) (next_number v)
-      (λ leaf is may h. sure_split x.sure leaf (middle leaf) (next_id v) (next_number v) h)
-      (leaves w.dc) p k.dc.system.leaves.each may (have_sure w k))
+      split_honest x.log (leaves w.dc) p (next_id v) (next_number v) k.dc.system.leaves may (are_honest w k)
+
+  -- the half that is logged has captured no more than the leaf
+  half_true : IsHonestTo w.tc.log w.tc.stable half
+  half_true =
+      let place = split_within (leaves w.dc) p may in
+      let whole = is_sure w k parted (all_get (IsLowAnswered x.log x.sure)
+      (leaves w.dc) p first place k.true_to.low) known
+      (all_get (IsHonestLeaf x.log) (leaves w.dc) p first place k.true_to.leaves) in
+      own_now w k half (record {
+        honest = the_upper (IsHonestLeaf x.log) (leaves w.dc) p (next_id v) (next_number v) may split_honest_to;
+        within = λ n captured. whole.within n (captures_fewer parted.ab (is_from (middle parted)) n captured);
+      })
 
   split_low : AllByRecursion (IsLowAnswered x.log x.sure) split_leaves
   split_low = lows_split (IsAnsweredBy x.log x.sure) (leaves w.dc) p (next_id v) (next_number v) k.dc.system.leaves may
@@ -152,9 +166,7 @@ module _ (w : NodeView) (p : ℕ) (k : IsKept w) (may : may_split_at (leaves w.d
     leaves = split_honest_to;
     low = split_low;
     written = have_logged (IsHonestTo w.tc.log w.tc.stable) (pages_of v.pages) _ v.log k.true_to.written
-        (λ leaf is. in_image (IsHonestTo w.tc.log w.tc.stable) _ leaf
-        (the_upper (IsHonestTo w.tc.log w.tc.stable) (leaves w.dc) p (next_id v) (next_number v) may
-        (honest_all_now w k split_leaves split_honest_to)) is);
+        (λ leaf is. in_image (IsHonestTo w.tc.log w.tc.stable) half leaf half_true is);
     written_low = have_logged (IsLowAnswered w.tc.log w.tc.stable) (pages_of v.pages) _ v.log k.true_to.written_low
         (λ leaf is. in_image (IsLowAnswered w.tc.log w.tc.stable) _ leaf
         (the_upper (IsLowAnswered w.tc.log w.tc.stable) (leaves w.dc) p (next_id v) (next_number v) may
@@ -170,14 +182,9 @@ module _ (w : NodeView) (p : ℕ) (k : IsKept w) (may : may_split_at (leaves w.d
 
 -- ---- merges
 
-sure_joined : (sure : ℕ) (left right : LeafView) (d : ℕ) → HasSure sure left → HasSure sure right
-    → HasSure sure (joined_of left right d)
-sure_joined sure left right d h g n captured =
-    elim (or_cases (captures left.ab n) (captures right.ab n) (sym (joined_captures left.ab right.ab n) ∙ captured))
-    [ inl l ↦ h n l | inr r ↦ g n r ]
-
 module _ (w : NodeView) (p : ℕ) (k : IsKept w) (all : AnsweredAreCaptured k.source.log w.dc)
-    (may : may_merge_at (leaves w.dc) p ≡ true) where
+    (may : may_merge_at (leaves w.dc) p ≡ true)
+    (known : are_within w.dc.known (get_or (leaves w.dc) p first) (get_or (leaves w.dc) (p + 1) first) ≡ true) where
   abbrev u : SystemView
   u = w.dc.system
 
@@ -187,22 +194,38 @@ module _ (w : NodeView) (p : ℕ) (k : IsKept w) (all : AnsweredAreCaptured k.so
   abbrev merged_leaves : List LeafView
   merged_leaves = merged_at p (next_number u) (leaves w.dc)
 
-  abbrev AreSure : LeafView → LeafView → Type 0
-  AreSure left right = HasSure y.sure left × HasSure y.sure right
+  abbrev left : LeafView
+  left = get_or (leaves w.dc) p first
 
-  sure_pair : AtPair AreSure (leaves w.dc) p
-  sure_pair = pair_all (HasSure y.sure) (leaves w.dc) p (have_sure w k)
+  abbrev right : LeafView
+  right = get_or (leaves w.dc) (p + 1) first
 
-  merged_honest_to : AllByRecursion (IsHonestTo y.log y.sure) merged_leaves
-  merged_honest_to =
-      honest_to_all y.log y.sure merged_leaves
-      (merged_honest y.log (leaves w.dc) p (next_number u) k.dc.system.leaves (are_honest w k)
-      (are_captured w p k all may))
-      (all_merged (HasSure y.sure) (next_number u) (leaves w.dc) p
-      (pair_with AreSure AreSure
-      _ (λ left right both again. sure_joined y.sure left right (next_number u) both.0 both.1) (leaves w.dc)
-      p sure_pair sure_pair)
-      (have_sure w k))
+  abbrev joined : LeafView
+  joined = joined_of left right (next_number u)
+
+  merged_honest_to : AllByRecursion (IsHonestLeaf y.log) merged_leaves
+  merged_honest_to = merged_honest y.log (leaves w.dc) p (next_number u) k.dc.system.leaves (are_honest w k)
+      (are_captured w p k all may)
+
+  -- the leaf of both has captured no more than each
+  joined_true : IsHonestTo w.tc.log w.tc.stable joined
+  joined_true =
+      let within = merge_within (leaves w.dc) p may in
+      let honest = both_there (λ l r. IsHonestLeaf y.log l × IsHonestLeaf y.log r) (leaves w.dc) p
+      (pair_all (IsHonestLeaf y.log) (leaves w.dc) p k.true_to.leaves) within in
+      let low = both_there (λ l r. IsLowAnswered y.log y.sure l × IsLowAnswered y.log y.sure r) (leaves w.dc) p
+      (pair_all (IsLowAnswered y.log y.sure) (leaves w.dc) p k.true_to.low) within in
+      let top = and_parts (is_within w.dc.known left) (is_within w.dc.known right) known in
+      let one = is_sure w k left low.0 top.0 honest.0 in
+      let other = is_sure w k right low.1 top.1 honest.1 in
+      own_now w k joined (record {
+        honest = the_merged (IsHonestLeaf y.log) (leaves w.dc) p (next_number u) may merged_honest_to;
+        within = λ n captured. elim (or_cases (captures left.ab n) (captures right.ab n)
+            (sym (joined_captures left.ab right.ab n) ∙ captured)) [
+              | inl l ↦ one.within n l
+              | inr r ↦ other.within n r
+            ];
+      })
 
   merged_low : AllByRecursion (IsLowAnswered y.log y.sure) merged_leaves
   merged_low = lows_merged (IsAnsweredBy y.log y.sure) (leaves w.dc) p (next_number u) k.true_to.low
@@ -212,9 +235,7 @@ module _ (w : NodeView) (p : ℕ) (k : IsKept w) (all : AnsweredAreCaptured k.so
     leaves = merged_honest_to;
     low = merged_low;
     written = have_logged (IsHonestTo w.tc.log w.tc.stable) (pages_of u.pages) _ u.log k.true_to.written
-        (λ leaf is. in_image (IsHonestTo w.tc.log w.tc.stable) _ leaf
-        (the_merged (IsHonestTo w.tc.log w.tc.stable) (leaves w.dc) p (next_number u) may
-        (honest_all_now w k merged_leaves merged_honest_to)) is);
+        (λ leaf is. in_image (IsHonestTo w.tc.log w.tc.stable) joined leaf joined_true is);
     written_low = have_logged (IsLowAnswered w.tc.log w.tc.stable) (pages_of u.pages) _ u.log k.true_to.written_low
         (λ leaf is. in_image (IsLowAnswered w.tc.log w.tc.stable) _ leaf
         (the_merged (IsLowAnswered w.tc.log w.tc.stable) (leaves w.dc) p (next_number u) may
@@ -230,18 +251,25 @@ module _ (w : NodeView) (p : ℕ) (k : IsKept w) (all : AnsweredAreCaptured k.so
 
 -- ---- low water
 
-abbrev IsOwnHonest : NodeView → Source → LeafView → Type 0
-IsOwnHonest w x leaf = IsOwn w leaf × IsHonestTo x.log x.sure leaf
-
 module _ (w : NodeView) (l : ℕ) (k : IsKept w) (all : AnsweredAreCaptured k.source.log w.dc)
     (to : IsAnsweredBy k.source.log k.source.sure l) where
   abbrev z : Source
   z = k.source
 
-  raised_honest_to : (leaf : LeafView) → IsOwn w leaf → IsHonestTo z.log z.sure leaf
+  abbrev IsOwnHonest : LeafView → Type 0
+  IsOwnHonest leaf = IsOwn w leaf × IsHonestLeaf z.log leaf
+
+  own_honest : AllByRecursion IsOwnHonest (leaves w.dc)
+  own_honest = all_both (IsOwn w) (IsHonestLeaf z.log) IsOwnHonest (λ leaf own h. (own, h)) (leaves w.dc)
+      (all_own w k) k.true_to.leaves
+
+  raised_honest : (leaf : LeafView) → IsOwn w leaf → IsHonestLeaf z.log leaf → IsHonestLeaf z.log (raised_to leaf l)
+  raised_honest leaf own h = honest_raised z.log leaf l h (captured_leaf w z l leaf all own to)
+
+  raised_sure : (leaf : LeafView) → IsOwn w leaf → IsHonestTo z.log z.sure leaf
       → IsHonestTo z.log z.sure (raised_to leaf l)
-  raised_honest_to leaf own h = record {
-    honest = honest_raised z.log leaf l h.honest (captured_leaf w z l leaf all own to);
+  raised_sure leaf own h = record {
+    honest = raised_honest leaf own h.honest;
     within = λ n captured. elim (or_cases (captures leaf.ab n) (nat_le n l)
         (sym (raised_captures leaf.ab l n) ∙ captured)) [
           | inl before ↦ h.within n before
@@ -252,14 +280,23 @@ module _ (w : NodeView) (l : ℕ) (k : IsKept w) (all : AnsweredAreCaptured k.so
 
   pub lowered_true : IsTrueTo w.tc z (lowered w.dc.system l)
   lowered_true = record {
-    leaves = all_mapped (IsOwnHonest w z) (IsHonestTo z.log z.sure) (λ leaf. raised_to leaf l)
-        (λ leaf both. raised_honest_to leaf both.0 both.1) (leaves w.dc)
-        (all_both (IsOwn w) (IsHonestTo z.log z.sure) (IsOwnHonest w z) (λ leaf own h. (own, h)) (leaves w.dc)
-        (all_own w k) k.true_to.leaves);
+    leaves = all_mapped IsOwnHonest (IsHonestLeaf z.log) (λ leaf. raised_to leaf l)
+        (λ leaf both. raised_honest leaf both.0 both.1) (leaves w.dc) own_honest;
     low = lows_raised (IsAnsweredBy z.log z.sure) (leaves w.dc) l to k.true_to.low;
     written = k.true_to.written;
     written_low = k.true_to.written_low;
   }
+
+  -- where none has an entry above the known end they may be written
+  pub lowered_sure : all_within w.dc.known (leaves w.dc) ≡ true
+      → AllByRecursion (IsHonestTo w.tc.log w.tc.stable) (lowered w.dc.system l).leaves
+  lowered_sure within =
+      all_mapped (λ leaf. IsOwn w leaf × IsHonestTo z.log z.sure leaf) (IsHonestTo w.tc.log w.tc.stable)
+      (λ leaf. raised_to leaf l) (λ leaf both. own_now w k (raised_to leaf l) (raised_sure leaf both.0 both.1))
+      (leaves w.dc)
+      (all_both (IsOwn w) (IsHonestTo z.log z.sure) (λ leaf. IsOwn w leaf × IsHonestTo z.log z.sure leaf)
+      (λ leaf own h. (own, h)) (leaves w.dc) (all_own w k)
+      (are_sure w k (leaves w.dc) within k.true_to.leaves k.true_to.low))
 
   pub lowered_carries : LeavesCarry z.log (leaves w.dc) (map (λ leaf. raised_to leaf l) (leaves w.dc))
   lowered_carries = record {

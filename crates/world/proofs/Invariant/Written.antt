@@ -6,6 +6,7 @@ use Rattle.record_key.specs.declared.refusal.Refusal.{Refusal}
 use Rattle.codec.specs.Images.{IsImage}
 use Rattle.codec.specs.declared.dc_record.DcRecord.{DcRecord}
 use Rattle.page.specs.Leaf.{LeafView, first}
+use Rattle.page.specs.Honest.{IsHonestLeaf}
 use Rattle.recovery_laws.specs.Images.{image_of}
 use Rattle.recovery_laws.specs.Recovery.{Pages, written}
 use Rattle.recovery_laws.specs.Laws.{leaf_in}
@@ -66,7 +67,7 @@ pub written_true : (w : TcView) (x : Source) (v : SystemView) (leaf : LeafView) 
     → IsImage (image_of leaf) → IsHonestTo w.log w.stable leaf → IsLowAnswered w.log w.stable leaf
     → IsTrueTo w x (written_to v leaf)
 written_true w x v leaf h image honest low = record {
-  leaves = subst (AllByRecursion (IsHonestTo x.log x.sure)) (sym (covered_leaves v leaf)) h.leaves;
+  leaves = subst (AllByRecursion (IsHonestLeaf x.log)) (sym (covered_leaves v leaf)) h.leaves;
   low = subst (AllByRecursion (IsLowAnswered x.log x.sure)) (sym (covered_leaves v leaf)) h.low;
   written = subst (AllHave (IsHonestTo w.log w.stable) (pages_of (written_to v leaf).pages)) (sym (covered_log v leaf))
       (have_written (IsHonestTo w.log w.stable) (pages_of v.pages) (pages_of (written_to v leaf).pages) v.log leaf

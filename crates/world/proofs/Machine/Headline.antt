@@ -48,7 +48,7 @@ use Rattle.world.proofs.Invariant.Serves.{serves, stops_serving}
 use Rattle.world.proofs.Invariant.Tends.{splits_keep, merges_keep, tends_keep, flushes_keep}
 use Rattle.world.proofs.Invariant.Keeps.{with_reply}
 use Rattle.world.proofs.Machine.Follows.{Follows, at_new, no_line, unchanged, follows_begin, follows_act, follows_get, follows_scan, follows_save, follows_go_back, follows_rollback, follows_commit, follows_undo, follows_force}
-use Rattle.world.proofs.Invariant.Sends.{follows_reconnect, follows_recover, follows_send, follows_low_water, follows_checkpoint}
+use Rattle.world.proofs.Invariant.Sends.{follows_reconnect, follows_recover, follows_send, follows_low_water, follows_checkpoint, follows_tell}
 use Rattle.world.proofs.Machine.Replies.{follows_reply}
 use Rattle.world.proofs.Restarts.TcCrashes.{follows_tc_crash, follows_tc_restart}
 
@@ -238,6 +238,8 @@ follows old new (event.LowWater l) output k tc is h =
     if_tc_up old new (event.LowWater l) output _ k (λ m. refl) (follows_low_water old new l output k) h
 follows old new event.Checkpoint output k tc is h =
     if_tc_up old new event.Checkpoint output _ k (λ m. refl) (follows_checkpoint old new output k) h
+follows old new event.Tell output k tc is h =
+    if_tc_up old new event.Tell output _ k (λ m. refl) (follows_tell old new output k) h
 follows old new (event.Split key) output k tc is h =
     if_dc_up old new (event.Split key) output _ k (λ m. refl) (follows_split old new key output k is) h
 follows old new (event.Merge key) output k tc is h =
@@ -274,7 +276,7 @@ kept_fresh is = record {
   source = own (fresh unused);
   from = inl refl;
   true_to = record {
-    leaves = (first_honest, tt);
+    leaves = (first_honest.honest, tt);
     low = (low_answered, tt);
     written = record { first_leaf = first_honest; page = λ id page h. absurd (no_page id page h); logged = tt };
     written_low = record { first_leaf = low_answered; page = λ id page h. absurd (no_page id page h); logged = tt };
@@ -285,6 +287,9 @@ kept_fresh is = record {
   given = tt;
   sessions = record { begun = record { recorded = omega arith; most = λ some. omega arith }; served = tt };
   checked = fresh_checked unused unused;
+  known = omega arith;
+  opened = omega arith;
+  quiet = λ waits. omega arith;
 }
   where
     no_page : (id : ℕ) (page : LeafView) → pages_of map.empty id ≡ Some page → ⊥

@@ -264,7 +264,7 @@ connected_goes w i s phase.Connecting at k same given after =
     (keeps_same_log w tc k after k.checked refl (omega arith) (inl refl) (omega arith)
     (none_same w.tc.reads w.tc.open_txns)
     (record {
-      asks = λ h. absurd (omega (arith, h.later some, same, given));
+      untaken = λ h. absurd (omega (arith, h.later some, same, given));
       waits = λ waits. absurd waits;
     })
     (record {

@@ -36,9 +36,9 @@ use Rattle.simulation.proofs.Answering.{plain_uncrossed}
 use Rattle.world.proofs.Machine.Awaited.{IsOpOf, op_waited}
 use Rattle.world.proofs.Machine.Idle.{none_rolls}
 use Rattle.world.proofs.Machine.Reading.{flat_undoes_none}
-use Rattle.world.specs.Source.{Source, IsWaiting, own}
-use Rattle.world.proofs.Invariant.AtKeys.{honest_at, answered_captured, captured_sure}
-use Rattle.world.proofs.Invariant.Sources.{live, of_log}
+use Rattle.world.specs.Source.{IsWaiting, own}
+use Rattle.world.proofs.Invariant.AtKeys.{honest_at, answered_captured}
+use Rattle.world.proofs.Invariant.Sources.{live}
 use Rattle.world.proofs.Restarts.LosersHold.{running_unlost, nobody_listed}
 use Rattle.world.proofs.Machine.Waited.{IsAwaited, answered_or}
 
@@ -73,7 +73,7 @@ comp_answered w k settled n t u x i is_comp =
           absurd (cc)
     ]
 
--- what is answered was performed, and what is performed is stable and so answered
+-- what is answered was performed, and what is performed is answered
 captured_answered : (w : NodeView) → IsKept w → IsSettled w → (key : Bytes) (n : ℕ) (o : Op)
     → Requests w.tc.log n o → key_of o ≡ key → captures_at w.dc key n ≡ is_some (answer_of w.tc.log n)
 captured_answered w k settled key n o asks on =
@@ -82,14 +82,10 @@ captured_answered w k settled key n o asks on =
           (answered_captured w k (settled_live w k settled) (settled_past w k settled) n o asks some) ∙ sym some
       | inr none ↦ elim (cases_Bool (captures_at w.dc key n)) [
         | inl captured ↦ absurd (true≢false
-            (sym (settled.answered n o (is_stable captured) asks) ∙ none))
+            (sym (settled.answered n o asks) ∙ none))
         | inr uncaptured ↦ uncaptured ∙ sym none
       ]
     ]
-  where
-    is_stable : captures_at w.dc key n ≡ true → n ≤ w.tc.stable
-    is_stable captured = of_log w.tc k.source (λ (x : Source). n ≤ x.sure) (settled_live w k settled)
-        (captured_sure w key n k captured)
 
 -- so at each key
 settled_value : (w : NodeView) → IsKept w → IsSettled w → (key : Bytes)
@@ -143,7 +139,7 @@ at_rest w k running up session unrolled idle stable = record {
     up = up;
     session = session;
     unrolled = unrolled;
-    answered = λ n o below asks. elim (answered_or w.tc n o k.tc (none_left w k running) asks)
+    answered = λ n o asks. elim (answered_or w.tc n o k.tc (none_left w k running) asks)
         [ inl some ↦ some | inr a ↦ absurd (nobody_waits w.tc n idle a) ];
   };
   idle = idle;

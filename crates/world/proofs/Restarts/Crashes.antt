@@ -1,5 +1,16 @@
 -- A crash of the data component, and its restart, keep what holds of a node.
-use Rattle.std.proofs.Common.{◌≡◌, ℕ, ◌<◌, ◌≤◌, Bool, true, List, length, None, refl, sym, ap, subst, arith, inl}
+use Rattle.std.proofs.Common.{◌≡◌, ℕ, ◌-◌, ◌<◌, ◌≤◌, Bool, true, List, [], ◌∷◌, length, None, refl, sym, ap, subst, arith, inl}
+use Rattle.std.specs.Prelude.{max}
+use Rattle.std.specs.List.{AllByRecursion}
+use Rattle.std.proofs.lemmas.List.{length-drop}
+use Rattle.record_key.specs.declared.entry.Entry.{Entry}
+use Rattle.record_key.proofs.Lists.{all_from}
+use Rattle.history.specs.Log.{Requests}
+use Rattle.logical_log.specs.Low.{stable_part}
+use Rattle.logical_log.specs.LogView.{last_not_session}
+use Rattle.page.specs.Leaf.{LeafView}
+use Rattle.page.specs.Honest.{IsSavedRight, IsHonestLeaf}
+use Rattle.page.specs.Tops.{top}
 use Rattle.recovery_laws.specs.Shape.{beginning}
 use Rattle.recovery_laws.specs.Recovery.{stored_session}
 use Rattle.recovery_laws.specs.Laws.{IsKeptByCuts}
@@ -13,10 +24,11 @@ use Rattle.system_txn.specs.Kept.{IsSystem}
 use Rattle.system_txn.specs.Crashed.{crashed}
 use Rattle.system_txn.proofs.AfterCrash.{all_recovered, have_beginning, crashed_kept, crashed_recoverable}
 use Rattle.system_txn.proofs.Checked.{crashed_checked}
-use Rattle.dc_core.specs.DcView.{DcView, leaves}
+use Rattle.dc_core.specs.DcView.{DcView, leaves, top_of}
 use Rattle.dc_core.specs.Kept.{IsDc}
 use Rattle.dc_core.specs.Restarting.{restarted}
-use Rattle.dc_core.proofs.KeepsDc.{nothing_saved}
+use Rattle.dc_core.proofs.KeepsDc.{keeps_opened, all_both}
+use Rattle.btree.specs.Leaves.{rows_of}
 use Rattle.dc_core.proofs.Stored.{stored_within}
 use Rattle.dc_core.specs.Serves.{runs}
 use Rattle.tc_core.specs.declared.phase.Phase.{Phase}
@@ -29,6 +41,9 @@ use Rattle.world.specs.Component.{dc_used}
 use Rattle.world.specs.Node.{NodeView, with_dc}
 use Rattle.world.specs.Kept.{IsKept, IsBegun, IsServed, IsTrueTo, IsLowAnswered}
 use Rattle.world.specs.Source.{own}
+use Rattle.world.proofs.Invariant.Captured.{entries_to, top_to}
+use Rattle.world.proofs.Invariant.LastRecord.{last_within, request_last}
+use Rattle.world.proofs.Restarts.Beginnings.{in_part, request_less}
 use Rattle.world.proofs.Invariant.Carries.{keeps_anew}
 use Rattle.world.proofs.Invariant.Running.{run_is, some_session}
 use Rattle.world.proofs.Invariant.Systems.{same_leaves, keeps_system}
@@ -37,15 +52,9 @@ use Rattle.world.proofs.Invariant.Written.{used_true}
 -- ---- what was restarted keeps its own
 
 pub restarted_kept : (v : SystemView) → IsSystem v → v.stable ≡ length v.log → IsDc (restarted v)
-restarted_kept v is all = record {
-  system = is;
-  rows = refl;
-  once = tt;
-  captured = tt;
-  saved = nothing_saved v.leaves;
-  session = inl refl;
-  stored = omega (arith, ap stored_session (whole v.log v.stable (omega (arith, all))));
-}
+restarted_kept v is all = keeps_opened v (stored_session v.log) (top_of v.leaves) (top_of v.leaves)
+    (rows_of v.leaves) []
+    is all refl refl refl refl
 
 -- ---- sessions
 
@@ -82,12 +91,35 @@ cuts_honest w leaf d cut less inside h = record {
 cuts_low : (w : TcView) → IsKeptByCuts (IsLowAnswered w.log w.stable)
 cuts_low w leaf d cut less inside h = h
 
+pub crash_honest : (w : NodeView) (n : ℕ) → IsKept w → w.dc.system.stable ≤ n
+    → AllByRecursion (IsHonestTo w.tc.log w.tc.stable) (crashed w.dc.system n).leaves
+crash_honest w n k le =
+    all_recovered (IsHonestTo w.tc.log w.tc.stable) (pages_of w.dc.system.pages) w.dc.system.log w.dc.system.stable n
+    (cuts_honest w.tc) k.recoverable.legal k.recoverable.fit le k.true_to.written
+
+-- each of their entries is of a stable request
+top_request : (w : TcView) → w.stable ≤ length w.log → (leaf : LeafView) → IsHonestTo w.log w.stable leaf
+    → top leaf ≤ last_not_session (stable_part w.log w.stable)
+top_request w within leaf h =
+    top_to (last_not_session (stable_part w.log w.stable)) leaf.ab.entries
+    (all_both (IsSavedRight w.log) (λ (e : Entry). e.number ≤ w.stable)
+    (λ (e : Entry). e.number ≤ last_not_session (stable_part w.log w.stable))
+    (λ e right sure. request_last (stable_part w.log w.stable) e.number right.op
+    (in_part (λ log. Requests log e.number right.op) w.stable
+    (λ r log le. request_less e.number right.op r log (omega (arith, sure, le))) w.log within right.requests))
+    leaf.ab.entries h.honest.saved (entries_to leaf w.stable h.within))
+
+top_sure : (w : TcView) → w.stable ≤ length w.log → (ls : List LeafView)
+    → AllByRecursion (IsHonestTo w.log w.stable) ls → top_of ls ≤ last_not_session (stable_part w.log w.stable)
+top_sure w within [] all = omega arith
+top_sure w within (leaf ∷ ls) all = omega (arith, top_request w within leaf all.0, top_sure w within ls all.1)
+
 pub crash_true : (w : NodeView) (n : ℕ) → IsKept w → w.dc.system.stable ≤ n
     → IsTrueTo w.tc (own w.tc) (crashed w.dc.system n)
 crash_true w n k le =
     let v : SystemView = w.dc.system in record {
-      leaves = all_recovered (IsHonestTo w.tc.log w.tc.stable) (pages_of v.pages) v.log v.stable n (cuts_honest w.tc)
-          k.recoverable.legal k.recoverable.fit le k.true_to.written;
+      leaves = all_from (IsHonestTo w.tc.log w.tc.stable) (IsHonestLeaf w.tc.log) (λ leaf h. h.honest)
+          (crashed v n).leaves (crash_honest w n k le);
       low = all_recovered (IsLowAnswered w.tc.log w.tc.stable) (pages_of v.pages) v.log v.stable n (cuts_low w.tc)
           k.recoverable.legal k.recoverable.fit le k.true_to.written_low;
       written = have_beginning (IsHonestTo w.tc.log w.tc.stable) (pages_of v.pages) v.log n k.true_to.written;
@@ -109,6 +141,10 @@ crash_keeps w n k le =
       recorded = omega (arith, stored_within w.dc.system.log n, k.sessions.begun.recorded);
       most = λ some. omega (arith, stored_within w.dc.system.log n, k.sessions.begun.most some);
     } in
+    let opened : top_of v.leaves ≤ last_not_session (stable_part w.tc.log w.tc.stable) =
+    top_sure w.tc k.tc.within v.leaves (crash_honest w n k le) in
+    let short : length (stable_part w.tc.log w.tc.stable) ≡ length w.tc.log - (length w.tc.log - w.tc.stable) =
+    length-drop (length w.tc.log - w.tc.stable) w.tc.log in
     keeps_anew w (restarted v) k
     (record {
       stored = least;
@@ -117,6 +153,7 @@ crash_keeps w n k le =
       checks = crashed_checked w.dc.system n k.recoverable le;
     })
     None tt (crash_kept w n k le) (crashed_recoverable w.dc.system n k.recoverable le) (crash_true w n k le) tt
+    (omega (arith, opened, last_within (stable_part w.tc.log w.tc.stable), short, k.tc.within)) opened
     (record {
       begun = begun;
       served = crash_served w.tc.phase w.tc.checkpointed w.tc.session w.tc.log w.dc v k.tc.phase begun.most least
@@ -139,6 +176,9 @@ keeps_up w tc_up dc_up k = record {
   given = k.given;
   sessions = k.sessions;
   checked = k.checked;
+  known = k.known;
+  opened = k.opened;
+  quiet = k.quiet;
 }
 
 -- a restart, also one that is refused, calls the devices

@@ -9,6 +9,7 @@ use Rattle.history.specs.Legal.{FitsCheckpoint}
 use Rattle.history.specs.Values.{HasRightAnswers}
 use Rattle.log_laws.proofs.LegalLogs.{right_rest}
 use Rattle.logical_log.specs.Low.{stable_part}
+use Rattle.logical_log.specs.LogView.{last_not_session}
 use Rattle.range_locks.specs.declared.span.Span.{Span}
 use Rattle.range_locks.specs.declared.span.Span.TheVariants.{Key, Range}
 use Rattle.codec.specs.declared.request.Request.{Request}
@@ -27,11 +28,12 @@ use Rattle.dc_core.specs.DcView.{DcView}
 use Rattle.tc_core.specs.declared.phase.Phase.{Phase}
 use Rattle.tc_core.specs.TcView.{TcView}
 use Rattle.world.specs.Node.{NodeView}
-use Rattle.world.specs.Source.{Source, IsWaiting, IsSource}
-use Rattle.world.specs.Kept.{IsKept, IsAnsweredBy, IsAnsweredTo, IsBegun, IsReadTrue, InSession, IsOlder, IsNext, AnsweredAreCaptured, IsSent, IsCaptured, IsValue, AreRows, IsGiven, IsServed, AreSessions, IsLowAnswered, IsTrueTo}
+use Rattle.world.specs.Source.{Source, IsWaiting, IsUntaken, IsSource}
+use Rattle.world.specs.Kept.{IsKept, IsAnsweredBy, IsAnsweredTo, IsBegun, IsReadTrue, InSession, IsOlder, IsNext, IsConnect, AnsweredAreCaptured, IsSent, IsCaptured, IsValue, AreRows, IsGiven, IsServed, AreSessions, IsLowAnswered, IsTrueTo}
 use Rattle.world.specs.Fallen.{IsFallen, FallenIsKept}
 use Rattle.world.proofs.Invariant.Announced.{part_grows}
 use Rattle.world.proofs.Invariant.Grows.{IsGrown, answered_on, next_on, captured_on, leaves_on, lows_on, performed_on}
+use Rattle.world.proofs.Invariant.LastRecord.{last_within, last_parts, last_left}
 use Rattle.world.proofs.Invariant.Sources.{of_source, sure_within}
 use Rattle.world.proofs.Restarts.Beginnings.{StaysTo, in_part, part_again}
 use Rattle.world.proofs.Restarts.HonestShorter.{honest_less}
@@ -74,11 +76,11 @@ record IsSourceLeft (tc : TcView) (stored : ℕ) (x : Source) : Type 0 where
 source_left : (w : NodeView) (tc : TcView) (k : IsKept w) → IsFallen w.tc tc → IsSourceLeft tc w.dc.stored k.source
 source_left w tc k f = by k.from
   where
-    none : 0 < tc.session → w.dc.stored < tc.session
-    none some = absurd (omega (arith, some, f.session))
-
-    waits : IsWaiting tc.phase
-    waits = subst IsWaiting (sym f.unconnected) tt
+    untaken : IsUntaken tc w.dc.stored
+    untaken = record {
+      waits = subst IsWaiting (sym f.unconnected) tt;
+      later = λ some. absurd (omega (arith, some, f.session));
+    }
 
     within : k.source.sure ≤ length k.source.log
     within = sure_within w.tc w.dc.stored k.source k.tc.within k.from
@@ -98,8 +100,7 @@ source_left w tc k f = by k.from
             count = omega (arith, length-drop more log, f.within);
             stable = omega (arith, f.all);
             sessions = tt;
-            waits = waits;
-            later = none;
+            untaken = untaken;
           });
           grown = of_source w.tc k.source (λ (x : Source). IsGrown x (record { log = log; sure = f.kept })) live
               (record { within = k.tc.within; log = inl refl; sure = f.stable; now_within = f.within });
@@ -121,8 +122,7 @@ source_left w tc k f = by k.from
             count = asks.count;
             stable = omega (arith, asks.stable, f.stable, f.all);
             sessions = above.sessions;
-            waits = waits;
-            later = none;
+            untaken = untaken;
           });
           grown = record { within = within; log = inl refl; sure = omega arith; now_within = within };
           same = refl;
@@ -151,7 +151,7 @@ module _ (old new : TcView) (f : IsFallen old new) where
 
   true_left : (x y : Source) (v : SystemView) → IsGrown x y → IsTrueTo old x v → IsTrueTo new y v
   true_left x y v grown h = record {
-    leaves = leaves_on x y grown v.leaves h.leaves;
+    leaves = leaves_on x y grown v.leaves h.leaves h.low;
     low = lows_on x y grown v.leaves h.low;
     written = have_all (IsHonestTo old.log old.stable) (IsHonestTo new.log new.stable) honest_left
         (pages_of v.pages) v.log h.written;
@@ -188,21 +188,36 @@ module _ (old new : TcView) (f : IsFallen old new) where
       → AnsweredAreCaptured y.log dc
   answers_left dc x y same = subst (λ log. AnsweredAreCaptured log dc) (sym same)
 
-  sent_left : (dc : DcView) (x y : Source) → IsGrown x y → y.log ≡ x.log → (q : Request) → IsSent old dc x q
+  -- what is left of the log has its last record that isn't a Session, while the component waits
+  last_stays : last_not_session old.log ≤ old.stable → last_not_session new.log ≡ last_not_session old.log
+  last_stays quiet = ap last_not_session f.log ∙ last_left old.log f.kept (omega (arith, quiet, f.stable)) f.within
+
+  connect_left : (dc : DcView) → (IsWaiting old.phase → last_not_session old.log ≤ old.stable) → (s end : ℕ)
+      → IsConnect old dc.stored s end → IsConnect new dc.stored s end
+  connect_left dc quiet s end h = record {
+    begun = begun_left s h.begun;
+    next = λ less.
+        let was = h.next less in (subst IsWaiting (sym f.unconnected) tt, was.1 ∙ sym (last_stays (quiet was.0)));
+  }
+
+  sent_left : (dc : DcView) (x y : Source) → IsGrown x y → y.log ≡ x.log
+      → (IsWaiting old.phase → last_not_session old.log ≤ old.stable) → (q : Request) → IsSent old dc x q
       → IsSent new dc y q
-  sent_left dc x y grown same (asks.Connect s) h = begun_left s h
-  sent_left dc x y grown same (asks.Perform s n o) h = (
+  sent_left dc x y grown same quiet (asks.Connect s end) h = connect_left dc quiet s end h
+  sent_left dc x y grown same quiet (asks.Perform s n stable o) h = (
     older_left s h.0,
-    in_session dc s (IsNext x dc n o) (IsNext y dc n o) (λ runs. next_on x y dc n o grown) h.1,
+    in_session dc s (IsNext x dc n stable o) (IsNext y dc n stable o) (λ runs. next_on x y dc n stable o grown) h.1,
   )
-  sent_left dc x y grown same (asks.Get s n k) h = read_left s n (λ q. q ≡ Key k) (λ q. q ≡ Key k) h
-  sent_left dc x y grown same (asks.Scan s n low high) h =
+  sent_left dc x y grown same quiet (asks.Get s n k) h = read_left s n (λ q. q ≡ Key k) (λ q. q ≡ Key k) h
+  sent_left dc x y grown same quiet (asks.Scan s n low high) h =
       read_left s n (λ q. q ≡ Range low high) (λ q. q ≡ Range low high) h
-  sent_left dc x y grown same (asks.LowWater s l) h = low_left dc x y s l grown h
-  sent_left dc x y grown same (asks.Checkpoint s l) h = low_left dc x y s l grown h
-  sent_left dc x y grown same (asks.RedoEnd s) h =
+  sent_left dc x y grown same quiet (asks.LowWater s l) h = low_left dc x y s l grown h
+  sent_left dc x y grown same quiet (asks.Checkpoint s l) h = low_left dc x y s l grown h
+  sent_left dc x y grown same quiet (asks.RedoEnd s) h =
       in_session dc s (AnsweredAreCaptured x.log dc) (AnsweredAreCaptured y.log dc)
       (λ runs. answers_left dc x y same) h
+  sent_left dc x y grown same quiet (asks.StableEnd s stable) h =
+      in_session dc s (stable ≤ x.sure) (stable ≤ y.sure) (λ runs sure. omega (arith, sure, grown.sure)) h
 
   -- an answer is told again only in a session that is taken
   given_left : (dc : DcView) (x y : Source) → IsGrown x y → (reply : Reply) → IsGiven old dc x reply
@@ -217,6 +232,18 @@ module _ (old new : TcView) (f : IsFallen old new) where
   given_left dc x y grown (says.Rows s n rows) h = read_left s n (AreRows old.log rows) (AreRows new.log rows) h
   given_left dc x y grown (says.Checkpointed s l) h = h
   given_left dc x y grown (says.RedoEnded s) h = h
+
+  -- ---- 11. what was opened
+
+  all_stable : length new.log ≤ new.stable
+  all_stable = omega (arith, f.all, ap length f.log, length-drop (length old.log - f.kept) old.log, f.within)
+
+  opened_left : (n : ℕ) → n ≤ last_not_session (stable_part old.log old.stable)
+      → n ≤ last_not_session (stable_part new.log new.stable)
+  opened_left n h =
+      let same : stable_part new.log new.stable ≡ stable_part old.log f.kept =
+      (λ i. stable_part (f.log i) (f.all i)) ∙ part_again old.log f.kept f.within in
+      omega (arith, h, last_parts old.log old.stable f.kept f.stable f.within, ap last_not_session same)
 
   -- ---- 9. sessions
 
@@ -243,10 +270,14 @@ fallen_is_kept w tc k f is =
       true_to = true_left w.tc tc f x y w.dc.system s.grown k.true_to;
       performed = performed_on x y s.grown w.dc.performed k.performed;
       answered = λ may. answers_left w.tc tc f w.dc x y s.same (k.answered may);
-      sent = all_from (IsSent w.tc w.dc x) (IsSent tc w.dc y) (sent_left w.tc tc f w.dc x y s.grown s.same) w.requests
+      sent = all_from (IsSent w.tc w.dc x) (IsSent tc w.dc y)
+          (sent_left w.tc tc f w.dc x y s.grown s.same k.quiet) w.requests
           k.sent;
       given = all_from (IsGiven w.tc w.dc x) (IsGiven tc w.dc y) (given_left w.tc tc f w.dc x y s.grown) w.replies
           k.given;
       sessions = sessions_left w.tc tc f w.dc k.sessions;
       checked = checked_less w.dc.system tc.checkpointed w.tc.checkpointed f.checkpointed k.checked;
+      known = omega (arith, k.known, s.grown.sure);
+      opened = opened_left w.tc tc f w.dc.opened_to k.opened;
+      quiet = λ waits. omega (arith, last_within tc.log, all_stable w.tc tc f);
     }

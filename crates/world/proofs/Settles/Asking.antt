@@ -11,7 +11,8 @@ use Rattle.world.specs.declared.event.Event.{Event}
 use Rattle.world.specs.declared.event.Event.TheVariants as event
 use Rattle.world.specs.declared.event.Out.{Out}
 use Rattle.world.specs.declared.event.Out.TheVariants as out
-use Rattle.world.specs.Node.{NodeView, AreUp, Sends, ReconnectsTo, RecoversTo, SendsTo, StepsTo}
+use Rattle.logical_log.specs.LogView.{last_not_session}
+use Rattle.world.specs.Node.{NodeView, AreUp, next_connect, Sends, ReconnectsTo, RecoversTo, SendsTo, StepsTo}
 use Rattle.world.specs.Rounds.{IsDone, IsExchange, IsRecovering}
 use Rattle.world.proofs.Settles.Exchanges.{HasReply, replied_once}
 use Rattle.world.proofs.Settles.Falls.{recovering_at}
@@ -41,10 +42,10 @@ is_exchange w e asked = record {
 connect_asked : (w : NodeView) (o : Out) (mid : NodeView) → ReconnectsTo w o mid → IsDone o → IsAsked w mid
 connect_asked w (out.Connects i cs) mid h d = record {
   tc = mid.tc;
-  request = asks.Connect (length w.tc.log + 1);
+  request = next_connect w.tc;
   number = i;
   sends = h.1;
-  replied = connect_replied (length w.tc.log + 1);
+  replied = connect_replied (length w.tc.log + 1) (last_not_session w.tc.log);
 }
 connect_asked w (out.Refused r) mid h d = absurd d
 connect_asked w _ mid h d = absurd h
@@ -81,12 +82,12 @@ recover_asked w recovers (out.Sent i) mid h d = record {
         let P : Phase → Type 0 = λ p. SendsAt w.tc p h.0 mid.tc in
         let redo = subst P at.2 h.1.1 in
         let Q : Request → Type 0 = HasReply in
-        subst Q (sym redo.request_is) (redo_replied w.tc.session redo.found)
+        subst Q (sym redo.request_is) (redo_replied w.tc redo.found)
     | inr at ↦
         let P : Phase → Type 0 = λ p. SendsAt w.tc p h.0 mid.tc in
         let undo = subst P at.1 h.1.1 in
         let Q : Request → Type 0 = HasReply in
-        subst Q (sym undo.request_is) (perform_replied w.tc.session at.0 undo.op)
+        subst Q (sym undo.request_is) (perform_replied w.tc.session at.0 w.tc.stable undo.op)
   ];
 }
 recover_asked w recovers out.Nothing mid h d =

@@ -18,7 +18,7 @@ use Rattle.codec.specs.declared.request.Request.TheVariants as asks
 use Rattle.codec.specs.declared.reply.Reply.{Reply}
 use Rattle.codec.specs.declared.reply.Reply.TheVariants as says
 use Rattle.dc_core.specs.DcView.{DcView, leaves, captures_at}
-use Rattle.dc_core.specs.Serves.{Serves, runs, connected, performs}
+use Rattle.dc_core.specs.Serves.{Serves, runs, connected, knows, performs}
 use Rattle.tc_core.specs.declared.open_txn.OpenTxn.{OpenTxn}
 use Rattle.tc_core.specs.declared.open_txn.Read.{Read}
 use Rattle.tc_core.specs.declared.phase.Phase.{Phase}
@@ -42,7 +42,8 @@ use Rattle.world.specs.declared.round.Round.{Round}
 use Rattle.world.specs.declared.round.Round.TheVariants as round
 use Rattle.tc_core.specs.Opened.{IsOpenedAgain}
 use Rattle.world.specs.Component.{TcSide, DcSide, dc_used}
-use Rattle.world.specs.Node.{NodeView, AreUp, with_tc, ReconnectsTo, RecoversTo, SendsTo, UndoesTo, ForcesTo, RestartsTcTo, RestartsDcTo}
+use Rattle.logical_log.specs.LogView.{last_not_session}
+use Rattle.world.specs.Node.{NodeView, AreUp, with_tc, next_connect, ReconnectsTo, RecoversTo, SendsTo, UndoesTo, ForcesTo, RestartsTcTo, RestartsDcTo}
 use Rattle.log_laws.proofs.LegalLogs.{request_number}
 use Rattle.tc_core.specs.Kept.{IsDue as IsDueLost}
 use Rattle.world.specs.Kept.{IsKept}
@@ -103,16 +104,16 @@ begins_session w k =
     omega (arith, above, later, txns, lost)
 
 -- whatever is served to a Connect, its session runs then
-connect_runs : (old : DcView) (s : ℕ) (reply : Option Reply) (new : DcView) → Serves old (asks.Connect s) reply new
-    → new.session ≡ s
-connect_runs old s reply new h = by (runs old s) refl h.1
+connect_runs : (old : DcView) (s end : ℕ) (reply : Option Reply) (new : DcView)
+    → Serves old (asks.Connect s end) reply new → new.session ≡ s
+connect_runs old s end reply new h = by (runs old s) refl h.1
   where
-    by : (b : Bool) → runs old s ≡ b → MatchBool b (new ≡ old) (new ≡ connected old s) → new.session ≡ s
+    by : (b : Bool) → runs old s ≡ b → MatchBool b (new ≡ old) (new ≡ connected old s end) → new.session ≡ s
     by true r same = ap (λ (x : DcView). x.session) same ∙ (run_is old s r).is
     by false r same = ap (λ (x : DcView). x.session) same
 
 falls_connected : (old new : NodeView) (q : Request) → IsKept old → AreUp old → IsApart old
-    → q ≡ asks.Connect (length old.tc.log + 1) → Exchanged old (reconnected old.tc) q new
+    → q ≡ next_connect old.tc → Exchanged old (reconnected old.tc) q new
     → rounds_left new < rounds_left old
 falls_connected old new q k up apart same h =
     let s : ℕ = length old.tc.log + 1 in
@@ -122,7 +123,8 @@ falls_connected old new q k up apart same h =
     let tc : TcView = record (reconnected old.tc) { phase = phase.Redoing (old.tc.checkpointed + 1) false } in
     let left : new.tc ≡ tc = h.left ∙ ap (λ x. (on_reply (reconnected old.tc) x).1) reply in
     let session : new.dc.session ≡ new.tc.session =
-    ap (λ (x : DcView). x.session) h.dc_is ∙ connect_runs old.dc s (Some h.reply) h.dc served
+    ap (λ (x : DcView). x.session) h.dc_is ∙ connect_runs old.dc s (last_not_session old.tc.log)
+    (Some h.reply) h.dc served
     ∙ sym (ap (λ (x : TcView). x.session) left) in
     omega (
       arith,
@@ -132,17 +134,21 @@ falls_connected old new q k up apart same h =
       begins_session old k,
     )
 
+abbrev IsNoConnect : Request → Type 0
+IsNoConnect (asks.Connect s end) = ⊥
+IsNoConnect _ = Unit {0}
+
 -- a request other than a Connect leaves the session
 served_session : (old : DcView) (q : Request) (reply : Option Reply) (new : DcView)
-    → ((s : ℕ) → q ≡ asks.Connect s → ⊥) → Serves old q reply new → new.session ≡ old.session
-served_session old (asks.Connect s) reply new other h = absurd (other s refl)
-served_session old (asks.Perform s n o) reply new other h = by (captures_at old (key_of o) n) h
+    → IsNoConnect q → Serves old q reply new → new.session ≡ old.session
+served_session old (asks.Connect s end) reply new other h = absurd other
+served_session old (asks.Perform s n stable o) reply new other h = by (captures_at old (key_of o) n) h
   where
     by : (b : Bool)
         → MatchBool b ((reply ≡ Some (says.Answered s n (saved_in (leaf_at (leaves old) (key_of o)).ab.entries n)))
-        × (new ≡ old))
+        × (new ≡ knows old stable))
         ((reply ≡ Some (says.Answered s n (Some (answer_in (leaf_at (leaves old) (key_of o)).rows o))))
-        × (new ≡ performs old n o)) → new.session ≡ old.session
+        × (new ≡ knows (performs old n o) stable)) → new.session ≡ old.session
     by true h = ap (λ (x : DcView). x.session) h.1
     by false h = ap (λ (x : DcView). x.session) h.1
 served_session old (asks.Get s n k) reply new other h = ap (λ (x : DcView). x.session) h.1
@@ -150,6 +156,7 @@ served_session old (asks.Scan s n low high) reply new other h = ap (λ (x : DcVi
 served_session old (asks.LowWater s l) reply new other h = ap (λ (x : DcView). x.session) h.1
 served_session old (asks.Checkpoint s l) reply new other h = ap (λ (x : DcView). x.session) h.2
 served_session old (asks.RedoEnd s) reply new other h = ap (λ (x : DcView). x.session) h.1
+served_session old (asks.StableEnd s stable) reply new other h = ap (λ (x : DcView). x.session) h.1
 
 -- whatever the answer that was awaited, the session goes on
 awaited_session : (w : TcView) (n : ℕ) (a : Option Answer) (x : Option OpenTxn)
@@ -194,20 +201,20 @@ undoing_together : (w : NodeView) (waiting : Option ℕ) → IsUndoing w waiting
 undoing_together w waiting u = record { up = u.up; on = ap is_apart u.undoing; session = u.session }
 
 -- an exchange of a request other than a Connect
-falls_within : (old new : NodeView) (tc : TcView) (q : Request) → IsTogether old → ((s : ℕ) → q ≡ asks.Connect s → ⊥)
+falls_within : (old new : NodeView) (tc : TcView) (q : Request) → IsTogether old → IsNoConnect q
     → Exchanged old tc q new → FallsTo old.tc new.tc
     → rounds_left new < rounds_left old
 falls_within old new tc q t other h f =
     falls_together old new t.up t.on t.session (h.up t.up)
     (ap (λ (x : DcView). x.session) h.dc_is ∙ served_session old.dc q (Some h.reply) h.dc other h.served) f
 
-redo_other : (s : ℕ) (found : Option (ℕ × Op)) (t : ℕ) → redo_request s found ≡ asks.Connect t → ⊥
-redo_other s None t e = cc
-redo_other s (Some x) t e = cc
+redo_other : (w : TcView) (found : Option (ℕ × Op)) → IsNoConnect (redo_request w found)
+redo_other w None = tt
+redo_other w (Some x) = tt
 
-read_other : (s n : ℕ) (q : Span) (t : ℕ) → read_request s n q ≡ asks.Connect t → ⊥
-read_other s n (Key k) t e = cc
-read_other s n (Range low high) t e = cc
+read_other : (s n : ℕ) (q : Span) → IsNoConnect (read_request s n q)
+read_other s n (Key k) = tt
+read_other s n (Range low high) = tt
 
 ended_on : (l : LosersView) → is_apart (undoing_or_running l) ≡ false
 ended_on l = by (is_none_lost l)
@@ -219,7 +226,7 @@ ended_on l = by (is_none_lost l)
 -- the next request of redo is served and answered
 falls_redo : (old new : NodeView) (next : ℕ) (ending : Bool) (found : Option (ℕ × Op)) (q : Request) → IsKept old
     → old.tc.phase ≡ phase.Redoing next ending → FindsRequest old.tc.log next old.tc.session found
-    → q ≡ redo_request old.tc.session found
+    → q ≡ redo_request old.tc found
     → Exchanged old (redoing old.tc (redo_place old.tc.session found) (not (is_some found))) q new
     → FallsTo old.tc new.tc
 falls_redo old new next ending None q k at finds is h =
@@ -233,7 +240,7 @@ falls_redo old new next ending (Some x) q k at finds is h =
     let n : ℕ = x.0 in
     let w : TcView = redoing old.tc n false in
     let P : Request → Type 0 = λ y. Serves old.dc y (Some h.reply) h.dc in
-    let sound = sound_reply old s n x.1 h.reply h.dc k finds.2 (subst P is h.served) in
+    let sound = sound_reply old s n old.tc.stable x.1 h.reply h.dc k finds.2 (subst P is h.served) in
     let taken : takes s (phase.Redoing n false) n ≡ true = rw (eq-eqb n n refl) (unstable_now n s finds.1) in
     let left : new.tc ≡ (on_awaited w n sound.answer (awaiting old.tc n)).1 =
     h.left ∙ ap (λ y. (on_reply w y).1) sound.reply_is
@@ -246,12 +253,13 @@ falls_redo old new next ending (Some x) q k at finds is h =
 
 -- the compensation that undo awaits is served and answered
 falls_resent : (old new : NodeView) (n : ℕ) (o : Op) (q : Request) → IsKept old
-    → old.tc.phase ≡ phase.Undoing (Some n) → Requests old.tc.log n o → q ≡ asks.Perform old.tc.session n o
+    → old.tc.phase ≡ phase.Undoing (Some n) → Requests old.tc.log n o
+    → q ≡ asks.Perform old.tc.session n old.tc.stable o
     → Exchanged old old.tc q new → FallsTo old.tc new.tc
 falls_resent old new n o q k at requests is h =
     let s : ℕ = old.tc.session in
     let P : Request → Type 0 = λ y. Serves old.dc y (Some h.reply) h.dc in
-    let sound = sound_reply old s n o h.reply h.dc k requests (subst P is h.served) in
+    let sound = sound_reply old s n old.tc.stable o h.reply h.dc k requests (subst P is h.served) in
     let taken : takes s old.tc.phase n ≡ true = ap (λ (p : Phase). takes s p n) at in
     let left : new.tc ≡ (on_awaited old.tc n sound.answer (awaiting old.tc n)).1 =
     h.left ∙ ap (λ y. (on_reply old.tc y).1) sound.reply_is
@@ -264,11 +272,12 @@ falls_resent old new n o q k at requests is h =
 -- an unanswered request is served and answered
 falls_exchange : (old new : NodeView) (n : ℕ) (o : Op) (x : OpenTxn) (q : Request) → IsKept old
     → old.tc.phase ≡ phase.Running → find x.txn old.tc.open_txns ≡ Some x → x.waiting ≡ Some n
-    → Requests old.tc.log n o → q ≡ asks.Perform old.tc.session n o → Exchanged old old.tc q new → FallsTo old.tc new.tc
+    → Requests old.tc.log n o → q ≡ asks.Perform old.tc.session n old.tc.stable o → Exchanged old old.tc q new
+    → FallsTo old.tc new.tc
 falls_exchange old new n o x q k running at some requests is h =
     let s : ℕ = old.tc.session in
     let P : Request → Type 0 = λ y. Serves old.dc y (Some h.reply) h.dc in
-    let sound = sound_reply old s n o h.reply h.dc k requests (subst P is h.served) in
+    let sound = sound_reply old s n old.tc.stable o h.reply h.dc k requests (subst P is h.served) in
     let taken : takes s old.tc.phase n ≡ true = ap (λ (p : Phase). takes s p n) running in
     let waits : awaiting old.tc n ≡ Some x = awaits old.tc x n k.tc at some in
     let left : new.tc ≡ (on_awaited old.tc n sound.answer (Some x)).1 =
@@ -296,8 +305,9 @@ falls_connect_round : (old new mid : NodeView) (o : Out) (os : List Out) → IsK
     → Plays mid (event.Request (length old.requests + 1) ∷ event.Reply (length old.replies + 1) ∷ []) os new
     → rounds_left new < rounds_left old
 falls_connect_round old new mid (out.Connects i cs) os k up apart h d rest =
-    let q : Request = asks.Connect (length old.tc.log + 1) in
-    let exchange = exchanged old mid mid.tc q i os new up (connect_replied (length old.tc.log + 1)) h.1 rest in
+    let q : Request = next_connect old.tc in
+    let exchange = exchanged old mid mid.tc q i os new up (connect_replied (length old.tc.log + 1)
+    (last_not_session old.tc.log)) h.1 rest in
     falls_connected old new q k up apart refl (subst (λ tc. Exchanged old tc q new) h.0.3 exchange)
 falls_connect_round old new mid (out.Refused r) os k up apart h d rest = absurd d
 falls_connect_round old new mid _ os k up apart h d rest = absurd h
@@ -312,10 +322,10 @@ falls_recover_round old new mid (out.Sent i) os next ending k t at h d rest =
     let redo = subst P at h.1.1 in
     let Q : Request → Type 0 = HasReply in
     let exchange = exchanged old mid mid.tc h.0 i os new t.up
-    (subst Q (sym redo.request_is) (redo_replied old.tc.session redo.found)) h.2 rest in
+    (subst Q (sym redo.request_is) (redo_replied old.tc redo.found)) h.2 rest in
     let E : TcView → Type 0 = λ tc. Exchanged old tc h.0 new in
     let there = subst E redo.left exchange in
-    falls_within old new _ h.0 t (λ s e. redo_other old.tc.session redo.found s (sym redo.request_is ∙ e)) there
+    falls_within old new _ h.0 t (subst IsNoConnect (sym redo.request_is) (redo_other old.tc redo.found)) there
     (falls_redo old new next ending redo.found h.0 k at redo.finds redo.request_is there)
 falls_recover_round old new mid out.Nothing os next ending k t at h d rest =
     let no : phase.Redoing next ending ≡ phase.Running = sym at ∙ h.0.1.0 in absurd (cc)
@@ -336,11 +346,11 @@ falls_resend_round old new mid (out.Sent i) os n k t at h d rest =
     let undo : ResendsUndo old.tc n h.0 mid.tc = subst P at h.1.1 in
     let Q : Request → Type 0 = HasReply in
     let exchange = exchanged old mid mid.tc h.0 i os new t.up
-    (subst Q (sym undo.request_is) (perform_replied old.tc.session n undo.op)) h.2 rest in
+    (subst Q (sym undo.request_is) (perform_replied old.tc.session n old.tc.stable undo.op)) h.2 rest in
     let E : TcView → Type 0 = λ tc. Exchanged old tc h.0 new in
     let there = subst E undo.unchanged exchange in
     falls_within old new _ h.0 t
-    (λ s e. let no : asks.Perform old.tc.session n undo.op ≡ asks.Connect s = sym undo.request_is ∙ e in cc) there
+    (subst IsNoConnect (sym undo.request_is) tt) there
     (falls_resent old new n undo.op h.0 k at undo.requests undo.request_is there)
 falls_resend_round old new mid out.Nothing os n k t at h d rest = let no : phase.Undoing (Some n) ≡ phase.Running =
     sym at ∙ h.0.1.0 in absurd (cc)
@@ -361,12 +371,12 @@ falls_exchange_round old new mid (out.Sent i) os t k serving h d rest =
     elim h.1.1 [
       | inl r ↦
           falls_within old new old.tc h.0 on
-          (λ s e. let no : asks.Perform old.tc.session r.number r.op ≡ asks.Connect s = sym r.is ∙ e in cc) exchange
+          (subst IsNoConnect (sym r.is) tt) exchange
           (falls_exchange old new r.number r.op r.open_txn h.0 k serving.running r.at.is r.waiting r.requests r.is
           exchange)
       | inr r ↦
           falls_within old new old.tc h.0 on
-          (λ s e. read_other old.tc.session r.read.number r.read.span s (sym r.is ∙ e)) exchange
+          (subst IsNoConnect (sym r.is) (read_other old.tc.session r.read.number r.read.span)) exchange
           (falls_read old new r.open_txn r.read h.0 k serving.running r.at.is r.reading r.is exchange)
     ]
 falls_exchange_round old new mid (out.Refused r) os t k serving h d rest = absurd d

@@ -14,7 +14,7 @@ use Rattle.codec.specs.declared.reply.Reply.TheVariants as says
 use Rattle.ab_lsn.specs.AbLsn.{saved_in}
 use Rattle.btree.specs.Leaves.{leaf_at, rows_of}
 use Rattle.dc_core.specs.DcView.{DcView, leaves, captures_at, value_at}
-use Rattle.dc_core.specs.Serves.{Serves, performs, range}
+use Rattle.dc_core.specs.Serves.{Serves, performs, knows, range}
 use Rattle.tc_core.specs.declared.open_txn.OpenTxn.{OpenTxn}
 use Rattle.tc_core.specs.OpenTxns.{find}
 use Rattle.tc_core.specs.TcView.{TcView}
@@ -43,15 +43,17 @@ pub record IsSoundReply (w : NodeView) (s n : ℕ) (reply : Reply) : Type 0 wher
 pub some_reply : (a b : Reply) → Some a ≡ Some b → a ≡ b
 some_reply a b e = cc
 
-pub sound_reply : (w : NodeView) (s n : ℕ) (o : Op) (reply : Reply) (dc : DcView) → IsKept w → Requests w.tc.log n o
-    → Serves w.dc (asks.Perform s n o) (Some reply) dc → IsSoundReply w s n reply
-sound_reply w s n o reply dc k requests h = pick (captures_at w.dc (key_of o) n) refl h
+pub sound_reply : (w : NodeView) (s n stable : ℕ) (o : Op) (reply : Reply) (dc : DcView) → IsKept w
+    → Requests w.tc.log n o
+    → Serves w.dc (asks.Perform s n stable o) (Some reply) dc → IsSoundReply w s n reply
+sound_reply w s n stable o reply dc k requests h = pick (captures_at w.dc (key_of o) n) refl h
   where
     pick : (b : Bool) → captures_at w.dc (key_of o) n ≡ b
         → MatchBool b ((Some reply
-        ≡ Some (says.Answered s n (saved_in (leaf_at (leaves w.dc) (key_of o)).ab.entries n))) × (dc ≡ w.dc))
+        ≡ Some (says.Answered s n (saved_in (leaf_at (leaves w.dc) (key_of o)).ab.entries n))) ×
+        (dc ≡ knows w.dc stable))
         ((Some reply ≡ Some (says.Answered s n (Some (answer_in (leaf_at (leaves w.dc) (key_of o)).rows o))))
-        × (dc ≡ performs w.dc n o)) → IsSoundReply w s n reply
+        × (dc ≡ knows (performs w.dc n o) stable)) → IsSoundReply w s n reply
     pick true captured h = record {
       answer = saved_in (leaf_at (leaves w.dc) (key_of o)).ab.entries n;
       reply_is = some_reply reply (says.Answered s n (saved_in (leaf_at (leaves w.dc) (key_of o)).ab.entries n)) h.0;
@@ -95,28 +97,28 @@ told_read w o s n (Range low high) reply kept at some h =
     ∙ (let range : is_range (span_read o.reading) ≡ true = ap (λ x. is_range (span_read x)) some in rw range refl)
 
 -- these requests have replies
-pub connect_replied : (s : ℕ) → HasReply (asks.Connect s)
-connect_replied s old new h = let e : None ≡ Some (says.Connected s) = h.0 in cc
+pub connect_replied : (s end : ℕ) → HasReply (asks.Connect s end)
+connect_replied s end old new h = let e : None ≡ Some (says.Connected s) = h.0 in cc
 
 redo_end_replied : (s : ℕ) → HasReply (asks.RedoEnd s)
 redo_end_replied s old new h = let e : None ≡ Some (says.RedoEnded s) = h.0 in cc
 
-pub perform_replied : (s n : ℕ) (o : Op) → HasReply (asks.Perform s n o)
-perform_replied s n o old new h = pick (captures_at old (key_of o) n) h
+pub perform_replied : (s n stable : ℕ) (o : Op) → HasReply (asks.Perform s n stable o)
+perform_replied s n stable o old new h = pick (captures_at old (key_of o) n) h
   where
     pick : (b : Bool)
         → MatchBool b ((None ≡ Some (says.Answered s n (saved_in (leaf_at (leaves old) (key_of o)).ab.entries n)))
-        × (new ≡ old))
+        × (new ≡ knows old stable))
         ((None ≡ Some (says.Answered s n (Some (answer_in (leaf_at (leaves old) (key_of o)).rows o))))
-        × (new ≡ performs old n o)) → ⊥
+        × (new ≡ knows (performs old n o) stable)) → ⊥
     pick true h = let e : None ≡ Some (says.Answered s n (saved_in (leaf_at (leaves old) (key_of o)).ab.entries n)) =
         h.0 in cc
     pick false h = let e : None ≡ Some (says.Answered s n (Some (answer_in (leaf_at (leaves old) (key_of o)).rows o))) =
         h.0 in cc
 
-pub redo_replied : (s : ℕ) (found : Option (ℕ × Op)) → HasReply (redo_request s found)
-redo_replied s None = redo_end_replied s
-redo_replied s (Some x) = perform_replied s x.0 x.1
+pub redo_replied : (w : TcView) (found : Option (ℕ × Op)) → HasReply (redo_request w found)
+redo_replied w None = redo_end_replied w.session
+redo_replied w (Some x) = perform_replied w.session x.0 w.stable x.1
 
 pub read_replied : (s n : ℕ) (q : Span) → HasReply (read_request s n q)
 read_replied s n (Key k) old new h = let e : None ≡ Some (says.Row s n (value_at old k)) = h.0 in cc
@@ -125,6 +127,6 @@ read_replied s n (Range low high) old new h =
 
 pub request_replied : (w : TcView) (t : ℕ) (q : Request) → IsRequestOf w t q → HasReply q
 request_replied w t q (inl r) = let P : Request → Type 0 = HasReply in
-    subst P (sym r.is) (perform_replied w.session r.number r.op)
+    subst P (sym r.is) (perform_replied w.session r.number w.stable r.op)
 request_replied w t q (inr r) = let P : Request → Type 0 = HasReply in
     subst P (sym r.is) (read_replied w.session r.read.number r.read.span)

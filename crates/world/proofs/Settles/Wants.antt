@@ -19,7 +19,7 @@ use Rattle.dc_core.specs.Serves.{session_refusal, after_redo_refusal, connect_re
 use Rattle.tc_core.specs.declared.open_txn.OpenTxn.{OpenTxn}
 use Rattle.tc_core.specs.declared.phase.Phase.{Phase}
 use Rattle.tc_core.specs.declared.phase.Phase.TheVariants as phase
-use Rattle.logical_log.specs.LogView.{is_spent as log_is_spent}
+use Rattle.logical_log.specs.LogView.{is_spent as log_is_spent, last_not_session}
 use Rattle.system_txn.specs.Gives.{is_spent}
 use Rattle.tc_core.specs.TcView.{TcView, is_waiting, waits}
 use Rattle.tc_core.specs.Causes.{resend_refusal, undo_refusal, undo_logs}
@@ -39,7 +39,7 @@ use Rattle.world.specs.declared.event.Out.{Out}
 use Rattle.world.specs.declared.event.Out.TheVariants as out
 use Rattle.world.specs.declared.round.Round.{Round}
 use Rattle.world.specs.declared.round.Round.TheVariants as round
-use Rattle.world.specs.Node.{NodeView, AreUp, LacksRoom, is_replied_to, ReconnectsTo, RecoversTo, SendsTo, sends_at}
+use Rattle.world.specs.Node.{NodeView, AreUp, next_connect, LacksRoom, is_replied_to, ReconnectsTo, RecoversTo, SendsTo, sends_at}
 use Rattle.world.specs.Kept.{IsKept, IsServed}
 use Rattle.world.specs.Rounds.{IsDone, AreRunning, IsRecovering, IsDue, IsReader, IsRolling, IsNext, IsWant, StopsAt, events_of}
 use Rattle.world.proofs.Invariant.Sends.{redoing_phase}
@@ -119,16 +119,17 @@ no_checkpoint s n (Range low high) = tt
 
 stopped_want : (dc : DcView) (q : Request) (r : Refusal) (new : DcView) → IsNoCheckpoint q → StopsServing dc q r new
     → IsWant r
-stopped_want dc (asks.Connect s) r new none h = elim h.1 [
+stopped_want dc (asks.Connect s end) r new none h = elim h.1 [
   | inl append ↦ may_want (is_spent (length dc.system.log)) r append.0
   | inr force ↦ inr (inr force.1)
 ]
-stopped_want dc (asks.Perform s n o) r new none h = inl h.1.0
+stopped_want dc (asks.Perform s n stable o) r new none h = inl h.1.0
 stopped_want dc (asks.Get s n k) r new none h = absurd h
 stopped_want dc (asks.Scan s n low high) r new none h = inl h.0
 stopped_want dc (asks.LowWater s l) r new none h = absurd h
 stopped_want dc (asks.Checkpoint s l) r new none h = absurd none
 stopped_want dc (asks.RedoEnd s) r new none h = absurd h
+stopped_want dc (asks.StableEnd s stable) r new none h = absurd h
 
 unserved_want : (x : Option Refusal) (dc : DcView) (q : Request) (r : Refusal) (new : DcView) → x ≡ None
     → IsNoCheckpoint q → StopsUnless x dc q r new → IsWant r
@@ -140,15 +141,15 @@ later_session : (w : NodeView) → IsKept w → w.dc.stored < length w.tc.log + 
 later_session w k = omega (arith, stored_recorded w k, k.tc.within)
 
 stops_connect : (w : NodeView) (r : Refusal) → IsKept w
-    → Stops w (reconnected w.tc) (asks.Connect (length w.tc.log + 1)) r → IsWant r
+    → Stops w (reconnected w.tc) (next_connect w.tc) r → IsWant r
 stops_connect w r k (inl h) = inl h
 stops_connect w r k (inr (inl h)) =
     connect_causes (λ x. LacksRoom x true r → IsWant r) w.dc (length w.tc.log + 1) (later_session w k)
     (λ room. inl room.1) (λ spent. inr (inl spent)) h
 stops_connect w r k (inr (inr (inl h))) =
-    connect_causes (λ x. StopsUnless x w.dc (asks.Connect (length w.tc.log + 1)) r h.0 → IsWant r) w.dc
+    connect_causes (λ x. StopsUnless x w.dc (next_connect w.tc) r h.0 → IsWant r) w.dc
     (length w.tc.log + 1) (later_session w k)
-    (stopped_want w.dc (asks.Connect (length w.tc.log + 1)) r h.0 tt) (λ spent. inr (inl spent.0)) h.1
+    (stopped_want w.dc (next_connect w.tc) r h.0 tt) (λ spent. inr (inl spent.0)) h.1
 stops_connect w r k (inr (inr (inr h))) =
     let reply : h.1 ≡ says.Connected (length w.tc.log + 1) =
     some_reply h.1 (says.Connected (length w.tc.log + 1)) h.3.0 in
@@ -156,15 +157,15 @@ stops_connect w r k (inr (inr (inr h))) =
 
 stops_perform : (w : NodeView) (tc : TcView) (n : ℕ) (o : Op) (r : Refusal) → IsKept w → tc.session ≡ w.tc.session
     → w.dc.session ≡ w.tc.session → 0 < w.tc.session
-    → Requests w.tc.log n o → Stops w tc (asks.Perform w.tc.session n o) r → IsWant r
+    → Requests w.tc.log n o → Stops w tc (asks.Perform w.tc.session n w.tc.stable o) r → IsWant r
 stops_perform w tc n o r k session same some requests (inl h) = inl h
 stops_perform w tc n o r k session same some requests (inr (inl h)) =
     no_room (session_refusal w.dc w.tc.session) true r (serves_session w.dc w.tc.session same some) h
 stops_perform w tc n o r k session same some requests (inr (inr (inl h))) =
-    unserved_want (session_refusal w.dc w.tc.session) w.dc (asks.Perform w.tc.session n o) r h.0
+    unserved_want (session_refusal w.dc w.tc.session) w.dc (asks.Perform w.tc.session n w.tc.stable o) r h.0
     (serves_session w.dc w.tc.session same some) tt h.1
 stops_perform w tc n o r k session same some requests (inr (inr (inr h))) =
-    let sound = sound_reply w w.tc.session n o h.1 h.0 k requests h.3 in
+    let sound = sound_reply w w.tc.session n w.tc.stable o h.1 h.0 k requests h.3 in
     reply_want tc h.1 r h.2 (ap session_of sound.reply_is ∙ sym session) (omega (arith, some, session)) h.4
 
 stops_redo_end : (w : NodeView) (tc : TcView) (r : Refusal) → tc.session ≡ w.tc.session → w.dc.session ≡ w.tc.session
@@ -218,16 +219,16 @@ want_connect : (old new mid : NodeView) (o : Out) (os : List Out) (r : Refusal) 
     → StopsAt mid (event.Request (length old.requests + 1) ∷ event.Reply (length old.replies + 1) ∷ []) os r new
     → IsWant r
 want_connect old new mid (out.Connects i cs) os r k up h d rest =
-    let s : ℕ = length old.tc.log + 1 in
-    let stop = stops old mid mid.tc (asks.Connect s) i os r new up (connect_replied s) h.1 rest in
-    stops_connect old r k (subst (λ tc. Stops old tc (asks.Connect s) r) h.0.3 stop)
+    let stop = stops old mid mid.tc (next_connect old.tc) i os r new up
+    (connect_replied (length old.tc.log + 1) (last_not_session old.tc.log)) h.1 rest in
+    stops_connect old r k (subst (λ tc. Stops old tc (next_connect old.tc) r) h.0.3 stop)
 want_connect old new mid (out.Refused q) os r k up h d rest = absurd d
 want_connect old new mid _ os r k up h d rest = absurd h
 
 stops_redo : (w : NodeView) (next : ℕ) (found : Option (ℕ × Op)) (r : Refusal) → IsKept w
     → w.dc.session ≡ w.tc.session → 0 < w.tc.session
     → FindsRequest w.tc.log next w.tc.session found
-    → Stops w (redoing w.tc (redo_place w.tc.session found) (not (is_some found))) (redo_request w.tc.session found) r
+    → Stops w (redoing w.tc (redo_place w.tc.session found) (not (is_some found))) (redo_request w.tc found) r
     → IsWant r
 stops_redo w next None r k same some finds h = stops_redo_end w (redoing w.tc w.tc.session true) r refl same some h
 stops_redo w next (Some x) r k same some finds h =
@@ -244,7 +245,7 @@ want_recover old new mid (out.Sent i) os r next ending k up at same h d rest =
     let Q : Request → Type 0 = HasReply in
     let bounds = redoing_phase old next ending k at in
     let stop = stops old mid mid.tc h.0 i os r new up
-    (subst Q (sym redo.request_is) (redo_replied old.tc.session redo.found)) h.2 rest in
+    (subst Q (sym redo.request_is) (redo_replied old.tc redo.found)) h.2 rest in
     let S : TcView → Type 0 = λ tc. Stops old tc h.0 r in
     let R : Request → Type 0 =
     λ q. Stops old (redoing old.tc (redo_place old.tc.session redo.found) (not (is_some redo.found))) q r in
@@ -272,7 +273,7 @@ want_resend old new mid (out.Sent i) os r n k up at same h d rest =
     let undo : ResendsUndo old.tc n h.0 mid.tc = subst P at h.1.1 in
     let Q : Request → Type 0 = HasReply in
     let stop = stops old mid mid.tc h.0 i os r new up
-    (subst Q (sym undo.request_is) (perform_replied old.tc.session n undo.op)) h.2 rest in
+    (subst Q (sym undo.request_is) (perform_replied old.tc.session n old.tc.stable undo.op)) h.2 rest in
     let S : TcView → Type 0 = λ tc. Stops old tc h.0 r in
     let R : Request → Type 0 = λ q. Stops old old.tc q r in
     stops_perform old old.tc n undo.op r k refl same (undoing_some old (Some n) k at) undo.requests
@@ -305,22 +306,19 @@ want_exchange old new mid (out.Refused q) os r t k serving h d rest = absurd d
 want_exchange old new mid _ os r t k serving h d rest = absurd h
 
 -- the first event of a round
-resends : (w : TcView) (t n : ℕ) → w.phase ≡ phase.Running → IsDue w t n → n ≤ w.stable → resend_refusal w t ≡ None
-resends w t n running due stable =
-    let within : nat_lt w.stable n ≡ false = grind (arith, nat_tests, stable) in
-    rw (running, due.is, due.waiting, within) refl
+resends : (w : TcView) (t n : ℕ) → w.phase ≡ phase.Running → IsDue w t n → resend_refusal w t ≡ None
+resends w t n running due = rw (running, due.is, due.waiting) refl
 
 resends_read : (w : TcView) (t : ℕ) → IsTc w → w.phase ≡ phase.Running → IsReader w t → resend_refusal w t ≡ None
 resends_read w t k running reader =
     let o : OpenTxn = reader.open_txn in
     let idle : o.waiting ≡ None =
     (reading_at w o reader.read k (found_own t w.open_txns o reader.is) reader.reading).idle in
-    let within : nat_lt w.stable 0 ≡ false = grind (arith, nat_tests) in
-    rw (running, reader.is, idle, reader.reading, within) refl
+    rw (running, reader.is, idle, reader.reading) refl
 
 resends_any : (w : TcView) (t : ℕ) → IsTc w → w.phase ≡ phase.Running
     → ((n : ℕ) × IsDue w t n × (n ≤ w.stable)) ⊎ IsReader w t → resend_refusal w t ≡ None
-resends_any w t k running (inl due) = resends w t due.0 running due.1 due.2
+resends_any w t k running (inl due) = resends w t due.0 running due.1
 resends_any w t k running (inr reader) = resends_read w t k running reader
 
 undo_want : (w : TcView) (t : ℕ) (r : Refusal) (new : TcView) → w.phase ≡ phase.Running → IsRolling w t
@@ -341,7 +339,7 @@ reconnect_want w r new (inr h) = inr (inr h.1)
 may_recover : (w : NodeView) → IsRecovering w.tc.stable w.tc.phase → recover_refusal w.tc ≡ None
 may_recover w recovering = elim (recovering_at w w.tc.phase refl recovering) [
   | inl at ↦ rw at.2 refl
-  | inr at ↦ let within : nat_lt w.tc.stable at.0 ≡ false = grind (arith, nat_tests, at.2) in rw (at.1, within) refl
+  | inr at ↦ rw at.1 refl
 ]
 
 recover_want : (w : NodeView) (r : Refusal) (new : NodeView) → RecoversTo w (out.Refused r) new
@@ -380,7 +378,8 @@ wants old new round.RestartTc [] r k next (inr h) =
     elim h.step.0.1 [ inl memory ↦ inl memory | inr device ↦ inr (inr device) ]
 wants old new round.RestartTc (o ∷ os) r k next h = absurd h.3
 wants old new round.Connect [] r k next (inl h) = inl h.0
-wants old new round.Connect [] r k next (inr h) = reconnect_want old.tc r new.tc (MatchBool-at_true _ _ next.0.tc h.step).0
+wants old new round.Connect [] r k next (inr h) = reconnect_want old.tc r new.tc
+    (MatchBool-at_true _ _ next.0.tc h.step).0
 wants old new round.Connect (o ∷ os) r k next h =
     want_connect old new h.0 o os r k next.0 (MatchBool-at_true _ _ next.0.tc h.1.step) h.2 h.3
 wants old new round.Recover [] r k next (inl h) = inl h.0
@@ -393,7 +392,8 @@ wants old new round.Recover (o ∷ os) r k next h =
       | inr at ↦ want_resend old new h.0 o os r at.0 k next.0 at.1 next.2 step h.2 h.3
     ]
 wants old new round.Lose [] r k next (inl h) = inl h.0
-wants old new round.Lose [] r k next (inr h) = lose_want old r new next.undoing (MatchBool-at_true _ _ next.up.tc h.step)
+wants old new round.Lose [] r k next (inr h) = lose_want old r new next.undoing
+    (MatchBool-at_true _ _ next.up.tc h.step)
 wants old new round.Lose (o ∷ os) r k next h = absurd h.3
 wants old new (round.Exchange t) [] r k next (inl h) = inl h.0
 wants old new (round.Exchange t) [] r k next (inr h) =

@@ -56,7 +56,7 @@ impl Chooser {
 
     fn op(&mut self) -> Result<Op, Refusal> {
         let key = self.key()?;
-        Ok(match self.below(10) {
+        Ok(match self.below(14) {
             0 => Op::Insert(key, self.value()?),
             1 => Op::Update(key, self.value()?),
             2 | 3 => Op::Upsert(key, self.value()?),
@@ -140,9 +140,23 @@ impl Chooser {
         }
     }
 
+    /// Whether the transaction component crashes now that a client was answered, perhaps of what isn't stable.
+    fn loses(&mut self) -> bool {
+        matches!(self.last, Out::Answered { .. }) && self.below(24) == 0
+    }
+
     /// Whether those whom a crash found open are to be undone further.
     fn undoes(&mut self, model: &Model) -> bool {
         !model.losers.is_empty() && !is_amid(&self.last) && self.below(10) == 0
+    }
+
+    /// What was logged is sent at once, or once it is stable.
+    fn send_or_force(&mut self, txn: u64) -> Event {
+        if self.below(2) == 0 {
+            Event::Send { txn }
+        } else {
+            Event::Force
+        }
     }
 
     /// What would go on from the last event.
@@ -150,9 +164,13 @@ impl Chooser {
         if self.undoes(model) {
             return Ok(Event::Recover);
         }
+        if self.loses() {
+            let bytes = self.below(40);
+            return Ok(Event::CrashTc { frames: 0, bytes });
+        }
         let txn = self.txn;
         Ok(match &self.last {
-            Out::Logged(_) | Out::Compensated(_) => Event::Force,
+            Out::Logged(_) | Out::Compensated(_) => self.send_or_force(txn),
             Out::Stable { .. } | Out::Asked(_) => Event::Send { txn },
             Out::Sent(number) => Event::Request { number: *number },
             Out::Replied(number) => Event::Reply { number: *number },
@@ -169,7 +187,7 @@ impl Chooser {
     /// Any event.
     pub fn any(&mut self, model: &Model, world: &World) -> Result<Event, Refusal> {
         let txn = self.txn;
-        Ok(match self.below(226) {
+        Ok(match self.below(228) {
             0..=79 => Event::Request {
                 number: self.earlier(world.requests()),
             },
@@ -191,6 +209,7 @@ impl Chooser {
             211 => Event::RestartDc,
             212 => Event::RestartTc,
             213..=218 => Event::Checkpoint,
+            219 | 220 => Event::Tell,
             _ => self.call(model)?,
         })
     }

@@ -1,4 +1,4 @@
-//! How far a walk came.
+//! How far the walks came.
 use client_model::Model;
 use record_key::{Answer, Op, Refusal};
 use std::process::Abort;
@@ -36,7 +36,9 @@ pub struct Counts {
     restarts: u64,
     /// Restarts of the transaction component.
     reopened: u64,
-    /// Whom they found open.
+    /// Operations that were answered and that a crash of it has lost.
+    lost_answers: u64,
+    /// Whom the restarts found open.
     losers: u64,
     lost: u64,
     /// Beginnings, operations and reads of clients beside those who are to be undone.
@@ -70,6 +72,7 @@ impl Counts {
             crashes: 0,
             restarts: 0,
             reopened: 0,
+            lost_answers: 0,
             losers: 0,
             lost: 0,
             beside_losers: 0,
@@ -80,6 +83,11 @@ impl Counts {
     pub fn count_losers(&mut self, losers: &[u64]) {
         more(&mut self.reopened, 1);
         more(&mut self.losers, losers.len());
+    }
+
+    /// So many operations that were answered don't stand in the log that was kept.
+    pub fn count_lost_answers(&mut self, lost: usize) {
+        more(&mut self.lost_answers, lost);
     }
 
     /// Counts what an event came to. The model doesn't know of it yet.
@@ -148,7 +156,7 @@ impl Counts {
         }
     }
 
-    /// The walk wasn't hollow.
+    /// The walks weren't hollow.
     pub fn assert_enough(&self, rt: &impl Abort) {
         self.assert_steps(rt);
         self.assert_increments(rt);
@@ -159,48 +167,49 @@ impl Counts {
     }
 
     fn assert_steps(&self, rt: &impl Abort) {
-        assert!(rt; self.answers > 60, "{self:?}");
-        assert!(rt; self.reads > 30, "{self:?}");
-        assert!(rt; self.undone > 15, "{self:?}");
-        assert!(rt; self.savepoints > 100, "{self:?}");
+        assert!(rt; self.answers > 240, "{self:?}");
+        assert!(rt; self.reads > 120, "{self:?}");
+        assert!(rt; self.undone > 60, "{self:?}");
+        assert!(rt; self.savepoints > 400, "{self:?}");
     }
 
     fn assert_increments(&self, rt: &impl Abort) {
-        assert!(rt; self.added > 10, "{self:?}");
-        assert!(rt; self.not_numbers > 2, "{self:?}");
-        assert!(rt; self.beside_adders > 10, "{self:?}");
-        assert!(rt; self.overtaking > 0, "{self:?}");
+        assert!(rt; self.added > 40, "{self:?}");
+        assert!(rt; self.not_numbers > 8, "{self:?}");
+        assert!(rt; self.beside_adders > 40, "{self:?}");
+        assert!(rt; self.overtaking > 3, "{self:?}");
     }
 
     fn assert_ends(&self, rt: &impl Abort) {
-        assert!(rt; self.backs > 5, "{self:?}");
-        assert!(rt; self.rolled_back > 12, "{self:?}");
-        assert!(rt; self.committed > 30, "{self:?}");
-        assert!(rt; self.sessions > 3, "{self:?}");
+        assert!(rt; self.backs > 20, "{self:?}");
+        assert!(rt; self.rolled_back > 48, "{self:?}");
+        assert!(rt; self.committed > 120, "{self:?}");
+        assert!(rt; self.sessions > 12, "{self:?}");
     }
 
     fn assert_leaves(&self, rt: &impl Abort) {
-        assert!(rt; self.splits > 10, "{self:?}");
-        assert!(rt; self.merges > 10, "{self:?}");
-        assert!(rt; self.flushes > 10, "{self:?}");
-        assert!(rt; self.checkpoints > 0, "{self:?}");
-        assert!(rt; self.crashes > 5, "{self:?}");
-        assert!(rt; self.restarts > 5, "{self:?}");
+        assert!(rt; self.splits > 40, "{self:?}");
+        assert!(rt; self.merges > 40, "{self:?}");
+        assert!(rt; self.flushes > 40, "{self:?}");
+        assert!(rt; self.checkpoints > 3, "{self:?}");
+        assert!(rt; self.crashes > 20, "{self:?}");
+        assert!(rt; self.restarts > 20, "{self:?}");
     }
 
     fn assert_losers(&self, rt: &impl Abort) {
-        assert!(rt; self.reopened > 4, "{self:?}");
-        assert!(rt; self.losers > 20, "{self:?}");
-        assert!(rt; self.lost > 20, "{self:?}");
-        assert!(rt; self.beside_losers > 20, "{self:?}");
-        assert!(rt; self.busy_loser > 3, "{self:?}");
+        assert!(rt; self.reopened > 16, "{self:?}");
+        assert!(rt; self.lost_answers > 8, "{self:?}");
+        assert!(rt; self.losers > 80, "{self:?}");
+        assert!(rt; self.lost > 80, "{self:?}");
+        assert!(rt; self.beside_losers > 80, "{self:?}");
+        assert!(rt; self.busy_loser > 12, "{self:?}");
     }
 
     fn assert_refusals(&self, rt: &impl Abort) {
-        assert!(rt; self.busy > 150, "{self:?}");
-        assert!(rt; self.busy_committing > 1, "{self:?}");
-        assert!(rt; self.full > 0, "{self:?}");
-        assert!(rt; self.bad_savepoint > 20, "{self:?}");
+        assert!(rt; self.busy > 600, "{self:?}");
+        assert!(rt; self.busy_committing > 4, "{self:?}");
+        assert!(rt; self.full > 3, "{self:?}");
+        assert!(rt; self.bad_savepoint > 80, "{self:?}");
     }
 }
 

@@ -20,19 +20,33 @@ pub struct Walk {
     /// The log at the latest crash of the transaction component, and how many of its records had to be kept.
     crashed: Vec<Record>,
     least: u64,
-    pub counts: Counts,
+    counts: Counts,
 }
 
 impl Walk {
-    pub fn new(alloc: Global, seed: u64) -> Result<Walk, Refusal> {
+    /// Another walk after those that were counted.
+    pub fn new(alloc: Global, seed: u64, counts: Counts) -> Result<Walk, Refusal> {
         Ok(Walk {
             world: World::new(alloc)?,
             model: Model::new(alloc),
             chooser: Chooser::new(seed),
             crashed: Vec::new(alloc),
             least: 0,
-            counts: Counts::new(),
+            counts,
         })
+    }
+
+    /// How far it and those before it came.
+    pub fn into_counts(self) -> Counts {
+        let Walk {
+            world: _,
+            model: _,
+            chooser: _,
+            crashed: _,
+            least: _,
+            counts,
+        } = self;
+        counts
     }
 
     /// One event: two of three go on from the last, the others are any.
@@ -87,6 +101,8 @@ impl Walk {
         };
         let log = self.found(alloc, *count as usize)?;
         self.assert_found(rt, &log);
+        self.counts
+            .count_lost_answers(self.model.lines.answered_above(*count));
         self.model.restart(alloc, &log)?;
         self.counts.count_losers(&self.model.losers);
         Ok(())

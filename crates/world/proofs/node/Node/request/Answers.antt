@@ -13,8 +13,8 @@ use Rattle.world.proofs.node.Node.request.Goals as goal
 pub serve_allowed-requires-clause-numbers : goal.serve_allowed-requires-clause-numbers
 serve_allowed-requires-clause-numbers c = numbers_spelled c.in-Ok.value c.in-Ok.ensures.spelled
 
-pub serve_allowed-requires-clause-key : goal.serve_allowed-requires-clause-key
-serve_allowed-requires-clause-key c =
+pub serve_allowed-requires-clause-owed : goal.serve_allowed-requires-clause-owed
+serve_allowed-requires-clause-owed c =
     let w = seen c.args.self.now in
     let q = c.in-Ok.value in
     let k = c.requires in
