@@ -2,3 +2,4 @@ pub mod Invariant
 pub mod Restarts
 pub mod Machine
 pub mod Settles
+pub mod Halves

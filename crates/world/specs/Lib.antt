@@ -12,3 +12,4 @@ pub mod Bound
 pub mod Rounds
 pub mod Fallen
 pub mod Promises
+pub mod Halves

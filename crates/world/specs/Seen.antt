@@ -18,10 +18,10 @@ dc_of (dc_is.Down component) = record { up = false; dc = component }
 
 abbrev pub seen : Node → NodeView
 seen n = record {
-  tc_up = (tc_of n.tc).up;
-  tc = (tc_of n.tc).tc;
-  dc_up = (dc_of n.dc).up;
-  dc = (dc_of n.dc).dc;
+  tc_up = n.tc.up;
+  tc = n.tc.tc;
+  dc_up = n.dc.up;
+  dc = n.dc.dc;
   requests = n.requests.messages;
   replies = n.replies.messages;
 }

@@ -1,46 +1,75 @@
 //! The calls of the data component, and the requests that reach it.
-ghost use Rattle.std.specs.Prelude.{◌≡◌};
-ghost use Rattle.world.specs.Kept.{IsKept};
-ghost use Rattle.world.specs.Node.{ServesTo, IfDcUp, PartsTo, JoinsTo, KeepsUpTo, WritesTo, is_replied_to};
-ghost use Rattle.world.specs.Seen.{seen};
+ghost use Rattle.std.specs.Prelude.{◌≡◌, false, None, IfSome};
+ghost use Rattle.codec.specs.Requests.{HasRequestNumbers};
+ghost use Rattle.dc_core.specs.Serves.{MayAsk};
+ghost use Rattle.system_txn.specs.Kept.{IsRecoverable};
+ghost use Rattle.world.specs.Halves.{of_tc, MayDc, HasRoom, IsOrderedIf, DcGives, DcCalls, DcServes};
+ghost use Rattle.world.specs.Node.{is_replied_to};
+ghost use Rattle.world.specs.Seen.{dc_of};
 
 use crate::attempt::attempt;
 use crate::data_component::DataComponent;
-use crate::event::Out;
-use crate::node::Node;
-use codec::Request;
+use crate::event::{Event, Out};
+use crate::tc_events::number_if;
+use codec::{Reply, Request};
 use dc_core::Tended;
 use record_key::{Key, Refusal};
+use std::alloc::Global;
 
-impl Node {
-    #[inline(never)]
-    pub fn split(&mut self, key: &Key) -> Out
-        ensures done { IfDcUp (seen self.old) result (seen self.new)
-            (PartsTo (seen self.old) key.now result (seen self.new)) }
+impl DataComponent {
+    /// One of its events. What it replies has the number `next`; where that is None there is no room for it.
+    pub fn happen(
+        &mut self,
+        alloc: Global,
+        event: &Event,
+        request: &Option<Request>,
+        next: Option<u64>,
+        reply: &mut Option<Reply>,
+    ) -> Out
+        requires own { of_tc event.now ≡ false }
+        requires may { MayDc (dc_of self.old) event.now request.now }
+        requires none { reply.old ≡ None }
+        ensures gives { DcGives (dc_of self.old) next event.now request.now result reply.new (dc_of self.new) }
+        ensures spelled { IsOrderedIf reply.new }
+        ensures room { HasRoom next reply.new }
     {
-        match &mut self.dc {
+        match event {
+            Event::Split { key } => self.split(key),
+            Event::Merge { key } => self.merge(key),
+            Event::Tend => self.tend(),
+            Event::Flush { key } => self.flush(key),
+            Event::Request { .. } => self.serve(request, next, reply),
+            Event::CrashDc { frames, bytes } => self.fall(alloc, *frames, *bytes),
+            Event::RestartDc => self.rise(alloc),
+            _ => unreachable!(),
+        }
+    }
+
+    #[inline(never)]
+    fn split(&mut self, key: &Key) -> Out
+        ensures { DcCalls (dc_of self.old) (Event.Split key.now) result (dc_of self.new) }
+    {
+        match self {
             DataComponent::Up(dc) => Out::Split(attempt!(dc.split(key))),
             DataComponent::Down(_) => Out::Refused(Refusal::NotConnected),
         }
     }
 
     #[inline(never)]
-    pub fn merge(&mut self, key: &Key) -> Out
-        ensures done { IfDcUp (seen self.old) result (seen self.new)
-            (JoinsTo (seen self.old) key.now result (seen self.new)) }
+    fn merge(&mut self, key: &Key) -> Out
+        ensures { DcCalls (dc_of self.old) (Event.Merge key.now) result (dc_of self.new) }
     {
-        match &mut self.dc {
+        match self {
             DataComponent::Up(dc) => Out::Merged(attempt!(dc.merge(key))),
             DataComponent::Down(_) => Out::Refused(Refusal::NotConnected),
         }
     }
 
     #[inline(never)]
-    pub fn tend(&mut self) -> Out
-        ensures done { IfDcUp (seen self.old) result (seen self.new)
-            (KeepsUpTo (seen self.old) result (seen self.new)) }
+    fn tend(&mut self) -> Out
+        ensures { DcCalls (dc_of self.old) Event.Tend result (dc_of self.new) }
     {
-        let DataComponent::Up(dc) = &mut self.dc else {
+        let DataComponent::Up(dc) = self else {
             return Out::Refused(Refusal::NotConnected);
         };
         match attempt!(dc.tend()) {
@@ -51,37 +80,64 @@ impl Node {
     }
 
     #[inline(never)]
-    pub fn flush(&mut self, key: &Key) -> Out
-        ensures done { IfDcUp (seen self.old) result (seen self.new)
-            (WritesTo (seen self.old) key.now result (seen self.new)) }
+    fn flush(&mut self, key: &Key) -> Out
+        ensures { DcCalls (dc_of self.old) (Event.Flush key.now) result (dc_of self.new) }
     {
-        match &mut self.dc {
+        match self {
             DataComponent::Up(dc) => Out::Flushed(attempt!(dc.flush(key))),
             DataComponent::Down(_) => Out::Refused(Refusal::NotConnected),
         }
     }
 
     #[inline(never)]
-    pub fn request(&mut self, number: u64) -> Out
-        requires { IsKept (seen self.old) }
-        ensures done { IfDcUp (seen self.old) result (seen self.new)
-            (ServesTo (seen self.old) number result (seen self.new)) }
+    fn serve(
+        &mut self,
+        request: &Option<Request>,
+        next: Option<u64>,
+        reply: &mut Option<Reply>,
+    ) -> Out
+        requires numbers { IfSome request.now HasRequestNumbers }
+        requires owed { IfSome request.now (MayAsk (dc_of self.old).dc) }
+        requires none { reply.old ≡ None }
+        ensures { DcServes (dc_of self.old) next request.now result reply.new (dc_of self.new) }
     {
-        let DataComponent::Up(dc) = &mut self.dc else {
+        let DataComponent::Up(dc) = self else {
             return Out::Refused(Refusal::NotConnected);
         };
-        let request = attempt!(self.requests.message(number));
-        attempt!(dc.allows(&request));
-        if has_reply(&request) {
-            attempt!(self.replies.make_room());
-        }
-        match attempt!(dc.serve_allowed(&request)) {
+        let Some(request) = request else {
+            return Out::Refused(Refusal::Unsent);
+        };
+        attempt!(dc.allows(request));
+        let number = attempt!(number_if(has_reply(request), next));
+        match attempt!(dc.serve_allowed(request)) {
             None => Out::Noted,
-            Some(reply) => {
-                // Only rows may lack room, and whoever reads them changes nothing.
-                attempt!(self.replies.push(&reply));
-                Out::Replied(self.replies.len())
+            Some(given) => {
+                *reply = Some(given);
+                Out::Replied(number)
             }
+        }
+    }
+
+    /// Its crash, as an event.
+    fn fall(&mut self, alloc: Global, frames: u64, bytes: u64) -> Out
+        requires { IsRecoverable (dc_of self.old).dc.system }
+        ensures { DcCalls (dc_of self.old) (Event.CrashDc frames bytes) result (dc_of self.new) }
+    {
+        if self.crash(alloc, frames, bytes) {
+            Out::Down
+        } else {
+            Out::Nothing
+        }
+    }
+
+    /// Its restart, as an event.
+    fn rise(&mut self, alloc: Global) -> Out
+        requires { IsRecoverable (dc_of self.old).dc.system }
+        ensures { DcCalls (dc_of self.old) Event.RestartDc result (dc_of self.new) }
+    {
+        match attempt!(self.restart(alloc)) {
+            Some(leaves) => Out::Up(leaves as u64),
+            None => Out::Nothing,
         }
     }
 }

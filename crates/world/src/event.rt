@@ -1,4 +1,7 @@
 //! What may happen to a node, and what comes of it.
+ghost use Rattle.std.specs.Prelude.{◌≡◌};
+ghost use Rattle.world.specs.Halves.{of_tc};
+
 use codec::Rows;
 use dc_core::Neighbours;
 use record_key::{Answer, Key, Op, Refusal, Value};
@@ -96,6 +99,24 @@ pub enum Event {
         bytes: u64,
     },
     RestartDc,
+}
+
+impl Event {
+    /// Whether it is one of the transaction component; the others are the data component's.
+    pub fn is_of_tc(&self) -> bool
+        ensures { result ≡ of_tc self.now }
+    {
+        !matches!(
+            self,
+            Event::Split { .. }
+                | Event::Merge { .. }
+                | Event::Tend
+                | Event::Flush { .. }
+                | Event::Request { .. }
+                | Event::CrashDc { .. }
+                | Event::RestartDc
+        )
+    }
 }
 
 /// What an event came to.

@@ -1,4 +1,5 @@
-//! The node: one transaction component, one data component, and every message between them.
+//! The node: one transaction component, one data component, and every message between them. Each component is half of
+//! it, and may step alone.
 //!
 //! Knows: the calls of the two components, and the list machine that clients may rely on.
 //! Must not know: how either component keeps its state.
@@ -11,6 +12,7 @@ mod attempt;
 mod crashing;
 mod data_component;
 mod dc_events;
+mod dc_side;
 mod driving;
 mod event;
 mod found;
@@ -24,13 +26,16 @@ mod settling;
 mod stopped;
 mod stopped_tc;
 mod tc_events;
+mod tc_side;
 mod transaction_component;
 mod world;
 
 pub use dc_core::Neighbours;
+pub use dc_side::DcSide;
 pub use driving::drive;
 pub use event::{Event, Out};
 pub use laws::fallen_law;
 pub use round::Round;
 pub use settling::settle;
+pub use tc_side::TcSide;
 pub use world::World;

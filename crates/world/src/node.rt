@@ -1,16 +1,17 @@
 //! The two components, and the messages between them.
-ghost use Rattle.std.specs.Prelude.{◌≡◌, IfOk, IfErr};
-ghost use Rattle.world.specs.Node.{fresh_node, StepsTo, CrashesTcTo, RestartsTcTo, CrashesDcTo, RestartsDcTo};
+ghost use Rattle.std.specs.Prelude.{◌≡◌, true, None, IfOk, IfErr, OnSome};
+ghost use Rattle.world.specs.Node.{fresh_node, StepsTo};
 ghost use Rattle.dc_core.specs.Kept.{IsDc};
 ghost use Rattle.tc_core.specs.Kept.{IsTc};
+ghost use Rattle.world.specs.Halves.{of_tc, IsNextNumber, BringsReply};
 ghost use Rattle.world.specs.Kept.{IsKept};
 ghost use Rattle.world.specs.Seen.{seen};
 
 use crate::attempt::attempt;
-use crate::data_component::DataComponent;
+use crate::dc_side::DcSide;
 use crate::event::{Event, Out};
 use crate::sent::Sent;
-use crate::transaction_component::TransactionComponent;
+use crate::tc_side::TcSide;
 use codec::{Reply, Request};
 use record_key::Refusal;
 use std::alloc::Global;
@@ -18,9 +19,8 @@ use std::alloc::Global;
 /// A transaction component with its log in memory, a data component with its devices, and every message ever sent.
 #[derive(Drop)]
 pub struct Node {
-    alloc: Global,
-    pub tc: TransactionComponent,
-    pub dc: DataComponent,
+    pub tc: TcSide,
+    pub dc: DcSide,
     pub requests: Sent<Request>,
     pub replies: Sent<Reply>,
 }
@@ -31,11 +31,10 @@ impl Node {
         ensures dc { IfOk result (λ node. IsDc (seen node).dc) }
         ensures memory { IfErr result (λ refusal. refusal ≡ Refusal.NoMemory) }
     {
-        let dc = DataComponent::new(alloc)?;
+        let dc = DcSide::new(alloc)?;
         dc.kept();
         Ok(Node {
-            alloc,
-            tc: TransactionComponent::new(alloc),
+            tc: TcSide::new(alloc),
             dc,
             requests: Sent::new(alloc),
             replies: Sent::new(alloc),
@@ -57,75 +56,75 @@ impl Node {
 
     fn happen(&mut self, event: &Event) -> Out
         requires { IsKept (seen self.old) }
-        ensures done { StepsTo (seen self.old) event.now result (seen self.new) }
+        ensures { StepsTo (seen self.old) event.now result (seen self.new) }
     {
         match event {
-            Event::Reconnect => self.reconnect(),
-            Event::Recover => self.recover(),
-            Event::Begin => self.begin(),
-            Event::Act { txn, op } => self.act(*txn, op),
-            Event::Get { txn, key } => self.get(*txn, key),
-            Event::Scan { txn, low, high } => self.scan(*txn, low, high),
-            Event::Save { txn } => self.save(*txn),
-            Event::GoBack { txn, savepoint } => self.go_back(*txn, *savepoint),
-            Event::Rollback { txn } => self.rollback(*txn),
-            Event::Commit { txn } => self.commit(*txn),
-            Event::Undo { txn } => self.undo(*txn),
-            Event::Force => self.force(),
-            Event::Send { txn } => self.send(*txn),
-            Event::LowWater { low } => self.low_water(*low),
-            Event::Checkpoint => self.checkpoint(),
-            Event::Tell => self.tell(),
-            Event::Split { key } => self.split(key),
-            Event::Merge { key } => self.merge(key),
-            Event::Tend => self.tend(),
-            Event::Flush { key } => self.flush(key),
-            Event::Request { number } => self.request(*number),
-            Event::Reply { number } => self.reply(*number),
-            Event::CrashTc { frames, bytes } => self.crash_tc(*frames, *bytes),
-            Event::RestartTc => self.restart_tc(),
-            Event::CrashDc { frames, bytes } => self.crash_dc(*frames, *bytes),
-            Event::RestartDc => self.restart_dc(),
+            Event::Reply { number } => self.take(*number),
+            Event::Request { number } => self.serve(*number),
+            _ if event.is_of_tc() => self.call(event),
+            _ => self.dc.step(event, &None, None, &mut None),
         }
     }
 
-    fn crash_tc(&mut self, frames: u64, bytes: u64) -> Out
-        ensures done { CrashesTcTo (seen self.old) frames bytes result (seen self.new) }
+    /// An event of the transaction component that takes no reply.
+    fn call(&mut self, event: &Event) -> Out
+        requires own { of_tc event.now ≡ true }
+        requires alone { BringsReply (seen self.old).replies event.now None }
+        ensures { StepsTo (seen self.old) event.now result (seen self.new) }
     {
-        if self.tc.crash(self.alloc, frames, bytes) {
-            Out::Down
-        } else {
-            Out::Nothing
-        }
+        let next = next_of(&mut self.requests, event);
+        let mut request = None;
+        let out = self.tc.step(event, None, next, &mut request);
+        let Some(request) = request else {
+            return out;
+        };
+        self.requests.push_reserved(&request);
+        out
     }
 
-    fn restart_tc(&mut self) -> Out
-        ensures done { RestartsTcTo (seen self.old) result (seen self.new) }
+    /// The reply of this number reaches the transaction component.
+    fn take(&mut self, number: u64) -> Out
+        ensures { StepsTo (seen self.old) (Event.Reply number) result (seen self.new) }
     {
-        match attempt!(self.tc.restart(self.alloc)) {
-            Some(records) => Out::Up(records),
-            None => Out::Nothing,
-        }
+        let session = attempt!(self.tc.session());
+        let reply = attempt!(self.replies.of_session(number, session));
+        self.tc
+            .step(&Event::Reply { number }, Some(reply), None, &mut None)
     }
 
-    fn crash_dc(&mut self, frames: u64, bytes: u64) -> Out
+    /// The request of this number reaches the data component.
+    fn serve(&mut self, number: u64) -> Out
         requires { IsKept (seen self.old) }
-        ensures done { CrashesDcTo (seen self.old) frames bytes result (seen self.new) }
+        ensures { StepsTo (seen self.old) (Event.Request number) result (seen self.new) }
     {
-        if self.dc.crash(self.alloc, frames, bytes) {
-            Out::Down
-        } else {
-            Out::Nothing
-        }
+        let request = self.requests.request(number);
+        let next = self.replies.next();
+        let mut reply = None;
+        let out = self
+            .dc
+            .step(&Event::Request { number }, &request, next, &mut reply);
+        let Some(reply) = reply else {
+            return out;
+        };
+        // Only rows may lack room, and whoever reads them changes nothing.
+        attempt!(self.replies.push(&reply));
+        out
     }
+}
 
-    fn restart_dc(&mut self) -> Out
-        requires { IsKept (seen self.old) }
-        ensures done { RestartsDcTo (seen self.old) result (seen self.new) }
-    {
-        match attempt!(self.dc.restart(self.alloc)) {
-            Some(leaves) => Out::Up(leaves as u64),
-            None => Out::Nothing,
-        }
+/// The number of the request that the event may send; room for it is made.
+fn next_of(requests: &mut Sent<Request>, event: &Event) -> Option<u64>
+    ensures same { requests.new.messages ≡ requests.old.messages }
+    ensures number { IsNextNumber requests.old.messages result }
+    ensures room { OnSome result (requests.new.has_room ≡ true) }
+{
+    match event {
+        Event::Reconnect
+        | Event::Recover
+        | Event::Send { .. }
+        | Event::LowWater { .. }
+        | Event::Checkpoint
+        | Event::Tell => requests.next(),
+        _ => None,
     }
 }

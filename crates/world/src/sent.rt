@@ -1,15 +1,16 @@
 //! Messages as they were sent: their frames one after another in one buffer, and an index of places. What was sent
 //! stays: a message may be delivered any number of times, late, or never.
-ghost use Rattle.std.specs.Prelude.{◌≡◌, ◌++◌, ◌∷◌, ◌⊎◌, [], true, false, length, None, Some, IfOk, IfErr, OnOk, OnErr};
+ghost use Rattle.std.specs.Prelude.{◌≡◌, ◌<◌, ◌++◌, ◌∷◌, ◌⊎◌, [], true, false, length, None, Some, IfOk, IfErr, OnOk, OnErr, OnSome};
 ghost use Rattle.codec.specs.FrameIndex.{places_of, Indexes};
 ghost use Rattle.codec.specs.Replies.{session_of};
+ghost use Rattle.world.specs.Halves.{IsNextNumber, IsSpelledIf};
 ghost use Rattle.world.specs.Messages.{message_at};
 ghost use Rattle.world.specs.Node.{IsUnsent};
 ghost use Rattle.tc_core.specs.Replies.{is_of_another};
 ghost use Rattle.world.specs.Sent.{IsUnread, IsStale, IsUnreadOf, IsFramedReply};
 
 use crate::message::{Message, session_at};
-use codec::{FrameIndex, Reply};
+use codec::{FrameIndex, Reply, Request};
 use record_key::Refusal;
 use std::alloc::Global;
 use std::marker::{Model, PhantomData};
@@ -54,13 +55,14 @@ impl<M: Message> Sent<M> {
 
     /// How many were sent.
     pub(crate) fn len(&self) -> u64
-        ensures { result ≡ length self.now.messages }
+        ensures count { result ≡ length self.now.messages }
+        ensures few { result < 18446744073709551615 }
     {
         self.index.len() as u64
     }
 
     /// Makes room for one more message that has no rows.
-    pub(crate) fn make_room(&mut self) -> Result<(), Refusal>
+    fn make_room(&mut self) -> Result<(), Refusal>
         ensures same { self.new.messages ≡ self.old.messages }
         ensures room { OnOk result (self.new.has_room ≡ true) }
         ensures cause { IfErr result (λ refusal. refusal ≡ Refusal.NoMemory) }
@@ -68,6 +70,16 @@ impl<M: Message> Sent<M> {
         self.bytes.reserve(SHORT_LEN)?;
         self.index.reserve()?;
         Ok(())
+    }
+
+    /// The number of the next message; room for one without rows is made. None where memory for that is refused.
+    pub(crate) fn next(&mut self) -> Option<u64>
+        ensures same { self.new.messages ≡ self.old.messages }
+        ensures number { IsNextNumber self.old.messages result }
+        ensures room { OnSome result (self.new.has_room ≡ true) }
+    {
+        self.make_room().ok()?;
+        Some(self.len() + 1)
     }
 
     /// Appends a message. Where memory is refused nothing is appended; there was no room then, or it has rows.
@@ -107,6 +119,20 @@ impl<M: Message> Sent<M> {
     {
         let place = place_of(&self.index, &self.bytes, number)?;
         M::take(*self.bytes.allocator(), &self.bytes, place)
+    }
+}
+
+impl Sent<Request> {
+    /// The request of this number, from 1, if there is one. Reading it takes no memory.
+    #[tactic(auto, using(crate::proofs::Invariant::Spellable::numbers_spelled))]
+    pub(crate) fn request(&self, number: u64) -> Option<Request>
+        ensures found { message_at self.now.messages number ≡ result }
+        ensures spelled { IsSpelledIf result }
+    {
+        match self.message(number) {
+            Ok(request) => Some(request),
+            Err(_) => None,
+        }
     }
 }
 

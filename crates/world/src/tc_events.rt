@@ -1,52 +1,91 @@
 //! The calls of the transaction component, and the messages that they send and take.
-ghost use Rattle.std.specs.Prelude.{◌≡◌};
-ghost use Rattle.world.specs.Node.{ReconnectsTo, RecoversTo, BeginsTo, ActsTo, ReadsTo, SavesTo, GoesBackTo, RollsBackTo, CommitsTo, UndoesTo, ForcesTo, SendsTo, LowersTo, AsksCheckpoint, TellsTo, TakesTo, IfUp, IfTcUp, down_refusal, as_out, sends_at};
-ghost use Rattle.world.specs.Seen.{seen};
+ghost use Rattle.std.specs.Prelude.{◌≡◌, true, Some, None, IfOk, IfErr};
+ghost use Rattle.world.specs.Halves.{of_tc, HasRoom, IsSpelledIf, TcGives, TcCalls, TcSends, TcTakes};
+ghost use Rattle.world.specs.Node.{down_refusal, as_out, sends_at};
+ghost use Rattle.world.specs.Seen.{tc_of};
 
 use crate::attempt::attempt;
-use crate::event::Out;
-use crate::node::Node;
+use crate::event::{Event, Out};
 use crate::transaction_component::TransactionComponent;
+use codec::{Reply, Request};
 use range_locks::Span;
 use record_key::{Key, Op, Refusal};
+use std::alloc::Global;
 use tc_core::{Connecting, Forced, Phase, RecoverStep, Told, UndoStep};
 
-impl Node {
-    #[inline(never)]
-    pub fn reconnect(&mut self) -> Out
-        ensures done { IfTcUp (seen self.old) result (seen self.new)
-            (ReconnectsTo (seen self.old) result (seen self.new)) }
+impl TransactionComponent {
+    /// One of its events. What it sends has the number `next`; where that is None there is no room for it.
+    pub fn happen(
+        &mut self,
+        alloc: Global,
+        event: &Event,
+        reply: Option<Reply>,
+        next: Option<u64>,
+        request: &mut Option<Request>,
+    ) -> Out
+        requires own { of_tc event.now ≡ true }
+        requires none { request.old ≡ None }
+        ensures gives { TcGives (tc_of self.old) next event.now reply result request.new (tc_of self.new) }
+        ensures spelled { IsSpelledIf request.new }
+        ensures room { HasRoom next request.new }
     {
-        let TransactionComponent::Up(tc) = &mut self.tc else {
-            return Out::Refused(Refusal::NotConnected);
-        };
-        attempt!(tc.can_log());
-        attempt!(self.requests.make_room());
-        let Connecting { request, committed } = attempt!(tc.reconnect());
-        self.requests.push_reserved(&request);
-        Out::Connects {
-            request: self.requests.len(),
-            committed,
+        match event {
+            Event::Reconnect => self.reconnect(next, request),
+            Event::Recover => self.recover(next, request),
+            Event::Begin => self.begin(),
+            Event::Act { txn, op } => self.act(*txn, op),
+            Event::Get { txn, key } => self.get(*txn, key),
+            Event::Scan { txn, low, high } => self.scan(*txn, low, high),
+            Event::Save { txn } => self.save(*txn),
+            Event::GoBack { txn, savepoint } => self.go_back(*txn, *savepoint),
+            Event::Rollback { txn } => self.rollback(*txn),
+            Event::Commit { txn } => self.commit(*txn),
+            Event::Undo { txn } => self.undo(*txn),
+            Event::Force => self.force(),
+            Event::Send { txn } => self.send(*txn, next, request),
+            Event::LowWater { low } => self.low_water(*low, next, request),
+            Event::Checkpoint => self.checkpoint(next, request),
+            Event::Tell => self.tell(next, request),
+            Event::Reply { .. } => self.take(reply),
+            Event::CrashTc { frames, bytes } => self.fall(alloc, *frames, *bytes),
+            Event::RestartTc => self.rise(alloc),
+            _ => unreachable!(),
         }
     }
 
     #[inline(never)]
-    pub fn recover(&mut self) -> Out
-        ensures done { IfTcUp (seen self.old) result (seen self.new)
-            (RecoversTo (seen self.old) result (seen self.new)) }
+    fn reconnect(&mut self, next: Option<u64>, request: &mut Option<Request>) -> Out
+        requires { request.old ≡ None }
+        ensures { TcSends (tc_of self.old) next Event.Reconnect result request.new (tc_of self.new) }
     {
-        let TransactionComponent::Up(tc) = &mut self.tc else {
+        let TransactionComponent::Up(tc) = self else {
+            return Out::Refused(Refusal::NotConnected);
+        };
+        attempt!(tc.can_log());
+        let number = attempt!(next.ok_or(Refusal::NoMemory));
+        let connecting = attempt!(tc.reconnect());
+        *request = Some(connecting.request);
+        Out::Connects {
+            request: number,
+            committed: connecting.committed,
+        }
+    }
+
+    #[inline(never)]
+    fn recover(&mut self, next: Option<u64>, request: &mut Option<Request>) -> Out
+        requires { request.old ≡ None }
+        ensures { TcSends (tc_of self.old) next Event.Recover result request.new (tc_of self.new) }
+    {
+        let TransactionComponent::Up(tc) = self else {
             return Out::Refused(Refusal::NotConnected);
         };
         tc.kept();
-        if sends(tc.phase()) {
-            attempt!(self.requests.make_room());
-        }
+        let number = attempt!(number_if(sends(tc.phase()), next));
         match attempt!(tc.recover_step()) {
             RecoverStep::Nothing => Out::Nothing,
-            RecoverStep::Sends(request) => {
-                self.requests.push_reserved(&request);
-                Out::Sent(self.requests.len())
+            RecoverStep::Sends(sent) => {
+                *request = Some(sent);
+                Out::Sent(number)
             }
             RecoverStep::Compensated(number) => Out::Compensated(number),
             RecoverStep::Lost(txn) => Out::Lost(txn),
@@ -54,66 +93,60 @@ impl Node {
     }
 
     #[inline(never)]
-    pub fn begin(&mut self) -> Out
-        ensures done { IfTcUp (seen self.old) result (seen self.new)
-            (BeginsTo (seen self.old) result (seen self.new)) }
+    fn begin(&mut self) -> Out
+        ensures { TcCalls (tc_of self.old) Event.Begin result (tc_of self.new) }
     {
-        let TransactionComponent::Up(tc) = &mut self.tc else {
+        let TransactionComponent::Up(tc) = self else {
             return Out::Refused(Refusal::NotConnected);
         };
         Out::Begun(attempt!(tc.begin()))
     }
 
     #[inline(never)]
-    pub fn act(&mut self, txn: u64, op: &Op) -> Out
-        ensures done { IfTcUp (seen self.old) result (seen self.new)
-            (ActsTo (seen self.old) txn op.now result (seen self.new)) }
+    fn act(&mut self, txn: u64, op: &Op) -> Out
+        ensures { TcCalls (tc_of self.old) (Event.Act txn op.now) result (tc_of self.new) }
     {
-        let TransactionComponent::Up(tc) = &mut self.tc else {
+        let TransactionComponent::Up(tc) = self else {
             return Out::Refused(Refusal::NotConnected);
         };
         Out::Logged(attempt!(tc.act(txn, op)))
     }
 
     #[inline(never)]
-    pub fn get(&mut self, txn: u64, key: &Key) -> Out
-        ensures done { IfTcUp (seen self.old) result (seen self.new)
-            (ReadsTo (seen self.old) txn (Span.Key key.now) result (seen self.new)) }
+    fn get(&mut self, txn: u64, key: &Key) -> Out
+        ensures { TcCalls (tc_of self.old) (Event.Get txn key.now) result (tc_of self.new) }
     {
-        let TransactionComponent::Up(tc) = &mut self.tc else {
+        let TransactionComponent::Up(tc) = self else {
             return Out::Refused(Refusal::NotConnected);
         };
         Out::Asked(attempt!(tc.get(txn, key)))
     }
 
     #[inline(never)]
-    pub fn scan(&mut self, txn: u64, low: &Key, high: &Option<Key>) -> Out
-        ensures done { IfUp (seen self.old).tc_up (down_refusal low.now high.now) (seen self.old) result (seen self.new)
-            (ReadsTo (seen self.old) txn (Span.Range low.now high.now) result (seen self.new)) }
+    fn scan(&mut self, txn: u64, low: &Key, high: &Option<Key>) -> Out
+        ensures { TcCalls (tc_of self.old) (Event.Scan txn low.now high.now) result (tc_of self.new) }
     {
-        let TransactionComponent::Up(tc) = &mut self.tc else {
+        let TransactionComponent::Up(tc) = self else {
             return Out::Refused(refused_down(low, high));
         };
         Out::Asked(attempt!(tc.scan(txn, low, high)))
     }
 
     #[inline(never)]
-    pub fn save(&mut self, txn: u64) -> Out
-        ensures done { IfTcUp (seen self.old) result (seen self.new)
-            (SavesTo (seen self.old) txn result (seen self.new)) }
+    fn save(&mut self, txn: u64) -> Out
+        ensures { TcCalls (tc_of self.old) (Event.Save txn) result (tc_of self.new) }
     {
-        let TransactionComponent::Up(tc) = &mut self.tc else {
+        let TransactionComponent::Up(tc) = self else {
             return Out::Refused(Refusal::NotConnected);
         };
         Out::Saved(attempt!(tc.save(txn)))
     }
 
     #[inline(never)]
-    pub fn go_back(&mut self, txn: u64, savepoint: u64) -> Out
-        ensures done { IfTcUp (seen self.old) result (seen self.new)
-            (GoesBackTo (seen self.old) txn savepoint result (seen self.new)) }
+    fn go_back(&mut self, txn: u64, savepoint: u64) -> Out
+        ensures { TcCalls (tc_of self.old) (Event.GoBack txn savepoint) result (tc_of self.new) }
     {
-        let TransactionComponent::Up(tc) = &mut self.tc else {
+        let TransactionComponent::Up(tc) = self else {
             return Out::Refused(Refusal::NotConnected);
         };
         attempt!(tc.back_to(txn, savepoint));
@@ -121,11 +154,10 @@ impl Node {
     }
 
     #[inline(never)]
-    pub fn rollback(&mut self, txn: u64) -> Out
-        ensures done { IfTcUp (seen self.old) result (seen self.new)
-            (RollsBackTo (seen self.old) txn result (seen self.new)) }
+    fn rollback(&mut self, txn: u64) -> Out
+        ensures { TcCalls (tc_of self.old) (Event.Rollback txn) result (tc_of self.new) }
     {
-        let TransactionComponent::Up(tc) = &mut self.tc else {
+        let TransactionComponent::Up(tc) = self else {
             return Out::Refused(Refusal::NotConnected);
         };
         attempt!(tc.rollback(txn));
@@ -133,22 +165,20 @@ impl Node {
     }
 
     #[inline(never)]
-    pub fn commit(&mut self, txn: u64) -> Out
-        ensures done { IfTcUp (seen self.old) result (seen self.new)
-            (CommitsTo (seen self.old) txn result (seen self.new)) }
+    fn commit(&mut self, txn: u64) -> Out
+        ensures { TcCalls (tc_of self.old) (Event.Commit txn) result (tc_of self.new) }
     {
-        let TransactionComponent::Up(tc) = &mut self.tc else {
+        let TransactionComponent::Up(tc) = self else {
             return Out::Refused(Refusal::NotConnected);
         };
         Out::CommitLogged(attempt!(tc.commit(txn)))
     }
 
     #[inline(never)]
-    pub fn undo(&mut self, txn: u64) -> Out
-        ensures done { IfTcUp (seen self.old) result (seen self.new)
-            (UndoesTo (seen self.old) txn result (seen self.new)) }
+    fn undo(&mut self, txn: u64) -> Out
+        ensures { TcCalls (tc_of self.old) (Event.Undo txn) result (tc_of self.new) }
     {
-        let TransactionComponent::Up(tc) = &mut self.tc else {
+        let TransactionComponent::Up(tc) = self else {
             return Out::Refused(Refusal::NotConnected);
         };
         match attempt!(tc.undo_step(txn)) {
@@ -160,11 +190,10 @@ impl Node {
     }
 
     #[inline(never)]
-    pub fn force(&mut self) -> Out
-        ensures done { IfTcUp (seen self.old) result (seen self.new)
-            (ForcesTo (seen self.old) result (seen self.new)) }
+    fn force(&mut self) -> Out
+        ensures { TcCalls (tc_of self.old) Event.Force result (tc_of self.new) }
     {
-        let TransactionComponent::Up(tc) = &mut self.tc else {
+        let TransactionComponent::Up(tc) = self else {
             return Out::Refused(Refusal::NotConnected);
         };
         let Forced { end, committed } = attempt!(tc.force());
@@ -172,75 +201,109 @@ impl Node {
     }
 
     #[inline(never)]
-    pub fn send(&mut self, txn: u64) -> Out
-        ensures done { IfTcUp (seen self.old) result (seen self.new)
-            (SendsTo (seen self.old) txn result (seen self.new)) }
+    fn send(&mut self, txn: u64, next: Option<u64>, request: &mut Option<Request>) -> Out
+        requires { request.old ≡ None }
+        ensures { TcSends (tc_of self.old) next (Event.Send txn) result request.new (tc_of self.new) }
     {
-        let TransactionComponent::Up(tc) = &mut self.tc else {
+        let TransactionComponent::Up(tc) = self else {
             return Out::Refused(Refusal::NotConnected);
         };
         tc.kept();
-        let request = attempt!(tc.resend(txn));
-        attempt!(self.requests.push(&request));
-        Out::Sent(self.requests.len())
+        let sent = attempt!(tc.resend(txn));
+        let number = attempt!(next.ok_or(Refusal::NoMemory));
+        *request = Some(sent);
+        Out::Sent(number)
     }
 
     #[inline(never)]
-    pub fn low_water(&mut self, low: u64) -> Out
-        ensures done { IfTcUp (seen self.old) result (seen self.new)
-            (LowersTo (seen self.old) low result (seen self.new)) }
+    fn low_water(&mut self, low: u64, next: Option<u64>, request: &mut Option<Request>) -> Out
+        requires { request.old ≡ None }
+        ensures { TcSends (tc_of self.old) next (Event.LowWater low) result request.new (tc_of self.new) }
     {
-        let TransactionComponent::Up(tc) = &mut self.tc else {
+        let TransactionComponent::Up(tc) = self else {
             return Out::Refused(Refusal::NotConnected);
         };
         tc.kept();
         attempt!(tc.can_announce(low));
-        attempt!(self.requests.make_room());
-        let request = attempt!(tc.low_water(low));
-        self.requests.push_reserved(&request);
-        Out::Sent(self.requests.len())
+        let number = attempt!(next.ok_or(Refusal::NoMemory));
+        *request = Some(attempt!(tc.low_water(low)));
+        Out::Sent(number)
     }
 
     #[inline(never)]
-    pub fn checkpoint(&mut self) -> Out
-        ensures done { IfTcUp (seen self.old) result (seen self.new)
-            (AsksCheckpoint (seen self.old) result (seen self.new)) }
+    fn checkpoint(&mut self, next: Option<u64>, request: &mut Option<Request>) -> Out
+        requires { request.old ≡ None }
+        ensures { TcSends (tc_of self.old) next Event.Checkpoint result request.new (tc_of self.new) }
     {
-        let TransactionComponent::Up(tc) = &mut self.tc else {
+        let TransactionComponent::Up(tc) = self else {
             return Out::Refused(Refusal::NotConnected);
         };
         tc.kept();
         attempt!(tc.can_checkpoint());
-        attempt!(self.requests.make_room());
-        let request = attempt!(tc.checkpoint());
-        self.requests.push_reserved(&request);
-        Out::Sent(self.requests.len())
+        let number = attempt!(next.ok_or(Refusal::NoMemory));
+        *request = Some(attempt!(tc.checkpoint()));
+        Out::Sent(number)
     }
 
     #[inline(never)]
-    pub fn tell(&mut self) -> Out
-        ensures done { IfTcUp (seen self.old) result (seen self.new)
-            (TellsTo (seen self.old) result (seen self.new)) }
+    fn tell(&mut self, next: Option<u64>, request: &mut Option<Request>) -> Out
+        requires { request.old ≡ None }
+        ensures { TcSends (tc_of self.old) next Event.Tell result request.new (tc_of self.new) }
     {
-        let TransactionComponent::Up(tc) = &mut self.tc else {
+        let TransactionComponent::Up(tc) = self else {
             return Out::Refused(Refusal::NotConnected);
         };
         tc.kept();
-        let request = attempt!(tc.tell_stable());
-        attempt!(self.requests.push(&request));
-        Out::Sent(self.requests.len())
+        let sent = attempt!(tc.tell_stable());
+        let number = attempt!(next.ok_or(Refusal::NoMemory));
+        *request = Some(sent);
+        Out::Sent(number)
     }
 
     #[inline(never)]
-    pub fn reply(&mut self, number: u64) -> Out
-        ensures done { IfTcUp (seen self.old) result (seen self.new)
-            (TakesTo (seen self.old) number result (seen self.new)) }
+    fn take(&mut self, reply: Option<Reply>) -> Out
+        ensures { TcTakes (tc_of self.old) reply result (tc_of self.new) }
     {
-        let TransactionComponent::Up(tc) = &mut self.tc else {
+        let TransactionComponent::Up(tc) = self else {
             return Out::Refused(Refusal::NotConnected);
         };
-        let reply = attempt!(self.replies.of_session(number, tc.session()));
-        out_of_told(attempt!(tc.take_reply(reply)))
+        let Some(reply) = reply else {
+            return Out::Refused(Refusal::Unsent);
+        };
+        out_of_told(attempt!(tc.on_reply(reply)))
+    }
+
+    /// Its crash, as an event.
+    fn fall(&mut self, alloc: Global, frames: u64, bytes: u64) -> Out
+        ensures { TcCalls (tc_of self.old) (Event.CrashTc frames bytes) result (tc_of self.new) }
+    {
+        if self.crash(alloc, frames, bytes) {
+            Out::Down
+        } else {
+            Out::Nothing
+        }
+    }
+
+    /// Its restart, as an event.
+    fn rise(&mut self, alloc: Global) -> Out
+        ensures { TcCalls (tc_of self.old) Event.RestartTc result (tc_of self.new) }
+    {
+        match attempt!(self.restart(alloc)) {
+            Some(records) => Out::Up(records),
+            None => Out::Nothing,
+        }
+    }
+}
+
+/// The number of the message that is sent, 0 where none is. Refused NoMemory where there is no room for it.
+pub fn number_if(sends: bool, next: Option<u64>) -> Result<u64, Refusal>
+    ensures number { IfOk result (λ number. sends ≡ true → next ≡ Some number) }
+    ensures refused { IfErr result (λ refusal. (sends ≡ true) × (refusal ≡ Refusal.NoMemory)) }
+{
+    if sends {
+        next.ok_or(Refusal::NoMemory)
+    } else {
+        Ok(0)
     }
 }
 

@@ -14,11 +14,9 @@ ghost use Rattle.world.specs.Kept.{IsKept};
 ghost use Rattle.world.specs.Promises.{Promises};
 ghost use Rattle.world.specs.Rounds.{IsNext, IsAtRest, AreApart, round_for, recovery_round};
 
-use crate::data_component::DataComponent;
 use crate::event::{Event, Out};
 use crate::node::Node;
 use crate::round::Round;
-use crate::transaction_component::TransactionComponent;
 use dc_core::Dc;
 use history::Record;
 use page::Leaf;
@@ -90,10 +88,7 @@ impl World {
         ensures refused { IfErr result (λ refusal. refusal ≡ Refusal.NotConnected) }
         ensures down { OnErr result (self.now.tc_up ≡ false) }
     {
-        match &self.node.tc {
-            TransactionComponent::Up(tc) => Ok(tc),
-            TransactionComponent::Down(_) => Err(Refusal::NotConnected),
-        }
+        self.node.tc.running()
     }
 
     /// The data component, where it runs. Refused NotConnected.
@@ -103,10 +98,7 @@ impl World {
         ensures refused { IfErr result (λ refusal. refusal ≡ Refusal.NotConnected) }
         ensures down { OnErr result (self.now.dc_up ≡ false) }
     {
-        match &self.node.dc {
-            DataComponent::Up(dc) => Ok(dc),
-            DataComponent::Down(_) => Err(Refusal::NotConnected),
-        }
+        self.node.dc.running()
     }
 
     /// Copies of the records of the data component, in key order. Refused NotConnected where it is down, NoMemory.
@@ -116,8 +108,7 @@ impl World {
         ensures refused { IfErr result (λ refusal.
             refusal ≡ (if self.now.dc_up then Refusal.NoMemory else Refusal.NotConnected)) }
     {
-        self.kept();
-        Ok(self.running_dc()?.rows()?)
+        self.node.dc.rows()
     }
 
     /// How many leaves the data component has. Refused NotConnected where it is down.
@@ -173,7 +164,7 @@ impl World {
         ensures refused { IfErr result (λ refusal. refusal ≡ Refusal.NotConnected) }
         ensures down { OnErr result (self.now.tc_up ≡ false) }
     {
-        Ok(self.running_tc()?.records())
+        self.node.tc.records()
     }
 
     /// The record of this number. Takes no memory.
@@ -193,7 +184,7 @@ impl World {
         ensures refused { IfErr result (λ refusal. refusal ≡ Refusal.NotConnected) }
         ensures down { OnErr result (self.now.tc_up ≡ false) }
     {
-        Ok(self.running_tc()?.stable_end())
+        self.node.tc.stable_end()
     }
 
     /// The first round of settling that applies, if any is left: restart the data component, then the other; connect
@@ -203,10 +194,11 @@ impl World {
     pub fn next_round(&self) -> Option<Round>
         ensures { MatchOption result (IsAtRest self.now) (IsNext self.now) }
     {
-        let DataComponent::Up(dc) = &self.node.dc else {
+        self.kept();
+        let Ok(dc) = self.running_dc() else {
             return Some(Round::RestartDc);
         };
-        let TransactionComponent::Up(tc) = &self.node.tc else {
+        let Ok(tc) = self.running_tc() else {
             return Some(Round::RestartTc);
         };
         if is_apart(tc, dc) {

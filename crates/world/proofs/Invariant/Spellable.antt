@@ -115,8 +115,8 @@ rows_rise lo hi t = (retained (map.entries t) (λ k. is_within (range lo hi) k) 
 reply_is : {A : Type 0} {a b : A} → Some a ≡ Some b → a ≡ b
 reply_is e = cc
 
-pub reply_ordered : (q : Request) (reply : Reply) (old new : DcView) → IsRequest q → Serves old q (Some reply) new
-    → IsOrdered reply
+pub reply_ordered : (q : Request) (reply : Reply) (old new : DcView) → HasRequestNumbers q
+    → Serves old q (Some reply) new → IsOrdered reply
 reply_ordered (asks.Connect s end) reply old new fits h = subst IsOrdered (sym (reply_is h.0)) fits.0
 reply_ordered (asks.Perform s n stable o) reply old new fits h = pick (captures_at old (key_of o) n) h
   where
@@ -127,9 +127,9 @@ reply_ordered (asks.Perform s n stable o) reply old new fits h = pick (captures_
         × (new ≡ knows (performs old n o) stable)) → IsOrdered reply
     pick true h = subst IsOrdered (sym (reply_is h.0)) (fits.0, fits.1.0)
     pick false h = subst IsOrdered (sym (reply_is h.0)) (fits.0, fits.1.0)
-reply_ordered (asks.Get s n k) reply old new fits h = subst IsOrdered (sym (reply_is h.0)) (fits.0, fits.1.0)
+reply_ordered (asks.Get s n k) reply old new fits h = subst IsOrdered (sym (reply_is h.0)) fits
 reply_ordered (asks.Scan s n lo hi) reply old new fits h =
-    subst IsOrdered (sym (reply_is h.0)) (fits.0, fits.1.0, rows_rise lo hi (rows_of (leaves old)))
+    subst IsOrdered (sym (reply_is h.0)) (fits.0, fits.1, rows_rise lo hi (rows_of (leaves old)))
 reply_ordered (asks.LowWater s l) reply old new fits h = let e : Some reply ≡ None = h.0 in absurd (cc)
 reply_ordered (asks.Checkpoint s l) reply old new fits h = subst IsOrdered (sym (reply_is h.0)) fits
 reply_ordered (asks.RedoEnd s) reply old new fits h = subst IsOrdered (sym (reply_is h.0)) fits

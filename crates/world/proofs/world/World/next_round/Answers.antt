@@ -1,4 +1,4 @@
-use Rattle.std.proofs.Common.{◌≡◌, ◌∙◌, ℕ, Bool, false, sym, ap, subst, ◌<◌, ◌≤◌, length, arith, inl, inr, true≢false, Some, None}
+use Rattle.std.proofs.Common.{◌≡◌, ◌∙◌, ℕ, Bool, true, false, sym, ap, subst, ◌<◌, ◌≤◌, length, arith, inl, inr, true≢false, Some, None}
 use Rattle.std.specs.Prelude.{◌↔◌, IsTrue}
 use Rattle.std.specs.Option.{option_copied}
 use Rattle.tc_core.specs.declared.open_txns.Wanted.TheVariants.{Unanswered, Rolling}
@@ -9,12 +9,6 @@ use Rattle.tc_core.specs.TcView.{TcView}
 use Rattle.dc_core.specs.DcView.{DcView}
 use Rattle.world.specs.Node.{NodeView, AreUp}
 use Rattle.world.specs.Rounds.{AreApart, IsApart, AreRunning, IsNext, round_for}
-use Rattle.world.specs.Seen.{seen, tc_of, dc_of}
-use Rattle.world.specs.declared.node.Node.{Node}
-use Rattle.world.specs.declared.transaction_component.TransactionComponent.{TransactionComponent}
-use Rattle.world.specs.declared.transaction_component.TransactionComponent.TheVariants as tc_is
-use Rattle.world.specs.declared.data_component.DataComponent.{DataComponent}
-use Rattle.world.specs.declared.data_component.DataComponent.TheVariants as dc_is
 use Rattle.world.proofs.Machine.Settled.{at_rest, serving}
 use Rattle.world.proofs.Settles.Rounds.{next_for, idle_all, rolling_first, unrolled_all}
 use Rattle.world.proofs.world.World.next_round.Goals as goal
@@ -25,14 +19,12 @@ record AreThese (w : NodeView) (tc : TcView) (dc : DcView) : Type 0 where
   tc_same : w.tc ≡ tc
   dc_same : w.dc ≡ dc
 
-these : (n : Node) (tc : TcView) (dc : DcView) → n.tc ≡ tc_is.Up tc → n.dc ≡ dc_is.Up dc → AreThese (seen n) tc dc
-these n tc dc one two = record {
-  up = record {
-    tc = ap (λ (x : TransactionComponent). (tc_of x).up) one;
-    dc = ap (λ (x : DataComponent). (dc_of x).up) two;
-  };
-  tc_same = ap (λ (x : TransactionComponent). (tc_of x).tc) one;
-  dc_same = ap (λ (x : DataComponent). (dc_of x).dc) two;
+these : (w : NodeView) (tc : TcView) (dc : DcView) → w.tc_up ≡ true → w.dc_up ≡ true → tc ≡ w.tc → dc ≡ w.dc
+    → AreThese w tc dc
+these w tc dc tc_up dc_up tc_is dc_is = record {
+  up = record { tc = tc_up; dc = dc_up };
+  tc_same = sym tc_is;
+  dc_same = sym dc_is;
 }
 
 serves : (w : NodeView) (tc : TcView) (dc : DcView) (apart : Bool) (p : Phase) → AreThese w tc dc
@@ -47,9 +39,12 @@ serves w tc dc apart p t test isnt at running =
 
 pub returns-in-Some : goal.returns-in-Some
 returns-in-Some c =
-    let w : NodeView = seen c.self.inside.node in
-    let t = these c.self.inside.node c.in-Up-tc.tc c.in-Up.dc c.in-Up-tc.is c.in-Up.is in
-    let serving_now = serves w c.in-Up-tc.tc c.in-Up.dc c.is_apart.result c.phase.result t c.is_apart.ensures
+    let w : NodeView = c.args.self.now in
+    let tc : TcView = c.in-Ok-running_tc.tc.now in
+    let dc : DcView = c.in-Ok.dc.now in
+    let t = these w tc dc c.in-Ok-running_tc.ensures.up c.in-Ok.ensures.up c.in-Ok-running_tc.ensures.tc
+    c.in-Ok.ensures.dc in
+    let serving_now = serves w tc dc c.is_apart.result c.phase.result t c.is_apart.ensures
     c.if-is_apart.false c.phase.ensures c.in-Running.is in
     let o = c.in-Some.open.now in
     let at : oldest (wants Unanswered) w.tc.open_txns ≡ Some o =
@@ -58,13 +53,16 @@ returns-in-Some c =
     let stable : w.tc.stable ≡ c.stable_end-stable.result =
     ap (λ (x : TcView). x.stable) t.tc_same ∙ sym c.stable_end-stable.ensures in
     let P : ℕ → Type 0 = λ n. IsNext w (round_for o.txn n o.waiting) in
-    rw (← c.self.view_is, c.answer_round.ensures) (subst P stable (next_for w o serving_now c.self.invariant.tc at))
+    rw c.answer_round.ensures (subst P stable (next_for w o serving_now c.kept.ensures.kept.tc at))
 
 pub returns-in-Some-first_rolling : goal.returns-in-Some-first_rolling
 returns-in-Some-first_rolling c =
-    let w : NodeView = seen c.self.inside.node in
-    let t = these c.self.inside.node c.in-Up-tc.tc c.in-Up.dc c.in-Up-tc.is c.in-Up.is in
-    let serving_now = serves w c.in-Up-tc.tc c.in-Up.dc c.is_apart.result c.phase.result t c.is_apart.ensures
+    let w : NodeView = c.args.self.now in
+    let tc : TcView = c.in-Ok-running_tc.tc.now in
+    let dc : DcView = c.in-Ok.dc.now in
+    let t = these w tc dc c.in-Ok-running_tc.ensures.up c.in-Ok.ensures.up c.in-Ok-running_tc.ensures.tc
+    c.in-Ok.ensures.dc in
+    let serving_now = serves w tc dc c.is_apart.result c.phase.result t c.is_apart.ensures
     c.if-is_apart.false c.phase.ensures c.in-Running.is in
     let none : oldest (wants Unanswered) w.tc.open_txns ≡ None =
     ap (λ (x : TcView). oldest (wants Unanswered) x.open_txns) t.tc_same ∙ sym c.first_unanswered.ensures
@@ -72,13 +70,16 @@ returns-in-Some-first_rolling c =
     let at : oldest (wants Rolling) w.tc.open_txns ≡ Some c.in-Some-first_rolling.open.now =
     ap (λ (x : TcView). oldest (wants Rolling) x.open_txns) t.tc_same ∙ sym c.first_rolling.ensures
     ∙ ap option_copied c.in-Some-first_rolling.is in
-    rw (← c.self.view_is) (serving_now, rolling_first w.tc c.in-Some-first_rolling.open.now c.self.invariant.tc none at)
+    (serving_now, rolling_first w.tc c.in-Some-first_rolling.open.now c.kept.ensures.kept.tc none at)
 
 pub returns-then-stable-records : goal.returns-then-stable-records
 returns-then-stable-records c =
-    let w : NodeView = seen c.self.inside.node in
-    let t = these c.self.inside.node c.in-Up-tc.tc c.in-Up.dc c.in-Up-tc.is c.in-Up.is in
-    let serving_now = serves w c.in-Up-tc.tc c.in-Up.dc c.is_apart.result c.phase.result t c.is_apart.ensures
+    let w : NodeView = c.args.self.now in
+    let tc : TcView = c.in-Ok-running_tc.tc.now in
+    let dc : DcView = c.in-Ok.dc.now in
+    let t = these w tc dc c.in-Ok-running_tc.ensures.up c.in-Ok.ensures.up c.in-Ok-running_tc.ensures.tc
+    c.in-Ok.ensures.dc in
+    let serving_now = serves w tc dc c.is_apart.result c.phase.result t c.is_apart.ensures
     c.if-is_apart.false c.phase.ensures c.in-Running.is in
     let none : oldest (wants Unanswered) w.tc.open_txns ≡ None =
     ap (λ (x : TcView). oldest (wants Unanswered) x.open_txns) t.tc_same ∙ sym c.first_unanswered.ensures
@@ -95,13 +96,16 @@ returns-then-stable-records c =
       c.stable_end-stable.ensures,
       c.if-stable-records.true,
     ) in
-    rw (← c.self.view_is) (inl (serving_now, inr (unrolled_all w.tc flat, idle_all w.tc none, less)))
+    inl (serving_now, inr (unrolled_all w.tc flat, idle_all w.tc none, less))
 
 pub returns : goal.returns
 returns c =
-    let w : NodeView = seen c.self.inside.node in
-    let t = these c.self.inside.node c.in-Up-tc.tc c.in-Up.dc c.in-Up-tc.is c.in-Up.is in
-    let serving_now = serves w c.in-Up-tc.tc c.in-Up.dc c.is_apart.result c.phase.result t c.is_apart.ensures
+    let w : NodeView = c.args.self.now in
+    let tc : TcView = c.in-Ok-running_tc.tc.now in
+    let dc : DcView = c.in-Ok.dc.now in
+    let t = these w tc dc c.in-Ok-running_tc.ensures.up c.in-Ok.ensures.up c.in-Ok-running_tc.ensures.tc
+    c.in-Ok.ensures.dc in
+    let serving_now = serves w tc dc c.is_apart.result c.phase.result t c.is_apart.ensures
     c.if-is_apart.false c.phase.ensures c.in-Running.is in
     let none : oldest (wants Unanswered) w.tc.open_txns ≡ None =
     ap (λ (x : TcView). oldest (wants Unanswered) x.open_txns) t.tc_same ∙ sym c.first_unanswered.ensures
@@ -118,5 +122,5 @@ returns c =
       c.stable_end-stable.ensures,
       c.if-stable-records.false,
     ) in
-    rw (← c.self.view_is) (at_rest w c.self.invariant serving_now.running serving_now.up serving_now.session
-    (unrolled_all w.tc flat) (idle_all w.tc none) most)
+    at_rest w c.kept.ensures.kept serving_now.running serving_now.up serving_now.session
+    (unrolled_all w.tc flat) (idle_all w.tc none) most

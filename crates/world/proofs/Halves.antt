@@ -1,0 +1,166 @@
+-- The halves of a node: what each may rely on there, and that a reply may lack room for its rows alone.
+use Rattle.std.proofs.Common.{◌≡◌, ◌∙◌, ℕ, ◌+◌, Bool, true, false, true≢false, List, [], ◌∷◌, ◌++◌, length, length-append, Option, Some, None, refl, sym, ap, subst, arith, inl, inr}
+use Rattle.std.specs.Prelude.{IfSome, OnSome, MatchBool, Ok}
+use Rattle.record_key.specs.Table.{key_of}
+use Rattle.record_key.specs.declared.refusal.Refusal.{Refusal}
+use Rattle.record_key.specs.declared.refusal.Refusal.TheVariants.{NoMemory, NotConnected}
+use Rattle.codec.specs.declared.request.Request.{Request}
+use Rattle.codec.specs.declared.request.Request.TheVariants as asks
+use Rattle.codec.specs.declared.reply.Reply.{Reply}
+use Rattle.codec.specs.Replies.{has_rows}
+use Rattle.system_txn.specs.Kept.{IsRecoverable}
+use Rattle.dc_core.specs.DcView.{DcView, captures_at}
+use Rattle.dc_core.specs.Serves.{MayAsk, Serves}
+use Rattle.tc_core.specs.declared.phase.Phase.{Phase}
+use Rattle.tc_core.specs.declared.phase.Phase.TheVariants as phase
+use Rattle.tc_core.specs.declared.told.RecoverStep.TheVariants as step
+use Rattle.tc_core.specs.Recovery.{SendsAt, RecoverGives}
+use Rattle.tc_core.specs.TcView.{TcView}
+use Rattle.world.specs.declared.event.Event.{Event}
+use Rattle.world.specs.declared.event.Event.TheVariants as event
+use Rattle.world.specs.declared.event.Out.{Out}
+use Rattle.world.specs.declared.event.Out.TheVariants as out
+use Rattle.world.specs.declared.node.Node.{Node}
+use Rattle.world.specs.Component.{TcSide, DcSide}
+use Rattle.world.specs.Messages.{message_at}
+use Rattle.world.specs.Node.{NodeView, StepsTo, ServesTo, LacksRoom, is_replied_to, sends_at, dc_side}
+use Rattle.world.specs.Kept.{IsKept, IsSent}
+use Rattle.world.specs.Seen.{seen}
+use Rattle.world.specs.Halves.{node_of, also, BringsRequest, HasRoom, IsInNode, MayDc}
+use Rattle.world.proofs.Invariant.ByNumber.{all_at, last_at}
+use Rattle.world.proofs.Invariant.MayAsk.{may_ask}
+
+-- the node may do so: its transaction component becomes this and hands out that
+abbrev pub DoesTc : Node → Event → Out → TcSide → Option Request → Type 0
+DoesTc n e o new request =
+    StepsTo (seen n) e o (node_of new n.dc (also n.requests.messages request) n.replies.messages)
+
+-- the same of its data component
+abbrev pub DoesDc : Node → Event → Out → DcSide → Option Reply → Type 0
+DoesDc n e o new reply =
+    StepsTo (seen n) e o (node_of n.tc new n.requests.messages (also n.replies.messages reply))
+
+-- where a step of recovery sends, its phase says so
+pub sends_then : (old new : TcView) (request : Request) → RecoverGives old (Ok (step.Sends request)) new
+    → sends_at old.phase ≡ true
+sends_then old new request h = by old.phase h.1
+  where
+    by : (p : Phase) → SendsAt old p request new → sends_at p ≡ true
+    by phase.Unconnected h = absurd h
+    by phase.Connecting h = refl
+    by (phase.Redoing next ending) h = refl
+    by (phase.Undoing None) h = absurd h
+    by (phase.Undoing (Some n)) h = refl
+    by phase.Running h = absurd h
+
+-- where the data component gives a reply, the request is one that has it
+pub replies_then : (q : Request) (reply : Reply) (old new : DcView) → Serves old q (Some reply) new
+    → is_replied_to q ≡ true
+replies_then (asks.LowWater s l) reply old new h = let e : Some reply ≡ None = h.0 in absurd (cc)
+replies_then (asks.StableEnd s stable) reply old new h = let e : Some reply ≡ None = h.0 in absurd (cc)
+replies_then _ reply old new h = refl
+
+-- what was handed out had room
+pub roomy : {A : Type 0} (next : Option ℕ) (message : A) (Room : Type 0) → HasRoom next (Some message)
+    → OnSome next Room → Room
+roomy None message Room given room = let e : Some message ≡ None = given in absurd (cc)
+roomy (Some n) message Room given room = room
+
+-- no other event delivers a request
+pub asks_none : (requests : List Request) (e : Event) → ((i : ℕ) → e ≡ event.Request i → ⊥)
+    → BringsRequest requests e None
+asks_none requests (event.Request i) other = absurd (other i refl)
+asks_none requests _ other = refl
+
+-- the data component of a node that keeps what a node keeps may do all but to serve a request that was never sent
+pub may_dc : (w : NodeView) (e : Event) → IsKept w → ((i : ℕ) → e ≡ event.Request i → ⊥) → MayDc (dc_side w) e None
+may_dc w (event.Request i) kept other = absurd (other i refl)
+may_dc w (event.CrashDc frames bytes) kept other = record { node = w; kept = kept; dc_is = refl; brings = refl }
+may_dc w event.RestartDc kept other = record { node = w; kept = kept; dc_is = refl; brings = refl }
+may_dc w _ kept other = tt
+
+-- what the data component is asked in a node, it may be asked
+pub owed : (dc : DcSide) (i : ℕ) (request : Option Request) → IsInNode dc (event.Request i) request
+    → IfSome request (MayAsk dc.dc)
+owed dc i None at = tt
+owed dc i (Some q) at =
+    let w = at.node in
+    let k = at.kept in
+    let Asks : DcSide → Type 0 = λ side. MayAsk side.dc q in
+    subst Asks at.dc_is (may_ask w q k (all_at (IsSent w.tc w.dc k.source) w.requests i q k.sent at.brings))
+
+-- any crash of it leaves what it can be opened from
+pub recoverable : (dc : DcSide) (e : Event) (request : Option Request) → IsInNode dc e request
+    → IsRecoverable dc.dc.system
+recoverable dc e request at =
+    let Opens : DcSide → Type 0 = λ side. IsRecoverable side.dc.system in subst Opens at.dc_is at.kept.recoverable
+
+rowless : (reply other : Reply) → has_rows reply ≡ true → has_rows other ≡ false → Some reply ≡ Some other → ⊥
+rowless reply other rows none e = let same : reply ≡ other = cc in true≢false (sym rows ∙ ap has_rows same ∙ none)
+
+-- whoever is given rows has changed nothing
+reads : (q : Request) (reply : Reply) (old new : DcView) → has_rows reply ≡ true → Serves old q (Some reply) new
+    → new ≡ old
+reads (asks.Connect s end) reply old new rows h = absurd (rowless reply _ rows refl h.0)
+reads (asks.Perform s n stable o) reply old new rows h = absurd (by (captures_at old (key_of o) n) _ _ _ _ h refl refl)
+  where
+    by : (b : Bool) (one other : Reply) (P Q : Type 0)
+        → MatchBool b ((Some reply ≡ Some one) × P) ((Some reply ≡ Some other) × Q) → has_rows one ≡ false
+        → has_rows other ≡ false → ⊥
+    by true one other P Q h none also = rowless reply one rows none h.0
+    by false one other P Q h none also = rowless reply other rows also h.0
+reads (asks.Get s n k) reply old new rows h = absurd (rowless reply _ rows refl h.0)
+reads (asks.Scan s n lo hi) reply old new rows h = h.1
+reads (asks.LowWater s l) reply old new rows h = let e : Some reply ≡ None = h.0 in absurd (cc)
+reads (asks.Checkpoint s l) reply old new rows h = absurd (rowless reply _ rows refl h.0)
+reads (asks.RedoEnd s) reply old new rows h = absurd (rowless reply _ rows refl h.0)
+reads (asks.StableEnd s stable) reply old new rows h = let e : Some reply ≡ None = h.0 in absurd (cc)
+
+-- rows that lack room are refused, and nothing has changed
+module _ (tc : TcSide) (old new : DcSide) (requests : List Request) (replies : List Reply) (i : ℕ) (reply : Reply)
+    (rows : has_rows reply ≡ true) where
+  abbrev from : NodeView
+  from = node_of tc old requests replies
+
+  abbrev told : NodeView
+  told = node_of tc new requests (replies ++ reply ∷ [])
+
+  abbrev left : NodeView
+  left = node_of tc new requests replies
+
+  longer : told.replies ≡ replies → ⊥
+  longer same = omega (arith, ap length same, length-append replies (reply ∷ []))
+
+  served : (o : Out) → ServesTo from i o told → ServesTo from i (out.Refused NoMemory) left
+  served (out.Replied j) h =
+      let e = ap (λ (w : NodeView). w.replies) h.3 in
+      let same : Some reply ≡ Some h.0 =
+      sym (last_at replies reply) ∙ ap (λ (xs : List Reply). message_at xs (length replies + 1)) e
+      ∙ last_at replies h.0 in
+      let long : has_rows h.0 ≡ true = (let one : h.0 ≡ reply = cc in ap has_rows one ∙ rows) in
+      let same_dc = reads h.1.request h.0 old.dc new.dc long h.1.gives.1 in
+      let replied = replies_then h.1.request h.0 old.dc new.dc h.1.gives.1 in
+      let up = ap (λ (w : NodeView). w.dc_up) h.3 in
+      let Lacks : Option Refusal → Type 0 = λ cause. LacksRoom cause (is_replied_to h.1.request) NoMemory in
+      inl (
+        inr (record {
+          request = h.1.request;
+          found = h.1.found;
+          refused = subst Lacks (sym h.1.gives.0) (replied, refl);
+        }),
+        λ k. node_of tc (record { up = up k; dc = same_dc k }) requests replies,
+      )
+  served out.Noted h = absurd (longer (ap (λ (w : NodeView). w.replies) h.1))
+  served (out.Refused r) (inl h) = absurd (longer (ap (λ (w : NodeView). w.replies) h.1))
+  served (out.Refused r) (inr h) = absurd (longer (ap (λ (w : NodeView). w.replies) h.1))
+  served _ h = absurd h
+
+  pub unroomed : (o : Out) → StepsTo from (event.Request i) o told
+      → StepsTo from (event.Request i) (out.Refused NoMemory) left
+  unroomed o h = by old.up h
+    where
+      by : (b : Bool) → MatchBool b (ServesTo from i o told) ((o ≡ out.Refused NotConnected) × (told ≡ from))
+          → MatchBool b (ServesTo from i (out.Refused NoMemory) left)
+          ((out.Refused NoMemory ≡ out.Refused NotConnected) × (left ≡ from))
+      by true h = served o h
+      by false h = absurd (longer (ap (λ (w : NodeView). w.replies) h.1))

@@ -1,0 +1,19 @@
+use Rattle.std.proofs.Common.{subst}
+use Rattle.world.proofs.Halves.{DoesTc}
+use Rattle.world.proofs.node.Node.call.Goals as goal
+
+pub returns-in_default : goal.returns-in_default
+returns-in_default c =
+    let n = c.args.self.now in
+    rw c.next_of-next.ensures.same
+    (subst (DoesTc n c.args.event.now c.step-out.result c.step-out.new.self) c.in_default.is
+    (c.step-out.ensures.gives n.dc n.requests.messages n.replies.messages c.next_of-next.ensures.number
+    c.requires.alone))
+
+pub returns : goal.returns
+returns c =
+    let n = c.args.self.now in
+    rw (c.push_reserved.ensures, c.next_of-next.ensures.same)
+    (subst (DoesTc n c.args.event.now c.step-out.result c.step-out.new.self) c.in-Some.is
+    (c.step-out.ensures.gives n.dc n.requests.messages n.replies.messages c.next_of-next.ensures.number
+    c.requires.alone))

@@ -1,0 +1,124 @@
+//! The data component as half of a node, which may also step alone: it is handed the requests that it serves, and hands
+//! out its replies.
+ghost use Rattle.std.specs.Prelude.{◌≡◌, true, false, None, OnOk, OnErr, IfOk, IfErr, if◌then◌else◌};
+ghost use Rattle.std.specs.FinMap.{entries};
+ghost use Rattle.stable.specs.Usage.{unused};
+ghost use Rattle.btree.specs.Leaves.{rows_of};
+ghost use Rattle.dc_core.specs.DcView.{fresh, leaves};
+ghost use Rattle.dc_core.specs.Kept.{IsDc};
+ghost use Rattle.world.specs.Halves.{of_tc, MayDc, DcLeads};
+
+use crate::data_component::DataComponent;
+use crate::event::{Event, Out};
+use codec::{Reply, Request};
+use dc_core::Dc;
+use record_key::{Key, Refusal, Value};
+use std::alloc::Global;
+use std::marker::Model;
+
+/// The data component, which runs or is down.
+#[derive(Drop)]
+pub struct DcSide {
+    alloc: Global,
+    component: DataComponent,
+}
+
+impl Model for DcSide {
+    ghost use Rattle.std.specs.Coded.{codes};
+    ghost use Rattle.record_key.specs.Table.{table_code};
+    ghost use Rattle.system_txn.specs.SystemView.{pages_code};
+    ghost use Rattle.world.specs.Component as sides;
+
+    ghost Value = { sides.DcSide };
+
+    ghost coded = { Prim.hlevel (codes, table_code, pages_code) };
+
+    ghost use Rattle.dc_core.specs.Kept.{IsDc};
+    ghost use Rattle.world.specs.Seen.{dc_of};
+
+    ghost view = { λ s. dc_of s.component };
+
+    ghost invariant = { λ s. IsDc (dc_of s.component).dc };
+}
+
+impl DcSide {
+    /// One that runs, of no records, and has taken no session. Refused NoMemory.
+    pub fn new(alloc: Global) -> Result<DcSide, Refusal>
+        ensures fresh { IfOk result (λ side. side ≡ record { up = true; dc = fresh unused unused }) }
+        ensures memory { IfErr result (λ refusal. refusal ≡ Refusal.NoMemory) }
+    {
+        let component = DataComponent::new(alloc)?;
+        component.kept();
+        Ok(DcSide { alloc, component })
+    }
+
+    /// One event of the data component. A Request event delivers `request`; where that is None there is none of its
+    /// number. What is replied has the number `next`, and is left in `reply`; where that number is None there is no room
+    /// for it, and a request that has a reply is refused NoMemory.
+    pub fn step(
+        &mut self,
+        event: &Event,
+        request: &Option<Request>,
+        next: Option<u64>,
+        reply: &mut Option<Reply>,
+    ) -> Out
+        requires own { of_tc event.now ≡ false }
+        requires may { MayDc self.old event.now request.now }
+        requires none { reply.old ≡ None }
+        ensures { DcLeads self.old next event.now request.now result reply.new self.new }
+    {
+        let out = self
+            .component
+            .happen(self.alloc, event, request, next, reply);
+        self.component.kept();
+        out
+    }
+
+    /// What holds at every moment.
+    pub fn kept(&self)
+        ensures { IsDc self.now.dc }
+    {
+        let _ = &self.component;
+    }
+
+    /// Whether it runs.
+    pub fn is_up(&self) -> bool
+        ensures { result ≡ self.now.up }
+    {
+        matches!(self.component, DataComponent::Up(_))
+    }
+
+    /// The component, where it runs. Refused NotConnected.
+    pub(crate) fn running(&self) -> Result<&Dc, Refusal>
+        ensures up { OnOk result (self.now.up ≡ true) }
+        ensures dc { IfOk result (λ dc. dc.now ≡ self.now.dc) }
+        ensures refused { IfErr result (λ refusal. refusal ≡ Refusal.NotConnected) }
+        ensures down { OnErr result (self.now.up ≡ false) }
+    {
+        match &self.component {
+            DataComponent::Up(dc) => Ok(dc),
+            DataComponent::Down(_) => Err(Refusal::NotConnected),
+        }
+    }
+
+    /// The session that runs, 0 if none. Refused NotConnected where the component is down.
+    pub fn session(&self) -> Result<u64, Refusal>
+        ensures session { IfOk result (λ session. session ≡ self.now.dc.session) }
+        ensures up { OnOk result (self.now.up ≡ true) }
+        ensures refused { IfErr result (λ refusal. refusal ≡ Refusal.NotConnected) }
+        ensures down { OnErr result (self.now.up ≡ false) }
+    {
+        Ok(self.running()?.session())
+    }
+
+    /// Copies of the records, in key order. Refused NotConnected where the component is down, NoMemory.
+    pub fn rows(&self) -> Result<Vec<(Key, Value)>, Refusal>
+        ensures rows { IfOk result (λ rows. rows.items ≡ entries (rows_of (leaves self.now.dc))) }
+        ensures up { OnOk result (self.now.up ≡ true) }
+        ensures refused { IfErr result (λ refusal.
+            refusal ≡ (if self.now.up then Refusal.NoMemory else Refusal.NotConnected)) }
+    {
+        self.kept();
+        Ok(self.running()?.rows()?)
+    }
+}
