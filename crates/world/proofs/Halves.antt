@@ -1,6 +1,6 @@
 -- The halves of a node: what each may rely on there, and that a reply may lack room for its rows alone.
 use Rattle.std.proofs.Common.{◌≡◌, ◌∙◌, ℕ, ◌+◌, Bool, true, false, true≢false, List, [], ◌∷◌, ◌++◌, length, length-append, Option, Some, None, refl, sym, ap, subst, arith, inl, inr}
-use Rattle.std.specs.Prelude.{IfSome, OnSome, MatchBool, Ok}
+use Rattle.std.specs.Prelude.{OnSome, MatchBool, Ok}
 use Rattle.record_key.specs.Table.{key_of}
 use Rattle.record_key.specs.declared.refusal.Refusal.{Refusal}
 use Rattle.record_key.specs.declared.refusal.Refusal.TheVariants.{NoMemory, NotConnected}
@@ -8,7 +8,6 @@ use Rattle.codec.specs.declared.request.Request.{Request}
 use Rattle.codec.specs.declared.request.Request.TheVariants as asks
 use Rattle.codec.specs.declared.reply.Reply.{Reply}
 use Rattle.codec.specs.Replies.{has_rows}
-use Rattle.system_txn.specs.Kept.{IsRecoverable}
 use Rattle.dc_core.specs.DcView.{DcView, captures_at}
 use Rattle.dc_core.specs.Serves.{MayAsk, Serves}
 use Rattle.tc_core.specs.declared.phase.Phase.{Phase}
@@ -26,7 +25,7 @@ use Rattle.world.specs.Messages.{message_at}
 use Rattle.world.specs.Node.{NodeView, StepsTo, ServesTo, LacksRoom, is_replied_to, sends_at, dc_side}
 use Rattle.world.specs.Kept.{IsKept, IsSent}
 use Rattle.world.specs.Seen.{seen}
-use Rattle.world.specs.Halves.{node_of, also, BringsRequest, HasRoom, IsInNode, MayDc}
+use Rattle.world.specs.Halves.{node_of, also, HasRoom, IsInNode, MayDc}
 use Rattle.world.proofs.Invariant.ByNumber.{all_at, last_at}
 use Rattle.world.proofs.Invariant.MayAsk.{may_ask}
 
@@ -66,12 +65,6 @@ pub roomy : {A : Type 0} (next : Option ℕ) (message : A) (Room : Type 0) → H
 roomy None message Room given room = let e : Some message ≡ None = given in absurd (cc)
 roomy (Some n) message Room given room = room
 
--- no other event delivers a request
-pub asks_none : (requests : List Request) (e : Event) → ((i : ℕ) → e ≡ event.Request i → ⊥)
-    → BringsRequest requests e None
-asks_none requests (event.Request i) other = absurd (other i refl)
-asks_none requests _ other = refl
-
 -- the data component of a node that keeps what a node keeps may do all but to serve a request that was never sent
 pub may_dc : (w : NodeView) (e : Event) → IsKept w → ((i : ℕ) → e ≡ event.Request i → ⊥) → MayDc (dc_side w) e None
 may_dc w (event.Request i) kept other = absurd (other i refl)
@@ -80,20 +73,12 @@ may_dc w event.RestartDc kept other = record { node = w; kept = kept; dc_is = re
 may_dc w _ kept other = tt
 
 -- what the data component is asked in a node, it may be asked
-pub owed : (dc : DcSide) (i : ℕ) (request : Option Request) → IsInNode dc (event.Request i) request
-    → IfSome request (MayAsk dc.dc)
-owed dc i None at = tt
-owed dc i (Some q) at =
+pub owed : (dc : DcSide) (i : ℕ) (q : Request) → IsInNode dc (event.Request i) (Some q) → MayAsk dc.dc q
+owed dc i q at =
     let w = at.node in
     let k = at.kept in
     let Asks : DcSide → Type 0 = λ side. MayAsk side.dc q in
     subst Asks at.dc_is (may_ask w q k (all_at (IsSent w.tc w.dc k.source) w.requests i q k.sent at.brings))
-
--- any crash of it leaves what it can be opened from
-pub recoverable : (dc : DcSide) (e : Event) (request : Option Request) → IsInNode dc e request
-    → IsRecoverable dc.dc.system
-recoverable dc e request at =
-    let Opens : DcSide → Type 0 = λ side. IsRecoverable side.dc.system in subst Opens at.dc_is at.kept.recoverable
 
 rowless : (reply other : Reply) → has_rows reply ≡ true → has_rows other ≡ false → Some reply ≡ Some other → ⊥
 rowless reply other rows none e = let same : reply ≡ other = cc in true≢false (sym rows ∙ ap has_rows same ∙ none)

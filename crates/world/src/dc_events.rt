@@ -1,9 +1,9 @@
 //! The calls of the data component, and the requests that reach it.
-ghost use Rattle.std.specs.Prelude.{◌≡◌, false, None, IfSome};
+ghost use Rattle.std.specs.Prelude.{◌≡◌, false, None, Some};
 ghost use Rattle.codec.specs.Requests.{HasRequestNumbers};
 ghost use Rattle.dc_core.specs.Serves.{MayAsk};
 ghost use Rattle.system_txn.specs.Kept.{IsRecoverable};
-ghost use Rattle.world.specs.Halves.{of_tc, MayDc, HasRoom, IsOrderedIf, DcGives, DcCalls, DcServes};
+ghost use Rattle.world.specs.Halves.{of_tc, MayDc, DcGives, DcCalls, DcServes};
 ghost use Rattle.world.specs.Node.{is_replied_to};
 ghost use Rattle.world.specs.Seen.{dc_of};
 
@@ -17,28 +17,18 @@ use record_key::{Key, Refusal};
 use std::alloc::Global;
 
 impl DataComponent {
-    /// One of its events. What it replies has the number `next`; where that is None there is no room for it.
-    pub fn happen(
-        &mut self,
-        alloc: Global,
-        event: &Event,
-        request: &Option<Request>,
-        next: Option<u64>,
-        reply: &mut Option<Reply>,
-    ) -> Out
+    /// One of its events; a Request event finds no request of its number.
+    pub fn happen(&mut self, alloc: Global, event: &Event) -> Out
         requires own { of_tc event.now ≡ false }
-        requires may { MayDc (dc_of self.old) event.now request.now }
-        requires none { reply.old ≡ None }
-        ensures gives { DcGives (dc_of self.old) next event.now request.now result reply.new (dc_of self.new) }
-        ensures spelled { IsOrderedIf reply.new }
-        ensures room { HasRoom next reply.new }
+        requires may { MayDc (dc_of self.old) event.now None }
+        ensures { DcGives (dc_of self.old) None event.now None result None (dc_of self.new) }
     {
         match event {
             Event::Split { key } => self.split(key),
             Event::Merge { key } => self.merge(key),
             Event::Tend => self.tend(),
             Event::Flush { key } => self.flush(key),
-            Event::Request { .. } => self.serve(request, next, reply),
+            Event::Request { .. } => self.unsent(),
             Event::CrashDc { frames, bytes } => self.fall(alloc, *frames, *bytes),
             Event::RestartDc => self.rise(alloc),
             _ => unreachable!(),
@@ -89,23 +79,16 @@ impl DataComponent {
         }
     }
 
-    #[inline(never)]
-    fn serve(
-        &mut self,
-        request: &Option<Request>,
-        next: Option<u64>,
-        reply: &mut Option<Reply>,
-    ) -> Out
-        requires numbers { IfSome request.now HasRequestNumbers }
-        requires owed { IfSome request.now (MayAsk (dc_of self.old).dc) }
+    /// Serves a request that was sent. What is replied has the number `next`; where that is None there is no room for
+    /// it.
+    pub fn serve(&mut self, request: &Request, next: Option<u64>, reply: &mut Option<Reply>) -> Out
+        requires numbers { HasRequestNumbers request.now }
+        requires owed { MayAsk (dc_of self.old).dc request.now }
         requires none { reply.old ≡ None }
-        ensures { DcServes (dc_of self.old) next request.now result reply.new (dc_of self.new) }
+        ensures { DcServes (dc_of self.old) next (Some request.now) result reply.new (dc_of self.new) }
     {
         let DataComponent::Up(dc) = self else {
             return Out::Refused(Refusal::NotConnected);
-        };
-        let Some(request) = request else {
-            return Out::Refused(Refusal::Unsent);
         };
         attempt!(dc.allows(request));
         let number = attempt!(number_if(has_reply(request), next));
@@ -118,7 +101,18 @@ impl DataComponent {
         }
     }
 
+    /// No request of the number was sent.
+    fn unsent(&self) -> Out
+        ensures { DcServes (dc_of self.now) None None result None (dc_of self.now) }
+    {
+        match self {
+            DataComponent::Up(_) => Out::Refused(Refusal::Unsent),
+            DataComponent::Down(_) => Out::Refused(Refusal::NotConnected),
+        }
+    }
+
     /// Its crash, as an event.
+    #[inline(never)]
     fn fall(&mut self, alloc: Global, frames: u64, bytes: u64) -> Out
         requires { IsRecoverable (dc_of self.old).dc.system }
         ensures { DcCalls (dc_of self.old) (Event.CrashDc frames bytes) result (dc_of self.new) }
@@ -131,6 +125,7 @@ impl DataComponent {
     }
 
     /// Its restart, as an event.
+    #[inline(never)]
     fn rise(&mut self, alloc: Global) -> Out
         requires { IsRecoverable (dc_of self.old).dc.system }
         ensures { DcCalls (dc_of self.old) Event.RestartDc result (dc_of self.new) }

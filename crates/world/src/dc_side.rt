@@ -1,12 +1,14 @@
 //! The data component as half of a node, which may also step alone: it is handed the requests that it serves, and hands
 //! out its replies.
-ghost use Rattle.std.specs.Prelude.{◌≡◌, true, false, None, OnOk, OnErr, IfOk, IfErr, if◌then◌else◌};
+ghost use Rattle.std.specs.Prelude.{◌≡◌, true, false, Some, None, OnOk, OnErr, IfOk, IfErr, if◌then◌else◌};
 ghost use Rattle.std.specs.FinMap.{entries};
 ghost use Rattle.stable.specs.Usage.{unused};
 ghost use Rattle.btree.specs.Leaves.{rows_of};
+ghost use Rattle.codec.specs.Requests.{HasRequestNumbers};
 ghost use Rattle.dc_core.specs.DcView.{fresh, leaves};
 ghost use Rattle.dc_core.specs.Kept.{IsDc};
-ghost use Rattle.world.specs.Halves.{of_tc, MayDc, DcLeads};
+ghost use Rattle.dc_core.specs.Serves.{MayAsk};
+ghost use Rattle.world.specs.Halves.{of_tc, MayDc, DcLeads, DcServes};
 
 use crate::data_component::DataComponent;
 use crate::event::{Event, Out};
@@ -67,9 +69,40 @@ impl DcSide {
         requires none { reply.old ≡ None }
         ensures { DcLeads self.old next event.now request.now result reply.new self.new }
     {
-        let out = self
-            .component
-            .happen(self.alloc, event, request, next, reply);
+        match event {
+            Event::Request { .. } => match request {
+                Some(request) => self.serve(request, next, reply),
+                None => self.call(event),
+            },
+            _ => self.call(event),
+        }
+    }
+
+    /// One event; a Request event finds no request of its number.
+    pub(crate) fn call(&mut self, event: &Event) -> Out
+        requires own { of_tc event.now ≡ false }
+        requires may { MayDc self.old event.now None }
+        ensures { DcLeads self.old None event.now None result None self.new }
+    {
+        let out = self.component.happen(self.alloc, event);
+        self.component.kept();
+        out
+    }
+
+    /// A Request event that finds this one.
+    pub(crate) fn serve(
+        &mut self,
+        request: &Request,
+        next: Option<u64>,
+        reply: &mut Option<Reply>,
+    ) -> Out
+        requires numbers { HasRequestNumbers request.now }
+        requires owed { MayAsk self.old.dc request.now }
+        requires none { reply.old ≡ None }
+        ensures serves { DcServes self.old next (Some request.now) result reply.new self.new }
+        ensures kept { IsDc self.new.dc }
+    {
+        let out = self.component.serve(request, next, reply);
         self.component.kept();
         out
     }

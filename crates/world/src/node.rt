@@ -62,11 +62,12 @@ impl Node {
             Event::Reply { number } => self.take(*number),
             Event::Request { number } => self.serve(*number),
             _ if event.is_of_tc() => self.call(event),
-            _ => self.dc.step(event, &None, None, &mut None),
+            _ => self.dc.call(event),
         }
     }
 
     /// An event of the transaction component that takes no reply.
+    #[inline(never)]
     fn call(&mut self, event: &Event) -> Out
         requires own { of_tc event.now ≡ true }
         requires alone { BringsReply (seen self.old).replies event.now None }
@@ -74,40 +75,42 @@ impl Node {
     {
         let next = next_of(&mut self.requests, event);
         let mut request = None;
-        let out = self.tc.step(event, None, next, &mut request);
-        let Some(request) = request else {
+        let out = self.tc.call(event, next, &mut request);
+        let Some(request) = &request else {
             return out;
         };
-        self.requests.push_reserved(&request);
+        self.requests.push_reserved(request);
         out
     }
 
     /// The reply of this number reaches the transaction component.
+    #[inline(never)]
     fn take(&mut self, number: u64) -> Out
         ensures { StepsTo (seen self.old) (Event.Reply number) result (seen self.new) }
     {
         let session = attempt!(self.tc.session());
-        let reply = attempt!(self.replies.of_session(number, session));
         self.tc
-            .step(&Event::Reply { number }, Some(reply), None, &mut None)
+            .take(attempt!(self.replies.of_session(number, session)))
     }
 
     /// The request of this number reaches the data component.
+    #[inline(never)]
     fn serve(&mut self, number: u64) -> Out
         requires { IsKept (seen self.old) }
         ensures { StepsTo (seen self.old) (Event.Request number) result (seen self.new) }
     {
-        let request = self.requests.request(number);
+        if !self.dc.is_up() {
+            return Out::Refused(Refusal::NotConnected);
+        }
+        let request = attempt!(self.requests.message(number));
         let next = self.replies.next();
         let mut reply = None;
-        let out = self
-            .dc
-            .step(&Event::Request { number }, &request, next, &mut reply);
-        let Some(reply) = reply else {
+        let out = self.dc.serve(&request, next, &mut reply);
+        let Some(reply) = &reply else {
             return out;
         };
         // Only rows may lack room, and whoever reads them changes nothing.
-        attempt!(self.replies.push(&reply));
+        attempt!(self.replies.push(reply));
         out
     }
 }

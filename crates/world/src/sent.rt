@@ -3,14 +3,14 @@
 ghost use Rattle.std.specs.Prelude.{◌≡◌, ◌<◌, ◌++◌, ◌∷◌, ◌⊎◌, [], true, false, length, None, Some, IfOk, IfErr, OnOk, OnErr, OnSome};
 ghost use Rattle.codec.specs.FrameIndex.{places_of, Indexes};
 ghost use Rattle.codec.specs.Replies.{session_of};
-ghost use Rattle.world.specs.Halves.{IsNextNumber, IsSpelledIf};
+ghost use Rattle.world.specs.Halves.{IsNextNumber};
 ghost use Rattle.world.specs.Messages.{message_at};
 ghost use Rattle.world.specs.Node.{IsUnsent};
 ghost use Rattle.tc_core.specs.Replies.{is_of_another};
 ghost use Rattle.world.specs.Sent.{IsUnread, IsStale, IsUnreadOf, IsFramedReply};
 
 use crate::message::{Message, session_at};
-use codec::{FrameIndex, Reply, Request};
+use codec::{FrameIndex, Reply};
 use record_key::Refusal;
 use std::alloc::Global;
 use std::marker::{Model, PhantomData};
@@ -119,20 +119,6 @@ impl<M: Message> Sent<M> {
     {
         let place = place_of(&self.index, &self.bytes, number)?;
         M::take(*self.bytes.allocator(), &self.bytes, place)
-    }
-}
-
-impl Sent<Request> {
-    /// The request of this number, from 1, if there is one. Reading it takes no memory.
-    #[tactic(auto, using(crate::proofs::Invariant::Spellable::numbers_spelled))]
-    pub(crate) fn request(&self, number: u64) -> Option<Request>
-        ensures found { message_at self.now.messages number ≡ result }
-        ensures spelled { IsSpelledIf result }
-    {
-        match self.message(number) {
-            Ok(request) => Some(request),
-            Err(_) => None,
-        }
     }
 }
 

@@ -11,21 +11,21 @@ use codec::{Reply, Request};
 use range_locks::Span;
 use record_key::{Key, Op, Refusal};
 use std::alloc::Global;
-use tc_core::{Connecting, Forced, Phase, RecoverStep, Told, UndoStep};
+use tc_core::{Forced, Phase, RecoverStep, Told, UndoStep};
 
 impl TransactionComponent {
-    /// One of its events. What it sends has the number `next`; where that is None there is no room for it.
+    /// One of its events; a Reply event finds no reply of its number. What is sent has the number `next`; where that is
+    /// None there is no room for it.
     pub fn happen(
         &mut self,
         alloc: Global,
         event: &Event,
-        reply: Option<Reply>,
         next: Option<u64>,
         request: &mut Option<Request>,
     ) -> Out
         requires own { of_tc event.now ≡ true }
         requires none { request.old ≡ None }
-        ensures gives { TcGives (tc_of self.old) next event.now reply result request.new (tc_of self.new) }
+        ensures gives { TcGives (tc_of self.old) next event.now None result request.new (tc_of self.new) }
         ensures spelled { IsSpelledIf request.new }
         ensures room { HasRoom next request.new }
     {
@@ -46,7 +46,7 @@ impl TransactionComponent {
             Event::LowWater { low } => self.low_water(*low, next, request),
             Event::Checkpoint => self.checkpoint(next, request),
             Event::Tell => self.tell(next, request),
-            Event::Reply { .. } => self.take(reply),
+            Event::Reply { .. } => self.unsent(),
             Event::CrashTc { frames, bytes } => self.fall(alloc, *frames, *bytes),
             Event::RestartTc => self.rise(alloc),
             _ => unreachable!(),
@@ -260,20 +260,28 @@ impl TransactionComponent {
         Out::Sent(number)
     }
 
-    #[inline(never)]
-    fn take(&mut self, reply: Option<Reply>) -> Out
-        ensures { TcTakes (tc_of self.old) reply result (tc_of self.new) }
+    /// Takes a reply that was sent.
+    pub fn take(&mut self, reply: Reply) -> Out
+        ensures { TcTakes (tc_of self.old) (Some reply) result (tc_of self.new) }
     {
         let TransactionComponent::Up(tc) = self else {
             return Out::Refused(Refusal::NotConnected);
         };
-        let Some(reply) = reply else {
-            return Out::Refused(Refusal::Unsent);
-        };
         out_of_told(attempt!(tc.on_reply(reply)))
     }
 
+    /// No reply of the number was sent.
+    fn unsent(&self) -> Out
+        ensures { TcTakes (tc_of self.now) None result (tc_of self.now) }
+    {
+        match self {
+            TransactionComponent::Up(_) => Out::Refused(Refusal::Unsent),
+            TransactionComponent::Down(_) => Out::Refused(Refusal::NotConnected),
+        }
+    }
+
     /// Its crash, as an event.
+    #[inline(never)]
     fn fall(&mut self, alloc: Global, frames: u64, bytes: u64) -> Out
         ensures { TcCalls (tc_of self.old) (Event.CrashTc frames bytes) result (tc_of self.new) }
     {
@@ -285,6 +293,7 @@ impl TransactionComponent {
     }
 
     /// Its restart, as an event.
+    #[inline(never)]
     fn rise(&mut self, alloc: Global) -> Out
         ensures { TcCalls (tc_of self.old) Event.RestartTc result (tc_of self.new) }
     {

@@ -1,11 +1,11 @@
 //! The transaction component as half of a node, which may also step alone: it is handed the replies that it takes, and
 //! hands out the requests that it sends.
-ghost use Rattle.std.specs.Prelude.{◌≡◌, true, false, length, None, OnOk, OnErr, IfOk, IfErr};
+ghost use Rattle.std.specs.Prelude.{◌≡◌, true, false, length, Some, None, OnOk, OnErr, IfOk, IfErr};
 ghost use Rattle.stable.specs.Usage.{unused};
 ghost use Rattle.tc_core.specs.Kept.{IsTc};
 ghost use Rattle.tc_core.specs.LowWater.{IsGreatestAnnounced};
 ghost use Rattle.tc_core.specs.TcView.{fresh};
-ghost use Rattle.world.specs.Halves.{of_tc, TcLeads};
+ghost use Rattle.world.specs.Halves.{of_tc, TcLeads, TcTakes};
 
 use crate::event::{Event, Out};
 use crate::transaction_component::TransactionComponent;
@@ -60,9 +60,37 @@ impl TcSide {
         requires none { request.old ≡ None }
         ensures { TcLeads self.old next event.now reply result request.new self.new }
     {
-        let out = self
-            .component
-            .happen(self.alloc, event, reply, next, request);
+        match event {
+            Event::Reply { .. } => match reply {
+                Some(reply) => self.take(reply),
+                None => self.call(event, next, request),
+            },
+            _ => self.call(event, next, request),
+        }
+    }
+
+    /// One event; a Reply event finds no reply of its number.
+    pub(crate) fn call(
+        &mut self,
+        event: &Event,
+        next: Option<u64>,
+        request: &mut Option<Request>,
+    ) -> Out
+        requires own { of_tc event.now ≡ true }
+        requires none { request.old ≡ None }
+        ensures { TcLeads self.old next event.now None result request.new self.new }
+    {
+        let out = self.component.happen(self.alloc, event, next, request);
+        self.component.kept();
+        out
+    }
+
+    /// A Reply event that finds this one.
+    pub(crate) fn take(&mut self, reply: Reply) -> Out
+        ensures takes { TcTakes self.old (Some reply) result self.new }
+        ensures kept { IsTc self.new.tc }
+    {
+        let out = self.component.take(reply);
         self.component.kept();
         out
     }

@@ -6,14 +6,14 @@ pub returns-in_default : goal.returns-in_default
 returns-in_default c =
     let n = c.args.self.now in
     rw c.next_of-next.ensures.same
-    (subst (DoesTc n c.args.event.now c.step-out.result c.step-out.new.self) c.in_default.is
-    (c.step-out.ensures.gives n.dc n.requests.messages n.replies.messages c.next_of-next.ensures.number
+    (subst (DoesTc n c.args.event.now c.call-out.result c.call-out.new.self) c.in_default.is
+    (c.call-out.ensures.gives n.dc n.requests.messages n.replies.messages c.next_of-next.ensures.number
     c.requires.alone))
 
 pub returns : goal.returns
 returns c =
     let n = c.args.self.now in
     rw (c.push_reserved.ensures, c.next_of-next.ensures.same)
-    (subst (DoesTc n c.args.event.now c.step-out.result c.step-out.new.self) c.in-Some.is
-    (c.step-out.ensures.gives n.dc n.requests.messages n.replies.messages c.next_of-next.ensures.number
+    (subst (DoesTc n c.args.event.now c.call-out.result c.call-out.new.self) c.in-Some.is
+    (c.call-out.ensures.gives n.dc n.requests.messages n.replies.messages c.next_of-next.ensures.number
     c.requires.alone))
