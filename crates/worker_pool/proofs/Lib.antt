@@ -1,0 +1,7 @@
+pub mod Sent
+pub mod Lists
+pub mod Along
+pub mod Parts
+pub mod Entering
+pub mod Telling
+pub mod Sitting

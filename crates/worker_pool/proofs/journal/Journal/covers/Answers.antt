@@ -1,0 +1,48 @@
+use Rattle.std.proofs.Common.{◌≡◌, ◌<◌, List, ap, sym, ◌∙◌, subst, refl, length, rules}
+use Rattle.std.proofs.lemmas.Option.{slice_get_read}
+use Rattle.worker_pool.specs.declared.step.Step.{Step}
+use Rattle.worker_pool.specs.Kept.{calls_of}
+use Rattle.worker_pool.specs.Sessions.{calls, part_of, IsClosed}
+use Rattle.worker_pool.specs.Callers.{CallerView}
+use Rattle.worker_pool.specs.Views.{View, Sees}
+use Rattle.worker_pool.proofs.Entering.{places_seen}
+use Rattle.worker_pool.proofs.Parts.{closed_on}
+use Rattle.worker_pool.proofs.journal.Journal.covers.Goals as goal
+
+pub meet-requires-clause-name : goal.meet-requires-clause-name
+meet-requires-clause-name g c =
+    let s = c.self.inside in
+    let n = c.caller.inside.number in
+    let p = c.index_mut-place.result.now in
+    let less : n < length s.places.items = search rules in
+    let at = slice_get_read s.places.items (length s.places.items) n p refl less c.index_mut-place.ensures.value in
+    (c.self.invariant.0 n p at).name ∙ sym c.caller.invariant.1
+
+pub invariant_of-self : goal.invariant_of-self
+invariant_of-self g c =
+    let s = c.self.inside in
+    let n = c.caller.inside.number in
+    let p = c.index_mut-place.result.now in
+    let less : n < length s.places.items = search rules in
+    let at = slice_get_read s.places.items (length s.places.items) n p refl less c.index_mut-place.ensures.value in
+    let party : c.meet.new.self ≡ record { name = p.party.name; steps = s.lines } =
+    c.meet.ensures.party ∙ ap (λ (es : List Step). record { name = p.party.name; steps = es }) c.last.ensures.seen in (
+      places_seen g.J.Naming.entries g.J.Naming.names s.lines s.places.items n p _ c.self.invariant.0 at
+          (ap (λ (v : View). record p { party = v }) party),
+      c.self.invariant.1,
+    )
+
+pub returns-clause-calls : goal.returns-clause-calls
+returns-clause-calls g c =
+    let s = c.self.inside in
+    let n = c.caller.inside.number in
+    let p = c.index_mut-place.result.now in
+    let less : n < length s.places.items = search rules in
+    let at = slice_get_read s.places.items (length s.places.items) n p refl less c.index_mut-place.ensures.value in
+    let k = c.self.invariant.0 n p at in
+    let sees : Sees (calls_of n) c.caller.inside.visitor.steps s.lines =
+    subst (λ (v : View). Sees (calls_of n) v.steps s.lines) c.meet.ensures.same k.sees in
+    let closed = subst (λ (v : CallerView). IsClosed v.part) (sym c.caller.view_is) c.requires.closed in
+    subst (λ (w : List Step × CallerView). calls (part_of w.1.number w.0) ≡ calls w.1.part)
+    (λ i. (c.self.view_is i, c.caller.view_is i))
+    ((closed_on n c.caller.inside.visitor.steps s.lines sees closed).0)

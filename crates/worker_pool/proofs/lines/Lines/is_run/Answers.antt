@@ -1,0 +1,10 @@
+use Rattle.std.proofs.Common.{subst}
+use Rattle.worker_pool.specs.Steps.{IsRun}
+use Rattle.worker_pool.proofs.Entering.{lines_run}
+use Rattle.worker_pool.proofs.lines.Lines.is_run.Goals as goal
+
+pub returns : goal.returns
+returns g c =
+    let s = c.self.inside in
+    subst IsRun c.self.view_is
+    (lines_run g.J.Naming.entries g.J.Naming.names s.tokens.items s.asked.items s.given.items s.tc s.dc c.self.invariant)

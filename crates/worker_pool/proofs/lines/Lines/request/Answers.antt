@@ -1,0 +1,33 @@
+use Rattle.std.proofs.Common.{ap, sym, ◌∙◌, List, subst}
+use Rattle.world.specs.Messages.{message_at}
+use Rattle.worker_pool.specs.declared.step.Step.{Step}
+use Rattle.worker_pool.specs.Kept.{IsSentBy}
+use Rattle.worker_pool.specs.Slots.{Slot}
+use Rattle.worker_pool.specs.Steps.{requests}
+use Rattle.worker_pool.proofs.Entering.{on_ok, request_found}
+use Rattle.worker_pool.proofs.lines.Lines.request.Goals as goal
+
+pub returns-clause-shown : goal.returns-clause-shown
+returns-clause-shown g c =
+    let s = c.self.inside in
+    on_ok c.numbered.result
+    (λ p at. (request_found g.J.Naming.entries g.J.Naming.names s.tokens.items s.asked.items s.given.items s.tc s.dc
+    c.args.number p c.self.invariant (ap (λ (ms : List Slot). message_at ms c.args.number) (sym c.deref.ensures.value) ∙ at)).0)
+    c.numbered.ensures
+
+pub returns-clause-sent : goal.returns-clause-sent
+returns-clause-sent g c =
+    let s = c.self.inside in
+    on_ok c.numbered.result
+    (λ p at. subst (λ (es : List Step). IsSentBy (requests es) c.args.number p.value.step.sent) c.self.view_is
+    (request_found g.J.Naming.entries g.J.Naming.names s.tokens.items s.asked.items s.given.items s.tc s.dc
+    c.args.number p c.self.invariant (ap (λ (ms : List Slot). message_at ms c.args.number) (sym c.deref.ensures.value) ∙ at)).1)
+    c.numbered.ensures
+
+pub returns-clause-spelled : goal.returns-clause-spelled
+returns-clause-spelled g c =
+    let s = c.self.inside in
+    on_ok c.numbered.result
+    (λ p at. (request_found g.J.Naming.entries g.J.Naming.names s.tokens.items s.asked.items s.given.items s.tc s.dc
+    c.args.number p c.self.invariant (ap (λ (ms : List Slot). message_at ms c.args.number) (sym c.deref.ensures.value) ∙ at)).2)
+    c.numbered.ensures

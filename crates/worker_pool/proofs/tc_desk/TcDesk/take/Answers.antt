@@ -1,0 +1,50 @@
+use Rattle.std.proofs.Common.{◌≡◌, ap, ◌∙◌, subst, sym, Some}
+use Rattle.codec.specs.declared.reply.Reply.{Reply}
+use Rattle.worker_pool.specs.declared.entry.Entry.{Entry}
+use Rattle.worker_pool.specs.Kept.{IsSentBy}
+use Rattle.worker_pool.specs.Steps.{is_tc, replies}
+use Rattle.worker_pool.specs.Views.{View, Sees}
+use Rattle.worker_pool.proofs.Sitting.{tc_goes_with, tc_kept_on}
+use Rattle.worker_pool.proofs.tc_desk.TcDesk.take.Goals as goal
+
+pub invariant_of-self : goal.invariant_of-self
+invariant_of-self g c =
+    let s = c.self.inside in let look = c.look_reply.ensures in
+    tc_kept_on g.J.Naming.names s.visitor c.look_reply.new.visitor _ c.self.invariant
+    (ap (λ (x : View). x.name) look.visitor)
+    (subst (λ (x : View). Sees is_tc s.visitor.steps x.steps) (sym look.visitor) look.sees)
+
+pub enter_tc-requires-clause-enters : goal.enter_tc-requires-clause-enters
+enter_tc-requires-clause-enters g c =
+    let s = c.self.inside in let look = c.look_reply.ensures in let e = c.stepped-step.ensures in
+    let v = c.look_reply.new.visitor in
+    let by = subst (λ (x : View). IsSentBy (replies x.steps) c.args.number c.in_ok-given.given.value.step.given)
+    (sym look.visitor) c.in_ok-given.ensures.given in
+    let has : c.in_ok-given.given.value.step.given ≡ Some c.copy-reply.result =
+    ap (λ (x : Entry). x.step.given) (sym c.value.ensures) ∙ c.in-Some.is
+    ∙ ap (λ (r : Reply). Some r) (sym c.copy-reply.ensures) in (
+      _,
+      tc_goes_with s.visitor.steps v.steps s.side c.stepped-step.new.side s.sent c.stepped-step.result.1
+          c.stepped-step.result.0 c.args.number _ c.copy-reply.result
+          (subst (λ (x : View). Sees is_tc s.visitor.steps x.steps) (sym look.visitor) look.sees) c.self.invariant.gives
+          e.event by has e.leads e.sent e.none,
+    )
+
+pub invariant_of-self-2 : goal.invariant_of-self-2
+invariant_of-self-2 g c =
+    let s = c.self.inside in let look = c.look_reply.ensures in let e = c.stepped-step.ensures in
+    let v = c.look_reply.new.visitor in
+    let by = subst (λ (x : View). IsSentBy (replies x.steps) c.args.number c.in_ok-given.given.value.step.given)
+    (sym look.visitor) c.in_ok-given.ensures.given in
+    let has : c.in_ok-given.given.value.step.given ≡ Some c.copy-reply.result =
+    ap (λ (x : Entry). x.step.given) (sym c.value.ensures) ∙ c.in-Some.is
+    ∙ ap (λ (r : Reply). Some r) (sym c.copy-reply.ensures) in
+    let enters = tc_goes_with s.visitor.steps v.steps s.side c.stepped-step.new.side s.sent c.stepped-step.result.1
+    c.stepped-step.result.0 c.args.number _ c.copy-reply.result
+    (subst (λ (x : View). Sees is_tc s.visitor.steps x.steps) (sym look.visitor) look.sees) c.self.invariant.gives
+    e.event by has e.leads e.sent e.none in
+    record {
+      name = ap (λ (x : View). x.name) c.enter_tc.ensures.visitor ∙ ap (λ (x : View). x.name) look.visitor
+          ∙ c.self.invariant.name;
+      gives = c.enter_tc.ensures.gives _ enters;
+    }

@@ -1,0 +1,238 @@
+//! What a call answers, by how it ended.
+ghost use Rattle.std.specs.Prelude.{◌≡◌, ℕ, IfOk, IfErr, OnOk};
+ghost use Rattle.world.specs.declared.event.Out as outs;
+ghost use Rattle.world.specs.declared.event.Out.TheVariants as out;
+ghost use Rattle.worker_pool.specs.Answers.{AreShown, IsRefusal, IsToldAs, IsAtOnce, TellsCommit};
+
+use crate::copying::copied_value;
+use crate::ended::{Ended, why};
+use crate::hall::Hall;
+use crate::naming::Naming;
+use codec::Rows;
+use record_key::{Answer, Refusal, Value};
+use std::sync::Wait;
+use std::thread;
+use world::Out;
+
+/// The answer that a transaction's operation was told.
+pub(crate) fn answer_told<J: Naming>(hall: &Hall<J>, ended: &Ended) -> Result<Answer, Refusal>
+    requires { AreShown J.entries ended.now }
+    ensures told { IfOk result (λ answer.
+        IsToldAs (λ (o : outs.Out). (n : ℕ) × (o ≡ out.Logged n)) (λ (o : outs.Out). (u : ℕ) × (o ≡ out.Answered u answer)) ended.now) }
+    ensures refused { IfErr result (λ r. IsRefusal ended.now r) }
+{
+    match ended {
+        Ended::NotAlive => Err(Refusal::NotOpen),
+        Ended::CutOff => Err(Refusal::NotConnected),
+        Ended::AtOnce(call) => Err(why(&hall.row().value(call).step.out)),
+        Ended::Told(call, line) => answer_of(
+            &hall.row().value(call).step.out,
+            &hall.row().value(line).step.out,
+        ),
+    }
+}
+
+// The answer of a logged operation.
+fn answer_of(call: &Out, line: &Out) -> Result<Answer, Refusal>
+    ensures told { IfOk result (λ answer. ((n : ℕ) × (call.now ≡ out.Logged n)) × ((u : ℕ) × (line.now ≡ out.Answered u answer))) }
+    ensures refused { IfErr result (λ r. r ≡ Refusal.NotConnected) }
+{
+    match (call, line) {
+        (Out::Logged(_), Out::Answered { txn: _, answer }) => Ok(answer.copied()),
+        _ => Err(Refusal::NotConnected),
+    }
+}
+
+/// The value that a Get was told.
+pub(crate) fn row_told<J: Naming>(hall: &Hall<J>, ended: &Ended) -> Result<Option<Value>, Refusal>
+    requires { AreShown J.entries ended.now }
+    ensures told { IfOk result (λ value.
+        IsToldAs (λ (o : outs.Out). (n : ℕ) × (o ≡ out.Asked n)) (λ (o : outs.Out). (u : ℕ) × (o ≡ out.Row u value)) ended.now) }
+    ensures refused { IfErr result (λ r. IsRefusal ended.now r) }
+{
+    match ended {
+        Ended::NotAlive => Err(Refusal::NotOpen),
+        Ended::CutOff => Err(Refusal::NotConnected),
+        Ended::AtOnce(call) => Err(why(&hall.row().value(call).step.out)),
+        Ended::Told(call, line) => row_of(
+            &hall.row().value(call).step.out,
+            &hall.row().value(line).step.out,
+        ),
+    }
+}
+
+// The value of a read.
+fn row_of(call: &Out, line: &Out) -> Result<Option<Value>, Refusal>
+    ensures told { IfOk result (λ value. ((n : ℕ) × (call.now ≡ out.Asked n)) × ((u : ℕ) × (line.now ≡ out.Row u value))) }
+    ensures refused { IfErr result (λ r. r ≡ Refusal.NotConnected) }
+{
+    match (call, line) {
+        (Out::Asked(_), Out::Row { txn: _, value }) => Ok(copied_value(value)),
+        _ => Err(Refusal::NotConnected),
+    }
+}
+
+/// The rows that a Scan was told.
+pub(crate) fn rows_told<J: Naming, R: Wait>(
+    rt: &R,
+    hall: &Hall<J>,
+    ended: &Ended,
+) -> Result<Rows, Refusal>
+    requires { AreShown J.entries ended.now }
+    ensures told { IfOk result (λ rows.
+        IsToldAs (λ (o : outs.Out). (n : ℕ) × (o ≡ out.Asked n)) (λ (o : outs.Out). (u : ℕ) × (o ≡ out.Rows u rows)) ended.now) }
+    ensures refused { IfErr result (λ r. IsRefusal ended.now r) }
+{
+    match ended {
+        Ended::NotAlive => Err(Refusal::NotOpen),
+        Ended::CutOff => Err(Refusal::NotConnected),
+        Ended::AtOnce(call) => Err(why(&hall.row().value(call).step.out)),
+        Ended::Told(call, line) => rows_of(
+            rt,
+            &hall.row().value(call).step.out,
+            &hall.row().value(line).step.out,
+        ),
+    }
+}
+
+// The rows of a read. Where memory for them is refused it is tried again until they are made.
+fn rows_of<R: Wait>(rt: &R, call: &Out, line: &Out) -> Result<Rows, Refusal>
+    ensures told { IfOk result (λ rows. ((n : ℕ) × (call.now ≡ out.Asked n)) × ((u : ℕ) × (line.now ≡ out.Rows u rows))) }
+    ensures refused { IfErr result (λ r. r ≡ Refusal.NotConnected) }
+{
+    match (call, line) {
+        (Out::Asked(_), Out::Rows { txn: _, rows }) => Ok(copies(rt, rows)),
+        _ => Err(Refusal::NotConnected),
+    }
+}
+
+/// That a transaction is back at a savepoint.
+pub(crate) fn back_told<J: Naming>(hall: &Hall<J>, ended: &Ended) -> Result<(), Refusal>
+    requires { AreShown J.entries ended.now }
+    ensures told { IfOk result (λ done.
+        IsToldAs (λ (o : outs.Out). o ≡ out.RollingBack) (λ (o : outs.Out). (u : ℕ) × (s : ℕ) × (o ≡ out.Back u s)) ended.now) }
+    ensures refused { IfErr result (λ r. IsRefusal ended.now r) }
+{
+    match ended {
+        Ended::NotAlive => Err(Refusal::NotOpen),
+        Ended::CutOff => Err(Refusal::NotConnected),
+        Ended::AtOnce(call) => Err(why(&hall.row().value(call).step.out)),
+        Ended::Told(call, line) => back_of(
+            &hall.row().value(call).step.out,
+            &hall.row().value(line).step.out,
+        ),
+    }
+}
+
+// That it is back.
+fn back_of(call: &Out, line: &Out) -> Result<(), Refusal>
+    ensures told { IfOk result (λ done. (call.now ≡ out.RollingBack) × ((u : ℕ) × (s : ℕ) × (line.now ≡ out.Back u s))) }
+    ensures refused { IfErr result (λ r. r ≡ Refusal.NotConnected) }
+{
+    match (call, line) {
+        (Out::RollingBack, Out::Back { .. }) => Ok(()),
+        _ => Err(Refusal::NotConnected),
+    }
+}
+
+/// That a transaction is rolled back.
+pub(crate) fn rollback_told<J: Naming>(hall: &Hall<J>, ended: &Ended) -> Result<(), Refusal>
+    requires { AreShown J.entries ended.now }
+    ensures told { IfOk result (λ done.
+        IsToldAs (λ (o : outs.Out). o ≡ out.RollingBack) (λ (o : outs.Out). (u : ℕ) × (o ≡ out.RolledBack u)) ended.now) }
+    ensures refused { IfErr result (λ r. IsRefusal ended.now r) }
+{
+    match ended {
+        Ended::NotAlive => Err(Refusal::NotOpen),
+        Ended::CutOff => Err(Refusal::NotConnected),
+        Ended::AtOnce(call) => Err(why(&hall.row().value(call).step.out)),
+        Ended::Told(call, line) => rollback_of(
+            &hall.row().value(call).step.out,
+            &hall.row().value(line).step.out,
+        ),
+    }
+}
+
+// That it is rolled back.
+fn rollback_of(call: &Out, line: &Out) -> Result<(), Refusal>
+    ensures told { IfOk result (λ done. (call.now ≡ out.RollingBack) × ((u : ℕ) × (line.now ≡ out.RolledBack u))) }
+    ensures refused { IfErr result (λ r. r ≡ Refusal.NotConnected) }
+{
+    match (call, line) {
+        (Out::RollingBack, Out::RolledBack(_)) => Ok(()),
+        _ => Err(Refusal::NotConnected),
+    }
+}
+
+/// The number of the Commit record of a transaction that was told to have committed.
+pub(crate) fn commit_told<J: Naming>(hall: &Hall<J>, ended: &Ended) -> Result<u64, Refusal>
+    requires { AreShown J.entries ended.now }
+    ensures told { IfOk result (λ number. IsToldAs (λ (o : outs.Out). o ≡ out.CommitLogged number) TellsCommit ended.now) }
+    ensures refused { IfErr result (λ r. IsRefusal ended.now r) }
+{
+    match ended {
+        Ended::NotAlive => Err(Refusal::NotOpen),
+        Ended::CutOff => Err(Refusal::NotConnected),
+        Ended::AtOnce(call) => Err(why(&hall.row().value(call).step.out)),
+        Ended::Told(call, line) => commit_of(
+            &hall.row().value(call).step.out,
+            &hall.row().value(line).step.out,
+        ),
+    }
+}
+
+// The number of the record.
+fn commit_of(call: &Out, line: &Out) -> Result<u64, Refusal>
+    ensures told { IfOk result (λ number. (call.now ≡ out.CommitLogged number) × TellsCommit line.now) }
+    ensures refused { IfErr result (λ r. r ≡ Refusal.NotConnected) }
+{
+    match (call, line) {
+        (Out::CommitLogged(number), Out::Stable { .. } | Out::Connects { .. }) => Ok(*number),
+        _ => Err(Refusal::NotConnected),
+    }
+}
+
+/// The number of a savepoint that was set.
+pub(crate) fn saved<J: Naming>(hall: &Hall<J>, ended: &Ended) -> Result<u64, Refusal>
+    requires { AreShown J.entries ended.now }
+    ensures told { IfOk result (λ s. IsAtOnce (out.Saved s) ended.now) }
+    ensures refused { IfErr result (λ r. IsRefusal ended.now r) }
+{
+    match ended {
+        Ended::NotAlive => Err(Refusal::NotOpen),
+        Ended::CutOff | Ended::Told(_, _) => Err(Refusal::NotConnected),
+        Ended::AtOnce(call) => match &hall.row().value(call).step.out {
+            Out::Saved(savepoint) => Ok(*savepoint),
+            out => Err(why(out)),
+        },
+    }
+}
+
+/// The number of a transaction that has begun.
+pub(crate) fn begun<J: Naming>(hall: &Hall<J>, ended: &Ended) -> Result<u64, Refusal>
+    requires { AreShown J.entries ended.now }
+    ensures told { IfOk result (λ t. IsAtOnce (out.Begun t) ended.now) }
+    ensures refused { IfErr result (λ r. IsRefusal ended.now r) }
+{
+    match ended {
+        Ended::NotAlive => Err(Refusal::NotOpen),
+        Ended::CutOff | Ended::Told(_, _) => Err(Refusal::NotConnected),
+        Ended::AtOnce(call) => match &hall.row().value(call).step.out {
+            Out::Begun(txn) => Ok(*txn),
+            out => Err(why(out)),
+        },
+    }
+}
+
+// The same rows again. Where memory is refused it is tried again until they are made.
+fn copies<R: Wait>(rt: &R, rows: &Rows) -> Rows
+    ensures { result ≡ rows.now }
+{
+    for _ in rt.forever() {
+        if let Ok(copy) = rows.copied() {
+            return copy;
+        }
+        thread::yield_now();
+    }
+    unreachable!()
+}

@@ -1,0 +1,27 @@
+//! The names that tie what lies under locks of its own.
+use std::marker::Brand;
+
+/// Which engine it is. Each call of a program picks it.
+pub trait Naming {
+    ghost use Rattle.std.specs.Prelude.{ℕ};
+    ghost use Rattle.boxcar.specs.Table.{Shelves};
+
+    /// The row in which the entries stand.
+    ghost entries: { Shelves };
+
+    /// The ties: of the transaction component, of the data component, and of each session.
+    ghost names: { ℕ → ℕ };
+
+    /// How many sessions there are.
+    ghost sessions: { ℕ };
+}
+
+impl Naming for Brand {
+    ghost use Rattle.std.specs.Prelude.{[]};
+
+    ghost entries = { record { tag = []; buckets = [] } };
+
+    ghost names = { λ n. n };
+
+    ghost sessions = { 0 };
+}

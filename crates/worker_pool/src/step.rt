@@ -1,0 +1,14 @@
+//! One step of one component, with the message that it sent.
+use codec::{Reply, Request};
+use world::{Event, Out};
+
+/// An event with what it came to, whose call it is, and the request or the reply that it sent.
+#[derive(Debug, Drop)]
+pub struct Step {
+    /// The session whose call it is, from 0.
+    pub caller: Option<u64>,
+    pub event: Event,
+    pub out: Out,
+    pub sent: Option<Request>,
+    pub given: Option<Reply>,
+}

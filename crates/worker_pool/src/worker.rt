@@ -1,0 +1,67 @@
+//! What a worker does.
+use crate::gate::Gate;
+use crate::naming::Naming;
+use crate::shared::{Job, Shared};
+use crossbeam_channel::Receiver;
+use record_key::Refusal;
+use std::sync::Wait;
+use world::{Event, Out};
+
+/// Serves requests until the engine and every session are gone.
+pub fn work<J: Naming, G: Gate, R: Wait>(rt: &R, shared: &Shared<J, G>, jobs: &Receiver<Job>) {
+    for _ in rt.forever() {
+        let Ok(job) = jobs.recv(rt) else {
+            break;
+        };
+        shared.serve(rt, job);
+    }
+}
+
+impl<J: Naming, G: Gate> Shared<J, G> {
+    // Serves one request, hands its reply over, and keeps the leaves small.
+    fn serve<R: Wait>(&self, rt: &R, job: Job) {
+        self.look_on(rt, job.number);
+        if self.exchange(rt, job.number) {
+            self.journal.lock(rt).stir(job.session);
+        }
+        self.news.notify_all();
+        self.dc
+            .lock(rt)
+            .enter(rt, self.hall.row(), &self.journal, Event::Tend);
+    }
+
+    // The program sees the request, with no lock held.
+    fn look_on<R: Wait>(&self, rt: &R, number: u64) {
+        let found = self.journal.lock(rt).request(number);
+        if let Ok(sent) = found {
+            if let Some(request) = &self.hall.row().value(&sent).step.sent {
+                self.gate.before(request);
+            }
+        }
+    }
+
+    // The request is served, and its reply taken. Whether the session has to look again: not where the data component
+    // is down, in redo or in another session, since who restarts it says when it is up.
+    fn exchange<R: Wait>(&self, rt: &R, number: u64) -> bool {
+        let row = self.hall.row();
+        let served = self
+            .dc
+            .lock(rt)
+            .serve(rt, row, &self.journal, &self.gate, number);
+        let Ok(token) = served else {
+            return true;
+        };
+        let step = &row.value(&token).step;
+        if let Some(reply) = &step.given {
+            self.gate.after(reply);
+        }
+        match &step.out {
+            Out::Replied(reply) => {
+                let _ = self.tc.lock(rt).take(rt, row, &self.journal, *reply);
+                true
+            }
+            Out::Refused(Refusal::NotConnected | Refusal::Redoing | Refusal::Stale) => false,
+            _ => true,
+        }
+    }
+}
