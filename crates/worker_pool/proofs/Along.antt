@@ -235,7 +235,8 @@ in_run es t u is a b =
 
 -- ---- what was sent has a spelling
 
-spelled_at : (e : Step) (b : Bool) (ps : List Reply) (qs : List Request) (es : List Step) (s t : TcState) (d u : DcState)
+spelled_at : (e : Step) (b : Bool) (ps : List Reply) (qs : List Request) (es : List Step) (s t : TcState)
+    (d u : DcState)
     → MatchBool b ((mid : TcState) × TcStep ps s e mid × TcAlong (also ps e.given) mid es t)
     (TcAlong (also ps e.given) s es t)
     → MatchBool b (DcAlong (also qs e.sent) d es u)
@@ -257,8 +258,11 @@ spelled_all : (es : List Step) (ps : List Reply) (qs : List Request) (s t : TcSt
     → TcAlong ps s es t → DcAlong qs d es u → AllByRecursion (λ (e : Step). IsSpelledIf e.sent) es
 spelled_all [] ps qs s t d u a b = tt
 spelled_all (e ∷ es) ps qs s t d u a b =
-    let rest = rest_at e (is_tc e) ps qs es s t d u a b in
-    (spelled_at e (is_tc e) ps qs es s t d u a b, spelled_all es (also ps e.given) (also qs e.sent) rest.0 t rest.1 u rest.2 rest.3)
+    let rest = rest_at e (is_tc e) ps qs es s t d u a b in (
+      spelled_at e (is_tc e) ps qs es s t d u a b,
+      spelled_all es (also ps e.given)
+          (also qs e.sent) rest.0 t rest.1 u rest.2 rest.3,
+    )
 
 pub spelled : (es : List Step) (t : TcState) (u : DcState) → GivesTc es t → GivesDc es u
     → AllByRecursion (λ (e : Step). IsSpelledIf e.sent) es

@@ -68,7 +68,15 @@ module _ (row : Shelves) (names : ℕ → ℕ) where
       let now : steps (tokens ++ p ∷ []) ≡ es ++ e ∷ [] = steps_snoc tokens p ∙ ap (λ (x : Step). es ++ x ∷ []) step in
       let thr : through p.value ≡ es ++ e ∷ [] = through_is tokens p e step before in
       let dc_runs : GivesDc (es ++ e ∷ []) k.gives_dc.0 =
-      dc_on es (es ++ e ∷ []) k.gives_dc.0 (record { since = e ∷ []; all = refl; none = (not_false (is_tc e) is, tt) }) k.gives_dc.1 in
+      dc_on es (es ++ e ∷ []) k.gives_dc.0 (record {
+        since = e ∷ [];
+        all = refl;
+        none = (
+          not_false
+              (is_tc e) is,
+          tt,
+        );
+      }) k.gives_dc.1 in
       let done : LinesKept row names (tokens ++ p ∷ []) (asked ++ cond (is_some e.sent) (p ∷ []) []) given
       (record { name = tc.name; steps = through p.value }) dc = record {
         shown = all_snoc (Shown row) tokens p k.shown shown;
@@ -78,15 +86,21 @@ module _ (row : Shelves) (names : ℕ → ℕ) where
             ∙ ap (λ (x : Step). filter asks tokens ++ cond (is_some x.sent) (p ∷ []) []) (sym step)
             ∙ sym (filter_snoc asks tokens p);
         given_are = k.given_are ∙ sym (append-nil (filter gives tokens))
-            ∙ ap (λ (b : Bool). filter gives tokens ++ cond b (p ∷ []) []) (sym (ap (λ (x : Step). is_some x.given) step ∙ ap is_some none))
+            ∙ ap (λ (b : Bool). filter gives tokens ++ cond b (p ∷ []) []) (sym (ap (λ
+            (x : Step). is_some x.given) step ∙ ap is_some none))
             ∙ sym (filter_snoc gives tokens p);
         start = k.start;
-        gives_tc = (n, subst (λ (xs : List Step). GivesTc xs n) (sym now) (tc_entered tc.steps es e n is k.tc_sees enters));
+        gives_tc = (
+          n,
+          subst (λ (xs : List Step). GivesTc xs n) (sym now)
+              (tc_entered tc.steps es e n is k.tc_sees enters),
+        );
         gives_dc = (k.gives_dc.0, subst (λ (xs : List Step). GivesDc xs k.gives_dc.0) (sym now) dc_runs);
         tc_name = k.tc_name;
         dc_name = k.dc_name;
         tc_sees = sees_all is_tc (through p.value) (steps (tokens ++ p ∷ [])) (now ∙ sym thr);
-        dc_sees = subst (Sees is_dc dc.steps) (sym now) (sees_snoc is_dc dc.steps es e (not_false (is_tc e) is) k.dc_sees);
+        dc_sees = subst (Sees is_dc dc.steps) (sym now) (sees_snoc is_dc dc.steps es e (not_false
+            (is_tc e) is) k.dc_sees);
       } in
       subst (λ (w : List Slot × List Slot × View). LinesKept row names w.0 w.1 given w.2 dc)
       (λ i. (sym all i, sym sent i, sym view i)) done
@@ -109,7 +123,8 @@ module _ (row : Shelves) (names : ℕ → ℕ) where
         shown = all_snoc (Shown row) tokens p k.shown shown;
         last = ap seen (last_snoc tokens p) ∙ thr ∙ sym now;
         asked_are = k.asked_are ∙ sym (append-nil (filter asks tokens))
-            ∙ ap (λ (b : Bool). filter asks tokens ++ cond b (p ∷ []) []) (sym (ap (λ (x : Step). is_some x.sent) step ∙ ap is_some none))
+            ∙ ap (λ (b : Bool). filter asks tokens ++ cond b (p ∷ []) []) (sym (ap (λ
+            (x : Step). is_some x.sent) step ∙ ap is_some none))
             ∙ sym (filter_snoc asks tokens p);
         given_are =
             ap (λ (xs : List Slot). xs ++ cond (is_some e.given) (p ∷ []) []) k.given_are
@@ -117,7 +132,11 @@ module _ (row : Shelves) (names : ℕ → ℕ) where
             ∙ sym (filter_snoc gives tokens p);
         start = k.start;
         gives_tc = (k.gives_tc.0, subst (λ (xs : List Step). GivesTc xs k.gives_tc.0) (sym now) tc_runs);
-        gives_dc = (n, subst (λ (xs : List Step). GivesDc xs n) (sym now) (dc_entered dc.steps es e n other k.dc_sees enters));
+        gives_dc = (
+          n,
+          subst (λ (xs : List Step). GivesDc xs n) (sym now)
+              (dc_entered dc.steps es e n other k.dc_sees enters),
+        );
         tc_name = k.tc_name;
         dc_name = k.dc_name;
         tc_sees = subst (Sees is_tc tc.steps) (sym now) (sees_snoc is_tc tc.steps es e other k.tc_sees);
@@ -142,11 +161,6 @@ module _ (row : Shelves) (names : ℕ → ℕ) where
     dc_sees = sees_all is_dc dc.steps [] (ap (λ (v : View). v.steps) (sym dc_is));
   }
 
-  pub last_shown : (tokens asked given : List Slot) (tc dc : View) → LinesKept row names tokens asked given tc dc
-      → (o : Option Slot) → o ≡ last_of tokens → IsShown row o
-  last_shown tokens asked given tc dc k None is = tt
-  last_shown tokens asked given tc dc k (Some p) is = all_at (Shown row) tokens _ p k.shown (sym is)
-
   pub last_seen : (tokens asked given : List Slot) (tc dc : View) → LinesKept row names tokens asked given tc dc
       → (o : Option Slot) → o ≡ last_of tokens → seen o ≡ steps tokens
   last_seen tokens asked given tc dc k o is = ap seen is ∙ k.last
@@ -155,7 +169,8 @@ module _ (row : Shelves) (names : ℕ → ℕ) where
       → LinesKept row names tokens asked given tc dc → message_at asked n ≡ Some p
       → Shown row p × IsSentBy (requests (steps tokens)) n p.value.step.sent × IsSpelledIf p.value.step.sent
   request_found tokens asked given tc dc n p k at =
-      let at' : message_at (filter asks tokens) n ≡ Some p = ap (λ (ms : List Slot). message_at ms n) (sym k.asked_are) ∙ at in (
+      let at' : message_at (filter asks tokens) n ≡ Some p = ap (λ (ms : List Slot). message_at ms n)
+      (sym k.asked_are) ∙ at in (
         kept_at (Shown row) asks tokens n p k.shown at',
         request_of tokens n p at',
         kept_at (λ (q : Slot). IsSpelledIf q.value.step.sent) asks tokens n p
@@ -167,7 +182,8 @@ module _ (row : Shelves) (names : ℕ → ℕ) where
       → LinesKept row names tokens asked given tc dc → message_at given n ≡ Some p
       → Shown row p × IsSentBy (replies (steps tokens)) n p.value.step.given
   reply_found tokens asked given tc dc n p k at =
-      let at' : message_at (filter gives tokens) n ≡ Some p = ap (λ (ms : List Slot). message_at ms n) (sym k.given_are) ∙ at in
+      let at' : message_at (filter gives tokens) n ≡ Some p = ap (λ (ms : List Slot). message_at ms n)
+      (sym k.given_are) ∙ at in
       (kept_at (Shown row) gives tokens n p k.shown at', reply_of tokens n p at')
 
   pub lines_run : (tokens asked given : List Slot) (tc dc : View) → LinesKept row names tokens asked given tc dc
@@ -275,7 +291,8 @@ module _ {J : Type 0} (row : Shelves) (names : ℕ → ℕ) where
       elim (placed places n q s r at) [
         | here same r_is ↦
             let k = kept n p there in
-            let done : PlaceKept row names es n (record p { party = record { name = p.party.name; steps = es } }) = record {
+            let done : PlaceKept row names es n
+            (record p { party = record { name = p.party.name; steps = es } }) = record {
               number = k.number;
               name = k.name;
               sees = sees_all (calls_of n) es es refl;
@@ -297,7 +314,15 @@ module _ {J : Type 0} (row : Shelves) (names : ℕ → ℕ) where
       let g = grown s before es (subst (λ (xs : List Step). Sees (calls_of s) xs es) (sym seen_is) k.sees) in
       let l = subst (IsLine (line_of (part_of s es).latest)) is k.line in
       let h = has_line (part_of s before).latest (part_of s es).latest l.1.0 g.1 l.1.1 in
-      record { txn = l.0; line = l.1.0; tells = l.1.2; before = g.0; latest = h; closed = inr (idle (part_of s es).latest l.1.0 l.1.1) }
+      record {
+        txn = l.0;
+        line = l.1.0;
+        tells = l.1.2;
+        before = g.0;
+        latest = h;
+        closed = inr (idle
+            (part_of s es).latest l.1.0 l.1.1);
+      }
     where
       not_pending : (b : Bool) → cond b false false ≡ false
       not_pending true = refl
@@ -317,7 +342,11 @@ module _ {J : Type 0} (row : Shelves) (names : ℕ → ℕ) where
       → line_of (part_of s before).latest ≡ None → p.line ≡ None → IsUntold (part_of s before) (part_of s es)
   news_none s before es p k seen_is old is =
       let g = grown s before es (subst (λ (xs : List Step). Sees (calls_of s) xs es) (sym seen_is) k.sees) in
-      record { before = g.0; latest = untold (part_of s before).latest (part_of s es).latest g.1 old (subst (IsLine (line_of (part_of s es).latest)) is k.line) }
+      record {
+        before = g.0;
+        latest = untold (part_of s before).latest (part_of s es).latest g.1 old (subst
+            (IsLine (line_of (part_of s es).latest)) is k.line);
+      }
     where
       untold : (old new : Option Call) → IsSameCall old new → line_of old ≡ None → line_of new ≡ None → new ≡ old
       untold None new same a b = same

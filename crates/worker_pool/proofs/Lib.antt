@@ -3,5 +3,4 @@ pub mod Lists
 pub mod Along
 pub mod Parts
 pub mod Entering
-pub mod Telling
 pub mod Sitting

@@ -10,6 +10,8 @@ use Rattle.codec.specs.declared.request.Request.{Request}
 use Rattle.codec.specs.declared.reply.Reply.{Reply}
 use Rattle.world.specs.Halves.{also}
 use Rattle.world.specs.Messages.{message_at}
+use Rattle.record_key.proofs.Kept.{all_filtered}
+use Rattle.record_key.proofs.Lists.{all_appended}
 use Rattle.worker_pool.specs.declared.step.Step.{Step}
 use Rattle.worker_pool.specs.Kept.{IsSentBy}
 use Rattle.worker_pool.specs.Slots.{Slot, steps, asks, gives, last_of}
@@ -19,14 +21,9 @@ pub map_match : (b : Bool) {X Y X' Y' : Type 0} → (X → X') → (Y → Y') �
 map_match true f g m = f m
 map_match false f g m = g m
 
-pub all_append : {A : Type 0} (P : A → Type 0) (xs ys : List A) → AllByRecursion P xs → AllByRecursion P ys
-    → AllByRecursion P (xs ++ ys)
-all_append P [] ys a b = b
-all_append P (x ∷ xs) ys a b = (a.0, all_append P xs ys a.1 b)
-
 pub all_snoc : {A : Type 0} (P : A → Type 0) (xs : List A) (x : A) → AllByRecursion P xs → P x
     → AllByRecursion P (xs ++ x ∷ [])
-all_snoc P xs x a p = all_append P xs (x ∷ []) a (p, tt)
+all_snoc P xs x a p = all_appended P xs (x ∷ []) a (p, tt)
 
 pub all_at : {A : Type 0} (P : A → Type 0) (xs : List A) (k : ℕ) (x : A) → AllByRecursion P xs
     → slice_get xs k ≡ Some x → P x
@@ -128,21 +125,11 @@ pub all_map : {A B : Type 0} (v : A → B) (P : B → Type 0) (xs : List A) → 
 all_map v P [] a = tt
 all_map v P (x ∷ xs) a = (a.0, all_map v P xs a.1)
 
-all_kept_at : {A : Type 0} (P : A → Type 0) (x : A) (xs : List A) (b : Bool) → P x → AllByRecursion P xs
-    → AllByRecursion P (cond b (x ∷ xs) xs)
-all_kept_at P x xs true p a = (p, a)
-all_kept_at P x xs false p a = a
-
-all_filter : {A : Type 0} (P : A → Type 0) (f : A → Bool) (xs : List A) → AllByRecursion P xs
-    → AllByRecursion P (filter f xs)
-all_filter P f [] a = tt
-all_filter P f (x ∷ xs) a = all_kept_at P x (filter f xs) (f x) a.0 (all_filter P f xs a.1)
-
 -- what holds of each holds of the one that is found by its number among some of them
 pub kept_at : {A : Type 0} (P : A → Type 0) (f : A → Bool) (xs : List A) (n : ℕ) (x : A) → AllByRecursion P xs
     → message_at (filter f xs) n ≡ Some x → P x
 kept_at P f xs zero x a at = absurd (cc (at))
-kept_at P f xs (suc n) x a at = all_at P (filter f xs) n x (all_filter P f xs a) at
+kept_at P f xs (suc n) x a at = all_at P (filter f xs) n x (all_filtered P f xs a) at
 
 pub filter_map-map : {A B C : Type 0} (h : B → Option C) (v : A → B) (xs : List A)
     → filter_map h (map v xs) ≡ filter_map (λ x. h (v x)) xs

@@ -7,7 +7,7 @@ use Rattle.world.specs.declared.event.Out.{Out}
 use Rattle.worker_pool.specs.declared.place.Place.{Place}
 use Rattle.worker_pool.specs.declared.step.Step.{Step}
 use Rattle.worker_pool.specs.Kept.{calls_of, PlaceKept, IsLine, with_told, place_heard}
-use Rattle.worker_pool.specs.Sessions.{Call, Part, with_latest, calls, line_to, line_for, is_pending, is_untold, awaits, told, told_of, pending, line_of, live_after, ends, called_as, hears, cuts_off, heard, called, after, part_after, no_part, part_of, IsClosed, IsSameCall}
+use Rattle.worker_pool.specs.Sessions.{Call, Part, with_latest, calls, line_to, line_for, is_pending, awaits, told, told_of, pending, line_of, live_after, ends, called_as, hears, cuts_off, heard, called, after, part_after, no_part, part_of, IsClosed, IsSameCall}
 use Rattle.worker_pool.specs.Slots.{Slot, Shown, IsShown}
 use Rattle.worker_pool.specs.Views.{View, Sees}
 use Rattle.worker_pool.proofs.Lists.{all_snoc}
@@ -140,14 +140,6 @@ grown s before now sees =
 teller : (live : Option ℕ) (o : Out) (l : Line) → line_for live o ≡ Some l → (t : ℕ) × (line_to t o ≡ Some l)
 teller None o l is = absurd (cc (is))
 teller (Some t) o l is = (t, is)
-
-untold : (c : Call) → awaits c ≡ true → c.line ≡ None
-untold c is = untold_at (is_pending c.out) c.line is
-  where
-    untold_at : (b : Bool) (line : Option Line) → cond b (is_untold line) false ≡ true → line ≡ None
-    untold_at true None is = refl
-    untold_at true (Some l) is = absurd (cc (is))
-    untold_at false line is = absurd (cc (is))
 
 not_pending : (b : Bool) → cond b false false ≡ false
 not_pending true = refl

@@ -33,7 +33,8 @@ IsLine line None = line ≡ None
 IsLine line (Some p) = (t : ℕ) × ((l : Line) × (line ≡ Some l) × (line_to t p.value.step.out ≡ Some l))
 
 -- what the journal keeps of a session
-pub record PlaceKept {J : Type 0} (row : Shelves) (names : ℕ → ℕ) (es : List Step) (s : ℕ) (p : Place J) : Type 0 where
+pub record PlaceKept {J : Type 0} (row : Shelves) (names : ℕ → ℕ) (es : List Step) (s : ℕ) (p : Place J)
+    : Type 0 where
   pub number : p.number ≡ s
   pub name : p.party.name ≡ names (s + 2)
   pub sees : Sees (calls_of s) p.party.steps es
@@ -44,7 +45,8 @@ pub record PlaceKept {J : Type 0} (row : Shelves) (names : ℕ → ℕ) (es : Li
 
 -- the place of each session
 abbrev pub PlacesKept : {J : Type 0} → Shelves → (ℕ → ℕ) → List Step → List (Place J) → Type 0
-PlacesKept {J} row names es places = (s : ℕ) (p : Place J) → slice_get places s ≡ Some p → PlaceKept row names es s p
+PlacesKept {J} row names es places =
+    (s : ℕ) (p : Place J) → slice_get places s ≡ Some p → PlaceKept row names es s p
 
 abbrev pub is_end : Told → Bool
 is_end is.End = true

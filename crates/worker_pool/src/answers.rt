@@ -18,7 +18,8 @@ use world::Out;
 pub(crate) fn answer_told<J: Naming>(hall: &Hall<J>, ended: &Ended) -> Result<Answer, Refusal>
     requires { AreShown J.entries ended.now }
     ensures told { IfOk result (λ answer.
-        IsToldAs (λ (o : outs.Out). (n : ℕ) × (o ≡ out.Logged n)) (λ (o : outs.Out). (u : ℕ) × (o ≡ out.Answered u answer)) ended.now) }
+        IsToldAs (λ (o : outs.Out). (n : ℕ) × (o ≡ out.Logged n))
+        (λ (o : outs.Out). (u : ℕ) × (o ≡ out.Answered u answer)) ended.now) }
     ensures refused { IfErr result (λ r. IsRefusal ended.now r) }
 {
     match ended {
@@ -34,7 +35,9 @@ pub(crate) fn answer_told<J: Naming>(hall: &Hall<J>, ended: &Ended) -> Result<An
 
 // The answer of a logged operation.
 fn answer_of(call: &Out, line: &Out) -> Result<Answer, Refusal>
-    ensures told { IfOk result (λ answer. ((n : ℕ) × (call.now ≡ out.Logged n)) × ((u : ℕ) × (line.now ≡ out.Answered u answer))) }
+    ensures told { IfOk result (λ answer.
+        ((n : ℕ) × (call.now ≡ out.Logged n))
+        × ((u : ℕ) × (line.now ≡ out.Answered u answer))) }
     ensures refused { IfErr result (λ r. r ≡ Refusal.NotConnected) }
 {
     match (call, line) {
@@ -47,7 +50,8 @@ fn answer_of(call: &Out, line: &Out) -> Result<Answer, Refusal>
 pub(crate) fn row_told<J: Naming>(hall: &Hall<J>, ended: &Ended) -> Result<Option<Value>, Refusal>
     requires { AreShown J.entries ended.now }
     ensures told { IfOk result (λ value.
-        IsToldAs (λ (o : outs.Out). (n : ℕ) × (o ≡ out.Asked n)) (λ (o : outs.Out). (u : ℕ) × (o ≡ out.Row u value)) ended.now) }
+        IsToldAs (λ (o : outs.Out). (n : ℕ) × (o ≡ out.Asked n))
+        (λ (o : outs.Out). (u : ℕ) × (o ≡ out.Row u value)) ended.now) }
     ensures refused { IfErr result (λ r. IsRefusal ended.now r) }
 {
     match ended {
@@ -63,7 +67,9 @@ pub(crate) fn row_told<J: Naming>(hall: &Hall<J>, ended: &Ended) -> Result<Optio
 
 // The value of a read.
 fn row_of(call: &Out, line: &Out) -> Result<Option<Value>, Refusal>
-    ensures told { IfOk result (λ value. ((n : ℕ) × (call.now ≡ out.Asked n)) × ((u : ℕ) × (line.now ≡ out.Row u value))) }
+    ensures told { IfOk result (λ value.
+        ((n : ℕ) × (call.now ≡ out.Asked n))
+        × ((u : ℕ) × (line.now ≡ out.Row u value))) }
     ensures refused { IfErr result (λ r. r ≡ Refusal.NotConnected) }
 {
     match (call, line) {
@@ -80,7 +86,8 @@ pub(crate) fn rows_told<J: Naming, R: Wait>(
 ) -> Result<Rows, Refusal>
     requires { AreShown J.entries ended.now }
     ensures told { IfOk result (λ rows.
-        IsToldAs (λ (o : outs.Out). (n : ℕ) × (o ≡ out.Asked n)) (λ (o : outs.Out). (u : ℕ) × (o ≡ out.Rows u rows)) ended.now) }
+        IsToldAs (λ (o : outs.Out). (n : ℕ) × (o ≡ out.Asked n))
+        (λ (o : outs.Out). (u : ℕ) × (o ≡ out.Rows u rows)) ended.now) }
     ensures refused { IfErr result (λ r. IsRefusal ended.now r) }
 {
     match ended {
@@ -97,7 +104,9 @@ pub(crate) fn rows_told<J: Naming, R: Wait>(
 
 // The rows of a read. Where memory for them is refused it is tried again until they are made.
 fn rows_of<R: Wait>(rt: &R, call: &Out, line: &Out) -> Result<Rows, Refusal>
-    ensures told { IfOk result (λ rows. ((n : ℕ) × (call.now ≡ out.Asked n)) × ((u : ℕ) × (line.now ≡ out.Rows u rows))) }
+    ensures told { IfOk result (λ rows.
+        ((n : ℕ) × (call.now ≡ out.Asked n))
+        × ((u : ℕ) × (line.now ≡ out.Rows u rows))) }
     ensures refused { IfErr result (λ r. r ≡ Refusal.NotConnected) }
 {
     match (call, line) {
@@ -110,7 +119,8 @@ fn rows_of<R: Wait>(rt: &R, call: &Out, line: &Out) -> Result<Rows, Refusal>
 pub(crate) fn back_told<J: Naming>(hall: &Hall<J>, ended: &Ended) -> Result<(), Refusal>
     requires { AreShown J.entries ended.now }
     ensures told { IfOk result (λ done.
-        IsToldAs (λ (o : outs.Out). o ≡ out.RollingBack) (λ (o : outs.Out). (u : ℕ) × (s : ℕ) × (o ≡ out.Back u s)) ended.now) }
+        IsToldAs (λ (o : outs.Out). o ≡ out.RollingBack)
+        (λ (o : outs.Out). (u : ℕ) × (s : ℕ) × (o ≡ out.Back u s)) ended.now) }
     ensures refused { IfErr result (λ r. IsRefusal ended.now r) }
 {
     match ended {
@@ -126,7 +136,9 @@ pub(crate) fn back_told<J: Naming>(hall: &Hall<J>, ended: &Ended) -> Result<(), 
 
 // That it is back.
 fn back_of(call: &Out, line: &Out) -> Result<(), Refusal>
-    ensures told { IfOk result (λ done. (call.now ≡ out.RollingBack) × ((u : ℕ) × (s : ℕ) × (line.now ≡ out.Back u s))) }
+    ensures told { IfOk result (λ done.
+        (call.now ≡ out.RollingBack)
+        × ((u : ℕ) × (s : ℕ) × (line.now ≡ out.Back u s))) }
     ensures refused { IfErr result (λ r. r ≡ Refusal.NotConnected) }
 {
     match (call, line) {
@@ -139,7 +151,8 @@ fn back_of(call: &Out, line: &Out) -> Result<(), Refusal>
 pub(crate) fn rollback_told<J: Naming>(hall: &Hall<J>, ended: &Ended) -> Result<(), Refusal>
     requires { AreShown J.entries ended.now }
     ensures told { IfOk result (λ done.
-        IsToldAs (λ (o : outs.Out). o ≡ out.RollingBack) (λ (o : outs.Out). (u : ℕ) × (o ≡ out.RolledBack u)) ended.now) }
+        IsToldAs (λ (o : outs.Out). o ≡ out.RollingBack)
+        (λ (o : outs.Out). (u : ℕ) × (o ≡ out.RolledBack u)) ended.now) }
     ensures refused { IfErr result (λ r. IsRefusal ended.now r) }
 {
     match ended {
@@ -167,7 +180,9 @@ fn rollback_of(call: &Out, line: &Out) -> Result<(), Refusal>
 /// The number of the Commit record of a transaction that was told to have committed.
 pub(crate) fn commit_told<J: Naming>(hall: &Hall<J>, ended: &Ended) -> Result<u64, Refusal>
     requires { AreShown J.entries ended.now }
-    ensures told { IfOk result (λ number. IsToldAs (λ (o : outs.Out). o ≡ out.CommitLogged number) TellsCommit ended.now) }
+    ensures told { IfOk result (λ number.
+        IsToldAs (λ (o : outs.Out). o ≡ out.CommitLogged number)
+        TellsCommit ended.now) }
     ensures refused { IfErr result (λ r. IsRefusal ended.now r) }
 {
     match ended {

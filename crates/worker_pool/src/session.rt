@@ -20,8 +20,8 @@ use std::marker::Model;
 use std::sync::{Arc, Wait};
 use world::{Event, Out};
 
-/// A client's place at an engine. It has at most one transaction. Contracts see its number, and its calls with what each
-/// was answered.
+/// A client's place at an engine. It has at most one transaction. Contracts see its number, and its calls with what
+/// each was answered.
 #[derive(Drop)]
 pub struct Session<J: Naming, G> {
     caller: Caller<J>,
@@ -100,7 +100,8 @@ impl<J: Naming, G: Drop> Session<J, G> {
     pub fn act<R: Wait>(&mut self, rt: &R, op: &Op) -> Result<Answer, Refusal>
         ensures number { self.new.number ≡ self.old.number }
         ensures answered { IfOk result (λ a. (t : ℕ) × (u : ℕ) × (n : ℕ) ×
-            Adds (calls self.old.part) (event.Act t op.now) (out.Logged n) (Some (TellsAnswer u a)) (calls self.new.part)) }
+            Adds (calls self.old.part) (event.Act t op.now) (out.Logged n) (Some (TellsAnswer u a))
+            (calls self.new.part)) }
         ensures refused { IfErr result (λ r. RefusedCall (IsAct op.now) (calls self.old.part) r (calls self.new.part)) }
     {
         let Session {
@@ -128,8 +129,10 @@ impl<J: Naming, G: Drop> Session<J, G> {
     pub fn get<R: Wait>(&mut self, rt: &R, key: &Key) -> Result<Option<Value>, Refusal>
         ensures number { self.new.number ≡ self.old.number }
         ensures read { IfOk result (λ v. (t : ℕ) × (u : ℕ) × (n : ℕ) ×
-            Adds (calls self.old.part) (event.Get t key.now) (out.Asked n) (Some (TellsRow u v)) (calls self.new.part)) }
-        ensures refused { IfErr result (λ r. RefusedCall (IsGet key.now) (calls self.old.part) r (calls self.new.part)) }
+            Adds (calls self.old.part) (event.Get t key.now) (out.Asked n) (Some (TellsRow u v))
+            (calls self.new.part)) }
+        ensures refused { IfErr result (λ r.
+            RefusedCall (IsGet key.now) (calls self.old.part) r (calls self.new.part)) }
     {
         let Session {
             caller,
@@ -156,8 +159,10 @@ impl<J: Naming, G: Drop> Session<J, G> {
     pub fn scan<R: Wait>(&mut self, rt: &R, low: &Key, high: &Option<Key>) -> Result<Rows, Refusal>
         ensures number { self.new.number ≡ self.old.number }
         ensures read { IfOk result (λ rows. (t : ℕ) × (u : ℕ) × (n : ℕ) ×
-            Adds (calls self.old.part) (event.Scan t low.now high.now) (out.Asked n) (Some (TellsRows u rows)) (calls self.new.part)) }
-        ensures refused { IfErr result (λ r. RefusedCall (IsScan low.now high.now) (calls self.old.part) r (calls self.new.part)) }
+            Adds (calls self.old.part) (event.Scan t low.now high.now) (out.Asked n) (Some (TellsRows u rows))
+            (calls self.new.part)) }
+        ensures refused { IfErr result (λ r.
+            RefusedCall (IsScan low.now high.now) (calls self.old.part) r (calls self.new.part)) }
     {
         let Session {
             caller,
@@ -210,8 +215,10 @@ impl<J: Naming, G: Drop> Session<J, G> {
     pub fn back_to<R: Wait>(&mut self, rt: &R, savepoint: u64) -> Result<(), Refusal>
         ensures number { self.new.number ≡ self.old.number }
         ensures back { IfOk result (λ u. (t : ℕ) × (v : ℕ) × (s : ℕ) ×
-            Adds (calls self.old.part) (event.GoBack t savepoint) out.RollingBack (Some (TellsBack v s)) (calls self.new.part)) }
-        ensures refused { IfErr result (λ r. RefusedCall (IsGoBack savepoint) (calls self.old.part) r (calls self.new.part)) }
+            Adds (calls self.old.part) (event.GoBack t savepoint) out.RollingBack (Some (TellsBack v s))
+            (calls self.new.part)) }
+        ensures refused { IfErr result (λ r.
+            RefusedCall (IsGoBack savepoint) (calls self.old.part) r (calls self.new.part)) }
     {
         let Session {
             caller,
@@ -235,7 +242,8 @@ impl<J: Naming, G: Drop> Session<J, G> {
     pub fn rollback<R: Wait>(&mut self, rt: &R) -> Result<(), Refusal>
         ensures number { self.new.number ≡ self.old.number }
         ensures rolled_back { IfOk result (λ u. (t : ℕ) × (v : ℕ) ×
-            Adds (calls self.old.part) (event.Rollback t) out.RollingBack (Some (TellsRolledBack v)) (calls self.new.part)) }
+            Adds (calls self.old.part) (event.Rollback t) out.RollingBack (Some (TellsRolledBack v))
+            (calls self.new.part)) }
         ensures refused { IfErr result (λ r. RefusedCall IsRollback (calls self.old.part) r (calls self.new.part)) }
     {
         let Session {
@@ -260,7 +268,8 @@ impl<J: Naming, G: Drop> Session<J, G> {
     pub fn commit<R: Wait>(&mut self, rt: &R) -> Result<u64, Refusal>
         ensures number { self.new.number ≡ self.old.number }
         ensures committed { IfOk result (λ n. (t : ℕ) × (u : ℕ) ×
-            Adds (calls self.old.part) (event.Commit t) (out.CommitLogged n) (Some (TellsCommitted u)) (calls self.new.part)) }
+            Adds (calls self.old.part) (event.Commit t) (out.CommitLogged n) (Some (TellsCommitted u))
+            (calls self.new.part)) }
         ensures refused { IfErr result (λ r. RefusedCall IsCommit (calls self.old.part) r (calls self.new.part)) }
     {
         let Session {

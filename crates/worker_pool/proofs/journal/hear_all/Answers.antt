@@ -17,4 +17,5 @@ loop-place-preserved g c =
     let at : slice_get ys i ≡ Some p = slice_get_read ys (length ys) i p refl within c.place-item.is in
     ap (λ (q : Place g.row.J.Denot). set ys i q) (c.hear.ensures ∙ ap f (sym c.place-item.is))
     ∙ ap (λ (zs : List (Place g.row.J.Denot)). set zs i (f p)) c.loop-place.invariant
-    ∙ replaced_at f xs i p less (subst (λ (zs : List (Place g.row.J.Denot)). slice_get zs i ≡ Some p) c.loop-place.invariant at)
+    ∙ replaced_at f xs i p less (subst (λ (zs : List
+    (Place g.row.J.Denot)). slice_get zs i ≡ Some p) c.loop-place.invariant at)

@@ -33,7 +33,8 @@ enter_dc-requires-clause-enters g c =
     ap (λ (x : Entry). x.step.sent) (sym c.value.ensures) in
     let by : IsSentBy (requests v.steps) c.args.number c.value.result.now.step.sent =
     subst (IsSentBy (requests v.steps) c.args.number) found
-    (subst (λ (x : View). IsSentBy (requests x.steps) c.args.number c.in_ok-sent.sent.value.step.sent) (sym look.visitor)
+    (subst (λ (x : View). IsSentBy (requests x.steps) c.args.number c.in_ok-sent.sent.value.step.sent)
+    (sym look.visitor)
     c.in_ok-sent.ensures.sent) in (
       _,
       dc_goes_with s.visitor.steps v.steps s.side c.stepped-step.new.side s.given c.stepped-step.result.1
@@ -50,7 +51,8 @@ invariant_of-self-2 g c =
     ap (λ (x : Entry). x.step.sent) (sym c.value.ensures) in
     let by : IsSentBy (requests v.steps) c.args.number c.value.result.now.step.sent =
     subst (IsSentBy (requests v.steps) c.args.number) found
-    (subst (λ (x : View). IsSentBy (requests x.steps) c.args.number c.in_ok-sent.sent.value.step.sent) (sym look.visitor)
+    (subst (λ (x : View). IsSentBy (requests x.steps) c.args.number c.in_ok-sent.sent.value.step.sent)
+    (sym look.visitor)
     c.in_ok-sent.ensures.sent) in
     let enters = dc_goes_with s.visitor.steps v.steps s.side c.stepped-step.new.side s.given c.stepped-step.result.1
     c.stepped-step.result.0 c.args.number c.value.result.now.step.sent

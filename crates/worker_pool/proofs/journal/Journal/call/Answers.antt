@@ -21,7 +21,8 @@ meet-requires-clause-name g c =
     let token = c.enter_tc-token.result in
     let p = c.index_mut-place.result.now in
     let less : n < length c.hear_all.new.places.items = search rules in
-    let there = slice_get_read c.hear_all.new.places.items (length c.hear_all.new.places.items) n p refl less c.index_mut-place.ensures.value in
+    let there = slice_get_read c.hear_all.new.places.items
+    (length c.hear_all.new.places.items) n p refl less c.index_mut-place.ensures.value in
     let at : slice_get (map (place_after token) s.places.items) n ≡ Some p =
     subst (λ (ps : List (Place g.row.J.Denot)). slice_get ps n ≡ Some p) c.hear_all.ensures.heard there in
     let own : token.value.step.caller ≡ Some n =
@@ -39,7 +40,8 @@ invariant_of-self g c =
     let e = token.value.step in
     let p = c.index_mut-place.result.now in
     let less : n < length c.hear_all.new.places.items = search rules in
-    let there = slice_get_read c.hear_all.new.places.items (length c.hear_all.new.places.items) n p refl less c.index_mut-place.ensures.value in
+    let there = slice_get_read c.hear_all.new.places.items
+    (length c.hear_all.new.places.items) n p refl less c.index_mut-place.ensures.value in
     let at : slice_get (map (place_after token) s.places.items) n ≡ Some p =
     subst (λ (ps : List (Place g.row.J.Denot)). slice_get ps n ≡ Some p) c.hear_all.ensures.heard there in
     let own : e.caller ≡ Some n =
@@ -50,7 +52,8 @@ invariant_of-self g c =
     c.enter_tc-token.ensures.through ∙ ap (λ (x : Step). s.lines ++ x ∷ []) (sym c.enter_tc-token.ensures.value) in
     let party : c.meet.new.self ≡ record { name = p.party.name; steps = s.lines ++ e ∷ [] } =
     c.meet.ensures.party
-    ∙ ap (λ (es : List Step). record { name = p.party.name; steps = es }) (ap (λ (x : Slot). through x.value) c.again.ensures ∙ thr) in
+    ∙ ap (λ (es : List Step). record { name = p.party.name; steps = es }) (ap (λ
+    (x : Slot). through x.value) c.again.ensures ∙ thr) in
     let entry : c.value-entry.result.now.step ≡ e = ap (λ (x : Entry). x.step) c.value-entry.ensures in
     let q : Place g.row.J.Denot = record {
       number = p.number;
@@ -80,7 +83,8 @@ returns-clause-before g c =
     let token = c.enter_tc-token.result in
     let p = c.index_mut-place.result.now in
     let less : n < length c.hear_all.new.places.items = search rules in
-    let there = slice_get_read c.hear_all.new.places.items (length c.hear_all.new.places.items) n p refl less c.index_mut-place.ensures.value in
+    let there = slice_get_read c.hear_all.new.places.items
+    (length c.hear_all.new.places.items) n p refl less c.index_mut-place.ensures.value in
     let at : slice_get (map (place_after token) s.places.items) n ≡ Some p =
     subst (λ (ps : List (Place g.row.J.Denot)). slice_get ps n ≡ Some p) c.hear_all.ensures.heard there in
     let number : c.args.caller.now.number ≡ n = ap (λ (v : CallerView). v.number) (sym c.caller.view_is) in
@@ -105,7 +109,8 @@ returns-clause-latest g c =
     let token = c.enter_tc-token.result in
     let p = c.index_mut-place.result.now in
     let less : n < length c.hear_all.new.places.items = search rules in
-    let there = slice_get_read c.hear_all.new.places.items (length c.hear_all.new.places.items) n p refl less c.index_mut-place.ensures.value in
+    let there = slice_get_read c.hear_all.new.places.items
+    (length c.hear_all.new.places.items) n p refl less c.index_mut-place.ensures.value in
     let at : slice_get (map (place_after token) s.places.items) n ≡ Some p =
     subst (λ (ps : List (Place g.row.J.Denot)). slice_get ps n ≡ Some p) c.hear_all.ensures.heard there in
     let number : c.args.caller.now.number ≡ n = ap (λ (v : CallerView). v.number) (sym c.caller.view_is) in

@@ -20,7 +20,8 @@ invariant_of-self g c =
     let before : p.value.before.steps ≡ steps s.tokens.items =
     ap (λ (x : Entry). x.before.steps) c.pushed-token.ensures.value ∙ c.traced-before.ensures
     ∙ last_seen J.entries J.names s.tokens.items s.asked.items s.given.items s.tc s.dc k c.last_of-last.result
-    (c.last_of-last.ensures ∙ ap (λ (xs : List Slot). last_of xs) (c.deref.ensures.value ∙ c.make_room.ensures.items)) in
+    (c.last_of-last.ensures ∙ ap (λ (xs : List Slot). last_of xs) (c.deref.ensures.value
+    ∙ c.make_room.ensures.items)) in
     let enters : EntersTc s.tc.steps e c.requires.enters.0 =
     subst (λ (v : View). EntersTc v.steps e c.requires.enters.0) (sym c.meet.ensures.same) c.requires.enters.1 in
     tc_enters J.entries J.names s.tokens.items s.asked.items s.given.items c.push_if-2.new.list.items
@@ -30,7 +31,11 @@ invariant_of-self g c =
     (c.push_if-2.ensures.items ∙ ap (λ (xs : List Slot). xs ++ p ∷ []) c.make_room.ensures.items)
     (c.push_if.ensures.items ∙ (λ i. c.make_room-2.ensures.items i ++ cond (c.is_some-asks.ensures i) (p ∷ []) []))
     (c.meet-2.ensures.party
-    ∙ (λ i. record { name = ap (λ (v : View). v.name) c.meet.ensures.party i; steps = seen (Some (c.again.ensures i)) }))
+    ∙ (λ i. record {
+      name = ap (λ (v : View). v.name) c.meet.ensures.party i;
+      steps = seen (Some
+          (c.again.ensures i));
+    }))
     enters.step.none
 
 pub returns-clause-gives : goal.returns-clause-gives
@@ -43,12 +48,14 @@ returns-clause-gives g c n enters =
     let before : p.value.before.steps ≡ steps s.tokens.items =
     ap (λ (x : Entry). x.before.steps) c.pushed-token.ensures.value ∙ c.traced-before.ensures
     ∙ last_seen J.entries J.names s.tokens.items s.asked.items s.given.items s.tc s.dc k c.last_of-last.result
-    (c.last_of-last.ensures ∙ ap (λ (xs : List Slot). last_of xs) (c.deref.ensures.value ∙ c.make_room.ensures.items)) in
+    (c.last_of-last.ensures ∙ ap (λ (xs : List Slot). last_of xs) (c.deref.ensures.value
+    ∙ c.make_room.ensures.items)) in
     let all : through p.value ≡ steps s.tokens.items ++ e ∷ [] =
     through_is J.entries J.names s.tokens.items p e (ap (λ (x : Entry). x.step) c.pushed-token.ensures.value) before in
     let enters' : EntersTc s.tc.steps e n =
     subst (λ (v : View). EntersTc v.steps e n) (sym c.meet.ensures.same) enters in
     let now : c.meet-2.new.visitor.steps ≡ steps s.tokens.items ++ e ∷ [] =
-    ap (λ (v : View). v.steps) (c.meet-2.ensures.visitor ∙ c.meet-2.ensures.party) ∙ ap (λ (x : Slot). through x.value) c.again.ensures ∙ all in
+    ap (λ (v : View). v.steps) (c.meet-2.ensures.visitor ∙ c.meet-2.ensures.party)
+    ∙ ap (λ (x : Slot). through x.value) c.again.ensures ∙ all in
     subst (λ (es : List Step). GivesTc es n) (sym now)
     (tc_entered s.tc.steps (steps s.tokens.items) e n c.requires.tc k.tc_sees enters')

@@ -7,4 +7,5 @@ pub returns : goal.returns
 returns g c =
     let s = c.self.inside in
     subst IsRun c.self.view_is
-    (lines_run g.J.Naming.entries g.J.Naming.names s.tokens.items s.asked.items s.given.items s.tc s.dc c.self.invariant)
+    (lines_run g.J.Naming.entries g.J.Naming.names s.tokens.items s.asked.items s.given.items s.tc s.dc
+    c.self.invariant)

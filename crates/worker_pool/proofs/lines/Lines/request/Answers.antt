@@ -12,7 +12,8 @@ returns-clause-shown g c =
     let s = c.self.inside in
     on_ok c.numbered.result
     (λ p at. (request_found g.J.Naming.entries g.J.Naming.names s.tokens.items s.asked.items s.given.items s.tc s.dc
-    c.args.number p c.self.invariant (ap (λ (ms : List Slot). message_at ms c.args.number) (sym c.deref.ensures.value) ∙ at)).0)
+    c.args.number p c.self.invariant (ap (λ (ms : List Slot). message_at ms c.args.number)
+    (sym c.deref.ensures.value) ∙ at)).0)
     c.numbered.ensures
 
 pub returns-clause-sent : goal.returns-clause-sent
@@ -21,7 +22,8 @@ returns-clause-sent g c =
     on_ok c.numbered.result
     (λ p at. subst (λ (es : List Step). IsSentBy (requests es) c.args.number p.value.step.sent) c.self.view_is
     (request_found g.J.Naming.entries g.J.Naming.names s.tokens.items s.asked.items s.given.items s.tc s.dc
-    c.args.number p c.self.invariant (ap (λ (ms : List Slot). message_at ms c.args.number) (sym c.deref.ensures.value) ∙ at)).1)
+    c.args.number p c.self.invariant (ap (λ (ms : List Slot). message_at ms c.args.number)
+    (sym c.deref.ensures.value) ∙ at)).1)
     c.numbered.ensures
 
 pub returns-clause-spelled : goal.returns-clause-spelled
@@ -29,5 +31,6 @@ returns-clause-spelled g c =
     let s = c.self.inside in
     on_ok c.numbered.result
     (λ p at. (request_found g.J.Naming.entries g.J.Naming.names s.tokens.items s.asked.items s.given.items s.tc s.dc
-    c.args.number p c.self.invariant (ap (λ (ms : List Slot). message_at ms c.args.number) (sym c.deref.ensures.value) ∙ at)).2)
+    c.args.number p c.self.invariant (ap (λ (ms : List Slot). message_at ms c.args.number)
+    (sym c.deref.ensures.value) ∙ at)).2)
     c.numbered.ensures
