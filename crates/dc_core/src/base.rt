@@ -4,7 +4,7 @@ ghost use Rattle.record_key.specs.Table.{Table, table_code};
 ghost use Rattle.btree.specs.Leaves.{rows_of};
 
 use crate::system::System;
-use std::marker::{Model, PhantomData};
+use std::marker::{Model, PhantomData, Send};
 
 #[derive(Drop)]
 pub struct Base {
@@ -29,3 +29,5 @@ impl Base {
         }
     }
 }
+
+unsafe impl Send for Base {}

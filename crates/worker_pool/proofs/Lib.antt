@@ -4,3 +4,4 @@ pub mod Along
 pub mod Parts
 pub mod Entering
 pub mod Sitting
+pub mod Sharing

@@ -11,6 +11,7 @@ mod caller;
 mod copying;
 mod dc_desk;
 mod ended;
+mod engine;
 mod entry;
 mod gate;
 mod hall;
@@ -33,6 +34,7 @@ mod worker;
 
 pub use caller::Caller;
 pub use dc_desk::DcDesk;
+pub use engine::start;
 pub use entry::Entry;
 pub use gate::Gate;
 pub use hall::Hall;

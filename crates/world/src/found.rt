@@ -5,7 +5,7 @@ ghost use Rattle.codec.specs.declared.dc_record.DcRecord.{DcRecord};
 ghost use Rattle.system_txn.specs.Recovering.{HoldsFrames};
 
 use stable::MemLog;
-use std::marker::{Model, PhantomData};
+use std::marker::{Model, PhantomData, Send};
 
 #[derive(Drop)]
 pub struct Found {
@@ -31,3 +31,5 @@ impl Found {
         }
     }
 }
+
+unsafe impl Send for Found {}

@@ -5,7 +5,7 @@ ghost use Rattle.history.specs.declared.record.Record.{Record};
 ghost use Rattle.logical_log.specs.Opening.{IsLogOf};
 
 use stable::MemLog;
-use std::marker::{Model, PhantomData};
+use std::marker::{Model, PhantomData, Send};
 
 #[derive(Drop)]
 pub struct FoundLog {
@@ -31,3 +31,5 @@ impl FoundLog {
         }
     }
 }
+
+unsafe impl Send for FoundLog {}

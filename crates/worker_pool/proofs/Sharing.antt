@@ -1,0 +1,92 @@
+-- What the threads share may go from one to another: each type from what it holds, since a search that goes down
+-- through them all runs out of steps. A type that holds no tree is shown by its own fields alone.
+use denote.RattleType.{RattleType}
+use denote.Param.Send.{IsSend, IsSync, sendable}
+use Rattle.std.proofs.Crossing.{crosses}
+use Rattle.std.proofs.sync.atomic.AtomicU64.TheSendSync as number
+use Rattle.btree.proofs.tree.node.Node.TheLaws.TheKnot as node
+use Rattle.btree.proofs.tree.summary.Summary.TheSendSync as summary
+use Rattle.btree.specs.contracts.tree.Tree as Tree
+use Rattle.btree.specs.contracts.tree.TreeLeafSet.TheImpl as tree
+use Rattle.dc_core.proofs.base.Base.TheSendSync as base
+use Rattle.dc_core.proofs.performances.Performances.TheSendSync as performances
+use Rattle.dc_core.specs.contracts.dc.Dc as Dc
+use Rattle.dc_core.specs.contracts.dc.Dc.TheInside as DcInside
+use Rattle.dc_core.specs.contracts.parts.Parts as Parts
+use Rattle.page.proofs.leaf.Leaf.TheSendSync as leaf
+use Rattle.record_key.proofs.key.Key.TheSendSync as key
+use Rattle.stable.proofs.mem_log.MemLog.TheSendSync as mem_log
+use Rattle.stable.proofs.mem_pages.MemPages.TheSendSync as mem_pages
+use Rattle.stable.specs.contracts.mem_log.MemLog as MemLog
+use Rattle.stable.specs.contracts.mem_log.MemLogLogDevice.TheImpl as log
+use Rattle.stable.specs.contracts.mem_pages.MemPages as MemPages
+use Rattle.stable.specs.contracts.mem_pages.MemPagesPageDevice.TheImpl as pages
+use Rattle.system_txn.proofs.system.SystemTxns.TheSendSync as system
+use Rattle.system_txn.specs.contracts.system.SystemTxns as SystemTxns
+use Rattle.crossbeam_channel.proofs.channel.Receiver.TheSendSync as receiver
+use Rattle.crossbeam_channel.specs.contracts.channel.Receiver as Receiver
+use Rattle.std.specs.contracts.alloc.Global as Global
+use Rattle.std.specs.contracts.impls.GlobalAllocator.TheImpl.{ghosts}
+use Rattle.std.specs.contracts.sync.Arc as Arc
+use Rattle.world.proofs.stopped.Stopped.TheSendSync as stopped
+use Rattle.world.specs.contracts.dc_side.DcSide as DcSide
+use Rattle.worker_pool.proofs.hall.Hall.TheSendSync as hall
+use Rattle.worker_pool.proofs.journal.Journal.TheSendSync as journal
+use Rattle.worker_pool.proofs.shared.Job.TheSendSync as job
+use Rattle.worker_pool.proofs.tc_desk.TcDesk.TheSendSync as tc_desk
+use Rattle.worker_pool.proofs.view.Visitor.TheSendSync as visitor
+use Rattle.worker_pool.specs.declared.naming.Naming as naming
+use Rattle.worker_pool.specs.contracts.dc_desk.DcDesk as DcDesk
+use Rattle.worker_pool.specs.contracts.dc_desk.DcDesk.TheInside as DcDeskInside
+use Rattle.worker_pool.specs.contracts.journal.Journal as Journal
+use Rattle.worker_pool.specs.contracts.shared.Job as Job
+use Rattle.worker_pool.specs.contracts.shared.Shared as Shared
+use Rattle.worker_pool.specs.contracts.tc_desk.TcDesk as TcDesk
+
+tree_send : IsSend Tree.the_row
+tree_send = search (leaf.the_send, key.the_send, summary.the_send, node.crosses, crosses, sendable) depth 40
+
+system_send : IsSend (SystemTxns.the_row Tree.the_row MemLog.the_row MemPages.the_row tree.ghosts log.ghosts pages.ghosts)
+system_send = search (tree_send, mem_log.the_send, mem_pages.the_send, system.the_send) depth 20
+
+parts_send : IsSend Parts.the_field.row
+parts_send = search (base.the_send, performances.the_send, system_send, sendable) depth 40
+
+dc_inside_send : IsSend DcInside.the_row
+dc_inside_send = search (parts_send, sendable) depth 20
+
+dc_send : IsSend Dc.the_row
+dc_send = search (dc_inside_send, sendable) depth 20
+
+pub dc_side_send : IsSend DcSide.the_row
+dc_side_send = search (dc_send, stopped.the_send, sendable) depth 40
+
+pub jobs_send : IsSend (Receiver.the_row Job.the_row Global.the_row ghosts)
+jobs_send = search (receiver.the_send, job.the_send, crosses, sendable) depth 20
+
+module _ (J : RattleType) (n : naming.Ghosts J.Denot) (s : IsSend J) (y : IsSync J) where
+  pub tc_desk_send : IsSend (TcDesk.the_row J n)
+  tc_desk_send = search (tc_desk.the_send) depth 12
+
+  pub journal_send : IsSend (Journal.the_row J n)
+  journal_send = search (journal.the_send) depth 12
+
+  dc_desk_inside_send : IsSend (DcDeskInside.the_row J n)
+  dc_desk_inside_send = search (dc_side_send, visitor.the_send, sendable) depth 20
+
+  pub dc_desk_send : IsSend (DcDesk.the_row J n)
+  dc_desk_send = search (dc_desk_inside_send, sendable) depth 20
+
+  module _ (G : RattleType) (sg : IsSend G) (yg : IsSync G) where
+    pub shared_send : IsSend (Shared.the_row J G n)
+    shared_send = search (tc_desk_send, dc_desk_send, journal_send, hall.the_send, number.the_send, crosses, sendable) depth 20
+
+    pub shared_sync : IsSync (Shared.the_row J G n)
+    shared_sync = search (tc_desk_send, dc_desk_send, journal_send, hall.the_sync, number.the_sync, crosses, sendable) depth 20
+
+    pub arc_send : IsSend (Arc.the_row (Shared.the_row J G n) Global.the_row ghosts)
+    arc_send = search (shared_send, shared_sync, crosses, sendable) depth 8
+
+-- a tuple by its parts
+pub both : {A B : Type 0} → A → B → A × B
+both a b = (a, b)
