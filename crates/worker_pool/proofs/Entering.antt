@@ -1,29 +1,32 @@
 -- The journal, one entry on.
-use Rattle.std.proofs.Common.{◌≡◌, ℕ, zero, suc, ◌==◌, Bool, true, false, not, cond, List, [], ◌∷◌, ◌++◌, Option, Some, None, refl, ap, sym, ◌∙◌, subst, arith, slice_get, map, set, eq-eqb, eqb→eq, inl, inr}
+use Rattle.std.proofs.Common.{◌≡◌, ℕ, zero, suc, ◌==◌, Bool, true, false, not, cond, List, [], ◌∷◌, ◌++◌, Option, Some, None, refl, ap, sym, ◌∙◌, subst, arith, slice_get, map, set, eq-eqb, eqb→eq, inr}
 use lib.Dec.{T}
-use Rattle.std.specs.Prelude.{filter, Result, Ok, Err, IfOk}
+use Rattle.std.specs.Prelude.{filter, Result, Ok, Err, IfOk, OnErr, IfSome, IfNone}
 use Rattle.std.specs.Option.{is_some}
 use Rattle.std.proofs.lemmas.List.{append-nil, map-append}
 use Rattle.std.proofs.Common.{append_assoc}
 use Rattle.boxcar.specs.Table.{Shelves}
 use Rattle.dc_core.specs.Kept.{IsDc}
 use Rattle.history.specs.ListMachine.{Line}
+use Rattle.world.specs.declared.event.Out.{Out}
+use Rattle.world.specs.declared.event.Out.TheVariants as out
 use Rattle.world.specs.Halves.{IsSpelledIf}
 use Rattle.world.specs.Messages.{message_at}
 use Rattle.worker_pool.specs.declared.place.Place.{Place}
 use Rattle.worker_pool.specs.declared.step.Step.{Step}
 use Rattle.worker_pool.specs.Kept.{is_dc, calls_of, IsLine, PlaceKept, PlacesKept, LinesKept, place_after, place_heard, EntersTc, EntersDc, IsInRun, IsSentBy}
-use Rattle.worker_pool.specs.Sessions.{Call, Part, calls_as, calls, called, no_part, line_of, pending, part_of, awaits, called_as, is_pending, IsClosed, IsSameCall}
+use Rattle.worker_pool.specs.Sessions.{Call, Part, calls_as, calls, called, no_part, line_of, pending, part_of, awaits, called_as, is_pending, live_after, IsClosed, IsSameCall}
 use Rattle.worker_pool.specs.declared.news.News.{News}
 use Rattle.worker_pool.specs.declared.news.News.TheVariants as news
 use Rattle.worker_pool.specs.Callers.{HasLine, IsToldBy, IsUntold, IsNews}
+use Rattle.worker_pool.specs.Answers.{LeavesLive}
 use Rattle.worker_pool.specs.Waiting.{IsNewsOf}
 use Rattle.worker_pool.specs.Slots.{Slot, step_at, steps, asks, gives, through, seen, Shown, IsShown, last_of}
 use Rattle.worker_pool.specs.Steps.{is_tc, requests, replies, TcState, DcState, GivesTc, GivesDc, IsRun, dc_start}
 use Rattle.worker_pool.specs.Views.{View, Sees}
-use Rattle.worker_pool.proofs.Lists.{all_snoc, all_at, all_map, kept_at, last_snoc, filter_snoc, request_of, reply_of}
+use Rattle.worker_pool.proofs.Lists.{all_snoc, all_map, kept_at, last_snoc, filter_snoc, request_of, reply_of}
 use Rattle.worker_pool.proofs.Along.{tc_on, dc_on, tc_entered, dc_entered, runs, in_run, spelled}
-use Rattle.worker_pool.proofs.Parts.{heard_kept, grown, part_snoc, after_called, closed_on}
+use Rattle.worker_pool.proofs.Parts.{heard_kept, grown, part_snoc, after_called, closed_on, ended}
 
 -- ---- the entries
 
@@ -51,6 +54,18 @@ not_true false is = refl
 pub on_ok : {A E : Type 0} {P Q : A → Type 0} (r : Result A E) → ((x : A) → P x → Q x) → IfOk r P → IfOk r Q
 on_ok (Ok x) f p = f x p
 on_ok (Err e) f p = p
+
+pub on_err : {A E : Type 0} {P Q : Type 0} (r : Result A E) → (P → Q) → OnErr r P → OnErr r Q
+on_err (Ok x) f p = p
+on_err (Err e) f p = f p
+
+pub on_some : {A : Type 0} {P : A → Type 0} (o : Option A) → ((x : A) → o ≡ Some x → P x) → IfSome o P
+on_some None f = tt
+on_some (Some x) f = f x refl
+
+pub on_none : {A : Type 0} {P : Type 0} (o : Option A) → (o ≡ None → P) → IfNone o P
+on_none None f = f refl
+on_none (Some x) f = tt
 
 module _ (row : Shelves) (names : ℕ → ℕ) where
   pub through_is : (tokens : List Slot) (p : Slot) (e : Step) → p.value.step ≡ e → p.value.before.steps ≡ steps tokens
@@ -320,8 +335,8 @@ module _ {J : Type 0} (row : Shelves) (names : ℕ → ℕ) where
         tells = l.1.2;
         before = g.0;
         latest = h;
-        closed = inr (idle
-            (part_of s es).latest l.1.0 l.1.1);
+        closed = inr (idle (part_of s es).latest l.1.0 l.1.1);
+        over = ended s es l.1.0 l.1.1;
       }
     where
       not_pending : (b : Bool) → cond b false false ≡ false
@@ -353,28 +368,31 @@ module _ {J : Type 0} (row : Shelves) (names : ℕ → ℕ) where
       untold (Some c) new same a b =
           same.1 ∙ ap (λ (o : Option Line). Some (called_as c.event c.out o)) (sym (ap line_of same.1) ∙ b ∙ sym a)
 
-  pub cut_off : (s : ℕ) (es : List Step) (p : Place J) → PlaceKept row names es s p → p.live ≡ None
-      → IsClosed (part_of s es)
-  cut_off s es p k none = inl (sym k.live ∙ none)
-
   pub news_is : (s : ℕ) (before es : List Step) (p : Place J) (n : News) → PlaceKept row names es s p
       → before ≡ p.party.steps → line_of (part_of s before).latest ≡ None → IsNewsOf p n
       → IsNews row (part_of s before) (part_of s es) n
   news_is s before es p (news.Line token) k seen_is old is =
       (subst (IsShown row) is k.shown, news_line s before es p token k seen_is is)
   news_is s before es p news.CutOff k seen_is old is =
-      (news_none s before es p k seen_is old is.0, cut_off s es p k is.1)
+      (news_none s before es p k seen_is old is.0, sym k.live ∙ is.1)
   news_is s before es p news.Nothing k seen_is old is = news_none s before es p k seen_is old is
+
+-- what a call came to at once leaves of the transaction
+leaves : (o : Out) (part : Part) (live : Option ℕ) → part.live ≡ live_after live o → LeavesLive o part
+leaves (out.Begun t) part live is = is
+leaves _ part live is = tt
 
 -- what a session's part is once its call stands in the journal
 pub part_called : (s : ℕ) (before es now : List Step) (e : Step) → e.caller ≡ Some s → Sees (calls_of s) before es
     → IsClosed (part_of s before) → now ≡ es ++ e ∷ []
     → ((part_of s now).before ≡ calls (part_of s before))
     × ((part_of s now).latest ≡ Some (called_as e.event e.out None))
+    × LeavesLive e.out (part_of s now)
 part_called s before es now e own sees closed is =
     let next : part_of s now ≡ called (part_of s es) e.event e.out =
     ap (part_of s) is ∙ part_snoc s no_part es e ∙ after_called s (part_of s es) e (calls_same e.caller s own) in
     let same = closed_on s before es sees closed in (
       ap (λ (p : Part). p.before) next ∙ same.0,
       ap (λ (p : Part). p.latest) next,
+      leaves e.out (part_of s now) (part_of s es).live (ap (λ (p : Part). p.live) next),
     )

@@ -1,5 +1,5 @@
 -- Lists that go on, and messages among them by their numbers.
-use Rattle.std.proofs.Common.{◌≡◌, ℕ, ◌+◌, zero, suc, Bool, true, false, cond, List, [], ◌∷◌, ◌++◌, Option, Some, None, length, refl, ap, sym, ◌∙◌, subst, arith, slice_get, map, append_assoc, ◌<◌, take, drop, set}
+use Rattle.std.proofs.Common.{◌≡◌, ℕ, ◌+◌, zero, suc, Bool, true, false, cond, List, [], ◌∷◌, ◌++◌, Option, Some, None, length, refl, ap, sym, ◌∙◌, arith, slice_get, map, append_assoc, ◌<◌, take, drop, set}
 use Rattle.std.specs.Bool.{MatchBool}
 use Rattle.std.specs.Prelude.{filter, filter_map}
 use Rattle.std.specs.List.{AllByRecursion, cons_option}
@@ -10,6 +10,7 @@ use Rattle.codec.specs.declared.request.Request.{Request}
 use Rattle.codec.specs.declared.reply.Reply.{Reply}
 use Rattle.world.specs.Halves.{also}
 use Rattle.world.specs.Messages.{message_at}
+use Rattle.dc_core.proofs.Walks.{all_get}
 use Rattle.record_key.proofs.Kept.{all_filtered}
 use Rattle.record_key.proofs.Lists.{all_appended}
 use Rattle.worker_pool.specs.declared.step.Step.{Step}
@@ -24,12 +25,6 @@ map_match false f g m = g m
 pub all_snoc : {A : Type 0} (P : A → Type 0) (xs : List A) (x : A) → AllByRecursion P xs → P x
     → AllByRecursion P (xs ++ x ∷ [])
 all_snoc P xs x a p = all_appended P xs (x ∷ []) a (p, tt)
-
-pub all_at : {A : Type 0} (P : A → Type 0) (xs : List A) (k : ℕ) (x : A) → AllByRecursion P xs
-    → slice_get xs k ≡ Some x → P x
-all_at P [] k x a at = absurd (cc (at))
-all_at P (y ∷ ys) zero x a at = let same : y ≡ x = cc (at) in subst P same a.0
-all_at P (y ∷ ys) (suc k) x a at = all_at P ys k x a.1 at
 
 get_last : {A : Type 0} (xs : List A) (x : A) → slice_get (xs ++ x ∷ []) (length xs) ≡ Some x
 get_last [] x = refl
@@ -120,6 +115,18 @@ module _ {A B : Type 0} (f : A → Option B) where
   read [] k m at = absurd (cc (at))
   read (x ∷ xs) k m at = read_at x xs (f x) refl (read xs) k m at
 
+  none_at : (x : A) (xs : List A) (o : Option B)
+      → ((k : ℕ) → slice_get (filter has xs) k ≡ None → slice_get (filter_map f xs) k ≡ None)
+      → (k : ℕ) → slice_get (cond (is_some o) (x ∷ filter has xs) (filter has xs)) k ≡ None
+      → slice_get (cons_option o (filter_map f xs)) k ≡ None
+  none_at x xs None rec k at = rec k at
+  none_at x xs (Some b) rec zero at = absurd (cc (at))
+  none_at x xs (Some b) rec (suc k) at = rec k at
+
+  none_read : (xs : List A) (k : ℕ) → slice_get (filter has xs) k ≡ None → slice_get (filter_map f xs) k ≡ None
+  none_read [] k at = refl
+  none_read (x ∷ xs) k at = none_at x xs (f x) (none_read xs) k at
+
 pub all_map : {A B : Type 0} (v : A → B) (P : B → Type 0) (xs : List A) → AllByRecursion P (map v xs)
     → AllByRecursion (λ x. P (v x)) xs
 all_map v P [] a = tt
@@ -129,7 +136,7 @@ all_map v P (x ∷ xs) a = (a.0, all_map v P xs a.1)
 pub kept_at : {A : Type 0} (P : A → Type 0) (f : A → Bool) (xs : List A) (n : ℕ) (x : A) → AllByRecursion P xs
     → message_at (filter f xs) n ≡ Some x → P x
 kept_at P f xs zero x a at = absurd (cc (at))
-kept_at P f xs (suc n) x a at = all_at P (filter f xs) n x (all_filtered P f xs a) at
+kept_at P f xs (suc n) x a at = all_get P (filter f xs) n x (all_filtered P f xs a) at
 
 pub filter_map-map : {A B C : Type 0} (h : B → Option C) (v : A → B) (xs : List A)
     → filter_map h (map v xs) ≡ filter_map (λ x. h (v x)) xs
@@ -154,6 +161,23 @@ reply_of tokens (suc k) p at =
     let same : replies (steps tokens) ≡ filter_map (λ (q : Slot). q.value.step.given) tokens =
     given_is [] (steps tokens) ∙ filter_map-map (λ (e : Step). e.given) (λ (q : Slot). q.value.step) tokens in
     record { value = r.value; is = r.is; found = ap (λ (ms : List Reply). slice_get ms k) same ∙ r.there }
+
+-- where there is no token of a number, no message of it was sent
+pub request_none : (tokens : List Slot) (n : ℕ) → message_at (filter asks tokens) n ≡ None
+    → message_at (requests (steps tokens)) n ≡ None
+request_none tokens zero at = refl
+request_none tokens (suc k) at =
+    ap (λ (ms : List Request). slice_get ms k) (asked_is [] (steps tokens) ∙ filter_map-map (λ (e : Step). e.sent) (λ
+    (q : Slot). q.value.step) tokens)
+    ∙ none_read (λ (q : Slot). q.value.step.sent) tokens k at
+
+pub reply_none : (tokens : List Slot) (n : ℕ) → message_at (filter gives tokens) n ≡ None
+    → message_at (replies (steps tokens)) n ≡ None
+reply_none tokens zero at = refl
+reply_none tokens (suc k) at =
+    ap (λ (ms : List Reply). slice_get ms k) (given_is [] (steps tokens) ∙ filter_map-map (λ (e : Step). e.given) (λ
+    (q : Slot). q.value.step) tokens)
+    ∙ none_read (λ (q : Slot). q.value.step.given) tokens k at
 
 -- one more element was replaced
 pub replaced_at : {A : Type 0} (f : A → A) (xs : List A) (i : ℕ) (y : A) → i < length xs

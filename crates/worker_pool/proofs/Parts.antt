@@ -1,5 +1,5 @@
 -- A session's part, one entry on.
-use Rattle.std.proofs.Common.{◌≡◌, ℕ, Bool, true, false, cond, List, [], ◌∷◌, ◌++◌, Option, Some, None, refl, ap, sym, ◌∙◌, subst, inl, inr}
+use Rattle.std.proofs.Common.{◌≡◌, ◌⊎◌, ℕ, IfSome, Bool, true, false, cond, List, [], ◌∷◌, ◌++◌, Option, Some, None, refl, ap, sym, ◌∙◌, subst, inl, inr}
 use Rattle.std.specs.List.{AllByRecursion}
 use Rattle.boxcar.specs.Table.{Shelves}
 use Rattle.history.specs.ListMachine.{Line}
@@ -41,18 +41,32 @@ told_of_same : (o : Option Call) (line : Line) → pending o ≡ false → told_
 told_of_same None line is = refl
 told_of_same (Some c) line is = ap (λ (d : Call). Some d) (told_same c line is)
 
+-- what a session's transaction may become that makes no call
+abbrev IsLeft : Option ℕ → Option ℕ → Type 0
+IsLeft old new = (new ≡ old) ⊎ (new ≡ None)
+
+left_on : (old mid new : Option ℕ) → IsLeft old mid → IsLeft mid new → IsLeft old new
+left_on old mid new a (inr gone) = inr gone
+left_on old mid new (inl same) (inl still) = inl (still ∙ same)
+left_on old mid new (inr gone) (inl still) = inr (still ∙ gone)
+
+left_if : (b : Bool) (live : Option ℕ) → IsLeft live (cond b None live)
+left_if true live = inr refl
+left_if false live = inl refl
+
 record Stays (old new : Part) : Type 0 where
   before : new.before ≡ old.before
   latest : new.latest ≡ old.latest
   closed : IsClosed new
+  live : IsLeft old.live new.live
 
 hears_closed : (part : Part) (line : Option Line) → IsClosed part → (part.live ≡ None → line ≡ None)
     → Stays part (hears part line)
-hears_closed part None is none = record { before = refl; latest = refl; closed = is }
+hears_closed part None is none = record { before = refl; latest = refl; closed = is; live = inl refl }
 hears_closed part (Some line) (inl gone) none = absurd (cc (none gone))
 hears_closed part (Some line) (inr idle) none =
     let same = told_of_same part.latest line idle in
-    record { before = refl; latest = same; closed = inr (ap pending same ∙ idle) }
+    record { before = refl; latest = same; closed = inr (ap pending same ∙ idle); live = left_if (ends line) part.live }
 
 line_for_none : (live : Option ℕ) (o : Out) → live ≡ None → line_for live o ≡ None
 line_for_none live o is = ap (λ (l : Option ℕ). line_for l o) is
@@ -60,29 +74,90 @@ line_for_none live o is = ap (λ (l : Option ℕ). line_for l o) is
 heard_at : (part : Part) (b : Bool) (o : Out) → IsClosed part
     → Stays part (cond b (record { live = None; before = part.before; latest = part.latest })
     (hears part (line_for part.live o)))
-heard_at part true o is = record { before = refl; latest = refl; closed = inl refl }
+heard_at part true o is = record { before = refl; latest = refl; closed = inl refl; live = inr refl }
 heard_at part false o is = hears_closed part (line_for part.live o) is (line_for_none part.live o)
 
 on : (old mid new : Part) → Stays old mid → Stays mid new → Stays old new
-on old mid new a b = record { before = b.before ∙ a.before; latest = b.latest ∙ a.latest; closed = b.closed }
+on old mid new a b = record {
+  before = b.before ∙ a.before;
+  latest = b.latest ∙ a.latest;
+  closed = b.closed;
+  live = left_on old.live mid.live new.live a.live b.live;
+}
 
 stays : (s : ℕ) (part : Part) (es : List Step) → AllByRecursion (λ e. calls_of s e ≡ false) es → IsClosed part
     → Stays part (part_after s part es)
-stays s part [] n is = record { before = refl; latest = refl; closed = is }
+stays s part [] n is = record { before = refl; latest = refl; closed = is; live = inl refl }
 stays s part (e ∷ es) n is =
     let one : Stays part (after s part e) =
     subst (Stays part) (sym (after_heard s part e n.0)) (heard_at part (cuts_off e.event) e.out is) in
     on part (after s part e) _ one (stays s (after s part e) es n.1 one.closed)
 
--- what a session has seen to be closed is still so
+-- what a session has seen to be closed is still so, and no other transaction is its own
 pub closed_on : (s : ℕ) (before now : List Step) → Sees (calls_of s) before now → IsClosed (part_of s before)
     → (calls (part_of s now) ≡ calls (part_of s before)) × IsClosed (part_of s now)
+    × (((part_of s now).live ≡ (part_of s before).live) ⊎ ((part_of s now).live ≡ None))
 closed_on s before now sees is =
     let all : part_of s now ≡ part_after s (part_of s before) sees.since =
     ap (part_of s) sees.all ∙ part_append s no_part before sees.since in
     let st = stays s (part_of s before) sees.since sees.none is in
     let st' : Stays (part_of s before) (part_of s now) = subst (Stays (part_of s before)) (sym all) st in
-    ((λ i. with_latest (st'.before i) (st'.latest i)), st'.closed)
+    ((λ i. with_latest (st'.before i) (st'.latest i)), st'.closed, st'.live)
+
+-- so one that is alive was so before
+pub still : (o live seen : Option ℕ) → o ≡ seen → (seen ≡ live) ⊎ (seen ≡ None) → IfSome o (λ t. live ≡ Some t)
+still None live seen is left = tt
+still (Some t) live seen is (inl same) = sym same ∙ sym is
+still (Some t) live seen is (inr gone) = absurd (cc (is ∙ gone))
+
+-- ---- a line after which the transaction has ended
+
+abbrev EndsAll : Part → Type 0
+EndsAll part = (l : Line) → line_of part.latest ≡ Some l → ends l ≡ true → part.live ≡ None
+
+ended_hears : (part : Part) (line : Option Line) → EndsAll part → EndsAll (hears part line)
+ended_hears part None all = all
+ended_hears part (Some heard) all = at part.latest (awaits_of part.latest) refl all
+  where
+    awaits_of : Option Call → Bool
+    awaits_of o = pending o
+
+    gone : (b : Bool) (live : Option ℕ) → live ≡ None → cond b None live ≡ None
+    gone true live is = refl
+    gone false live is = is
+
+    at : (o : Option Call) (b : Bool) → pending o ≡ b
+        → ((l : Line) → line_of o ≡ Some l → ends l ≡ true → part.live ≡ None)
+        → (l : Line) → line_of (told_of o heard) ≡ Some l → ends l ≡ true → cond (ends heard) None part.live ≡ None
+    at None b is was l has end = absurd (cc (has))
+    at (Some c) true is was l has end =
+        let same : heard ≡ l = cc (sym (ap (λ (x : Bool). cond x (Some heard) c.line) is) ∙ has) in
+        ap (λ (x : Bool). cond x None part.live) (ap ends same ∙ end)
+    at (Some c) false is was l has end =
+        gone (ends heard) part.live
+        (was l (sym (ap (λ (x : Bool). cond x (Some heard) c.line) is) ∙ has) end)
+
+ended_heard : (part : Part) (b : Bool) (o : Out) → EndsAll part
+    → EndsAll (cond b (record { live = None; before = part.before; latest = part.latest })
+    (hears part (line_for part.live o)))
+ended_heard part true o all = λ l has end. refl
+ended_heard part false o all = ended_hears part (line_for part.live o) all
+
+ended_after : (s : ℕ) (part : Part) (e : Step) → EndsAll part → EndsAll (after s part e)
+ended_after s part e all = at (calls_of s e)
+  where
+    at : (b : Bool) → EndsAll (cond b (called part e.event e.out) (heard part e.event e.out))
+    at true = λ l has end. absurd (cc (has))
+    at false = ended_heard part (cuts_off e.event) e.out all
+
+ended_all : (s : ℕ) (part : Part) (es : List Step) → EndsAll part → EndsAll (part_after s part es)
+ended_all s part [] all = all
+ended_all s part (e ∷ es) all = ended_all s (after s part e) es (ended_after s part e all)
+
+-- once it was told so
+pub ended : (s : ℕ) (es : List Step) (l : Line) → line_of (part_of s es).latest ≡ Some l → ends l ≡ true
+    → (part_of s es).live ≡ None
+ended s es = ended_all s no_part es (λ l has end. absurd (cc (has)))
 
 record Grows (old new : Part) : Type 0 where
   before : new.before ≡ old.before

@@ -1,7 +1,9 @@
 -- A component's step goes on from what the component has seen.
 use Rattle.std.proofs.Common.{◌≡◌, ℕ, ◌+◌, false, List, Option, Some, None, refl, ap, sym, ◌∙◌, subst}
+use Rattle.atomic_table.specs.Seated.{TableId}
 use Rattle.codec.specs.declared.request.Request.{Request}
 use Rattle.codec.specs.declared.reply.Reply.{Reply}
+use Rattle.marks.specs.Seen.{Seen}
 use Rattle.world.specs.declared.event.Event.{Event}
 use Rattle.world.specs.declared.event.Event.TheVariants as event
 use Rattle.world.specs.Component.{TcSide, DcSide}
@@ -13,6 +15,7 @@ use Rattle.worker_pool.specs.Kept.{is_dc, HandsReply, HandsRequest, EntersTc, En
 use Rattle.worker_pool.specs.Steps.{is_tc, requests, replies, TcState, DcState, count, GivesTc, GivesDc}
 use Rattle.worker_pool.specs.Views.{View, Sees}
 use Rattle.worker_pool.proofs.Along.{tc_on, dc_on}
+use Rattle.worker_pool.proofs.Marking.{seat_on}
 
 -- nothing is delivered
 record Alone (e : Event) : Type 0 where
@@ -92,10 +95,14 @@ tc_goes_with before steps side next sent after e number given reply sees gives i
     tc_goes steps side next sent after e (event.Reply number) (Some reply)
     (tc_on before steps (record { side = side; sent = sent }) sees gives) is leads (by.found ∙ sym by.is ∙ has) tt n none
 
-pub tc_kept_on : (names : ℕ → ℕ) (old new : View) (state : TcState) → TcDeskKept names old state
-    → new.name ≡ old.name → Sees is_tc old.steps new.steps → TcDeskKept names new state
-tc_kept_on names old new state k name sees =
-    record { name = name ∙ k.name; gives = tc_on old.steps new.steps state sees k.gives }
+pub tc_kept_on : (names : ℕ → ℕ) (marks : TableId) (old new : View) (state : TcState) (seat : Seen)
+    → TcDeskKept names marks old state seat → new.name ≡ old.name → Sees is_tc old.steps new.steps
+    → TcDeskKept names marks new state seat
+tc_kept_on names marks old new state seat k name sees = record {
+  name = name ∙ k.name;
+  gives = tc_on old.steps new.steps state sees k.gives;
+  seated = seat_on marks old.steps new.steps state.side.tc.stable seat k.seated sees;
+}
 
 -- ---- the data component
 

@@ -6,5 +6,9 @@ pub mod Kept
 pub mod Callers
 pub mod Desks
 pub mod Waiting
+pub mod Asking
 pub mod Answers
 pub mod Why
+pub mod Opened
+pub mod Marking
+pub mod Closing

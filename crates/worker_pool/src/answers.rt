@@ -1,8 +1,9 @@
 //! What a call answers, by how it ended.
-ghost use Rattle.std.specs.Prelude.{◌≡◌, ℕ, IfOk, IfErr, OnOk};
+ghost use Rattle.std.specs.Prelude.{◌≡◌, ℕ, false, IfOk, IfErr};
 ghost use Rattle.world.specs.declared.event.Out as outs;
 ghost use Rattle.world.specs.declared.event.Out.TheVariants as out;
 ghost use Rattle.worker_pool.specs.Answers.{AreShown, IsRefusal, IsToldAs, IsAtOnce, TellsCommit};
+ghost use Rattle.worker_pool.specs.Asking.{both, is_begun, is_saved, is_logged, is_asked, is_rolling, is_commit_logged, gives_answer, gives_row, gives_rows, gives_back, gives_rolled_back, gives_commit};
 
 use crate::copying::copied_value;
 use crate::ended::{Ended, why};
@@ -20,10 +21,10 @@ pub(crate) fn answer_told<J: Naming>(hall: &Hall<J>, ended: &Ended) -> Result<An
     ensures told { IfOk result (λ answer.
         IsToldAs (λ (o : outs.Out). (n : ℕ) × (o ≡ out.Logged n))
         (λ (o : outs.Out). (u : ℕ) × (o ≡ out.Answered u answer)) ended.now) }
-    ensures refused { IfErr result (λ r. IsRefusal ended.now r) }
+    ensures refused { IfErr result (λ r. IsRefusal (λ (o : outs.Out). false)
+        (λ (o : outs.Out) (line : outs.Out). both (is_logged o) (gives_answer line)) ended.now r) }
 {
     match ended {
-        Ended::NotAlive => Err(Refusal::NotOpen),
         Ended::CutOff => Err(Refusal::NotConnected),
         Ended::AtOnce(call) => Err(why(&hall.row().value(call).step.out)),
         Ended::Told(call, line) => answer_of(
@@ -38,7 +39,8 @@ fn answer_of(call: &Out, line: &Out) -> Result<Answer, Refusal>
     ensures told { IfOk result (λ answer.
         ((n : ℕ) × (call.now ≡ out.Logged n))
         × ((u : ℕ) × (line.now ≡ out.Answered u answer))) }
-    ensures refused { IfErr result (λ r. r ≡ Refusal.NotConnected) }
+    ensures refused { IfErr result (λ r. (r ≡ Refusal.NotConnected)
+        × (both (is_logged call.now) (gives_answer line.now) ≡ false)) }
 {
     match (call, line) {
         (Out::Logged(_), Out::Answered { txn: _, answer }) => Ok(answer.copied()),
@@ -52,10 +54,10 @@ pub(crate) fn row_told<J: Naming>(hall: &Hall<J>, ended: &Ended) -> Result<Optio
     ensures told { IfOk result (λ value.
         IsToldAs (λ (o : outs.Out). (n : ℕ) × (o ≡ out.Asked n))
         (λ (o : outs.Out). (u : ℕ) × (o ≡ out.Row u value)) ended.now) }
-    ensures refused { IfErr result (λ r. IsRefusal ended.now r) }
+    ensures refused { IfErr result (λ r. IsRefusal (λ (o : outs.Out). false)
+        (λ (o : outs.Out) (line : outs.Out). both (is_asked o) (gives_row line)) ended.now r) }
 {
     match ended {
-        Ended::NotAlive => Err(Refusal::NotOpen),
         Ended::CutOff => Err(Refusal::NotConnected),
         Ended::AtOnce(call) => Err(why(&hall.row().value(call).step.out)),
         Ended::Told(call, line) => row_of(
@@ -70,7 +72,8 @@ fn row_of(call: &Out, line: &Out) -> Result<Option<Value>, Refusal>
     ensures told { IfOk result (λ value.
         ((n : ℕ) × (call.now ≡ out.Asked n))
         × ((u : ℕ) × (line.now ≡ out.Row u value))) }
-    ensures refused { IfErr result (λ r. r ≡ Refusal.NotConnected) }
+    ensures refused { IfErr result (λ r. (r ≡ Refusal.NotConnected)
+        × (both (is_asked call.now) (gives_row line.now) ≡ false)) }
 {
     match (call, line) {
         (Out::Asked(_), Out::Row { txn: _, value }) => Ok(copied_value(value)),
@@ -88,10 +91,10 @@ pub(crate) fn rows_told<J: Naming, R: Wait>(
     ensures told { IfOk result (λ rows.
         IsToldAs (λ (o : outs.Out). (n : ℕ) × (o ≡ out.Asked n))
         (λ (o : outs.Out). (u : ℕ) × (o ≡ out.Rows u rows)) ended.now) }
-    ensures refused { IfErr result (λ r. IsRefusal ended.now r) }
+    ensures refused { IfErr result (λ r. IsRefusal (λ (o : outs.Out). false)
+        (λ (o : outs.Out) (line : outs.Out). both (is_asked o) (gives_rows line)) ended.now r) }
 {
     match ended {
-        Ended::NotAlive => Err(Refusal::NotOpen),
         Ended::CutOff => Err(Refusal::NotConnected),
         Ended::AtOnce(call) => Err(why(&hall.row().value(call).step.out)),
         Ended::Told(call, line) => rows_of(
@@ -107,7 +110,8 @@ fn rows_of<R: Wait>(rt: &R, call: &Out, line: &Out) -> Result<Rows, Refusal>
     ensures told { IfOk result (λ rows.
         ((n : ℕ) × (call.now ≡ out.Asked n))
         × ((u : ℕ) × (line.now ≡ out.Rows u rows))) }
-    ensures refused { IfErr result (λ r. r ≡ Refusal.NotConnected) }
+    ensures refused { IfErr result (λ r. (r ≡ Refusal.NotConnected)
+        × (both (is_asked call.now) (gives_rows line.now) ≡ false)) }
 {
     match (call, line) {
         (Out::Asked(_), Out::Rows { txn: _, rows }) => Ok(copies(rt, rows)),
@@ -121,10 +125,10 @@ pub(crate) fn back_told<J: Naming>(hall: &Hall<J>, ended: &Ended) -> Result<(), 
     ensures told { IfOk result (λ done.
         IsToldAs (λ (o : outs.Out). o ≡ out.RollingBack)
         (λ (o : outs.Out). (u : ℕ) × (s : ℕ) × (o ≡ out.Back u s)) ended.now) }
-    ensures refused { IfErr result (λ r. IsRefusal ended.now r) }
+    ensures refused { IfErr result (λ r. IsRefusal (λ (o : outs.Out). false)
+        (λ (o : outs.Out) (line : outs.Out). both (is_rolling o) (gives_back line)) ended.now r) }
 {
     match ended {
-        Ended::NotAlive => Err(Refusal::NotOpen),
         Ended::CutOff => Err(Refusal::NotConnected),
         Ended::AtOnce(call) => Err(why(&hall.row().value(call).step.out)),
         Ended::Told(call, line) => back_of(
@@ -139,7 +143,8 @@ fn back_of(call: &Out, line: &Out) -> Result<(), Refusal>
     ensures told { IfOk result (λ done.
         (call.now ≡ out.RollingBack)
         × ((u : ℕ) × (s : ℕ) × (line.now ≡ out.Back u s))) }
-    ensures refused { IfErr result (λ r. r ≡ Refusal.NotConnected) }
+    ensures refused { IfErr result (λ r. (r ≡ Refusal.NotConnected)
+        × (both (is_rolling call.now) (gives_back line.now) ≡ false)) }
 {
     match (call, line) {
         (Out::RollingBack, Out::Back { .. }) => Ok(()),
@@ -153,10 +158,10 @@ pub(crate) fn rollback_told<J: Naming>(hall: &Hall<J>, ended: &Ended) -> Result<
     ensures told { IfOk result (λ done.
         IsToldAs (λ (o : outs.Out). o ≡ out.RollingBack)
         (λ (o : outs.Out). (u : ℕ) × (o ≡ out.RolledBack u)) ended.now) }
-    ensures refused { IfErr result (λ r. IsRefusal ended.now r) }
+    ensures refused { IfErr result (λ r. IsRefusal (λ (o : outs.Out). false)
+        (λ (o : outs.Out) (line : outs.Out). both (is_rolling o) (gives_rolled_back line)) ended.now r) }
 {
     match ended {
-        Ended::NotAlive => Err(Refusal::NotOpen),
         Ended::CutOff => Err(Refusal::NotConnected),
         Ended::AtOnce(call) => Err(why(&hall.row().value(call).step.out)),
         Ended::Told(call, line) => rollback_of(
@@ -169,7 +174,8 @@ pub(crate) fn rollback_told<J: Naming>(hall: &Hall<J>, ended: &Ended) -> Result<
 // That it is rolled back.
 fn rollback_of(call: &Out, line: &Out) -> Result<(), Refusal>
     ensures told { IfOk result (λ done. (call.now ≡ out.RollingBack) × ((u : ℕ) × (line.now ≡ out.RolledBack u))) }
-    ensures refused { IfErr result (λ r. r ≡ Refusal.NotConnected) }
+    ensures refused { IfErr result (λ r. (r ≡ Refusal.NotConnected)
+        × (both (is_rolling call.now) (gives_rolled_back line.now) ≡ false)) }
 {
     match (call, line) {
         (Out::RollingBack, Out::RolledBack(_)) => Ok(()),
@@ -183,10 +189,10 @@ pub(crate) fn commit_told<J: Naming>(hall: &Hall<J>, ended: &Ended) -> Result<u6
     ensures told { IfOk result (λ number.
         IsToldAs (λ (o : outs.Out). o ≡ out.CommitLogged number)
         TellsCommit ended.now) }
-    ensures refused { IfErr result (λ r. IsRefusal ended.now r) }
+    ensures refused { IfErr result (λ r. IsRefusal (λ (o : outs.Out). false)
+        (λ (o : outs.Out) (line : outs.Out). both (is_commit_logged o) (gives_commit line)) ended.now r) }
 {
     match ended {
-        Ended::NotAlive => Err(Refusal::NotOpen),
         Ended::CutOff => Err(Refusal::NotConnected),
         Ended::AtOnce(call) => Err(why(&hall.row().value(call).step.out)),
         Ended::Told(call, line) => commit_of(
@@ -199,7 +205,8 @@ pub(crate) fn commit_told<J: Naming>(hall: &Hall<J>, ended: &Ended) -> Result<u6
 // The number of the record.
 fn commit_of(call: &Out, line: &Out) -> Result<u64, Refusal>
     ensures told { IfOk result (λ number. (call.now ≡ out.CommitLogged number) × TellsCommit line.now) }
-    ensures refused { IfErr result (λ r. r ≡ Refusal.NotConnected) }
+    ensures refused { IfErr result (λ r. (r ≡ Refusal.NotConnected)
+        × (both (is_commit_logged call.now) (gives_commit line.now) ≡ false)) }
 {
     match (call, line) {
         (Out::CommitLogged(number), Out::Stable { .. } | Out::Connects { .. }) => Ok(*number),
@@ -211,10 +218,9 @@ fn commit_of(call: &Out, line: &Out) -> Result<u64, Refusal>
 pub(crate) fn saved<J: Naming>(hall: &Hall<J>, ended: &Ended) -> Result<u64, Refusal>
     requires { AreShown J.entries ended.now }
     ensures told { IfOk result (λ s. IsAtOnce (out.Saved s) ended.now) }
-    ensures refused { IfErr result (λ r. IsRefusal ended.now r) }
+    ensures refused { IfErr result (λ r. IsRefusal is_saved (λ (o : outs.Out) (line : outs.Out). false) ended.now r) }
 {
     match ended {
-        Ended::NotAlive => Err(Refusal::NotOpen),
         Ended::CutOff | Ended::Told(_, _) => Err(Refusal::NotConnected),
         Ended::AtOnce(call) => match &hall.row().value(call).step.out {
             Out::Saved(savepoint) => Ok(*savepoint),
@@ -227,10 +233,9 @@ pub(crate) fn saved<J: Naming>(hall: &Hall<J>, ended: &Ended) -> Result<u64, Ref
 pub(crate) fn begun<J: Naming>(hall: &Hall<J>, ended: &Ended) -> Result<u64, Refusal>
     requires { AreShown J.entries ended.now }
     ensures told { IfOk result (λ t. IsAtOnce (out.Begun t) ended.now) }
-    ensures refused { IfErr result (λ r. IsRefusal ended.now r) }
+    ensures refused { IfErr result (λ r. IsRefusal is_begun (λ (o : outs.Out) (line : outs.Out). false) ended.now r) }
 {
     match ended {
-        Ended::NotAlive => Err(Refusal::NotOpen),
         Ended::CutOff | Ended::Told(_, _) => Err(Refusal::NotConnected),
         Ended::AtOnce(call) => match &hall.row().value(call).step.out {
             Out::Begun(txn) => Ok(*txn),

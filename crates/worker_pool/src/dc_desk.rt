@@ -2,6 +2,7 @@
 ghost use Rattle.std.specs.Prelude.{◌≡◌, ◌+◌, false, None, Some, IfOk, IfErr};
 ghost use Rattle.world.specs.Component as sides;
 ghost use Rattle.world.specs.Halves.{of_tc, DcLeads, MayDc, IsInNode};
+ghost use Rattle.worker_pool.specs.Closing.{EndsWith};
 ghost use Rattle.worker_pool.specs.Desks.{delivers};
 ghost use Rattle.worker_pool.specs.Slots.{Shown};
 ghost use Rattle.worker_pool.specs.Steps.{GivesDc, dc_start, count};
@@ -16,7 +17,7 @@ use crate::tc_desk::next_number;
 use crate::view::Visitor;
 use boxcar::{Pushed, Vec as Row};
 use codec::Request;
-use record_key::Refusal;
+use record_key::{Key, Refusal, Value};
 use std::alloc::Global;
 use std::marker::Model;
 use std::sync::{Mutex, Wait};
@@ -48,7 +49,7 @@ impl<J: Naming> Model for DcDesk<J> {
 
 impl<J: Naming> DcDesk<J> {
     /// The component at its start. Refused NoMemory.
-    pub fn new(alloc: Global, mark: Mark) -> Result<DcDesk<J>, Refusal>
+    pub(crate) fn new(alloc: Global, mark: Mark) -> Result<DcDesk<J>, Refusal>
         requires { (mark.name ≡ J.names 1) × (mark.number ≡ 0) }
         ensures start { IfOk result (λ desk. desk.state ≡ dc_start) }
         ensures memory { IfErr result (λ refusal. refusal ≡ Refusal.NoMemory) }
@@ -65,6 +66,29 @@ impl<J: Naming> DcDesk<J> {
         ensures { GivesDc self.now.steps self.now.state }
     {
         let _ = &self.side;
+    }
+
+    /// Copies of the records, where it runs, which some run of the node through all entries ends with. Refused NoMemory.
+    pub(crate) fn rows(
+        &mut self,
+        row: &Row<Entry>,
+        journal: &mut Journal<J>,
+    ) -> Result<Option<Vec<(Key, Value)>>, Refusal>
+        requires row { row.now ≡ J.entries }
+        ensures same { journal.new ≡ journal.old }
+        ensures rows { IfOk result (λ rows. EndsWith journal.old rows) }
+        ensures memory { IfErr result (λ refusal. refusal ≡ Refusal.NoMemory) }
+    {
+        let DcDesk {
+            side,
+            given,
+            visitor,
+        } = self;
+        journal.look_dc(row, visitor, side, *given);
+        if !side.is_up() {
+            return Ok(None);
+        }
+        Ok(Some(side.rows()?))
     }
 
     /// The session that runs. Refused NotConnected where the component is down.

@@ -7,11 +7,9 @@ use boxcar::Pushed;
 use record_key::Refusal;
 use world::Out;
 
-/// How a session's call ended, with its entry.
+/// How a session's call ended that has an entry.
 #[derive(Drop)]
 pub(crate) enum Ended {
-    /// It has no entry: the session's transaction isn't alive any more.
-    NotAlive,
     /// Its entry says all.
     AtOnce(Pushed<Entry>),
     /// The second entry told of it.

@@ -1,16 +1,40 @@
-//! How a worker is started.
+//! An engine: the workers over what the threads share.
+ghost use Rattle.std.specs.Prelude.{◌≡◌, ◌<◌, IfOk, IfErr, length};
+ghost use Rattle.std.specs.List.{AllByRecursion};
+ghost use Rattle.worker_pool.specs.Closing.{IsFresh, IsKeptBy, IsOutage, below, numbers_of};
+ghost use Rattle.worker_pool.specs.Opened.{IsNamed};
+
+use crate::closed::Closed;
+use crate::dc_desk::DcDesk;
 use crate::gate::Gate;
+use crate::hall::Hall;
+use crate::journal::Journal;
+use crate::lines::Lines;
 use crate::naming::Naming;
+use crate::opened::Opened;
+use crate::seated::{Seated, callers_of, cover, seat_all, sessions_of};
+use crate::session::Session;
 use crate::shared::{Job, Shared};
+use crate::stirs::Stirs;
+use crate::tc_desk::TcDesk;
 use crate::worker::work;
-use crossbeam_channel::Receiver;
-use std::alloc::AllocError;
+use crossbeam_channel::{Receiver, Sender};
+use record_key::Refusal;
+use std::alloc::{AllocError, Global};
 use std::sync::{Arc, Wait};
 use std::thread;
 use std::thread::{JoinHandle, Threads};
 
-/// A thread that serves requests over what is shared, until nobody sends any more. Refused where no thread can be made.
-pub fn start<J, G, R>(
+/// Workers that serve the sessions' requests. What its sessions are called with is given out with it.
+pub struct Engine<J: Naming, G> {
+    alloc: Global,
+    shared: Arc<Shared<J, G>>,
+    work: Sender<Job>,
+    workers: Vec<JoinHandle<()>>,
+}
+
+// A thread that serves requests over what is shared, until nobody sends any more. Refused where no thread can be made.
+fn start<J, G, R>(
     rt: R,
     shared: Arc<Shared<J, G>>,
     jobs: Receiver<Job>,
@@ -21,4 +45,172 @@ where
     R: Threads + Wait + Copy + Send + 'static,
 {
     Ok(thread::spawn(&rt, move || work(&rt, &*shared, &jobs))?)
+}
+
+// Waits for every thread to end.
+fn join_all<R: Threads + Wait>(rt: &R, workers: Vec<JoinHandle<()>>) {
+    for worker in workers {
+        worker.join(rt);
+    }
+}
+
+// What is shared, once nobody else holds it.
+fn alone<T, R: Wait>(rt: &R, shared: Arc<T>) -> T {
+    let mut shared = shared;
+    for _ in rt.forever() {
+        match Arc::try_unwrap(shared) {
+            Ok(all) => return all,
+            Err(back) => shared = back,
+        }
+        thread::yield_now();
+    }
+    unreachable!()
+}
+
+impl<J, G> Engine<J, G>
+where
+    J: Naming + Drop + Send + Sync + 'static,
+    G: Gate + Drop + Send + Sync + 'static,
+{
+    /// An engine of what was opened, with so many workers, and its sessions. Both components are brought up. Refused
+    /// NoMemory, also where a thread can't be made; Device and NumbersSpent, as `restart` is. No thread is left then.
+    pub fn new<R: Threads + Wait + Copy + Send + 'static>(
+        rt: R,
+        opened: Opened,
+        workers: usize,
+        gate: G,
+    ) -> Result<(Engine<J, G>, Vec<Session<J, G>>), Refusal>
+        requires named { IsNamed opened J.entries J.marks J.names J.sessions }
+        requires some { 0 < workers }
+        ensures refused { IfErr result IsOutage }
+        ensures fresh { IfOk result (λ made. AllByRecursion (IsFresh J.marks) made.1.items) }
+        ensures numbers { IfOk result (λ made. numbers_of made.1.items ≡ below (length opened.sessions)) }
+    {
+        let alloc = opened.alloc;
+        let Opened {
+            row,
+            marks,
+            seat,
+            tc,
+            dc,
+            chairs,
+            ..
+        } = opened;
+        let stirs = Stirs::new(alloc, chairs.len())?;
+        let (tc_book, tc_mark) = tc.parted();
+        let (dc_book, dc_mark) = dc.parted();
+        let data = DcDesk::new(alloc, dc_mark)?;
+        let Seated { places, sitters } = seat_all::<J>(alloc, chairs)?;
+        let journal = Journal::new(Lines::new(alloc, tc_book, dc_book), places, stirs);
+        let shared = Arc::new(
+            alloc,
+            Shared::new(
+                Hall::new(row, marks),
+                TcDesk::new(alloc, tc_mark, seat),
+                data,
+                journal,
+                gate,
+            ),
+        )?;
+        let (work, jobs) = crossbeam_channel::unbounded(alloc)?;
+        let sessions = sessions_of(alloc, sitters, &shared, &work)?;
+        let mut engine = Engine {
+            alloc,
+            shared,
+            work,
+            workers: Vec::with_capacity(alloc, workers)?,
+        };
+        match engine.begin(rt, jobs, workers) {
+            Ok(()) => Ok((engine, sessions)),
+            Err(refusal) => {
+                drop(sessions);
+                engine.leave(&rt);
+                Err(refusal)
+            }
+        }
+    }
+
+    // Starts the workers, and brings both components up.
+    fn begin<R: Threads + Wait + Copy + Send + 'static>(
+        &mut self,
+        rt: R,
+        jobs: Receiver<Job>,
+        count: usize,
+    ) -> Result<(), Refusal>
+        ensures { IfErr result IsOutage }
+    {
+        for _ in 0..count {
+            let worker = start(rt, Arc::try_clone(&self.shared)?, jobs.clone()?)?;
+            self.workers.push(worker)?;
+        }
+        self.shared.bring_up(&rt)
+    }
+
+    // Ends the workers. Every session is gone.
+    fn leave<R: Threads + Wait>(self, rt: &R) {
+        let Engine {
+            alloc: _,
+            shared: _,
+            work,
+            workers,
+        } = self;
+        drop(work);
+        join_all(rt, workers);
+    }
+
+    /// The data component crashes. Nothing is kept that isn't stable.
+    pub fn crash_dc<R: Wait>(&self, rt: &R) {
+        self.shared.crash_dc(rt);
+    }
+
+    /// The transaction component crashes, and every session's transaction is cut off. Of the first record that isn't
+    /// stable at most so many bytes are kept, and nothing after it.
+    pub fn crash_tc<R: Wait>(&self, rt: &R, kept: u64) {
+        self.shared.crash_tc(rt, kept);
+    }
+
+    /// Brings both components up, in one session, and undoes who was lost. Refused NoMemory, Device, NumbersSpent; what
+    /// was done by then stands.
+    pub fn restart<R: Wait>(&self, rt: &R) -> Result<(), Refusal>
+        ensures { IfErr result IsOutage }
+    {
+        self.shared.bring_up(rt)
+    }
+
+    /// Ends the engine with all of its sessions, and joins every thread: the journal, and where the data component runs
+    /// its records. Refused NoMemory; the engine is gone then too.
+    pub fn close<R: Threads + Wait>(
+        self,
+        rt: &R,
+        sessions: Vec<Session<J, G>>,
+    ) -> Result<Closed<J>, Refusal>
+        ensures kept { IfOk result (λ closed. AllByRecursion (IsKeptBy closed.steps) sessions.items) }
+        ensures refused { IfErr result (λ refusal. refusal ≡ Refusal.NoMemory) }
+    {
+        let Engine {
+            alloc,
+            shared,
+            work,
+            workers,
+        } = self;
+        drop(work);
+        let callers = callers_of(alloc, sessions);
+        join_all(rt, workers);
+        let callers = callers?;
+        let Shared {
+            hall,
+            tc: _,
+            dc,
+            journal,
+            ..
+        } = alone(rt, shared);
+        let mut journal = journal.into_inner();
+        cover(&mut journal, hall.row(), callers);
+        let rows = dc.into_inner().rows(hall.row(), &mut journal)?;
+        Ok(Closed {
+            hall,
+            journal,
+            rows,
+        })
+    }
 }

@@ -1,6 +1,8 @@
 //! What lies under the journal's lock.
-ghost use Rattle.std.specs.Prelude.{◌≡◌, ◌++◌, ◌∷◌, [], None, Some, true, IfOk, map, vec_len};
+ghost use Rattle.std.specs.Prelude.{◌≡◌, ◌++◌, ◌∷◌, [], None, Some, true, IfOk, IfSome, IfNone, OnErr, length, map, vec_len, slice_get};
 ghost use Rattle.world.specs.Halves.{IsSpelledIf};
+ghost use Rattle.world.specs.Messages.{message_at};
+ghost use Rattle.worker_pool.specs.Answers.{LeavesLive};
 ghost use Rattle.worker_pool.specs.Callers.{IsNews};
 ghost use Rattle.worker_pool.specs.Kept.{is_dc, IsInRun, IsSentBy, EntersTc, EntersDc, PlacesKept, place_after};
 ghost use Rattle.worker_pool.specs.Waiting.{IsNewsOf};
@@ -96,6 +98,8 @@ impl<J: Naming> Journal<J> {
     /// The entry that sent the request of this number, if one did.
     pub(crate) fn request(&self, number: u64) -> Result<Pushed<Entry>, Unsent>
         ensures shown { IfOk result (λ token. Shown J.entries token) }
+        ensures sent { IfOk result (λ token. IsSentBy (requests self.now) number token.value.step.sent) }
+        ensures none { OnErr result (message_at (requests self.now) number ≡ None) }
     {
         self.lines.request(number)
     }
@@ -114,6 +118,7 @@ impl<J: Naming> Journal<J> {
         ensures sees { Sees is_tc visitor.old.steps self.old }
         ensures shown { IfOk result (λ token. Shown J.entries token) }
         ensures given { IfOk result (λ token. IsSentBy (replies self.old) number token.value.step.given) }
+        ensures none { OnErr result (message_at (replies self.old) number ≡ None) }
     {
         let Journal {
             lines,
@@ -143,6 +148,7 @@ impl<J: Naming> Journal<J> {
         ensures shown { IfOk result (λ token. Shown J.entries token) }
         ensures sent { IfOk result (λ token. IsSentBy (requests self.old) number token.value.step.sent) }
         ensures spelled { IfOk result (λ token. IsSpelledIf token.value.step.sent) }
+        ensures none { OnErr result (message_at (requests self.old) number ≡ None) }
     {
         let Journal {
             lines,
@@ -223,6 +229,7 @@ impl<J: Naming> Journal<J> {
         ensures value { result.value.step ≡ step }
         ensures entered { self.new ≡ self.old ++ step ∷ [] }
         ensures visitor { visitor.new ≡ record { name = visitor.old.name; steps = self.new } }
+        ensures sees { Sees is_tc visitor.old.steps self.old }
         ensures gives { (n : TcState) → EntersTc visitor.old.steps step n → GivesTc visitor.new.steps n }
     {
         let Journal {
@@ -254,10 +261,12 @@ impl<J: Naming> Journal<J> {
         ensures value { result.value.step ≡ step }
         ensures entered { self.new ≡ self.old ++ step ∷ [] }
         ensures visitor { visitor.new ≡ record { name = visitor.old.name; steps = self.new } }
+        ensures sees { Sees is_tc visitor.old.steps self.old }
         ensures gives { (n : TcState) → EntersTc visitor.old.steps step n → GivesTc visitor.new.steps n }
         ensures number { caller.new.number ≡ caller.old.number }
         ensures before { caller.new.part.before ≡ calls caller.old.part }
         ensures latest { caller.new.part.latest ≡ Some (called_as step.event step.out None) }
+        ensures live { LeavesLive step.out caller.new.part }
     {
         let Journal {
             lines,
@@ -303,14 +312,18 @@ impl<J: Naming> Journal<J> {
         news_of(place)
     }
 
-    /// A session's part has just the calls that it knows of.
-    pub fn covers(&mut self, row: &Row<Entry>, caller: &mut Caller<J>)
+    /// The session sees all entries. Its part has just the calls that it knows of. Answers its transaction, if that is
+    /// alive.
+    pub(crate) fn see(&mut self, row: &Row<Entry>, caller: &mut Caller<J>) -> Option<u64>
         requires row { row.now ≡ J.entries }
         requires closed { IsClosed caller.old.part }
         ensures same { self.new ≡ self.old }
         ensures number { caller.new.number ≡ caller.old.number }
-        ensures calls { calls (part_of caller.old.number self.old) ≡ calls caller.old.part }
-        ensures caller { caller.new.part ≡ part_of caller.old.number self.old }
+        ensures part { caller.new.part ≡ part_of caller.old.number self.old }
+        ensures calls { calls caller.new.part ≡ calls caller.old.part }
+        ensures closed { IsClosed caller.new.part }
+        ensures live { result ≡ caller.new.part.live }
+        ensures kept { IfSome result (λ t. caller.old.part.live ≡ Some t) }
     {
         let Journal {
             lines,
@@ -323,6 +336,23 @@ impl<J: Naming> Journal<J> {
         } = caller;
         let place = &mut places[*number as usize];
         place.party.meet(row, own, &lines.last());
+        place.live
+    }
+
+    /// How many entries there are.
+    pub(crate) fn count(&self) -> usize
+        ensures { result ≡ length self.now }
+    {
+        self.lines.count()
+    }
+
+    /// The entry at a place, from 0.
+    pub(crate) fn token(&self, place: usize) -> Option<Pushed<Entry>>
+        ensures shown { IfSome result (λ token. Shown J.entries token) }
+        ensures step { IfSome result (λ token. slice_get self.now place ≡ Some token.value.step) }
+        ensures none { IfNone result (slice_get self.now place ≡ None) }
+    {
+        self.lines.token(place)
     }
 
     /// Whether a session that waits has something to do: a line was told, its call was cut off, or what it sent was

@@ -7,7 +7,9 @@
 #![tactic(auto)]
 
 mod answers;
+mod ask;
 mod caller;
+mod closed;
 mod copying;
 mod dc_desk;
 mod ended;
@@ -19,9 +21,11 @@ mod journal;
 mod lines;
 mod naming;
 mod news;
+mod opened;
 mod place;
 mod rounds;
 mod row;
+mod seated;
 mod session;
 mod shared;
 mod step;
@@ -32,21 +36,11 @@ mod tracing;
 mod view;
 mod worker;
 
-pub use caller::Caller;
-pub use dc_desk::DcDesk;
-pub use engine::start;
+pub use closed::Closed;
+pub use engine::Engine;
 pub use entry::Entry;
 pub use gate::Gate;
-pub use hall::Hall;
-pub use journal::Journal;
-pub use lines::{Lines, Unsent};
 pub use naming::Naming;
-pub use place::Place;
+pub use opened::Opened;
 pub use session::Session;
-pub use shared::{Job, Shared};
 pub use step::Step;
-pub use stirs::Stirs;
-pub use tc_desk::TcDesk;
-pub use trace::Trace;
-pub use view::{Party, Visitor};
-pub use worker::work;

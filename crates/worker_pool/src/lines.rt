@@ -1,5 +1,5 @@
 //! The journal's entries, in order.
-ghost use Rattle.std.specs.Prelude.{◌≡◌, ◌<◌, [], ◌∷◌, ◌++◌, true, IfOk, slice_get, cond, vec_len, vec_capacity};
+ghost use Rattle.std.specs.Prelude.{◌≡◌, ◌<◌, [], ◌∷◌, ◌++◌, true, IfOk, IfSome, IfNone, OnErr, length, slice_get, cond, vec_len, vec_capacity};
 ghost use Rattle.dc_core.specs.Kept.{IsDc};
 ghost use Rattle.world.specs.Halves.{IsSpelledIf};
 ghost use Rattle.world.specs.Messages.{message_at};
@@ -61,7 +61,8 @@ fn token_at(list: &[Pushed<Entry>], place: usize) -> Option<Pushed<Entry>>
 
 // The token of a number, from 1.
 fn numbered(list: &[Pushed<Entry>], number: u64) -> Result<Pushed<Entry>, Unsent>
-    ensures { IfOk result (λ token. message_at list.now number ≡ Some token) }
+    ensures found { IfOk result (λ token. message_at list.now number ≡ Some token) }
+    ensures none { OnErr result (message_at list.now number ≡ None) }
 {
     if number == 0 {
         return Err(Unsent);
@@ -125,6 +126,22 @@ impl<J: Naming> Lines<J> {
         let _ = &self.tokens;
     }
 
+    /// How many entries there are.
+    pub(crate) fn count(&self) -> usize
+        ensures { result ≡ length self.now }
+    {
+        self.tokens.len()
+    }
+
+    /// The entry at a place, from 0.
+    pub(crate) fn token(&self, place: usize) -> Option<Pushed<Entry>>
+        ensures shown { IfSome result (λ token. Shown J.entries token) }
+        ensures step { IfSome result (λ token. slice_get self.now place ≡ Some token.value.step) }
+        ensures none { IfNone result (slice_get self.now place ≡ None) }
+    {
+        token_at(&self.tokens, place)
+    }
+
     /// The last entry.
     pub(crate) fn last(&self) -> Option<Pushed<Entry>>
         ensures shown { IsShown J.entries result }
@@ -170,6 +187,7 @@ impl<J: Naming> Lines<J> {
         ensures shown { IfOk result (λ token. Shown J.entries token) }
         ensures sent { IfOk result (λ token. IsSentBy (requests self.now) number token.value.step.sent) }
         ensures spelled { IfOk result (λ token. IsSpelledIf token.value.step.sent) }
+        ensures none { OnErr result (message_at (requests self.now) number ≡ None) }
     {
         numbered(&self.asked, number)
     }
@@ -178,6 +196,7 @@ impl<J: Naming> Lines<J> {
     pub(crate) fn reply(&self, number: u64) -> Result<Pushed<Entry>, Unsent>
         ensures shown { IfOk result (λ token. Shown J.entries token) }
         ensures given { IfOk result (λ token. IsSentBy (replies self.now) number token.value.step.given) }
+        ensures none { OnErr result (message_at (replies self.now) number ≡ None) }
     {
         numbered(&self.given, number)
     }
@@ -199,6 +218,7 @@ impl<J: Naming> Lines<J> {
         ensures through { through result.value ≡ self.old ++ step ∷ [] }
         ensures entered { self.new ≡ self.old ++ step ∷ [] }
         ensures visitor { visitor.new ≡ record { name = visitor.old.name; steps = self.new } }
+        ensures sees { Sees is_tc visitor.old.steps self.old }
         ensures gives { (n : TcState) → EntersTc visitor.old.steps step n → GivesTc visitor.new.steps n }
     {
         let Lines {

@@ -5,9 +5,13 @@ use std::marker::Brand;
 pub trait Naming {
     ghost use Rattle.std.specs.Prelude.{ℕ};
     ghost use Rattle.boxcar.specs.Table.{Shelves};
+    ghost use Rattle.atomic_table.specs.Seated.{TableId};
 
     /// The row in which the entries stand.
     ghost entries: { Shelves };
+
+    /// The marks that its seats read.
+    ghost marks: { TableId };
 
     /// The ties: of the transaction component, of the data component, and of each session.
     ghost names: { ℕ → ℕ };
@@ -20,6 +24,16 @@ impl Naming for Brand {
     ghost use Rattle.std.specs.Prelude.{[]};
 
     ghost entries = { record { tag = []; buckets = [] } };
+
+    ghost marks = { record {
+      words = 0;
+      slots = 0;
+      views_name = 0;
+      atom = 0;
+      block = 0;
+      offset = 0;
+      slot_names = [];
+    } };
 
     ghost names = { λ n. n };
 

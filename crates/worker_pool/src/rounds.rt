@@ -1,6 +1,7 @@
 //! How the components are brought up, and in one session.
-ghost use Rattle.std.specs.Prelude.{◌≡◌, true, false};
+ghost use Rattle.std.specs.Prelude.{◌≡◌, true, false, IfErr};
 ghost use Rattle.world.specs.Halves.{of_tc};
+ghost use Rattle.worker_pool.specs.Closing.{IsOutage};
 ghost use Rattle.worker_pool.specs.Desks.{delivers};
 
 use crate::gate::Gate;
@@ -34,7 +35,9 @@ pub(crate) enum Next {
 }
 
 // Whether a round goes on that came to this. Refused for want of memory or numbers, and where a device failed.
-fn passed(out: &Out) -> Result<bool, Refusal> {
+fn passed(out: &Out) -> Result<bool, Refusal>
+    ensures { IfErr result IsOutage }
+{
     match out {
         Out::Refused(Refusal::NoMemory) => Err(Refusal::NoMemory),
         Out::Refused(Refusal::Device) => Err(Refusal::Device),
@@ -46,7 +49,9 @@ fn passed(out: &Out) -> Result<bool, Refusal> {
 impl<J: Naming, G> Shared<J, G> {
     /// Brings both components up, in one session, and undoes who was lost. Refused NoMemory, Device, NumbersSpent; what
     /// was done by then stands.
-    pub fn bring_up<R: Wait>(&self, rt: &R) -> Result<(), Refusal> {
+    pub(crate) fn bring_up<R: Wait>(&self, rt: &R) -> Result<(), Refusal>
+        ensures { IfErr result IsOutage }
+    {
         for _ in rt.forever() {
             if !self.round(rt)? {
                 break;
@@ -60,7 +65,9 @@ impl<J: Naming, G> Shared<J, G> {
     }
 
     // One round, if one is left.
-    fn round<R: Wait>(&self, rt: &R) -> Result<bool, Refusal> {
+    fn round<R: Wait>(&self, rt: &R) -> Result<bool, Refusal>
+        ensures { IfErr result IsOutage }
+    {
         let row = self.hall.row();
         let mut dc = self.dc.lock(rt);
         let Ok(session) = dc.session() else {
@@ -83,6 +90,7 @@ impl<J: Naming, G> Shared<J, G> {
     fn pass<R: Wait>(&self, rt: &R, event: Event) -> Result<bool, Refusal>
         requires tc { of_tc event ≡ true }
         requires plain { delivers event ≡ false }
+        ensures { IfErr result IsOutage }
     {
         let token = self.enter(rt, event);
         passed(&self.hall.row().value(&token).step.out)
@@ -92,6 +100,7 @@ impl<J: Naming, G> Shared<J, G> {
     fn exchange_up<R: Wait>(&self, rt: &R, event: Event) -> Result<bool, Refusal>
         requires tc { of_tc event ≡ true }
         requires plain { delivers event ≡ false }
+        ensures { IfErr result IsOutage }
     {
         let row = self.hall.row();
         let token = self.enter(rt, event);
@@ -110,7 +119,7 @@ impl<J: Naming, G> Shared<J, G> {
         let Out::Replied(reply) = out else {
             return passed(out);
         };
-        let taken = self.tc.lock(rt).take(rt, row, &self.journal, *reply);
+        let taken = self.tc.lock(rt).take(rt, &self.hall, &self.journal, *reply);
         match taken {
             Ok(token) => passed(&row.value(&token).step.out),
             Err(_) => Ok(true),

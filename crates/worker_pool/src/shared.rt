@@ -1,14 +1,17 @@
 //! What the threads share, and what they do under its locks.
-ghost use Rattle.std.specs.Prelude.{◌≡◌, true, false, Some, None, IfSome, IfNone};
+ghost use Rattle.std.specs.Prelude.{◌≡◌, ◌≤◌, true, false, ℕ, Some, None, IfSome, IfNone};
+ghost use Rattle.marks.specs.Seen.{reader};
 ghost use Rattle.world.specs.declared.event.Event.{Event};
-ghost use Rattle.world.specs.Halves.{of_tc};
-ghost use Rattle.worker_pool.specs.Answers.{Ends, Finishes, IsAlive};
-ghost use Rattle.worker_pool.specs.Callers.{IsToldBy, IsUntold, IsNews};
 ghost use Rattle.world.specs.declared.event.Event.TheVariants as event;
+ghost use Rattle.world.specs.Halves.{of_tc};
+ghost use Rattle.worker_pool.specs.Answers.{Calls, Ends, Finishes, IsUnasked, IsSecond};
+ghost use Rattle.worker_pool.specs.Asking.{event_of};
+ghost use Rattle.worker_pool.specs.Callers.{IsToldBy, IsUntold, IsNews};
 ghost use Rattle.worker_pool.specs.Desks.{delivers};
 ghost use Rattle.worker_pool.specs.Sessions.{IsClosed, called_as, calls, line_of};
 ghost use Rattle.worker_pool.specs.Slots.{Shown};
 
+use crate::ask::Ask;
 use crate::caller::Caller;
 use crate::dc_desk::DcDesk;
 use crate::ended::Ended;
@@ -21,6 +24,7 @@ use crate::place::is_pending;
 use crate::tc_desk::TcDesk;
 use boxcar::Pushed;
 use crossbeam_channel::Sender;
+use marks::Seat;
 use record_key::Refusal;
 use std::sync::atomic::{AtomicU64, Ordering};
 use std::sync::{Condvar, Mutex, Wait};
@@ -39,11 +43,11 @@ pub struct Shared<J: Naming, G> {
     pub(crate) gate: G,
 }
 
-/// A request on its way to a worker: its number, and the session that waits for what comes of it.
+/// A request on its way to a worker: its number, and the session that waits for what comes of it, if one does.
 #[derive(Debug, Clone, Copy, Drop)]
 pub struct Job {
     pub(crate) number: u64,
-    pub(crate) session: u64,
+    pub(crate) session: Option<u64>,
 }
 
 /// What is left to do of a call that is told of later.
@@ -58,7 +62,7 @@ pub(crate) enum Rest {
 }
 
 impl<J: Naming, G> Shared<J, G> {
-    pub fn new(
+    pub(crate) fn new(
         hall: Hall<J>,
         tc: TcDesk<J>,
         dc: DcDesk<J>,
@@ -77,7 +81,7 @@ impl<J: Naming, G> Shared<J, G> {
     }
 
     /// The data component crashes. Nothing is kept that isn't stable.
-    pub fn crash_dc<R: Wait>(&self, rt: &R) {
+    pub(crate) fn crash_dc<R: Wait>(&self, rt: &R) {
         let event = Event::CrashDc {
             frames: 0,
             bytes: 0,
@@ -90,59 +94,60 @@ impl<J: Naming, G> Shared<J, G> {
 
     /// The transaction component crashes, and every session's transaction is cut off. Of the first record that isn't
     /// stable at most so many bytes are kept, and nothing after it.
-    pub fn crash_tc<R: Wait>(&self, rt: &R, kept: u64) {
-        self.tc
-            .lock(rt)
-            .crash(rt, self.hall.row(), &self.journal, kept);
+    pub(crate) fn crash_tc<R: Wait>(&self, rt: &R, kept: u64) {
+        self.enter(
+            rt,
+            Event::CrashTc {
+                frames: 0,
+                bytes: kept,
+            },
+        );
         self.news.notify_all();
     }
 
-    /// Enters a call, unless the transaction component has crashed since.
-    pub(crate) fn call<R: Wait>(
+    // Enters a call of the session's transaction, if one is alive.
+    fn call<R: Wait>(
         &self,
         rt: &R,
         caller: &mut Caller<J>,
-        crashes: u64,
-        event: Event,
-    ) -> Option<Pushed<Entry>>
-        requires tc { of_tc event ≡ true }
-        requires plain { delivers event ≡ false }
+        ask: Ask,
+    ) -> Option<(u64, Pushed<Entry>)>
         requires closed { IsClosed caller.old.part }
-        ensures shown { IfSome result (λ token. Shown J.entries token) }
         ensures number { caller.new.number ≡ caller.old.number }
-        ensures before { IfSome result (λ token. caller.new.part.before ≡ calls caller.old.part) }
-        ensures latest { IfSome result (λ token.
-            caller.new.part.latest ≡ Some (called_as event token.value.step.out None)) }
-        ensures none { IfNone result (caller.new ≡ caller.old) }
+        ensures none { IfNone result (IsUnasked caller.old.part caller.new.part) }
+        ensures calls { IfSome result (λ made. (caller.old.part.live ≡ Some made.0)
+            × Calls J.entries (event_of made.0 ask) caller.old.part made.1 caller.new.part) }
+        ensures closed { IfNone result (IsClosed caller.new.part) }
     {
         let mut desk = self.tc.lock(rt);
-        if desk.crashes() != crashes {
-            return None;
-        }
-        Some(desk.call(rt, self.hall.row(), &self.journal, event, caller))
+        let live = self.journal.lock(rt).see(self.hall.row(), caller);
+        let txn = live?;
+        let token = desk.call(rt, &self.hall, &self.journal, ask.into_event(txn), caller);
+        Some((txn, token))
     }
 
-    /// The call that begins a transaction, and how often the component has crashed by then.
+    /// The call that begins a transaction, unless the session has one that is alive.
     pub(crate) fn begin<R: Wait>(
         &self,
         rt: &R,
         work: &Sender<Job>,
         caller: &mut Caller<J>,
-    ) -> (Ended, u64)
+    ) -> Option<Ended>
         requires closed { IsClosed caller.old.part }
         ensures number { caller.new.number ≡ caller.old.number }
-        ensures ends { Ends J.entries event.Begin caller.old.part result.0 caller.new.part }
-        ensures alive { IsAlive result.0 }
+        ensures none { IfNone result (IsSecond caller.old.part caller.new.part) }
+        ensures ends { IfSome result (λ ended.
+            Ends J.entries event.Begin caller.old.part ended caller.new.part) }
         ensures closed { IsClosed caller.new.part }
     {
         let mut desk = self.tc.lock(rt);
-        let token = desk.call(rt, self.hall.row(), &self.journal, Event::Begin, caller);
-        let crashes = desk.crashes();
+        let live = self.journal.lock(rt).see(self.hall.row(), caller);
+        if live.is_some() {
+            return None;
+        }
+        let token = desk.call(rt, &self.hall, &self.journal, Event::Begin, caller);
         drop(desk);
-        (
-            self.finish(rt, work, caller, 0, token, Rest::Request),
-            crashes,
-        )
+        Some(self.finish(rt, work, caller, 0, token, Rest::Request))
     }
 
     /// An event of the transaction component that is no call, and its entry.
@@ -151,15 +156,20 @@ impl<J: Naming, G> Shared<J, G> {
         requires plain { delivers event ≡ false }
         ensures shown { Shown J.entries result }
     {
-        self.tc
-            .lock(rt)
-            .enter(rt, self.hall.row(), &self.journal, event)
+        self.tc.lock(rt).enter(rt, &self.hall, &self.journal, event)
     }
 
-    // Sends the transaction's request, if there is one to be sent, and says whether.
-    fn send<R: Wait>(&self, rt: &R, work: &Sender<Job>, session: u64, txn: u64) -> bool {
-        let token = self.enter(rt, Event::Send { txn });
-        match &self.hall.row().value(&token).step.out {
+    // Hands the request over to the workers, if the entry is that of one that was sent. Whether it was.
+    fn hand_over<R: Wait>(
+        &self,
+        rt: &R,
+        work: &Sender<Job>,
+        session: Option<u64>,
+        token: &Pushed<Entry>,
+    ) -> bool
+        requires shown { Shown J.entries token.now }
+    {
+        match &self.hall.row().value(token).step.out {
             Out::Sent(number) => {
                 let job = Job {
                     number: *number,
@@ -167,8 +177,37 @@ impl<J: Naming, G> Shared<J, G> {
                 };
                 work.send(rt, job).is_ok()
             }
+            _ => false,
+        }
+    }
+
+    // Sends the transaction's request, if there is one to be sent. Whether there is one to be waited for.
+    fn send<R: Wait>(&self, rt: &R, work: &Sender<Job>, session: u64, txn: u64) -> bool {
+        let token = self.enter(rt, Event::Send { txn });
+        match &self.hall.row().value(&token).step.out {
+            Out::Sent(_) => self.hand_over(rt, work, Some(session), &token),
             Out::Refused(Refusal::Unsent) => false,
             _ => true,
+        }
+    }
+
+    // One step back. Whether there is a request to be waited for.
+    fn undo<R: Wait>(&self, rt: &R, work: &Sender<Job>, session: u64, txn: u64) -> bool {
+        let token = self.enter(rt, Event::Undo { txn });
+        match &self.hall.row().value(&token).step.out {
+            Out::Compensated(_) | Out::Refused(_) => self.send(rt, work, session, txn),
+            _ => false,
+        }
+    }
+
+    // Makes the log stable, unless another session's force has told this one; says how much is stable, and announces
+    // what is answered.
+    fn force<R: Wait>(&self, rt: &R, work: &Sender<Job>) {
+        let (tell, low) = self.tc.lock(rt).force(rt, &self.hall, &self.journal);
+        for token in [tell, low] {
+            if let Some(token) = token {
+                self.hand_over(rt, work, None, &token);
+            }
         }
     }
 
@@ -183,12 +222,12 @@ impl<J: Naming, G> Shared<J, G> {
     ) -> bool {
         match rest {
             Rest::Request => self.send(rt, work, session, txn),
-            Rest::Undo => {
-                self.enter(rt, Event::Undo { txn });
-                self.send(rt, work, session, txn)
-            }
+            Rest::Undo => self.undo(rt, work, session, txn),
             Rest::Force => {
-                self.enter(rt, Event::Force);
+                // another session's force may have told of it
+                if !self.journal.lock(rt).has_news(session) {
+                    self.force(rt, work);
+                }
                 false
             }
         }
@@ -202,7 +241,7 @@ impl<J: Naming, G> Shared<J, G> {
     }
 
     /// Goes on until something is told of the session's latest call, or nothing more will be.
-    pub(crate) fn carry_on<R: Wait>(
+    fn carry_on<R: Wait>(
         &self,
         rt: &R,
         work: &Sender<Job>,
@@ -214,7 +253,8 @@ impl<J: Naming, G> Shared<J, G> {
         ensures number { caller.new.number ≡ caller.old.number }
         ensures shown { IfSome result (λ token. Shown J.entries token) }
         ensures told { IfSome result (λ token. IsToldBy caller.old.part caller.new.part token.value.step.out) }
-        ensures cut { IfNone result (IsUntold caller.old.part caller.new.part) }
+        ensures untold { IfNone result (IsUntold caller.old.part caller.new.part) }
+        ensures cut { IfNone result (caller.new.part.live ≡ None) }
         ensures closed { IsClosed caller.new.part }
     {
         let session = caller.number();
@@ -232,28 +272,24 @@ impl<J: Naming, G> Shared<J, G> {
         unreachable!()
     }
 
-    /// A call of a session's transaction, from its entry to what was told of it.
+    /// A call of a session's transaction, from its entry to what was told of it; none where no transaction is alive.
     pub(crate) fn run<R: Wait>(
         &self,
         rt: &R,
         work: &Sender<Job>,
         caller: &mut Caller<J>,
-        txn: u64,
-        crashes: u64,
-        event: Event,
-        rest: Rest,
-    ) -> Ended
-        requires tc { of_tc event ≡ true }
-        requires plain { delivers event ≡ false }
+        ask: Ask,
+    ) -> Option<Ended>
         requires closed { IsClosed caller.old.part }
         ensures number { caller.new.number ≡ caller.old.number }
-        ensures ends { Ends J.entries event caller.old.part result caller.new.part }
+        ensures none { IfNone result (IsUnasked caller.old.part caller.new.part) }
+        ensures ends { IfSome result (λ ended. (t : ℕ) × (caller.old.part.live ≡ Some t)
+            × Ends J.entries (event_of t ask) caller.old.part ended caller.new.part) }
         ensures closed { IsClosed caller.new.part }
     {
-        let Some(token) = self.call(rt, caller, crashes, event) else {
-            return Ended::NotAlive;
-        };
-        self.finish(rt, work, caller, txn, token, rest)
+        let rest = ask.rest();
+        let (txn, token) = self.call(rt, caller, ask)?;
+        Some(self.finish(rt, work, caller, txn, token, rest))
     }
 
     // A call that has its entry, up to what was told of it.
@@ -288,5 +324,21 @@ impl<J: Naming, G> Shared<J, G> {
         ensures news { IsNews J.entries caller.old.part caller.new.part result }
     {
         self.journal.lock(rt).take_news(self.hall.row(), caller)
+    }
+
+    /// Lets a session see that the log is stable up to the record, and makes it so where it isn't.
+    pub(crate) fn learn<R: Wait>(&self, rt: &R, work: &Sender<Job>, seat: &mut Seat, number: u64)
+        requires seat { seat.old.marks ≡ J.marks }
+        ensures seat { seat.new.marks ≡ J.marks }
+        ensures stable { number ≤ seat.new.stable }
+    {
+        for _ in rt.forever() {
+            let stable = self.tc.lock(rt).teach(&self.hall, seat);
+            if number <= stable {
+                return;
+            }
+            self.force(rt, work);
+        }
+        unreachable!()
     }
 }

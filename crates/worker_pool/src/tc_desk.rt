@@ -1,7 +1,11 @@
 //! What lies under the lock of the transaction component.
-ghost use Rattle.std.specs.Prelude.{◌≡◌, ◌+◌, true, false, None, Some, IfOk};
+ghost use Rattle.std.specs.Prelude.{◌≡◌, ◌+◌, ◌≤◌, true, false, max, IsTrue, None, Some, IfOk, IfSome};
+ghost use Rattle.marks.specs.Seen.{raiser, reader};
+ghost use Rattle.tc_core.specs.Kept.{IsTc};
 ghost use Rattle.world.specs.Halves.{of_tc, TcLeads};
+ghost use Rattle.worker_pool.specs.Answers.{LeavesLive};
 ghost use Rattle.worker_pool.specs.Desks.{delivers};
+ghost use Rattle.worker_pool.specs.Marking.{announced, low_of, tells_commit, IsLowOf};
 ghost use Rattle.worker_pool.specs.Sessions.{IsClosed, called_as, calls};
 ghost use Rattle.worker_pool.specs.Slots.{Shown};
 ghost use Rattle.worker_pool.specs.Steps.{GivesTc, tc_start, count};
@@ -9,21 +13,23 @@ ghost use Rattle.worker_pool.specs.Steps.{GivesTc, tc_start, count};
 use crate::caller::Caller;
 use crate::copying::copied;
 use crate::entry::Entry;
+use crate::hall::Hall;
 use crate::journal::Journal;
 use crate::lines::Unsent;
 use crate::naming::Naming;
 use crate::rounds::Next;
 use crate::step::Step;
 use crate::view::Visitor;
-use boxcar::{Pushed, Vec as Row};
+use boxcar::Pushed;
 use codec::Reply;
+use marks::{Marks, Seat};
 use std::alloc::Global;
 use std::marker::Model;
 use std::sync::{Mutex, Wait};
 use std::thread;
 use tc_core::Phase;
 use tie::Mark;
-use world::{Event, TcSide};
+use world::{Event, Out, TcSide};
 
 /// The transaction component with what it has seen of the journal. Contracts see the steps up to there, and the
 /// component.
@@ -32,20 +38,25 @@ pub struct TcDesk<J: Naming> {
     side: TcSide,
     sent: u64,
     visitor: Visitor<J>,
-    crashes: u64,
+    seat: Seat,
 }
 
 impl<J: Naming> Model for TcDesk<J> {
     ghost use Rattle.std.specs.Coded.{codes};
+    ghost use Rattle.atomic_table.specs.Seated.{table_id_coded};
     ghost use Rattle.worker_pool.specs.Desks.{TcFound, TcDeskKept};
 
     ghost Value = { TcFound };
 
-    ghost coded = { Prim.hlevel codes };
+    ghost coded = { Prim.hlevel (codes, table_id_coded) };
 
-    ghost view = { λ d. record { steps = d.visitor.steps; state = record { side = d.side; sent = d.sent } } };
+    ghost view = { λ d. record {
+      steps = d.visitor.steps;
+      state = record { side = d.side; sent = d.sent };
+      seat = d.seat;
+    } };
 
-    ghost invariant = { λ d. TcDeskKept J.names d.visitor record { side = d.side; sent = d.sent } };
+    ghost invariant = { λ d. TcDeskKept J.names J.marks d.visitor record { side = d.side; sent = d.sent } d.seat };
 }
 
 /// The number of the next message. No component sends so many that there is none.
@@ -63,21 +74,25 @@ pub(crate) fn next_number<R: Wait>(rt: &R, sent: u64) -> u64
 
 impl<J: Naming> TcDesk<J> {
     /// The component at its start.
-    pub fn new(alloc: Global, mark: Mark) -> TcDesk<J>
-        requires { (mark.name ≡ J.names 0) × (mark.number ≡ 0) }
+    pub(crate) fn new(alloc: Global, mark: Mark, seat: Seat) -> TcDesk<J>
+        requires mark { (mark.name ≡ J.names 0) × (mark.number ≡ 0) }
+        requires seat { seat ≡ raiser J.marks 0 0 }
         ensures { result.state ≡ tc_start }
     {
         TcDesk {
             side: TcSide::new(alloc),
             sent: 0,
             visitor: Visitor::new(mark),
-            crashes: 0,
+            seat,
         }
     }
 
-    /// What is found under the lock is what the entries give up to the last one that it has seen.
+    /// What is found under the lock is what the entries give up to the last one that it has seen. The stable mark is no
+    /// more than what is stable of the log, and the low mark is the greatest number that these entries have announced.
     pub fn kept(&self)
-        ensures { GivesTc self.now.steps self.now.state }
+        ensures gives { GivesTc self.now.steps self.now.state }
+        ensures stable { self.now.seat.stable ≤ self.now.state.side.tc.stable }
+        ensures low { self.now.seat.low ≡ announced self.now.steps }
     {
         let _ = &self.side;
     }
@@ -86,11 +101,10 @@ impl<J: Naming> TcDesk<J> {
     pub(crate) fn enter<R: Wait>(
         &mut self,
         rt: &R,
-        row: &Row<Entry>,
+        hall: &Hall<J>,
         journal: &Mutex<Journal<J>>,
         event: Event,
     ) -> Pushed<Entry>
-        requires row { row.now ≡ J.entries }
         requires tc { of_tc event ≡ true }
         requires plain { delivers event ≡ false }
         ensures shown { Shown J.entries result }
@@ -100,23 +114,23 @@ impl<J: Naming> TcDesk<J> {
             side,
             sent,
             visitor,
-            crashes: _,
+            seat,
         } = self;
         let (step, after) = stepped(rt, side, *sent, None, event, None);
         *sent = after;
-        journal.lock(rt).enter_tc(rt, row, visitor, step)
+        mark(hall.marks(), seat, side, &step);
+        journal.lock(rt).enter_tc(rt, hall.row(), visitor, step)
     }
 
     /// A session's call, and its entry.
     pub(crate) fn call<R: Wait>(
         &mut self,
         rt: &R,
-        row: &Row<Entry>,
+        hall: &Hall<J>,
         journal: &Mutex<Journal<J>>,
         event: Event,
         caller: &mut Caller<J>,
     ) -> Pushed<Entry>
-        requires row { row.now ≡ J.entries }
         requires tc { of_tc event ≡ true }
         requires plain { delivers event ≡ false }
         requires closed { IsClosed caller.old.part }
@@ -125,62 +139,91 @@ impl<J: Naming> TcDesk<J> {
         ensures number { caller.new.number ≡ caller.old.number }
         ensures before { caller.new.part.before ≡ calls caller.old.part }
         ensures latest { caller.new.part.latest ≡ Some (called_as event result.value.step.out None) }
+        ensures live { LeavesLive result.value.step.out caller.new.part }
     {
         let TcDesk {
             side,
             sent,
             visitor,
-            crashes: _,
+            seat,
         } = self;
         let (step, after) = stepped(rt, side, *sent, Some(caller.number()), event, None);
         *sent = after;
-        journal.lock(rt).call(rt, row, visitor, step, caller)
+        mark(hall.marks(), seat, side, &step);
+        journal.lock(rt).call(rt, hall.row(), visitor, step, caller)
     }
 
     /// Takes the reply of this number, if the journal holds it as given, and enters that.
     pub(crate) fn take<R: Wait>(
         &mut self,
         rt: &R,
-        row: &Row<Entry>,
+        hall: &Hall<J>,
         journal: &Mutex<Journal<J>>,
         number: u64,
     ) -> Result<Pushed<Entry>, Unsent>
-        requires row { row.now ≡ J.entries }
         ensures shown { IfOk result (λ token. Shown J.entries token) }
     {
         let TcDesk {
             side,
             sent,
             visitor,
-            crashes: _,
+            seat,
         } = self;
-        let given = journal.lock(rt).look_reply(row, visitor, number)?;
-        let Some(reply) = &row.value(&given).step.given else {
+        let given = journal.lock(rt).look_reply(hall.row(), visitor, number)?;
+        let Some(reply) = &hall.row().value(&given).step.given else {
             return Err(Unsent);
         };
         let reply = copy(rt, reply);
         let (step, after) = stepped(rt, side, *sent, None, Event::Reply { number }, Some(reply));
         *sent = after;
-        Ok(journal.lock(rt).enter_tc(rt, row, visitor, step))
+        mark(hall.marks(), seat, side, &step);
+        Ok(journal.lock(rt).enter_tc(rt, hall.row(), visitor, step))
     }
 
-    /// How often the component has crashed.
-    pub(crate) fn crashes(&self) -> u64 {
-        self.crashes
-    }
-
-    /// A crash, and its entry: at most so many bytes are kept that weren't stable.
-    pub(crate) fn crash<R: Wait>(
+    /// Makes the log stable, and enters that. Where that told a commit, the data component is told how much is stable, and
+    /// what may be announced as answered is announced: the entries of both.
+    pub(crate) fn force<R: Wait>(
         &mut self,
         rt: &R,
-        row: &Row<Entry>,
+        hall: &Hall<J>,
         journal: &Mutex<Journal<J>>,
-        bytes: u64,
-    )
-        requires row { row.now ≡ J.entries }
+    ) -> (Option<Pushed<Entry>>, Option<Pushed<Entry>>)
+        ensures tell { IfSome result.0 (λ token. Shown J.entries token) }
+        ensures low { IfSome result.1 (λ token. Shown J.entries token) }
     {
-        self.enter(rt, row, journal, Event::CrashTc { frames: 0, bytes });
-        self.crashes = self.crashes.wrapping_add(1);
+        let token = self.enter(rt, hall, journal, Event::Force);
+        if !tells_commit(&hall.row().value(&token).step.out) {
+            return (None, None);
+        }
+        let tell = self.enter(rt, hall, journal, Event::Tell);
+        (Some(tell), self.announce(rt, hall, journal))
+    }
+
+    // Announces all that is answered, where that is more than what is announced.
+    fn announce<R: Wait>(
+        &mut self,
+        rt: &R,
+        hall: &Hall<J>,
+        journal: &Mutex<Journal<J>>,
+    ) -> Option<Pushed<Entry>>
+        ensures { IfSome result (λ token. Shown J.entries token) }
+    {
+        let low = self.side.greatest_low().unwrap_or(0);
+        if low <= hall.marks().read(&mut self.seat).1 {
+            return None;
+        }
+        Some(self.enter(rt, hall, journal, Event::LowWater { low }))
+    }
+
+    /// A seat learns what this component's has seen of the marks: how far the log is stable.
+    pub(crate) fn teach(&mut self, hall: &Hall<J>, seat: &mut Seat) -> u64
+        requires seat { seat.old.marks ≡ J.marks }
+        ensures same { self.new ≡ self.old }
+        ensures learned { seat.new ≡ reader J.marks self.old.seat.stable self.old.seat.low }
+        ensures stable { result ≡ self.old.seat.stable }
+    {
+        hall.marks().learn(&mut self.seat, seat);
+        hall.marks().read(&mut self.seat).0
     }
 
     /// What is to be done next to bring the component up, beside a data component that runs this session.
@@ -218,6 +261,48 @@ fn copy<R: Wait>(rt: &R, reply: &Reply) -> Reply
     unreachable!()
 }
 
+// The number that was announced, 0 where none was.
+fn low_sent(step: &Step) -> u64
+    ensures { result ≡ low_of step.now.event step.now.out }
+{
+    match (&step.event, &step.out) {
+        (Event::LowWater { low }, Out::Sent(_)) => *low,
+        _ => 0,
+    }
+}
+
+// Whether it tells a transaction that it has committed.
+fn tells_commit(out: &Out) -> bool
+    ensures { result ≡ tells_commit out.now }
+{
+    match out {
+        Out::Stable { committed, .. } | Out::Connects { committed, .. } => {
+            !committed.as_slice().is_empty()
+        }
+        _ => false,
+    }
+}
+
+// The marks show what a step told: a commit, how much of the log is stable; a low mark, that number.
+fn mark(marks: &Marks, seat: &mut Seat, side: &TcSide, step: &Step)
+    requires seat { (seat.old.marks ≡ marks.now) × IsTrue seat.old.raises }
+    requires stable { seat.old.stable ≤ side.now.tc.stable }
+    requires low { IsLowOf step.now.event step.now.out side.now }
+    ensures seat { (seat.new.marks ≡ seat.old.marks) × (seat.new.raises ≡ seat.old.raises) }
+    ensures stable { seat.new.stable ≤ side.now.tc.stable }
+    ensures low { seat.new.low ≡ max seat.old.low (low_of step.now.event step.now.out) }
+{
+    let low = low_sent(step);
+    if low == 0 && !tells_commit(&step.out) {
+        return;
+    }
+    let Ok(end) = side.stable_end() else {
+        return;
+    };
+    marks.raise_stable(seat, end);
+    marks.raise_low(seat, low);
+}
+
 // One step of the component, and how many messages it has sent then.
 fn stepped<R: Wait>(
     rt: &R,
@@ -233,7 +318,9 @@ fn stepped<R: Wait>(
     ensures none { result.0.given ≡ None }
     ensures leads { TcLeads side.old (Some (sent + 1)) event reply result.0.out result.0.sent side.new }
     ensures sent { result.1 ≡ sent + count result.0.sent }
+    ensures kept { IsTc side.old.tc }
 {
+    side.kept();
     let next = next_number(rt, sent);
     let mut request = None;
     let out = side.step(&event, reply, Some(next), &mut request);

@@ -22,12 +22,19 @@ impl<J: Naming, G: Gate> Shared<J, G> {
     fn serve<R: Wait>(&self, rt: &R, job: Job) {
         self.look_on(rt, job.number);
         if self.exchange(rt, job.number) {
-            self.journal.lock(rt).stir(job.session);
+            self.stir(rt, job.session);
         }
         self.news.notify_all();
         self.dc
             .lock(rt)
             .enter(rt, self.hall.row(), &self.journal, Event::Tend);
+    }
+
+    // The session that waits for what comes of the request looks again.
+    fn stir<R: Wait>(&self, rt: &R, session: Option<u64>) {
+        if let Some(session) = session {
+            self.journal.lock(rt).stir(session);
+        }
     }
 
     // The program sees the request, with no lock held.
@@ -57,7 +64,7 @@ impl<J: Naming, G: Gate> Shared<J, G> {
         }
         match &step.out {
             Out::Replied(reply) => {
-                let _ = self.tc.lock(rt).take(rt, row, &self.journal, *reply);
+                let _ = self.tc.lock(rt).take(rt, &self.hall, &self.journal, *reply);
                 true
             }
             Out::Refused(Refusal::NotConnected | Refusal::Redoing | Refusal::Stale) => false,

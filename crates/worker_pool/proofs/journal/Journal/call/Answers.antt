@@ -125,3 +125,28 @@ returns-clause-latest g c =
     ∙ ap (λ (x : Slot). through x.value) c.again.ensures ∙ c.enter_tc-token.ensures.through in
     (part_called n c.caller.inside.visitor.steps s.lines c.meet.new.visitor.steps c.args.step
     (c.requires.own ∙ ap (λ (m : ℕ). Some m) number) sees closed now).1
+
+pub returns-clause-live : goal.returns-clause-live
+returns-clause-live g c =
+    let J = g.J.Naming in
+    let s = c.self.inside in
+    let n = c.caller.inside.number in
+    let token = c.enter_tc-token.result in
+    let p = c.index_mut-place.result.now in
+    let less : n < length c.hear_all.new.places.items = search rules in
+    let there = slice_get_read c.hear_all.new.places.items
+    (length c.hear_all.new.places.items) n p refl less c.index_mut-place.ensures.value in
+    let at : slice_get (map (place_after token) s.places.items) n ≡ Some p =
+    subst (λ (ps : List (Place g.row.J.Denot)). slice_get ps n ≡ Some p) c.hear_all.ensures.heard there in
+    let number : c.args.caller.now.number ≡ n = ap (λ (v : CallerView). v.number) (sym c.caller.view_is) in
+    let own : token.value.step.caller ≡ Some n =
+    ap (λ (x : Step). x.caller) c.enter_tc-token.ensures.value ∙ c.requires.own ∙ ap (λ (m : ℕ). Some m) number in
+    let k = own_place J.entries J.names s.lines s.places.items token n p c.self.invariant.0 own at in
+    let sees : Sees (calls_of n) c.caller.inside.visitor.steps s.lines =
+    subst (λ (v : View). Sees (calls_of n) v.steps s.lines) c.meet.ensures.same k.sees in
+    let closed = subst (λ (v : CallerView). IsClosed v.part) (sym c.caller.view_is) c.requires.closed in
+    let now : c.meet.new.visitor.steps ≡ s.lines ++ c.args.step ∷ [] =
+    ap (λ (v : View). v.steps) (c.meet.ensures.visitor ∙ c.meet.ensures.party)
+    ∙ ap (λ (x : Slot). through x.value) c.again.ensures ∙ c.enter_tc-token.ensures.through in
+    (part_called n c.caller.inside.visitor.steps s.lines c.meet.new.visitor.steps c.args.step
+    (c.requires.own ∙ ap (λ (m : ℕ). Some m) number) sees closed now).2

@@ -4,8 +4,8 @@ use Rattle.worker_pool.specs.declared.entry.Entry.{Entry}
 use Rattle.worker_pool.specs.declared.step.Step.{Step}
 use Rattle.worker_pool.specs.Kept.{EntersTc}
 use Rattle.worker_pool.specs.Slots.{Slot, Shown, through, steps, seen, last_of}
-use Rattle.worker_pool.specs.Steps.{GivesTc}
-use Rattle.worker_pool.specs.Views.{View}
+use Rattle.worker_pool.specs.Steps.{is_tc, GivesTc}
+use Rattle.worker_pool.specs.Views.{View, Sees}
 use Rattle.worker_pool.proofs.Along.{tc_entered}
 use Rattle.worker_pool.proofs.Entering.{tc_enters, last_seen, through_is}
 use Rattle.worker_pool.proofs.lines.Lines.enter_tc.Goals as goal
@@ -59,3 +59,9 @@ returns-clause-gives g c n enters =
     ∙ ap (λ (x : Slot). through x.value) c.again.ensures ∙ all in
     subst (λ (es : List Step). GivesTc es n) (sym now)
     (tc_entered s.tc.steps (steps s.tokens.items) e n c.requires.tc k.tc_sees enters')
+
+pub returns-clause-sees : goal.returns-clause-sees
+returns-clause-sees g c =
+    let s = c.self.inside in
+    subst (λ (es : List Step). Sees is_tc c.args.visitor.now.steps es) c.self.view_is
+    (subst (λ (v : View). Sees is_tc v.steps (steps s.tokens.items)) c.meet.ensures.same c.self.invariant.tc_sees)

@@ -1,10 +1,11 @@
-use Rattle.std.proofs.Common.{ap, sym, ◌∙◌, List, subst}
+use Rattle.std.proofs.Common.{◌≡◌, None, ap, sym, ◌∙◌, List, subst}
 use Rattle.world.specs.Messages.{message_at}
 use Rattle.worker_pool.specs.declared.step.Step.{Step}
 use Rattle.worker_pool.specs.Kept.{IsSentBy}
 use Rattle.worker_pool.specs.Slots.{Slot}
 use Rattle.worker_pool.specs.Steps.{replies}
-use Rattle.worker_pool.proofs.Entering.{on_ok, reply_found}
+use Rattle.worker_pool.proofs.Entering.{on_ok, on_err, reply_found}
+use Rattle.worker_pool.proofs.Lists.{reply_none}
 use Rattle.worker_pool.proofs.lines.Lines.reply.Goals as goal
 
 pub returns-clause-shown : goal.returns-clause-shown
@@ -14,7 +15,7 @@ returns-clause-shown g c =
     (λ p at. (reply_found g.J.Naming.entries g.J.Naming.names s.tokens.items s.asked.items s.given.items s.tc s.dc
     c.args.number p c.self.invariant (ap (λ (ms : List Slot). message_at ms c.args.number)
     (sym c.deref.ensures.value) ∙ at)).0)
-    c.numbered.ensures
+    c.numbered.ensures.found
 
 pub returns-clause-given : goal.returns-clause-given
 returns-clause-given g c =
@@ -24,4 +25,13 @@ returns-clause-given g c =
     (reply_found g.J.Naming.entries g.J.Naming.names s.tokens.items s.asked.items s.given.items s.tc s.dc
     c.args.number p c.self.invariant (ap (λ (ms : List Slot). message_at ms c.args.number)
     (sym c.deref.ensures.value) ∙ at)).1)
-    c.numbered.ensures
+    c.numbered.ensures.found
+
+pub returns-clause-none : goal.returns-clause-none
+returns-clause-none g c =
+    let s = c.self.inside in
+    on_err c.numbered.result
+    (λ at. subst (λ (es : List Step). message_at (replies es) c.args.number ≡ None) c.self.view_is
+    (reply_none s.tokens.items c.args.number (ap (λ (ms : List Slot). message_at ms c.args.number)
+    (sym (c.deref.ensures.value ∙ c.self.invariant.given_are)) ∙ at)))
+    c.numbered.ensures.none

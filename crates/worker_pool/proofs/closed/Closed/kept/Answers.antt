@@ -1,0 +1,14 @@
+use Rattle.std.proofs.Common.{subst}
+use Rattle.world.proofs.Invariant.Promised.{promised}
+use Rattle.worker_pool.specs.Closing.{ClosedView, EndsWith}
+use Rattle.worker_pool.specs.Steps.{IsRun}
+use Rattle.worker_pool.proofs.closed.Closed.kept.Goals as goal
+
+pub returns-clause-run : goal.returns-clause-run
+returns-clause-run g c = subst (λ (v : ClosedView). IsRun v.steps) c.self.view_is c.is_run.ensures
+
+pub returns-clause-rows : goal.returns-clause-rows
+returns-clause-rows g c = subst (λ (v : ClosedView). EndsWith v.steps v.rows) c.self.view_is c.self.invariant
+
+pub returns-clause-promised : goal.returns-clause-promised
+returns-clause-promised g c w runs = promised w runs.kept

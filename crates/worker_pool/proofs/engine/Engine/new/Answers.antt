@@ -1,0 +1,7 @@
+use Rattle.std.proofs.Common.{sym, subst}
+use Rattle.worker_pool.specs.Opened.{AreTied, OpenedView}
+use Rattle.worker_pool.proofs.engine.Engine.new.Goals as goal
+
+pub seat_all-requires-clause-tied : goal.seat_all-requires-clause-tied
+seat_all-requires-clause-tied g c =
+    subst (λ (o : OpenedView). AreTied g.J.Naming.names o.sessions) (sym c.opened.view_is) c.requires.named.tied

@@ -1,0 +1,72 @@
+-- What an engine begins with, and what it leaves.
+use Rattle.std.specs.Prelude.{◌≡◌, ◌⊎◌, ℕ, zero, suc, true, false, List, [], ◌∷◌, ◌++◌, Option, Some, None, map}
+use Rattle.std.specs.FinMap.{entries}
+use Rattle.std.specs.Global.{Vec}
+use Rattle.record_key.specs.Table.{Bytes}
+use Rattle.record_key.specs.declared.refusal.Refusal.{Refusal}
+use Rattle.record_key.specs.declared.refusal.Refusal.TheVariants.{NoMemory, Device, NumbersSpent}
+use Rattle.atomic_table.specs.Seated.{TableId}
+use Rattle.btree.specs.Leaves.{rows_of}
+use Rattle.dc_core.specs.DcView.{leaves}
+use Rattle.marks.specs.Seen.{reader}
+use Rattle.world.specs.Component.{DcSide}
+use Rattle.worker_pool.specs.declared.seated.Sitter.{Sitter}
+use Rattle.worker_pool.specs.declared.step.Step.{Step}
+use Rattle.worker_pool.specs.Callers.{CallerView, SessionView}
+use Rattle.worker_pool.specs.Kept.{IsInRun}
+use Rattle.worker_pool.specs.Sessions.{IsClosed, part_of, calls, no_part}
+
+-- the components can't be brought up now
+abbrev pub IsOutage : Refusal → Type 0
+IsOutage r = (r ≡ NoMemory) ⊎ ((r ≡ Device) ⊎ (r ≡ NumbersSpent))
+
+-- a session that has made no call, and has seen nothing of the marks
+abbrev pub IsFresh : TableId → SessionView → Type 0
+IsFresh marks s = (s.part ≡ no_part) × (s.seat ≡ reader marks 0 0)
+
+abbrev pub IsSeated : {J : Type 0} → TableId → Sitter J → Type 0
+IsSeated marks s = (s.caller.part ≡ no_part) × (s.seat ≡ reader marks 0 0)
+
+-- the numbers below one, in order
+abbrev pub below : ℕ → List ℕ
+below zero = []
+below (suc n) = below n ++ n ∷ []
+
+abbrev pub numbers_of : List SessionView → List ℕ
+numbers_of ss = map (λ (s : SessionView). s.number) ss
+
+abbrev pub numbers_in : {J : Type 0} → List (Sitter J) → List ℕ
+numbers_in ss = map (λ s. s.caller.number) ss
+
+abbrev pub caller_as : SessionView → CallerView
+caller_as s = record { number = s.number; part = s.part }
+
+abbrev pub callers_as : List SessionView → List CallerView
+callers_as ss = map caller_as ss
+
+-- nothing more is told of its calls
+abbrev pub AreClosed : CallerView → Type 0
+AreClosed c = IsClosed c.part
+
+-- the session's part of these steps has just the calls that it knows of
+abbrev pub IsCovered : List Step → CallerView → Type 0
+IsCovered es c = calls (part_of c.number es) ≡ calls c.part
+
+abbrev pub IsKeptBy : List Step → SessionView → Type 0
+IsKeptBy es s = calls (part_of s.number es) ≡ calls s.part
+
+-- the records of the data component, where it runs
+abbrev pub IsRowsOf : DcSide → Option (Vec (Bytes × Bytes)) → Type 0
+IsRowsOf dc None = dc.up ≡ false
+IsRowsOf dc (Some rows) = (dc.up ≡ true) × (rows.items ≡ entries (rows_of (leaves dc.dc)))
+
+-- some run of the node through these steps ends with these records
+pub record EndsWith (es : List Step) (rows : Option (Vec (Bytes × Bytes))) : Type 0 where
+  pub dc : DcSide
+  pub run : IsInRun es dc
+  pub rows_are : IsRowsOf dc rows
+
+-- the journal, and the records at its end
+pub record ClosedView : Type 0 where
+  pub steps : List Step
+  pub rows : Option (Vec (Bytes × Bytes))

@@ -1,0 +1,45 @@
+//! What a session asks for within its transaction.
+ghost use Rattle.std.specs.Prelude.{◌≡◌};
+ghost use Rattle.worker_pool.specs.Asking.{event_of};
+
+use crate::shared::Rest;
+use record_key::{Key, Op};
+use world::Event;
+
+/// A call of a session's transaction.
+#[derive(Drop)]
+pub(crate) enum Ask {
+    Act(Op),
+    Get(Key),
+    Scan(Key, Option<Key>),
+    Save,
+    GoBack(u64),
+    Rollback,
+    Commit,
+}
+
+impl Ask {
+    /// What is left to do of it once it has its entry, if more is told of it.
+    pub(crate) fn rest(&self) -> Rest {
+        match self {
+            Ask::GoBack(_) | Ask::Rollback => Rest::Undo,
+            Ask::Commit => Rest::Force,
+            _ => Rest::Request,
+        }
+    }
+
+    /// The event that it is of this transaction.
+    pub(crate) fn into_event(self, txn: u64) -> Event
+        ensures { result ≡ event_of txn self }
+    {
+        match self {
+            Ask::Act(op) => Event::Act { txn, op },
+            Ask::Get(key) => Event::Get { txn, key },
+            Ask::Scan(low, high) => Event::Scan { txn, low, high },
+            Ask::Save => Event::Save { txn },
+            Ask::GoBack(savepoint) => Event::GoBack { txn, savepoint },
+            Ask::Rollback => Event::Rollback { txn },
+            Ask::Commit => Event::Commit { txn },
+        }
+    }
+}

@@ -1,0 +1,126 @@
+//! What an engine is made of before it has a name.
+ghost use Rattle.std.specs.Prelude.{◌≡◌, ◌≤◌, All, length, map, vec_len, IfOk, IfErr};
+ghost use Rattle.std.specs.List.{AllByRecursion};
+ghost use Rattle.marks.specs.Seen.{reader};
+ghost use Rattle.worker_pool.specs.Opened.{IsReader};
+
+use crate::entry::Entry;
+use boxcar::Vec as Row;
+use marks::{Marks, Seat};
+use record_key::Refusal;
+use std::alloc::{AllocError, Global};
+use std::marker::Model;
+use tie::{Book, Mark};
+
+/// The most sessions that an engine has.
+const MOST: usize = 8;
+
+/// Both ends of a tie. Contracts see its name.
+#[derive(Drop)]
+pub(crate) struct Ends {
+    book: Book,
+    mark: Mark,
+}
+
+impl Model for Ends {
+    ghost use Rattle.std.specs.Prelude.{◌≡◌, ℕ};
+
+    ghost Value = { ℕ };
+
+    ghost view = { λ e. e.book.name };
+
+    ghost invariant = { λ e. (e.book.number ≡ 0) × (e.mark ≡ e.book) };
+}
+
+impl Ends {
+    fn open() -> Ends {
+        let (book, mark) = Book::open();
+        Ends { book, mark }
+    }
+
+    /// The two ends.
+    pub(crate) fn parted(self) -> (Book, Mark)
+        ensures name { result.0.name ≡ self }
+        ensures start { result.0.number ≡ 0 }
+        ensures mark { result.1 ≡ result.0 }
+    {
+        let Ends { book, mark } = self;
+        (book, mark)
+    }
+}
+
+/// What a session is made of: its tie, and its seat at the marks.
+#[derive(Drop)]
+pub(crate) struct Chair {
+    pub(crate) ends: Ends,
+    pub(crate) seat: Seat,
+}
+
+/// A row without entries, marks that nobody has raised, and a tie for each component and for each session. Contracts
+/// see what they are known by.
+#[derive(Drop)]
+pub struct Opened {
+    pub(crate) alloc: Global,
+    pub(crate) row: Row<Entry>,
+    pub(crate) marks: Marks,
+    pub(crate) seat: Seat,
+    pub(crate) tc: Ends,
+    pub(crate) dc: Ends,
+    pub(crate) chairs: Vec<Chair>,
+}
+
+impl Model for Opened {
+    ghost use Rattle.std.specs.Coded.{codes};
+    ghost use Rattle.atomic_table.specs.Seated.{table_id_coded};
+    ghost use Rattle.boxcar.specs.Table.{shelves_coded};
+    ghost use Rattle.worker_pool.specs.Opened.{OpenedView, opened_as, IsOpened};
+
+    ghost Value = { OpenedView };
+
+    ghost coded = { Prim.hlevel (codes, shelves_coded, table_id_coded) };
+
+    ghost view = { λ o. opened_as o.row o.marks o.tc o.dc o.chairs.items };
+
+    ghost invariant = { λ o. IsOpened o.marks o.seat o.chairs.items };
+}
+
+impl Opened {
+    /// For so many sessions, at most 8. Refused Full, NoMemory.
+    pub fn new(alloc: Global, sessions: usize) -> Result<Opened, Refusal>
+        ensures count { IfOk result (λ opened. length opened.sessions ≡ sessions) }
+        ensures within { IfOk result (λ opened. sessions ≤ 8) }
+    {
+        if sessions > MOST {
+            return Err(Refusal::Full);
+        }
+        let row = Row::new(alloc)?;
+        let (marks, seat, readers) = Marks::new(alloc, sessions)?;
+        let chairs = chairs(alloc, &marks, readers)?;
+        Ok(Opened {
+            alloc,
+            row,
+            marks,
+            seat,
+            tc: Ends::open(),
+            dc: Ends::open(),
+            chairs,
+        })
+    }
+}
+
+// A chair for each seat.
+fn chairs(alloc: Global, marks: &Marks, readers: Vec<Seat>) -> Result<Vec<Chair>, AllocError>
+    requires { All (λ seat. seat ≡ reader marks.now 0 0) readers.items }
+    ensures count { IfOk result (λ chairs. length chairs.items ≡ length readers.items) }
+    ensures readers { IfOk result (λ chairs. AllByRecursion (IsReader marks.now) chairs.items) }
+{
+    let _ = marks;
+    let mut chairs = Vec::with_capacity(alloc, readers.len())?;
+    for seat in readers {
+        chairs.push(Chair {
+            ends: Ends::open(),
+            seat,
+        })?;
+    }
+    Ok(chairs)
+}

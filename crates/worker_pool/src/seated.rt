@@ -1,0 +1,112 @@
+//! The places and callers of an engine's sessions.
+ghost use Rattle.std.specs.Prelude.{◌≡◌, ◌≤◌, [], IfOk, length, vec_len};
+ghost use Rattle.std.specs.List.{AllByRecursion};
+ghost use Rattle.worker_pool.specs.Closing.{IsFresh, IsCovered, IsSeated, AreClosed, below, callers_as, numbers_in, numbers_of};
+ghost use Rattle.worker_pool.specs.Kept.{PlacesKept};
+ghost use Rattle.worker_pool.specs.Opened.{AreTied, IsReader, ties_of};
+
+use crate::caller::Caller;
+use crate::entry::Entry;
+use crate::journal::Journal;
+use crate::naming::Naming;
+use crate::opened::Chair;
+use crate::place::Place;
+use crate::session::Session;
+use crate::shared::{Job, Shared};
+use boxcar::Vec as Row;
+use crossbeam_channel::Sender;
+use marks::Seat;
+use std::alloc::{AllocError, Global};
+use std::sync::Arc;
+
+/// A session's own side of the journal, and its seat at the marks.
+#[derive(Drop)]
+pub(crate) struct Sitter<J: Naming> {
+    caller: Caller<J>,
+    seat: Seat,
+}
+
+/// What the journal keeps of each session, and what the session keeps itself.
+#[derive(Drop)]
+pub(crate) struct Seated<J: Naming> {
+    pub(crate) places: Vec<Place<J>>,
+    pub(crate) sitters: Vec<Sitter<J>>,
+}
+
+/// A place and a sitter for each chair.
+pub(crate) fn seat_all<J: Naming>(
+    alloc: Global,
+    chairs: Vec<Chair>,
+) -> Result<Seated<J>, AllocError>
+    requires tied { AreTied J.names (ties_of chairs.items) }
+    requires reads { AllByRecursion (IsReader J.marks) chairs.items }
+    requires count { length chairs.items ≡ J.sessions }
+    ensures places { IfOk result (λ made. PlacesKept J.entries J.names [] made.places.items) }
+    ensures count { IfOk result (λ made. vec_len made.places ≡ J.sessions) }
+    ensures sitters { IfOk result (λ made. AllByRecursion (IsSeated J.marks) made.sitters.items) }
+    ensures numbers { IfOk result (λ made. numbers_in made.sitters.items ≡ below J.sessions) }
+{
+    let count = chairs.len();
+    let mut places = Vec::with_capacity(alloc, count)?;
+    let mut sitters = Vec::with_capacity(alloc, count)?;
+    let mut number = 0u64;
+    for chair in chairs {
+        let Chair { ends, seat } = chair;
+        let (book, mark) = ends.parted();
+        places.push(Place::new(number, book))?;
+        sitters.push(Sitter {
+            caller: Caller::new(number, mark),
+            seat,
+        })?;
+        number += 1;
+    }
+    Ok(Seated { places, sitters })
+}
+
+/// The sessions of these.
+pub(crate) fn sessions_of<J: Naming, G: Drop>(
+    alloc: Global,
+    sitters: Vec<Sitter<J>>,
+    shared: &Arc<Shared<J, G>>,
+    work: &Sender<Job>,
+) -> Result<Vec<Session<J, G>>, AllocError>
+    requires seated { AllByRecursion (IsSeated J.marks) sitters.items }
+    ensures fresh { IfOk result (λ sessions. AllByRecursion (IsFresh J.marks) sessions.items) }
+    ensures numbers { IfOk result (λ sessions. numbers_of sessions.items ≡ numbers_in sitters.items) }
+{
+    let mut sessions = Vec::with_capacity(alloc, sitters.len())?;
+    for sitter in sitters {
+        let Sitter { caller, seat } = sitter;
+        let session = Session::new(caller, seat, Arc::try_clone(shared)?, work.clone()?);
+        sessions.push(session)?;
+    }
+    Ok(sessions)
+}
+
+/// What each session has seen of the journal.
+pub(crate) fn callers_of<J: Naming, G: Drop>(
+    alloc: Global,
+    sessions: Vec<Session<J, G>>,
+) -> Result<Vec<Caller<J>>, AllocError>
+    ensures callers { IfOk result (λ callers. callers.items ≡ callers_as sessions.items) }
+    ensures closed { IfOk result (λ callers. AllByRecursion AreClosed callers.items) }
+{
+    let mut callers = Vec::with_capacity(alloc, sessions.len())?;
+    for session in sessions {
+        callers.push(session.into_caller())?;
+    }
+    Ok(callers)
+}
+
+/// Each session's part of the journal has just the calls that the session knows of.
+pub(crate) fn cover<J: Naming>(journal: &mut Journal<J>, row: &Row<Entry>, callers: Vec<Caller<J>>)
+    requires row { row.now ≡ J.entries }
+    requires closed { AllByRecursion AreClosed callers.items }
+    ensures same { journal.new ≡ journal.old }
+    ensures covered { AllByRecursion (IsCovered journal.old) callers.items }
+{
+    for caller in callers {
+        let mut caller = caller;
+        journal.see(row, &mut caller);
+    }
+}
