@@ -1,11 +1,33 @@
 -- The command line, as the library of command lines reads it.
-use Rattle.std.specs.Prelude.{true, codes}
-use Rattle.clap.specs.Simple.{App, new_app, on_top, with_subcommand}
+use Rattle.std.specs.Prelude.{ℕ, true, [], ◌∷◌, Some, codes}
+use Rattle.clap.specs.Walk.{Rule, Text}
+use Rattle.clap.specs.Simple.{App, new_app, new_rule, on_top, with_rule, with_subcommand}
+use Rattle.clap.specs.declared.builder.value_parser.ValueParser.TheVariants.{Unsigned}
 
 -- the program, which must be told what to do
 abbrev pub program : App
 program = on_top (λ s. record s { subcommand_required = true }) (new_app (codes "undo_shell"))
 
--- the program and all that it may be told: `run`, without arguments
+-- an option that is a number from 1 to the most, this one where the words give none
+abbrev pub counting : Text → ℕ → Text → Rule
+counting name most default = record (new_rule name) {
+  long = Some name;
+  value_names = 1;
+  defaults = default ∷ [];
+  parser = Some (Unsigned 1 most);
+}
+
+-- how many clients there are, and how many rounds each of them plays
+abbrev pub sessions : Rule
+sessions = counting (codes "sessions") 8 (codes "4")
+
+abbrev pub rounds : Rule
+rounds = counting (codes "rounds") 99 (codes "3")
+
+-- to let clients play on threads
+abbrev pub pool : App
+pool = with_rule (with_rule (new_app (codes "pool")) sessions) rounds
+
+-- the program and all that it may be told: `run`, without arguments, or `pool`
 abbrev pub command_line : App
-command_line = with_subcommand program (new_app (codes "run")).top
+command_line = with_subcommand (with_subcommand program (new_app (codes "run")).top) pool.top

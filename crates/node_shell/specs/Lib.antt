@@ -1,5 +1,6 @@
 pub mod Words
 pub mod CommandLine
+pub mod Asked
 pub mod Script
 pub mod Labels
 pub mod Printed

@@ -58,7 +58,7 @@ pub fn print_value<W: io::Write>(writer: &mut W, txn: u64, value: &Option<Value>
 }
 
 /// A value, or a dash where there is no record.
-fn value_piece(value: &Option<Value>) -> Piece<'_>
+pub fn value_piece(value: &Option<Value>) -> Piece<'_>
     ensures { piece_text result ≡ value_if value.now }
 {
     match value {

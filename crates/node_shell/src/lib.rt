@@ -29,6 +29,10 @@ mod task;
 mod told;
 mod words;
 
+pub use answers::value_piece;
+pub use pieces::{Piece, print};
+pub use printed::print_refusal;
+pub use rows::print_table;
 pub use script_run::{DONE, FAILED, FAULT, refusal_of, refuse, run};
 pub use stopping::Stopping;
 pub use task::{Task, choose};

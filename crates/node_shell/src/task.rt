@@ -1,11 +1,16 @@
 //! The command line.
-ghost use Rattle.std.specs.Prelude.{◌≡◌, IfOk, map};
+ghost use Rattle.std.specs.Prelude.{◌≡◌, false, ℕ, IfOk, map};
 ghost use Rattle.clap.specs.Kinds.{FailsBy};
 ghost use Rattle.clap.specs.Faults.{fault_of};
-ghost use Rattle.clap.specs.Simple.{app_of};
-ghost use Rattle.node_shell.specs.CommandLine.{command_line};
+ghost use Rattle.clap.specs.Matches.{found_of};
+ghost use Rattle.clap.specs.Simple.{app_of, subcommand_of, subcommand_rows_of};
+ghost use Rattle.clap.specs.Walk.{rows_of, rule_of};
+ghost use Rattle.clap.specs.declared.builder.command.Command.TheViews.{out-Command};
+ghost use Rattle.node_shell.specs.Asked.{Asks, HasClient, IsNumber, MayAsk, NamesCount};
+ghost use Rattle.node_shell.specs.CommandLine.{command_line, counting, pool};
 
-use clap::{Command, Error};
+use clap::builder::ValueParser;
+use clap::{Arg, ArgMatches, Command, Error};
 use std::alloc::{AllocError, Global};
 use std::convert::AsStr;
 
@@ -14,6 +19,8 @@ use std::convert::AsStr;
 pub enum Task {
     /// A script is read from standard input and run.
     Run,
+    /// So many clients, each with a session of its own, play so many rounds on threads.
+    Pool { sessions: usize, rounds: u64 },
 }
 
 const LINES: &str = "\
@@ -68,19 +75,55 @@ first line is run.
 Exit status: 0; 2 for a line or a command line outside the grammar; 3 where memory
 or a device failed.";
 
+const CLIENTS: &str = "\
+Client S writes the round's number to the record sS, inserts it as the record sSrR for
+round R, and commits where R is odd; else it rolls back. After its rounds it reads sS.
+Amid the first client's second round the data component crashes and is restarted.
+
+A line for each client says what it read; then the records follow.
+
+Exit status: 0; 2 for a command line outside the grammar; 3 where memory failed.";
+
 /// What these words ask for, the first of them the program's name. Refused just where they have a fault or ask for
 /// help, with the kind of that, or where memory runs out.
 pub fn choose<S: AsStr>(alloc: Global, words: &[S]) -> Result<Task, Error>
-    ensures task { IfOk result (λ task. task ≡ Task.Run) }
+    ensures task { IfOk result (Asks (subcommand_of command_line (map S.text words.now))) }
+    ensures client { IfOk result HasClient }
     ensures fault { FailsBy (fault_of command_line (map S.text words.now)) result }
 {
     match command_line(alloc)?.try_get_matches_from(words) {
-        Ok(_) => Ok(Task::Run),
+        Ok(matches) => Ok(task_of(&matches)),
         Err(fault) => Err(fault),
     }
 }
 
-/// The program and its subcommand.
+// What the words asked for that have these matches.
+fn task_of(matches: &ArgMatches<'_>) -> Task
+    requires { MayAsk (subcommand_rows_of matches.now) }
+    ensures asks { Asks (subcommand_rows_of matches.now) result }
+    ensures client { HasClient result }
+{
+    match matches.subcommand_matches("pool") {
+        Some(asked) => Task::Pool {
+            sessions: number_of(asked, "sessions") as usize,
+            rounds: number_of(asked, "rounds"),
+        },
+        None => Task::Run,
+    }
+}
+
+// The number that an option is, by the words or by its default.
+fn number_of(asked: &ArgMatches<'_>, option: &str) -> u64
+    requires { (most : ℕ) × NamesCount (rows_of (found_of asked.now)) option.now most }
+    ensures { IsNumber (rows_of (found_of asked.now)) option.now result }
+{
+    match asked.get_one(option) {
+        Some(number) => number,
+        None => unreachable!(),
+    }
+}
+
+/// The program and its subcommands.
 fn command_line<'a>(alloc: Global) -> Result<Command<'a>, AllocError>
     ensures { IfOk result (λ program. app_of program ≡ command_line) }
 {
@@ -91,5 +134,42 @@ fn command_line<'a>(alloc: Global) -> Result<Command<'a>, AllocError>
         .about("A database kernel in two components that undoes by logged compensations")
         .after_help(LINES)
         .subcommand_required(true)
-        .subcommand(run)
+        .subcommand(run)?
+        .subcommand(pool_command(alloc)?)
+}
+
+// What lets clients play on threads.
+fn pool_command<'a>(alloc: Global) -> Result<Command<'a>, AllocError>
+    ensures local { IfOk result (λ command. (out-Command command).has_globals ≡ false) }
+    ensures app { IfOk result (λ command. app_of command ≡ pool) }
+{
+    let sessions = counting(alloc, "sessions", "N", 8, "4").help(
+        "How many clients there are, 1 to 8",
+    );
+    let rounds = counting(alloc, "rounds", "M", 99, "3").help(
+        "How many rounds each plays, 1 to 99",
+    );
+    Command::new(alloc, "pool")
+        .about("Lets clients play rounds on threads, and prints what they read and leave")
+        .after_help(CLIENTS)
+        .arg(sessions)?
+        .arg(rounds)
+}
+
+// An option that is a number from 1 to the most, and this one where the words give none.
+fn counting<'a>(
+    alloc: Global,
+    name: &'a str,
+    letter: &'a str,
+    most: u64,
+    default: &'a str,
+) -> Arg<'a>
+    ensures global { result.global ≡ false }
+    ensures rule { rule_of result ≡ counting name.entry.now most default.entry.now }
+{
+    Arg::new(alloc, name)
+        .long(name)
+        .value_name(letter)
+        .value_parser(ValueParser::unsigned(1, most))
+        .default_value(default)
 }

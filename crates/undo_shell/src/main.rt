@@ -1,20 +1,27 @@
-//! The program round the shell: the command line, standard input and output, and the exit status.
+//! The program round the shell and the clients on threads: the command line, standard input and output, and the exit
+//! status.
 //!
-//! Knows: where the script comes from and where its text goes. Must not know: what a script says.
-//! Promises its user that the text of a script is written whole, or a beginning of it with exit status 3.
+//! Knows: where a script comes from and where a text goes. Must not know: what a script says, or what a client does.
+//! Promises its user that a text is written whole, or a beginning of it with exit status 3.
 #![tactic(auto)]
+
+ghost use Rattle.node_shell.specs.Asked.{HasClient};
 
 use clap::Error;
 use clap::error::ErrorKind;
 use node_shell::{DONE, FAILED, FAULT, Stopping, Task, choose, refusal_of, refuse, run};
+use pool_shell::pool;
 use record_key::Refusal;
+use std::alloc::Global;
 use std::io::{BufWriter, Write};
 use std::process::ExitCode;
+use std::sync::Wait;
+use std::thread::Threads;
 use std::{env, io};
 
 fn main(rt: HostRuntime) -> ExitCode {
     let status = match arguments(&rt) {
-        Ok(words) => start(&rt, words.as_slice()),
+        Ok(words) => start(rt, rt.alloc(), words.as_slice()),
         Err(error) => refuse(&mut io::writer(&rt), refusal_of(&error), FAILED),
     };
     ExitCode::from(status)
@@ -26,20 +33,30 @@ fn arguments(rt: &HostRuntime) -> io::Result<Vec<String>> {
 }
 
 /// Does what the command line asks for. Gives the exit status.
-fn start(rt: &HostRuntime, words: &[String]) -> u8 {
-    match choose(rt.alloc(), words) {
-        Ok(Task::Run) => run_script(rt),
-        Err(fault) => explain(rt, &fault),
+fn start<R>(rt: R, alloc: Global, words: &[String]) -> u8
+where
+    R: Input + Print + Eprint + Threads + Wait + Copy + Send + Sync + 'static,
+{
+    match choose(alloc, words) {
+        Ok(task) => perform(rt, alloc, task),
+        Err(fault) => explain(&rt, &fault),
     }
 }
 
-/// Runs the script that standard input holds. Its text is gathered and written in large pieces, and nothing of it
-/// after a write that failed.
-fn run_script(rt: &HostRuntime) -> u8 {
-    let Ok(mut writer) = BufWriter::new(rt.alloc(), Stopping::new(io::writer(rt))) else {
-        return refuse(&mut io::writer(rt), Refusal::NoMemory, FAILED);
+/// Writes the text of a task to standard output. It is gathered and written in large pieces, and nothing of it after a
+/// write that failed.
+fn perform<R>(rt: R, alloc: Global, task: Task) -> u8
+where
+    R: Input + Print + Threads + Wait + Copy + Send + Sync + 'static,
+    requires { HasClient task }
+{
+    let Ok(mut writer) = BufWriter::new(alloc, Stopping::new(io::writer(&rt))) else {
+        return refuse(&mut io::writer(&rt), Refusal::NoMemory, FAILED);
     };
-    let status = run(rt.alloc(), &mut rt.reader(), &mut writer);
+    let status = match task {
+        Task::Run => run(alloc, &mut rt.reader(), &mut writer),
+        Task::Pool { sessions, rounds } => pool(rt, alloc, sessions, rounds, &mut writer),
+    };
     match writer.flush() {
         Ok(()) => status,
         Err(_) => FAILED,
@@ -47,7 +64,7 @@ fn run_script(rt: &HostRuntime) -> u8 {
 }
 
 /// Prints why nothing is run: help to standard output, a fault's text to standard error.
-fn explain(rt: &HostRuntime, fault: &Error) -> u8 {
+fn explain<R: Print + Eprint>(rt: &R, fault: &Error) -> u8 {
     if fault.kind() == ErrorKind::OutOfMemory {
         return refuse(&mut io::writer(rt), Refusal::NoMemory, FAILED);
     }
