@@ -48,6 +48,7 @@ pub reads_next : (before i : ℕ) (values : List (Option Bytes)) (value : Option
     → value ≡ get_or values i value
     → reads_text before (drop i values) ≡ read_line (before + 1) value ++ reads_text (before + 1) (drop (i + 1) values)
 reads_next before i values value lt at =
-    let here : drop i values ≡ get_or values i value ∷ drop (i + 1) values = rw (add-one, drop-cons values i value) refl in
+    let here : drop i values ≡ get_or values i value ∷ drop (i + 1) values =
+    rw (add-one, drop-cons values i value) refl in
     ap (reads_text before) here
     ∙ ap (λ v. read_line (before + 1) v ++ reads_text (before + 1) (drop (i + 1) values)) (sym at)

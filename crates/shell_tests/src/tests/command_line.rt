@@ -10,13 +10,37 @@ fn run_is_a_task(rt: HostRuntime) {
 #[test]
 fn clients_are_a_task(rt: HostRuntime) {
     let chosen = choose(rt.alloc(), &["undo_shell", "pool"]);
-    assert!(rt; matches!(chosen, Ok(Task::Pool { sessions: 4, rounds: 3 })));
+    assert!(rt;
+        matches!(
+            chosen,
+            Ok(Task::Pool {
+                sessions: 4,
+                rounds: 3
+            })
+        )
+    );
     let most = ["undo_shell", "pool", "--rounds", "99", "--sessions=8"];
     let chosen = choose(rt.alloc(), &most);
-    assert!(rt; matches!(chosen, Ok(Task::Pool { sessions: 8, rounds: 99 })));
+    assert!(rt;
+        matches!(
+            chosen,
+            Ok(Task::Pool {
+                sessions: 8,
+                rounds: 99
+            })
+        )
+    );
     let least = ["undo_shell", "pool", "--sessions", "1", "--rounds=1"];
     let chosen = choose(rt.alloc(), &least);
-    assert!(rt; matches!(chosen, Ok(Task::Pool { sessions: 1, rounds: 1 })));
+    assert!(rt;
+        matches!(
+            chosen,
+            Ok(Task::Pool {
+                sessions: 1,
+                rounds: 1
+            })
+        )
+    );
 }
 
 #[test]
