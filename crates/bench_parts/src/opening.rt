@@ -4,7 +4,7 @@ ghost use Rattle.std.specs.Prelude.{◌≡◌, ◌≤◌, [], IfOk};
 use crate::records::put_log;
 use logical_log::Log;
 use record_key::Refusal;
-use stable::{DeviceError, LogDevice, MemLog};
+use stable::{CrashLog, DeviceError, LogDevice, MemLog};
 use std::alloc::Global;
 use std::io;
 use std::time::{Clock, Instant};

@@ -6,7 +6,7 @@ use crate::devices::{fail, fault_of, log_with, pages_with};
 use call_lines::{Digest, Fault, Subject, Text, UNREADABLE, Words};
 use dc_core::{Dc, Devices};
 use record_key::Refusal;
-use stable::{MemLog, MemPages};
+use stable::{CrashLog, MemLog, MemPages};
 use std::alloc::Global;
 use std::mem;
 

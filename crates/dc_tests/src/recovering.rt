@@ -3,7 +3,7 @@ ghost use Rattle.std.specs.Prelude.{◌≡◌, [], IfOk};
 
 use call_lines::Text;
 use record_key::Refusal;
-use stable::{DeviceError, LogDevice, MemLog, MemPages, PageDevice};
+use stable::{CrashLog, DeviceError, LogDevice, MemLog, MemPages, PageDevice};
 use std::alloc::Global;
 use system_txn::{Recovered, recover};
 

@@ -7,7 +7,7 @@ use crate::recovering::{found, log_of, put_beginnings, put_found, put_page, refu
 use crate::system_calls::{System, add_seen, call_of};
 use call_lines::{Digest, Fault, Subject, Text, UNREADABLE, Words};
 use record_key::Refusal;
-use stable::{LogDevice, MemLog, MemPages, PageDevice};
+use stable::{CrashLog, LogDevice, MemLog, MemPages, PageDevice};
 use std::alloc::Global;
 use std::mem;
 use system_txn::Devices;

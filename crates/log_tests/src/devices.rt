@@ -3,7 +3,7 @@ ghost use Rattle.std.specs.Prelude.{◌≡◌, []};
 
 use crate::listed_log::ListedLog;
 use record_key::Refusal;
-use stable::{DeviceError, LogDevice, MemLog};
+use stable::{CrashLog, DeviceError, LogDevice, MemLog};
 use std::alloc::Global;
 use std::fmt::Write;
 use std::marker::Send;

@@ -7,7 +7,7 @@ use crate::spelled::spelled;
 use history::Record;
 use logical_log::{Log, Refused};
 use record_key::Refusal;
-use stable::{LogDevice, MemLog};
+use stable::{CrashLog, LogDevice, MemLog};
 use std::alloc::Global;
 use std::fmt::Write;
 use test_lines::{put_refusal, refused};

@@ -1,7 +1,7 @@
 //! A page device in memory.
 use crate::devices::refusal_of;
 use record_key::Refusal;
-use stable::{MemPages, PageDevice};
+use stable::{CrashPages, MemPages, PageDevice};
 use std::alloc::Global;
 use std::fmt::Write;
 use std::marker::Send;

@@ -8,6 +8,7 @@
 
 mod counter;
 mod crash;
+mod crash_device;
 mod error;
 mod faults;
 mod log_device;
@@ -17,6 +18,7 @@ mod page_device;
 
 pub use counter::Counter;
 pub use crash::crash_law;
+pub use crash_device::{CrashLog, CrashPages};
 pub use error::DeviceError;
 pub use log_device::LogDevice;
 pub use mem_log::MemLog;

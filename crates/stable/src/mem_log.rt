@@ -6,6 +6,7 @@ ghost use Rattle.stable.specs.Device.{Rests};
 ghost use Rattle.stable.specs.LogState.{with_bytes, log_after};
 ghost use Rattle.stable.specs.Usage.{is_due, unused};
 
+use crate::crash_device::CrashLog;
 use crate::error::DeviceError;
 use crate::faults::Faults;
 use crate::log_device::LogDevice;
@@ -66,16 +67,6 @@ impl MemLog {
         ensures { result.now ≡ self.now.pending }
     {
         &self.bytes[self.forced..]
-    }
-
-    /// Keeps the forced bytes and at most `kept` more, all of which are forced from now on.
-    pub fn crash(&mut self, kept: usize)
-        ensures left { self.new ≡ with_bytes self.old (self.old.forced ++ take kept self.old.pending) [] }
-        ensures law { MayLeave self.old.forced self.old.pending self.new.forced }
-    {
-        let pending = self.bytes.len() - self.forced;
-        self.forced += kept.min(pending);
-        self.bytes.truncate(self.forced);
     }
 }
 
@@ -142,5 +133,22 @@ impl LogDevice for MemLog {
     {
         self.faults.call()?;
         Ok(&self.bytes)
+    }
+}
+
+impl CrashLog for MemLog {
+    fn unforced(&self) -> usize
+        ensures { result ≡ length self.now.pending }
+    {
+        self.bytes.len() - self.forced
+    }
+
+    fn crash(&mut self, kept: usize)
+        ensures left { self.new ≡ with_bytes self.old (self.old.forced ++ take kept self.old.pending) [] }
+        ensures law { MayLeave self.old.forced self.old.pending self.new.forced }
+    {
+        let pending = self.unforced();
+        self.forced += kept.min(pending);
+        self.bytes.truncate(self.forced);
     }
 }

@@ -11,6 +11,7 @@ ghost use Rattle.stable.specs.Device.{Rests};
 ghost use Rattle.stable.specs.PagesState.{pages_of, rooms_of, has_room, pages_after};
 ghost use Rattle.stable.specs.Usage.{is_due, used, unused};
 
+use crate::crash_device::CrashPages;
 use crate::error::DeviceError;
 use crate::faults::Faults;
 use crate::page_device::PageDevice;
@@ -70,11 +71,6 @@ impl MemPages {
     {
         self.faults.fail_at(n);
     }
-
-    /// Each page is left as its last successful write, and a failure that was set is still to come.
-    pub fn crash(&mut self)
-        ensures { self.new ≡ self.old }
-    {}
 }
 
 impl PageDevice for MemPages {
@@ -138,6 +134,12 @@ impl PageDevice for MemPages {
         self.faults.call()?;
         Ok(ids)
     }
+}
+
+impl CrashPages for MemPages {
+    fn crash(&mut self)
+        ensures { self.new ≡ self.old }
+    {}
 }
 
 /// Makes room for an image of this length. A page that has no place yet gets one, with its room in it.

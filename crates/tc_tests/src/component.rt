@@ -3,7 +3,7 @@ use crate::calls::{add_seen, call_of, reconnect};
 use crate::numbers::Numbers;
 use call_lines::{Bytes, Digest, Fault, Subject, Text, UNREADABLE, Words};
 use record_key::Refusal;
-use stable::{DeviceError, LogDevice, MemLog};
+use stable::{CrashLog, DeviceError, LogDevice, MemLog};
 use std::alloc::Global;
 use std::mem;
 use tc_core::Tc;

@@ -3,13 +3,16 @@ use Rattle.std.proofs.lemmas.Grind.{common_steps}
 use Rattle.stable.specs.Crash.{MayLeave}
 use Rattle.stable.specs.LogState.{LogState, with_bytes}
 use Rattle.stable.proofs.Left.{crash_state, crash_leaves}
-use Rattle.stable.proofs.mem_log.MemLog.crash.Goals as goal
+use Rattle.stable.proofs.mem_log.MemLogCrashLog.crash.Goals as goal
 
 pub returns-clause-left : goal.returns-clause-left
 returns-clause-left c =
     let m = c.self.inside in let left = c.truncate.new.self.items in let end = m.forced + c.min.result in
     let all : end ≡ length left = grind (arith, common_steps) in
-    let same_end : min end (length m.bytes.items) ≡ min (m.forced + c.args.kept) (length m.bytes.items) = omega arith in
+    let pending : c.unforced-pending.result ≡ length (drop m.forced m.bytes.items) =
+    subst (λ (old : LogState). c.unforced-pending.result ≡ length old.pending) (sym c.self.view_is) c.unforced-pending.ensures in
+    let same_end : min end (length m.bytes.items) ≡ min (m.forced + c.args.kept) (length m.bytes.items) =
+    grind (arith, pending, common_steps) in
     let Left : LogState → Type 0 = λ old.
     record {
       forced = take end left;
