@@ -10,7 +10,7 @@ use Rattle.dc_core.specs.declared.parts.Parts.{Parts}
 use Rattle.dc_core.specs.DcView.{DcView, leaves, captures_at}
 use Rattle.dc_core.specs.Serves.{performs}
 
-abbrev pub seen : Parts → DcView
+abbrev pub seen : {D P : Type 0} → Parts D P → DcView
 seen p = record {
   stored = p.stored;
   session = p.session;

@@ -14,8 +14,9 @@ ghost use Rattle.dc_core.specs.Seen.{seen};
 use crate::parts::Parts;
 use codec::Request;
 use record_key::{Entries, Key, Op};
+use stable::{LogDevice, PageDevice};
 
-impl Parts {
+impl<D: LogDevice, P: PageDevice> Parts<D, P> {
     /// Whether each number of the request is below its bound, an operation's number is on the key that it has where it
     /// is known, and a new one comes after the others on its key; and whether a session that begins takes back only
     /// what can be.

@@ -4,6 +4,7 @@ ghost use Rattle.record_key.specs.Table.{Table, table_code};
 ghost use Rattle.btree.specs.Leaves.{rows_of};
 
 use crate::system::System;
+use stable::{LogDevice, PageDevice};
 use std::marker::{Model, PhantomData, Send};
 
 #[derive(Drop)]
@@ -20,7 +21,7 @@ impl Model for Base {
 
 impl Base {
     /// Those of these leaves.
-    pub fn of(system: &System) -> Base
+    pub fn of<D: LogDevice, P: PageDevice>(system: &System<D, P>) -> Base
         ensures { result.table ≡ rows_of system.now.leaves }
     {
         let _ = system;

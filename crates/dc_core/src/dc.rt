@@ -1,5 +1,5 @@
 //! The data component.
-ghost use Rattle.std.specs.Prelude.{◌≡◌, ◌<◌, ◌≤◌, ◌↔◌, ◌++◌, [], None, Some, length, get_or, reverse, slice_get, IsTrue, IfOk, IfErr, OnOk};
+ghost use Rattle.std.specs.Prelude.{◌≡◌, ◌<◌, ◌≤◌, ◌↔◌, ◌++◌, [], true, None, Some, length, get_or, reverse, slice_get, IsTrue, IfOk, IfErr, OnOk};
 ghost use Rattle.std.specs.FinMap as map;
 ghost use Rattle.stable.specs.Crash.{BeginsWith};
 ghost use Rattle.stable.specs.Usage.{called_often};
@@ -21,18 +21,18 @@ use crate::performance::Performance;
 use codec::{Reply, Request};
 use page::Leaf;
 use record_key::{Key, Refusal, Value};
-use stable::{MemLog, MemPages};
+use stable::{LogDevice, MemLog, MemPages, PageDevice};
 use std::alloc::Global;
 use std::marker::Model;
 use system_txn::{Devices, Neighbours, Refused, Tended};
 
 /// Leaves with their log and their pages, and the session that they serve.
 #[derive(Drop)]
-pub struct Dc {
-    parts: Parts,
+pub struct Dc<D: LogDevice = MemLog, P: PageDevice = MemPages> {
+    parts: Parts<D, P>,
 }
 
-impl Model for Dc {
+impl<D: LogDevice, P: PageDevice> Model for Dc<D, P> {
     ghost use Rattle.std.specs.Coded.{codes};
     ghost use Rattle.record_key.specs.Table.{table_code};
     ghost use Rattle.system_txn.specs.SystemView.{pages_code};
@@ -49,12 +49,15 @@ impl Model for Dc {
     ghost invariant = { λ d. IsDc (seen d.parts) };
 }
 
-impl Dc {
+impl<D: LogDevice, P: PageDevice> Dc<D, P> {
     /// A component of no records that has taken no session, on empty devices. Refused NoMemory.
-    pub fn new(alloc: Global, log: MemLog, pages: MemPages) -> Result<Dc, Refusal>
-        requires logged { (log.forced ≡ []) × (log.pending ≡ []) }
-        requires written { pages.pages ≡ map.empty }
-        ensures fresh { IfOk result (λ dc. dc ≡ fresh log.usage pages.usage) }
+    pub fn new(alloc: Global, log: D, pages: P) -> Result<Dc<D, P>, Refusal>
+    where
+        D: Drop,
+        P: Drop,
+        requires logged { (D.forced log ≡ []) × (D.pending log ≡ []) }
+        requires written { P.pages pages ≡ map.empty }
+        ensures fresh { IfOk result (λ dc. dc ≡ fresh (D.usage log) (P.usage pages)) }
         ensures memory { IfErr result (λ refusal. refusal ≡ Refusal.NoMemory) }
     {
         Ok(Dc {
@@ -65,39 +68,37 @@ impl Dc {
     /// Opens what a crash left on the devices. No session runs until a Connect above the stored one. A cut last record
     /// is cut off the log, last of all. Refused NoMemory, Device; BadBytes where the bytes are no log of leaves and
     /// their images. The devices are handed back with the bytes that they held.
-    pub fn restart(
-        alloc: Global,
-        devices: Devices<MemLog, MemPages>,
-    ) -> Result<Dc, Refused<MemLog, MemPages>>
-        requires none_pending { devices.log.pending ≡ [] }
-        ensures recovers { IfOk result (λ dc. Recovers devices.log.forced devices.pages.pages dc.system) }
+    pub fn restart(alloc: Global, devices: Devices<D, P>) -> Result<Dc<D, P>, Refused<D, P>>
+        requires none_pending { D.pending devices.log ≡ [] }
+        ensures recovers { IfOk result (λ dc. Recovers (D.forced devices.log) (P.pages devices.pages) dc.system) }
         ensures restarted { IfOk result (λ dc. dc ≡ restarted dc.system) }
         ensures log_used { IfOk result (λ dc. dc.system.log_usage ≡ called_often
-            (log_calls (length (spelled dc.system.log)) (length devices.log.forced)) devices.log.usage) }
+            (log_calls (length (spelled dc.system.log)) (length (D.forced devices.log))) (D.usage devices.log)) }
         ensures pages_used { IfOk result (λ dc.
-            dc.system.page_usage ≡ called_often (page_calls devices.pages.pages) devices.pages.usage) }
+            dc.system.page_usage ≡ called_often (page_calls (P.pages devices.pages)) (P.usage devices.pages)) }
         ensures refused { IfErr result (λ left.
-            RefusesRecovery devices.log.forced devices.pages.pages left.refusal) }
-        ensures log_left { IfErr result (λ left. left.devices.log.forced ≡ devices.log.forced) }
-        ensures none_left { IfErr result (λ left. left.devices.log.pending ≡ []) }
-        ensures pages_left { IfErr result (λ left. left.devices.pages.pages ≡ devices.pages.pages) }
-        ensures stopped { IfErr result (λ left. StopsOpening left.refusal devices.pages.pages
-            devices.log.usage left.devices.log.usage devices.pages.usage left.devices.pages.usage) }
+            RefusesRecovery (D.forced devices.log) (P.pages devices.pages) left.refusal) }
+        ensures log_left { IfErr result (λ left. D.forced left.devices.log ≡ D.forced devices.log) }
+        ensures none_left { IfErr result (λ left. D.pending left.devices.log ≡ []) }
+        ensures pages_left { IfErr result (λ left. P.pages left.devices.pages ≡ P.pages devices.pages) }
+        ensures stopped { IfErr result (λ left. StopsOpening left.refusal (P.pages devices.pages)
+            (D.usage devices.log) (D.usage left.devices.log) (P.usage devices.pages) (P.usage left.devices.pages)) }
     {
         Ok(Dc {
             parts: Parts::restart(alloc, devices)?,
         })
     }
 
-    /// The devices, as a crash finds them: all records of the log stand on it, and just the stable ones are
-    /// forced.
-    pub fn stop(self) -> Devices<MemLog, MemPages>
-        ensures holds { result.log.forced ++ result.log.pending ≡ spelled self.system.log }
-        ensures forced { BeginsWith result.log.forced (spelled (beginning self.system.log self.system.stable)) }
-        ensures just { result.log.forced ≡ spelled (beginning self.system.log self.system.stable) }
-        ensures pages { result.pages.pages ≡ self.system.pages }
-        ensures log_usage { result.log.usage ≡ self.system.log_usage }
-        ensures page_usage { result.pages.usage ≡ self.system.page_usage }
+    /// The devices, as a crash finds them: all records stand on the log's, and the stable ones are forced; no others
+    /// are, where it forces all or nothing.
+    pub fn stop(self) -> Devices<D, P>
+        ensures holds { D.forced result.log ++ D.pending result.log ≡ spelled self.system.log }
+        ensures forced { BeginsWith (D.forced result.log) (spelled (beginning self.system.log self.system.stable)) }
+        ensures just { D.forces_whole ≡ true
+            → D.forced result.log ≡ spelled (beginning self.system.log self.system.stable) }
+        ensures pages { P.pages result.pages ≡ self.system.pages }
+        ensures log_usage { D.usage result.log ≡ self.system.log_usage }
+        ensures page_usage { P.usage result.pages ≡ self.system.page_usage }
     {
         let Dc { parts } = self;
         parts.stop()

@@ -1,5 +1,5 @@
 //! The parts of the data component, and which messages it takes.
-ghost use Rattle.std.specs.Prelude.{◌≡◌, ◌++◌, [], None, Some, length, IfOk, IfErr, OnOk};
+ghost use Rattle.std.specs.Prelude.{◌≡◌, ◌++◌, [], true, None, Some, length, IfOk, IfErr, OnOk};
 ghost use Rattle.std.specs.FinMap as map;
 ghost use Rattle.stable.specs.Crash.{BeginsWith};
 ghost use Rattle.stable.specs.Usage.{called_often};
@@ -19,13 +19,13 @@ use crate::performances::Performances;
 use crate::system::{System, top_of};
 use codec::Request;
 use record_key::Refusal;
-use stable::{MemLog, MemPages};
+use stable::{LogDevice, PageDevice};
 use std::alloc::Global;
 use system_txn::{Devices, Refused};
 
 /// The sessions, the leaves, and what was performed.
 #[derive(Drop)]
-pub struct Parts {
+pub struct Parts<D: LogDevice, P: PageDevice> {
     /// The greatest session taken, 0 if none.
     pub stored: u64,
     /// The session that runs, 0 if none.
@@ -35,19 +35,22 @@ pub struct Parts {
     pub known: u64,
     /// The greatest number of an entry when these leaves were opened, 0 if none.
     pub opened_to: u64,
-    pub system: System,
+    pub system: System<D, P>,
     /// The records when these leaves were opened.
     pub opened: Base,
     /// What was performed since and wasn't taken back.
     pub performed: Performances,
 }
 
-impl Parts {
-    pub fn new(alloc: Global, log: MemLog, pages: MemPages) -> Result<Parts, Refusal>
-        requires logged { (log.forced ≡ []) × (log.pending ≡ []) }
-        requires written { pages.pages ≡ map.empty }
+impl<D: LogDevice, P: PageDevice> Parts<D, P> {
+    pub fn new(alloc: Global, log: D, pages: P) -> Result<Parts<D, P>, Refusal>
+    where
+        D: Drop,
+        P: Drop,
+        requires logged { (D.forced log ≡ []) × (D.pending log ≡ []) }
+        requires written { P.pages pages ≡ map.empty }
         ensures kept { IfOk result (λ parts. IsDc (seen parts)) }
-        ensures fresh { IfOk result (λ parts. seen parts ≡ fresh log.usage pages.usage) }
+        ensures fresh { IfOk result (λ parts. seen parts ≡ fresh (D.usage log) (P.usage pages)) }
         ensures memory { IfErr result (λ refusal. refusal ≡ Refusal.NoMemory) }
     {
         let system = match System::new(alloc, log, pages) {
@@ -70,25 +73,22 @@ impl Parts {
 
     /// No session runs until a Connect above the greatest one that the log accepted, and nothing was performed yet. All
     /// that the leaves have captured is known not to be lost.
-    pub fn restart(
-        alloc: Global,
-        devices: Devices<MemLog, MemPages>,
-    ) -> Result<Parts, Refused<MemLog, MemPages>>
-        requires none_pending { devices.log.pending ≡ [] }
+    pub fn restart(alloc: Global, devices: Devices<D, P>) -> Result<Parts<D, P>, Refused<D, P>>
+        requires none_pending { D.pending devices.log ≡ [] }
         ensures kept { IfOk result (λ parts. IsDc (seen parts)) }
-        ensures recovers { IfOk result (λ parts. Recovers devices.log.forced devices.pages.pages parts.system) }
+        ensures recovers { IfOk result (λ parts. Recovers (D.forced devices.log) (P.pages devices.pages) parts.system) }
         ensures restarted { IfOk result (λ parts. seen parts ≡ restarted parts.system) }
         ensures log_used { IfOk result (λ parts. parts.system.log_usage ≡ called_often
-            (log_calls (length (spelled parts.system.log)) (length devices.log.forced)) devices.log.usage) }
+            (log_calls (length (spelled parts.system.log)) (length (D.forced devices.log))) (D.usage devices.log)) }
         ensures pages_used { IfOk result (λ parts.
-            parts.system.page_usage ≡ called_often (page_calls devices.pages.pages) devices.pages.usage) }
+            parts.system.page_usage ≡ called_often (page_calls (P.pages devices.pages)) (P.usage devices.pages)) }
         ensures refused { IfErr result (λ left.
-            RefusesRecovery devices.log.forced devices.pages.pages left.refusal) }
-        ensures log_left { IfErr result (λ left. left.devices.log.forced ≡ devices.log.forced) }
-        ensures none_left { IfErr result (λ left. left.devices.log.pending ≡ []) }
-        ensures pages_left { IfErr result (λ left. left.devices.pages.pages ≡ devices.pages.pages) }
-        ensures stopped { IfErr result (λ left. StopsOpening left.refusal devices.pages.pages
-            devices.log.usage left.devices.log.usage devices.pages.usage left.devices.pages.usage) }
+            RefusesRecovery (D.forced devices.log) (P.pages devices.pages) left.refusal) }
+        ensures log_left { IfErr result (λ left. D.forced left.devices.log ≡ D.forced devices.log) }
+        ensures none_left { IfErr result (λ left. D.pending left.devices.log ≡ []) }
+        ensures pages_left { IfErr result (λ left. P.pages left.devices.pages ≡ P.pages devices.pages) }
+        ensures stopped { IfErr result (λ left. StopsOpening left.refusal (P.pages devices.pages)
+            (D.usage devices.log) (D.usage left.devices.log) (P.usage devices.pages) (P.usage left.devices.pages)) }
     {
         let Devices { log, pages } = devices;
         let opened = System::open(alloc, log, pages)?;
@@ -107,13 +107,14 @@ impl Parts {
         })
     }
 
-    pub fn stop(self) -> Devices<MemLog, MemPages>
-        ensures holds { result.log.forced ++ result.log.pending ≡ spelled self.system.log }
-        ensures forced { BeginsWith result.log.forced (spelled (beginning self.system.log self.system.stable)) }
-        ensures just { result.log.forced ≡ spelled (beginning self.system.log self.system.stable) }
-        ensures pages { result.pages.pages ≡ self.system.pages }
-        ensures log_usage { result.log.usage ≡ self.system.log_usage }
-        ensures page_usage { result.pages.usage ≡ self.system.page_usage }
+    pub fn stop(self) -> Devices<D, P>
+        ensures holds { D.forced result.log ++ D.pending result.log ≡ spelled self.system.log }
+        ensures forced { BeginsWith (D.forced result.log) (spelled (beginning self.system.log self.system.stable)) }
+        ensures just { D.forces_whole ≡ true
+            → D.forced result.log ≡ spelled (beginning self.system.log self.system.stable) }
+        ensures pages { P.pages result.pages ≡ self.system.pages }
+        ensures log_usage { D.usage result.log ≡ self.system.log_usage }
+        ensures page_usage { P.usage result.pages ≡ self.system.page_usage }
     {
         let Parts {
             stored: _,

@@ -11,6 +11,7 @@ use crate::system::System;
 use codec::{PERFORMED_LIMIT, put_performed, take_performed};
 use page::Done;
 use record_key::{Answer, Op, Refusal};
+use stable::{LogDevice, PageDevice};
 use std::alloc::Global;
 use std::marker::Model;
 
@@ -75,7 +76,12 @@ impl Performances {
 
     /// Performs a new number at the leaf of its key and notes it, or gives what a repeated one was answered. Room for
     /// the note is made before the leaf changes.
-    pub fn perform(&mut self, system: &mut System, number: u64, op: &Op) -> Result<Done, Refusal>
+    pub fn perform<D: LogDevice, P: PageDevice>(
+        &mut self,
+        system: &mut System<D, P>,
+        number: u64,
+        op: &Op,
+    ) -> Result<Done, Refusal>
         requires { number < 2 ^ 48 }
         ensures noted { IfOk result (λ done. self.new ≡ noted done number op.now self.old) }
         ensures done { IfOk result (λ done. PerformsAt system.old.leaves number op.now done system.new.leaves) }

@@ -11,8 +11,9 @@ ghost use Rattle.dc_core.specs.Seen.{seen, Answers};
 use crate::parts::Parts;
 use page::Done;
 use record_key::{Answer, Key, Op, Refusal};
+use stable::{LogDevice, PageDevice};
 
-impl Parts {
+impl<D: LogDevice, P: PageDevice> Parts<D, P> {
     /// Performs a new number, or answers a repeated one. The leaf is asked by one descent, unless memory is refused.
     pub fn perform(&mut self, number: u64, op: &Op) -> Result<Option<Answer>, Refusal>
         requires kept { IsDc (seen self.old) }

@@ -10,8 +10,9 @@ use crate::parts::Parts;
 use codec::{Reply, Rows};
 use page::add_rows;
 use record_key::{Key, Refusal, Value};
+use stable::{LogDevice, PageDevice};
 
-impl Parts {
+impl<D: LogDevice, P: PageDevice> Parts<D, P> {
     pub fn get(&self, session: u64, read: u64, key: &Key) -> Reply
         ensures { result ≡ Reply.Row session read (map.get (leaf_at self.now.system.leaves key.now).rows key.now) }
     {

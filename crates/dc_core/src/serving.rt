@@ -9,8 +9,9 @@ ghost use Rattle.dc_core.specs.Seen.{seen};
 use crate::parts::Parts;
 use codec::{Reply, Request};
 use record_key::Refusal;
+use stable::{LogDevice, PageDevice};
 
-impl Parts {
+impl<D: LogDevice, P: PageDevice> Parts<D, P> {
     pub fn serve(&mut self, request: &Request) -> Result<Option<Reply>, Refusal>
         requires kept { IsDc (seen self.old) }
         requires numbers { HasRequestNumbers request.now }

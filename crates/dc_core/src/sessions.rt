@@ -11,8 +11,9 @@ use crate::parts::Parts;
 use crate::system::top_of;
 use codec::{Reply, Request};
 use record_key::Refusal;
+use stable::{LogDevice, PageDevice};
 
-impl Parts {
+impl<D: LogDevice, P: PageDevice> Parts<D, P> {
     /// The running session's Connect changes nothing. A new session runs once its record is stable.
     pub fn connect(&mut self, session: u64, end: u64) -> Result<Reply, Refusal>
         requires kept { IsDc (seen self.old) }

@@ -4,14 +4,14 @@ ghost use Rattle.dc_core.specs.DcView.{top_of};
 
 use btree::Tree;
 use page::Leaf;
-use stable::{MemLog, MemPages};
+use stable::{LogDevice, PageDevice};
 use system_txn::SystemTxns;
 
-/// A tree of leaves, with their log and their pages in memory.
-pub type System = SystemTxns<Tree, MemLog, MemPages>;
+/// A tree of leaves, with their log and their pages.
+pub type System<D, P> = SystemTxns<Tree, D, P>;
 
 /// The greatest number of an entry of the leaves, 0 if none.
-pub fn top_of(system: &System) -> u64
+pub fn top_of<D: LogDevice, P: PageDevice>(system: &System<D, P>) -> u64
     ensures { result ≡ top_of system.now.leaves }
 {
     let mut most = 0;

@@ -5,9 +5,10 @@ ghost use Rattle.dc_core.specs.Seen.{seen};
 
 use crate::parts::Parts;
 use record_key::{Key, Refusal};
+use stable::{LogDevice, PageDevice};
 use system_txn::{Neighbours, Tended};
 
-impl Parts {
+impl<D: LogDevice, P: PageDevice> Parts<D, P> {
     pub fn split(&mut self, key: &Key) -> Result<Neighbours, Refusal>
         requires { IsDc (seen self.old) }
         ensures kept { IsDc (seen self.new) }

@@ -30,12 +30,12 @@ use Rattle.world.proofs.Invariant.ByNumber.{all_at, last_at}
 use Rattle.world.proofs.Invariant.MayAsk.{may_ask}
 
 -- the node may do so: its transaction component becomes this and hands out that
-abbrev pub DoesTc : Node → Event → Out → TcSide → Option Request → Type 0
+abbrev pub DoesTc : {D P : Type 0} → Node D P → Event → Out → TcSide → Option Request → Type 0
 DoesTc n e o new request =
     StepsTo (seen n) e o (node_of new n.dc (also n.requests.messages request) n.replies.messages)
 
 -- the same of its data component
-abbrev pub DoesDc : Node → Event → Out → DcSide → Option Reply → Type 0
+abbrev pub DoesDc : {D P : Type 0} → Node D P → Event → Out → DcSide → Option Reply → Type 0
 DoesDc n e o new reply =
     StepsTo (seen n) e o (node_of n.tc new n.requests.messages (also n.replies.messages reply))
 

@@ -5,8 +5,7 @@ use Rattle.record_key.specs.declared.refusal.Refusal.TheVariants.{NoMemory, Devi
 use Rattle.codec.specs.declared.dc_record.DcRecord.{DcRecord}
 use Rattle.history.specs.declared.record.Record.{Record}
 use Rattle.stable.specs.Usage.{Usage, called_often}
-use Rattle.stable.specs.LogState.{LogState}
-use Rattle.stable.specs.PagesState.{PagesState}
+use Rattle.stable.specs.PagesState.{Pages}
 use Rattle.logical_log.specs.Low.{stable_part}
 use Rattle.logical_log.specs.Spelled as records
 use Rattle.recovery_laws.specs.Shape.{beginning}
@@ -75,9 +74,9 @@ TcRestartsTo old (Err r) new =
 
 -- ---- the data component
 
--- the component that these devices give, where these records are the log's
-abbrev pub found_on : LogState → PagesState → List DcRecord → DcView
-found_on device pages log = restarted (found pages.pages device.usage pages.usage log)
+-- the component that these pages give, where these records are the log's and the devices were used so
+abbrev pub found_on : Pages → Usage → Usage → List DcRecord → DcView
+found_on pages log_usage page_usage log = restarted (found pages log_usage page_usage log)
 
 -- how many bytes the first records have, so many
 abbrev pub dc_size : List DcRecord → ℕ → ℕ

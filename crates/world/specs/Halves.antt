@@ -26,6 +26,14 @@ of_tc (event.CrashDc frames bytes) = false
 of_tc event.RestartDc = false
 of_tc _ = true
 
+-- whether it is a crash or a restart
+abbrev pub moves : Event → Bool
+moves (event.CrashTc frames bytes) = true
+moves event.RestartTc = true
+moves (event.CrashDc frames bytes) = true
+moves event.RestartDc = true
+moves _ = false
+
 -- the node that has these components and messages
 abbrev pub node_of : TcSide → DcSide → List Request → List Reply → NodeView
 node_of tc dc requests replies = record {

@@ -3,12 +3,12 @@ ghost use Rattle.std.specs.Prelude.{◌≡◌, ◌≤◌, ◌+◌, length};
 ghost use Rattle.world.specs.Component.{lesser, bytes_left, tc_size, dc_size};
 
 use dc_core::Dc;
-use stable::MemLog;
+use stable::{LogDevice, PageDevice};
 use tc_core::Tc;
 
 /// How many bytes of the data component's log are kept where of the records that aren't stable the first stay, so many,
 /// and of the next one so many bytes, or all of it.
-pub fn kept_of(dc: &Dc, frames: u64, bytes: u64) -> usize
+pub fn kept_of<D: LogDevice, P: PageDevice>(dc: &Dc<D, P>, frames: u64, bytes: u64) -> usize
     ensures { result ≡ bytes_left (dc_size dc.now.system.log) dc.now.system.stable (length dc.now.system.log)
         frames bytes }
 {
@@ -19,7 +19,7 @@ pub fn kept_of(dc: &Dc, frames: u64, bytes: u64) -> usize
 }
 
 /// The same of the transaction component's log.
-pub fn bytes_kept_of(tc: &Tc<MemLog>, frames: u64, bytes: u64) -> usize
+pub fn bytes_kept_of<D: LogDevice>(tc: &Tc<D>, frames: u64, bytes: u64) -> usize
     ensures { result ≡ bytes_left (tc_size tc.now.log) tc.now.stable (length tc.now.log) frames bytes }
 {
     let records = tc.records();

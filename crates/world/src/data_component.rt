@@ -1,6 +1,6 @@
 //! The data component, which runs or is down.
-ghost use Rattle.std.specs.Prelude.{◌≡◌, true, IfOk, IfErr};
-ghost use Rattle.stable.specs.Usage.{unused};
+ghost use Rattle.std.specs.Prelude.{◌≡◌, [], true, IfOk, IfErr};
+ghost use Rattle.std.specs.FinMap as map;
 ghost use Rattle.dc_core.specs.DcView.{fresh};
 ghost use Rattle.dc_core.specs.Kept.{IsDc};
 ghost use Rattle.system_txn.specs.Kept.{IsRecoverable};
@@ -10,23 +10,28 @@ ghost use Rattle.world.specs.Seen.{dc_of};
 use crate::stopped::{Stopped, Unopened};
 use dc_core::Dc;
 use record_key::Refusal;
-use stable::{MemLog, MemPages};
+use stable::{CrashLog, CrashPages};
 use std::alloc::Global;
-use std::mem;
 
 #[derive(Drop)]
-pub enum DataComponent {
-    Up(Dc),
-    Down(Stopped),
+pub enum DataComponent<D: CrashLog, P: CrashPages> {
+    Up(Dc<D, P>),
+    Down(Stopped<D, P>),
 }
 
-impl DataComponent {
-    /// One that runs, of no records, and has taken no session.
-    pub fn new(alloc: Global) -> Result<DataComponent, Refusal>
-        ensures fresh { IfOk result (λ component. dc_of component ≡ record { up = true; dc = fresh unused unused }) }
+impl<D: CrashLog, P: CrashPages> DataComponent<D, P> {
+    /// One that runs, of no records on empty devices, and has taken no session.
+    pub fn new(alloc: Global, log: D, pages: P) -> Result<DataComponent<D, P>, Refusal>
+    where
+        D: Drop,
+        P: Drop,
+        requires logged { (D.forced log ≡ []) × (D.pending log ≡ []) }
+        requires written { P.pages pages ≡ map.empty }
+        ensures fresh { IfOk result (λ component.
+            dc_of component ≡ record { up = true; dc = fresh (D.usage log) (P.usage pages) }) }
         ensures memory { IfErr result (λ refusal. refusal ≡ Refusal.NoMemory) }
     {
-        Ok(DataComponent::Up(Dc::new(alloc, MemLog::new(alloc), MemPages::new(alloc))?))
+        Ok(DataComponent::Up(Dc::new(alloc, log, pages)?))
     }
 
     pub fn kept(&self)
@@ -40,44 +45,36 @@ impl DataComponent {
 
     /// Loses what isn't on the devices; of the records that aren't stable the first stay, so many, and of the next one
     /// at most so many bytes. False where it is down already.
-    pub fn crash(&mut self, alloc: Global, frames: u64, bytes: u64) -> bool
-        requires { IsRecoverable (dc_of self.old).dc.system }
-        ensures { DcCrashesTo (dc_of self.old) frames bytes result (dc_of self.new) }
+    pub fn crash(self, frames: u64, bytes: u64) -> (DataComponent<D, P>, bool)
+        requires { IsRecoverable (dc_of self).dc.system }
+        ensures { DcCrashesTo (dc_of self) frames bytes result.1 (dc_of result.0) }
     {
-        match mem::replace(self, DataComponent::Down(Stopped::empty(alloc))) {
+        match self {
             DataComponent::Up(dc) => {
-                *self = DataComponent::Down(Stopped::crashed(dc, frames, bytes));
-                true
+                let stopped = Stopped::crashed(dc, frames, bytes);
+                (DataComponent::Down(stopped), true)
             }
-            down => {
-                *self = down;
-                false
-            }
+            down => (down, false),
         }
     }
 
     /// Opens it on its devices, and says how many leaves it has. None where it runs already. Refused NoMemory, Device;
     /// it is down still then.
-    pub fn restart(&mut self, alloc: Global) -> Result<Option<usize>, Refusal>
-        requires { IsRecoverable (dc_of self.old).dc.system }
-        ensures { DcRestartsTo (dc_of self.old) result (dc_of self.new) }
+    pub fn restart(self, alloc: Global) -> (DataComponent<D, P>, Result<Option<usize>, Refusal>)
+        requires { IsRecoverable (dc_of self).dc.system }
+        ensures { DcRestartsTo (dc_of self) result.1 (dc_of result.0) }
     {
-        match mem::replace(self, DataComponent::Down(Stopped::empty(alloc))) {
+        match self {
             DataComponent::Down(stopped) => match stopped.restart(alloc) {
                 Ok(dc) => {
                     let leaves = dc.leaves();
-                    *self = DataComponent::Up(dc);
-                    Ok(Some(leaves))
+                    (DataComponent::Up(dc), Ok(Some(leaves)))
                 }
                 Err(Unopened { refusal, stopped }) => {
-                    *self = DataComponent::Down(stopped);
-                    Err(refusal)
+                    (DataComponent::Down(stopped), Err(refusal))
                 }
             },
-            up => {
-                *self = up;
-                Ok(None)
-            }
+            up => (up, Ok(None)),
         }
     }
 }

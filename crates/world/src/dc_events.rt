@@ -3,7 +3,7 @@ ghost use Rattle.std.specs.Prelude.{◌≡◌, false, None, Some};
 ghost use Rattle.codec.specs.Requests.{HasRequestNumbers};
 ghost use Rattle.dc_core.specs.Serves.{MayAsk};
 ghost use Rattle.system_txn.specs.Kept.{IsRecoverable};
-ghost use Rattle.world.specs.Halves.{of_tc, MayDc, DcGives, DcCalls, DcServes};
+ghost use Rattle.world.specs.Halves.{of_tc, moves, DcGives, DcCalls, DcServes};
 ghost use Rattle.world.specs.Node.{is_replied_to};
 ghost use Rattle.world.specs.Seen.{dc_of};
 
@@ -14,13 +14,14 @@ use crate::tc_events::number_if;
 use codec::{Reply, Request};
 use dc_core::Tended;
 use record_key::{Key, Refusal};
+use stable::{CrashLog, CrashPages};
 use std::alloc::Global;
 
-impl DataComponent {
-    /// One of its events; a Request event finds no request of its number.
-    pub fn happen(&mut self, alloc: Global, event: &Event) -> Out
+impl<D: CrashLog, P: CrashPages> DataComponent<D, P> {
+    /// One of its events that is neither a crash nor a restart; a Request event finds no request of its number.
+    pub fn happen(&mut self, event: &Event) -> Out
         requires own { of_tc event.now ≡ false }
-        requires may { MayDc (dc_of self.old) event.now None }
+        requires stays { moves event.now ≡ false }
         ensures { DcGives (dc_of self.old) None event.now None result None (dc_of self.new) }
     {
         match event {
@@ -29,8 +30,6 @@ impl DataComponent {
             Event::Tend => self.tend(),
             Event::Flush { key } => self.flush(key),
             Event::Request { .. } => self.unsent(),
-            Event::CrashDc { frames, bytes } => self.fall(alloc, *frames, *bytes),
-            Event::RestartDc => self.rise(alloc),
             _ => unreachable!(),
         }
     }
@@ -113,27 +112,27 @@ impl DataComponent {
 
     /// Its crash, as an event.
     #[inline(never)]
-    fn fall(&mut self, alloc: Global, frames: u64, bytes: u64) -> Out
-        requires { IsRecoverable (dc_of self.old).dc.system }
-        ensures { DcCalls (dc_of self.old) (Event.CrashDc frames bytes) result (dc_of self.new) }
+    pub fn fall(self, frames: u64, bytes: u64) -> (DataComponent<D, P>, Out)
+        requires { IsRecoverable (dc_of self).dc.system }
+        ensures { DcCalls (dc_of self) (Event.CrashDc frames bytes) result.1 (dc_of result.0) }
     {
-        if self.crash(alloc, frames, bytes) {
-            Out::Down
-        } else {
-            Out::Nothing
-        }
+        let (left, fell) = self.crash(frames, bytes);
+        (left, if fell { Out::Down } else { Out::Nothing })
     }
 
     /// Its restart, as an event.
     #[inline(never)]
-    fn rise(&mut self, alloc: Global) -> Out
-        requires { IsRecoverable (dc_of self.old).dc.system }
-        ensures { DcCalls (dc_of self.old) Event.RestartDc result (dc_of self.new) }
+    pub fn rise(self, alloc: Global) -> (DataComponent<D, P>, Out)
+        requires { IsRecoverable (dc_of self).dc.system }
+        ensures { DcCalls (dc_of self) Event.RestartDc result.1 (dc_of result.0) }
     {
-        match attempt!(self.restart(alloc)) {
-            Some(leaves) => Out::Up(leaves as u64),
-            None => Out::Nothing,
-        }
+        let (component, restarted) = self.restart(alloc);
+        let out = match restarted {
+            Ok(Some(leaves)) => Out::Up(leaves as u64),
+            Ok(None) => Out::Nothing,
+            Err(refusal) => Out::Refused(refusal),
+        };
+        (component, out)
     }
 }
 

@@ -4,28 +4,32 @@ ghost use Rattle.std.specs.Prelude.{◌≡◌, true, false, Some, None, OnOk, On
 ghost use Rattle.std.specs.FinMap.{entries};
 ghost use Rattle.stable.specs.Usage.{unused};
 ghost use Rattle.btree.specs.Leaves.{rows_of};
+ghost use Rattle.system_txn.specs.Kept.{IsRecoverable};
 ghost use Rattle.codec.specs.Requests.{HasRequestNumbers};
 ghost use Rattle.dc_core.specs.DcView.{fresh, leaves};
 ghost use Rattle.dc_core.specs.Kept.{IsDc};
 ghost use Rattle.dc_core.specs.Serves.{MayAsk};
-ghost use Rattle.world.specs.Halves.{of_tc, MayDc, DcLeads, DcServes};
+ghost use Rattle.world.specs.Halves.{of_tc, moves, MayDc, DcLeads, DcGives, DcCalls, DcServes};
 
 use crate::data_component::DataComponent;
 use crate::event::{Event, Out};
+use crate::put::put;
 use codec::{Reply, Request};
 use dc_core::Dc;
 use record_key::{Key, Refusal, Value};
+use stable::{CrashLog, CrashPages, MemLog, MemPages};
 use std::alloc::Global;
 use std::marker::Model;
 
 /// The data component, which runs or is down.
 #[derive(Drop)]
-pub struct DcSide {
+pub struct DcSide<D: CrashLog = MemLog, P: CrashPages = MemPages> {
     alloc: Global,
-    component: DataComponent,
+    // None only amid a crash or a restart.
+    component: Option<DataComponent<D, P>>,
 }
 
-impl Model for DcSide {
+impl<D: CrashLog, P: CrashPages> Model for DcSide<D, P> {
     ghost use Rattle.std.specs.Coded.{codes};
     ghost use Rattle.record_key.specs.Table.{table_code};
     ghost use Rattle.system_txn.specs.SystemView.{pages_code};
@@ -35,25 +39,31 @@ impl Model for DcSide {
 
     ghost coded = { Prim.hlevel (codes, table_code, pages_code) };
 
+    ghost use Rattle.std.specs.Prelude.{IsSome};
     ghost use Rattle.dc_core.specs.Kept.{IsDc};
-    ghost use Rattle.world.specs.Seen.{dc_of};
+    ghost use Rattle.world.specs.Seen.{dc_in};
 
-    ghost view = { λ s. dc_of s.component };
+    ghost view = { λ s. dc_in s.component };
 
-    ghost invariant = { λ s. IsDc (dc_of s.component).dc };
+    ghost invariant = { λ s. IsSome s.component × IsDc (dc_in s.component).dc };
 }
 
-impl DcSide {
+impl DcSide<MemLog, MemPages> {
     /// One that runs, of no records, and has taken no session. Refused NoMemory.
     pub fn new(alloc: Global) -> Result<DcSide, Refusal>
         ensures fresh { IfOk result (λ side. side ≡ record { up = true; dc = fresh unused unused }) }
         ensures memory { IfErr result (λ refusal. refusal ≡ Refusal.NoMemory) }
     {
-        let component = DataComponent::new(alloc)?;
+        let component = DataComponent::new(alloc, MemLog::new(alloc), MemPages::new(alloc))?;
         component.kept();
-        Ok(DcSide { alloc, component })
+        Ok(DcSide {
+            alloc,
+            component: Some(component),
+        })
     }
+}
 
+impl<D: CrashLog, P: CrashPages> DcSide<D, P> {
     /// One event of the data component. A Request event delivers `request`; where that is None there is none of its
     /// number. What is replied has the number `next`, and is left in `reply`; where that number is None there is no room
     /// for it, and a request that has a reply is refused NoMemory.
@@ -84,8 +94,52 @@ impl DcSide {
         requires may { MayDc self.old event.now None }
         ensures { DcLeads self.old None event.now None result None self.new }
     {
-        let out = self.component.happen(self.alloc, event);
-        self.component.kept();
+        match event {
+            Event::CrashDc { frames, bytes } => self.fall(*frames, *bytes),
+            Event::RestartDc => self.rise(),
+            _ => self.happen(event),
+        }
+    }
+
+    fn happen(&mut self, event: &Event) -> Out
+        requires own { of_tc event.now ≡ false }
+        requires stays { moves event.now ≡ false }
+        ensures gives { DcGives self.old None event.now None result None self.new }
+        ensures kept { IsDc self.new.dc }
+    {
+        let Some(component) = &mut self.component else {
+            unreachable!();
+        };
+        let out = component.happen(event);
+        component.kept();
+        out
+    }
+
+    fn fall(&mut self, frames: u64, bytes: u64) -> Out
+        requires { IsRecoverable self.old.dc.system }
+        ensures calls { DcCalls self.old (Event.CrashDc frames bytes) result self.new }
+        ensures kept { IsDc self.new.dc }
+    {
+        let Some(component) = self.component.take() else {
+            unreachable!();
+        };
+        let (component, out) = component.fall(frames, bytes);
+        component.kept();
+        put(&mut self.component, component);
+        out
+    }
+
+    fn rise(&mut self) -> Out
+        requires { IsRecoverable self.old.dc.system }
+        ensures calls { DcCalls self.old Event.RestartDc result self.new }
+        ensures kept { IsDc self.new.dc }
+    {
+        let Some(component) = self.component.take() else {
+            unreachable!();
+        };
+        let (component, out) = component.rise(self.alloc);
+        component.kept();
+        put(&mut self.component, component);
         out
     }
 
@@ -102,8 +156,11 @@ impl DcSide {
         ensures serves { DcServes self.old next (Some request.now) result reply.new self.new }
         ensures kept { IsDc self.new.dc }
     {
-        let out = self.component.serve(request, next, reply);
-        self.component.kept();
+        let Some(component) = &mut self.component else {
+            unreachable!();
+        };
+        let out = component.serve(request, next, reply);
+        component.kept();
         out
     }
 
@@ -118,19 +175,19 @@ impl DcSide {
     pub fn is_up(&self) -> bool
         ensures { result ≡ self.now.up }
     {
-        matches!(self.component, DataComponent::Up(_))
+        matches!(self.component, Some(DataComponent::Up(_)))
     }
 
     /// The component, where it runs. Refused NotConnected.
-    pub(crate) fn running(&self) -> Result<&Dc, Refusal>
+    pub(crate) fn running(&self) -> Result<&Dc<D, P>, Refusal>
         ensures up { OnOk result (self.now.up ≡ true) }
         ensures dc { IfOk result (λ dc. dc.now ≡ self.now.dc) }
         ensures refused { IfErr result (λ refusal. refusal ≡ Refusal.NotConnected) }
         ensures down { OnErr result (self.now.up ≡ false) }
     {
         match &self.component {
-            DataComponent::Up(dc) => Ok(dc),
-            DataComponent::Down(_) => Err(Refusal::NotConnected),
+            Some(DataComponent::Up(dc)) => Ok(dc),
+            Some(DataComponent::Down(_)) | None => Err(Refusal::NotConnected),
         }
     }
 

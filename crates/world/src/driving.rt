@@ -10,13 +10,18 @@ ghost use Rattle.world.specs.Simulation.{LeadsAll, Stands, IsSettled};
 use crate::event::{Event, Out};
 use crate::world::World;
 use record_key::Refusal;
+use stable::{CrashLog, CrashPages};
 use std::alloc::Global;
 
 /// Does the events in order. Each is a step of the components' contracts, and whatever list machine the node stood
 /// for, the events with their outputs lead from there to one that it stands for then: each client's answer is that of
 /// one list of operations with the rolled-back ones crossed out. Where the node is settled then, its records are what a
 /// plain map holds after the operations that stand. Refused NoMemory before any event.
-pub fn drive(alloc: Global, world: &mut World, events: &[Event]) -> Result<Vec<Out>, Refusal>
+pub fn drive<D: CrashLog, P: CrashPages>(
+    alloc: Global,
+    world: &mut World<D, P>,
+    events: &[Event],
+) -> Result<Vec<Out>, Refusal>
     ensures chain { IfOk result (λ outs. Chain world.old events.now outs.items world.new) }
     ensures run { IfOk result (λ outs. LeadsAll world.old events.now outs.items world.new) }
     ensures rows { (m : Machine) → Stands world.new m → IsSettled world.new

@@ -4,7 +4,7 @@ ghost use Rattle.std.specs.Coded.{codes};
 ghost use Rattle.codec.specs.declared.dc_record.DcRecord.{DcRecord};
 ghost use Rattle.system_txn.specs.Recovering.{HoldsFrames};
 
-use stable::MemLog;
+use stable::LogDevice;
 use std::marker::{Model, PhantomData, Send};
 
 #[derive(Drop)]
@@ -21,9 +21,9 @@ impl Model for Found {
 
 impl Found {
     /// Those of this log.
-    pub fn on(log: &MemLog) -> Found
-        requires { (records : List DcRecord) × HoldsFrames log.now.forced records }
-        ensures { HoldsFrames log.now.forced result.log }
+    pub fn on<D: LogDevice>(log: &D) -> Found
+        requires { (records : List DcRecord) × HoldsFrames (D.forced log.now) records }
+        ensures { HoldsFrames (D.forced log.now) result.log }
     {
         let _ = log;
         Found {

@@ -4,7 +4,7 @@ ghost use Rattle.std.specs.Coded.{codes};
 ghost use Rattle.history.specs.declared.record.Record.{Record};
 ghost use Rattle.logical_log.specs.Opening.{IsLogOf};
 
-use stable::MemLog;
+use stable::LogDevice;
 use std::marker::{Model, PhantomData, Send};
 
 #[derive(Drop)]
@@ -21,9 +21,9 @@ impl Model for FoundLog {
 
 impl FoundLog {
     /// Those of this device.
-    pub fn on(device: &MemLog) -> FoundLog
-        requires { (records : List Record) × IsLogOf device.now.forced records }
-        ensures { IsLogOf device.now.forced result.log }
+    pub fn on<D: LogDevice>(device: &D) -> FoundLog
+        requires { (records : List Record) × IsLogOf (D.forced device.now) records }
+        ensures { IsLogOf (D.forced device.now) result.log }
     {
         let _ = device;
         FoundLog {

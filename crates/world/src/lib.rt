@@ -20,6 +20,7 @@ mod found_log;
 mod laws;
 mod message;
 mod node;
+mod put;
 mod round;
 mod sent;
 mod settling;

@@ -14,19 +14,20 @@ use crate::sent::Sent;
 use crate::tc_side::TcSide;
 use codec::{Reply, Request};
 use record_key::Refusal;
+use stable::{CrashLog, CrashPages, MemLog, MemPages};
 use std::alloc::Global;
 
-/// A transaction component with its log in memory, a data component with its devices, and every message ever sent.
+/// A transaction component and a data component with their devices, and every message ever sent.
 #[derive(Drop)]
-pub struct Node {
-    pub tc: TcSide,
-    pub dc: DcSide,
+pub struct Node<D: CrashLog, P: CrashPages> {
+    pub tc: TcSide<D>,
+    pub dc: DcSide<D, P>,
     pub requests: Sent<Request>,
     pub replies: Sent<Reply>,
 }
 
-impl Node {
-    pub fn new(alloc: Global) -> Result<Node, Refusal>
+impl Node<MemLog, MemPages> {
+    pub fn new(alloc: Global) -> Result<Node<MemLog, MemPages>, Refusal>
         ensures fresh { IfOk result (λ node. seen node ≡ fresh_node) }
         ensures dc { IfOk result (λ node. IsDc (seen node).dc) }
         ensures memory { IfErr result (λ refusal. refusal ≡ Refusal.NoMemory) }
@@ -40,7 +41,9 @@ impl Node {
             replies: Sent::new(alloc),
         })
     }
+}
 
+impl<D: CrashLog, P: CrashPages> Node<D, P> {
     /// One event.
     pub fn step(&mut self, event: &Event) -> Out
         requires { IsKept (seen self.old) }

@@ -7,12 +7,17 @@ use crate::event::{Event, Out};
 use crate::round::Round;
 use crate::world::World;
 use record_key::Refusal;
+use stable::{CrashLog, CrashPages};
 
 /// Plays the first round that applies until none is left, or as many as `most` says: true where none is left.
 /// Then both components run in one session, nothing waits, nothing is being rolled back, nobody whom a crash found
 /// open is left and every record is stable. Makes no client's call. Refused NoMemory, NumbersSpent, Device; what was
 /// done before stands, with its outputs in `out`.
-pub fn settle(world: &mut World, most: Option<u64>, out: &mut Vec<Out>) -> Result<bool, Refusal>
+pub fn settle<D: CrashLog, P: CrashPages>(
+    world: &mut World<D, P>,
+    most: Option<u64>,
+    out: &mut Vec<Out>,
+) -> Result<bool, Refusal>
     ensures { Settles world.old most out.old.items out.new.items result world.new }
 {
     world.kept();
@@ -38,7 +43,11 @@ fn less_one(left: Option<u64>) -> Option<u64>
     }
 }
 
-fn play(world: &mut World, round: Round, out: &mut Vec<Out>) -> Result<(), Refusal>
+fn play<D: CrashLog, P: CrashPages>(
+    world: &mut World<D, P>,
+    round: Round,
+    out: &mut Vec<Out>,
+) -> Result<(), Refusal>
     requires kept { IsKept world.old }
     requires next { IsNext world.old round }
     ensures { Does world.old (events_of world.old round) out.old.items out.new.items result world.new }
@@ -56,7 +65,11 @@ fn play(world: &mut World, round: Round, out: &mut Vec<Out>) -> Result<(), Refus
 }
 
 /// An event that sends a request, the request's delivery, and that of its reply.
-fn exchange(world: &mut World, event: &Event, out: &mut Vec<Out>) -> Result<(), Refusal>
+fn exchange<D: CrashLog, P: CrashPages>(
+    world: &mut World<D, P>,
+    event: &Event,
+    out: &mut Vec<Out>,
+) -> Result<(), Refusal>
     requires { IsExchange world.old event.now }
     ensures { Does world.old (exchange world.old event.now) out.old.items out.new.items result world.new }
 {
@@ -68,7 +81,11 @@ fn exchange(world: &mut World, event: &Event, out: &mut Vec<Out>) -> Result<(), 
 }
 
 /// One event, with its output where it isn't refused.
-fn perform(world: &mut World, event: &Event, out: &mut Vec<Out>) -> Result<(), Refusal>
+fn perform<D: CrashLog, P: CrashPages>(
+    world: &mut World<D, P>,
+    event: &Event,
+    out: &mut Vec<Out>,
+) -> Result<(), Refusal>
     ensures { Does world.old (event.now ∷ []) out.old.items out.new.items result world.new }
 {
     if out.reserve(1).is_err() {

@@ -12,18 +12,18 @@ use crate::crashing::kept_of;
 use crate::found::Found;
 use dc_core::{Dc, Devices, Refused};
 use record_key::Refusal;
-use stable::{MemLog, MemPages};
+use stable::{CrashLog, CrashPages};
 use std::alloc::Global;
 use std::marker::Model;
 
 /// Devices that a crash left. It is seen as the component that they give once it is restarted.
 #[derive(Drop)]
-pub struct Stopped {
-    devices: Devices<MemLog, MemPages>,
+pub struct Stopped<D: CrashLog, P: CrashPages> {
+    devices: Devices<D, P>,
     found: Found,
 }
 
-impl Model for Stopped {
+impl<D: CrashLog, P: CrashPages> Model for Stopped<D, P> {
     ghost use Rattle.std.specs.Prelude.{◌≡◌, []};
     ghost use Rattle.std.specs.Coded.{codes};
     ghost use Rattle.record_key.specs.Table.{table_code};
@@ -37,34 +37,25 @@ impl Model for Stopped {
 
     ghost coded = { Prim.hlevel (codes, table_code, pages_code) };
 
-    ghost view = { λ s. found_on s.devices.log s.devices.pages s.found.log };
+    ghost view = { λ s.
+        found_on (P.pages s.devices.pages) (D.usage s.devices.log) (P.usage s.devices.pages) s.found.log };
 
-    ghost invariant = { λ s. HoldsFrames s.devices.log.forced s.found.log
-        × ((s.devices.log.pending ≡ []) × IsDc (found_on s.devices.log s.devices.pages s.found.log)) };
+    ghost invariant = { λ s. HoldsFrames (D.forced s.devices.log) s.found.log
+        × ((D.pending s.devices.log ≡ [])
+        × IsDc (found_on (P.pages s.devices.pages) (D.usage s.devices.log) (P.usage s.devices.pages) s.found.log)) };
 }
 
 /// Devices that weren't opened, and why.
 #[derive(Drop)]
-pub struct Unopened {
+pub struct Unopened<D: CrashLog, P: CrashPages> {
     pub refusal: Refusal,
-    pub stopped: Stopped,
+    pub stopped: Stopped<D, P>,
 }
 
-impl Stopped {
-    /// Devices that hold nothing.
-    pub fn empty(alloc: Global) -> Stopped {
-        let log = MemLog::new(alloc);
-        let found = Found::on(&log);
-        let pages = MemPages::new(alloc);
-        Stopped {
-            devices: Devices { log, pages },
-            found,
-        }
-    }
-
+impl<D: CrashLog, P: CrashPages> Stopped<D, P> {
     /// What a crash leaves of the component: of the records that aren't stable the first stay, so many, and of the next
     /// one at most so many bytes.
-    pub fn crashed(dc: Dc, frames: u64, bytes: u64) -> Stopped
+    pub fn crashed(dc: Dc<D, P>, frames: u64, bytes: u64) -> Stopped<D, P>
         requires { IsRecoverable dc.system }
         ensures { (kept : ℕ)
             × Keeps (dc_size dc.system.log) dc.system.stable (length dc.system.log) frames bytes kept
@@ -74,7 +65,7 @@ impl Stopped {
         let end = dc.end_of(dc.records());
         let kept = kept_of(&dc, frames, bytes);
         let Devices { mut log, mut pages } = dc.stop();
-        let forced = end - log.pending().len();
+        let forced = end - log.unforced();
         log.crash(kept.saturating_sub(forced));
         pages.crash();
         let found = Found::on(&log);
@@ -85,7 +76,7 @@ impl Stopped {
     }
 
     /// The component on its devices. Refused NoMemory, Device.
-    pub fn restart(self, alloc: Global) -> Result<Dc, Unopened>
+    pub fn restart(self, alloc: Global) -> Result<Dc<D, P>, Unopened<D, P>>
         requires { IsRecoverable self.system }
         ensures restarted { IfOk result (IsUp self) }
         ensures refused { IfErr result (λ left. IsDownWith self left.refusal left.stopped) }

@@ -10,19 +10,19 @@ use crate::crashing::bytes_kept_of;
 use crate::found_log::FoundLog;
 use logical_log::Refused;
 use record_key::Refusal;
-use stable::MemLog;
+use stable::CrashLog;
 use std::alloc::Global;
 use std::marker::Model;
 use tc_core::Tc;
 
 /// A device that a crash left. It is seen as what its log opens as.
 #[derive(Drop)]
-pub struct StoppedTc {
-    device: MemLog,
+pub struct StoppedTc<D: CrashLog> {
+    device: D,
     found: FoundLog,
 }
 
-impl Model for StoppedTc {
+impl<D: CrashLog> Model for StoppedTc<D> {
     ghost use Rattle.std.specs.Prelude.{◌≡◌, []};
     ghost use Rattle.std.specs.Coded.{codes};
     ghost use Rattle.logical_log.specs.Opening.{IsLogOf};
@@ -33,29 +33,22 @@ impl Model for StoppedTc {
 
     ghost coded = { Prim.hlevel codes };
 
-    ghost view = { λ s. opens_as s.found.log s.device.usage };
+    ghost view = { λ s. opens_as s.found.log (D.usage s.device) };
 
-    ghost invariant = { λ s. IsLogOf s.device.forced s.found.log × (s.device.pending ≡ []) };
+    ghost invariant = { λ s. IsLogOf (D.forced s.device) s.found.log × (D.pending s.device ≡ []) };
 }
 
 /// A device that wasn't opened, and why.
 #[derive(Drop)]
-pub struct UnopenedTc {
+pub struct UnopenedTc<D: CrashLog> {
     pub refusal: Refusal,
-    pub stopped: StoppedTc,
+    pub stopped: StoppedTc<D>,
 }
 
-impl StoppedTc {
-    /// A device that holds nothing.
-    pub fn empty(alloc: Global) -> StoppedTc {
-        let device = MemLog::new(alloc);
-        let found = FoundLog::on(&device);
-        StoppedTc { device, found }
-    }
-
+impl<D: CrashLog> StoppedTc<D> {
     /// What a crash leaves of the component: of the records that aren't stable the first stay, so many, and of the next
     /// one at most so many bytes.
-    pub fn crashed(tc: Tc<MemLog>, frames: u64, bytes: u64) -> StoppedTc
+    pub fn crashed(tc: Tc<D>, frames: u64, bytes: u64) -> StoppedTc<D>
         ensures { (kept : ℕ) × Keeps (tc_size tc.log) tc.stable (length tc.log) frames bytes kept
             × (result ≡ crashed tc kept) }
     {
@@ -63,14 +56,14 @@ impl StoppedTc {
         let end = tc.end_of(tc.records());
         let kept = bytes_kept_of(&tc, frames, bytes);
         let mut device = tc.stop();
-        let forced = end - device.pending().len();
+        let forced = end - device.unforced();
         device.crash(kept.saturating_sub(forced));
         let found = FoundLog::on(&device);
         StoppedTc { device, found }
     }
 
     /// The component on its device. Refused NoMemory, Device.
-    pub fn restart(self, alloc: Global) -> Result<Tc<MemLog>, UnopenedTc>
+    pub fn restart(self, alloc: Global) -> Result<Tc<D>, UnopenedTc<D>>
         ensures restarted { IfOk result (IsOpenedAgain self) }
         ensures refused { IfErr result (λ left. LacksDevice left.refusal) }
         ensures left { IfErr result (λ left. left.stopped ≡ used_so self left.stopped.usage) }

@@ -1,6 +1,6 @@
 //! The calls of the transaction component, and the messages that they send and take.
-ghost use Rattle.std.specs.Prelude.{◌≡◌, true, Some, None, IfOk, IfErr};
-ghost use Rattle.world.specs.Halves.{of_tc, HasRoom, IsSpelledIf, TcGives, TcCalls, TcSends, TcTakes};
+ghost use Rattle.std.specs.Prelude.{◌≡◌, true, false, Some, None, IfOk, IfErr};
+ghost use Rattle.world.specs.Halves.{of_tc, moves, HasRoom, IsSpelledIf, TcGives, TcCalls, TcSends, TcTakes};
 ghost use Rattle.world.specs.Node.{down_refusal, as_out, sends_at};
 ghost use Rattle.world.specs.Seen.{tc_of};
 
@@ -10,20 +10,16 @@ use crate::transaction_component::TransactionComponent;
 use codec::{Reply, Request};
 use range_locks::Span;
 use record_key::{Key, Op, Refusal};
+use stable::CrashLog;
 use std::alloc::Global;
 use tc_core::{Forced, Phase, RecoverStep, Told, UndoStep};
 
-impl TransactionComponent {
-    /// One of its events; a Reply event finds no reply of its number. What is sent has the number `next`; where that is
-    /// None there is no room for it.
-    pub fn happen(
-        &mut self,
-        alloc: Global,
-        event: &Event,
-        next: Option<u64>,
-        request: &mut Option<Request>,
-    ) -> Out
+impl<D: CrashLog> TransactionComponent<D> {
+    /// One of its events that is neither a crash nor a restart; a Reply event finds no reply of its number. What is sent
+    /// has the number `next`; where that is None there is no room for it.
+    pub fn happen(&mut self, event: &Event, next: Option<u64>, request: &mut Option<Request>) -> Out
         requires own { of_tc event.now ≡ true }
+        requires stays { moves event.now ≡ false }
         requires none { request.old ≡ None }
         ensures gives { TcGives (tc_of self.old) next event.now None result request.new (tc_of self.new) }
         ensures spelled { IsSpelledIf request.new }
@@ -47,8 +43,6 @@ impl TransactionComponent {
             Event::Checkpoint => self.checkpoint(next, request),
             Event::Tell => self.tell(next, request),
             Event::Reply { .. } => self.unsent(),
-            Event::CrashTc { frames, bytes } => self.fall(alloc, *frames, *bytes),
-            Event::RestartTc => self.rise(alloc),
             _ => unreachable!(),
         }
     }
@@ -282,25 +276,25 @@ impl TransactionComponent {
 
     /// Its crash, as an event.
     #[inline(never)]
-    fn fall(&mut self, alloc: Global, frames: u64, bytes: u64) -> Out
-        ensures { TcCalls (tc_of self.old) (Event.CrashTc frames bytes) result (tc_of self.new) }
+    pub fn fall(self, frames: u64, bytes: u64) -> (TransactionComponent<D>, Out)
+        ensures { TcCalls (tc_of self) (Event.CrashTc frames bytes) result.1 (tc_of result.0) }
     {
-        if self.crash(alloc, frames, bytes) {
-            Out::Down
-        } else {
-            Out::Nothing
-        }
+        let (left, fell) = self.crash(frames, bytes);
+        (left, if fell { Out::Down } else { Out::Nothing })
     }
 
     /// Its restart, as an event.
     #[inline(never)]
-    fn rise(&mut self, alloc: Global) -> Out
-        ensures { TcCalls (tc_of self.old) Event.RestartTc result (tc_of self.new) }
+    pub fn rise(self, alloc: Global) -> (TransactionComponent<D>, Out)
+        ensures { TcCalls (tc_of self) Event.RestartTc result.1 (tc_of result.0) }
     {
-        match attempt!(self.restart(alloc)) {
-            Some(records) => Out::Up(records),
-            None => Out::Nothing,
-        }
+        let (component, restarted) = self.restart(alloc);
+        let out = match restarted {
+            Ok(Some(records)) => Out::Up(records),
+            Ok(None) => Out::Nothing,
+            Err(refusal) => Out::Refused(refusal),
+        };
+        (component, out)
     }
 }
 

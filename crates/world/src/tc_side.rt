@@ -1,51 +1,61 @@
 //! The transaction component as half of a node, which may also step alone: it is handed the replies that it takes, and
 //! hands out the requests that it sends.
-ghost use Rattle.std.specs.Prelude.{◌≡◌, true, false, length, Some, None, OnOk, OnErr, IfOk, IfErr};
+ghost use Rattle.std.specs.Prelude.{◌≡◌, ◌≤◌, true, false, length, Some, None, OnOk, OnErr, IfOk, IfErr};
 ghost use Rattle.stable.specs.Usage.{unused};
+ghost use Rattle.logical_log.specs.Low.{stable_part};
+ghost use Rattle.logical_log.specs.Spelled.{spelled};
 ghost use Rattle.tc_core.specs.Kept.{IsTc};
 ghost use Rattle.tc_core.specs.LowWater.{IsGreatestAnnounced};
 ghost use Rattle.tc_core.specs.TcView.{fresh};
-ghost use Rattle.world.specs.Halves.{of_tc, TcLeads, TcTakes};
+ghost use Rattle.world.specs.Halves.{of_tc, moves, TcLeads, TcCalls, TcTakes};
 
 use crate::event::{Event, Out};
+use crate::put::put;
 use crate::transaction_component::TransactionComponent;
 use codec::{Reply, Request};
 use record_key::Refusal;
-use stable::MemLog;
+use stable::{CrashLog, MemLog};
 use std::alloc::Global;
 use std::marker::Model;
 use tc_core::{Phase, Tc};
 
 /// The transaction component, which runs or is down.
 #[derive(Drop)]
-pub struct TcSide {
+pub struct TcSide<D: CrashLog = MemLog> {
     alloc: Global,
-    component: TransactionComponent,
+    // None only amid a crash or a restart.
+    component: Option<TransactionComponent<D>>,
 }
 
-impl Model for TcSide {
+impl<D: CrashLog> Model for TcSide<D> {
     ghost use Rattle.world.specs.Component as sides;
 
     ghost Value = { sides.TcSide };
 
+    ghost use Rattle.std.specs.Prelude.{IsSome};
     ghost use Rattle.tc_core.specs.Kept.{IsTc};
-    ghost use Rattle.world.specs.Seen.{tc_of};
+    ghost use Rattle.world.specs.Seen.{tc_in};
 
-    ghost view = { λ s. tc_of s.component };
+    ghost view = { λ s. tc_in s.component };
 
-    ghost invariant = { λ s. IsTc (tc_of s.component).tc };
+    ghost invariant = { λ s. IsSome s.component × IsTc (tc_in s.component).tc };
 }
 
-impl TcSide {
+impl TcSide<MemLog> {
     /// One that runs, with an empty log and no session.
     pub fn new(alloc: Global) -> TcSide
         ensures { result ≡ record { up = true; tc = fresh unused } }
     {
-        let component = TransactionComponent::new(alloc);
+        let component = TransactionComponent::new(alloc, MemLog::new(alloc));
         component.kept();
-        TcSide { alloc, component }
+        TcSide {
+            alloc,
+            component: Some(component),
+        }
     }
+}
 
+impl<D: CrashLog> TcSide<D> {
     /// One event of the transaction component. A Reply event delivers `reply`; where that is None there is none of its
     /// number. What is sent has the number `next`, and is left in `request`; where that number is None there is no room
     /// for it, and an event that sends is refused NoMemory.
@@ -80,8 +90,50 @@ impl TcSide {
         requires none { request.old ≡ None }
         ensures { TcLeads self.old next event.now None result request.new self.new }
     {
-        let out = self.component.happen(self.alloc, event, next, request);
-        self.component.kept();
+        match event {
+            Event::CrashTc { frames, bytes } => self.fall(*frames, *bytes),
+            Event::RestartTc => self.rise(),
+            _ => self.happen(event, next, request),
+        }
+    }
+
+    fn happen(&mut self, event: &Event, next: Option<u64>, request: &mut Option<Request>) -> Out
+        requires own { of_tc event.now ≡ true }
+        requires stays { moves event.now ≡ false }
+        requires none { request.old ≡ None }
+        ensures { TcLeads self.old next event.now None result request.new self.new }
+    {
+        let Some(component) = &mut self.component else {
+            unreachable!();
+        };
+        let out = component.happen(event, next, request);
+        component.kept();
+        out
+    }
+
+    fn fall(&mut self, frames: u64, bytes: u64) -> Out
+        ensures calls { TcCalls self.old (Event.CrashTc frames bytes) result self.new }
+        ensures kept { IsTc self.new.tc }
+    {
+        let Some(component) = self.component.take() else {
+            unreachable!();
+        };
+        let (component, out) = component.fall(frames, bytes);
+        component.kept();
+        put(&mut self.component, component);
+        out
+    }
+
+    fn rise(&mut self) -> Out
+        ensures calls { TcCalls self.old Event.RestartTc result self.new }
+        ensures kept { IsTc self.new.tc }
+    {
+        let Some(component) = self.component.take() else {
+            unreachable!();
+        };
+        let (component, out) = component.rise(self.alloc);
+        component.kept();
+        put(&mut self.component, component);
         out
     }
 
@@ -90,8 +142,11 @@ impl TcSide {
         ensures takes { TcTakes self.old (Some reply) result self.new }
         ensures kept { IsTc self.new.tc }
     {
-        let out = self.component.take(reply);
-        self.component.kept();
+        let Some(component) = &mut self.component else {
+            unreachable!();
+        };
+        let out = component.take(reply);
+        component.kept();
         out
     }
 
@@ -106,23 +161,23 @@ impl TcSide {
     pub fn is_up(&self) -> bool
         ensures { result ≡ self.now.up }
     {
-        matches!(self.component, TransactionComponent::Up(_))
+        matches!(self.component, Some(TransactionComponent::Up(_)))
     }
 
     /// The component, where it runs. Refused NotConnected.
-    pub(crate) fn running(&self) -> Result<&Tc<MemLog>, Refusal>
+    pub(crate) fn running(&self) -> Result<&Tc<D>, Refusal>
         ensures up { OnOk result (self.now.up ≡ true) }
         ensures tc { IfOk result (λ tc. tc.now ≡ self.now.tc) }
         ensures refused { IfErr result (λ refusal. refusal ≡ Refusal.NotConnected) }
         ensures down { OnErr result (self.now.up ≡ false) }
     {
         match &self.component {
-            TransactionComponent::Up(tc) => Ok(tc),
-            TransactionComponent::Down(_) => Err(Refusal::NotConnected),
+            Some(TransactionComponent::Up(tc)) => Ok(tc),
+            Some(TransactionComponent::Down(_)) | None => Err(Refusal::NotConnected),
         }
     }
 
-    /// How far the session has come. Refused NotConnected where the component is down; so are the next four.
+    /// How far the session has come. Refused NotConnected where the component is down; so are the next five.
     pub fn phase(&self) -> Result<Phase, Refusal>
         ensures phase { IfOk result (λ phase. phase ≡ self.now.tc.phase) }
         ensures up { OnOk result (self.now.up ≡ true) }
@@ -160,6 +215,17 @@ impl TcSide {
         ensures down { OnErr result (self.now.up ≡ false) }
     {
         Ok(self.running()?.records())
+    }
+
+    /// How many bytes of the log the first records have, so many.
+    pub fn end_of(&self, count: u64) -> Result<usize, Refusal>
+        requires { count ≤ length self.now.tc.log }
+        ensures end { IfOk result (λ end. end ≡ length (spelled (stable_part self.now.tc.log count))) }
+        ensures up { OnOk result (self.now.up ≡ true) }
+        ensures refused { IfErr result (λ refusal. refusal ≡ Refusal.NotConnected) }
+        ensures down { OnErr result (self.now.up ≡ false) }
+    {
+        Ok(self.running()?.end_of(count))
     }
 
     /// The greatest number that a LowWater may announce, 0 where clients aren't served.

@@ -21,18 +21,18 @@ use dc_core::Dc;
 use history::Record;
 use page::Leaf;
 use record_key::{Key, Refusal, Value};
-use stable::MemLog;
+use stable::{CrashLog, CrashPages, MemLog, MemPages};
 use std::alloc::Global;
 use std::marker::Model;
 use tc_core::{OpenTxn, Phase, Tc};
 
 /// A node with what holds of it at every moment.
 #[derive(Drop)]
-pub struct World {
-    node: Node,
+pub struct World<D: CrashLog = MemLog, P: CrashPages = MemPages> {
+    node: Node<D, P>,
 }
 
-impl Model for World {
+impl<D: CrashLog, P: CrashPages> Model for World<D, P> {
     ghost use Rattle.std.specs.Coded.{codes};
     ghost use Rattle.record_key.specs.Table.{table_code};
     ghost use Rattle.system_txn.specs.SystemView.{pages_code};
@@ -49,7 +49,7 @@ impl Model for World {
     ghost invariant = { λ w. IsKept (seen w.node) };
 }
 
-impl World {
+impl World<MemLog, MemPages> {
     /// A new node: nothing is logged, stored or sent, and no session runs. Refused NoMemory.
     pub fn new(alloc: Global) -> Result<World, Refusal>
         ensures node { IfOk result (λ world. world ≡ fresh_node) }
@@ -60,7 +60,9 @@ impl World {
             node: Node::new(alloc)?,
         })
     }
+}
 
+impl<D: CrashLog, P: CrashPages> World<D, P> {
     /// One event. What it came to and what it left are what the components' contracts say. Whatever list machine the
     /// node stood for, it leads from there to one that the node stands for then. What holds of a node at every moment
     /// holds after it too.
@@ -82,7 +84,7 @@ impl World {
     }
 
     /// The transaction component, where it runs. Refused NotConnected.
-    fn running_tc(&self) -> Result<&Tc<MemLog>, Refusal>
+    fn running_tc(&self) -> Result<&Tc<D>, Refusal>
         ensures up { OnOk result (self.now.tc_up ≡ true) }
         ensures tc { IfOk result (λ tc. tc.now ≡ self.now.tc) }
         ensures refused { IfErr result (λ refusal. refusal ≡ Refusal.NotConnected) }
@@ -92,7 +94,7 @@ impl World {
     }
 
     /// The data component, where it runs. Refused NotConnected.
-    fn running_dc(&self) -> Result<&Dc, Refusal>
+    fn running_dc(&self) -> Result<&Dc<D, P>, Refusal>
         ensures up { OnOk result (self.now.dc_up ≡ true) }
         ensures dc { IfOk result (λ dc. dc.now ≡ self.now.dc) }
         ensures refused { IfErr result (λ refusal. refusal ≡ Refusal.NotConnected) }
@@ -223,7 +225,7 @@ impl World {
 }
 
 /// The transaction component has no session that the data component runs.
-fn is_apart(tc: &Tc<MemLog>, dc: &Dc) -> bool
+fn is_apart<D: CrashLog, P: CrashPages>(tc: &Tc<D>, dc: &Dc<D, P>) -> bool
     ensures { IsTrue result ↔ AreApart tc.now dc.now }
 {
     matches!(tc.phase(), Phase::Unconnected | Phase::Connecting) || dc.session() != tc.session()

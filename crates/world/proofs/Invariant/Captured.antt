@@ -1,7 +1,6 @@
 -- Up to which number a leaf has captured.
 use Rattle.std.proofs.Common.{◌≡◌, ℕ, ◌<◌, ◌≤◌, ◌==◌, Bool, true, false, List, [], ◌∷◌, length, refl, ap, ◌∙◌, arith, inl, inr, sym, true≢false, eq-eqb}
-use Rattle.std.specs.Prelude.{◌||◌, nat_le, max}
-use Rattle.std.specs.List.{AllByRecursion}
+use Rattle.std.specs.Prelude.{◌||◌, nat_le}
 use Rattle.std.proofs.lemmas.Bool.{cases_Bool, cases_lt, or_cases, or_right}
 use Rattle.std.proofs.lemmas.Bool.Decides.{nat_tests}
 use Rattle.record_key.specs.declared.entry.Entry.{Entry}
@@ -12,12 +11,11 @@ use Rattle.log_laws.proofs.LegalLogs.{request_number}
 use Rattle.ab_lsn.specs.AbLsn.{captures, stands_in}
 use Rattle.page.specs.Leaf.{LeafView}
 use Rattle.page.specs.Honest.{IsSavedRight, IsHonestLeaf}
-use Rattle.page.specs.Tops.{is_within, all_within}
+use Rattle.page.specs.Tops.{is_within}
 use Rattle.page.proofs.UpTo.{AreUpTo, none_above}
 use Rattle.recovery_laws.specs.Ready.{IsHonestTo}
 use Rattle.system_txn.proofs.Replacing.{up_to_top}
-use Rattle.world.specs.Kept.{IsKept, IsLowAnswered}
-use Rattle.world.specs.Node.{NodeView}
+use Rattle.world.specs.Kept.{IsLowAnswered}
 use Rattle.world.specs.Source.{Source}
 use Rattle.world.proofs.Invariant.Announced.{most_sure}
 

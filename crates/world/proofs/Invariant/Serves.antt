@@ -1,15 +1,13 @@
 -- A served request keeps what holds of a node, and its reply is true.
-use Rattle.std.proofs.Common.{◌≡◌, ℕ, ◌<◌, ◌≤◌, Bool, true, false, List, [], ◌∷◌, length, Option, Some, None, IfSome, MatchBool, refl, sym, ap, ◌∙◌, subst, arith, inl, inr, true≢false}
-use Rattle.std.specs.Prelude.{◌&&◌, not, max, nat_lt, if◌then◌else◌, Err}
+use Rattle.std.proofs.Common.{◌≡◌, ℕ, ◌<◌, ◌≤◌, Bool, true, false, List, ◌∷◌, length, Option, Some, None, IfSome, MatchBool, refl, sym, ap, ◌∙◌, subst, arith, inl, inr}
+use Rattle.std.specs.Prelude.{max, Err}
 use Rattle.std.proofs.lemmas.Bool.{cases_Bool, MatchBool-at_true, MatchBool-at_false}
-use Rattle.std.proofs.lemmas.Bool.Decides.{nat_tests}
 use Rattle.record_key.specs.declared.refusal.Refusal.{Refusal}
 use Rattle.record_key.specs.declared.refusal.Refusal.TheVariants.{Device}
 use Rattle.stable.specs.Usage.{Usage, called, failed}
 use Rattle.system_txn.specs.Uses.{refused_use}
 use Rattle.record_key.specs.Table.{Bytes, key_of, answer_in}
 use Rattle.history.specs.declared.record.Record.{Record}
-use Rattle.history.specs.Log.{Requests}
 use Rattle.history.specs.Spans.{is_within, rows_in}
 use Rattle.history.specs.Values.{value_on}
 use Rattle.range_locks.specs.declared.span.Span.{Span}
@@ -33,8 +31,6 @@ use Rattle.page.specs.Tops.{all_within}
 use Rattle.btree.proofs.Changing.{all_mapped}
 use Rattle.logical_log.specs.LogView.{last_not_session}
 use Rattle.system_txn.specs.Gives.{HaveImages, CheckpointGives, StopsCheckpoint, AcceptGives}
-use Rattle.std.specs.List.{AllByRecursion}
-use Rattle.dc_core.specs.declared.performance.Performance.{Performance}
 use Rattle.dc_core.specs.DcView.{DcView, leaves, captures_at, value_at}
 use Rattle.dc_core.specs.Kept.{IsDc}
 use Rattle.dc_core.specs.Serves.{Serves, ServeGives, Stops, StopsUnless, serve_refusal, runs, with_system, connected, knows, performs, lowers, range}

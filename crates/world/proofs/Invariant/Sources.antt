@@ -1,6 +1,5 @@
 -- The source of the cached leaves, and what follows for the transactions' log from what holds of it.
-use Rattle.std.proofs.Common.{◌≡◌, ℕ, ◌+◌, ◌<◌, ◌≤◌, true, false, List, [], ◌∷◌, ◌++◌, length, refl, sym, ap, subst, arith, inl, inr, ◌⊎◌, true≢false}
-use Rattle.std.proofs.lemmas.Bool.{cases_Bool}
+use Rattle.std.proofs.Common.{◌≡◌, ℕ, ◌+◌, ◌≤◌, true, List, [], ◌∷◌, ◌++◌, length, refl, sym, ap, subst, arith, inl, inr, ◌⊎◌, true≢false}
 use Rattle.std.specs.List.{AllByRecursion}
 use Rattle.std.proofs.lemmas.List.{length-append}
 use Rattle.record_key.specs.declared.op.Op.{Op}
@@ -11,7 +10,6 @@ use Rattle.history.specs.Log.{Requests}
 use Rattle.log_laws.proofs.Records.{ARequest, kept_at}
 use Rattle.log_laws.proofs.LegalLogs.{request_number}
 use Rattle.logical_log.proofs.Answered.{part_longer}
-use Rattle.ab_lsn.specs.AbLsn.{captures}
 use Rattle.page.specs.Leaf.{LeafView}
 use Rattle.page.proofs.Honest.{honest_uncaptured}
 use Rattle.recovery_laws.specs.Ready.{IsHonestTo}

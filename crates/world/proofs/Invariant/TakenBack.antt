@@ -1,25 +1,22 @@
 -- What a Connect that is taken takes back at the data component, and what is left.
-use Rattle.std.proofs.Common.{◌≡◌, ℕ, ◌+◌, ◌<◌, ◌≤◌, Bool, true, false, List, [], ◌∷◌, ◌++◌, length, refl, sym, ap, ◌∙◌, subst, arith, inl, inr, true≢false}
-use Rattle.std.specs.Prelude.{map, not, nat_lt, filter, if◌then◌else◌}
+use Rattle.std.proofs.Common.{◌≡◌, ℕ, ◌<◌, ◌≤◌, Bool, true, false, List, [], ◌∷◌, ◌++◌, length, refl, sym, ap, ◌∙◌, subst, arith, inl, inr}
+use Rattle.std.specs.Prelude.{not, nat_lt, if◌then◌else◌}
 use Rattle.std.specs.List.{AllByRecursion}
-use Rattle.std.proofs.lemmas.Bool.{cases_Bool, cases_eq, cases_lt}
+use Rattle.std.proofs.lemmas.Bool.{cases_lt}
 use Rattle.std.proofs.lemmas.Bool.Decides.{nat_tests}
-use Rattle.std.proofs.lemmas.List.{length-append, append_assoc}
+use Rattle.std.proofs.lemmas.List.{append_assoc}
 use Rattle.record_key.specs.declared.op.Op.{Op}
 use Rattle.record_key.specs.Entries.{RiseAbove}
-use Rattle.record_key.specs.Table.{Bytes, key_of, AreAdds}
+use Rattle.record_key.specs.Table.{key_of}
 use Rattle.record_key.proofs.Lists.{all_from}
 use Rattle.history.specs.declared.record.Record.{Record}
-use Rattle.history.specs.declared.record.Record.TheVariants as is
 use Rattle.history.specs.Log.{record_at, Requests}
-use Rattle.ab_lsn.specs.AbLsn.{captures}
 use Rattle.page.specs.Leaf.{LeafView, IsLeaf}
 use Rattle.page.specs.Honest.{IsHonestLeaf, AreSessions}
 use Rattle.page.specs.TakingBack.{taken_back}
 use Rattle.page.proofs.Honest.{honest_longer}
 use Rattle.page.proofs.TakingBack.{honest_back}
 use Rattle.btree.specs.Leaves.{leaf_at}
-use Rattle.btree.proofs.Changing.{all_mapped}
 use Rattle.dc_core.specs.declared.performance.Performance.{Performance}
 use Rattle.dc_core.specs.DcView.{leaves}
 use Rattle.dc_core.specs.Serves.{MayTakeBack, kept_to}

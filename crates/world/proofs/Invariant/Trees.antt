@@ -6,14 +6,13 @@ use Rattle.std.proofs.lemmas.Bool.{or_cases, and_parts}
 use Rattle.std.proofs.lemmas.Bool.Decides.{nat_tests}
 use Rattle.record_key.specs.Table.{Bytes, key_of}
 use Rattle.record_key.proofs.Lists.{all_from}
-use Rattle.history.specs.declared.record.Record.{Record}
 use Rattle.codec.specs.declared.dc_record.DcRecord.{DcRecord}
 use Rattle.ab_lsn.specs.AbLsn.{captures}
-use Rattle.ab_lsn.specs.Parting.{is_under, is_from}
+use Rattle.ab_lsn.specs.Parting.{is_from}
 use Rattle.ab_lsn.proofs.Capturing.{raised_captures, joined_captures}
 use Rattle.page.specs.Leaf.{LeafView, first, is_in_fences, raised_to}
 use Rattle.page.specs.Tops.{is_within, are_within, all_within}
-use Rattle.page.specs.Parting.{lower_of, upper_of, joined_of}
+use Rattle.page.specs.Parting.{upper_of, joined_of}
 use Rattle.page.specs.Honest.{IsHonestLeaf, IsCapturedTo}
 use Rattle.page.proofs.Raising.{honest_raised}
 use Rattle.btree.specs.Leaves.{leaf_at}
@@ -21,8 +20,7 @@ use Rattle.btree.specs.Parting.{middle, may_split_at, may_merge_at, split_at, me
 use Rattle.btree.specs.TreeLaw.{AreHonest, AreCapturedAt}
 use Rattle.btree.proofs.AtKey.{captured_split, captured_merged, captured_raised}
 use Rattle.btree.proofs.Changing.{all_mapped}
-use Rattle.btree.proofs.Splitting.{all_split}
-use Rattle.btree.proofs.Merging.{AtPair, all_merged, both_there, pair_all, pair_with}
+use Rattle.btree.proofs.Merging.{both_there, pair_all}
 use Rattle.btree.proofs.Places.{split_within, merge_within}
 use Rattle.btree.proofs.Whole.{all_get}
 use Rattle.btree.proofs.Stays.{split_honest, merged_honest}

@@ -1,6 +1,5 @@
 -- A crash of the data component, and its restart, keep what holds of a node.
-use Rattle.std.proofs.Common.{◌≡◌, ℕ, ◌-◌, ◌<◌, ◌≤◌, Bool, true, List, [], ◌∷◌, length, None, refl, sym, ap, subst, arith, inl}
-use Rattle.std.specs.Prelude.{max}
+use Rattle.std.proofs.Common.{◌≡◌, ℕ, ◌-◌, ◌<◌, ◌≤◌, Bool, true, List, [], ◌∷◌, length, None, refl, sym, subst, arith}
 use Rattle.std.specs.List.{AllByRecursion}
 use Rattle.std.proofs.lemmas.List.{length-drop}
 use Rattle.record_key.specs.declared.entry.Entry.{Entry}
@@ -15,7 +14,7 @@ use Rattle.recovery_laws.specs.Shape.{beginning}
 use Rattle.recovery_laws.specs.Recovery.{stored_session}
 use Rattle.recovery_laws.specs.Laws.{IsKeptByCuts}
 use Rattle.recovery_laws.specs.Ready.{IsHonestTo}
-use Rattle.recovery_laws.proofs.Beginnings.{whole, twice}
+use Rattle.recovery_laws.proofs.Beginnings.{twice}
 use Rattle.recovery_laws.proofs.Honesty.{captures_fewer, cuts_keep_honest}
 use Rattle.ab_lsn.specs.Parting.{is_under}
 use Rattle.system_txn.specs.SystemView.{SystemView}

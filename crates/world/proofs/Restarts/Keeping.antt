@@ -1,7 +1,8 @@
 -- What a crash keeps of a log, by how many bytes its first records have.
-use Rattle.std.proofs.Common.{◌≡◌, ℕ, ◌+◌, ◌-◌, ◌≤◌, List, ◌++◌, length, take, refl, sym, ◌∙◌, arith, inl, inr}
+use Rattle.std.proofs.Common.{◌≡◌, ℕ, ◌+◌, ◌-◌, ◌≤◌, List, ◌++◌, length, take, drop, refl, sym, ap, ◌∙◌, append_assoc, arith, inl, inr}
 use Rattle.std.proofs.lemmas.Bool.{cases_lt, lt-ltb, le-ltb}
-use Rattle.std.proofs.lemmas.List.{length-append, length-take-le}
+use Rattle.std.proofs.lemmas.List.{length-append, length-take-le, take-append-drop}
+use Rattle.stable.specs.Crash.{MayLeave}
 use Rattle.world.specs.Component.{lesser, bytes_left, Keeps}
 
 -- ---- the lesser of two
@@ -86,3 +87,15 @@ cut_to kept forced pending low high =
     let parts = length-append forced (take (kept - length forced) pending) in
     let taken = length-take-le (kept - length forced) pending (omega (arith, low, high)) in
     omega (arith, parts, taken, low)
+
+-- ---- what is kept of the pending bytes
+
+pub may_leave : (forced pending : List ℕ) (kept : ℕ) → MayLeave forced pending (forced ++ take kept pending)
+may_leave forced pending kept = record {
+  beginning = (
+    drop kept pending,
+    ap (λ p. forced ++ p) (sym (take-append-drop kept pending))
+        ∙ sym (append_assoc forced (take kept pending) (drop kept pending)),
+  );
+  has_forced = (take kept pending, refl);
+}

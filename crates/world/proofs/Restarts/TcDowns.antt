@@ -1,9 +1,10 @@
 -- What a crash leaves of the transaction component's device, and what it opens as.
-use Rattle.std.proofs.Common.{◌≡◌, ℕ, ◌+◌, ◌-◌, ◌≤◌, List, [], ◌++◌, length, take, refl, sym, ap, ◌∙◌, subst, arith, inl}
+use Rattle.std.proofs.Common.{◌≡◌, ℕ, ◌+◌, ◌-◌, ◌≤◌, List, [], ◌++◌, length, take, sym, ap, ◌∙◌, subst, arith}
 use Rattle.std.proofs.lemmas.List.{length-append}
 use Rattle.history.specs.declared.record.Record.{Record}
 use Rattle.stable.specs.Crash.{BeginsWith, MayLeave}
 use Rattle.stable.specs.LogState.{LogState, with_bytes}
+use Rattle.stable.specs.Usage.{Usage}
 use Rattle.logical_log.specs.Low.{stable_part}
 use Rattle.logical_log.specs.Opening.{IsLogOf}
 use Rattle.logical_log.specs.Spelled.{spelled, AreRecords}
@@ -12,21 +13,8 @@ use Rattle.tc_core.specs.TcView.{TcView, used_so}
 use Rattle.tc_core.specs.Kept.{IsTc}
 use Rattle.tc_core.specs.Opened.{opens_as, crashed}
 use Rattle.world.specs.Component.{bytes_left, Keeps, tc_size}
-use Rattle.world.proofs.Restarts.Keeping.{left_stable, left_within, keeps_of, cut_to}
+use Rattle.world.proofs.Restarts.Keeping.{left_stable, left_within, keeps_of, cut_to, may_leave}
 use Rattle.world.proofs.Restarts.Ends.{part_all, records_longer}
-
--- ---- devices that hold nothing
-
-no_bytes : IsLogOf [] []
-unfolding spelled
-no_bytes = record {
-  left = [];
-  begins = record { legal = tt; spellable = tt; numbered = omega arith; parts = refl };
-  cut = inl (omega arith);
-}
-
-pub no_records : (bytes : List ℕ) → bytes ≡ [] → IsLogOf bytes []
-no_records bytes none = let P : List ℕ → Type 0 = λ b. IsLogOf b [] in subst P (sym none) no_bytes
 
 -- ---- a crash
 
@@ -64,15 +52,16 @@ module _ (w : TcView) (device : LogState) where
       → end ≡ length device.forced + length device.pending → cut ≡ kept - (end - length device.pending)
       → IsHalted w device
       → device' ≡ with_bytes device (device.forced ++ take cut device.pending) []
-      → MayLeave device.forced device.pending device'.forced
       → kept ≡ bytes_left (tc_size w.log) w.stable (length w.log) more bytes
       → IsTcCrash w more bytes kept device device'
-  tc_crash_of more bytes kept end cut device' all is halted left may kept_is =
+  tc_crash_of more bytes kept end cut device' all is halted left kept_is =
       let so : cut ≡ kept - length device.forced = omega (arith, all, is) in
+      let May : List ℕ → Type 0 = λ forced. MayLeave device.forced device.pending forced in
       record {
         halted = halted;
         left = left ∙ ap (λ n. with_bytes device (device.forced ++ take n device.pending) []) so;
-        law = may;
+        law = subst May (sym (ap (λ (l : LogState). l.forced) left))
+            (may_leave device.forced device.pending cut);
         kept_is = kept_is;
       }
 
@@ -122,9 +111,9 @@ module _ (w : TcView) (device : LogState) where
 
 -- ---- what isn't opened
 
-pub tc_unopened : (old new : LogState) (log later : List Record) → IsLogOf old.forced log
-    → new.forced ≡ old.forced → IsLogOf new.forced later
-    → opens_as later new.usage ≡ used_so (opens_as log old.usage) new.usage
-tc_unopened old new log later holds left again =
-    let same : later ≡ log = opens_once old.forced later log (subst (λ b. IsLogOf b later) left again) holds in
-    ap (λ l. opens_as l new.usage) same
+pub tc_unopened : (bytes bytes' : List ℕ) (usage usage' : Usage) (log later : List Record) → IsLogOf bytes log
+    → bytes' ≡ bytes → IsLogOf bytes' later
+    → opens_as later usage' ≡ used_so (opens_as log usage) usage'
+tc_unopened bytes bytes' usage usage' log later holds left again =
+    let same : later ≡ log = opens_once bytes later log (subst (λ b. IsLogOf b later) left again) holds in
+    ap (λ l. opens_as l usage') same

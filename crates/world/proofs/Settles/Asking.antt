@@ -3,7 +3,6 @@ use Rattle.std.proofs.Common.{◌≡◌, ℕ, ◌+◌, ◌∷◌, [], length, re
 use Rattle.std.proofs.lemmas.Bool.{MatchBool-at_true}
 use Rattle.std.proofs.lemmas.List.{length-append}
 use Rattle.codec.specs.declared.request.Request.{Request}
-use Rattle.codec.specs.declared.request.Request.TheVariants as asks
 use Rattle.tc_core.specs.TcView.{TcView}
 use Rattle.tc_core.specs.declared.phase.Phase.{Phase}
 use Rattle.tc_core.specs.Recovery.{SendsAt}

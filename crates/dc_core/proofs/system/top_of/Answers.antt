@@ -6,7 +6,7 @@ use Rattle.dc_core.proofs.Leaves.{top_more}
 use Rattle.dc_core.proofs.system.top_of.Goals as goal
 
 pub loop-place-preserved : goal.loop-place-preserved
-loop-place-preserved c =
+loop-place-preserved g c =
     let leaves = c.args.system.now.leaves in
     let within : c.loop-place.place < length leaves =
     omega (arith, c.loop-place-test.true, c.len-place-end.ensures.count) in
@@ -15,7 +15,7 @@ loop-place-preserved c =
     omega (arith, more, read, c.loop-place.invariant, c.max-most.ensures)
 
 pub returns : goal.returns
-returns c =
+returns g c =
     let leaves = c.args.system.now.leaves in
     let most : length leaves ≤ c.loop-place.place =
     omega (arith, c.loop-place-test.false, c.len-place-end.ensures.count) in

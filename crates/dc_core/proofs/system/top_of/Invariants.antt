@@ -4,4 +4,4 @@ use Rattle.dc_core.proofs.system.top_of.Given as goal
 
 -- the greatest number in the leaves so far
 abbrev pub invariant-loop-place : goal.invariant-loop-place
-invariant-loop-place l = l.most ≡ top_of (take l.place l.system.leaves)
+invariant-loop-place g l = l.most ≡ top_of (take l.place l.system.leaves)

@@ -5,7 +5,7 @@ use Rattle.world.proofs.Restarts.Keeping.{lesser_next}
 use Rattle.world.proofs.crashing.bytes_kept_of.Goals as goal
 
 pub with_part-requires : goal.with_part-requires
-with_part-requires c =
+with_part-requires g c =
     omega (
       arith,
       records_longer c.args.tc.now.log c.whole_of-whole.result c.after.result c.after.ensures.next,
@@ -14,7 +14,7 @@ with_part-requires c =
     )
 
 pub returns : goal.returns
-returns c =
+returns g c =
     let size : ℕ → ℕ = tc_size c.args.tc.now.log in
     let stable : ℕ = c.args.tc.now.stable in
     let count : ℕ = length c.args.tc.now.log in

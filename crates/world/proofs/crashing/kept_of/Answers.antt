@@ -5,7 +5,7 @@ use Rattle.world.proofs.Restarts.Keeping.{lesser_next}
 use Rattle.world.proofs.crashing.kept_of.Goals as goal
 
 pub with_part-requires : goal.with_part-requires
-with_part-requires c =
+with_part-requires g c =
     omega (
       arith,
       spelled_longer c.args.dc.now.system.log c.whole_of-whole.result c.after.result c.after.ensures.next,
@@ -14,7 +14,7 @@ with_part-requires c =
     )
 
 pub returns : goal.returns
-returns c =
+returns g c =
     let size : ℕ → ℕ = dc_size c.args.dc.now.system.log in
     let stable : ℕ = c.args.dc.now.system.stable in
     let count : ℕ = length c.args.dc.now.system.log in

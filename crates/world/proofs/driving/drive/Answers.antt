@@ -3,7 +3,7 @@ use Rattle.world.proofs.Machine.Headline.{leads_more, chain_more}
 use Rattle.world.proofs.driving.drive.Goals as goal
 
 pub loop-event-init : goal.loop-event-init
-loop-event-init c = record {
+loop-event-init g c = record {
   chain = rw c.in_ok-outs.ensures.items refl;
   run = rw c.in_ok-outs.ensures.items (λ m stands. (m, refl, stands));
   count = omega (arith, c.in_ok-outs.ensures.len);
@@ -11,7 +11,7 @@ loop-event-init c = record {
 }
 
 pub loop-event-preserved : goal.loop-event-preserved
-loop-event-preserved c = record {
+loop-event-preserved g c = record {
   chain = rw c.in-Ok.ensures.items
       (chain_more c.args.world.now c.args.events.now c.loop-event.event-index c.loop-event.outs.items c.loop-event.world
       c.event-item.result c.step-out.result c.step-out.new.self

@@ -6,7 +6,7 @@ use Rattle.world.proofs.driving.drive.Given as goal
 
 -- the events so far are a chain and a run, and there is room for the outputs of the rest
 abbrev pub invariant-loop-event : goal.invariant-loop-event
-invariant-loop-event l = record {
+invariant-loop-event g l = record {
   chain : Chain l.initial.world (take l.event-index l.events) l.outs.items l.world;
   run : LeadsAll l.initial.world (take l.event-index l.events) l.outs.items l.world;
   count : vec_len l.outs ≡ l.event-index;

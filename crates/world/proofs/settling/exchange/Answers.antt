@@ -58,7 +58,7 @@ third w mid after new e i j a b c d result asks first number second reply h =
         c d r served h)
 
 pub returns-in_err-perform-2 : goal.returns-in_err-perform-2
-returns-in_err-perform-2 c =
+returns-in_err-perform-2 g c =
     second_failed c.args.world.now c.perform.new.world c.perform-2.new.world c.args.event.now c.requests-request.result
     c.args.out.now.items c.perform.new.out.items c.perform-2.new.out.items
     c.in_err-perform-2.field-0.0 c.from_residual-in_err-perform-2.result c.requires c.in_ok-perform.ensures
@@ -66,7 +66,7 @@ returns-in_err-perform-2 c =
     c.from_residual-in_err-perform-2.ensures.1
 
 pub returns : goal.returns
-returns c =
+returns g c =
     third c.args.world.now c.perform.new.world c.perform-2.new.world c.perform-3.new.world c.args.event.now
     c.requests-request.result c.replies-reply.result
     c.args.out.now.items c.perform.new.out.items c.perform-2.new.out.items c.perform-3.new.out.items c.perform-3.result

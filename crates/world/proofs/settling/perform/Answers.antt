@@ -4,7 +4,7 @@ use Rattle.world.proofs.Settles.Playing.{done_if, one_done}
 use Rattle.world.proofs.settling.perform.Goals as goal
 
 pub returns-in_default : goal.returns-in_default
-returns-in_default c =
+returns-in_default g c =
     one_done c.args.world.now c.step.new.self c.args.event.now c.step.result c.args.out.now.items
     c.push_reserved.new.self.items c.step.ensures
     (done_if c.step.result c.in_default.not-Refused)

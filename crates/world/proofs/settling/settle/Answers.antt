@@ -13,7 +13,7 @@ use Rattle.world.proofs.Settles.Telling.{tells_rounds}
 use Rattle.world.proofs.settling.settle.Goals as goal
 
 pub loop-round-init : goal.loop-round-init
-loop-round-init c = record {
+loop-round-init g c = record {
   far = none_yet c.args.world.now c.args.most c.args.out.now.items;
   kept = c.kept.ensures.kept;
 }
@@ -28,7 +28,7 @@ unspent left h e = let P : Option ℕ → Type 0 = λ x. false ≡ option_eq (λ
     true≢false (sym (subst P e h))
 
 pub returns-then-eq : goal.returns-then-eq
-returns-then-eq c =
+returns-then-eq g c =
     let far = c.loop-round.invariant.far in
     let next : IsNext c.loop-round.world c.in-Some.round = c.in-Some.ensures in (
       far.played,
@@ -52,7 +52,7 @@ refused old new most before after r (Err q) h same = let P : Refusal → Type 0 
     λ x. Settles old most before after (Err x) new in subst P (sym same) h
 
 pub returns-in_err-play : goal.returns-in_err-play
-returns-in_err-play c =
+returns-in_err-play g c =
     refused c.args.world.now c.play.new.world c.args.most c.args.out.now.items c.play.new.out.items
     c.in_err-play.field-0.0 c.from_residual.result
     (broken c.args.world.now c.loop-round.world c.play.new.world c.args.most c.loop-round.left c.args.out.now.items
@@ -63,13 +63,13 @@ returns-in_err-play c =
     c.from_residual.ensures.1
 
 pub loop-round-smaller : goal.loop-round-smaller
-loop-round-smaller c =
+loop-round-smaller g c =
     let done = c.in_ok-play.ensures in
     falls c.loop-round.world c.play.new.world c.in-Some.round done.outs c.loop-round.invariant.kept c.in-Some.ensures
     done.steps
 
 pub loop-round-preserved : goal.loop-round-preserved
-loop-round-preserved c = record {
+loop-round-preserved g c = record {
   far = rw (c.less_one-left.ensures)
       (one_more c.args.world.now c.loop-round.world c.play.new.world c.args.most c.loop-round.left c.args.out.now.items
       c.loop-round.out.items c.play.new.out.items c.in-Some.round
@@ -80,7 +80,7 @@ loop-round-preserved c = record {
 }
 
 pub returns : goal.returns
-returns c =
+returns g c =
     let far = c.loop-round.invariant.far in (
       far.played,
       allowed c.args.most c.loop-round.left (length far.played.rounds) far.left_is,

@@ -4,10 +4,10 @@ use Rattle.world.proofs.Settles.Playing.{SoFar}
 use Rattle.world.proofs.settling.settle.Given as goal
 
 abbrev pub invariant-loop-round : goal.invariant-loop-round
-invariant-loop-round l = record {
+invariant-loop-round g l = record {
   far : SoFar l.initial.world l.fn.most l.initial.out.items l.left l.out.items l.world;
   kept : IsKept l.world;
 }
 
 abbrev pub decreases-loop-round : goal.decreases-loop-round
-decreases-loop-round l = rounds_left l.world
+decreases-loop-round g l = rounds_left l.world

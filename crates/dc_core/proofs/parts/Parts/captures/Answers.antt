@@ -5,7 +5,7 @@ use Rattle.system_txn.proofs.Places.{leaf_there}
 use Rattle.dc_core.proofs.parts.Parts.captures.Goals as goal
 
 pub returns : goal.returns
-returns c =
+returns g c =
     let at = c.place_of-place.ensures in
     c.captures-2.ensures
     ∙ ap (λ (leaf : LeafView). captures leaf.ab c.args.number)

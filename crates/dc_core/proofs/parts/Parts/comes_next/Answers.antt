@@ -7,7 +7,7 @@ use Rattle.dc_core.proofs.Walks.{all_get, all_more, all_through, all_turned, all
 use Rattle.dc_core.proofs.parts.Parts.comes_next.Goals as goal
 
 pub returns-then-not-may_follow : goal.returns-then-not-may_follow
-returns-then-not-may_follow c =
+returns-then-not-may_follow g c =
     let performed = c.args.self.now.performed in
     let P : Performance → Type 0 =
     λ p. key_of p.op ≡ key_of c.args.op.now → (p.number < c.args.number) ⊎ AreAdds c.args.op.now p.op in (
@@ -21,7 +21,7 @@ returns-then-not-may_follow c =
     )
 
 pub loop-place-preserved : goal.loop-place-preserved
-loop-place-preserved c =
+loop-place-preserved g c =
     let performed = c.args.self.now.performed in
     let P : Performance → Type 0 =
     λ p. key_of p.op ≡ key_of c.args.op.now → (p.number < c.args.number) ⊎ AreAdds c.args.op.now p.op in
@@ -29,7 +29,7 @@ loop-place-preserved c =
     (sym c.get.ensures ∙ c.in-Some.is) c.loop-place.invariant (c.may_follow.ensures.0 c.if-not-may_follow.false)
 
 pub returns : goal.returns
-returns c =
+returns g c =
     let performed = c.args.self.now.performed in
     let P : Performance → Type 0 =
     λ p. key_of p.op ≡ key_of c.args.op.now → (p.number < c.args.number) ⊎ AreAdds c.args.op.now p.op in

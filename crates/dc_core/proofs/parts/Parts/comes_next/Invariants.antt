@@ -7,7 +7,7 @@ use Rattle.dc_core.proofs.parts.Parts.comes_next.Given as goal
 
 -- the operation may follow the oldest performances so far
 abbrev pub invariant-loop-place : goal.invariant-loop-place
-invariant-loop-place l =
+invariant-loop-place g l =
     AllByRecursion
     (λ (p : Performance). key_of p.op ≡ key_of l.op → (p.number < l.number) ⊎ AreAdds l.op p.op)
     (take l.place (reverse l.self.performed))

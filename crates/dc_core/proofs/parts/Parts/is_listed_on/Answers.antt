@@ -6,7 +6,7 @@ use Rattle.dc_core.proofs.Walks.{all_get, all_more, all_through, all_turned, all
 use Rattle.dc_core.proofs.parts.Parts.is_listed_on.Goals as goal
 
 pub returns-then-not-is_on : goal.returns-then-not-is_on
-returns-then-not-is_on c =
+returns-then-not-is_on g c =
     let performed = c.args.self.now.performed in
     let P : Performance → Type 0 = λ p. p.number ≡ c.args.number → key_of p.op ≡ c.args.key.now in (
       λ wrong. absurd (cc),
@@ -19,7 +19,7 @@ returns-then-not-is_on c =
     )
 
 pub loop-place-preserved : goal.loop-place-preserved
-loop-place-preserved c =
+loop-place-preserved g c =
     let performed = c.args.self.now.performed in
     let P : Performance → Type 0 = λ p. p.number ≡ c.args.number → key_of p.op ≡ c.args.key.now in
     all_more P (reverse performed) c.loop-place.place c.in-Some.done
@@ -27,7 +27,7 @@ loop-place-preserved c =
     (λ same. sym c.key.ensures ∙ c.is_on.ensures.0 c.if-not-is_on.false same)
 
 pub returns : goal.returns
-returns c =
+returns g c =
     let performed = c.args.self.now.performed in
     let P : Performance → Type 0 = λ p. p.number ≡ c.args.number → key_of p.op ≡ c.args.key.now in
     let most : length (reverse performed) ≤ c.loop-place.place =

@@ -6,6 +6,6 @@ use Rattle.dc_core.proofs.parts.Parts.is_listed_on.Given as goal
 
 -- the oldest performances so far have it on the key
 abbrev pub invariant-loop-place : goal.invariant-loop-place
-invariant-loop-place l =
+invariant-loop-place g l =
     AllByRecursion (λ (p : Performance). p.number ≡ l.number → key_of p.op ≡ l.key)
     (take l.place (reverse l.self.performed))

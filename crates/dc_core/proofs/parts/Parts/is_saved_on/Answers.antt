@@ -7,7 +7,7 @@ use Rattle.dc_core.proofs.Walks.{all_get, all_more, all_through}
 use Rattle.dc_core.proofs.parts.Parts.is_saved_on.Goals as goal
 
 pub returns-then-not-are_on : goal.returns-then-not-are_on
-returns-then-not-are_on c =
+returns-then-not-are_on g c =
     let leaves = c.args.self.now.system.leaves in
     let IsOn : List Entry → Type 0 =
     AllByRecursion (λ (e : Entry). e.number ≡ c.args.number → e.key ≡ c.args.key.now) in
@@ -25,7 +25,7 @@ returns-then-not-are_on c =
     )
 
 pub loop-place-preserved : goal.loop-place-preserved
-loop-place-preserved c =
+loop-place-preserved g c =
     let leaves = c.args.self.now.system.leaves in
     let IsOn : List Entry → Type 0 =
     AllByRecursion (λ (e : Entry). e.number ≡ c.args.number → e.key ≡ c.args.key.now) in
@@ -38,7 +38,7 @@ loop-place-preserved c =
     c.loop-place.invariant (subst IsOn read (c.are_on.ensures.0 c.if-not-are_on.false))
 
 pub returns : goal.returns
-returns c =
+returns g c =
     let leaves = c.args.self.now.system.leaves in
     let most : length leaves ≤ c.loop-place.place =
     omega (arith, c.loop-place-test.false, c.len-place-end.ensures.count) in

@@ -6,7 +6,7 @@ use Rattle.dc_core.proofs.parts.Parts.is_saved_on.Given as goal
 
 -- the entries of the leaves so far have it on the key
 abbrev pub invariant-loop-place : goal.invariant-loop-place
-invariant-loop-place l =
+invariant-loop-place g l =
     AllByRecursion
     (λ (leaf : LeafView). AllByRecursion (λ (e : Entry). e.number ≡ l.number → e.key ≡ l.key) leaf.ab.entries)
     (take l.place l.self.system.leaves)

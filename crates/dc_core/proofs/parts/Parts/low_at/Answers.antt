@@ -4,7 +4,7 @@ use Rattle.system_txn.proofs.Places.{leaf_there}
 use Rattle.dc_core.proofs.parts.Parts.low_at.Goals as goal
 
 pub returns : goal.returns
-returns c =
+returns g c =
     let at = c.place_of-place.ensures in
     c.low.ensures
     ∙ ap (λ (leaf : LeafView). leaf.ab.low)

@@ -8,7 +8,7 @@ use Rattle.system_txn.specs.Kept.{IsSystem}
 use Rattle.dc_core.proofs.parts.Parts.lower.Goals as goal
 
 pub returns-clause-kept : goal.returns-clause-kept
-returns-clause-kept c =
+returns-clause-kept g c =
     let w = seen c.args.self.now in
     subst (λ (v : SystemView). IsDc (with_system w v)) (sym c.lower.ensures)
     (lower_keeps w c.args.low c.requires.kept (subst IsSystem c.lower.ensures c.kept.ensures))

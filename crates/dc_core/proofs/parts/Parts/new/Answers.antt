@@ -6,7 +6,7 @@ use Rattle.dc_core.proofs.KeepsDc.{keeps_opened, first_rows}
 use Rattle.dc_core.proofs.parts.Parts.new.Goals as goal
 
 pub returns-clause-kept : goal.returns-clause-kept
-returns-clause-kept c =
+returns-clause-kept g c =
     let fresh = c.in-Ok.ensures.fresh in
     keeps_opened c.in-Ok.system 0 0 0 c.of-opened.result.table c.new-2.result c.kept.ensures
     (ap (λ (v : SystemView). v.stable) fresh ∙ sym (ap (λ (v : SystemView). length v.log) fresh))
@@ -14,7 +14,7 @@ returns-clause-kept c =
     c.of-opened.ensures c.new-2.ensures
 
 pub returns-clause-fresh : goal.returns-clause-fresh
-returns-clause-fresh c =
+returns-clause-fresh g c =
     let fresh = c.in-Ok.ensures.fresh in
     let rows = first_rows c.in-Ok.system c.of-opened.result.table _ _ fresh c.of-opened.ensures in
     λ i. record {

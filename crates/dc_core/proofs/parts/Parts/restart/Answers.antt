@@ -2,7 +2,7 @@ use Rattle.dc_core.proofs.KeepsDc.{keeps_opened}
 use Rattle.dc_core.proofs.parts.Parts.restart.Goals as goal
 
 pub returns-clause-kept : goal.returns-clause-kept
-returns-clause-kept c =
+returns-clause-kept g c =
     let opened = c.in_ok-opened.opened in
     let top = c.top_of-top.result in
     keeps_opened opened.system opened.stored_session top top c.of-base.result.table c.new.result c.kept.ensures

@@ -7,7 +7,7 @@ use Rattle.dc_core.proofs.Leaves.{rows_more}
 use Rattle.dc_core.proofs.parts.Parts.rows.Goals as goal
 
 pub loop-place-preserved : goal.loop-place-preserved
-loop-place-preserved c =
+loop-place-preserved g c =
     let leaves = c.args.self.now.system.leaves in
     let within : c.loop-place.place < length leaves =
     omega (arith, c.loop-place-test.true, c.len-place-end.ensures.count) in
@@ -17,7 +17,7 @@ loop-place-preserved c =
     ∙ sym (rows_more leaves c.loop-place.place within)
 
 pub returns-clause-rows : goal.returns-clause-rows
-returns-clause-rows c =
+returns-clause-rows g c =
     let leaves = c.args.self.now.system.leaves in
     let most : length leaves ≤ c.loop-place.place =
     omega (arith, c.loop-place-test.false, c.len-place-end.ensures.count) in

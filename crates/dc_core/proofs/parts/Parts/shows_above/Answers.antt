@@ -7,7 +7,7 @@ use Rattle.dc_core.proofs.Walks.{all_get, all_more, all_through, all_turned, all
 use Rattle.dc_core.proofs.parts.Parts.shows_above.Goals as goal
 
 pub returns-then-not-shows : goal.returns-then-not-shows
-returns-then-not-shows c =
+returns-then-not-shows g c =
     let performed = c.args.self.now.performed in
     let leaves = c.args.self.now.system.leaves in
     let P : Performance → Type 0 = λ p. c.args.end < p.number → (leaf_at leaves (key_of p.op)).ab.low < p.number in (
@@ -23,7 +23,7 @@ returns-then-not-shows c =
     )
 
 pub loop-place-preserved : goal.loop-place-preserved
-loop-place-preserved c =
+loop-place-preserved g c =
     let performed = c.args.self.now.performed in
     let leaves = c.args.self.now.system.leaves in
     let P : Performance → Type 0 = λ p. c.args.end < p.number → (leaf_at leaves (key_of p.op)).ab.low < p.number in
@@ -33,7 +33,7 @@ loop-place-preserved c =
     (c.shows.ensures.0 c.if-not-shows.false over))
 
 pub returns : goal.returns
-returns c =
+returns g c =
     let performed = c.args.self.now.performed in
     let leaves = c.args.self.now.system.leaves in
     let P : Performance → Type 0 = λ p. c.args.end < p.number → (leaf_at leaves (key_of p.op)).ab.low < p.number in

@@ -7,7 +7,7 @@ use Rattle.dc_core.proofs.parts.Parts.shows_above.Given as goal
 
 -- the oldest performances so far are shown
 abbrev pub invariant-loop-place : goal.invariant-loop-place
-invariant-loop-place l =
+invariant-loop-place g l =
     AllByRecursion
     (λ (p : Performance). l.end < p.number → (leaf_at l.self.system.leaves (key_of p.op)).ab.low < p.number)
     (take l.place (reverse l.self.performed))

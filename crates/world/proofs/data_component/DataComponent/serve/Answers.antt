@@ -7,7 +7,7 @@ use Rattle.world.proofs.Invariant.Spellable.{reply_ordered}
 use Rattle.world.proofs.data_component.DataComponent.serve.Goals as goal
 
 pub returns-in-Some : goal.returns-in-Some
-returns-in-Some c =
+returns-in-Some g c =
     let old = c.in-Up.dc in
     let new = c.serve_allowed.new.self in
     let q = c.args.request.now in

@@ -5,6 +5,6 @@ use Rattle.dc_core.specs.DcView.{DcView, leaves}
 use Rattle.world.proofs.dc_side.DcSide.rows.Goals as goal
 
 pub returns-clause-rows : goal.returns-clause-rows
-returns-clause-rows c =
+returns-clause-rows g c =
     c.in_ok-rows.ensures.rows ∙ ap (λ (dc : DcView). all_rows (leaves dc)) c.in_ok-running.ensures.dc
     ∙ sym (one_table (leaves c.args.self.now.dc) c.kept.ensures.system.leaves).listed

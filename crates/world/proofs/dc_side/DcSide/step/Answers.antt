@@ -6,7 +6,7 @@ use Rattle.world.proofs.Halves.{owed}
 use Rattle.world.proofs.dc_side.DcSide.step.Goals as goal
 
 pub serve-requires-clause-owed : goal.serve-requires-clause-owed
-serve-requires-clause-owed c =
+serve-requires-clause-owed g c =
     let dc = c.args.self.now in
     let i = c.in-Request.number in
     let May : Event → Type 0 = λ e. MayDc dc e c.args.request.now in

@@ -3,7 +3,7 @@ use Rattle.world.proofs.Halves.{DoesTc}
 use Rattle.world.proofs.node.Node.call.Goals as goal
 
 pub returns-in_default : goal.returns-in_default
-returns-in_default c =
+returns-in_default g c =
     let n = c.args.self.now in
     rw c.next_of-next.ensures.same
     (subst (DoesTc n c.args.event.now c.call-out.result c.call-out.new.self) c.in_default.is
@@ -11,7 +11,7 @@ returns-in_default c =
     c.requires.alone))
 
 pub returns : goal.returns
-returns c =
+returns g c =
     let n = c.args.self.now in
     rw (c.push_reserved.ensures, c.next_of-next.ensures.same)
     (subst (DoesTc n c.args.event.now c.call-out.result c.call-out.new.self) c.in-Some.is

@@ -8,10 +8,10 @@ use Rattle.world.proofs.Invariant.Spellable.{numbers_spelled}
 use Rattle.world.proofs.node.Node.serve.Goals as goal
 
 pub serve-out-requires-clause-numbers : goal.serve-out-requires-clause-numbers
-serve-out-requires-clause-numbers c = numbers_spelled c.in-Ok.value c.in-Ok.ensures.spelled
+serve-out-requires-clause-numbers g c = numbers_spelled c.in-Ok.value c.in-Ok.ensures.spelled
 
 pub serve-out-requires-clause-owed : goal.serve-out-requires-clause-owed
-serve-out-requires-clause-owed c =
+serve-out-requires-clause-owed g c =
     let n = c.args.self.now in
     owed n.dc c.args.number c.in-Ok.value (record {
       node = seen n;
@@ -21,7 +21,7 @@ serve-out-requires-clause-owed c =
     })
 
 pub returns-in_default : goal.returns-in_default
-returns-in_default c =
+returns-in_default g c =
     let n = c.args.self.now in
     rw c.next-next.ensures.same
     (subst (DoesDc n (event.Request c.args.number) c.serve-out.result c.serve-out.new.self) c.in_default.is
@@ -29,7 +29,7 @@ returns-in_default c =
     c.next-next.ensures.number c.in-Ok.ensures.found))
 
 pub returns-in-Err-push : goal.returns-in-Err-push
-returns-in-Err-push c =
+returns-in-Err-push g c =
     let n = c.args.self.now in
     let reply = c.in-Some.reply in
     let next = c.next-next.result in
@@ -45,7 +45,7 @@ returns-in-Err-push c =
     c.next-next.ensures.number c.in-Ok.ensures.found)))
 
 pub returns : goal.returns
-returns c =
+returns g c =
     let n = c.args.self.now in
     rw (c.in-Ok-push.ensures.appended, c.next-next.ensures.same)
     (subst (DoesDc n (event.Request c.args.number) c.serve-out.result c.serve-out.new.self) c.in-Some.is

@@ -4,7 +4,7 @@ use Rattle.tc_core.proofs.OpenedLog.{opened_kept}
 use Rattle.world.proofs.stopped_tc.StoppedTc.kept.Goals as goal
 
 pub returns : goal.returns
-returns c =
+returns g c =
     let begins = c.self.invariant.0.begins in
     subst IsTc c.self.view_is
-    (opened_kept c.self.inside.found.log c.self.inside.device.usage begins.legal (omega (arith, begins.numbered)))
+    (opened_kept c.self.inside.found.log (g.D.LogDevice.usage c.self.inside.device) begins.legal (omega (arith, begins.numbered)))

@@ -3,7 +3,7 @@ use Rattle.world.proofs.Invariant.Spellable.{connect_numbers}
 use Rattle.world.proofs.transaction_component.TransactionComponent.reconnect.Goals as goal
 
 pub returns : goal.returns
-returns c = record {
+returns g c = record {
   gives = search rules;
   spelled =
       connect_numbers c.in-Up.tc c.reconnect.new.self c.in-Ok-reconnect.value c.in-Ok-reconnect.ensures.gives;

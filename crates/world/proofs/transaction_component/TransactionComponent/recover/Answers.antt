@@ -9,7 +9,7 @@ use Rattle.world.proofs.Invariant.Spellable.{recover_numbers}
 use Rattle.world.proofs.transaction_component.TransactionComponent.recover.Goals as goal
 
 pub returns-in-Sends : goal.returns-in-Sends
-returns-in-Sends c =
+returns-in-Sends g c =
     let old = c.in-Up.tc in
     let new = c.recover_step.new.self in
     let sent = c.in-Sends.sent in

@@ -3,7 +3,7 @@ use Rattle.world.proofs.Invariant.Spellable.{resend_numbers}
 use Rattle.world.proofs.transaction_component.TransactionComponent.send.Goals as goal
 
 pub returns : goal.returns
-returns c = record {
+returns g c = record {
   gives = search rules;
   spelled = resend_numbers c.in-Up.tc c.args.txn c.in-Ok.value c.kept.ensures c.in-Ok.ensures.gives;
   room = search rules;

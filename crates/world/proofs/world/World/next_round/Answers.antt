@@ -38,7 +38,7 @@ serves w tc dc apart p t test isnt at running =
         true≢false (sym (test.1 (subst (AreApart tc) t.dc_same (subst P t.tc_same is))) ∙ isnt)
 
 pub returns-in-Some : goal.returns-in-Some
-returns-in-Some c =
+returns-in-Some g c =
     let w : NodeView = c.args.self.now in
     let tc : TcView = c.in-Ok-running_tc.tc.now in
     let dc : DcView = c.in-Ok.dc.now in
@@ -56,7 +56,7 @@ returns-in-Some c =
     rw c.answer_round.ensures (subst P stable (next_for w o serving_now c.kept.ensures.kept.tc at))
 
 pub returns-in-Some-first_rolling : goal.returns-in-Some-first_rolling
-returns-in-Some-first_rolling c =
+returns-in-Some-first_rolling g c =
     let w : NodeView = c.args.self.now in
     let tc : TcView = c.in-Ok-running_tc.tc.now in
     let dc : DcView = c.in-Ok.dc.now in
@@ -73,7 +73,7 @@ returns-in-Some-first_rolling c =
     (serving_now, rolling_first w.tc c.in-Some-first_rolling.open.now c.kept.ensures.kept.tc none at)
 
 pub returns-then-stable-records : goal.returns-then-stable-records
-returns-then-stable-records c =
+returns-then-stable-records g c =
     let w : NodeView = c.args.self.now in
     let tc : TcView = c.in-Ok-running_tc.tc.now in
     let dc : DcView = c.in-Ok.dc.now in
@@ -99,7 +99,7 @@ returns-then-stable-records c =
     inl (serving_now, inr (unrolled_all w.tc flat, idle_all w.tc none, less))
 
 pub returns : goal.returns
-returns c =
+returns g c =
     let w : NodeView = c.args.self.now in
     let tc : TcView = c.in-Ok-running_tc.tc.now in
     let dc : DcView = c.in-Ok.dc.now in

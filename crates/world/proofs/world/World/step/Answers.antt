@@ -3,12 +3,12 @@ use Rattle.world.specs.Seen.{seen}
 use Rattle.world.proofs.world.World.step.Goals as goal
 
 pub invariant_of-self : goal.invariant_of-self
-invariant_of-self c =
+invariant_of-self g c =
     (follows (seen c.self.inside.node) (seen c.step.new.self) c.args.event.now c.step.result c.self.invariant
     c.step.ensures.tc c.step.ensures.dc c.step.ensures.step).kept
 
 pub returns : goal.returns
-returns c =
+returns g c =
     let all =
     follows (seen c.self.inside.node) (seen c.step.new.self) c.args.event.now c.step.result c.self.invariant
     c.step.ensures.tc c.step.ensures.dc c.step.ensures.step in

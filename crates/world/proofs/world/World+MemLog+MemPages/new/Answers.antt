@@ -5,7 +5,7 @@ use Rattle.world.specs.Kept.{IsKept}
 use Rattle.world.specs.Node.{NodeView}
 use Rattle.world.specs.Simulation.{Stands}
 use Rattle.world.proofs.Machine.Headline.{kept_fresh, fresh_stands_for}
-use Rattle.world.proofs.world.World.new.Goals as goal
+use Rattle.world.proofs.world.World+MemLog+MemPages.new.Goals as goal
 
 pub invariant_of-result : goal.invariant_of-result
 invariant_of-result c =
