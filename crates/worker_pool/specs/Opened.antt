@@ -4,7 +4,9 @@ use Rattle.std.specs.List.{AllByRecursion}
 use Rattle.atomic_table.specs.Seated.{TableId}
 use Rattle.boxcar.specs.Table.{Shelves}
 use Rattle.marks.specs.Seen.{Seen, raiser, reader}
+use Rattle.world.specs.Component.{TcSide, DcSide}
 use Rattle.worker_pool.specs.declared.opened.Chair.{Chair}
+use Rattle.worker_pool.specs.Steps.{tc_start, dc_start}
 
 -- its row, its marks, and the names of its ties: of each component, and of each session
 pub record OpenedView : Type 0 where
@@ -30,10 +32,12 @@ opened_as row marks tc dc chairs = record {
 abbrev pub IsReader : TableId → Chair → Type 0
 IsReader marks chair = chair.seat ≡ reader marks 0 0
 
--- nobody has raised the marks
-pub record IsOpened (marks : TableId) (seat : Seen) (chairs : List Chair) : Type 0 where
+-- nobody has raised the marks, and both components are at their start
+pub record IsOpened (marks : TableId) (seat : Seen) (chairs : List Chair) (tc : TcSide) (dc : DcSide) : Type 0 where
   pub raises : seat ≡ raiser marks 0 0
   pub reads : AllByRecursion (IsReader marks) chairs
+  pub tc_starts : tc ≡ tc_start.side
+  pub dc_starts : dc ≡ dc_start.side
 
 -- the ties of the sessions have these names
 abbrev pub AreTied : (ℕ → ℕ) → List ℕ → Type 0

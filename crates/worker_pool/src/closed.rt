@@ -64,6 +64,7 @@ impl<J: Naming> Closed<J> {
     /// The records in key order, where the data component ran.
     pub fn rows(&self) -> Option<&[(Key, Value)]>
         ensures rows { IfSome result (λ rows. IfSome self.now.rows (λ all. rows.now ≡ all.items)) }
+        ensures none { IfNone result (self.now.rows ≡ None) }
     {
         Some(self.rows.as_ref()?.as_slice())
     }

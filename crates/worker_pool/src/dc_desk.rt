@@ -18,7 +18,7 @@ use crate::view::Visitor;
 use boxcar::{Pushed, Vec as Row};
 use codec::Request;
 use record_key::{Key, Refusal, Value};
-use std::alloc::Global;
+use stable::{CrashLog, CrashPages};
 use std::marker::Model;
 use std::sync::{Mutex, Wait};
 use tie::Mark;
@@ -26,13 +26,13 @@ use world::{DcSide, Event};
 
 /// The data component with what it has seen of the journal. Contracts see the steps up to there, and the component.
 #[derive(Drop)]
-pub struct DcDesk<J: Naming> {
-    side: DcSide,
+pub struct DcDesk<J: Naming, D: CrashLog, P: CrashPages> {
+    side: DcSide<D, P>,
     given: u64,
     visitor: Visitor<J>,
 }
 
-impl<J: Naming> Model for DcDesk<J> {
+impl<J: Naming, D: CrashLog, P: CrashPages> Model for DcDesk<J, D, P> {
     ghost use Rattle.std.specs.Coded.{codes};
     ghost use Rattle.record_key.specs.Table.{table_code};
     ghost use Rattle.system_txn.specs.SystemView.{pages_code};
@@ -47,18 +47,18 @@ impl<J: Naming> Model for DcDesk<J> {
     ghost invariant = { λ d. DcDeskKept J.names d.visitor record { side = d.side; given = d.given } };
 }
 
-impl<J: Naming> DcDesk<J> {
-    /// The component at its start. Refused NoMemory.
-    pub(crate) fn new(alloc: Global, mark: Mark) -> Result<DcDesk<J>, Refusal>
-        requires { (mark.name ≡ J.names 1) × (mark.number ≡ 0) }
-        ensures start { IfOk result (λ desk. desk.state ≡ dc_start) }
-        ensures memory { IfErr result (λ refusal. refusal ≡ Refusal.NoMemory) }
+impl<J: Naming, D: CrashLog, P: CrashPages> DcDesk<J, D, P> {
+    /// The component at its start.
+    pub(crate) fn new(side: DcSide<D, P>, mark: Mark) -> DcDesk<J, D, P>
+        requires start { side ≡ dc_start.side }
+        requires mark { (mark.name ≡ J.names 1) × (mark.number ≡ 0) }
+        ensures { result.state ≡ dc_start }
     {
-        Ok(DcDesk {
-            side: DcSide::new(alloc)?,
+        DcDesk {
+            side,
             given: 0,
             visitor: Visitor::new(mark),
-        })
+        }
     }
 
     /// What is found under the lock is what the entries give up to the last one that it has seen.
@@ -184,9 +184,9 @@ fn look_on<G: Gate>(gate: &G, request: &Option<Request>) {
 }
 
 // One step of the component, and how many messages it has given then.
-fn stepped<R: Wait>(
+fn stepped<D: CrashLog, P: CrashPages, R: Wait>(
     rt: &R,
-    side: &mut DcSide,
+    side: &mut DcSide<D, P>,
     given: u64,
     event: Event,
     request: &Option<Request>,

@@ -4,44 +4,42 @@ ghost use Rattle.std.specs.List.{AllByRecursion};
 ghost use Rattle.worker_pool.specs.Closing.{IsFresh, IsKeptBy, IsOutage, below, numbers_of};
 ghost use Rattle.worker_pool.specs.Opened.{IsNamed};
 
+use crate::assembly::share;
 use crate::closed::Closed;
-use crate::dc_desk::DcDesk;
 use crate::gate::Gate;
-use crate::hall::Hall;
-use crate::journal::Journal;
-use crate::lines::Lines;
 use crate::naming::Naming;
 use crate::opened::Opened;
-use crate::seated::{Seated, callers_of, cover, seat_all, sessions_of};
+use crate::seated::{callers_of, cover, sessions_of};
 use crate::session::Session;
 use crate::shared::{Job, Shared};
-use crate::stirs::Stirs;
-use crate::tc_desk::TcDesk;
 use crate::worker::work;
 use crossbeam_channel::{Receiver, Sender};
 use record_key::Refusal;
+use stable::{CrashLog, CrashPages, MemLog, MemPages};
 use std::alloc::{AllocError, Global};
 use std::sync::{Arc, Wait};
 use std::thread;
 use std::thread::{JoinHandle, Threads};
 
 /// Workers that serve the sessions' requests. What its sessions are called with is given out with it.
-pub struct Engine<J: Naming, G> {
+pub struct Engine<J: Naming, G, D: CrashLog = MemLog, P: CrashPages = MemPages> {
     alloc: Global,
-    shared: Arc<Shared<J, G>>,
+    shared: Arc<Shared<J, G, D, P>>,
     work: Sender<Job>,
     workers: Vec<JoinHandle<()>>,
 }
 
 // A thread that serves requests over what is shared, until nobody sends any more. Refused where no thread can be made.
-fn start<J, G, R>(
+fn start<J, G, D, P, R>(
     rt: R,
-    shared: Arc<Shared<J, G>>,
+    shared: Arc<Shared<J, G, D, P>>,
     jobs: Receiver<Job>,
 ) -> Result<JoinHandle<()>, AllocError>
 where
     J: Naming + Drop + Send + Sync + 'static,
     G: Gate + Drop + Send + Sync + 'static,
+    D: CrashLog + Drop + Send + 'static,
+    P: CrashPages + Drop + Send + 'static,
     R: Threads + Wait + Copy + Send + 'static,
 {
     Ok(thread::spawn(&rt, move || work(&rt, &*shared, &jobs))?)
@@ -67,19 +65,21 @@ fn alone<T, R: Wait>(rt: &R, shared: Arc<T>) -> T {
     unreachable!()
 }
 
-impl<J, G> Engine<J, G>
+impl<J, G, D, P> Engine<J, G, D, P>
 where
     J: Naming + Drop + Send + Sync + 'static,
     G: Gate + Drop + Send + Sync + 'static,
+    D: CrashLog + Drop + Send + 'static,
+    P: CrashPages + Drop + Send + 'static,
 {
     /// An engine of what was opened, with so many workers, and its sessions. Both components are brought up. Refused
     /// NoMemory, also where a thread can't be made; Device and NumbersSpent, as `restart` is. No thread is left then.
     pub fn new<R: Threads + Wait + Copy + Send + 'static>(
         rt: R,
-        opened: Opened,
+        opened: Opened<D, P>,
         workers: usize,
         gate: G,
-    ) -> Result<(Engine<J, G>, Vec<Session<J, G>>), Refusal>
+    ) -> Result<(Engine<J, G, D, P>, Vec<Session<J, G, D, P>>), Refusal>
         requires named { IsNamed opened J.entries J.marks J.names J.sessions }
         requires some { 0 < workers }
         ensures refused { IfErr result IsOutage }
@@ -87,31 +87,7 @@ where
         ensures numbers { IfOk result (λ made. numbers_of made.1.items ≡ below (length opened.sessions)) }
     {
         let alloc = opened.alloc;
-        let Opened {
-            row,
-            marks,
-            seat,
-            tc,
-            dc,
-            chairs,
-            ..
-        } = opened;
-        let stirs = Stirs::new(alloc, chairs.len())?;
-        let (tc_book, tc_mark) = tc.parted();
-        let (dc_book, dc_mark) = dc.parted();
-        let data = DcDesk::new(alloc, dc_mark)?;
-        let Seated { places, sitters } = seat_all::<J>(alloc, chairs)?;
-        let journal = Journal::new(Lines::new(alloc, tc_book, dc_book), places, stirs);
-        let shared = Arc::new(
-            alloc,
-            Shared::new(
-                Hall::new(row, marks),
-                TcDesk::new(alloc, tc_mark, seat),
-                data,
-                journal,
-                gate,
-            ),
-        )?;
+        let (shared, sitters) = share(opened, gate)?;
         let (work, jobs) = crossbeam_channel::unbounded(alloc)?;
         let sessions = sessions_of(alloc, sitters, &shared, &work)?;
         let mut engine = Engine {
@@ -163,8 +139,8 @@ where
         self.shared.crash_dc(rt);
     }
 
-    /// The transaction component crashes, and every session's transaction is cut off. Of the first record that isn't
-    /// stable at most so many bytes are kept, and nothing after it.
+    /// The transaction component crashes, and every session's transaction is cut off. Of what isn't stable of the log so
+    /// many bytes are kept, or all of it where it has fewer.
     pub fn crash_tc<R: Wait>(&self, rt: &R, kept: u64) {
         self.shared.crash_tc(rt, kept);
     }
@@ -182,7 +158,7 @@ where
     pub fn close<R: Threads + Wait>(
         self,
         rt: &R,
-        sessions: Vec<Session<J, G>>,
+        sessions: Vec<Session<J, G, D, P>>,
     ) -> Result<Closed<J>, Refusal>
         ensures kept { IfOk result (λ closed. AllByRecursion (IsKeptBy closed.steps) sessions.items) }
         ensures refused { IfErr result (λ refusal. refusal ≡ Refusal.NoMemory) }

@@ -21,6 +21,7 @@ use crate::step::Step;
 use crate::stirs::Stirs;
 use crate::view::Visitor;
 use boxcar::{Pushed, Vec as Row};
+use stable::{CrashLog, CrashPages};
 use std::marker::Model;
 use std::sync::Wait;
 use world::DcSide;
@@ -130,11 +131,11 @@ impl<J: Naming> Journal<J> {
     }
 
     /// Looks for the request of this number on behalf of the data component, which has seen all entries then.
-    pub(crate) fn look_request(
+    pub(crate) fn look_request<D: CrashLog, P: CrashPages>(
         &mut self,
         row: &Row<Entry>,
         visitor: &mut Visitor<J>,
-        side: &DcSide,
+        side: &DcSide<D, P>,
         given: u64,
         number: u64,
     ) -> Result<Pushed<Entry>, Unsent>
@@ -160,11 +161,11 @@ impl<J: Naming> Journal<J> {
     }
 
     /// The data component has seen all entries, and is what some run of the node through them ends with.
-    pub(crate) fn look_dc(
+    pub(crate) fn look_dc<D: CrashLog, P: CrashPages>(
         &mut self,
         row: &Row<Entry>,
         visitor: &mut Visitor<J>,
-        side: &DcSide,
+        side: &DcSide<D, P>,
         given: u64,
     )
         requires row { row.now ≡ J.entries }

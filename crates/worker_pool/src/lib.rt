@@ -8,6 +8,7 @@
 
 mod answers;
 mod ask;
+mod assembly;
 mod caller;
 mod closed;
 mod copying;

@@ -16,6 +16,7 @@ use crate::trace::Trace;
 use crate::tracing::{nothing, up_to};
 use crate::view::{Party, Visitor, again};
 use boxcar::{Pushed, Vec as Row};
+use stable::{CrashLog, CrashPages};
 use std::alloc::Global;
 use std::marker::Model;
 use std::sync::Wait;
@@ -163,11 +164,11 @@ impl<J: Naming> Lines<J> {
     }
 
     /// The same of the data component, which some run of the node through these entries ends with.
-    pub(crate) fn meet_dc(
+    pub(crate) fn meet_dc<D: CrashLog, P: CrashPages>(
         &mut self,
         row: &Row<Entry>,
         visitor: &mut Visitor<J>,
-        side: &DcSide,
+        side: &DcSide<D, P>,
         given: u64,
     )
         requires row { row.now ≡ J.entries }

@@ -8,9 +8,11 @@ use crate::entry::Entry;
 use boxcar::Vec as Row;
 use marks::{Marks, Seat};
 use record_key::Refusal;
+use stable::{CrashLog, CrashPages, MemLog, MemPages};
 use std::alloc::{AllocError, Global};
 use std::marker::Model;
 use tie::{Book, Mark};
+use world::{DcSide, TcSide};
 
 /// The most sessions that an engine has.
 const MOST: usize = 8;
@@ -56,10 +58,10 @@ pub(crate) struct Chair {
     pub(crate) seat: Seat,
 }
 
-/// A row without entries, marks that nobody has raised, and a tie for each component and for each session. Contracts
-/// see what they are known by.
+/// Both components at their start, a row without entries, marks that nobody has raised, and a tie for each component and
+/// for each session. Contracts see what they are known by.
 #[derive(Drop)]
-pub struct Opened {
+pub struct Opened<D: CrashLog = MemLog, P: CrashPages = MemPages> {
     pub(crate) alloc: Global,
     pub(crate) row: Row<Entry>,
     pub(crate) marks: Marks,
@@ -67,9 +69,11 @@ pub struct Opened {
     pub(crate) tc: Ends,
     pub(crate) dc: Ends,
     pub(crate) chairs: Vec<Chair>,
+    pub(crate) transactions: TcSide<D>,
+    pub(crate) data: DcSide<D, P>,
 }
 
-impl Model for Opened {
+impl<D: CrashLog, P: CrashPages> Model for Opened<D, P> {
     ghost use Rattle.std.specs.Coded.{codes};
     ghost use Rattle.atomic_table.specs.Seated.{table_id_coded};
     ghost use Rattle.boxcar.specs.Table.{shelves_coded};
@@ -81,11 +85,11 @@ impl Model for Opened {
 
     ghost view = { λ o. opened_as o.row o.marks o.tc o.dc o.chairs.items };
 
-    ghost invariant = { λ o. IsOpened o.marks o.seat o.chairs.items };
+    ghost invariant = { λ o. IsOpened o.marks o.seat o.chairs.items o.transactions o.data };
 }
 
-impl Opened {
-    /// For so many sessions, at most 8. Refused Full, NoMemory.
+impl Opened<MemLog, MemPages> {
+    /// For so many sessions, at most 8, over devices in memory. Refused Full, NoMemory.
     pub fn new(alloc: Global, sessions: usize) -> Result<Opened, Refusal>
         ensures count { IfOk result (λ opened. length opened.sessions ≡ sessions) }
         ensures within { IfOk result (λ opened. sessions ≤ 8) }
@@ -96,6 +100,7 @@ impl Opened {
         let row = Row::new(alloc)?;
         let (marks, seat, readers) = Marks::new(alloc, sessions)?;
         let chairs = chairs(alloc, &marks, readers)?;
+        let data = DcSide::new(alloc)?;
         Ok(Opened {
             alloc,
             row,
@@ -104,6 +109,8 @@ impl Opened {
             tc: Ends::open(),
             dc: Ends::open(),
             chairs,
+            transactions: TcSide::new(alloc),
+            data,
         })
     }
 }

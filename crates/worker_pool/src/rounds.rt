@@ -9,6 +9,7 @@ use crate::naming::Naming;
 use crate::shared::Shared;
 use codec::{Reply, Request};
 use record_key::Refusal;
+use stable::{CrashLog, CrashPages};
 use std::sync::Wait;
 use std::sync::atomic::Ordering;
 use world::{Event, Out};
@@ -46,7 +47,7 @@ fn passed(out: &Out) -> Result<bool, Refusal>
     }
 }
 
-impl<J: Naming, G> Shared<J, G> {
+impl<J: Naming, G, D: CrashLog, P: CrashPages> Shared<J, G, D, P> {
     /// Brings both components up, in one session, and undoes who was lost. Refused NoMemory, Device, NumbersSpent; what
     /// was done by then stands.
     pub(crate) fn bring_up<R: Wait>(&self, rt: &R) -> Result<(), Refusal>

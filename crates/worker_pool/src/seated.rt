@@ -16,6 +16,7 @@ use crate::shared::{Job, Shared};
 use boxcar::Vec as Row;
 use crossbeam_channel::Sender;
 use marks::Seat;
+use stable::{CrashLog, CrashPages};
 use std::alloc::{AllocError, Global};
 use std::sync::Arc;
 
@@ -64,12 +65,17 @@ pub(crate) fn seat_all<J: Naming>(
 }
 
 /// The sessions of these.
-pub(crate) fn sessions_of<J: Naming, G: Drop>(
+pub(crate) fn sessions_of<J, G, D, P>(
     alloc: Global,
     sitters: Vec<Sitter<J>>,
-    shared: &Arc<Shared<J, G>>,
+    shared: &Arc<Shared<J, G, D, P>>,
     work: &Sender<Job>,
-) -> Result<Vec<Session<J, G>>, AllocError>
+) -> Result<Vec<Session<J, G, D, P>>, AllocError>
+where
+    J: Naming,
+    G: Drop,
+    D: CrashLog + Drop,
+    P: CrashPages + Drop,
     requires seated { AllByRecursion (IsSeated J.marks) sitters.items }
     ensures fresh { IfOk result (λ sessions. AllByRecursion (IsFresh J.marks) sessions.items) }
     ensures numbers { IfOk result (λ sessions. numbers_of sessions.items ≡ numbers_in sitters.items) }
@@ -84,10 +90,15 @@ pub(crate) fn sessions_of<J: Naming, G: Drop>(
 }
 
 /// What each session has seen of the journal.
-pub(crate) fn callers_of<J: Naming, G: Drop>(
+pub(crate) fn callers_of<J, G, D, P>(
     alloc: Global,
-    sessions: Vec<Session<J, G>>,
+    sessions: Vec<Session<J, G, D, P>>,
 ) -> Result<Vec<Caller<J>>, AllocError>
+where
+    J: Naming,
+    G: Drop,
+    D: CrashLog + Drop,
+    P: CrashPages + Drop,
     ensures callers { IfOk result (λ callers. callers.items ≡ callers_as sessions.items) }
     ensures closed { IfOk result (λ callers. AllByRecursion AreClosed callers.items) }
 {

@@ -20,20 +20,21 @@ use codec::Rows;
 use crossbeam_channel::Sender;
 use marks::Seat;
 use record_key::{Answer, Key, Op, Refusal, Value};
+use stable::{CrashLog, CrashPages, MemLog, MemPages};
 use std::marker::Model;
 use std::sync::{Arc, Wait};
 
 /// A client's place at an engine. It has at most one transaction. Contracts see its number, its calls with what each was
 /// answered, and what it has seen of the marks.
 #[derive(Drop)]
-pub struct Session<J: Naming, G> {
+pub struct Session<J: Naming, G, D: CrashLog = MemLog, P: CrashPages = MemPages> {
     caller: Caller<J>,
     seat: Seat,
-    shared: Arc<Shared<J, G>>,
+    shared: Arc<Shared<J, G, D, P>>,
     work: Sender<Job>,
 }
 
-impl<J: Naming, G> Model for Session<J, G> {
+impl<J: Naming, G, D: CrashLog, P: CrashPages> Model for Session<J, G, D, P> {
     ghost use Rattle.std.specs.Prelude.{◌≡◌};
     ghost use Rattle.std.specs.Coded.{codes};
     ghost use Rattle.atomic_table.specs.Seated.{table_id_coded};
@@ -49,14 +50,14 @@ impl<J: Naming, G> Model for Session<J, G> {
     ghost invariant = { λ s. IsClosed s.caller.part × (s.seat.marks ≡ J.marks) };
 }
 
-impl<J: Naming, G: Drop> Session<J, G> {
+impl<J: Naming, G: Drop, D: CrashLog + Drop, P: CrashPages + Drop> Session<J, G, D, P> {
     /// A session with no transaction.
     pub(crate) fn new(
         caller: Caller<J>,
         seat: Seat,
-        shared: Arc<Shared<J, G>>,
+        shared: Arc<Shared<J, G, D, P>>,
         work: Sender<Job>,
-    ) -> Session<J, G>
+    ) -> Session<J, G, D, P>
         requires closed { IsClosed caller.part }
         requires seat { seat.marks ≡ J.marks }
         ensures { result ≡ record { number = caller.number; part = caller.part; seat = seat } }

@@ -26,6 +26,7 @@ use boxcar::Pushed;
 use crossbeam_channel::Sender;
 use marks::Seat;
 use record_key::Refusal;
+use stable::{CrashLog, CrashPages};
 use std::sync::atomic::{AtomicU64, Ordering};
 use std::sync::{Condvar, Mutex, Wait};
 use world::{Event, Out};
@@ -33,10 +34,10 @@ use world::{Event, Out};
 /// What the threads share. A component's lock is taken first, and the journal's inside it; the two components' are
 /// never held together.
 #[derive(Drop)]
-pub struct Shared<J: Naming, G> {
+pub struct Shared<J: Naming, G, D: CrashLog, P: CrashPages> {
     pub(crate) hall: Hall<J>,
-    pub(crate) tc: Mutex<TcDesk<J>>,
-    pub(crate) dc: Mutex<DcDesk<J>>,
+    pub(crate) tc: Mutex<TcDesk<J, D>>,
+    pub(crate) dc: Mutex<DcDesk<J, D, P>>,
     pub(crate) journal: Mutex<Journal<J>>,
     pub(crate) news: Condvar,
     pub(crate) restarts: AtomicU64,
@@ -61,14 +62,14 @@ pub(crate) enum Rest {
     Force,
 }
 
-impl<J: Naming, G> Shared<J, G> {
+impl<J: Naming, G, D: CrashLog, P: CrashPages> Shared<J, G, D, P> {
     pub(crate) fn new(
         hall: Hall<J>,
-        tc: TcDesk<J>,
-        dc: DcDesk<J>,
+        tc: TcDesk<J, D>,
+        dc: DcDesk<J, D, P>,
         journal: Journal<J>,
         gate: G,
-    ) -> Shared<J, G> {
+    ) -> Shared<J, G, D, P> {
         Shared {
             hall,
             tc: Mutex::new(tc),
@@ -92,16 +93,10 @@ impl<J: Naming, G> Shared<J, G> {
         self.news.notify_all();
     }
 
-    /// The transaction component crashes, and every session's transaction is cut off. Of the first record that isn't
-    /// stable at most so many bytes are kept, and nothing after it.
+    /// The transaction component crashes, and every session's transaction is cut off. Of what isn't stable of the log so
+    /// many bytes are kept.
     pub(crate) fn crash_tc<R: Wait>(&self, rt: &R, kept: u64) {
-        self.enter(
-            rt,
-            Event::CrashTc {
-                frames: 0,
-                bytes: kept,
-            },
-        );
+        self.tc.lock(rt).crash(rt, &self.hall, &self.journal, kept);
         self.news.notify_all();
     }
 

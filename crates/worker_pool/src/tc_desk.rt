@@ -23,7 +23,7 @@ use crate::view::Visitor;
 use boxcar::Pushed;
 use codec::Reply;
 use marks::{Marks, Seat};
-use std::alloc::Global;
+use stable::CrashLog;
 use std::marker::Model;
 use std::sync::{Mutex, Wait};
 use std::thread;
@@ -34,14 +34,14 @@ use world::{Event, Out, TcSide};
 /// The transaction component with what it has seen of the journal. Contracts see the steps up to there, and the
 /// component.
 #[derive(Drop)]
-pub struct TcDesk<J: Naming> {
-    side: TcSide,
+pub struct TcDesk<J: Naming, D: CrashLog> {
+    side: TcSide<D>,
     sent: u64,
     visitor: Visitor<J>,
     seat: Seat,
 }
 
-impl<J: Naming> Model for TcDesk<J> {
+impl<J: Naming, D: CrashLog> Model for TcDesk<J, D> {
     ghost use Rattle.std.specs.Coded.{codes};
     ghost use Rattle.atomic_table.specs.Seated.{table_id_coded};
     ghost use Rattle.worker_pool.specs.Desks.{TcFound, TcDeskKept};
@@ -72,15 +72,16 @@ pub(crate) fn next_number<R: Wait>(rt: &R, sent: u64) -> u64
     unreachable!()
 }
 
-impl<J: Naming> TcDesk<J> {
+impl<J: Naming, D: CrashLog> TcDesk<J, D> {
     /// The component at its start.
-    pub(crate) fn new(alloc: Global, mark: Mark, seat: Seat) -> TcDesk<J>
+    pub(crate) fn new(side: TcSide<D>, mark: Mark, seat: Seat) -> TcDesk<J, D>
+        requires start { side ≡ tc_start.side }
         requires mark { (mark.name ≡ J.names 0) × (mark.number ≡ 0) }
         requires seat { seat ≡ raiser J.marks 0 0 }
         ensures { result.state ≡ tc_start }
     {
         TcDesk {
-            side: TcSide::new(alloc),
+            side,
             sent: 0,
             visitor: Visitor::new(mark),
             seat,
@@ -199,6 +200,18 @@ impl<J: Naming> TcDesk<J> {
         (Some(tell), self.announce(rt, hall, journal))
     }
 
+    /// The component crashes, and keeps so many bytes of what isn't stable of its log; and the entry of that.
+    pub(crate) fn crash<R: Wait>(
+        &mut self,
+        rt: &R,
+        hall: &Hall<J>,
+        journal: &Mutex<Journal<J>>,
+        kept: u64,
+    ) {
+        let (frames, bytes) = frames_in(&self.side, kept);
+        self.enter(rt, hall, journal, Event::CrashTc { frames, bytes });
+    }
+
     // Announces all that is answered, where that is more than what is announced.
     fn announce<R: Wait>(
         &mut self,
@@ -248,6 +261,26 @@ impl<J: Naming> TcDesk<J> {
     }
 }
 
+// How many whole records stand in the first `kept` bytes of what isn't stable, and how many bytes of them are left for
+// the next one.
+fn frames_in<D: CrashLog>(side: &TcSide<D>, kept: u64) -> (u64, u64) {
+    side.kept();
+    let (Ok(stable), Ok(records)) = (side.stable_end(), side.records()) else {
+        return (0, kept);
+    };
+    let start = side.end_of(stable).unwrap_or(0);
+    let (mut frames, mut whole) = (0, 0);
+    for number in stable..records {
+        let size = side.end_of(number + 1).unwrap_or(0).saturating_sub(start) as u64;
+        if size > kept {
+            break;
+        }
+        frames = number + 1 - stable;
+        whole = size;
+    }
+    (frames, kept.saturating_sub(whole))
+}
+
 // The same reply again. Where memory for it is refused it is tried again until it is made.
 fn copy<R: Wait>(rt: &R, reply: &Reply) -> Reply
     ensures { result ≡ reply.now }
@@ -284,7 +317,7 @@ fn tells_commit(out: &Out) -> bool
 }
 
 // The marks show what a step told: a commit, how much of the log is stable; a low mark, that number.
-fn mark(marks: &Marks, seat: &mut Seat, side: &TcSide, step: &Step)
+fn mark<D: CrashLog>(marks: &Marks, seat: &mut Seat, side: &TcSide<D>, step: &Step)
     requires seat { (seat.old.marks ≡ marks.now) × IsTrue seat.old.raises }
     requires stable { seat.old.stable ≤ side.now.tc.stable }
     requires low { IsLowOf step.now.event step.now.out side.now }
@@ -304,9 +337,9 @@ fn mark(marks: &Marks, seat: &mut Seat, side: &TcSide, step: &Step)
 }
 
 // One step of the component, and how many messages it has sent then.
-fn stepped<R: Wait>(
+fn stepped<D: CrashLog, R: Wait>(
     rt: &R,
-    side: &mut TcSide,
+    side: &mut TcSide<D>,
     sent: u64,
     caller: Option<u64>,
     event: Event,

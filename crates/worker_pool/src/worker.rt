@@ -4,11 +4,19 @@ use crate::naming::Naming;
 use crate::shared::{Job, Shared};
 use crossbeam_channel::Receiver;
 use record_key::Refusal;
+use stable::{CrashLog, CrashPages};
 use std::sync::Wait;
 use world::{Event, Out};
 
 /// Serves requests until the engine and every session are gone.
-pub fn work<J: Naming, G: Gate, R: Wait>(rt: &R, shared: &Shared<J, G>, jobs: &Receiver<Job>) {
+pub fn work<J, G, D, P, R>(rt: &R, shared: &Shared<J, G, D, P>, jobs: &Receiver<Job>)
+where
+    J: Naming,
+    G: Gate,
+    D: CrashLog,
+    P: CrashPages,
+    R: Wait,
+{
     for _ in rt.forever() {
         let Ok(job) = jobs.recv(rt) else {
             break;
@@ -17,7 +25,7 @@ pub fn work<J: Naming, G: Gate, R: Wait>(rt: &R, shared: &Shared<J, G>, jobs: &R
     }
 }
 
-impl<J: Naming, G: Gate> Shared<J, G> {
+impl<J: Naming, G: Gate, D: CrashLog, P: CrashPages> Shared<J, G, D, P> {
     // Serves one request, hands its reply over, and keeps the leaves small.
     fn serve<R: Wait>(&self, rt: &R, job: Job) {
         self.look_on(rt, job.number);

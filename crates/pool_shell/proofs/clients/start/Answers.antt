@@ -1,6 +1,6 @@
 use denote.Param.Send.{sendable}
-use Rattle.worker_pool.proofs.Sharing.{both}
-use Rattle.pool_shell.proofs.Sharing.{ended_send, holding_send, session_send}
+use Rattle.worker_pool.proofs.Sharing.{both, session_send}
+use Rattle.pool_shell.proofs.Sharing.{ended_send, holding_send}
 use Rattle.pool_shell.proofs.clients.start.Goals as goal
 
 pub spawn-requires-send-F : goal.spawn-requires-send-F

@@ -1,6 +1,6 @@
 use Rattle.std.proofs.Common.{sym, subst}
 use Rattle.worker_pool.specs.Opened.{AreTied, OpenedView}
-use Rattle.worker_pool.proofs.engine.Engine.new.Goals as goal
+use Rattle.worker_pool.proofs.assembly.share.Goals as goal
 
 pub seat_all-requires-clause-tied : goal.seat_all-requires-clause-tied
 seat_all-requires-clause-tied g c =

@@ -1,0 +1,56 @@
+//! What an engine's threads share, made of what was opened.
+ghost use Rattle.std.specs.Prelude.{◌≡◌, IfOk};
+ghost use Rattle.std.specs.List.{AllByRecursion};
+ghost use Rattle.worker_pool.specs.Closing.{IsSeated, below, numbers_in};
+ghost use Rattle.worker_pool.specs.Opened.{IsNamed};
+
+use crate::dc_desk::DcDesk;
+use crate::hall::Hall;
+use crate::journal::Journal;
+use crate::lines::Lines;
+use crate::naming::Naming;
+use crate::opened::Opened;
+use crate::seated::{Seated, Sitter, seat_all};
+use crate::shared::Shared;
+use crate::stirs::Stirs;
+use crate::tc_desk::TcDesk;
+use stable::{CrashLog, CrashPages};
+use std::alloc::AllocError;
+use std::sync::Arc;
+
+/// What the threads share, and each session's own side of it. Nothing is entered yet.
+pub(crate) fn share<J, G, D, P>(
+    opened: Opened<D, P>,
+    gate: G,
+) -> Result<(Arc<Shared<J, G, D, P>>, Vec<Sitter<J>>), AllocError>
+where
+    J: Naming + Drop,
+    G: Drop,
+    D: CrashLog + Drop,
+    P: CrashPages + Drop,
+    requires named { IsNamed opened J.entries J.marks J.names J.sessions }
+    ensures sitters { IfOk result (λ made. AllByRecursion (IsSeated J.marks) made.1.items) }
+    ensures numbers { IfOk result (λ made. numbers_in made.1.items ≡ below J.sessions) }
+{
+    let stirs = Stirs::new(opened.alloc, opened.chairs.len())?;
+    let Opened {
+        alloc,
+        row,
+        marks,
+        seat,
+        tc,
+        dc,
+        chairs,
+        transactions,
+        data,
+    } = opened;
+    let (tc_book, tc_mark) = tc.parted();
+    let (dc_book, dc_mark) = dc.parted();
+    let Seated { places, sitters } = seat_all::<J>(alloc, chairs)?;
+    let hall = Hall::new(row, marks);
+    let tc = TcDesk::new(transactions, tc_mark, seat);
+    let dc = DcDesk::new(data, dc_mark);
+    let journal = Journal::new(Lines::new(alloc, tc_book, dc_book), places, stirs);
+    let shared = Arc::new(alloc, Shared::new(hall, tc, dc, journal, gate))?;
+    Ok((shared, sitters))
+}
