@@ -1,27 +1,33 @@
-//! Runs every script that lies in its folder, and compares what the shell makes of it with what it must.
+//! Runs every script that lies in its folder, and compares what the shell makes of it with what it must; and what no
+//! script shows: the command line, a reader or a writer that fails, and clients on threads.
 //!
 //! NAME.script must give exactly the text NAME.out and the exit status NAME.status. Each line of `bad_lines` is a script
-//! of its own that is refused BadScript. A case that differs prints a line; the last line says how many agree.
+//! of its own that is refused BadScript. A case that differs prints a line; the last lines say how many agree.
 #![tactic(auto)]
 
 mod bad_lines;
 mod case;
+mod command_lines;
 mod difference;
+mod failing;
 mod listing;
+mod refusals;
+mod rounds;
 mod tally;
 
-use std::io;
-use std::process::ExitCode;
+use std::{fs, io};
 
-fn main(rt: HostRuntime) -> ExitCode {
-    match compare_all(&rt) {
-        Ok(()) => ExitCode::from(0),
-        Err(_) => ExitCode::from(1),
-    }
+fn main(rt: HostRuntime) -> io::Result<()> {
+    compare_texts(&rt)?;
+    let text = fs::read(&rt, "eight_clients")?;
+    rounds::compare_runs(rt, rt.alloc(), text.as_slice())?.print(&rt, "runs of clients")
 }
 
-fn compare_all(rt: &HostRuntime) -> io::Result<()> {
+fn compare_texts(rt: &HostRuntime) -> io::Result<()> {
     let names = listing::names(rt)?;
     case::compare_scripts(rt, names.as_slice())?.print(rt, "scripts")?;
-    bad_lines::compare_lines(rt)?.print(rt, "bad lines")
+    bad_lines::compare_lines(rt)?.print(rt, "bad lines")?;
+    command_lines::compare_words(rt)?.print(rt, "command lines")?;
+    refusals::compare_refusals(rt.alloc()).print(rt, "refusals")?;
+    failing::compare_failures(rt)?.print(rt, "failures")
 }

@@ -1,0 +1,43 @@
+//! What the words of a command line ask for.
+use crate::tally::Tally;
+use node_shell::{Task, choose};
+use std::{fs, io};
+
+/// Reads each line of the file `command_lines`, what is asked for and then the words, and prints a line for each that
+/// asks for something else.
+pub fn compare_words(rt: &HostRuntime) -> io::Result<Tally> {
+    let lines = fs::read_to_string(rt, "command_lines")?;
+    let mut tally = Tally::new();
+    for line in lines.as_str().split_terminator('\n') {
+        tally.count(agrees(rt, line)?);
+    }
+    Ok(tally)
+}
+
+/// Whether the words of the line ask for what stands before them. Prints what they ask for where they don't.
+fn agrees(rt: &HostRuntime, line: &str) -> io::Result<bool> {
+    let Some((wanted, words)) = line.split_once('=') else {
+        return Ok(false);
+    };
+    let asked = asked_by(rt, words)?;
+    if asked.as_str() != wanted {
+        println!(rt; "{words}: {asked}, not {wanted}")?;
+    }
+    Ok(asked.as_str() == wanted)
+}
+
+/// What these words ask for: `no` where they are refused.
+fn asked_by(rt: &HostRuntime, words: &str) -> io::Result<String> {
+    let mut all = Vec::new(rt.alloc());
+    all.push("undo_shell")?;
+    for word in words.split_terminator(' ') {
+        all.push(word)?;
+    }
+    match choose(rt.alloc(), all.as_slice()) {
+        Ok(Task::Run) => Ok(String::from_str(rt.alloc(), "run")?),
+        Ok(Task::Pool { sessions, rounds }) => {
+            Ok(format!(in rt.alloc(); "pool {sessions} {rounds}")?)
+        }
+        Err(_) => Ok(String::from_str(rt.alloc(), "no")?),
+    }
+}
