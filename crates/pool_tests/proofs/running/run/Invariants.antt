@@ -1,0 +1,12 @@
+use Rattle.std.proofs.Common.{length}
+use Rattle.worker_pool.specs.Opened.{name_of}
+use Rattle.pool_tests.proofs.running.run.Given as goal
+
+-- the engine's names are those of what was just opened
+abbrev pub ghosts-run_opened : goal.ghosts-run_opened
+ghosts-run_opened g a = record {
+  entries = a.opened.entries;
+  marks = a.opened.marks;
+  names = name_of a.opened;
+  sessions = length a.opened.sessions;
+}

@@ -1,0 +1,144 @@
+//! A client: its session, and what it notes of its own calls.
+use crate::call::Call;
+use crate::stage::Door;
+use codec::Rows;
+use record_key::{Answer, Key, Op, Refusal, Value};
+use std::alloc::Global;
+use std::sync::Wait;
+use worker_pool::{Naming, Session};
+use world::{Event, Out};
+
+/// A call, and what the client was answered, as the output that says it.
+#[derive(Debug, Drop)]
+pub struct Note {
+    pub event: Event,
+    pub out: Out,
+}
+
+/// A client with its session, from 0.
+#[derive(Drop)]
+pub struct Client<J: Naming> {
+    number: u64,
+    session: Session<J, Door>,
+    txn: u64,
+    notes: Vec<Note>,
+}
+
+impl<J: Naming + Drop> Client<J> {
+    /// A client that has made no call.
+    pub fn new(alloc: Global, number: u64, session: Session<J, Door>) -> Client<J> {
+        Client {
+            number,
+            session,
+            txn: 0,
+            notes: Vec::new(alloc),
+        }
+    }
+
+    pub fn number(&self) -> u64 {
+        self.number
+    }
+
+    /// Its session, and its notes.
+    pub fn parted(self) -> (Session<J, Door>, Vec<Note>) {
+        let Client {
+            number: _,
+            session,
+            txn: _,
+            notes,
+        } = self;
+        (session, notes)
+    }
+
+    /// What the latest call was answered, if one was made.
+    pub fn heard(&self) -> Option<&Out> {
+        Some(&self.notes.last()?.out)
+    }
+
+    pub fn marks(&mut self) -> (u64, u64) {
+        self.session.marks()
+    }
+
+    /// Makes a call, and notes what it is answered. Refused NoMemory where it can't be noted.
+    pub fn make<R: Wait>(&mut self, rt: &R, call: &Call) -> Result<(), Refusal> {
+        let event = call.event(self.txn);
+        let out = match self.answer(rt, call) {
+            Ok(out) => out,
+            Err(refusal) => Out::Refused(refusal),
+        };
+        if let Out::Begun(txn) = &out {
+            self.txn = *txn;
+        }
+        self.notes.push(Note { event, out })?;
+        Ok(())
+    }
+
+    fn answer<R: Wait>(&mut self, rt: &R, call: &Call) -> Result<Out, Refusal> {
+        match call {
+            Call::Begin => Ok(Out::Begun(self.begin(rt)?)),
+            Call::Act(op) => Ok(answered(self.txn, self.act(rt, op)?)),
+            Call::Get(key) => Ok(row(self.txn, self.get(rt, key)?)),
+            Call::Scan(low, high) => Ok(rows(self.txn, self.scan(rt, low, high)?)),
+            _ => self.turn(rt, call),
+        }
+    }
+
+    // A savepoint, a rollback or a commit.
+    fn turn<R: Wait>(&mut self, rt: &R, call: &Call) -> Result<Out, Refusal> {
+        match call {
+            Call::BackTo(savepoint) => self.back_to(rt, *savepoint),
+            Call::Rollback => self.roll_back(rt),
+            Call::Commit => Ok(Out::CommitLogged(self.commit(rt)?)),
+            _ => Ok(Out::Saved(self.save(rt)?)),
+        }
+    }
+
+    fn begin<R: Wait>(&mut self, rt: &R) -> Result<u64, Refusal> {
+        self.session.begin(rt)
+    }
+
+    fn act<R: Wait>(&mut self, rt: &R, op: &Op) -> Result<Answer, Refusal> {
+        self.session.act(rt, op)
+    }
+
+    fn get<R: Wait>(&mut self, rt: &R, key: &Key) -> Result<Option<Value>, Refusal> {
+        self.session.get(rt, key)
+    }
+
+    fn scan<R: Wait>(&mut self, rt: &R, low: &Key, high: &Option<Key>) -> Result<Rows, Refusal> {
+        self.session.scan(rt, low, high)
+    }
+
+    fn save<R: Wait>(&mut self, rt: &R) -> Result<u64, Refusal> {
+        self.session.save(rt)
+    }
+
+    fn back_to<R: Wait>(&mut self, rt: &R, savepoint: u64) -> Result<Out, Refusal> {
+        self.session.back_to(rt, savepoint)?;
+        Ok(Out::Back {
+            txn: self.txn,
+            savepoint,
+        })
+    }
+
+    fn roll_back<R: Wait>(&mut self, rt: &R) -> Result<Out, Refusal> {
+        self.session.rollback(rt)?;
+        Ok(Out::RolledBack(self.txn))
+    }
+
+    fn commit<R: Wait>(&mut self, rt: &R) -> Result<u64, Refusal> {
+        self.session.commit(rt)
+    }
+}
+
+fn answered(txn: u64, answer: Answer) -> Out {
+    Out::Answered { txn, answer }
+}
+
+fn row(txn: u64, value: Option<Value>) -> Out {
+    Out::Row { txn, value }
+}
+
+fn rows(txn: u64, rows: Rows) -> Out {
+    Out::Rows { txn, rows }
+}

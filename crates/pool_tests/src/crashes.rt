@@ -1,0 +1,66 @@
+//! Crashes that the main thread makes beside its clients.
+use crate::plan::Many;
+use crate::stage::{Door, Stage};
+use std::sync::Wait;
+use worker_pool::{Engine, Naming};
+
+/// What crashes, and how many bytes are kept of what isn't stable of the transactions' log.
+#[derive(Debug, Clone, Copy)]
+enum Crash {
+    Data,
+    Transactions(u64),
+    Both,
+}
+
+const CRASHES: [Crash; 6] = [
+    Crash::Data,
+    Crash::Transactions(0),
+    Crash::Transactions(1000),
+    Crash::Both,
+    Crash::Transactions(7),
+    Crash::Data,
+];
+
+/// How often a component has crashed once all of these were made.
+pub const FALLS: usize = 7;
+
+/// Makes each crash after so many calls more, and restarts what is down. Whether each restart was done.
+pub fn crash_all<J, R>(rt: &R, engine: &Engine<J, Door>, stage: &Stage, many: &Many) -> bool
+where
+    J: Naming + Drop + Send + Sync + 'static,
+    R: Wait,
+{
+    let Some(step) = many.plan.crashes else {
+        return true;
+    };
+    let mut up = true;
+    let mut calls = 0u64;
+    for crash in CRASHES {
+        calls = calls.saturating_add(step);
+        stage.wait_calls(calls, many.sessions as u64);
+        if !fall(rt, engine, stage, crash) {
+            up = false;
+        }
+    }
+    up
+}
+
+// Clients wait from before a crash until all is up again, if they are refused.
+fn fall<J, R>(rt: &R, engine: &Engine<J, Door>, stage: &Stage, crash: Crash) -> bool
+where
+    J: Naming + Drop + Send + Sync + 'static,
+    R: Wait,
+{
+    stage.set_down(true);
+    match crash {
+        Crash::Data => engine.crash_dc(rt),
+        Crash::Transactions(kept) => engine.crash_tc(rt, kept),
+        Crash::Both => {
+            engine.crash_tc(rt, 0);
+            engine.crash_dc(rt);
+        }
+    }
+    let up = engine.restart(rt).is_ok();
+    stage.set_down(false);
+    up
+}

@@ -1,0 +1,185 @@
+//! Clients on threads, and what is done beside them.
+use crate::client::Client;
+use crate::crashes::crash_all;
+use crate::lines;
+use crate::plan::{Many, Plan};
+use crate::playing::play;
+use crate::stage::{Door, Stage};
+use crate::table::Table;
+use record_key::Refusal;
+use std::alloc::{AllocError, Global};
+use std::sync::{Arc, Wait};
+use std::thread;
+use std::thread::{JoinHandle, Threads};
+use worker_pool::{Engine, Naming};
+
+/// What a client does on its thread.
+#[derive(Debug, Drop)]
+enum Task {
+    Lines(String),
+    Drawn(Plan),
+}
+
+/// A client whose thread is over, and whether all was as it is to be.
+#[derive(Drop)]
+pub struct Ended<J: Naming> {
+    client: Client<J>,
+    agrees: bool,
+}
+
+// A client's thread. Refused where none can be made; the client is gone then.
+fn start<J, R>(
+    rt: R,
+    alloc: Global,
+    client: Client<J>,
+    stage: &Arc<Stage>,
+    task: Task,
+) -> Result<JoinHandle<Ended<J>>, AllocError>
+where
+    J: Naming + Drop + Send + Sync + 'static,
+    R: Threads + Wait + Copy + Send + 'static,
+{
+    let stage = Arc::try_clone(stage)?;
+    Ok(thread::spawn(&rt, move || follow(&rt, alloc, client, &*stage, task))?)
+}
+
+// From a client's first call to its last.
+fn follow<J: Naming + Drop, R: Wait>(
+    rt: &R,
+    alloc: Global,
+    client: Client<J>,
+    stage: &Stage,
+    task: Task,
+) -> Ended<J> {
+    let mut client = client;
+    let agrees = perform(rt, alloc, &mut client, stage, &task);
+    stage.count_over();
+    Ended { client, agrees }
+}
+
+// Whether all was as it is to be.
+fn perform<J: Naming + Drop, R: Wait>(
+    rt: &R,
+    alloc: Global,
+    client: &mut Client<J>,
+    stage: &Stage,
+    task: &Task,
+) -> bool {
+    match task {
+        Task::Lines(text) => matches!(lines::follow(rt, alloc, client, text.as_str()), Ok(true)),
+        Task::Drawn(plan) => play(rt, client, stage, *plan).is_ok(),
+    }
+}
+
+/// Does what a table says. Whether all is answered so.
+pub fn play_table<J, R>(
+    rt: R,
+    alloc: Global,
+    engine: &Engine<J, Door>,
+    clients: &mut Vec<Client<J>>,
+    stage: &Arc<Stage>,
+    table: &Table<'_>,
+) -> Result<bool, Refusal>
+where
+    J: Naming + Drop + Send + Sync + 'static,
+    R: Threads + Wait + Copy + Send + 'static,
+{
+    if !table.there.is_empty() && !play_beside(rt, alloc, engine, clients, stage, table)? {
+        return Ok(false);
+    }
+    lines::follow_all(&rt, alloc, engine, clients, table.after)
+}
+
+// The last client makes its calls on a thread, and what is to be done beside it is done while its message is held.
+fn play_beside<J, R>(
+    rt: R,
+    alloc: Global,
+    engine: &Engine<J, Door>,
+    clients: &mut Vec<Client<J>>,
+    stage: &Arc<Stage>,
+    table: &Table<'_>,
+) -> Result<bool, Refusal>
+where
+    J: Naming + Drop + Send + Sync + 'static,
+    R: Threads + Wait + Copy + Send + 'static,
+{
+    let task = Task::Lines(String::from_str(alloc, table.there)?);
+    let Some(client) = clients.pop() else {
+        return Ok(false);
+    };
+    let thread = start(rt, alloc, client, stage, task)?;
+    let beside = stage.wait_held()
+        && matches!(
+            lines::follow_all(&rt, alloc, engine, clients, table.beside),
+            Ok(true)
+        );
+    stage.open();
+    let there = join(&rt, thread, clients);
+    Ok(there && beside && !stage.is_late())
+}
+
+// Waits for a client's thread. Whether all was as it is to be.
+fn join<J: Naming + Drop, R: Threads>(
+    rt: &R,
+    thread: JoinHandle<Ended<J>>,
+    clients: &mut Vec<Client<J>>,
+) -> bool {
+    let Ended { client, agrees } = thread.join(rt);
+    clients.push(client).is_ok() && agrees
+}
+
+/// Each client follows the plan on a thread of its own, beside the crashes. Whether no call was refused for want of
+/// memory, and the components were brought up after each crash.
+pub fn play_many<J, R>(
+    rt: R,
+    alloc: Global,
+    engine: &Engine<J, Door>,
+    clients: &mut Vec<Client<J>>,
+    stage: &Arc<Stage>,
+    many: &Many,
+) -> Result<bool, Refusal>
+where
+    J: Naming + Drop + Send + Sync + 'static,
+    R: Threads + Wait + Copy + Send + 'static,
+{
+    let mut threads = Vec::with_capacity(alloc, clients.len())?;
+    let started = start_all(rt, alloc, clients, stage, many.plan, &mut threads);
+    let up = crash_all(&rt, engine, stage, many);
+    let played = join_all(&rt, threads, clients);
+    started?;
+    Ok(up && played)
+}
+
+fn start_all<J, R>(
+    rt: R,
+    alloc: Global,
+    clients: &mut Vec<Client<J>>,
+    stage: &Arc<Stage>,
+    plan: Plan,
+    threads: &mut Vec<JoinHandle<Ended<J>>>,
+) -> Result<(), Refusal>
+where
+    J: Naming + Drop + Send + Sync + 'static,
+    R: Threads + Wait + Copy + Send + 'static,
+{
+    for _ in 0..clients.len() {
+        if let Some(client) = clients.pop() {
+            threads.push(start(rt, alloc, client, stage, Task::Drawn(plan))?)?;
+        }
+    }
+    Ok(())
+}
+
+fn join_all<J: Naming + Drop, R: Threads>(
+    rt: &R,
+    threads: Vec<JoinHandle<Ended<J>>>,
+    clients: &mut Vec<Client<J>>,
+) -> bool {
+    let mut agree = true;
+    for thread in threads {
+        if !join(rt, thread, clients) {
+            agree = false;
+        }
+    }
+    agree
+}
