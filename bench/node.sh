@@ -4,7 +4,9 @@
 # each write: a upserts, b the same rolled back, c updates of which a savepoint undoes the first five, d reads, e rows read
 # a hundred at a time; savepoints: updates in transactions of a hundred, a savepoint before each ten, of which every second
 # ten is undone; into no rows, inserts of rising and of scattered keys; and eight clients that change one record in turn,
-# in transactions of ten: adds, which go beside one another, and updates, which wait.
+# in transactions of ten: adds, which go beside one another, and updates, which wait. The same of an engine with four
+# workers: g upserts of four clients, each on a thread and on keys of its own, h every second transaction rolled back, one
+# the work of g by one session.
 # Prints operations a second at 1,000, 10,000 and 100,000 operations, each the best of five runs, and the ratio of the
 # last to the first. Then what follows a crash, in milliseconds for each 1,000 upserts: f of both components, of upserts
 # committed in tens and an open transaction of 1,000, until that is undone and a row is read; checked the same with a
@@ -33,7 +35,7 @@ resident() {
     cat "$folder/memory"
 }
 
-for workload in a early b c d e savepoints rising scattered adds updates; do
+for workload in a early b c d e savepoints rising scattered adds updates g h one; do
     first=
     for operations in 1000 10000 100000; do
         rate=$(best "$workload" "$operations")

@@ -2,7 +2,8 @@
 # Usage: bench/peers.sh FOLDER [RESULTS]. Proves and builds crates/bench_node and measures it beside other databases.
 # FOLDER/run.sh measures them: it takes further programs by EXTRA (name=command; a program is called with NAME WORKLOAD
 # N and prints the line that crates/bench_node/src/main.rt describes) and writes results.md into the folder RESULTS.
-# REPS, SIZES, WORKLOADS and PEERS choose what is measured. Prints the table. The first line is the machine's.
+# REPS, SIZES, WORKLOADS and PEERS choose what is measured. Prints the table, in which g and h are an engine's and the
+# rest a node's; then the line of one, the work of g by one session. The first line is the machine's.
 set -eu
 folder=$(cd "$1" && pwd)
 results=${2:-$(mktemp -d)}
@@ -17,3 +18,4 @@ if ! rt run >"$results/build" 2>&1; then
 fi
 EXTRA="node=$PWD/out/bench_node" RESULTS="$results" "$folder/run.sh"
 cat "$results/results.md"
+./out/bench_node node one 100000

@@ -1,6 +1,9 @@
 //! The keys and values of the work, drawn from numbers as the other programs that are measured draw them.
 use record_key::{Key, Refusal, Value};
-use std::alloc::{AllocError, Global};
+use std::alloc::Global;
+
+/// How many keys there are. Those with an even number are loaded first.
+pub const KEYS: u64 = 20_000;
 
 /// How many values begin at different places of the pool.
 const PLACES: u64 = 4096;
@@ -35,7 +38,7 @@ pub struct Values {
 }
 
 impl Values {
-    pub fn new(alloc: Global) -> Result<Values, AllocError> {
+    pub fn new(alloc: Global) -> Result<Values, Refusal> {
         let letters = b"0123456789abcdefghijklmnopqrstuvwxyz";
         let mut pool = Vec::new(alloc);
         for place in 0..PLACES + LONGEST_VALUE {
@@ -57,5 +60,15 @@ impl Values {
 
 /// The draw of a place in a workload.
 pub fn draw(workload: u8, place: u64) -> u64 {
-    mix(mix(u64::from(workload) << 8).wrapping_add(place))
+    drawn(seed(workload, 0), place)
+}
+
+/// What a client's draws begin from.
+pub fn seed(workload: u8, client: u8) -> u64 {
+    mix(u64::from(workload) << 8 | u64::from(client))
+}
+
+/// The draw of a place in a client's work.
+pub fn drawn(seed: u64, place: u64) -> u64 {
+    mix(seed.wrapping_add(place))
 }

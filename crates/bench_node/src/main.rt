@@ -1,76 +1,100 @@
-//! Measures a node over the world's public calls, with no script and no text.
+//! Measures a node over the world's public calls, and an engine over its sessions, with no script and no text.
 //!
 //! Usage: bench_node NAME WORKLOAD N. Prints one line: name, workload, n, operations, seconds, operations a second,
 //! retries, store in KB, digest of the rows, server in KB, processor seconds; what isn't known is 0.
 #![tactic(auto)]
 
 mod client;
+mod crew;
+mod digest;
 mod draws;
+mod engine;
 mod hot;
 mod measure;
+mod player;
+mod quiet;
 mod work;
 mod workload;
 
+use crew::Crew;
 use measure::{Outcome, measured};
+use std::alloc::Global;
 use std::process::ExitCode;
+use std::sync::Wait;
+use std::thread::Threads;
+use std::time::{Clock, Duration};
 use std::{env, io};
 use workload::Workload;
 
 fn main(rt: HostRuntime) -> ExitCode {
-    match print_line(&rt) {
+    let printed = match arguments(&rt) {
+        Ok(words) => print_line(rt, rt.alloc(), words.as_slice()),
+        Err(error) => Err(error),
+    };
+    match printed {
         Ok(()) => ExitCode::from(0),
         Err(_) => ExitCode::from(2),
     }
 }
 
-fn print_line(rt: &HostRuntime) -> io::Result<()> {
-    let words: Vec<String> = env::args(rt)?.collect(rt.alloc())?;
-    let [_, name, workload, count, ..] = words.as_slice() else {
-        return usage(rt);
+/// The command line, the program's name first.
+fn arguments(rt: &HostRuntime) -> io::Result<Vec<String>> {
+    Ok(env::args(rt)?.collect(rt.alloc())?)
+}
+
+fn print_line<R>(rt: R, alloc: Global, words: &[String]) -> io::Result<()>
+where
+    R: Print + Clock + Threads + Wait + Copy + Send + Sync + 'static,
+{
+    let [_, name, workload, count, ..] = words else {
+        return usage(&rt);
     };
     let Ok(operations) = count.as_str().parse::<u64>() else {
-        return usage(rt);
+        return usage(&rt);
     };
-    let Some(what) = Workload::named(workload.as_str()) else {
-        println!(rt; "{name},{workload},{operations},unsupported: one thread and no restart")?;
+    let (name, workload) = (name.as_str(), workload.as_str());
+    if let Some(crew) = Crew::named(workload, operations) {
+        let outcome = engine::measured(rt, alloc, crew)?;
+        return print_outcome(&rt, name, workload, (operations, operations), &outcome);
+    }
+    let Some(what) = Workload::named(workload) else {
+        println!(&rt; "{name},{workload},{operations},unsupported: no such work")?;
         return Ok(());
     };
-    let outcome = measured(rt, rt.alloc(), what, operations)?;
+    let outcome = measured(&rt, alloc, what, operations)?;
     let done = if what == Workload::Base {
         0
     } else {
         operations
     };
-    print_outcome(
-        rt,
-        name.as_str(),
-        workload.as_str(),
-        (operations, done),
-        &outcome,
-    )
+    print_outcome(&rt, name, workload, (operations, done), &outcome)
 }
 
 /// Prints a run of the workload at a number, with so many operations done.
-fn print_outcome(
-    rt: &HostRuntime,
+fn print_outcome<R: Print>(
+    rt: &R,
     name: &str,
     workload: &str,
     (number, done): (u64, u64),
     outcome: &Outcome,
 ) -> io::Result<()> {
-    let micros = u64::try_from(outcome.took.as_micros())
-        .unwrap_or(u64::MAX)
-        .max(1);
-    let (whole, part) = (micros / 1_000_000, micros % 1_000_000);
+    let micros = micros_of(outcome.took).max(1);
     let rate = done.saturating_mul(1_000_000) / micros;
     let (digest, waits) = (outcome.digest, outcome.waits);
+    let (whole, part) = (micros / 1_000_000, micros % 1_000_000);
+    let busy = micros_of(outcome.busy);
+    let (busy, rest) = (busy / 1_000_000, busy % 1_000_000);
     println!(rt;
-        "{name},{workload},{number},{done},{whole}.{part:06},{rate},{waits},0,{digest:016x},0,{whole}.{part:06}"
+        "{name},{workload},{number},{done},{whole}.{part:06},{rate},{waits},0,{digest:016x},0,{busy}.{rest:06}"
     )?;
     Ok(())
 }
 
-fn usage(rt: &HostRuntime) -> io::Result<()> {
+fn micros_of(time: Duration) -> u64 {
+    u64::try_from(time.as_micros()).unwrap_or(u64::MAX)
+}
+
+fn usage<R: Print>(rt: &R) -> io::Result<()> {
     println!(rt; "usage: bench_node NAME WORKLOAD N")?;
     Ok(())
 }

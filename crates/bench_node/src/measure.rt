@@ -6,11 +6,12 @@ use std::alloc::Global;
 use std::io;
 use std::time::{Clock, Duration, Instant};
 
-/// How long the work took, without the load before it, how often a client waited for another, and the digest of the
-/// rows after it.
+/// How long the work took, without the load before it, and for how long a processor was busy with it, 0 where that isn't
+/// known; how often a client waited for another, and the digest of the rows after it.
 #[derive(Drop)]
 pub struct Outcome {
     pub took: Duration,
+    pub busy: Duration,
     pub waits: u64,
     pub digest: u64,
 }
@@ -31,14 +32,17 @@ fn timed<R: Clock>(rt: &R, work: &mut Work) -> io::Result<Outcome> {
     let start = Instant::now(rt)?;
     done(work.go())?;
     let end = Instant::now(rt)?;
+    let took = end.duration_since(start);
     Ok(Outcome {
-        took: end.duration_since(start),
+        took,
+        busy: took,
         waits: work.waits(),
         digest: done(work.digest())?,
     })
 }
 
-fn done<T: Drop>(work: Result<T, Refusal>) -> io::Result<T> {
+/// What was done, or the error of its refusal.
+pub fn done<T>(work: Result<T, Refusal>) -> io::Result<T> {
     match work {
         Ok(done) => Ok(done),
         Err(Refusal::NoMemory) => Err(io::Error::from(io::ErrorKind::OutOfMemory)),

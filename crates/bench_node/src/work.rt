@@ -1,13 +1,11 @@
 //! The work of each workload.
 use crate::client::Client;
-use crate::draws::{Values, draw, key_of, mix};
+use crate::digest::digest;
+use crate::draws::{KEYS, Values, draw, key_of, mix};
 use crate::hot;
 use crate::workload::Workload;
 use record_key::{Key, Refusal, Value};
 use std::alloc::Global;
-
-/// How many keys there are. Those with an even number are loaded first.
-const KEYS: u64 = 20_000;
 
 /// How many upserts the transaction has that a crash finds open.
 const LOSER: u64 = 1_000;
@@ -231,21 +229,8 @@ impl Work {
         }
     }
 
-    /// A number made of all rows, whatever their order: of each the hash FNV-1a of 64 bits, from a start of its own.
+    /// The digest of the rows.
     pub fn digest(&self) -> Result<u64, Refusal> {
-        let mut sum = 0u64;
-        for (key, value) in &self.client.rows()? {
-            let hash = fnv(0x1465_0fb0_739d_0383, key.as_bytes());
-            sum = sum.wrapping_add(mix(fnv(hash, value.as_bytes())));
-        }
-        Ok(sum)
+        Ok(digest(&self.client.rows()?))
     }
-}
-
-fn fnv(hash: u64, bytes: &[u8]) -> u64 {
-    let mut hash = hash;
-    for byte in bytes {
-        hash = (hash ^ u64::from(*byte)).wrapping_mul(0x100_0000_01b3);
-    }
-    hash
 }

@@ -1,0 +1,12 @@
+use Rattle.std.proofs.Common.{length}
+use Rattle.worker_pool.specs.Opened.{name_of}
+use Rattle.example_client.proofs.main.Given as goal
+
+-- the engine's names are those of what was just opened
+abbrev pub ghosts-count : goal.ghosts-count
+ghosts-count g a = record {
+  entries = a.opened.entries;
+  marks = a.opened.marks;
+  names = name_of a.opened;
+  sessions = length a.opened.sessions;
+}

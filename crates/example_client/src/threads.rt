@@ -1,0 +1,108 @@
+//! An engine: two clients, each on a thread of its own, add to one number.
+//!
+//! Neither waits until the other commits, since increments go beside one another. Which engine it is (`J`) is known to
+//! the proof alone: who opens it says `Brand`. It has to be closed: who owns it lends what a function that may stop needs.
+ghost use Rattle.worker_pool.specs.Opened.{IsNamed};
+
+use codec::{Reply, Request};
+use record_key::{Key, Op, Refusal, Value};
+use std::alloc::AllocError;
+use std::sync::Wait;
+use std::thread::{JoinHandle, Threads, spawn};
+use worker_pool::{Engine, Gate, Naming, Opened, Session};
+
+/// A gate at which nobody looks on.
+#[derive(Drop)]
+struct Quiet;
+
+impl Gate for Quiet {
+    fn before(&self, _request: &Request) {}
+
+    fn after(&self, _reply: &Reply) {}
+}
+
+type Client<J> = Session<J, Quiet>;
+
+/// A client's session again, or why the client stopped.
+type Left<J> = Result<Client<J>, Refusal>;
+
+/// How many apples two clients leave.
+pub fn count<J, R>(rt: R, opened: Opened) -> Result<u64, Refusal>
+where
+    J: Naming + Drop + Send + Sync + 'static,
+    R: Threads + Wait + Copy + Send + 'static,
+    requires { IsNamed opened J.entries J.marks J.names J.sessions }
+{
+    let (engine, mut clients) = Engine::<J, Quiet>::new(rt, opened, 2, Quiet)?;
+    let apples = work(rt, &mut clients);
+    engine.close(&rt, clients)?;
+    apples
+}
+
+/// From no apples on, the work of two clients. Sessions are lost where it is refused.
+fn work<J, R>(rt: R, clients: &mut Vec<Client<J>>) -> Result<u64, Refusal>
+where
+    J: Naming + Drop + Send + Sync + 'static,
+    R: Threads + Wait + Copy + Send + 'static,
+{
+    let (Some(one), Some(mut two)) = (clients.pop(), clients.pop()) else {
+        return Err(Refusal::Full);
+    };
+    put_none(&rt, &mut two)?;
+    let (one, two) = (start(rt, one, 10), start(rt, two, 9));
+    clients.push(one?.join(&rt)?)?;
+    clients.push(two?.join(&rt)?)?;
+    match clients.first_mut() {
+        Some(client) => read(&rt, client),
+        None => Err(Refusal::Full),
+    }
+}
+
+/// A client's thread.
+fn start<J, R>(rt: R, client: Client<J>, apples: u64) -> Result<JoinHandle<Left<J>>, AllocError>
+where
+    J: Naming + Drop + Send + Sync + 'static,
+    R: Threads + Wait + Copy + Send + 'static,
+{
+    Ok(spawn(&rt, move || trade(&rt, client, apples))?)
+}
+
+fn trade<J: Naming, R: Wait>(rt: &R, client: Client<J>, apples: u64) -> Left<J> {
+    let mut client = client;
+    add_twice(rt, &mut client, &Op::Add(key()?, apples))?;
+    Ok(client)
+}
+
+/// Two transactions: the first is committed, the second is rolled back.
+fn add_twice<J: Naming, R: Wait>(rt: &R, client: &mut Client<J>, op: &Op) -> Result<(), Refusal> {
+    client.begin(rt)?;
+    client.act(rt, op)?;
+    client.commit(rt)?;
+    client.begin(rt)?;
+    client.act(rt, op)?;
+    client.rollback(rt)
+}
+
+fn put_none<J: Naming, R: Wait>(rt: &R, client: &mut Client<J>) -> Result<(), Refusal> {
+    client.begin(rt)?;
+    client.act(rt, &Op::Insert(key()?, Value::new(&[0; 8])?))?;
+    client.commit(rt)?;
+    Ok(())
+}
+
+fn read<J: Naming, R: Wait>(rt: &R, client: &mut Client<J>) -> Result<u64, Refusal> {
+    client.begin(rt)?;
+    let value = client.get(rt, &key()?)?;
+    client.commit(rt)?;
+    number(value.as_ref()).ok_or(Refusal::BadBytes(0))
+}
+
+fn key() -> Result<Key, Refusal> {
+    Key::new(b"apples")
+}
+
+/// The number that a value of 8 bytes is.
+fn number(value: Option<&Value>) -> Option<u64> {
+    let bytes = <[u8; 8]>::try_from(value?.as_bytes()).ok()?;
+    Some(u64::from_be_bytes(bytes))
+}
