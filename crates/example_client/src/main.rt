@@ -6,13 +6,10 @@ mod alone;
 mod threads;
 
 use record_key::Refusal;
-use std::marker::Brand;
-use worker_pool::Opened;
 
 fn main(rt: HostRuntime) -> Result<(), Refusal> {
     alone::run(&rt)?;
-    let opened = Opened::new(rt.alloc(), 2)?;
-    let apples = threads::count::<Brand, HostRuntime>(rt, opened)?;
+    let apples = threads::run(rt, rt.alloc())?;
     // (a reader that is gone is no fault of the engine)
     let _ = println!(rt; "apples {apples}");
     Ok(())

@@ -6,7 +6,8 @@ ghost use Rattle.worker_pool.specs.Opened.{IsNamed};
 
 use codec::{Reply, Request};
 use record_key::{Key, Op, Refusal, Value};
-use std::alloc::AllocError;
+use std::alloc::{AllocError, Global};
+use std::marker::Brand;
 use std::sync::Wait;
 use std::thread::{JoinHandle, Threads, spawn};
 use worker_pool::{Engine, Gate, Naming, Opened, Session};
@@ -27,11 +28,20 @@ type Client<J> = Session<J, Quiet>;
 type Left<J> = Result<Client<J>, Refusal>;
 
 /// How many apples two clients leave.
-pub fn count<J, R>(rt: R, opened: Opened) -> Result<u64, Refusal>
+pub fn run<R>(rt: R, alloc: Global) -> Result<u64, Refusal>
+where
+    R: Threads + Wait + Copy + Send + 'static,
+{
+    let opened = Opened::new(alloc, 2)?;
+    count::<Brand, R>(rt, opened)
+}
+
+/// The same with what an engine is made of.
+fn count<J, R>(rt: R, opened: Opened) -> Result<u64, Refusal>
 where
     J: Naming + Drop + Send + Sync + 'static,
     R: Threads + Wait + Copy + Send + 'static,
-    requires { IsNamed opened J.entries J.marks J.names J.sessions }
+    requires named { IsNamed opened J.entries J.marks J.names J.sessions }
 {
     let (engine, mut clients) = Engine::<J, Quiet>::new(rt, opened, 2, Quiet)?;
     let apples = work(rt, &mut clients);

@@ -1,6 +1,6 @@
 use Rattle.std.proofs.Common.{length}
 use Rattle.worker_pool.specs.Opened.{name_of}
-use Rattle.example_client.proofs.main.Given as goal
+use Rattle.example_client.proofs.threads.run.Given as goal
 
 -- the engine's names are those of what was just opened
 abbrev pub ghosts-count : goal.ghosts-count
