@@ -5,7 +5,7 @@ use Rattle.std.proofs.Crossing.{crosses}
 use Rattle.std.specs.contracts.alloc.Global as Global
 use Rattle.std.specs.contracts.impls.GlobalAllocator.TheImpl.{ghosts}
 use Rattle.worker_pool.proofs.Sharing.{session_send}
-use Rattle.worker_pool.specs.declared.naming.Naming as naming
+use Rattle.pool_journal.specs.declared.naming.Naming as naming
 use Rattle.std.specs.contracts.sync.Arc as Arc
 use Rattle.record_key.proofs.refusal.Refusal.TheSendSync as refusal
 use Rattle.record_key.proofs.value.Value.TheSendSync as value

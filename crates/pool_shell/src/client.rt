@@ -6,11 +6,11 @@ use crate::words::{client_key, round_key, round_value};
 use record_key::{Op, Refusal, Value};
 use std::sync::Wait;
 use std::thread;
-use worker_pool::{Naming, Session};
+use worker_pool::{Gate, Naming, Session};
 
 /// A client plays its rounds, and then reads its key: gives the value there. A call that is refused Redoing or
 /// NotConnected is made again; any other refusal ends it.
-pub fn play<J: Naming, G: Drop, R: Wait>(
+pub fn play<J: Naming, G: Gate + Drop, R: Wait>(
     rt: &R,
     session: &mut Session<J, G>,
     client: u64,
@@ -23,7 +23,7 @@ pub fn play<J: Naming, G: Drop, R: Wait>(
 }
 
 // A transaction with two writes, rolled back in each second round.
-fn play_round<J: Naming, G: Drop, R: Wait>(
+fn play_round<J: Naming, G: Gate + Drop, R: Wait>(
     rt: &R,
     session: &mut Session<J, G>,
     client: u64,
@@ -48,7 +48,7 @@ fn play_round<J: Naming, G: Drop, R: Wait>(
     }
 }
 
-fn act<J: Naming, G: Drop, R: Wait>(
+fn act<J: Naming, G: Gate + Drop, R: Wait>(
     rt: &R,
     session: &mut Session<J, G>,
     op: &Op,
@@ -58,7 +58,7 @@ fn act<J: Naming, G: Drop, R: Wait>(
 }
 
 // A transaction that reads the client's key.
-fn read<J: Naming, G: Drop, R: Wait>(
+fn read<J: Naming, G: Gate + Drop, R: Wait>(
     rt: &R,
     session: &mut Session<J, G>,
     client: u64,

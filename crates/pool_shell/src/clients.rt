@@ -120,7 +120,7 @@ where
 }
 
 // A client's thread, from its first round to its end.
-fn follow<J: Naming, G: Drop, R: Wait>(
+fn follow<J: Naming, G: Gate + Drop, R: Wait>(
     rt: &R,
     session: Session<J, G>,
     holding: &Holding,
@@ -150,7 +150,7 @@ where
 
 // Waits for each thread, and gathers what the clients leave, in order. Refused as the least one was. There is room for
 // all of it: a thread that isn't joined would keep the engine open.
-fn join_all<J: Naming, G: Drop, R: Threads>(
+fn join_all<J: Naming, G: Gate + Drop, R: Threads>(
     rt: &R,
     started: Started<J, G>,
     played: Played<J, G>,

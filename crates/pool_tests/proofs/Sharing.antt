@@ -6,7 +6,7 @@ use Rattle.std.specs.contracts.alloc.Global as Global
 use Rattle.std.specs.contracts.impls.GlobalAllocator.TheImpl.{ghosts}
 use Rattle.std.specs.contracts.sync.Arc as Arc
 use Rattle.worker_pool.proofs.Sharing.{session_send}
-use Rattle.worker_pool.specs.declared.naming.Naming as naming
+use Rattle.pool_journal.specs.declared.naming.Naming as naming
 use Rattle.pool_tests.proofs.client.Note.TheSendSync as note
 use Rattle.pool_tests.proofs.stage.Door.TheSendSync as door
 use Rattle.pool_tests.proofs.stage.Stage.TheSendSync as stage

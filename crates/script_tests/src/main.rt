@@ -1,16 +1,21 @@
 //! Runs every script that lies in its folder, and compares what the shell makes of it with what it must; and what no
-//! script shows: the command line, a reader or a writer that fails, and clients on threads.
+//! script shows: the command line, a reader or a writer that fails, a crash after each event, and clients on threads.
 //!
 //! NAME.script must give exactly the text NAME.out and the exit status NAME.status. Each line of `bad_lines` is a script
-//! of its own that is refused BadScript. A case that differs prints a line; the last lines say how many agree.
+//! of its own that is refused BadScript, each of `crashed_scripts` names a script that is crashed. A case that differs
+//! prints a line; the last lines say how many agree.
 #![tactic(auto)]
 
 mod bad_lines;
 mod case;
 mod command_lines;
+mod crashing;
 mod difference;
+mod eight_bytes;
 mod failing;
 mod listing;
+mod plain_table;
+mod reading;
 mod refusals;
 mod rounds;
 mod tally;
@@ -29,5 +34,6 @@ fn compare_texts(rt: &HostRuntime) -> io::Result<()> {
     bad_lines::compare_lines(rt)?.print(rt, "bad lines")?;
     command_lines::compare_words(rt)?.print(rt, "command lines")?;
     refusals::compare_refusals(rt.alloc()).print(rt, "refusals")?;
-    failing::compare_failures(rt)?.print(rt, "failures")
+    failing::compare_failures(rt)?.print(rt, "failures")?;
+    crashing::compare_crashes(rt)?.print(rt, "crashes")
 }

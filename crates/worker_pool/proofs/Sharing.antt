@@ -35,21 +35,23 @@ use Rattle.std.specs.contracts.impls.GlobalAllocator.TheImpl.{ghosts}
 use Rattle.std.specs.contracts.sync.Arc as Arc
 use Rattle.world.proofs.stopped.Stopped.TheSendSync as stopped
 use Rattle.world.specs.contracts.dc_side.DcSide as DcSide
-use Rattle.worker_pool.proofs.caller.Caller.TheSendSync as caller
-use Rattle.worker_pool.proofs.hall.Hall.TheSendSync as hall
-use Rattle.worker_pool.proofs.journal.Journal.TheSendSync as journal
-use Rattle.worker_pool.proofs.shared.Job.TheSendSync as job
-use Rattle.worker_pool.proofs.tc_desk.TcDesk.TheSendSync as tc_desk
-use Rattle.worker_pool.proofs.view.Visitor.TheSendSync as visitor
-use Rattle.worker_pool.specs.declared.naming.Naming as naming
-use Rattle.worker_pool.specs.contracts.dc_desk.DcDesk as DcDesk
-use Rattle.worker_pool.specs.contracts.dc_desk.DcDesk.TheInside as DcDeskInside
-use Rattle.worker_pool.specs.contracts.journal.Journal as Journal
+use Rattle.pool_journal.proofs.caller.Caller.TheSendSync as caller
+use Rattle.pool_journal.proofs.hall.Hall.TheSendSync as hall
+use Rattle.pool_journal.proofs.journal.Journal.TheSendSync as journal
+use Rattle.worker_pool.proofs.board.Job.TheSendSync as job
+use Rattle.pool_journal.proofs.tc_desk.TcDesk.TheSendSync as tc_desk
+use Rattle.pool_journal.proofs.view.Visitor.TheSendSync as visitor
+use Rattle.pool_journal.specs.declared.naming.Naming as naming
+use Rattle.pool_journal.specs.contracts.dc_desk.DcDesk as DcDesk
+use Rattle.pool_journal.specs.contracts.dc_desk.DcDesk.TheInside as DcDeskInside
+use Rattle.pool_journal.specs.contracts.journal.Journal as Journal
 use Rattle.worker_pool.specs.contracts.session.Session as Session
 use Rattle.worker_pool.specs.contracts.session.Session.TheInside as SessionInside
-use Rattle.worker_pool.specs.contracts.shared.Job as Job
+use Rattle.worker_pool.specs.contracts.board.Board as Board
+use Rattle.worker_pool.specs.contracts.board.Job as Job
+use Rattle.worker_pool.specs.contracts.entrance.Entrance as Entrance
 use Rattle.worker_pool.specs.contracts.shared.Shared as Shared
-use Rattle.worker_pool.specs.contracts.tc_desk.TcDesk as TcDesk
+use Rattle.pool_journal.specs.contracts.tc_desk.TcDesk as TcDesk
 
 tree_send : IsSend Tree.the_row
 tree_send = search (leaf.the_send, key.the_send, summary.the_send, node.crosses, crosses, sendable) depth 40
@@ -90,12 +92,24 @@ module _ (D : RattleType) (d : log_device.Ghosts D.Denot) (sd : IsSend D) (P : R
     pub dc_desk_send : IsSend (DcDesk.the_row J D P n d p)
     dc_desk_send = search (dc_desk_inside_send, sendable) depth 20
 
+    board_send : IsSend (Board.the_field J n).row
+    board_send = search (journal_send, hall.the_send, number.the_send, crosses, sendable) depth 20
+
+    board_sync : IsSync (Board.the_field J n).row
+    board_sync = search (journal_send, hall.the_sync, number.the_sync, crosses, sendable) depth 20
+
+    entrance_send : IsSend (Entrance.the_field J D n d).row
+    entrance_send = search (board_send, tc_desk_send, crosses, sendable) depth 20
+
+    entrance_sync : IsSync (Entrance.the_field J D n d).row
+    entrance_sync = search (board_sync, tc_desk_send, crosses, sendable) depth 20
+
     module _ (G : RattleType) (sg : IsSend G) (yg : IsSync G) where
       pub shared_send : IsSend (Shared.the_row J G D P n d p)
-      shared_send = search (tc_desk_send, dc_desk_send, journal_send, hall.the_send, number.the_send, crosses, sendable) depth 20
+      shared_send = search (entrance_send, dc_desk_send, crosses, sendable) depth 20
 
       pub shared_sync : IsSync (Shared.the_row J G D P n d p)
-      shared_sync = search (tc_desk_send, dc_desk_send, journal_send, hall.the_sync, number.the_sync, crosses, sendable) depth 20
+      shared_sync = search (entrance_sync, dc_desk_send, crosses, sendable) depth 20
 
       pub arc_send : IsSend (Arc.the_row (Shared.the_row J G D P n d p) Global.the_row ghosts)
       arc_send = search (shared_send, shared_sync, crosses, sendable) depth 8

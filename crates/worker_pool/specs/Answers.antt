@@ -12,9 +12,9 @@ use Rattle.boxcar.specs.Table.{Shelves}
 use Rattle.worker_pool.specs.declared.ended.Ended.{Ended}
 use Rattle.worker_pool.specs.declared.ended.Ended.TheVariants as ended
 use Rattle.worker_pool.specs.Asking.{is_answered}
-use Rattle.worker_pool.specs.Sessions.{Call, Part, called_as, calls, ends, is_pending, line_to}
-use Rattle.worker_pool.specs.Callers.{IsToldBy, IsUntold}
-use Rattle.worker_pool.specs.Slots.{Slot, Shown}
+use Rattle.pool_journal.specs.Sessions.{LeavesLive, Call, Part, called_as, calls, ends, is_pending, line_to}
+use Rattle.pool_journal.specs.Callers.{IsToldBy, IsUntold}
+use Rattle.pool_journal.specs.Slots.{Slot, Shown}
 use Rattle.worker_pool.specs.Why.{IsWhy, why_of}
 
 -- one call more, with what it came to and the line that was told of it
@@ -52,27 +52,22 @@ RefusedBegin old r new = ((r ≡ Full) × IsSecond old new) ⊎ Refused event.Be
 abbrev pub IsOver : Line → Part → Type 0
 IsOver line new = ends line ≡ true → new.live ≡ None
 
--- what a call that has its entry came to at once leaves of the transaction
-abbrev pub LeavesLive : Out → Part → Type 0
-LeavesLive (out.Begun t) new = new.live ≡ Some t
-LeavesLive _ new = ⊤
-
 -- the call stands in the journal, and nothing was told of it yet
 pub record Calls (row : Shelves) (e : Event) (old : Part) (token : Slot) (new : Part) : Type 0 where
   pub shown : Shown row token
   pub before : new.before ≡ calls old
-  pub latest : new.latest ≡ Some (called_as e token.value.step.out None)
-  pub live : LeavesLive token.value.step.out new
+  pub latest : new.latest ≡ Some (called_as e token.value.step.value.out None)
+  pub live : LeavesLive token.value.step.value.out new
 
 -- how a call with an entry ended, by what it adds to the session's list
 abbrev pub Ends : Shelves → Event → Part → Ended → Part → Type 0
 Ends row e old (ended.AtOnce p) new =
-    Shown row p × (is_pending p.value.step.out ≡ false) × Adds e p.value.step.out None old new
-    × LeavesLive p.value.step.out new
+    Shown row p × (is_pending p.value.step.value.out ≡ false) × Adds e p.value.step.value.out None old new
+    × LeavesLive p.value.step.value.out new
 Ends row e old (ended.Told p q) new =
-    Shown row p × Shown row q × (is_pending p.value.step.out ≡ true)
-    × ((t : ℕ) × ((line : Line) × (line_to t q.value.step.out ≡ Some line) × IsOver line new
-    × Adds e p.value.step.out (Some line) old new))
+    Shown row p × Shown row q × (is_pending p.value.step.value.out ≡ true)
+    × ((t : ℕ) × ((line : Line) × (line_to t q.value.step.value.out ≡ Some line) × IsOver line new
+    × Adds e p.value.step.value.out (Some line) old new))
 Ends row e old ended.CutOff new =
     (o : Out) × (is_pending o ≡ true) × (new.live ≡ None) × Adds e o None old new
 
@@ -84,18 +79,18 @@ AreShown row ended.CutOff = ⊤
 
 -- why it is refused, where neither its entry nor what was told of it answers it
 abbrev pub IsRefusal : (Out → Bool) → (Out → Out → Bool) → Ended → Refusal → Type 0
-IsRefusal done told (ended.AtOnce p) r = (r ≡ why_of p.value.step.out) × (done p.value.step.out ≡ false)
-IsRefusal done told (ended.Told p q) r = (r ≡ NotConnected) × (told p.value.step.out q.value.step.out ≡ false)
+IsRefusal done told (ended.AtOnce p) r = (r ≡ why_of p.value.step.value.out) × (done p.value.step.value.out ≡ false)
+IsRefusal done told (ended.Told p q) r = (r ≡ NotConnected) × (told p.value.step.value.out q.value.step.value.out ≡ false)
 IsRefusal done told ended.CutOff r = r ≡ NotConnected
 
 -- it came to this, and was told of by that
 abbrev pub IsToldAs : (Out → Type 0) → (Out → Type 0) → Ended → Type 0
-IsToldAs IsCall IsLine (ended.Told p q) = IsCall p.value.step.out × IsLine q.value.step.out
+IsToldAs IsCall IsLine (ended.Told p q) = IsCall p.value.step.value.out × IsLine q.value.step.value.out
 IsToldAs IsCall IsLine _ = ⊥
 
 -- it came to this at once
 abbrev pub IsAtOnce : Out → Ended → Type 0
-IsAtOnce o (ended.AtOnce p) = p.value.step.out ≡ o
+IsAtOnce o (ended.AtOnce p) = p.value.step.value.out ≡ o
 IsAtOnce o _ = ⊥
 
 -- what it tells a transaction is that it has committed
@@ -107,9 +102,9 @@ TellsCommit _ = ⊥
 -- a call that has its entry was told of, or cut off; or nothing more was to be told of it
 abbrev pub Finishes : Shelves → Slot → Part → Ended → Part → Type 0
 Finishes row token old (ended.AtOnce p) new =
-    Shown row p × (p ≡ token) × (is_pending token.value.step.out ≡ false) × (new ≡ old)
+    Shown row p × (p ≡ token) × (is_pending token.value.step.value.out ≡ false) × (new ≡ old)
 Finishes row token old (ended.Told p q) new =
-    Shown row p × (p ≡ token) × Shown row q × (is_pending token.value.step.out ≡ true)
-    × IsToldBy old new q.value.step.out
+    Shown row p × (p ≡ token) × Shown row q × (is_pending token.value.step.value.out ≡ true)
+    × IsToldBy old new q.value.step.value.out
 Finishes row token old ended.CutOff new =
-    (is_pending token.value.step.out ≡ true) × (new.live ≡ None) × IsUntold old new
+    (is_pending token.value.step.value.out ≡ true) × (new.live ≡ None) × IsUntold old new

@@ -7,7 +7,7 @@ use Rattle.world.specs.declared.event.Out.{Out}
 use Rattle.world.specs.declared.event.Out.TheVariants as out
 use Rattle.worker_pool.specs.declared.ask.Ask.{Ask}
 use Rattle.worker_pool.specs.declared.ask.Ask.TheVariants as ask
-use Rattle.worker_pool.specs.Sessions.{Call, is_pending}
+use Rattle.pool_journal.specs.Sessions.{Call, is_pending}
 
 -- the event that it is of this transaction
 abbrev pub event_of : ℕ → Ask → Event

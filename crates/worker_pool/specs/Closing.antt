@@ -1,20 +1,15 @@
 -- What an engine begins with, and what it leaves.
 use Rattle.std.specs.Prelude.{◌≡◌, ◌⊎◌, ℕ, zero, suc, true, false, List, [], ◌∷◌, ◌++◌, Option, Some, None, map}
-use Rattle.std.specs.FinMap.{entries}
 use Rattle.std.specs.Global.{Vec}
 use Rattle.record_key.specs.Table.{Bytes}
 use Rattle.record_key.specs.declared.refusal.Refusal.{Refusal}
 use Rattle.record_key.specs.declared.refusal.Refusal.TheVariants.{NoMemory, Device, NumbersSpent}
 use Rattle.atomic_table.specs.Seated.{TableId}
-use Rattle.btree.specs.Leaves.{rows_of}
-use Rattle.dc_core.specs.DcView.{leaves}
 use Rattle.marks.specs.Seen.{reader}
-use Rattle.world.specs.Component.{DcSide}
 use Rattle.worker_pool.specs.declared.seated.Sitter.{Sitter}
-use Rattle.worker_pool.specs.declared.step.Step.{Step}
-use Rattle.worker_pool.specs.Callers.{CallerView, SessionView}
-use Rattle.worker_pool.specs.Kept.{IsInRun}
-use Rattle.worker_pool.specs.Sessions.{IsClosed, part_of, calls, no_part}
+use Rattle.pool_journal.specs.declared.step.Step.{Step}
+use Rattle.pool_journal.specs.Callers.{CallerView, SessionView}
+use Rattle.pool_journal.specs.Sessions.{IsClosed, part_of, calls, no_part}
 
 -- the components can't be brought up now
 abbrev pub IsOutage : Refusal → Type 0
@@ -54,17 +49,6 @@ IsCovered es c = calls (part_of c.number es) ≡ calls c.part
 
 abbrev pub IsKeptBy : List Step → SessionView → Type 0
 IsKeptBy es s = calls (part_of s.number es) ≡ calls s.part
-
--- the records of the data component, where it runs
-abbrev pub IsRowsOf : DcSide → Option (Vec (Bytes × Bytes)) → Type 0
-IsRowsOf dc None = dc.up ≡ false
-IsRowsOf dc (Some rows) = (dc.up ≡ true) × (rows.items ≡ entries (rows_of (leaves dc.dc)))
-
--- some run of the node through these steps ends with these records
-pub record EndsWith (es : List Step) (rows : Option (Vec (Bytes × Bytes))) : Type 0 where
-  pub dc : DcSide
-  pub run : IsInRun es dc
-  pub rows_are : IsRowsOf dc rows
 
 -- the journal, and the records at its end
 pub record ClosedView : Type 0 where

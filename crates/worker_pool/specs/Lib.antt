@@ -1,14 +1,5 @@
-pub mod Steps
-pub mod Sessions
-pub mod Slots
-pub mod Views
-pub mod Kept
-pub mod Callers
-pub mod Desks
-pub mod Waiting
 pub mod Asking
 pub mod Answers
 pub mod Why
 pub mod Opened
-pub mod Marking
 pub mod Closing

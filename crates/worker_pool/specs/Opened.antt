@@ -6,7 +6,7 @@ use Rattle.boxcar.specs.Table.{Shelves}
 use Rattle.marks.specs.Seen.{Seen, raiser, reader}
 use Rattle.world.specs.Component.{TcSide, DcSide}
 use Rattle.worker_pool.specs.declared.opened.Chair.{Chair}
-use Rattle.worker_pool.specs.Steps.{tc_start, dc_start}
+use Rattle.pool_journal.specs.Steps.{tc_start, dc_start}
 
 -- its row, its marks, and the names of its ties: of each component, and of each session
 pub record OpenedView : Type 0 where

@@ -5,7 +5,7 @@ use Rattle.record_key.specs.declared.refusal.Refusal.{Refusal}
 use Rattle.record_key.specs.declared.refusal.Refusal.TheVariants.{NotConnected}
 use Rattle.world.specs.declared.event.Out.{Out}
 use Rattle.world.specs.declared.event.Out.TheVariants as out
-use Rattle.worker_pool.specs.Sessions.{Call, is_pending}
+use Rattle.pool_journal.specs.Sessions.{Call, is_pending}
 
 abbrev pub why_of : Out → Refusal
 why_of (out.Refused q) = q

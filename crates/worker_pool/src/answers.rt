@@ -5,11 +5,9 @@ ghost use Rattle.world.specs.declared.event.Out.TheVariants as out;
 ghost use Rattle.worker_pool.specs.Answers.{AreShown, IsRefusal, IsToldAs, IsAtOnce, TellsCommit};
 ghost use Rattle.worker_pool.specs.Asking.{both, is_begun, is_saved, is_logged, is_asked, is_rolling, is_commit_logged, gives_answer, gives_row, gives_rows, gives_back, gives_rolled_back, gives_commit};
 
-use crate::copying::copied_value;
 use crate::ended::{Ended, why};
-use crate::hall::Hall;
-use crate::naming::Naming;
 use codec::Rows;
+use pool_journal::{Hall, Naming, copied_value};
 use record_key::{Answer, Refusal, Value};
 use std::sync::Wait;
 use std::thread;
@@ -26,10 +24,10 @@ pub(crate) fn answer_told<J: Naming>(hall: &Hall<J>, ended: &Ended) -> Result<An
 {
     match ended {
         Ended::CutOff => Err(Refusal::NotConnected),
-        Ended::AtOnce(call) => Err(why(&hall.row().value(call).step.out)),
+        Ended::AtOnce(call) => Err(why(hall.row().value(call).out())),
         Ended::Told(call, line) => answer_of(
-            &hall.row().value(call).step.out,
-            &hall.row().value(line).step.out,
+            hall.row().value(call).out(),
+            hall.row().value(line).out(),
         ),
     }
 }
@@ -59,10 +57,10 @@ pub(crate) fn row_told<J: Naming>(hall: &Hall<J>, ended: &Ended) -> Result<Optio
 {
     match ended {
         Ended::CutOff => Err(Refusal::NotConnected),
-        Ended::AtOnce(call) => Err(why(&hall.row().value(call).step.out)),
+        Ended::AtOnce(call) => Err(why(hall.row().value(call).out())),
         Ended::Told(call, line) => row_of(
-            &hall.row().value(call).step.out,
-            &hall.row().value(line).step.out,
+            hall.row().value(call).out(),
+            hall.row().value(line).out(),
         ),
     }
 }
@@ -96,11 +94,11 @@ pub(crate) fn rows_told<J: Naming, R: Wait>(
 {
     match ended {
         Ended::CutOff => Err(Refusal::NotConnected),
-        Ended::AtOnce(call) => Err(why(&hall.row().value(call).step.out)),
+        Ended::AtOnce(call) => Err(why(hall.row().value(call).out())),
         Ended::Told(call, line) => rows_of(
             rt,
-            &hall.row().value(call).step.out,
-            &hall.row().value(line).step.out,
+            hall.row().value(call).out(),
+            hall.row().value(line).out(),
         ),
     }
 }
@@ -130,10 +128,10 @@ pub(crate) fn back_told<J: Naming>(hall: &Hall<J>, ended: &Ended) -> Result<(), 
 {
     match ended {
         Ended::CutOff => Err(Refusal::NotConnected),
-        Ended::AtOnce(call) => Err(why(&hall.row().value(call).step.out)),
+        Ended::AtOnce(call) => Err(why(hall.row().value(call).out())),
         Ended::Told(call, line) => back_of(
-            &hall.row().value(call).step.out,
-            &hall.row().value(line).step.out,
+            hall.row().value(call).out(),
+            hall.row().value(line).out(),
         ),
     }
 }
@@ -163,10 +161,10 @@ pub(crate) fn rollback_told<J: Naming>(hall: &Hall<J>, ended: &Ended) -> Result<
 {
     match ended {
         Ended::CutOff => Err(Refusal::NotConnected),
-        Ended::AtOnce(call) => Err(why(&hall.row().value(call).step.out)),
+        Ended::AtOnce(call) => Err(why(hall.row().value(call).out())),
         Ended::Told(call, line) => rollback_of(
-            &hall.row().value(call).step.out,
-            &hall.row().value(line).step.out,
+            hall.row().value(call).out(),
+            hall.row().value(line).out(),
         ),
     }
 }
@@ -194,10 +192,10 @@ pub(crate) fn commit_told<J: Naming>(hall: &Hall<J>, ended: &Ended) -> Result<u6
 {
     match ended {
         Ended::CutOff => Err(Refusal::NotConnected),
-        Ended::AtOnce(call) => Err(why(&hall.row().value(call).step.out)),
+        Ended::AtOnce(call) => Err(why(hall.row().value(call).out())),
         Ended::Told(call, line) => commit_of(
-            &hall.row().value(call).step.out,
-            &hall.row().value(line).step.out,
+            hall.row().value(call).out(),
+            hall.row().value(line).out(),
         ),
     }
 }
@@ -222,7 +220,7 @@ pub(crate) fn saved<J: Naming>(hall: &Hall<J>, ended: &Ended) -> Result<u64, Ref
 {
     match ended {
         Ended::CutOff | Ended::Told(_, _) => Err(Refusal::NotConnected),
-        Ended::AtOnce(call) => match &hall.row().value(call).step.out {
+        Ended::AtOnce(call) => match hall.row().value(call).out() {
             Out::Saved(savepoint) => Ok(*savepoint),
             out => Err(why(out)),
         },
@@ -237,7 +235,7 @@ pub(crate) fn begun<J: Naming>(hall: &Hall<J>, ended: &Ended) -> Result<u64, Ref
 {
     match ended {
         Ended::CutOff | Ended::Told(_, _) => Err(Refusal::NotConnected),
-        Ended::AtOnce(call) => match &hall.row().value(call).step.out {
+        Ended::AtOnce(call) => match hall.row().value(call).out() {
             Out::Begun(txn) => Ok(*txn),
             out => Err(why(out)),
         },

@@ -4,16 +4,10 @@ ghost use Rattle.std.specs.List.{AllByRecursion};
 ghost use Rattle.worker_pool.specs.Closing.{IsSeated, below, numbers_in};
 ghost use Rattle.worker_pool.specs.Opened.{IsNamed};
 
-use crate::dc_desk::DcDesk;
-use crate::hall::Hall;
-use crate::journal::Journal;
-use crate::lines::Lines;
-use crate::naming::Naming;
 use crate::opened::Opened;
 use crate::seated::{Seated, Sitter, seat_all};
 use crate::shared::Shared;
-use crate::stirs::Stirs;
-use crate::tc_desk::TcDesk;
+use pool_journal::{DcDesk, Gate, Hall, Journal, Lines, Naming, Stirs, TcDesk};
 use stable::{CrashLog, CrashPages};
 use std::alloc::AllocError;
 use std::sync::Arc;
@@ -25,7 +19,7 @@ pub(crate) fn share<J, G, D, P>(
 ) -> Result<(Arc<Shared<J, G, D, P>>, Vec<Sitter<J>>), AllocError>
 where
     J: Naming + Drop,
-    G: Drop,
+    G: Gate + Drop,
     D: CrashLog + Drop,
     P: CrashPages + Drop,
     requires named { IsNamed opened J.entries J.marks J.names J.sessions }
@@ -48,8 +42,8 @@ where
     let (dc_book, dc_mark) = dc.parted();
     let Seated { places, sitters } = seat_all::<J>(alloc, chairs)?;
     let hall = Hall::new(row, marks);
-    let tc = TcDesk::new(transactions, tc_mark, seat);
-    let dc = DcDesk::new(data, dc_mark);
+    let tc = TcDesk::new(alloc, transactions, tc_mark, seat);
+    let dc = DcDesk::new(alloc, data, dc_mark);
     let journal = Journal::new(Lines::new(alloc, tc_book, dc_book), places, stirs);
     let shared = Arc::new(alloc, Shared::new(hall, tc, dc, journal, gate))?;
     Ok((shared, sitters))

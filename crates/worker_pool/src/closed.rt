@@ -2,13 +2,10 @@
 ghost use Rattle.std.specs.Prelude.{◌≡◌, length, slice_get, IfSome, IfNone, Some, None};
 ghost use Rattle.world.specs.Node.{NodeView};
 ghost use Rattle.world.specs.Promises.{Promises};
-ghost use Rattle.worker_pool.specs.Closing.{EndsWith};
-ghost use Rattle.worker_pool.specs.Steps.{IsRun, RunsTo};
+ghost use Rattle.pool_journal.specs.Ending.{EndsWith};
+ghost use Rattle.pool_journal.specs.Steps.{IsRun, RunsTo};
 
-use crate::hall::Hall;
-use crate::journal::Journal;
-use crate::naming::Naming;
-use crate::step::Step;
+use pool_journal::{Hall, Journal, Naming, Step};
 use record_key::{Key, Value};
 use std::marker::Model;
 
@@ -22,7 +19,8 @@ pub struct Closed<J: Naming> {
 
 impl<J: Naming> Model for Closed<J> {
     ghost use Rattle.std.specs.Coded.{codes};
-    ghost use Rattle.worker_pool.specs.Closing.{ClosedView, EndsWith};
+    ghost use Rattle.pool_journal.specs.Ending.{EndsWith};
+    ghost use Rattle.worker_pool.specs.Closing.{ClosedView};
 
     ghost Value = { ClosedView };
 

@@ -2,8 +2,8 @@
 ghost use Rattle.std.specs.Prelude.{◌≡◌};
 ghost use Rattle.worker_pool.specs.Why.{why_of};
 
-use crate::entry::Entry;
 use boxcar::Pushed;
+use pool_journal::Entry;
 use record_key::Refusal;
 use world::Out;
 

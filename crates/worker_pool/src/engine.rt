@@ -5,15 +5,16 @@ ghost use Rattle.worker_pool.specs.Closing.{IsFresh, IsKeptBy, IsOutage, below, 
 ghost use Rattle.worker_pool.specs.Opened.{IsNamed};
 
 use crate::assembly::share;
+use crate::board::{Board, Job};
 use crate::closed::Closed;
-use crate::gate::Gate;
-use crate::naming::Naming;
+use crate::entrance::Entrance;
 use crate::opened::Opened;
 use crate::seated::{callers_of, cover, sessions_of};
 use crate::session::Session;
-use crate::shared::{Job, Shared};
+use crate::shared::Shared;
 use crate::worker::work;
 use crossbeam_channel::{Receiver, Sender};
+use pool_journal::{Gate, Naming};
 use record_key::Refusal;
 use stable::{CrashLog, CrashPages, MemLog, MemPages};
 use std::alloc::{AllocError, Global};
@@ -142,7 +143,7 @@ where
     /// The transaction component crashes, and every session's transaction is cut off. Of what isn't stable of the log so
     /// many bytes are kept, or all of it where it has fewer.
     pub fn crash_tc<R: Wait>(&self, rt: &R, kept: u64) {
-        self.shared.crash_tc(rt, kept);
+        self.shared.entrance.crash(rt, kept);
     }
 
     /// Brings both components up, in one session, and undoes who was lost. Refused NoMemory, Device, NumbersSpent; what
@@ -173,20 +174,18 @@ where
         let callers = callers_of(alloc, sessions);
         join_all(rt, workers);
         let callers = callers?;
-        let Shared {
-            hall,
-            tc: _,
-            dc,
-            journal,
-            ..
-        } = alone(rt, shared);
+        let Shared { entrance, dc, .. } = alone(rt, shared);
+        let Entrance { board, tc: _ } = entrance;
+        let Board { hall, journal, .. } = board;
         let mut journal = journal.into_inner();
         cover(&mut journal, hall.row(), callers);
-        let rows = dc.into_inner().rows(hall.row(), &mut journal)?;
-        Ok(Closed {
-            hall,
-            journal,
-            rows,
-        })
+        match dc.into_inner().rows(hall.row(), &mut journal) {
+            Ok(rows) => Ok(Closed {
+                hall,
+                journal,
+                rows,
+            }),
+            Err(refusal) => Err(refusal),
+        }
     }
 }

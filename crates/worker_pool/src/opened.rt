@@ -4,9 +4,9 @@ ghost use Rattle.std.specs.List.{AllByRecursion};
 ghost use Rattle.marks.specs.Seen.{reader};
 ghost use Rattle.worker_pool.specs.Opened.{IsReader};
 
-use crate::entry::Entry;
 use boxcar::Vec as Row;
 use marks::{Marks, Seat};
+use pool_journal::Entry;
 use record_key::Refusal;
 use stable::{CrashLog, CrashPages, MemLog, MemPages};
 use std::alloc::{AllocError, Global};

@@ -2,16 +2,14 @@
 ghost use Rattle.std.specs.Prelude.{◌≡◌, true, false, IfErr};
 ghost use Rattle.world.specs.Halves.{of_tc};
 ghost use Rattle.worker_pool.specs.Closing.{IsOutage};
-ghost use Rattle.worker_pool.specs.Desks.{delivers};
+ghost use Rattle.pool_journal.specs.Desks.{delivers};
 
-use crate::gate::Gate;
-use crate::naming::Naming;
 use crate::shared::Shared;
 use codec::{Reply, Request};
+use pool_journal::{Gate, Naming, Next};
 use record_key::Refusal;
 use stable::{CrashLog, CrashPages};
 use std::sync::Wait;
-use std::sync::atomic::Ordering;
 use world::{Event, Out};
 
 // Nobody looks on while the components are brought up.
@@ -21,18 +19,6 @@ impl Gate for Nobody {
     fn before(&self, _request: &Request) {}
 
     fn after(&self, _reply: &Reply) {}
-}
-
-/// What is to be done next to bring the transaction component up.
-#[derive(Debug, Clone, Copy, PartialEq, Eq)]
-pub(crate) enum Next {
-    Restart,
-    Connect,
-    Recover,
-    /// A record of undo is logged; nothing is sent.
-    Lose,
-    Force,
-    Nothing,
 }
 
 // Whether a round goes on that came to this. Refused for want of memory or numbers, and where a device failed.
@@ -58,10 +44,7 @@ impl<J: Naming, G, D: CrashLog, P: CrashPages> Shared<J, G, D, P> {
                 break;
             }
         }
-        self.restarts.fetch_add(1, Ordering::SeqCst);
-        // Who is about to wait has seen the count, or waits by now.
-        drop(self.journal.lock(rt));
-        self.news.notify_all();
+        self.entrance.board.brought_up(rt);
         Ok(())
     }
 
@@ -69,15 +52,10 @@ impl<J: Naming, G, D: CrashLog, P: CrashPages> Shared<J, G, D, P> {
     fn round<R: Wait>(&self, rt: &R) -> Result<bool, Refusal>
         ensures { IfErr result IsOutage }
     {
-        let row = self.hall.row();
-        let mut dc = self.dc.lock(rt);
-        let Ok(session) = dc.session() else {
-            let token = dc.turn(rt, row, &self.journal, Event::RestartDc);
-            return passed(&row.value(&token).step.out);
+        let Some(session) = self.session(rt) else {
+            return self.raise(rt);
         };
-        drop(dc);
-        let next = self.tc.lock(rt).next(session);
-        match next {
+        match self.entrance.next(rt, session) {
             Next::Nothing => Ok(false),
             Next::Restart => self.pass(rt, Event::RestartTc),
             Next::Lose => self.pass(rt, Event::Recover),
@@ -87,14 +65,31 @@ impl<J: Naming, G, D: CrashLog, P: CrashPages> Shared<J, G, D, P> {
         }
     }
 
+    // The session that the data component runs, where it isn't down.
+    fn session<R: Wait>(&self, rt: &R) -> Option<u64> {
+        self.dc.lock(rt).session().ok()
+    }
+
+    // The data component is restarted.
+    fn raise<R: Wait>(&self, rt: &R) -> Result<bool, Refusal>
+        ensures { IfErr result IsOutage }
+    {
+        let board = &self.entrance.board;
+        let token = self
+            .dc
+            .lock(rt)
+            .turn(rt, board.hall.row(), &board.journal, Event::RestartDc);
+        passed(board.out(&token))
+    }
+
     // An event of the transaction component.
     fn pass<R: Wait>(&self, rt: &R, event: Event) -> Result<bool, Refusal>
         requires tc { of_tc event ≡ true }
         requires plain { delivers event ≡ false }
         ensures { IfErr result IsOutage }
     {
-        let token = self.enter(rt, event);
-        passed(&self.hall.row().value(&token).step.out)
+        let token = self.entrance.enter(rt, event);
+        passed(self.entrance.board.out(&token))
     }
 
     // An event that sends a request, which is served, and its reply taken.
@@ -103,27 +98,33 @@ impl<J: Naming, G, D: CrashLog, P: CrashPages> Shared<J, G, D, P> {
         requires plain { delivers event ≡ false }
         ensures { IfErr result IsOutage }
     {
-        let row = self.hall.row();
-        let token = self.enter(rt, event);
-        let out = &row.value(&token).step.out;
-        let Some(number) = number_sent(out) else {
-            return passed(out);
-        };
+        let token = self.entrance.enter(rt, event);
+        let out = self.entrance.board.out(&token);
+        match number_sent(out) {
+            Some(number) => self.serve_up(rt, number),
+            None => passed(out),
+        }
+    }
+
+    // The request is served, and its reply taken.
+    fn serve_up<R: Wait>(&self, rt: &R, number: u64) -> Result<bool, Refusal>
+        ensures { IfErr result IsOutage }
+    {
+        let board = &self.entrance.board;
         let served = self
             .dc
             .lock(rt)
-            .serve(rt, row, &self.journal, &Nobody, number);
+            .serve(rt, board.hall.row(), &board.journal, &Nobody, number);
         let Ok(token) = served else {
             return Ok(true);
         };
-        let out = &row.value(&token).step.out;
+        let out = board.out(&token);
         let Out::Replied(reply) = out else {
             return passed(out);
         };
-        let taken = self.tc.lock(rt).take(rt, &self.hall, &self.journal, *reply);
-        match taken {
-            Ok(token) => passed(&row.value(&token).step.out),
-            Err(_) => Ok(true),
+        match self.entrance.take(rt, *reply) {
+            Some(token) => passed(board.out(&token)),
+            None => Ok(true),
         }
     }
 }

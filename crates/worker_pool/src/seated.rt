@@ -2,20 +2,17 @@
 ghost use Rattle.std.specs.Prelude.{◌≡◌, ◌≤◌, [], IfOk, length, vec_len};
 ghost use Rattle.std.specs.List.{AllByRecursion};
 ghost use Rattle.worker_pool.specs.Closing.{IsFresh, IsCovered, IsSeated, AreClosed, below, callers_as, numbers_in, numbers_of};
-ghost use Rattle.worker_pool.specs.Kept.{PlacesKept};
+ghost use Rattle.pool_journal.specs.Kept.{PlacesKept};
 ghost use Rattle.worker_pool.specs.Opened.{AreTied, IsReader, ties_of};
 
-use crate::caller::Caller;
-use crate::entry::Entry;
-use crate::journal::Journal;
-use crate::naming::Naming;
+use crate::board::Job;
 use crate::opened::Chair;
-use crate::place::Place;
 use crate::session::Session;
-use crate::shared::{Job, Shared};
+use crate::shared::Shared;
 use boxcar::Vec as Row;
 use crossbeam_channel::Sender;
 use marks::Seat;
+use pool_journal::{Caller, Entry, Gate, Journal, Naming, Place};
 use stable::{CrashLog, CrashPages};
 use std::alloc::{AllocError, Global};
 use std::sync::Arc;
@@ -73,7 +70,7 @@ pub(crate) fn sessions_of<J, G, D, P>(
 ) -> Result<Vec<Session<J, G, D, P>>, AllocError>
 where
     J: Naming,
-    G: Drop,
+    G: Gate + Drop,
     D: CrashLog + Drop,
     P: CrashPages + Drop,
     requires seated { AllByRecursion (IsSeated J.marks) sitters.items }
@@ -96,7 +93,7 @@ pub(crate) fn callers_of<J, G, D, P>(
 ) -> Result<Vec<Caller<J>>, AllocError>
 where
     J: Naming,
-    G: Drop,
+    G: Gate + Drop,
     D: CrashLog + Drop,
     P: CrashPages + Drop,
     ensures callers { IfOk result (λ callers. callers.items ≡ callers_as sessions.items) }

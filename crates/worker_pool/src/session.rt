@@ -6,19 +6,19 @@ ghost use Rattle.world.specs.declared.event.Event.TheVariants as event;
 ghost use Rattle.world.specs.declared.event.Out.TheVariants as out;
 ghost use Rattle.worker_pool.specs.Answers.{Adds, AddsTo, RefusedCall, RefusedBegin, Ends, IsUnasked};
 ghost use Rattle.worker_pool.specs.Asking.{event_of};
-ghost use Rattle.worker_pool.specs.Sessions.{IsClosed};
+ghost use Rattle.pool_journal.specs.Sessions.{IsClosed};
 
 use crate::answers::{
     answer_told, back_told, begun, commit_told, rollback_told, row_told, rows_told, saved,
 };
 use crate::ask::Ask;
-use crate::caller::Caller;
+use crate::board::Job;
 use crate::ended::Ended;
-use crate::naming::Naming;
-use crate::shared::{Job, Shared};
+use crate::shared::Shared;
 use codec::Rows;
 use crossbeam_channel::Sender;
 use marks::Seat;
+use pool_journal::{Caller, Gate, Naming};
 use record_key::{Answer, Key, Op, Refusal, Value};
 use stable::{CrashLog, CrashPages, MemLog, MemPages};
 use std::marker::Model;
@@ -38,8 +38,8 @@ impl<J: Naming, G, D: CrashLog, P: CrashPages> Model for Session<J, G, D, P> {
     ghost use Rattle.std.specs.Prelude.{◌≡◌};
     ghost use Rattle.std.specs.Coded.{codes};
     ghost use Rattle.atomic_table.specs.Seated.{table_id_coded};
-    ghost use Rattle.worker_pool.specs.Callers.{SessionView};
-    ghost use Rattle.worker_pool.specs.Sessions.{IsClosed};
+    ghost use Rattle.pool_journal.specs.Callers.{SessionView};
+    ghost use Rattle.pool_journal.specs.Sessions.{IsClosed};
 
     ghost Value = { SessionView };
 
@@ -50,7 +50,7 @@ impl<J: Naming, G, D: CrashLog, P: CrashPages> Model for Session<J, G, D, P> {
     ghost invariant = { λ s. IsClosed s.caller.part × (s.seat.marks ≡ J.marks) };
 }
 
-impl<J: Naming, G: Drop, D: CrashLog + Drop, P: CrashPages + Drop> Session<J, G, D, P> {
+impl<J: Naming, G: Gate + Drop, D: CrashLog + Drop, P: CrashPages + Drop> Session<J, G, D, P> {
     /// A session with no transaction.
     pub(crate) fn new(
         caller: Caller<J>,
@@ -94,7 +94,7 @@ impl<J: Naming, G: Drop, D: CrashLog + Drop, P: CrashPages + Drop> Session<J, G,
             shared,
             work: _,
         } = self;
-        shared.hall.marks().read(seat)
+        shared.hall().marks().read(seat)
     }
 
     /// Begins a transaction, and answers its number. Refused Full where the session has one; else as its entry says.
@@ -113,7 +113,7 @@ impl<J: Naming, G: Drop, D: CrashLog + Drop, P: CrashPages + Drop> Session<J, G,
         let Some(ended) = shared.begin(rt, work, caller) else {
             return Err(Refusal::Full);
         };
-        begun(&shared.hall, &ended)
+        begun(shared.hall(), &ended)
     }
 
     // A call of the session's transaction, from its entry to what was told of it. Without an entry where there is none
@@ -145,7 +145,7 @@ impl<J: Naming, G: Drop, D: CrashLog + Drop, P: CrashPages + Drop> Session<J, G,
         let Some(ended) = self.run(rt, Ask::Act(op.copied())) else {
             return Err(Refusal::NotOpen);
         };
-        answer_told(&self.shared.hall, &ended)
+        answer_told(self.shared.hall(), &ended)
     }
 
     /// The value at a key.
@@ -159,7 +159,7 @@ impl<J: Naming, G: Drop, D: CrashLog + Drop, P: CrashPages + Drop> Session<J, G,
         let Some(ended) = self.run(rt, Ask::Get(key.copied())) else {
             return Err(Refusal::NotOpen);
         };
-        row_told(&self.shared.hall, &ended)
+        row_told(self.shared.hall(), &ended)
     }
 
     /// The rows from `low` on, below `high` or to the end.
@@ -174,7 +174,7 @@ impl<J: Naming, G: Drop, D: CrashLog + Drop, P: CrashPages + Drop> Session<J, G,
         let Some(ended) = self.run(rt, Ask::Scan(low.copied(), copied_end(high))) else {
             return Err(Refusal::NotOpen);
         };
-        rows_told(rt, &self.shared.hall, &ended)
+        rows_told(rt, self.shared.hall(), &ended)
     }
 
     /// Sets a savepoint, and answers its number.
@@ -187,7 +187,7 @@ impl<J: Naming, G: Drop, D: CrashLog + Drop, P: CrashPages + Drop> Session<J, G,
         let Some(ended) = self.run(rt, Ask::Save) else {
             return Err(Refusal::NotOpen);
         };
-        saved(&self.shared.hall, &ended)
+        saved(self.shared.hall(), &ended)
     }
 
     /// Rolls back to a savepoint; returns once that is done.
@@ -202,7 +202,7 @@ impl<J: Naming, G: Drop, D: CrashLog + Drop, P: CrashPages + Drop> Session<J, G,
         let Some(ended) = self.run(rt, Ask::GoBack(savepoint)) else {
             return Err(Refusal::NotOpen);
         };
-        back_told(&self.shared.hall, &ended)
+        back_told(self.shared.hall(), &ended)
     }
 
     /// Rolls the transaction back; returns once that is done.
@@ -216,7 +216,7 @@ impl<J: Naming, G: Drop, D: CrashLog + Drop, P: CrashPages + Drop> Session<J, G,
         let Some(ended) = self.run(rt, Ask::Rollback) else {
             return Err(Refusal::NotOpen);
         };
-        rollback_told(&self.shared.hall, &ended)
+        rollback_told(self.shared.hall(), &ended)
     }
 
     /// Commits the transaction, and answers the number of its Commit record, once that is stable and the session has
@@ -238,8 +238,8 @@ impl<J: Naming, G: Drop, D: CrashLog + Drop, P: CrashPages + Drop> Session<J, G,
             shared,
             work,
         } = self;
-        let number = commit_told(&shared.hall, &ended)?;
-        shared.learn(rt, work, seat, number);
+        let number = commit_told(shared.hall(), &ended)?;
+        shared.entrance.learn(rt, work, seat, number);
         Ok(number)
     }
 }

@@ -1,54 +1,32 @@
 //! What the threads share, and what they do under its locks.
 ghost use Rattle.std.specs.Prelude.{◌≡◌, ◌≤◌, true, false, ℕ, Some, None, IfSome, IfNone};
-ghost use Rattle.marks.specs.Seen.{reader};
 ghost use Rattle.world.specs.declared.event.Event.{Event};
 ghost use Rattle.world.specs.declared.event.Event.TheVariants as event;
-ghost use Rattle.world.specs.Halves.{of_tc};
-ghost use Rattle.worker_pool.specs.Answers.{Calls, Ends, Finishes, IsUnasked, IsSecond};
+ghost use Rattle.worker_pool.specs.Answers.{Ends, Finishes, IsUnasked, IsSecond};
 ghost use Rattle.worker_pool.specs.Asking.{event_of};
-ghost use Rattle.worker_pool.specs.Callers.{IsToldBy, IsUntold, IsNews};
-ghost use Rattle.worker_pool.specs.Desks.{delivers};
-ghost use Rattle.worker_pool.specs.Sessions.{IsClosed, called_as, calls, line_of};
-ghost use Rattle.worker_pool.specs.Slots.{Shown};
+ghost use Rattle.pool_journal.specs.Callers.{IsToldBy, IsUntold};
+ghost use Rattle.pool_journal.specs.Sessions.{IsClosed, called_as, line_of};
+ghost use Rattle.pool_journal.specs.Slots.{Shown};
 
 use crate::ask::Ask;
-use crate::caller::Caller;
-use crate::dc_desk::DcDesk;
+use crate::board::{Board, Job};
 use crate::ended::Ended;
-use crate::entry::Entry;
-use crate::hall::Hall;
-use crate::journal::Journal;
-use crate::naming::Naming;
-use crate::news::News;
-use crate::place::is_pending;
-use crate::tc_desk::TcDesk;
+use crate::entrance::{Called, Entrance};
 use boxcar::Pushed;
 use crossbeam_channel::Sender;
-use marks::Seat;
+use pool_journal::{Caller, DcDesk, Entry, Gate, Hall, Journal, Naming, News, TcDesk, is_pending};
 use record_key::Refusal;
 use stable::{CrashLog, CrashPages};
-use std::sync::atomic::{AtomicU64, Ordering};
-use std::sync::{Condvar, Mutex, Wait};
+use std::sync::{Mutex, Wait};
 use world::{Event, Out};
 
 /// What the threads share. A component's lock is taken first, and the journal's inside it; the two components' are
 /// never held together.
 #[derive(Drop)]
 pub struct Shared<J: Naming, G, D: CrashLog, P: CrashPages> {
-    pub(crate) hall: Hall<J>,
-    pub(crate) tc: Mutex<TcDesk<J, D>>,
+    pub(crate) entrance: Entrance<J, D>,
     pub(crate) dc: Mutex<DcDesk<J, D, P>>,
-    pub(crate) journal: Mutex<Journal<J>>,
-    pub(crate) news: Condvar,
-    pub(crate) restarts: AtomicU64,
     pub(crate) gate: G,
-}
-
-/// A request on its way to a worker: its number, and the session that waits for what comes of it, if one does.
-#[derive(Debug, Clone, Copy, Drop)]
-pub struct Job {
-    pub(crate) number: u64,
-    pub(crate) session: Option<u64>,
 }
 
 /// What is left to do of a call that is told of later.
@@ -71,138 +49,82 @@ impl<J: Naming, G, D: CrashLog, P: CrashPages> Shared<J, G, D, P> {
         gate: G,
     ) -> Shared<J, G, D, P> {
         Shared {
-            hall,
-            tc: Mutex::new(tc),
+            entrance: Entrance::new(Board::new(hall, journal), tc),
             dc: Mutex::new(dc),
-            journal: Mutex::new(journal),
-            news: Condvar::new(),
-            restarts: AtomicU64::new(0),
             gate,
         }
     }
 
+    /// What is read without a lock.
+    pub(crate) fn hall(&self) -> &Hall<J> {
+        &self.entrance.board.hall
+    }
+
     /// The data component crashes. Nothing is kept that isn't stable.
     pub(crate) fn crash_dc<R: Wait>(&self, rt: &R) {
+        let board = &self.entrance.board;
         let event = Event::CrashDc {
             frames: 0,
             bytes: 0,
         };
         self.dc
             .lock(rt)
-            .turn(rt, self.hall.row(), &self.journal, event);
-        self.news.notify_all();
+            .turn(rt, board.hall.row(), &board.journal, event);
+        board.wake();
     }
+}
 
-    /// The transaction component crashes, and every session's transaction is cut off. Of what isn't stable of the log so
-    /// many bytes are kept.
-    pub(crate) fn crash_tc<R: Wait>(&self, rt: &R, kept: u64) {
-        self.tc.lock(rt).crash(rt, &self.hall, &self.journal, kept);
-        self.news.notify_all();
-    }
-
-    // Enters a call of the session's transaction, if one is alive.
-    fn call<R: Wait>(
-        &self,
-        rt: &R,
-        caller: &mut Caller<J>,
-        ask: Ask,
-    ) -> Option<(u64, Pushed<Entry>)>
-        requires closed { IsClosed caller.old.part }
-        ensures number { caller.new.number ≡ caller.old.number }
-        ensures none { IfNone result (IsUnasked caller.old.part caller.new.part) }
-        ensures calls { IfSome result (λ made. (caller.old.part.live ≡ Some made.0)
-            × Calls J.entries (event_of made.0 ask) caller.old.part made.1 caller.new.part) }
-        ensures closed { IfNone result (IsClosed caller.new.part) }
-    {
-        let mut desk = self.tc.lock(rt);
-        let live = self.journal.lock(rt).see(self.hall.row(), caller);
-        let txn = live?;
-        let token = desk.call(rt, &self.hall, &self.journal, ask.into_event(txn), caller);
-        Some((txn, token))
-    }
-
-    /// The call that begins a transaction, unless the session has one that is alive.
-    pub(crate) fn begin<R: Wait>(
+impl<J: Naming, G: Gate, D: CrashLog, P: CrashPages> Shared<J, G, D, P> {
+    // Has the request served, if the entry is that of one that was sent: by the session itself where the data component
+    // is free, else by a worker. Whether the session has to wait before it looks again.
+    fn deliver<R: Wait>(
         &self,
         rt: &R,
         work: &Sender<Job>,
-        caller: &mut Caller<J>,
-    ) -> Option<Ended>
-        requires closed { IsClosed caller.old.part }
-        ensures number { caller.new.number ≡ caller.old.number }
-        ensures none { IfNone result (IsSecond caller.old.part caller.new.part) }
-        ensures ends { IfSome result (λ ended.
-            Ends J.entries event.Begin caller.old.part ended caller.new.part) }
-        ensures closed { IsClosed caller.new.part }
-    {
-        let mut desk = self.tc.lock(rt);
-        let live = self.journal.lock(rt).see(self.hall.row(), caller);
-        if live.is_some() {
-            return None;
-        }
-        let token = desk.call(rt, &self.hall, &self.journal, Event::Begin, caller);
-        drop(desk);
-        Some(self.finish(rt, work, caller, 0, token, Rest::Request))
-    }
-
-    /// An event of the transaction component that is no call, and its entry.
-    pub(crate) fn enter<R: Wait>(&self, rt: &R, event: Event) -> Pushed<Entry>
-        requires tc { of_tc event ≡ true }
-        requires plain { delivers event ≡ false }
-        ensures shown { Shown J.entries result }
-    {
-        self.tc.lock(rt).enter(rt, &self.hall, &self.journal, event)
-    }
-
-    // Hands the request over to the workers, if the entry is that of one that was sent. Whether it was.
-    fn hand_over<R: Wait>(
-        &self,
-        rt: &R,
-        work: &Sender<Job>,
-        session: Option<u64>,
+        session: u64,
         token: &Pushed<Entry>,
     ) -> bool
         requires shown { Shown J.entries token.now }
     {
-        match &self.hall.row().value(token).step.out {
-            Out::Sent(number) => {
-                let job = Job {
-                    number: *number,
-                    session,
-                };
-                work.send(rt, job).is_ok()
-            }
-            _ => false,
-        }
-    }
-
-    // Sends the transaction's request, if there is one to be sent. Whether there is one to be waited for.
-    fn send<R: Wait>(&self, rt: &R, work: &Sender<Job>, session: u64, txn: u64) -> bool {
-        let token = self.enter(rt, Event::Send { txn });
-        match &self.hall.row().value(&token).step.out {
-            Out::Sent(_) => self.hand_over(rt, work, Some(session), &token),
+        match self.entrance.board.out(token) {
+            Out::Sent(number) => self.have_served(rt, work, session, token, *number),
             Out::Refused(Refusal::Unsent) => false,
             _ => true,
         }
     }
 
-    // One step back. Whether there is a request to be waited for.
-    fn undo<R: Wait>(&self, rt: &R, work: &Sender<Job>, session: u64, txn: u64) -> bool {
-        let token = self.enter(rt, Event::Undo { txn });
-        match &self.hall.row().value(&token).step.out {
-            Out::Compensated(_) | Out::Refused(_) => self.send(rt, work, session, txn),
-            _ => false,
+    fn have_served<R: Wait>(
+        &self,
+        rt: &R,
+        work: &Sender<Job>,
+        session: u64,
+        token: &Pushed<Entry>,
+        number: u64,
+    ) -> bool
+        requires shown { Shown J.entries token.now }
+    {
+        self.look_on(token);
+        match self.dc.try_lock() {
+            Some(desk) => !self.exchange(rt, desk, number),
+            None => {
+                let session = Some(session);
+                work.send(rt, Job { number, session }).is_ok()
+            }
         }
     }
 
-    // Makes the log stable, unless another session's force has told this one; says how much is stable, and announces
-    // what is answered.
-    fn force<R: Wait>(&self, rt: &R, work: &Sender<Job>) {
-        let (tell, low) = self.tc.lock(rt).force(rt, &self.hall, &self.journal);
-        for token in [tell, low] {
-            if let Some(token) = token {
-                self.hand_over(rt, work, None, &token);
-            }
+    // Sends the transaction's request, if there is one to be sent. Whether the session has to wait then.
+    fn send<R: Wait>(&self, rt: &R, work: &Sender<Job>, session: u64, txn: u64) -> bool {
+        let token = self.entrance.enter(rt, Event::Send { txn });
+        self.deliver(rt, work, session, &token)
+    }
+
+    // One step back. Whether the session has to wait then.
+    fn undo<R: Wait>(&self, rt: &R, work: &Sender<Job>, session: u64, txn: u64) -> bool {
+        let token = self.entrance.enter(rt, Event::Undo { txn });
+        match self.entrance.board.out(&token) {
+            Out::Compensated(_) | Out::Refused(_) => self.send(rt, work, session, txn),
+            _ => false,
         }
     }
 
@@ -220,19 +142,12 @@ impl<J: Naming, G, D: CrashLog, P: CrashPages> Shared<J, G, D, P> {
             Rest::Undo => self.undo(rt, work, session, txn),
             Rest::Force => {
                 // another session's force may have told of it
-                if !self.journal.lock(rt).has_news(session) {
-                    self.force(rt, work);
+                if !self.entrance.board.has_news(rt, session) {
+                    self.entrance.force(rt, work);
                 }
                 false
             }
         }
-    }
-
-    // Waits until something was told of the session's call, or another step may be made.
-    fn wait<R: Wait>(&self, rt: &R, session: u64, restarts: u64) {
-        let _journal = self.news.wait_while(rt, self.journal.lock(rt), |journal| {
-            !journal.has_news(session) && self.restarts.load(Ordering::SeqCst) == restarts
-        });
     }
 
     /// Goes on until something is told of the session's latest call, or nothing more will be.
@@ -247,24 +162,43 @@ impl<J: Naming, G, D: CrashLog, P: CrashPages> Shared<J, G, D, P> {
         requires untold { line_of caller.old.part.latest ≡ None }
         ensures number { caller.new.number ≡ caller.old.number }
         ensures shown { IfSome result (λ token. Shown J.entries token) }
-        ensures told { IfSome result (λ token. IsToldBy caller.old.part caller.new.part token.value.step.out) }
+        ensures told { IfSome result (λ token. IsToldBy caller.old.part caller.new.part token.value.step.value.out) }
         ensures untold { IfNone result (IsUntold caller.old.part caller.new.part) }
         ensures cut { IfNone result (caller.new.part.live ≡ None) }
         ensures closed { IsClosed caller.new.part }
     {
+        let board = &self.entrance.board;
         let session = caller.number();
         for _ in rt.forever() {
-            let restarts = self.restarts.load(Ordering::SeqCst);
-            if self.go_on(rt, work, session, txn, rest) {
-                self.wait(rt, session, restarts);
-            }
-            match self.look(rt, caller) {
+            match board.look(rt, caller) {
                 News::Line(token) => return Some(token),
                 News::CutOff => return None,
                 News::Nothing => {}
             }
+            let restarts = board.restarts();
+            if self.go_on(rt, work, session, txn, rest) {
+                board.wait(rt, session, restarts);
+            }
         }
         unreachable!()
+    }
+
+    /// The call that begins a transaction, unless the session has one that is alive.
+    pub(crate) fn begin<R: Wait>(
+        &self,
+        rt: &R,
+        work: &Sender<Job>,
+        caller: &mut Caller<J>,
+    ) -> Option<Ended>
+        requires closed { IsClosed caller.old.part }
+        ensures number { caller.new.number ≡ caller.old.number }
+        ensures none { IfNone result (IsSecond caller.old.part caller.new.part) }
+        ensures ends { IfSome result (λ ended.
+            Ends J.entries event.Begin caller.old.part ended caller.new.part) }
+        ensures closed { IsClosed caller.new.part }
+    {
+        let token = self.entrance.begin(rt, caller)?;
+        Some(self.finish(rt, work, caller, 0, token, Rest::Request))
     }
 
     /// A call of a session's transaction, from its entry to what was told of it; none where no transaction is alive.
@@ -282,8 +216,16 @@ impl<J: Naming, G, D: CrashLog, P: CrashPages> Shared<J, G, D, P> {
             × Ends J.entries (event_of t ask) caller.old.part ended caller.new.part) }
         ensures closed { IsClosed caller.new.part }
     {
+        let board = &self.entrance.board;
         let rest = ask.rest();
-        let (txn, token) = self.call(rt, caller, ask)?;
+        // Read before the request is sent, so that no restart after it is missed.
+        let restarts = board.restarts();
+        let Called { txn, token, sent } = self.entrance.call(rt, caller, ask)?;
+        if let Some(sent) = &sent {
+            if self.deliver(rt, work, caller.number(), sent) {
+                board.wait(rt, caller.number(), restarts);
+            }
+        }
         Some(self.finish(rt, work, caller, txn, token, rest))
     }
 
@@ -298,42 +240,17 @@ impl<J: Naming, G, D: CrashLog, P: CrashPages> Shared<J, G, D, P> {
         rest: Rest,
     ) -> Ended
         requires shown { Shown J.entries token }
-        requires latest { (e : Event) × (caller.old.part.latest ≡ Some (called_as e token.value.step.out None)) }
+        requires latest { (e : Event) × (caller.old.part.latest ≡ Some (called_as e token.value.step.value.out None)) }
         ensures number { caller.new.number ≡ caller.old.number }
         ensures ends { Finishes J.entries token caller.old.part result caller.new.part }
         ensures closed { IsClosed caller.new.part }
     {
-        if !is_pending(&self.hall.row().value(&token).step.out) {
+        if !is_pending(self.entrance.board.out(&token)) {
             return Ended::AtOnce(token);
         }
         match self.carry_on(rt, work, caller, txn, rest) {
             Some(line) => Ended::Told(token, line),
             None => Ended::CutOff,
         }
-    }
-
-    // What a session finds that waits.
-    fn look<R: Wait>(&self, rt: &R, caller: &mut Caller<J>) -> News
-        requires untold { line_of caller.old.part.latest ≡ None }
-        ensures number { caller.new.number ≡ caller.old.number }
-        ensures news { IsNews J.entries caller.old.part caller.new.part result }
-    {
-        self.journal.lock(rt).take_news(self.hall.row(), caller)
-    }
-
-    /// Lets a session see that the log is stable up to the record, and makes it so where it isn't.
-    pub(crate) fn learn<R: Wait>(&self, rt: &R, work: &Sender<Job>, seat: &mut Seat, number: u64)
-        requires seat { seat.old.marks ≡ J.marks }
-        ensures seat { seat.new.marks ≡ J.marks }
-        ensures stable { number ≤ seat.new.stable }
-    {
-        for _ in rt.forever() {
-            let stable = self.tc.lock(rt).teach(&self.hall, seat);
-            if number <= stable {
-                return;
-            }
-            self.force(rt, work);
-        }
-        unreachable!()
     }
 }

@@ -1,12 +1,16 @@
 //! What a worker does.
-use crate::gate::Gate;
-use crate::naming::Naming;
-use crate::shared::{Job, Shared};
+ghost use Rattle.std.specs.Prelude.{IfSome};
+ghost use Rattle.pool_journal.specs.Slots.{Shown};
+
+use crate::board::Job;
+use crate::shared::Shared;
+use boxcar::Pushed;
 use crossbeam_channel::Receiver;
+use pool_journal::{DcDesk, Entry, Gate, Naming, hold};
 use record_key::Refusal;
 use stable::{CrashLog, CrashPages};
-use std::sync::Wait;
-use world::{Event, Out};
+use std::sync::{MutexGuard, Wait};
+use world::Out;
 
 /// Serves requests until the engine and every session are gone.
 pub fn work<J, G, D, P, R>(rt: &R, shared: &Shared<J, G, D, P>, jobs: &Receiver<Job>)
@@ -26,53 +30,70 @@ where
 }
 
 impl<J: Naming, G: Gate, D: CrashLog, P: CrashPages> Shared<J, G, D, P> {
-    // Serves one request, hands its reply over, and keeps the leaves small.
+    // Serves one request, and hands its reply over.
     fn serve<R: Wait>(&self, rt: &R, job: Job) {
-        self.look_on(rt, job.number);
-        if self.exchange(rt, job.number) {
-            self.stir(rt, job.session);
-        }
-        self.news.notify_all();
-        self.dc
-            .lock(rt)
-            .enter(rt, self.hall.row(), &self.journal, Event::Tend);
-    }
-
-    // The session that waits for what comes of the request looks again.
-    fn stir<R: Wait>(&self, rt: &R, session: Option<u64>) {
-        if let Some(session) = session {
-            self.journal.lock(rt).stir(session);
-        }
-    }
-
-    // The program sees the request, with no lock held.
-    fn look_on<R: Wait>(&self, rt: &R, number: u64) {
-        let found = self.journal.lock(rt).request(number);
+        let board = &self.entrance.board;
+        let found = hold(rt, &board.journal).request(job.number);
         if let Ok(sent) = found {
-            if let Some(request) = &self.hall.row().value(&sent).step.sent {
-                self.gate.before(request);
-            }
+            self.look_on(&sent);
+        }
+        if self.exchange(rt, hold(rt, &self.dc), job.number) {
+            board.stir(rt, job.session);
+        }
+        board.wake();
+    }
+
+    /// The program sees the request that an entry sent, with no lock held.
+    pub(crate) fn look_on(&self, token: &Pushed<Entry>)
+        requires { Shown J.entries token.now }
+    {
+        if let Some(request) = self.hall().row().value(token).sent() {
+            self.gate.before(request);
         }
     }
 
-    // The request is served, and its reply taken. Whether the session has to look again: not where the data component
-    // is down, in redo or in another session, since who restarts it says when it is up.
-    fn exchange<R: Wait>(&self, rt: &R, number: u64) -> bool {
-        let row = self.hall.row();
-        let served = self
-            .dc
-            .lock(rt)
-            .serve(rt, row, &self.journal, &self.gate, number);
-        let Ok(token) = served else {
-            return true;
-        };
-        let step = &row.value(&token).step;
-        if let Some(reply) = &step.given {
+    /// The request is served, the leaves are kept small, and its reply is taken. Whether the session has to look again:
+    /// not where the data component is down, in redo or in another session, since who restarts it says when it is up.
+    pub(crate) fn exchange<R: Wait>(
+        &self,
+        rt: &R,
+        desk: MutexGuard<'_, DcDesk<J, D, P>>,
+        number: u64,
+    ) -> bool {
+        match self.served(rt, desk, number) {
+            Some(token) => self.take_over(rt, &token),
+            None => true,
+        }
+    }
+
+    // The request is served, if the journal holds it as sent, and the leaves are kept small.
+    fn served<R: Wait>(
+        &self,
+        rt: &R,
+        desk: MutexGuard<'_, DcDesk<J, D, P>>,
+        number: u64,
+    ) -> Option<Pushed<Entry>>
+        ensures { IfSome result (λ token. Shown J.entries token) }
+    {
+        let board = &self.entrance.board;
+        let row = board.hall.row();
+        let mut desk = desk;
+        let served = desk.serve(rt, row, &board.journal, &self.gate, number);
+        desk.tend(rt, row, &board.journal);
+        served.ok()
+    }
+
+    // The reply that an entry gave is taken. Whether the session has to look again.
+    fn take_over<R: Wait>(&self, rt: &R, token: &Pushed<Entry>) -> bool
+        requires { Shown J.entries token.now }
+    {
+        let entry = self.hall().row().value(token);
+        if let Some(reply) = entry.given() {
             self.gate.after(reply);
         }
-        match &step.out {
+        match entry.out() {
             Out::Replied(reply) => {
-                let _ = self.tc.lock(rt).take(rt, &self.hall, &self.journal, *reply);
+                self.entrance.take(rt, *reply);
                 true
             }
             Out::Refused(Refusal::NotConnected | Refusal::Redoing | Refusal::Stale) => false,

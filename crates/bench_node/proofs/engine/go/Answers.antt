@@ -3,7 +3,7 @@ use denote.Param.Send.{IsSend, IsSync, sendable}
 use Rattle.std.proofs.Crossing.{crosses}
 use Rattle.record_key.proofs.refusal.Refusal.TheSendSync as refusal
 use Rattle.worker_pool.proofs.Sharing.{session_send}
-use Rattle.worker_pool.specs.declared.naming.Naming as naming
+use Rattle.pool_journal.specs.declared.naming.Naming as naming
 use Rattle.bench_node.specs.contracts.player.Player as Player
 use Rattle.bench_node.proofs.engine.go.Goals as goal
 

@@ -1,7 +1,8 @@
 use Rattle.std.proofs.Common.{subst}
 use Rattle.world.proofs.Invariant.Promised.{promised}
-use Rattle.worker_pool.specs.Closing.{ClosedView, EndsWith}
-use Rattle.worker_pool.specs.Steps.{IsRun}
+use Rattle.pool_journal.specs.Ending.{EndsWith}
+use Rattle.worker_pool.specs.Closing.{ClosedView}
+use Rattle.pool_journal.specs.Steps.{IsRun}
 use Rattle.worker_pool.proofs.closed.Closed.kept.Goals as goal
 
 pub returns-clause-run : goal.returns-clause-run

@@ -1,12 +1,12 @@
 use Rattle.std.proofs.Common.{List, sym, subst, ◌∙◌}
 use Rattle.std.specs.List.{AllByRecursion}
-use Rattle.worker_pool.specs.declared.step.Step.{Step}
+use Rattle.pool_journal.specs.declared.step.Step.{Step}
 use Rattle.worker_pool.specs.Closing.{IsCovered, IsKeptBy, caller_as}
-use Rattle.worker_pool.proofs.Lists.{all_map}
+use Rattle.pool_journal.proofs.Lists.{all_map}
 use Rattle.worker_pool.proofs.engine.Engine.close.Goals as goal
 
-pub returns-clause-kept : goal.returns-clause-kept
-returns-clause-kept g c =
+pub returns-in-Ok-clause-kept : goal.returns-in-Ok-clause-kept
+returns-in-Ok-clause-kept g c =
     let es = c.into_inner-journal.result in
     let all = subst (AllByRecursion (IsCovered es)) c.in_ok-callers.ensures.callers c.cover.ensures.covered in
     subst (λ (es : List Step). AllByRecursion (IsKeptBy es) c.args.sessions.items)

@@ -7,8 +7,8 @@ use Rattle.world.specs.declared.event.Out.TheVariants as out
 use Rattle.worker_pool.specs.declared.ended.Ended.{Ended}
 use Rattle.worker_pool.specs.declared.ended.Ended.TheVariants as ended
 use Rattle.worker_pool.specs.Answers.{Adds, Ends, IsToldAs, TellsCommit}
-use Rattle.worker_pool.specs.Callers.{SessionView}
-use Rattle.worker_pool.specs.Sessions.{Part, ends, is_among, line_to, only_if}
+use Rattle.pool_journal.specs.Callers.{SessionView}
+use Rattle.pool_journal.specs.Sessions.{Part, ends, is_among, line_to, only_if}
 use Rattle.worker_pool.proofs.session.Session.commit.Goals as goal
 
 one_line : (b : Bool) (told line : Line) → only_if b told ≡ Some line → line ≡ told
@@ -30,8 +30,8 @@ commits : (row : Shelves) (how : Ended) (old new : Part) (n t : ℕ) → old.liv
     → Ends row (event.Commit t) old how new → IsToldAs (λ (o : Out). o ≡ out.CommitLogged n) TellsCommit how
     → Committed n old new
 commits row (ended.Told p q) old new n t live (p_shown, q_shown, pending, (u, (line, is, over, adds))) (call, what) =
-    let told = tells u q.value.step.out line is what in
-    let so = subst (λ (l : Line). Adds (event.Commit t) p.value.step.out (Some l) old new) told adds in (
+    let told = tells u q.value.step.value.out line is what in
+    let so = subst (λ (l : Line). Adds (event.Commit t) p.value.step.value.out (Some l) old new) told adds in (
       u,
       (t, live, subst (λ (o : Out). Adds (event.Commit t) o (Some (TellsCommitted u)) old new) call so),
       over (ap ends told),

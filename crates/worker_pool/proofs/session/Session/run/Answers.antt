@@ -2,7 +2,7 @@ use Rattle.std.proofs.Common.{◌≡◌, ℕ, Some, subst}
 use Rattle.std.specs.Prelude.{IfSome}
 use Rattle.worker_pool.specs.Answers.{Ends}
 use Rattle.worker_pool.specs.Asking.{event_of}
-use Rattle.worker_pool.specs.Callers.{SessionView}
+use Rattle.pool_journal.specs.Callers.{SessionView}
 use Rattle.worker_pool.proofs.session.Session.run.Goals as goal
 
 pub returns-clause-ends : goal.returns-clause-ends

@@ -1,5 +1,5 @@
 use Rattle.std.proofs.Common.{◌≡◌}
-use Rattle.worker_pool.specs.Callers.{IsUntold}
+use Rattle.pool_journal.specs.Callers.{IsUntold}
 use Rattle.worker_pool.proofs.shared.Shared.carry_on.Given as goal
 
 -- nothing was told so far

@@ -1,0 +1,9 @@
+pub mod Sent
+pub mod Lists
+pub mod Along
+pub mod Parts
+pub mod Entering
+pub mod Marking
+pub mod Stable
+pub mod Sitting
+pub mod Tending

@@ -1,0 +1,30 @@
+use Rattle.std.proofs.Common.{ap, subst, sym, rules}
+use Rattle.pool_journal.specs.Kept.{is_dc}
+use Rattle.pool_journal.specs.Views.{View, Sees}
+use Rattle.pool_journal.proofs.Sitting.{dc_kept_on}
+use Rattle.pool_journal.proofs.dc_desk.DcDesk.rows.Goals as goal
+
+pub invariant_of-self : goal.invariant_of-self
+invariant_of-self g c =
+    let s = c.self.inside in let look = c.look_dc.ensures in
+    dc_kept_on g.J.Naming.names s.visitor c.look_dc.new.visitor _ c.self.invariant
+    (ap (λ (x : View). x.name) look.visitor)
+    (subst (λ (x : View). Sees is_dc s.visitor.steps x.steps) (sym look.visitor) look.sees)
+
+pub invariant_of-self-in_err-rows : goal.invariant_of-self-in_err-rows
+invariant_of-self-in_err-rows g c =
+    let s = c.self.inside in let look = c.look_dc.ensures in
+    dc_kept_on g.J.Naming.names s.visitor c.look_dc.new.visitor _ c.self.invariant
+    (ap (λ (x : View). x.name) look.visitor)
+    (subst (λ (x : View). Sees is_dc s.visitor.steps x.steps) (sym look.visitor) look.sees)
+
+pub invariant_of-self-2 : goal.invariant_of-self-2
+invariant_of-self-2 g c =
+    let s = c.self.inside in let look = c.look_dc.ensures in
+    dc_kept_on g.J.Naming.names s.visitor c.look_dc.new.visitor _ c.self.invariant
+    (ap (λ (x : View). x.name) look.visitor)
+    (subst (λ (x : View). Sees is_dc s.visitor.steps x.steps) (sym look.visitor) look.sees)
+
+pub returns-then-not-is_up-clause-rows : goal.returns-then-not-is_up-clause-rows
+returns-then-not-is_up-clause-rows g c =
+    record { dc = c.self.inside.side; run = c.look_dc.ensures.run; rows_are = search rules }

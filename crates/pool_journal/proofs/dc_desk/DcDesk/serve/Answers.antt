@@ -1,0 +1,65 @@
+use Rattle.std.proofs.Common.{◌≡◌, ap, ◌∙◌, subst, sym}
+use Rattle.pool_journal.specs.declared.entry.Entry.{Entry}
+use Rattle.world.specs.Halves.{IsSpelledIf, IsInNode}
+use Rattle.world.specs.declared.event.Event.TheVariants as event
+use Rattle.pool_journal.specs.Kept.{IsSentBy, is_dc}
+use Rattle.pool_journal.specs.Steps.{requests}
+use Rattle.pool_journal.specs.Views.{View, Sees}
+use Rattle.pool_journal.proofs.Sitting.{dc_goes_with, dc_kept_on, in_node_with}
+use Rattle.pool_journal.proofs.dc_desk.DcDesk.serve.Goals as goal
+
+pub invariant_of-self : goal.invariant_of-self
+invariant_of-self g c =
+    let s = c.self.inside in let look = c.look_request.ensures in
+    dc_kept_on g.J.Naming.names s.visitor c.look_request.new.visitor _ c.self.invariant
+    (ap (λ (x : View). x.name) look.visitor)
+    (subst (λ (x : View). Sees is_dc s.visitor.steps x.steps) (sym look.visitor) look.sees)
+
+pub stepped-step-requires-clause-may : goal.stepped-step-requires-clause-may
+stepped-step-requires-clause-may g c =
+    let s = c.self.inside in
+    let found : c.in_ok-sent.sent.value.step.value.sent ≡ c.sent-request.result.now =
+    ap (λ (x : Entry). x.step.value.sent) (sym c.value.ensures) ∙ sym c.sent-request.ensures in (
+      subst (IsInNode s.side (event.Request c.args.number)) found
+          (in_node_with _ s.side c.args.number _ c.look_request.ensures.run c.in_ok-sent.ensures.sent),
+      subst IsSpelledIf found c.in_ok-sent.ensures.spelled,
+    )
+
+pub enter_dc-requires-clause-enters : goal.enter_dc-requires-clause-enters
+enter_dc-requires-clause-enters g c =
+    let s = c.self.inside in let look = c.look_request.ensures in let e = c.stepped-step.ensures in
+    let v = c.look_request.new.visitor in
+    let found : c.in_ok-sent.sent.value.step.value.sent ≡ c.sent-request.result.now =
+    ap (λ (x : Entry). x.step.value.sent) (sym c.value.ensures) ∙ sym c.sent-request.ensures in
+    let by : IsSentBy (requests v.steps) c.args.number c.sent-request.result.now =
+    subst (IsSentBy (requests v.steps) c.args.number) found
+    (subst (λ (x : View). IsSentBy (requests x.steps) c.args.number c.in_ok-sent.sent.value.step.value.sent)
+    (sym look.visitor)
+    c.in_ok-sent.ensures.sent) in (
+      _,
+      dc_goes_with s.visitor.steps v.steps s.side c.stepped-step.new.side s.given c.stepped-step.result.1
+          c.stepped-step.result.0.value c.args.number c.sent-request.result.now
+          (subst (λ (x : View). Sees is_dc s.visitor.steps x.steps) (sym look.visitor) look.sees) c.self.invariant.gives
+          e.event by e.leads e.given e.none,
+    )
+
+pub invariant_of-self-2 : goal.invariant_of-self-2
+invariant_of-self-2 g c =
+    let s = c.self.inside in let look = c.look_request.ensures in let e = c.stepped-step.ensures in
+    let v = c.look_request.new.visitor in
+    let found : c.in_ok-sent.sent.value.step.value.sent ≡ c.sent-request.result.now =
+    ap (λ (x : Entry). x.step.value.sent) (sym c.value.ensures) ∙ sym c.sent-request.ensures in
+    let by : IsSentBy (requests v.steps) c.args.number c.sent-request.result.now =
+    subst (IsSentBy (requests v.steps) c.args.number) found
+    (subst (λ (x : View). IsSentBy (requests x.steps) c.args.number c.in_ok-sent.sent.value.step.value.sent)
+    (sym look.visitor)
+    c.in_ok-sent.ensures.sent) in
+    let enters = dc_goes_with s.visitor.steps v.steps s.side c.stepped-step.new.side s.given c.stepped-step.result.1
+    c.stepped-step.result.0.value c.args.number c.sent-request.result.now
+    (subst (λ (x : View). Sees is_dc s.visitor.steps x.steps) (sym look.visitor) look.sees) c.self.invariant.gives
+    e.event by e.leads e.given e.none in
+    record {
+      name = ap (λ (x : View). x.name) c.enter_dc.ensures.visitor ∙ ap (λ (x : View). x.name) look.visitor
+          ∙ c.self.invariant.name;
+      gives = c.enter_dc.ensures.gives _ enters;
+    }

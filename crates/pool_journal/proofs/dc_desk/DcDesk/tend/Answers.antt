@@ -1,0 +1,27 @@
+use Rattle.std.proofs.Common.{ap, ◌∙◌, sym, subst}
+use Rattle.pool_journal.specs.declared.step.Step.{Step}
+use Rattle.pool_journal.specs.Kept.{EntersDc}
+use Rattle.pool_journal.specs.Steps.{DcState}
+use Rattle.pool_journal.specs.Views.{View}
+use Rattle.pool_journal.proofs.Tending.{tending_enters}
+use Rattle.pool_journal.proofs.dc_desk.DcDesk.tend.Goals as goal
+
+pub enter_dc-requires-clause-enters : goal.enter_dc-requires-clause-enters
+enter_dc-requires-clause-enters g c =
+    let s = c.self.inside in let n : DcState = record { side = c.tended-out.new.side; given = s.given } in (
+      n,
+      subst (λ (x : Step). EntersDc s.visitor.steps x n) (sym c.boxed-step.ensures)
+          (tending_enters s.visitor.steps s.side c.tended-out.new.side s.given c.tended-out.result
+          c.self.invariant.gives c.tended-out.ensures.leads),
+    )
+
+pub invariant_of-self-2 : goal.invariant_of-self-2
+invariant_of-self-2 g c =
+    let s = c.self.inside in let n : DcState = record { side = c.tended-out.new.side; given = s.given } in
+    let enters = subst (λ (x : Step). EntersDc s.visitor.steps x n) (sym c.boxed-step.ensures)
+    (tending_enters s.visitor.steps s.side c.tended-out.new.side s.given c.tended-out.result c.self.invariant.gives
+    c.tended-out.ensures.leads) in
+    record {
+      name = ap (λ (v : View). v.name) c.enter_dc.ensures.visitor ∙ c.self.invariant.name;
+      gives = c.enter_dc.ensures.gives n enters;
+    }

@@ -1,0 +1,6 @@
+use Rattle.std.proofs.Common.{subst}
+use Rattle.pool_journal.specs.Steps.{IsRun}
+use Rattle.pool_journal.proofs.journal.Journal.is_run.Goals as goal
+
+pub returns : goal.returns
+returns g c = subst IsRun c.self.view_is c.is_run.ensures

@@ -1,0 +1,18 @@
+use Rattle.std.proofs.Common.{ap, sym, ◌∙◌, ℕ, List, [], subst}
+use Rattle.pool_journal.specs.Kept.{LinesKept}
+use Rattle.pool_journal.specs.Slots.{Slot}
+use Rattle.pool_journal.specs.Views.{View}
+use Rattle.pool_journal.proofs.Entering.{lines_none}
+use Rattle.pool_journal.proofs.lines.Lines.new.Goals as goal
+
+abbrev nobody : ℕ → View
+nobody name = record { name = name; steps = [] }
+
+pub invariant_of-result : goal.invariant_of-result
+invariant_of-result g c =
+    let J = g.J.Naming in
+    let kept = lines_none J.entries J.names c.new-4.result c.new-5.result
+    (c.new-4.ensures ∙ ap nobody c.requires.tc.0) (c.new-5.ensures ∙ ap nobody c.requires.dc.0) c.requires.start in
+    subst (λ (w : List Slot × List Slot × List Slot).
+    LinesKept J.entries J.names w.0 w.1 w.2 c.new-4.result c.new-5.result)
+    (λ i. (sym c.new.ensures.items i, sym c.new-2.ensures.items i, sym c.new-3.ensures.items i)) kept

@@ -1,0 +1,46 @@
+-- What is seen of a session: its number, and its part of the entries that it has seen.
+use Rattle.std.specs.Prelude.{◌≡◌, ℕ, true, Option, Some, None}
+use Rattle.history.specs.ListMachine.{Line}
+use Rattle.world.specs.declared.event.Out.{Out}
+use Rattle.boxcar.specs.Table.{Shelves}
+use Rattle.marks.specs.Seen.{Seen}
+use Rattle.pool_journal.specs.declared.news.News.{News}
+use Rattle.pool_journal.specs.declared.news.News.TheVariants as news
+use Rattle.pool_journal.specs.Slots.{Shown}
+use Rattle.pool_journal.specs.Sessions.{Call, Part, called_as, ends, line_to, IsClosed}
+
+pub record CallerView : Type 0 where
+  pub number : ℕ
+  pub part : Part
+
+-- the same, and what its seat has seen of the marks
+pub record SessionView : Type 0 where
+  pub number : ℕ
+  pub part : Part
+  pub seat : Seen
+
+-- the same call, of which this line was told
+abbrev pub HasLine : Option Call → Option Call → Line → Type 0
+HasLine None new line = ⊥
+HasLine (Some c) new line = new ≡ Some (called_as c.event c.out (Some line))
+
+-- a line was told of the latest call, by an output that tells it some transaction
+pub record IsToldBy (old new : Part) (o : Out) : Type 0 where
+  pub txn : ℕ
+  pub line : Line
+  pub tells : line_to txn o ≡ Some line
+  pub before : new.before ≡ old.before
+  pub latest : HasLine old.latest new.latest line
+  pub closed : IsClosed new
+  pub over : ends line ≡ true → new.live ≡ None
+
+-- nothing was told of the latest call
+pub record IsUntold (old new : Part) : Type 0 where
+  pub before : new.before ≡ old.before
+  pub latest : new.latest ≡ old.latest
+
+-- what a session finds that waits for what is told of its latest call
+abbrev pub IsNews : Shelves → Part → Part → News → Type 0
+IsNews row old new (news.Line p) = Shown row p × IsToldBy old new p.value.step.value.out
+IsNews row old new news.CutOff = IsUntold old new × (new.live ≡ None)
+IsNews row old new news.Nothing = IsUntold old new

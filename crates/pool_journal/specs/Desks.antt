@@ -1,0 +1,44 @@
+-- What is found under the lock of each component.
+use Rattle.std.specs.Prelude.{◌≡◌, ℕ, ◌≤◌, Bool, true, false, IsTrue, List}
+use Rattle.atomic_table.specs.Seated.{TableId}
+use Rattle.marks.specs.Seen.{Seen}
+use Rattle.world.specs.declared.event.Event.{Event}
+use Rattle.world.specs.declared.event.Event.TheVariants as event
+use Rattle.pool_journal.specs.declared.step.Step.{Step}
+use Rattle.pool_journal.specs.Marking.{announced}
+use Rattle.pool_journal.specs.Steps.{TcState, DcState, GivesTc, GivesDc}
+use Rattle.pool_journal.specs.Views.{View}
+
+-- the steps up to the last entry that it has seen, the component, and what its seat has seen of the marks
+pub record TcFound : Type 0 where
+  pub steps : List Step
+  pub state : TcState
+  pub seat : Seen
+
+pub record DcFound : Type 0 where
+  pub steps : List Step
+  pub state : DcState
+
+-- the seat raises the marks: stable up to what is stable of the log, and low to the greatest number that these steps
+-- have announced
+pub record SeatKept (marks : TableId) (steps : List Step) (stable : ℕ) (seat : Seen) : Type 0 where
+  pub marks_are : seat.marks ≡ marks
+  pub raises : IsTrue seat.raises
+  pub stable_so : seat.stable ≤ stable
+  pub low : seat.low ≡ announced steps
+
+-- it is what these steps give
+pub record TcDeskKept (names : ℕ → ℕ) (marks : TableId) (seen : View) (state : TcState) (seat : Seen) : Type 0 where
+  pub name : seen.name ≡ names 0
+  pub gives : GivesTc seen.steps state
+  pub seated : SeatKept marks seen.steps state.side.tc.stable seat
+
+pub record DcDeskKept (names : ℕ → ℕ) (seen : View) (state : DcState) : Type 0 where
+  pub name : seen.name ≡ names 1
+  pub gives : GivesDc seen.steps state
+
+-- the event delivers a message
+abbrev pub delivers : Event → Bool
+delivers (event.Request i) = true
+delivers (event.Reply i) = true
+delivers _ = false

@@ -1,0 +1,21 @@
+-- The records with which a run of the node ends.
+use Rattle.std.specs.Prelude.{◌≡◌, true, false, List, Option, Some, None}
+use Rattle.std.specs.FinMap.{entries}
+use Rattle.std.specs.Global.{Vec}
+use Rattle.record_key.specs.Table.{Bytes}
+use Rattle.btree.specs.Leaves.{rows_of}
+use Rattle.dc_core.specs.DcView.{leaves}
+use Rattle.world.specs.Component.{DcSide}
+use Rattle.pool_journal.specs.declared.step.Step.{Step}
+use Rattle.pool_journal.specs.Kept.{IsInRun}
+
+-- the records of the data component, where it runs
+abbrev pub IsRowsOf : DcSide → Option (Vec (Bytes × Bytes)) → Type 0
+IsRowsOf dc None = dc.up ≡ false
+IsRowsOf dc (Some rows) = (dc.up ≡ true) × (rows.items ≡ entries (rows_of (leaves dc.dc)))
+
+-- some run of the node through these steps ends with these records
+pub record EndsWith (es : List Step) (rows : Option (Vec (Bytes × Bytes))) : Type 0 where
+  pub dc : DcSide
+  pub run : IsInRun es dc
+  pub rows_are : IsRowsOf dc rows

@@ -1,0 +1,10 @@
+pub mod Steps
+pub mod Sessions
+pub mod Slots
+pub mod Views
+pub mod Kept
+pub mod Callers
+pub mod Desks
+pub mod Waiting
+pub mod Marking
+pub mod Ending

@@ -1,0 +1,265 @@
+//! What lies under the lock of the data component.
+ghost use Rattle.std.specs.Prelude.{◌≡◌, ◌+◌, false, None, Some, IfOk, IfErr};
+ghost use Rattle.world.specs.Component as sides;
+ghost use Rattle.world.specs.declared.event.Event.TheVariants as event;
+ghost use Rattle.world.specs.declared.event.Out.TheVariants as out;
+ghost use Rattle.world.specs.Halves.{of_tc, DcLeads, MayDc, IsInNode};
+ghost use Rattle.pool_journal.specs.Ending.{EndsWith};
+ghost use Rattle.pool_journal.specs.Desks.{delivers};
+ghost use Rattle.pool_journal.specs.Slots.{Shown};
+ghost use Rattle.pool_journal.specs.Steps.{GivesDc, dc_start, count};
+
+use crate::entry::Entry;
+use crate::gate::Gate;
+use crate::holding::hold;
+use crate::journal::Journal;
+use crate::lines::Unsent;
+use crate::naming::Naming;
+use crate::row::boxed;
+use crate::step::Step;
+use crate::tc_desk::next_number;
+use crate::view::Visitor;
+use boxcar::{Pushed, Vec as Row};
+use codec::Request;
+use record_key::{Key, Refusal, Value};
+use stable::{CrashLog, CrashPages};
+use std::alloc::Global;
+use std::marker::Model;
+use std::sync::{Mutex, Wait};
+use tie::Mark;
+use world::{DcSide, Event, Out};
+
+/// The data component with what it has seen of the journal. Contracts see the steps up to there, and the component.
+#[derive(Drop)]
+pub struct DcDesk<J: Naming, D: CrashLog, P: CrashPages> {
+    alloc: Global,
+    side: DcSide<D, P>,
+    given: u64,
+    visitor: Visitor<J>,
+}
+
+impl<J: Naming, D: CrashLog, P: CrashPages> Model for DcDesk<J, D, P> {
+    ghost use Rattle.std.specs.Coded.{codes};
+    ghost use Rattle.record_key.specs.Table.{table_code};
+    ghost use Rattle.system_txn.specs.SystemView.{pages_code};
+    ghost use Rattle.pool_journal.specs.Desks.{DcFound, DcDeskKept};
+
+    ghost Value = { DcFound };
+
+    ghost coded = { Prim.hlevel (codes, table_code, pages_code) };
+
+    ghost view = { λ d. record { steps = d.visitor.steps; state = record { side = d.side; given = d.given } } };
+
+    ghost invariant = { λ d. DcDeskKept J.names d.visitor record { side = d.side; given = d.given } };
+}
+
+impl<J: Naming, D: CrashLog, P: CrashPages> DcDesk<J, D, P> {
+    /// The component at its start.
+    pub fn new(alloc: Global, side: DcSide<D, P>, mark: Mark) -> DcDesk<J, D, P>
+        requires start { side ≡ dc_start.side }
+        requires mark { (mark.name ≡ J.names 1) × (mark.number ≡ 0) }
+        ensures { result.state ≡ dc_start }
+    {
+        DcDesk {
+            alloc,
+            side,
+            given: 0,
+            visitor: Visitor::new(mark),
+        }
+    }
+
+    /// What is found under the lock is what the entries give up to the last one that it has seen.
+    pub fn kept(&self)
+        ensures { GivesDc self.now.steps self.now.state }
+    {
+        let _ = &self.side;
+    }
+
+    /// Copies of the records, where it runs, which some run of the node through all entries ends with. Refused NoMemory.
+    pub fn rows(
+        &mut self,
+        row: &Row<Entry>,
+        journal: &mut Journal<J>,
+    ) -> Result<Option<Vec<(Key, Value)>>, Refusal>
+        requires row { row.now ≡ J.entries }
+        ensures same { journal.new ≡ journal.old }
+        ensures rows { IfOk result (λ rows. EndsWith journal.old rows) }
+        ensures memory { IfErr result (λ refusal. refusal ≡ Refusal.NoMemory) }
+    {
+        let DcDesk {
+            alloc: _,
+            side,
+            given,
+            visitor,
+        } = self;
+        journal.look_dc(row, visitor, side, *given);
+        if !side.is_up() {
+            return Ok(None);
+        }
+        Ok(Some(side.rows()?))
+    }
+
+    /// The session that runs. Refused NotConnected where the component is down.
+    pub fn session(&self) -> Result<u64, Refusal> {
+        self.side.session()
+    }
+
+    /// Serves the request of this number, if the journal holds it as sent, and enters that. The journal's lock is free
+    /// while the request is served.
+    pub fn serve<G: Gate, R: Wait>(
+        &mut self,
+        rt: &R,
+        row: &Row<Entry>,
+        journal: &Mutex<Journal<J>>,
+        gate: &G,
+        number: u64,
+    ) -> Result<Pushed<Entry>, Unsent>
+        requires row { row.now ≡ J.entries }
+        ensures shown { IfOk result (λ token. Shown J.entries token) }
+    {
+        let DcDesk {
+            alloc,
+            side,
+            given,
+            visitor,
+        } = self;
+        let sent = hold(rt, journal).look_request(row, visitor, side, *given, number)?;
+        let request = row.value(&sent).sent();
+        look_on(gate, request);
+        let (step, after) = stepped(rt, *alloc, side, *given, Event::Request { number }, request);
+        *given = after;
+        Ok(hold(rt, journal).enter_dc(rt, row, visitor, step))
+    }
+
+    /// Splits or joins leaves where that is due, and its entry. Where nothing was to be done there is no entry.
+    pub fn tend<R: Wait>(&mut self, rt: &R, row: &Row<Entry>, journal: &Mutex<Journal<J>>)
+        requires row { row.now ≡ J.entries }
+    {
+        let DcDesk {
+            alloc,
+            side,
+            given: _,
+            visitor,
+        } = self;
+        let out = tended(side);
+        if let Out::Nothing = &out {
+            return;
+        }
+        let step = Step {
+            caller: None,
+            event: Event::Tend,
+            out,
+            sent: None,
+            given: None,
+        };
+        let step = boxed(rt, *alloc, step);
+        hold(rt, journal).enter_dc(rt, row, visitor, step);
+    }
+
+    /// A split, a merge or a write of leaves, and its entry.
+    pub fn enter<R: Wait>(
+        &mut self,
+        rt: &R,
+        row: &Row<Entry>,
+        journal: &Mutex<Journal<J>>,
+        event: Event,
+    ) -> Pushed<Entry>
+        requires row { row.now ≡ J.entries }
+        requires dc { of_tc event ≡ false }
+        requires alone { delivers event ≡ false }
+        requires may { (dc : sides.DcSide) → MayDc dc event None }
+        ensures shown { Shown J.entries result }
+        ensures event { result.value.step.value.event ≡ event }
+    {
+        let DcDesk {
+            alloc,
+            side,
+            given,
+            visitor,
+        } = self;
+        let (step, after) = stepped(rt, *alloc, side, *given, event, &None);
+        *given = after;
+        hold(rt, journal).enter_dc(rt, row, visitor, step)
+    }
+
+    /// A crash or a restart, and its entry.
+    pub fn turn<R: Wait>(
+        &mut self,
+        rt: &R,
+        row: &Row<Entry>,
+        journal: &Mutex<Journal<J>>,
+        event: Event,
+    ) -> Pushed<Entry>
+        requires row { row.now ≡ J.entries }
+        requires dc { of_tc event ≡ false }
+        requires alone { delivers event ≡ false }
+        requires may { (dc : sides.DcSide) → IsInNode dc event None → MayDc dc event None }
+        ensures shown { Shown J.entries result }
+        ensures event { result.value.step.value.event ≡ event }
+    {
+        let DcDesk {
+            alloc,
+            side,
+            given,
+            visitor,
+        } = self;
+        hold(rt, journal).look_dc(row, visitor, side, *given);
+        let (step, after) = stepped(rt, *alloc, side, *given, event, &None);
+        *given = after;
+        hold(rt, journal).enter_dc(rt, row, visitor, step)
+    }
+}
+
+// The program looks on while a request is served.
+fn look_on<G: Gate>(gate: &G, request: &Option<Request>) {
+    if let Some(request) = request {
+        gate.in_dc(request);
+    }
+}
+
+// Splits or joins leaves where that is due.
+fn tended<D: CrashLog, P: CrashPages>(side: &mut DcSide<D, P>) -> Out
+    ensures leads { DcLeads side.old None event.Tend None result None side.new }
+    ensures nothing { result ≡ out.Nothing → side.new ≡ side.old }
+{
+    let mut reply = None;
+    side.step(&Event::Tend, &None, None, &mut reply)
+}
+
+// One step of the component, and how many messages it has given then.
+fn stepped<D: CrashLog, P: CrashPages, R: Wait>(
+    rt: &R,
+    alloc: Global,
+    side: &mut DcSide<D, P>,
+    given: u64,
+    event: Event,
+    request: &Option<Request>,
+) -> (Box<Step>, u64)
+    requires dc { of_tc event ≡ false }
+    requires may { MayDc side.old event request.now }
+    ensures caller { result.0.value.caller ≡ None }
+    ensures event { result.0.value.event ≡ event }
+    ensures none { result.0.value.sent ≡ None }
+    ensures leads { DcLeads side.old (Some (given + 1)) event request.now result.0.value.out result.0.value.given side.new }
+    ensures given { result.1 ≡ given + count result.0.value.given }
+{
+    let next = next_number(rt, given);
+    let step = Step {
+        caller: None,
+        event,
+        out: Out::Nothing,
+        sent: None,
+        given: None,
+    };
+    let mut step = boxed(rt, alloc, step);
+    let Step {
+        caller: _,
+        event,
+        out,
+        sent: _,
+        given: reply,
+    } = &mut *step;
+    *out = side.step(event, request, Some(next), reply);
+    let after = if reply.is_some() { next } else { given };
+    (step, after)
+}

@@ -1,0 +1,379 @@
+//! What lies under the journal's lock.
+ghost use Rattle.std.specs.Prelude.{◌≡◌, ◌++◌, ◌∷◌, [], None, Some, true, IfOk, IfSome, IfNone, OnErr, length, map, vec_len, slice_get};
+ghost use Rattle.world.specs.Halves.{IsSpelledIf};
+ghost use Rattle.world.specs.Messages.{message_at};
+ghost use Rattle.pool_journal.specs.Callers.{IsNews};
+ghost use Rattle.pool_journal.specs.Kept.{is_dc, IsInRun, IsSentBy, EntersTc, EntersDc, PlacesKept, place_after};
+ghost use Rattle.pool_journal.specs.Waiting.{IsNewsOf};
+ghost use Rattle.pool_journal.specs.Sessions.{IsClosed, LeavesLive, called_as, calls, part_of, line_of};
+ghost use Rattle.pool_journal.specs.Slots.{Shown};
+ghost use Rattle.pool_journal.specs.Steps.{is_tc, IsRun, requests, replies, TcState, DcState, GivesTc, GivesDc};
+ghost use Rattle.pool_journal.specs.Views.{Sees};
+
+use crate::caller::Caller;
+use crate::entry::Entry;
+use crate::lines::{Lines, Unsent};
+use crate::naming::Naming;
+use crate::news::News;
+use crate::place::{Place, is_pending, live_after};
+use crate::step::Step;
+use crate::stirs::Stirs;
+use crate::view::Visitor;
+use boxcar::{Pushed, Vec as Row};
+use stable::{CrashLog, CrashPages};
+use std::marker::Model;
+use std::sync::Wait;
+use world::DcSide;
+
+/// The entries, and each session's place in them. Contracts see the steps.
+#[derive(Drop)]
+pub struct Journal<J: Naming> {
+    lines: Lines<J>,
+    places: Vec<Place<J>>,
+    // Whose latest request was answered or lost, so that the session has to look again.
+    again: Stirs,
+}
+
+impl<J: Naming> Model for Journal<J> {
+    ghost use Rattle.std.specs.Prelude.{◌≡◌, List, vec_len};
+    ghost use Rattle.std.specs.Coded.{codes};
+    ghost use Rattle.pool_journal.specs.declared.step.Step.{Step};
+    ghost use Rattle.pool_journal.specs.Kept.{PlacesKept};
+
+    ghost Value = { List Step };
+
+    ghost coded = { Prim.hlevel codes };
+
+    ghost view = { λ j. j.lines };
+
+    ghost invariant = { λ j. PlacesKept J.entries J.names j.lines j.places.items × (vec_len j.places ≡ J.sessions) };
+}
+
+// An entry may tell every session but its caller a line.
+fn hear_all<J: Naming>(places: &mut Vec<Place<J>>, entry: &Entry, token: &Pushed<Entry>)
+    requires { entry.now ≡ token.now.value }
+    ensures heard { places.new.items ≡ map (place_after token.now) places.old.items }
+    ensures count { vec_len places.new ≡ vec_len places.old }
+{
+    for place in places.iter_mut() {
+        place.hear(entry, token);
+    }
+}
+
+// What a place has for a session that waits.
+fn news_of<J: Naming>(place: &Place<J>) -> News
+    ensures { IsNewsOf place.now result }
+{
+    if let Some(token) = &place.line {
+        return News::Line(token.again());
+    }
+    if place.live.is_none() {
+        return News::CutOff;
+    }
+    News::Nothing
+}
+
+impl<J: Naming> Journal<J> {
+    /// A journal without entries, with the places of its sessions.
+    pub fn new(lines: Lines<J>, places: Vec<Place<J>>, stirs: Stirs) -> Journal<J>
+        requires empty { lines ≡ [] }
+        requires places { PlacesKept J.entries J.names [] places.items }
+        requires count { vec_len places ≡ J.sessions }
+        ensures { result ≡ [] }
+    {
+        Journal {
+            lines,
+            places,
+            again: stirs,
+        }
+    }
+
+    /// The entries are a run of the node, from its start on.
+    pub fn is_run(&self)
+        ensures { IsRun self.now }
+    {
+        self.lines.is_run();
+    }
+
+    /// The entry that sent the request of this number, if one did.
+    pub fn request(&self, number: u64) -> Result<Pushed<Entry>, Unsent>
+        ensures shown { IfOk result (λ token. Shown J.entries token) }
+        ensures sent { IfOk result (λ token. IsSentBy (requests self.now) number token.value.step.value.sent) }
+        ensures none { OnErr result (message_at (requests self.now) number ≡ None) }
+    {
+        self.lines.request(number)
+    }
+
+    /// Looks for the reply of this number on behalf of the transaction component, which has seen all entries then.
+    pub fn look_reply(
+        &mut self,
+        row: &Row<Entry>,
+        visitor: &mut Visitor<J>,
+        number: u64,
+    ) -> Result<Pushed<Entry>, Unsent>
+        requires row { row.now ≡ J.entries }
+        requires name { visitor.old.name ≡ J.names 0 }
+        ensures same { self.new ≡ self.old }
+        ensures visitor { visitor.new ≡ record { name = visitor.old.name; steps = self.old } }
+        ensures sees { Sees is_tc visitor.old.steps self.old }
+        ensures shown { IfOk result (λ token. Shown J.entries token) }
+        ensures given { IfOk result (λ token. IsSentBy (replies self.old) number token.value.step.value.given) }
+        ensures none { OnErr result (message_at (replies self.old) number ≡ None) }
+    {
+        let Journal {
+            lines,
+            places: _,
+            again: _,
+        } = self;
+        lines.meet_tc(row, visitor);
+        lines.reply(number)
+    }
+
+    /// Looks for the request of this number on behalf of the data component, which has seen all entries then.
+    pub fn look_request<D: CrashLog, P: CrashPages>(
+        &mut self,
+        row: &Row<Entry>,
+        visitor: &mut Visitor<J>,
+        side: &DcSide<D, P>,
+        given: u64,
+        number: u64,
+    ) -> Result<Pushed<Entry>, Unsent>
+        requires row { row.now ≡ J.entries }
+        requires name { visitor.old.name ≡ J.names 1 }
+        requires gives { GivesDc visitor.old.steps record { side = side.now; given = given } }
+        ensures same { self.new ≡ self.old }
+        ensures visitor { visitor.new ≡ record { name = visitor.old.name; steps = self.old } }
+        ensures sees { Sees is_dc visitor.old.steps self.old }
+        ensures run { IsInRun self.old side.now }
+        ensures shown { IfOk result (λ token. Shown J.entries token) }
+        ensures sent { IfOk result (λ token. IsSentBy (requests self.old) number token.value.step.value.sent) }
+        ensures spelled { IfOk result (λ token. IsSpelledIf token.value.step.value.sent) }
+        ensures none { OnErr result (message_at (requests self.old) number ≡ None) }
+    {
+        let Journal {
+            lines,
+            places: _,
+            again: _,
+        } = self;
+        lines.meet_dc(row, visitor, side, given);
+        lines.request(number)
+    }
+
+    /// The data component has seen all entries, and is what some run of the node through them ends with.
+    pub fn look_dc<D: CrashLog, P: CrashPages>(
+        &mut self,
+        row: &Row<Entry>,
+        visitor: &mut Visitor<J>,
+        side: &DcSide<D, P>,
+        given: u64,
+    )
+        requires row { row.now ≡ J.entries }
+        requires name { visitor.old.name ≡ J.names 1 }
+        requires gives { GivesDc visitor.old.steps record { side = side.now; given = given } }
+        ensures same { self.new ≡ self.old }
+        ensures visitor { visitor.new ≡ record { name = visitor.old.name; steps = self.old } }
+        ensures sees { Sees is_dc visitor.old.steps self.old }
+        ensures run { IsInRun self.old side.now }
+    {
+        let Journal {
+            lines,
+            places: _,
+            again: _,
+        } = self;
+        lines.meet_dc(row, visitor, side, given);
+    }
+
+    /// Enters a step of the data component.
+    pub fn enter_dc<R: Wait>(
+        &mut self,
+        rt: &R,
+        row: &Row<Entry>,
+        visitor: &mut Visitor<J>,
+        step: Box<Step>,
+    ) -> Pushed<Entry>
+        requires row { row.now ≡ J.entries }
+        requires name { visitor.old.name ≡ J.names 1 }
+        requires dc { is_dc step.value ≡ true }
+        requires own { step.value.caller ≡ None }
+        requires enters { (n : DcState) × EntersDc visitor.old.steps step.value n }
+        ensures shown { Shown J.entries result }
+        ensures value { result.value.step.value ≡ step.value }
+        ensures entered { self.new ≡ self.old ++ step.value ∷ [] }
+        ensures visitor { visitor.new ≡ record { name = visitor.old.name; steps = self.new } }
+        ensures gives { (n : DcState) → EntersDc visitor.old.steps step.value n → GivesDc visitor.new.steps n }
+    {
+        let Journal {
+            lines,
+            places,
+            again: _,
+        } = self;
+        let token = lines.enter_dc(rt, row, visitor, step);
+        hear_all(places, row.value(&token), &token);
+        token
+    }
+
+    /// Enters a step of the transaction component that is no client's call.
+    pub fn enter_tc<R: Wait>(
+        &mut self,
+        rt: &R,
+        row: &Row<Entry>,
+        visitor: &mut Visitor<J>,
+        step: Box<Step>,
+    ) -> Pushed<Entry>
+        requires row { row.now ≡ J.entries }
+        requires name { visitor.old.name ≡ J.names 0 }
+        requires tc { is_tc step.value ≡ true }
+        requires own { step.value.caller ≡ None }
+        requires enters { (n : TcState) × EntersTc visitor.old.steps step.value n }
+        ensures shown { Shown J.entries result }
+        ensures value { result.value.step.value ≡ step.value }
+        ensures entered { self.new ≡ self.old ++ step.value ∷ [] }
+        ensures visitor { visitor.new ≡ record { name = visitor.old.name; steps = self.new } }
+        ensures sees { Sees is_tc visitor.old.steps self.old }
+        ensures gives { (n : TcState) → EntersTc visitor.old.steps step.value n → GivesTc visitor.new.steps n }
+    {
+        let Journal {
+            lines,
+            places,
+            again: _,
+        } = self;
+        let token = lines.enter_tc(rt, row, visitor, step);
+        hear_all(places, row.value(&token), &token);
+        token
+    }
+
+    /// Enters a session's call.
+    pub fn call<R: Wait>(
+        &mut self,
+        rt: &R,
+        row: &Row<Entry>,
+        visitor: &mut Visitor<J>,
+        step: Box<Step>,
+        caller: &mut Caller<J>,
+    ) -> Pushed<Entry>
+        requires row { row.now ≡ J.entries }
+        requires name { visitor.old.name ≡ J.names 0 }
+        requires tc { is_tc step.value ≡ true }
+        requires own { step.value.caller ≡ Some caller.old.number }
+        requires enters { (n : TcState) × EntersTc visitor.old.steps step.value n }
+        requires closed { IsClosed caller.old.part }
+        ensures shown { Shown J.entries result }
+        ensures value { result.value.step.value ≡ step.value }
+        ensures entered { self.new ≡ self.old ++ step.value ∷ [] }
+        ensures visitor { visitor.new ≡ record { name = visitor.old.name; steps = self.new } }
+        ensures sees { Sees is_tc visitor.old.steps self.old }
+        ensures gives { (n : TcState) → EntersTc visitor.old.steps step.value n → GivesTc visitor.new.steps n }
+        ensures number { caller.new.number ≡ caller.old.number }
+        ensures before { caller.new.part.before ≡ calls caller.old.part }
+        ensures latest { caller.new.part.latest ≡ Some (called_as step.value.event step.value.out None) }
+        ensures live { LeavesLive step.value.out caller.new.part }
+    {
+        let Journal {
+            lines,
+            places,
+            again: _,
+        } = self;
+        let token = lines.enter_tc(rt, row, visitor, step);
+        let entry = row.value(&token);
+        hear_all(places, entry, &token);
+        let Caller {
+            number,
+            visitor: own,
+        } = caller;
+        let place = &mut places[*number as usize];
+        place.party.meet(row, own, &Some(token.again()));
+        place.live = live_after(place.live, entry.out());
+        place.awaits = is_pending(entry.out());
+        place.line = None;
+        token
+    }
+
+    /// What was told of a session's latest call, which the session has then seen.
+    pub fn take_news(&mut self, row: &Row<Entry>, caller: &mut Caller<J>) -> News
+        requires row { row.now ≡ J.entries }
+        requires untold { line_of caller.old.part.latest ≡ None }
+        ensures same { self.new ≡ self.old }
+        ensures number { caller.new.number ≡ caller.old.number }
+        ensures part { caller.new.part ≡ part_of caller.old.number self.old }
+        ensures news { IsNews J.entries caller.old.part caller.new.part result }
+    {
+        let Journal {
+            lines,
+            places,
+            again,
+        } = self;
+        let Caller {
+            number,
+            visitor: own,
+        } = caller;
+        again.set(*number, false);
+        let place = &mut places[*number as usize];
+        place.party.meet(row, own, &lines.last());
+        news_of(place)
+    }
+
+    /// The session sees all entries. Its part has just the calls that it knows of. Answers its transaction, if that is
+    /// alive.
+    pub fn see(&mut self, row: &Row<Entry>, caller: &mut Caller<J>) -> Option<u64>
+        requires row { row.now ≡ J.entries }
+        requires closed { IsClosed caller.old.part }
+        ensures same { self.new ≡ self.old }
+        ensures number { caller.new.number ≡ caller.old.number }
+        ensures part { caller.new.part ≡ part_of caller.old.number self.old }
+        ensures calls { calls caller.new.part ≡ calls caller.old.part }
+        ensures closed { IsClosed caller.new.part }
+        ensures live { result ≡ caller.new.part.live }
+        ensures kept { IfSome result (λ t. caller.old.part.live ≡ Some t) }
+    {
+        let Journal {
+            lines,
+            places,
+            again: _,
+        } = self;
+        let Caller {
+            number,
+            visitor: own,
+        } = caller;
+        let place = &mut places[*number as usize];
+        place.party.meet(row, own, &lines.last());
+        place.live
+    }
+
+    /// How many entries there are.
+    pub fn count(&self) -> usize
+        ensures { result ≡ length self.now }
+    {
+        self.lines.count()
+    }
+
+    /// The entry at a place, from 0.
+    pub fn token(&self, place: usize) -> Option<Pushed<Entry>>
+        ensures shown { IfSome result (λ token. Shown J.entries token) }
+        ensures step { IfSome result (λ token. slice_get self.now place ≡ Some token.value.step.value) }
+        ensures none { IfNone result (slice_get self.now place ≡ None) }
+    {
+        self.lines.token(place)
+    }
+
+    /// Whether a session that waits has something to do: a line was told, its call was cut off, or what it sent was
+    /// answered or lost.
+    pub fn has_news(&self, session: u64) -> bool {
+        let again = self.again.is_set(session);
+        match self.places.get(session as usize) {
+            Some(place) => again || place.line.is_some() || place.live.is_none(),
+            None => true,
+        }
+    }
+
+    /// What the session sent was answered or lost.
+    pub fn stir(&mut self, session: u64)
+        ensures { self.new ≡ self.old }
+    {
+        let Journal {
+            lines: _,
+            places: _,
+            again,
+        } = self;
+        again.set(session, true);
+    }
+}

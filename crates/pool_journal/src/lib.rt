@@ -1,0 +1,45 @@
+//! What clients on threads write down, and what lies under each lock.
+//!
+//! Knows: the two halves of a node, and who called what.
+//! Must not know: threads, who waits for what, or how either half keeps its state.
+//! Promises the next crate: the entries are a run of the node; a component under its lock is what the entries give that
+//! it has seen; a session's part has just the calls that it made, each with the first line told of it.
+#![tactic(auto)]
+
+mod caller;
+mod copying;
+mod dc_desk;
+mod entry;
+mod gate;
+mod hall;
+mod holding;
+mod journal;
+mod lines;
+mod naming;
+mod news;
+mod next;
+mod place;
+mod row;
+mod step;
+mod stirs;
+mod tc_desk;
+mod trace;
+mod tracing;
+mod view;
+
+pub use caller::Caller;
+pub use copying::copied_value;
+pub use dc_desk::DcDesk;
+pub use entry::Entry;
+pub use gate::Gate;
+pub use hall::Hall;
+pub use holding::hold;
+pub use journal::Journal;
+pub use lines::{Lines, Unsent};
+pub use naming::Naming;
+pub use news::News;
+pub use next::Next;
+pub use place::{Place, is_pending};
+pub use step::Step;
+pub use stirs::Stirs;
+pub use tc_desk::TcDesk;

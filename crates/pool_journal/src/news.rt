@@ -1,0 +1,13 @@
+//! What a session that waits finds.
+use crate::entry::Entry;
+use boxcar::Pushed;
+
+/// What was told of a session's latest call.
+#[derive(Drop)]
+pub enum News {
+    /// This entry told of it.
+    Line(Pushed<Entry>),
+    /// Nothing more is told of it.
+    CutOff,
+    Nothing,
+}

@@ -1,0 +1,392 @@
+//! What lies under the lock of the transaction component.
+ghost use Rattle.std.specs.Prelude.{◌≡◌, ◌+◌, ◌≤◌, true, false, max, IsTrue, None, Some, IfOk, IfSome};
+ghost use Rattle.marks.specs.Seen.{raiser, reader};
+ghost use Rattle.tc_core.specs.Kept.{IsTc};
+ghost use Rattle.world.specs.Halves.{of_tc, TcLeads};
+ghost use Rattle.pool_journal.specs.Desks.{delivers};
+ghost use Rattle.pool_journal.specs.Marking.{announced, low_of, tells_commit, IsLowOf};
+ghost use Rattle.pool_journal.specs.Sessions.{IsClosed, LeavesLive, called_as, calls};
+ghost use Rattle.pool_journal.specs.Slots.{Shown};
+ghost use Rattle.pool_journal.specs.Steps.{GivesTc, tc_start, count};
+
+use crate::caller::Caller;
+use crate::copying::copied;
+use crate::entry::Entry;
+use crate::hall::Hall;
+use crate::holding::hold;
+use crate::journal::Journal;
+use crate::lines::Unsent;
+use crate::naming::Naming;
+use crate::next::Next;
+use crate::row::boxed;
+use crate::step::Step;
+use crate::view::Visitor;
+use boxcar::Pushed;
+use codec::Reply;
+use marks::{Marks, Seat};
+use stable::CrashLog;
+use std::alloc::Global;
+use std::marker::Model;
+use std::sync::{Mutex, Wait};
+use std::thread;
+use tc_core::Phase;
+use tie::Mark;
+use world::{Event, Out, TcSide};
+
+/// The transaction component with what it has seen of the journal. Contracts see the steps up to there, and the
+/// component.
+#[derive(Drop)]
+pub struct TcDesk<J: Naming, D: CrashLog> {
+    alloc: Global,
+    side: TcSide<D>,
+    sent: u64,
+    visitor: Visitor<J>,
+    seat: Seat,
+}
+
+impl<J: Naming, D: CrashLog> Model for TcDesk<J, D> {
+    ghost use Rattle.std.specs.Coded.{codes};
+    ghost use Rattle.atomic_table.specs.Seated.{table_id_coded};
+    ghost use Rattle.pool_journal.specs.Desks.{TcFound, TcDeskKept};
+
+    ghost Value = { TcFound };
+
+    ghost coded = { Prim.hlevel (codes, table_id_coded) };
+
+    ghost view = { λ d. record {
+      steps = d.visitor.steps;
+      state = record { side = d.side; sent = d.sent };
+      seat = d.seat;
+    } };
+
+    ghost invariant = { λ d. TcDeskKept J.names J.marks d.visitor record { side = d.side; sent = d.sent } d.seat };
+}
+
+/// The number of the next message. No component sends so many that there is none.
+pub fn next_number<R: Wait>(rt: &R, sent: u64) -> u64
+    ensures { result ≡ sent + 1 }
+{
+    for _ in rt.forever() {
+        if sent < u64::MAX {
+            return sent + 1;
+        }
+        thread::yield_now();
+    }
+    unreachable!()
+}
+
+impl<J: Naming, D: CrashLog> TcDesk<J, D> {
+    /// The component at its start.
+    pub fn new(alloc: Global, side: TcSide<D>, mark: Mark, seat: Seat) -> TcDesk<J, D>
+        requires start { side ≡ tc_start.side }
+        requires mark { (mark.name ≡ J.names 0) × (mark.number ≡ 0) }
+        requires seat { seat ≡ raiser J.marks 0 0 }
+        ensures { result.state ≡ tc_start }
+    {
+        TcDesk {
+            alloc,
+            side,
+            sent: 0,
+            visitor: Visitor::new(mark),
+            seat,
+        }
+    }
+
+    /// What is found under the lock is what the entries give up to the last one that it has seen. The stable mark is no
+    /// more than what is stable of the log, and the low mark is the greatest number that these entries have announced.
+    pub fn kept(&self)
+        ensures gives { GivesTc self.now.steps self.now.state }
+        ensures stable { self.now.seat.stable ≤ self.now.state.side.tc.stable }
+        ensures low { self.now.seat.low ≡ announced self.now.steps }
+    {
+        let _ = &self.side;
+    }
+
+    /// A step that is no client's call and delivers nothing, and its entry.
+    pub fn enter<R: Wait>(
+        &mut self,
+        rt: &R,
+        hall: &Hall<J>,
+        journal: &Mutex<Journal<J>>,
+        event: Event,
+    ) -> Pushed<Entry>
+        requires tc { of_tc event ≡ true }
+        requires plain { delivers event ≡ false }
+        ensures shown { Shown J.entries result }
+        ensures event { result.value.step.value.event ≡ event }
+    {
+        let TcDesk {
+            alloc,
+            side,
+            sent,
+            visitor,
+            seat,
+        } = self;
+        let (step, after) = stepped(rt, *alloc, side, *sent, None, event, None);
+        *sent = after;
+        mark(hall.marks(), seat, side, &step);
+        hold(rt, journal).enter_tc(rt, hall.row(), visitor, step)
+    }
+
+    /// A session's call, and its entry.
+    pub fn call<R: Wait>(
+        &mut self,
+        rt: &R,
+        hall: &Hall<J>,
+        journal: &Mutex<Journal<J>>,
+        event: Event,
+        caller: &mut Caller<J>,
+    ) -> Pushed<Entry>
+        requires tc { of_tc event ≡ true }
+        requires plain { delivers event ≡ false }
+        requires closed { IsClosed caller.old.part }
+        ensures shown { Shown J.entries result }
+        ensures event { result.value.step.value.event ≡ event }
+        ensures number { caller.new.number ≡ caller.old.number }
+        ensures before { caller.new.part.before ≡ calls caller.old.part }
+        ensures latest { caller.new.part.latest ≡ Some (called_as event result.value.step.value.out None) }
+        ensures live { LeavesLive result.value.step.value.out caller.new.part }
+    {
+        let TcDesk {
+            alloc,
+            side,
+            sent,
+            visitor,
+            seat,
+        } = self;
+        let (step, after) = stepped(rt, *alloc, side, *sent, Some(caller.number()), event, None);
+        *sent = after;
+        mark(hall.marks(), seat, side, &step);
+        hold(rt, journal).call(rt, hall.row(), visitor, step, caller)
+    }
+
+    /// Takes the reply of this number, if the journal holds it as given, and enters that.
+    pub fn take<R: Wait>(
+        &mut self,
+        rt: &R,
+        hall: &Hall<J>,
+        journal: &Mutex<Journal<J>>,
+        number: u64,
+    ) -> Result<Pushed<Entry>, Unsent>
+        ensures shown { IfOk result (λ token. Shown J.entries token) }
+    {
+        let TcDesk {
+            alloc,
+            side,
+            sent,
+            visitor,
+            seat,
+        } = self;
+        let given = hold(rt, journal).look_reply(hall.row(), visitor, number)?;
+        let Some(reply) = hall.row().value(&given).given() else {
+            return Err(Unsent);
+        };
+        let reply = copy(rt, reply);
+        let (step, after) = stepped(
+            rt,
+            *alloc,
+            side,
+            *sent,
+            None,
+            Event::Reply { number },
+            Some(reply),
+        );
+        *sent = after;
+        mark(hall.marks(), seat, side, &step);
+        Ok(hold(rt, journal).enter_tc(rt, hall.row(), visitor, step))
+    }
+
+    /// Makes the log stable, and enters that. Where that told a commit, the data component is told how much is stable, and
+    /// what may be announced as answered is announced: the entries of both.
+    pub fn force<R: Wait>(
+        &mut self,
+        rt: &R,
+        hall: &Hall<J>,
+        journal: &Mutex<Journal<J>>,
+    ) -> (Option<Pushed<Entry>>, Option<Pushed<Entry>>)
+        ensures tell { IfSome result.0 (λ token. Shown J.entries token) }
+        ensures low { IfSome result.1 (λ token. Shown J.entries token) }
+    {
+        let token = self.enter(rt, hall, journal, Event::Force);
+        if !tells_commit(hall.row().value(&token).out()) {
+            return (None, None);
+        }
+        let tell = self.enter(rt, hall, journal, Event::Tell);
+        (Some(tell), self.announce(rt, hall, journal))
+    }
+
+    /// The component crashes, and keeps so many bytes of what isn't stable of its log; and the entry of that.
+    pub fn crash<R: Wait>(
+        &mut self,
+        rt: &R,
+        hall: &Hall<J>,
+        journal: &Mutex<Journal<J>>,
+        kept: u64,
+    ) {
+        let (frames, bytes) = frames_in(&self.side, kept);
+        self.enter(rt, hall, journal, Event::CrashTc { frames, bytes });
+    }
+
+    // Announces all that is answered, where that is more than what is announced.
+    fn announce<R: Wait>(
+        &mut self,
+        rt: &R,
+        hall: &Hall<J>,
+        journal: &Mutex<Journal<J>>,
+    ) -> Option<Pushed<Entry>>
+        ensures { IfSome result (λ token. Shown J.entries token) }
+    {
+        let low = self.side.greatest_low().unwrap_or(0);
+        if low <= hall.marks().read(&mut self.seat).1 {
+            return None;
+        }
+        Some(self.enter(rt, hall, journal, Event::LowWater { low }))
+    }
+
+    /// A seat learns what this component's has seen of the marks: how far the log is stable.
+    pub fn teach(&mut self, hall: &Hall<J>, seat: &mut Seat) -> u64
+        requires seat { seat.old.marks ≡ J.marks }
+        ensures same { self.new ≡ self.old }
+        ensures learned { seat.new ≡ reader J.marks self.old.seat.stable self.old.seat.low }
+        ensures stable { result ≡ self.old.seat.stable }
+    {
+        hall.marks().learn(&mut self.seat, seat);
+        hall.marks().read(&mut self.seat).0
+    }
+
+    /// What is to be done next to bring the component up, beside a data component that runs this session.
+    pub fn next(&self, session: u64) -> Next {
+        let (Ok(phase), Ok(own), Ok(stable)) = (
+            self.side.phase(),
+            self.side.session(),
+            self.side.stable_end(),
+        ) else {
+            return Next::Restart;
+        };
+        match phase {
+            Phase::Unconnected | Phase::Connecting => Next::Connect,
+            _ if session != own => Next::Connect,
+            Phase::Running => Next::Nothing,
+            Phase::Undoing { waiting: None } => Next::Lose,
+            Phase::Undoing {
+                waiting: Some(number),
+            } if stable < number => Next::Force,
+            _ => Next::Recover,
+        }
+    }
+}
+
+// How many whole records stand in the first `kept` bytes of what isn't stable, and how many bytes of them are left for
+// the next one.
+fn frames_in<D: CrashLog>(side: &TcSide<D>, kept: u64) -> (u64, u64) {
+    side.kept();
+    let (Ok(stable), Ok(records)) = (side.stable_end(), side.records()) else {
+        return (0, kept);
+    };
+    let start = side.end_of(stable).unwrap_or(0);
+    let (mut frames, mut whole) = (0, 0);
+    for number in stable..records {
+        let size = side.end_of(number + 1).unwrap_or(0).saturating_sub(start) as u64;
+        if size > kept {
+            break;
+        }
+        frames = number + 1 - stable;
+        whole = size;
+    }
+    (frames, kept.saturating_sub(whole))
+}
+
+// The same reply again. Where memory for it is refused it is tried again until it is made.
+fn copy<R: Wait>(rt: &R, reply: &Reply) -> Reply
+    ensures { result ≡ reply.now }
+{
+    for _ in rt.forever() {
+        if let Ok(copy) = copied(reply) {
+            return copy;
+        }
+        thread::yield_now();
+    }
+    unreachable!()
+}
+
+// The number that was announced, 0 where none was.
+fn low_sent(step: &Step) -> u64
+    ensures { result ≡ low_of step.now.event step.now.out }
+{
+    match (&step.event, &step.out) {
+        (Event::LowWater { low }, Out::Sent(_)) => *low,
+        _ => 0,
+    }
+}
+
+// Whether it tells a transaction that it has committed.
+fn tells_commit(out: &Out) -> bool
+    ensures { result ≡ tells_commit out.now }
+{
+    match out {
+        Out::Stable { committed, .. } | Out::Connects { committed, .. } => {
+            !committed.as_slice().is_empty()
+        }
+        _ => false,
+    }
+}
+
+// The marks show what a step told: a commit, how much of the log is stable; a low mark, that number.
+fn mark<D: CrashLog>(marks: &Marks, seat: &mut Seat, side: &TcSide<D>, step: &Box<Step>)
+    requires seat { (seat.old.marks ≡ marks.now) × IsTrue seat.old.raises }
+    requires stable { seat.old.stable ≤ side.now.tc.stable }
+    requires low { IsLowOf step.now.value.event step.now.value.out side.now }
+    ensures seat { (seat.new.marks ≡ seat.old.marks) × (seat.new.raises ≡ seat.old.raises) }
+    ensures stable { seat.new.stable ≤ side.now.tc.stable }
+    ensures low { seat.new.low ≡ max seat.old.low (low_of step.now.value.event step.now.value.out) }
+{
+    let low = low_sent(step);
+    if low == 0 && !tells_commit(&step.out) {
+        return;
+    }
+    let Ok(end) = side.stable_end() else {
+        return;
+    };
+    marks.raise_stable(seat, end);
+    marks.raise_low(seat, low);
+}
+
+// One step of the component, and how many messages it has sent then.
+fn stepped<D: CrashLog, R: Wait>(
+    rt: &R,
+    alloc: Global,
+    side: &mut TcSide<D>,
+    sent: u64,
+    caller: Option<u64>,
+    event: Event,
+    reply: Option<Reply>,
+) -> (Box<Step>, u64)
+    requires tc { of_tc event ≡ true }
+    ensures caller { result.0.value.caller ≡ caller }
+    ensures event { result.0.value.event ≡ event }
+    ensures none { result.0.value.given ≡ None }
+    ensures leads { TcLeads side.old (Some (sent + 1)) event reply result.0.value.out result.0.value.sent side.new }
+    ensures sent { result.1 ≡ sent + count result.0.value.sent }
+    ensures kept { IsTc side.old.tc }
+{
+    side.kept();
+    let next = next_number(rt, sent);
+    let step = Step {
+        caller,
+        event,
+        out: Out::Nothing,
+        sent: None,
+        given: None,
+    };
+    let mut step = boxed(rt, alloc, step);
+    let Step {
+        caller: _,
+        event,
+        out,
+        sent: request,
+        given: _,
+    } = &mut *step;
+    *out = side.step(event, reply, Some(next), request);
+    let after = if request.is_some() { next } else { sent };
+    (step, after)
+}

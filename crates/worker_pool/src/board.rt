@@ -1,0 +1,118 @@
+//! What every thread looks at: the entries, and what sessions wait for.
+ghost use Rattle.std.specs.Prelude.{◌≡◌, ℕ, Some, None, IfSome};
+ghost use Rattle.pool_journal.specs.Callers.{IsNews};
+ghost use Rattle.pool_journal.specs.Sessions.{IsClosed, calls, line_of};
+ghost use Rattle.pool_journal.specs.Slots.{Shown};
+
+use boxcar::Pushed;
+use crossbeam_channel::Sender;
+use pool_journal::{Caller, Entry, Hall, Journal, Naming, News, hold};
+use std::sync::atomic::{AtomicU64, Ordering};
+use std::sync::{Condvar, Mutex, Wait};
+use world::Out;
+
+/// A request on its way to a worker: its number, and the session that waits for what comes of it, if one does.
+#[derive(Debug, Clone, Copy, Drop)]
+pub struct Job {
+    pub(crate) number: u64,
+    pub(crate) session: Option<u64>,
+}
+
+/// The journal under its lock, with what is read of it without, and the condition on which sessions wait beside it.
+#[derive(Drop)]
+pub struct Board<J: Naming> {
+    pub(crate) hall: Hall<J>,
+    pub(crate) journal: Mutex<Journal<J>>,
+    news: Condvar,
+    restarts: AtomicU64,
+}
+
+impl<J: Naming> Board<J> {
+    pub(crate) fn new(hall: Hall<J>, journal: Journal<J>) -> Board<J> {
+        Board {
+            hall,
+            journal: Mutex::new(journal),
+            news: Condvar::new(),
+            restarts: AtomicU64::new(0),
+        }
+    }
+
+    /// How often the components were brought up.
+    pub(crate) fn restarts(&self) -> u64 {
+        self.restarts.load(Ordering::SeqCst)
+    }
+
+    /// The components were brought up: who waits looks again.
+    pub(crate) fn brought_up<R: Wait>(&self, rt: &R) {
+        self.restarts.fetch_add(1, Ordering::SeqCst);
+        // Who is about to wait has seen the count, or waits by now.
+        drop(self.journal.lock(rt));
+        self.wake();
+    }
+
+    /// Who waits looks again.
+    pub(crate) fn wake(&self) {
+        self.news.notify_all();
+    }
+
+    /// What the session sent was answered or lost.
+    pub(crate) fn stir<R: Wait>(&self, rt: &R, session: Option<u64>) {
+        if let Some(session) = session {
+            hold(rt, &self.journal).stir(session);
+        }
+    }
+
+    /// Whether a session that waits has something to do.
+    pub(crate) fn has_news<R: Wait>(&self, rt: &R, session: u64) -> bool {
+        hold(rt, &self.journal).has_news(session)
+    }
+
+    /// Waits until something was told of the session's call, or another step may be made.
+    pub(crate) fn wait<R: Wait>(&self, rt: &R, session: u64, restarts: u64) {
+        let _journal = self.news.wait_while(rt, self.journal.lock(rt), |journal| {
+            !journal.has_news(session) && self.restarts() == restarts
+        });
+    }
+
+    /// What a session finds that waits.
+    pub(crate) fn look<R: Wait>(&self, rt: &R, caller: &mut Caller<J>) -> News
+        requires untold { line_of caller.old.part.latest ≡ None }
+        ensures number { caller.new.number ≡ caller.old.number }
+        ensures news { IsNews J.entries caller.old.part caller.new.part result }
+    {
+        hold(rt, &self.journal).take_news(self.hall.row(), caller)
+    }
+
+    /// The session's transaction, if that is alive, where the session has seen all entries.
+    pub(crate) fn see<R: Wait>(&self, rt: &R, caller: &mut Caller<J>) -> Option<u64>
+        requires closed { IsClosed caller.old.part }
+        ensures number { caller.new.number ≡ caller.old.number }
+        ensures calls { calls caller.new.part ≡ calls caller.old.part }
+        ensures closed { IsClosed caller.new.part }
+        ensures live { result ≡ caller.new.part.live }
+        ensures kept { IfSome result (λ t. caller.old.part.live ≡ Some t) }
+    {
+        hold(rt, &self.journal).see(self.hall.row(), caller)
+    }
+
+    /// What an entry came to.
+    pub(crate) fn out(&self, token: &Pushed<Entry>) -> &Out
+        requires shown { Shown J.entries token.now }
+        ensures { result.now ≡ token.now.value.step.value.out }
+    {
+        self.hall.row().value(token).out()
+    }
+
+    /// Hands a request over to the workers, if the entry is that of one that was sent; nobody waits for it.
+    pub(crate) fn hand_over<R: Wait>(&self, rt: &R, work: &Sender<Job>, token: &Pushed<Entry>)
+        requires shown { Shown J.entries token.now }
+    {
+        if let Out::Sent(number) = self.out(token) {
+            let job = Job {
+                number: *number,
+                session: None,
+            };
+            let _ = work.send(rt, job);
+        }
+    }
+}
