@@ -60,8 +60,10 @@ where
     };
     put_none(&rt, &mut two)?;
     let (one, two) = (start(rt, one, 10), start(rt, two, 9));
-    clients.push(one?.join(&rt)?)?;
-    clients.push(two?.join(&rt)?)?;
+    // Both, before either is looked at: a thread that isn't joined keeps its session.
+    let (one, two) = (left(&rt, one), left(&rt, two));
+    clients.push(one?)?;
+    clients.push(two?)?;
     match clients.first_mut() {
         Some(client) => read(&rt, client),
         None => Err(Refusal::Full),
@@ -75,6 +77,15 @@ where
     R: Threads + Wait + Copy + Send + 'static,
 {
     Ok(spawn(&rt, move || trade(&rt, client, apples))?)
+}
+
+/// What a client leaves whose thread was started, once that has ended.
+fn left<J, R>(rt: &R, started: Result<JoinHandle<Left<J>>, AllocError>) -> Left<J>
+where
+    J: Naming + Drop,
+    R: Threads,
+{
+    started?.join(rt)
 }
 
 fn trade<J: Naming, R: Wait>(rt: &R, client: Client<J>, apples: u64) -> Left<J> {

@@ -1,6 +1,7 @@
 -- What a client's thread is given and gives back may go from one thread to another.
 use denote.RattleType.{RattleType}
-use denote.Param.Send.{IsSend, IsSync, sendable}
+use denote.Struct.Declared.{shape}
+use denote.Param.Send.{IsSend, IsSync, recorded_send, struct_send, sendable}
 use Rattle.std.proofs.Crossing.{crosses}
 use Rattle.std.specs.contracts.alloc.Global as Global
 use Rattle.std.specs.contracts.impls.GlobalAllocator.TheImpl.{ghosts}
@@ -19,4 +20,6 @@ holding_send = search (holding.the_send, holding.the_sync, crosses, sendable) de
 module _ (J : RattleType) (n : naming.Ghosts J.Denot) (s : IsSend J) (y : IsSync J) (G : RattleType) (sg : IsSend G)
     (yg : IsSync G) where
   pub ended_send : IsSend (Ended.the_row J G n)
-  ended_send = search (session_send, value.the_send, refusal.the_send, crosses, sendable) depth 40
+  ended_send = recorded_send (Ended.the_field J G n).row _ _ (Ended.the_type J G n).to_one
+    (struct_send (shape (Ended.the_type J G n))
+    (session_send J n s y G sg yg, (search (value.the_send, refusal.the_send, crosses, sendable) depth 20, tt)))

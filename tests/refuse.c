@@ -1,0 +1,61 @@
+/* Refuses the n-th growth of a program, where n is in REFUSED. Loaded before the C library by LD_PRELOAD. */
+#define _GNU_SOURCE
+#include <dlfcn.h>
+#include <errno.h>
+#include <stdatomic.h>
+#include <stdlib.h>
+
+static atomic_long left;
+static void *(*next_malloc)(size_t);
+static void *(*next_realloc)(void *, size_t);
+static int (*next_posix_memalign)(void **, size_t, size_t);
+static void *(*next_aligned_alloc)(size_t, size_t);
+
+__attribute__((constructor)) static void begin(void)
+{
+    const char *refused = getenv("REFUSED");
+    next_malloc = dlsym(RTLD_NEXT, "malloc");
+    next_realloc = dlsym(RTLD_NEXT, "realloc");
+    next_posix_memalign = dlsym(RTLD_NEXT, "posix_memalign");
+    next_aligned_alloc = dlsym(RTLD_NEXT, "aligned_alloc");
+    atomic_store(&left, refused ? atol(refused) : 0);
+}
+
+static int is_refused(void)
+{
+    return atomic_fetch_sub(&left, 1) == 1;
+}
+
+static void *refusal(void)
+{
+    errno = ENOMEM;
+    return NULL;
+}
+
+void *malloc(size_t size)
+{
+    if (!next_malloc)
+        begin();
+    return is_refused() ? refusal() : next_malloc(size);
+}
+
+void *realloc(void *block, size_t size)
+{
+    if (!next_realloc)
+        begin();
+    return is_refused() ? refusal() : next_realloc(block, size);
+}
+
+int posix_memalign(void **block, size_t alignment, size_t size)
+{
+    if (!next_posix_memalign)
+        begin();
+    return is_refused() ? ENOMEM : next_posix_memalign(block, alignment, size);
+}
+
+void *aligned_alloc(size_t alignment, size_t size)
+{
+    if (!next_aligned_alloc)
+        begin();
+    return is_refused() ? refusal() : next_aligned_alloc(alignment, size);
+}
