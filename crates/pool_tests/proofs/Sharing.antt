@@ -1,6 +1,7 @@
 -- What a client's thread is given and gives back may go from one thread to another.
 use denote.RattleType.{RattleType}
-use denote.Param.Send.{IsSend, IsSync, sendable}
+use denote.Struct.Declared.{shape}
+use denote.Param.Send.{IsSend, IsSync, recorded_send, struct_send, sendable}
 use Rattle.std.proofs.Crossing.{crosses}
 use Rattle.std.specs.contracts.alloc.Global as Global
 use Rattle.std.specs.contracts.impls.GlobalAllocator.TheImpl.{ghosts}
@@ -11,6 +12,7 @@ use Rattle.pool_tests.proofs.client.Note.TheSendSync as note
 use Rattle.pool_tests.proofs.stage.Door.TheSendSync as door
 use Rattle.pool_tests.proofs.stage.Stage.TheSendSync as stage
 use Rattle.pool_tests.specs.contracts.client.Client as Client
+use Rattle.pool_tests.specs.contracts.stage.Door as Door
 use Rattle.pool_tests.specs.contracts.stage.Stage as Stage
 use Rattle.pool_tests.specs.contracts.threads.Ended as Ended
 
@@ -18,11 +20,18 @@ pub stage_send : IsSend (Arc.the_row Stage.the_row Global.the_row ghosts)
 stage_send = search (stage.the_send, stage.the_sync, crosses, sendable) depth 20
 
 module _ (J : RattleType) (n : naming.Ghosts J.Denot) (s : IsSend J) (y : IsSync J) where
-  pub client_send : IsSend (Client.the_row J n)
-  client_send = search (session_send, door.the_send, door.the_sync, note.the_send, crosses, sendable) depth 40
-
   client_field_send : IsSend (Client.the_field J n).row
-  client_field_send = search (session_send, door.the_send, door.the_sync, note.the_send, crosses, sendable) depth 40
+  client_field_send = struct_send (shape (Client.the_type J n)) (
+      search sendable,
+      (
+          session_send J n s y Door.the_row door.the_send door.the_sync,
+          (search sendable, (search (note.the_send, crosses, sendable) depth 20, tt)),
+        ),
+    )
+
+  pub client_send : IsSend (Client.the_row J n)
+  client_send = recorded_send (Client.the_field J n).row _ _ (Client.the_type J n).to_one client_field_send
 
   pub ended_send : IsSend (Ended.the_row J n)
-  ended_send = search (client_field_send, crosses, sendable) depth 20
+  ended_send = recorded_send (Ended.the_field J n).row _ _ (Ended.the_type J n).to_one
+    (struct_send (shape (Ended.the_type J n)) (client_field_send, (search sendable, tt)))
