@@ -21,5 +21,5 @@ module _ (J : RattleType) (n : naming.Ghosts J.Denot) (s : IsSend J) (y : IsSync
     (yg : IsSync G) where
   pub ended_send : IsSend (Ended.the_row J G n)
   ended_send = recorded_send (Ended.the_field J G n).row _ _ (Ended.the_type J G n).to_one
-    (struct_send (shape (Ended.the_type J G n))
-    (session_send J n s y G sg yg, (search (value.the_send, refusal.the_send, crosses, sendable) depth 20, tt)))
+      (struct_send (shape (Ended.the_type J G n))
+      (session_send J n s y G sg yg, (search (value.the_send, refusal.the_send, crosses, sendable) depth 20, tt)))

@@ -22,16 +22,16 @@ stage_send = search (stage.the_send, stage.the_sync, crosses, sendable) depth 20
 module _ (J : RattleType) (n : naming.Ghosts J.Denot) (s : IsSend J) (y : IsSync J) where
   client_field_send : IsSend (Client.the_field J n).row
   client_field_send = struct_send (shape (Client.the_type J n)) (
-      search sendable,
-      (
-          session_send J n s y Door.the_row door.the_send door.the_sync,
-          (search sendable, (search (note.the_send, crosses, sendable) depth 20, tt)),
-        ),
-    )
+    search sendable,
+    (
+      session_send J n s y Door.the_row door.the_send door.the_sync,
+      (search sendable, (search (note.the_send, crosses, sendable) depth 20, tt)),
+    ),
+  )
 
   pub client_send : IsSend (Client.the_row J n)
   client_send = recorded_send (Client.the_field J n).row _ _ (Client.the_type J n).to_one client_field_send
 
   pub ended_send : IsSend (Ended.the_row J n)
   ended_send = recorded_send (Ended.the_field J n).row _ _ (Ended.the_type J n).to_one
-    (struct_send (shape (Ended.the_type J n)) (client_field_send, (search sendable, tt)))
+      (struct_send (shape (Ended.the_type J n)) (client_field_send, (search sendable, tt)))

@@ -11,8 +11,8 @@ use Rattle.bench_node.proofs.engine.go.Goals as goal
 
 player_send : (J : RattleType) (n : naming.Ghosts J.Denot) → IsSend J → IsSync J → IsSend (Player.the_row J n)
 player_send J n s y = recorded_send (Player.the_field J n).row _ _ (Player.the_type J n).to_one
-  (struct_send (shape (Player.the_type J n))
-  (search (session_send, quiet.the_send, quiet.the_sync, sendable) depth 12, (search (refusal.the_send, crosses, sendable) depth 20, tt)))
+    (struct_send (shape (Player.the_type J n))
+    (search (session_send, quiet.the_send, quiet.the_sync, sendable) depth 12, (search (refusal.the_send, crosses, sendable) depth 20, tt)))
 
 pub for_each_mut-requires-send-T : goal.for_each_mut-requires-send-T
 for_each_mut-requires-send-T g c κs within = search (player_send, sendable) depth 40
