@@ -9,7 +9,10 @@ use crossbeam_channel::Sender;
 use pool_journal::{Caller, Entry, Hall, Journal, Naming, News, hold};
 use std::sync::atomic::{AtomicU64, Ordering};
 use std::sync::{Condvar, Mutex, Wait};
-use world::Out;
+use world::{Event, Out};
+
+/// How far a low number is above the last one that was handed over, before it is handed over itself.
+const LOW_STEP: u64 = 4096;
 
 /// A request on its way to a worker: its number, and the session that waits for what comes of it, if one does.
 #[derive(Debug, Clone, Copy, Drop)]
@@ -25,6 +28,16 @@ pub struct Board<J: Naming> {
     pub(crate) journal: Mutex<Journal<J>>,
     news: Condvar,
     restarts: AtomicU64,
+    // The last low number that was handed over since the components were brought up.
+    low: AtomicU64,
+}
+
+// The low number that an entry announces, 0 where it announces none.
+fn low_in(entry: &Entry) -> u64 {
+    match &entry.step.event {
+        Event::LowWater { low } => *low,
+        _ => 0,
+    }
 }
 
 impl<J: Naming> Board<J> {
@@ -34,6 +47,7 @@ impl<J: Naming> Board<J> {
             journal: Mutex::new(journal),
             news: Condvar::new(),
             restarts: AtomicU64::new(0),
+            low: AtomicU64::new(0),
         }
     }
 
@@ -44,6 +58,7 @@ impl<J: Naming> Board<J> {
 
     /// The components were brought up: who waits looks again.
     pub(crate) fn brought_up<R: Wait>(&self, rt: &R) {
+        self.low.store(0, Ordering::SeqCst);
         self.restarts.fetch_add(1, Ordering::SeqCst);
         // Who is about to wait has seen the count, or waits by now.
         drop(self.journal.lock(rt));
@@ -101,6 +116,19 @@ impl<J: Naming> Board<J> {
         ensures { result.now ≡ token.now.value.step.value.out }
     {
         self.hall.row().value(token).out()
+    }
+
+    /// Hands a low number over to the workers, where it is far enough above the last one: to raise it is to visit each
+    /// leaf. One that isn't handed over is a message that is lost; the next one says more.
+    pub(crate) fn hand_over_low<R: Wait>(&self, rt: &R, work: &Sender<Job>, token: &Pushed<Entry>)
+        requires shown { Shown J.entries token.now }
+    {
+        let low = low_in(self.hall.row().value(token));
+        if low.saturating_sub(self.low.load(Ordering::SeqCst)) < LOW_STEP {
+            return;
+        }
+        self.low.store(low, Ordering::SeqCst);
+        self.hand_over(rt, work, token);
     }
 
     /// Hands a request over to the workers, if the entry is that of one that was sent; nobody waits for it.

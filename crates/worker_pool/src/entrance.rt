@@ -99,10 +99,11 @@ impl<J: Naming, D: CrashLog> Entrance<J, D> {
     pub(crate) fn force<R: Wait>(&self, rt: &R, work: &Sender<Job>) {
         let Entrance { board, tc } = self;
         let (tell, low) = hold(rt, tc).force(rt, &board.hall, &board.journal);
-        for token in [tell, low] {
-            if let Some(token) = token {
-                board.hand_over(rt, work, &token);
-            }
+        if let Some(tell) = tell {
+            board.hand_over(rt, work, &tell);
+        }
+        if let Some(low) = low {
+            board.hand_over_low(rt, work, &low);
         }
     }
 
