@@ -1,5 +1,5 @@
 //! The records of a leaf, in key order: where a key stands, and what an operation does there.
-ghost use Rattle.std.specs.Prelude.{◌≡◌, ◌<◌, ◌≤◌, ◌++◌, [], not, length, get_or, filter, insert, vec_len, OnOk, IfOk, IfErr};
+ghost use Rattle.std.specs.Prelude.{◌≡◌, ◌<◌, ◌≤◌, ◌++◌, [], not, length, get_or, filter, insert, vec_len, OnOk, OnErr, IfOk, IfErr};
 ghost use Rattle.std.specs.Option.{option_copied};
 ghost use Rattle.std.specs.Vec.{vec_capacity};
 ghost use Rattle.std.specs.FinMap.{get};
@@ -80,14 +80,15 @@ pub fn drop_rows_from(rows: &mut Vec<(Key, Value)>, key: &Key)
     rows.truncate(start);
 }
 
-/// Puts copies of the rows at the end. Refused NoMemory: the first of them may stand there then, so whoever is refused
-/// lets the rows go.
+/// Puts copies of the rows at the end. Refused NoMemory, and unchanged then.
 pub fn add_rows(rows: &mut Vec<(Key, Value)>, more: &[(Key, Value)]) -> Result<(), Refusal>
     ensures added { OnOk result (rows.new.items ≡ rows.old.items ++ more.now) }
+    ensures unchanged { OnErr result (rows.new.items ≡ rows.old.items) }
     ensures refused { IfErr result (λ refusal. refusal ≡ Refusal.NoMemory) }
 {
+    rows.reserve(more.len())?;
     for row in more {
-        rows.push((row.0.copied(), row.1.copied()))?;
+        rows.push_reserved((row.0.copied(), row.1.copied()));
     }
     Ok(())
 }

@@ -39,6 +39,10 @@ used u (Ok _) = called u
 used u (Err NoMemory) = u
 used u (Err Device) = failed u
 
+-- the n-th call from now is set to fail, in the place of one that was set and is still to come
+abbrev pub failing_in : ℕ → Usage → Usage
+failing_in n u = record u { failing = Some (u.calls + n) }
+
 -- so many calls more, all of which succeeded
 abbrev pub called_often : ℕ → Usage → Usage
 called_often n u = record u { calls = u.calls + n }

@@ -1,6 +1,6 @@
 //! How a device in memory was used, and the call of it that a test has set to fail.
 ghost use Rattle.std.specs.Prelude.{◌≡◌, ◌+◌, ◌≤◌, ◌↔◌, Some, IsTrue, IsErrOf, IsOkUnless};
-ghost use Rattle.stable.specs.Usage.{is_due, used, unused};
+ghost use Rattle.stable.specs.Usage.{is_due, used, unused, failing_in};
 
 use crate::counter::Counter;
 use crate::error::DeviceError;
@@ -42,7 +42,7 @@ impl Faults {
     /// The `n`-th call from now fails.
     pub(crate) fn fail_at(&mut self, n: u64)
         requires { 1 ≤ n }
-        ensures { self.new ≡ record self.old { failing = Some (self.old.calls + n) } }
+        ensures { self.new ≡ failing_in n self.old }
     {
         self.countdown = Some(n);
     }

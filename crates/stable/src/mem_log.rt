@@ -4,7 +4,7 @@ ghost use Rattle.std.specs.Borrow.{sem};
 ghost use Rattle.stable.specs.Crash.{MayLeave};
 ghost use Rattle.stable.specs.Device.{Rests};
 ghost use Rattle.stable.specs.LogState.{with_bytes, log_after};
-ghost use Rattle.stable.specs.Usage.{is_due, unused};
+ghost use Rattle.stable.specs.Usage.{is_due, unused, failing_in};
 
 use crate::crash_device::CrashLog;
 use crate::error::DeviceError;
@@ -52,15 +52,6 @@ impl MemLog {
         }
     }
 
-    /// The `n`-th call from now fails, once. It takes the place of a failure that was set and hasn't happened.
-    pub fn fail_at(&mut self, n: u64)
-        requires { 1 ≤ n }
-        ensures { self.new ≡ record self.old {
-          usage = record self.old.usage { failing = Some (self.old.usage.calls + n) };
-        } }
-    {
-        self.faults.fail_at(n);
-    }
 
     /// The bytes that aren't forced yet. This is no device call: nothing is counted, and nothing fails.
     pub fn pending(&self) -> &[u8]
@@ -150,5 +141,12 @@ impl CrashLog for MemLog {
         let pending = self.unforced();
         self.forced += kept.min(pending);
         self.bytes.truncate(self.forced);
+    }
+
+    fn fail_at(&mut self, n: u64)
+        requires { 1 ≤ n }
+        ensures { self.new ≡ record self.old { usage = failing_in n self.old.usage } }
+    {
+        self.faults.fail_at(n);
     }
 }

@@ -9,7 +9,7 @@ ghost use Rattle.std.specs.Ordering.{nat_cmp};
 ghost use Rattle.std.specs.Vec.{vec_capacity};
 ghost use Rattle.stable.specs.Device.{Rests};
 ghost use Rattle.stable.specs.PagesState.{pages_of, rooms_of, has_room, pages_after};
-ghost use Rattle.stable.specs.Usage.{is_due, used, unused};
+ghost use Rattle.stable.specs.Usage.{is_due, used, unused, failing_in};
 
 use crate::crash_device::CrashPages;
 use crate::error::DeviceError;
@@ -60,16 +60,6 @@ impl MemPages {
             places: BTreeMap::new(alloc),
             faults: Faults::new(),
         }
-    }
-
-    /// The `n`-th call from now fails, once. It takes the place of a failure that was set and hasn't happened.
-    pub fn fail_at(&mut self, n: u64)
-        requires { 1 ≤ n }
-        ensures { self.new ≡ record self.old {
-          usage = record self.old.usage { failing = Some (self.old.usage.calls + n) };
-        } }
-    {
-        self.faults.fail_at(n);
     }
 }
 
@@ -140,6 +130,13 @@ impl CrashPages for MemPages {
     fn crash(&mut self)
         ensures { self.new ≡ self.old }
     {}
+
+    fn fail_at(&mut self, n: u64)
+        requires { 1 ≤ n }
+        ensures { self.new ≡ record self.old { usage = failing_in n self.old.usage } }
+    {
+        self.faults.fail_at(n);
+    }
 }
 
 /// Makes room for an image of this length. A page that has no place yet gets one, with its room in it.
