@@ -1,6 +1,6 @@
 //! What a restart asks of a log, kept while its records are read one after another.
-ghost use Rattle.std.specs.Prelude.{◌≡◌, [], OnOk};
-ghost use Rattle.std.specs.BTreeMap.{get};
+ghost use Rattle.std.specs.Prelude.{◌≡◌, [], OnOk, OnErr};
+ghost use Rattle.std.specs.BTreeMap.{get, IsUnchanged};
 ghost use Rattle.std.specs.Ordering.{nat_cmp};
 ghost use Rattle.logical_log.specs.Checkpointed.{raised_by};
 ghost use Rattle.logical_log.specs.Replay.{Follows, IsAnalysis, TakesIn};
@@ -29,9 +29,11 @@ impl Analysis {
         }
     }
 
-    /// Takes in a record of this number, the next one.
+    /// Takes in a record of this number, the next one. Refused for memory, and unchanged then.
     pub fn follow(&mut self, accepted: &Record, number: u64) -> Result<(), AllocError>
-        ensures { OnOk result (TakesIn accepted.now number self.old self.new) }
+        ensures taken { OnOk result (TakesIn accepted.now number self.old self.new) }
+        ensures unchanged { OnErr result (IsUnchanged self.old.open_txns self.new.open_txns
+            × (self.new.checkpointed ≡ self.old.checkpointed)) }
     {
         note_step(&mut self.open_txns, accepted, number)?;
         self.checkpointed = raised(self.checkpointed, accepted);
@@ -45,7 +47,9 @@ fn note_step(
     accepted: &Record,
     number: u64,
 ) -> Result<(), AllocError>
-    ensures { OnOk result (Follows accepted.now number (get nat_cmp open_txns.old) (get nat_cmp open_txns.new)) }
+    ensures follows { OnOk result
+        (Follows accepted.now number (get nat_cmp open_txns.old) (get nat_cmp open_txns.new)) }
+    ensures unchanged { OnErr result (IsUnchanged open_txns.old open_txns.new) }
 {
     match accepted {
         Record::Begin => {

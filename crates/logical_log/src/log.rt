@@ -4,6 +4,7 @@ ghost use Rattle.history.specs.Log.{record_at, answer_of, request_in, step_in};
 ghost use Rattle.history.specs.Legal.{IsLegal, FitsCheckpoint, IsLatest};
 ghost use Rattle.history.specs.Chains.{undo_from};
 ghost use Rattle.stable.specs.Crash.{BeginsWith};
+ghost use Rattle.stable.specs.Usage.{failing_in};
 ghost use Rattle.logical_log.specs.Index.{lacks_answer};
 ghost use Rattle.logical_log.specs.LogView.{last_not_session};
 ghost use Rattle.logical_log.specs.Low.{stable_part, IsGreatestLow};
@@ -12,7 +13,7 @@ ghost use Rattle.logical_log.specs.Spelled.{spelled, AreRecords};
 use crate::frames::Frames;
 use history::Record;
 use record_key::{Answer, Op};
-use stable::LogDevice;
+use stable::{CrashLog, LogDevice};
 use std::alloc::Global;
 use std::marker::Model;
 
@@ -181,5 +182,16 @@ impl<D: LogDevice> Log<D> {
         ensures { IsLatest (FitsCheckpoint self.now.records) result }
     {
         self.frames.answered_from(self.answered)
+    }
+}
+
+impl<D: CrashLog> Log<D> {
+    /// The `n`-th call of the device from now fails, once. It takes the place of a failure that was set and hasn't
+    /// happened.
+    pub fn fail_at(&mut self, n: u64)
+        requires { 1 ≤ n }
+        ensures { self.new ≡ record self.old { usage = failing_in n self.old.usage } }
+    {
+        self.device.fail_at(n);
     }
 }

@@ -11,4 +11,4 @@ returns g c =
     } in
     found_more c.args.log.now.records c.args.found.now c.args.self.now new c.requires.legal
     c.in_ok-note_commit.ensures c.args.number
-    c.requires.stands c.requires.so_far c.in_ok-follow.ensures c.in_ok-note_missing.ensures
+    c.requires.stands c.requires.so_far c.in_ok-follow.ensures.taken c.in_ok-note_missing.ensures
