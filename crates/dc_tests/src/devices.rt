@@ -4,7 +4,7 @@ ghost use Rattle.std.specs.FinMap as map;
 
 use call_lines::{Fault, UNREADABLE, Words};
 use record_key::Refusal;
-use stable::{MemLog, MemPages};
+use stable::{CrashLog, CrashPages, MemLog, MemPages};
 use std::alloc::Global;
 
 /// An empty log.

@@ -6,7 +6,7 @@ use history::Record;
 use log_laws::fits;
 use logical_log::Log;
 use record_key::Refusal;
-use stable::{LogDevice, MemLog};
+use stable::{CrashLog, LogDevice, MemLog};
 use std::alloc::Global;
 use std::fmt::Write;
 use std::mem;
