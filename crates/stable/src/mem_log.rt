@@ -52,7 +52,6 @@ impl MemLog {
         }
     }
 
-
     /// The bytes that aren't forced yet. This is no device call: nothing is counted, and nothing fails.
     pub fn pending(&self) -> &[u8]
         ensures { result.now ≡ self.now.pending }
