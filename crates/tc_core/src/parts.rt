@@ -1,7 +1,8 @@
 //! The parts of the transaction component.
-ghost use Rattle.std.specs.Prelude.{◌≡◌, [], true, Some, None, IfOk, IfErr, OnOk};
+ghost use Rattle.std.specs.Prelude.{◌≡◌, ◌≤◌, [], true, Some, None, IfOk, IfErr, OnOk};
+ghost use Rattle.stable.specs.Usage.{failing_in};
 ghost use Rattle.logical_log.specs.LogView.{spent_refusal};
-ghost use Rattle.tc_core.specs.TcView.{fresh, is_running, is_serving};
+ghost use Rattle.tc_core.specs.TcView.{fresh, used_so, is_running, is_serving};
 ghost use Rattle.tc_core.specs.Causes.{running_refusal, serving_refusal, open_refusal, answered_refusal, idle_refusal};
 ghost use Rattle.tc_core.specs.Finds.{FindsOpen, FindsAnswered, FindsIdle};
 ghost use Rattle.tc_core.specs.Kept.{IsTc};
@@ -14,7 +15,7 @@ use crate::phase::Phase;
 use logical_log::Log;
 use range_locks::RangeLocks;
 use record_key::Refusal;
-use stable::LogDevice;
+use stable::{CrashLog, LogDevice};
 use std::alloc::Global;
 
 /// The greatest number that a record or a read may have.
@@ -140,5 +141,17 @@ impl<D: LogDevice> Parts<D> {
             return Err(Refusal::Unanswered);
         }
         Ok(opened)
+    }
+}
+
+impl<D: CrashLog> Parts<D> {
+    /// The `n`-th call of the log's device from now fails.
+    pub fn fail_at(&mut self, n: u64)
+        requires number { 1 ≤ n }
+        requires kept { IsTc (seen self.old) }
+        ensures kept { IsTc (seen self.new) }
+        ensures set { seen self.new ≡ used_so (seen self.old) (failing_in n self.old.log.usage) }
+    {
+        self.log.fail_at(n);
     }
 }

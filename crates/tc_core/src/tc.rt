@@ -2,12 +2,13 @@
 ghost use Rattle.std.specs.Prelude.{◌≡◌, ◌≤◌, ◌++◌, ◌+◌, [], true, false, length, Some, None, IfOk, IfErr, OnOk, OnErr};
 ghost use Rattle.std.specs.Option.{option_copied};
 ghost use Rattle.stable.specs.Crash.{BeginsWith};
+ghost use Rattle.stable.specs.Usage.{failing_in};
 ghost use Rattle.history.specs.Log.{record_at};
 ghost use Rattle.logical_log.specs.Low.{stable_part};
 ghost use Rattle.logical_log.specs.Opening.{RefusesOpen, UsedToOpen};
 ghost use Rattle.logical_log.specs.Spelled.{spelled, AreRecords};
 ghost use Rattle.logical_log.specs.LogView.{spent_refusal};
-ghost use Rattle.tc_core.specs.TcView.{TcView, fresh};
+ghost use Rattle.tc_core.specs.TcView.{TcView, fresh, used_so};
 ghost use Rattle.tc_core.specs.OpenTxns.{find, oldest, wants};
 ghost use Rattle.tc_core.specs.Calls.{ReconnectGives, BeginGives, ActGives, ReadGives, SaveGives, BackGives, RollbackGives, CommitGives, UndoGives, ForceGives, ResendGives, TellStableGives};
 ghost use Rattle.codec.specs.Replies.{session_of};
@@ -30,7 +31,7 @@ use history::Record;
 use logical_log::Refused;
 use range_locks::Span;
 use record_key::{Key, Op, Refusal};
-use stable::LogDevice;
+use stable::{CrashLog, LogDevice};
 use std::alloc::Global;
 use std::marker::Model;
 
@@ -357,5 +358,16 @@ impl<D: LogDevice> Tc<D> {
         ensures { IsTc self.now }
     {
         let _ = &self.parts;
+    }
+}
+
+impl<D: CrashLog> Tc<D> {
+    /// The `n`-th call of the log's device from now fails, once. It takes the place of a failure that was set and hasn't
+    /// happened.
+    pub fn fail_at(&mut self, n: u64)
+        requires { 1 ≤ n }
+        ensures { self.new ≡ used_so self.old (failing_in n self.old.usage) }
+    {
+        self.parts.fail_at(n);
     }
 }
