@@ -1,6 +1,6 @@
 -- What a session that begins leaves of the data component, once what was performed above its end is taken back, is as
 -- it must be at every moment.
-use Rattle.std.proofs.Common.{◌≡◌, ℕ, ◌<◌, ◌≤◌, ◌==◌, true, false, List, [], ◌∷◌, None, map, refl, sym, ap, ◌∙◌, subst, arith, inl, inr, true≢false, eqb-true, lt-ltb, le-ltb}
+use Rattle.std.proofs.Common.{◌≡◌, ℕ, ◌<◌, ◌≤◌, ◌==◌, true, List, [], ◌∷◌, None, map, refl, sym, ap, ◌∙◌, subst, arith, inl, inr, true≢false, eqb-true, lt-ltb, le-ltb}
 use Rattle.std.specs.Prelude.{nat_le}
 use Rattle.std.specs.List.{AllByRecursion}
 use Rattle.std.specs.FinMap.{get}
@@ -13,7 +13,6 @@ use Rattle.ab_lsn.specs.AbLsn.{stands_in, captures, up_to}
 use Rattle.ab_lsn.proofs.Popping.{popped_same}
 use Rattle.page.specs.Leaf.{LeafView, IsLeaf}
 use Rattle.page.specs.TakingBack.{taken_back as leaf_taken_back}
-use Rattle.page.proofs.UpTo.{none_above}
 use Rattle.take_back_laws.specs.Performed as laws
 use Rattle.take_back_laws.specs.Listed as listing
 use Rattle.take_back_laws.proofs.Kept.{once_kept, falls_kept, listed_kept, answered_kept}
@@ -26,10 +25,10 @@ use Rattle.btree.proofs.Together.{value_from}
 use Rattle.system_txn.specs.Kept.{IsSystem}
 use Rattle.system_txn.specs.Changes.{accepted}
 use Rattle.dc_core.specs.declared.performance.Performance.{Performance}
-use Rattle.dc_core.specs.DcView.{DcView, leaves, top_of}
+use Rattle.dc_core.specs.DcView.{DcView, leaves}
 use Rattle.dc_core.specs.Serves.{MayTakeBack, kept_to, connected}
 use Rattle.dc_core.specs.Kept.{IsDc, Saves, IsListed, AreListed, for_law, for_laws, IsPerformed, ArePerformed}
-use Rattle.dc_core.proofs.KeepsDc.{all_both, all_for, IsCaptured, AllSave, all_save, below_tops}
+use Rattle.dc_core.proofs.KeepsDc.{all_both, all_for, IsCaptured, AllSave, all_save}
 use Rattle.dc_core.proofs.Stored.{stored_all}
 
 for_laws_kept : (end : ℕ) (ps : List Performance) → for_laws (kept_to end ps) ≡ listing.kept end (for_laws ps)
@@ -63,7 +62,7 @@ all_entries P Q end step (e ∷ es) all =
     ]
 
 -- a captured number above the low one stands in an entry
-stands : (leaf : LeafView) (n : ℕ) → captures leaf.ab n ≡ true → leaf.ab.low < n → stands_in leaf.ab.entries n ≡ true
+pub stands : (leaf : LeafView) (n : ℕ) → captures leaf.ab n ≡ true → leaf.ab.low < n → stands_in leaf.ab.entries n ≡ true
 stands leaf n got above =
     elim (or_cases (nat_le n leaf.ab.low) (stands_in leaf.ab.entries n) got) [
       | inl low ↦ absurd (true≢false (sym low ∙ lt-leb n leaf.ab.low above))
@@ -71,7 +70,7 @@ stands leaf n got above =
     ]
 
 -- which is that of its performance
-saved_there : (p : Performance) (es : List Entry) → AllByRecursion (Saves p) es → stands_in es p.number ≡ true
+pub saved_there : (p : Performance) (es : List Entry) → AllByRecursion (Saves p) es → stands_in es p.number ≡ true
     → listing.IsSaved es (for_law p)
 saved_there p [] saves there = absurd (true≢false (sym there))
 saved_there p (e ∷ es) saves there =
@@ -106,31 +105,6 @@ module _ (w : DcView) (end : ℕ) (k : IsDc w) (back : MayTakeBack w end) where
       (λ p there saves over. saved_there p (leaf_at (leaves w) (key_of p.op)).ab.entries
       (all_at (λ (leaf : LeafView). AllByRecursion (Saves p) leaf.ab.entries) (leaves w) (key_of p.op) k.system.leaves
       saves) (there over)) w.performed all_stand (all_save w.performed (leaves w) k.saved)
-
-  -- where no entry is above the end, no performance is
-  pub all_stay : top_of (leaves w) ≤ end → kept_to end w.performed ≡ w.performed
-  all_stay most = stay w.performed all_stand
-    where
-      within : AllByRecursion (λ (leaf : LeafView). AllByRecursion (λ (e : Entry). e.number ≤ end) leaf.ab.entries)
-          (leaves w)
-      within = below_tops end (leaves w) most
-
-      up : (p : Performance) → Stands p → p.number ≤ end
-      up p there =
-          elim (cases_lt end p.number) [
-            | inl over ↦
-                let none : stands_in (leaf_at (leaves w) (key_of p.op)).ab.entries p.number ≡ false =
-                none_above end p.number (leaf_at (leaves w) (key_of p.op)).ab.entries over
-                (all_at (λ (leaf : LeafView). AllByRecursion (λ (e : Entry). e.number ≤ end) leaf.ab.entries)
-                (leaves w) (key_of p.op) k.system.leaves within) in
-                absurd (true≢false (sym (there over) ∙ none))
-            | inr le ↦ le
-          ]
-
-      stay : (ps : List Performance) → AllByRecursion Stands ps → kept_to end ps ≡ ps
-      stay [] all = refl
-      stay (p ∷ ps) all =
-          rw (le-ltb end p.number (up p all.0)) (ap (λ (qs : List Performance). p ∷ qs) (stay ps all.1))
 
   -- ---- the leaves
 

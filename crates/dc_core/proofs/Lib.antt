@@ -5,9 +5,7 @@ pub mod KeepsConnected
 pub mod KeepsDc
 pub mod KeepsSystems
 pub mod Leaves
-pub mod Oldest
-pub mod Places
+pub mod Owed
 pub mod Recoverable
-pub mod Spelled
 pub mod Stored
 pub mod Walks

@@ -1,9 +1,8 @@
 -- What a walk over a list has found of each element.
-use Rattle.std.proofs.Common.{◌≡◌, ℕ, ◌+◌, ◌≤◌, Some, zero, suc, List, [], ◌∷◌, length, get_or, take, reverse, sym, subst}
+use Rattle.std.proofs.Common.{◌≡◌, ℕ, ◌+◌, ◌≤◌, Some, zero, suc, List, [], ◌∷◌, length, get_or, take, sym, subst}
 use Rattle.std.specs.Prelude.{slice_get}
 use Rattle.std.specs.List.{AllByRecursion}
-use mathlib.Core.List.{reverse_aux}
-use Rattle.std.proofs.lemmas.List.{take_more, take_all, reverse-reverse}
+use Rattle.std.proofs.lemmas.List.{take_more, take_all}
 use Rattle.std.proofs.lemmas.Option.{slice_get_within, get_or_from_slice_get}
 use Rattle.record_key.proofs.Lists.{all_appended}
 
@@ -29,15 +28,3 @@ all_more P xs p x there all holds =
 pub all_through : {X : Type 0} (P : X → Type 0) (xs : List X) (p : ℕ) → length xs ≤ p → AllByRecursion P (take p xs)
     → AllByRecursion P xs
 all_through P xs p most all = subst (AllByRecursion P) (take_all p xs most) all
-
-all_onto : {X : Type 0} (P : X → Type 0) (xs ys : List X) → AllByRecursion P xs → AllByRecursion P ys
-    → AllByRecursion P (reverse_aux xs ys)
-all_onto P [] ys all more = more
-all_onto P (x ∷ xs) ys all more = all_onto P xs (x ∷ ys) all.1 (all.0, more)
-
--- what holds the other way round
-pub all_turned : {X : Type 0} (P : X → Type 0) (xs : List X) → AllByRecursion P xs → AllByRecursion P (reverse xs)
-all_turned P xs all = all_onto P xs [] all tt
-
-pub all_reversed : {X : Type 0} (P : X → Type 0) (xs : List X) → AllByRecursion P (reverse xs) → AllByRecursion P xs
-all_reversed P xs all = subst (AllByRecursion P) (reverse-reverse xs) (all_turned P (reverse xs) all)

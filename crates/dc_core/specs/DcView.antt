@@ -1,12 +1,9 @@
 -- What is seen of the data component.
 use Rattle.std.specs.Prelude.{ℕ, Bool, false, List, [], ◌∷◌, Option, max}
 use Rattle.std.specs.FinMap as map
-use Rattle.record_key.specs.declared.op.Op.{Op}
 use Rattle.record_key.specs.Table.{Table, Bytes}
 use Rattle.ab_lsn.specs.AbLsn.{captures}
 use Rattle.btree.specs.Leaves.{leaf_at}
-use Rattle.page.specs.declared.leaf.Done.{Done}
-use Rattle.page.specs.declared.leaf.Done.TheVariants.{Performed, Repeated}
 use Rattle.page.specs.Leaf.{LeafView}
 use Rattle.page.specs.Tops.{top}
 use Rattle.stable.specs.Usage.{Usage}
@@ -55,8 +52,3 @@ fresh log_usage page_usage = record {
 abbrev pub top_of : List LeafView → ℕ
 top_of [] = 0
 top_of (leaf ∷ leaves) = max (top leaf) (top_of leaves)
-
--- the performances with a request's, where it was performed now
-abbrev pub noted : Done → ℕ → Op → List Performance → List Performance
-noted (Performed answer) n o performed = record { number = n; op = o; answer = answer } ∷ performed
-noted (Repeated answer) n o performed = performed

@@ -1,33 +1,35 @@
 //! What a caller asks who doesn't know what it owes of a request.
-ghost use Rattle.std.specs.Prelude.{◌≡◌, ◌<◌, ◌^◌, ◌↔◌, ◌⊎◌, false, None, IsTrue};
+ghost use Rattle.std.specs.Prelude.{◌≡◌, ◌<◌, ◌≤◌, ◌^◌, ◌↔◌, false, None, IsTrue};
 ghost use Rattle.std.specs.List.{AllByRecursion};
-ghost use Rattle.record_key.specs.Table.{key_of, AreAdds};
+ghost use Rattle.record_key.specs.Table.{key_of};
 ghost use Rattle.record_key.specs.declared.entry.Entry.{Entry as EntryValue};
 ghost use Rattle.codec.specs.Requests.{HasRequestNumbers};
 ghost use Rattle.page.specs.Leaf.{LeafView};
-ghost use Rattle.btree.specs.Leaves.{leaf_at};
-ghost use Rattle.dc_core.specs.declared.performance.Performance.{Performance as PerformanceValue};
 ghost use Rattle.dc_core.specs.DcView.{captures_at};
+ghost use Rattle.dc_core.specs.Following.{Follows, was_added};
+ghost use Rattle.dc_core.specs.Kept.{IsDc};
 ghost use Rattle.dc_core.specs.Serves.{runs, connect_refusal, KeepsKey, ComesNext, MayPerform, MayTakeBack, MayAsk};
 ghost use Rattle.dc_core.specs.Seen.{seen};
 
 use crate::parts::Parts;
 use codec::Request;
-use record_key::{Entries, Key, Op};
+use record_key::{Answer, Entries, Entry, Key, Op};
 use stable::{LogDevice, PageDevice};
 
 impl<D: LogDevice, P: PageDevice> Parts<D, P> {
-    /// Whether each number of the request is below its bound, an operation's number is on the key that it has where it
-    /// is known, and a new one comes after the others on its key; and whether a session that begins takes back only
-    /// what can be.
+    /// Whether the leaves tell that each number of the request is below its bound, an operation's number is on the key
+    /// that it has where it is known, and a new one comes after the others on its key; and that a session that begins
+    /// takes back only what can be. What a low number has hidden they don't tell.
     pub fn may_ask(&self, request: &Request) -> bool
-        ensures { IsTrue result ↔ (HasRequestNumbers request.now × MayAsk (seen self.now) request.now) }
+        requires { IsDc (seen self.now) }
+        ensures { IsTrue result → HasRequestNumbers request.now × MayAsk (seen self.now) request.now }
     {
         has_numbers(request) && self.may_serve(request)
     }
 
     fn may_serve(&self, request: &Request) -> bool
-        ensures { IsTrue result ↔ MayAsk (seen self.now) request.now }
+        requires { IsDc (seen self.now) }
+        ensures { IsTrue result → MayAsk (seen self.now) request.now }
     {
         match request {
             Request::Connect { session, end } => self.may_connect(*session, *end),
@@ -46,8 +48,9 @@ impl<D: LogDevice, P: PageDevice> Parts<D, P> {
     }
 
     fn may_connect(&self, session: u64, end: u64) -> bool
-        ensures { IsTrue result ↔ (connect_refusal (seen self.now) session ≡ None
-            → runs (seen self.now) session ≡ false → MayTakeBack (seen self.now) end) }
+        requires { IsDc (seen self.now) }
+        ensures { IsTrue result → connect_refusal (seen self.now) session ≡ None
+            → runs (seen self.now) session ≡ false → MayTakeBack (seen self.now) end }
     {
         if self.runs(session) {
             return true;
@@ -60,89 +63,54 @@ impl<D: LogDevice, P: PageDevice> Parts<D, P> {
     }
 
     fn may_take_back(&self, end: u64) -> bool
-        ensures { IsTrue result ↔ MayTakeBack (seen self.now) end }
+        requires { IsDc (seen self.now) }
+        ensures { IsTrue result → MayTakeBack (seen self.now) end }
     {
-        self.opened_to <= end && self.shows_above(end)
+        self.opened_to <= end && self.greatest_low() <= end
     }
 
-    /// Whether no low number has hidden a performance above the end.
-    fn shows_above(&self, end: u64) -> bool
-        ensures { IsTrue result ↔ AllByRecursion (λ (p : PerformanceValue). end < p.number
-            → (leaf_at self.now.system.leaves (key_of p.op)).ab.low < p.number) self.now.performed }
+    /// The greatest low number of a leaf.
+    fn greatest_low(&self) -> u64
+        ensures { AllByRecursion (λ (leaf : LeafView). leaf.ab.low ≤ result) self.now.system.leaves }
     {
-        for place in 0..self.performed.len() {
-            let Some(done) = self.performed.get(place) else {
-                unreachable!();
-            };
-            if !self.shows(done.number, done.op.key(), end) {
-                return false;
-            }
+        let mut most = 0;
+        for place in 0..self.system.len() {
+            most = self.system.leaf(place).low().max(most);
         }
-        true
-    }
-
-    fn shows(&self, number: u64, key: &Key, end: u64) -> bool
-        ensures { IsTrue result ↔ (end < number → (leaf_at self.now.system.leaves key.now).ab.low < number) }
-    {
-        number <= end || self.low_at(key) < number
-    }
-
-    /// The low number of the key's leaf.
-    fn low_at(&self, key: &Key) -> u64
-        ensures { result ≡ (leaf_at self.now.system.leaves key.now).ab.low }
-    {
-        let place = self.system.place_of(key);
-        self.system.leaf(place).low()
+        most
     }
 
     fn may_perform(&self, number: u64, op: &Op) -> bool
-        ensures { IsTrue result ↔ MayPerform (seen self.now) number op.now }
+        requires { IsDc (seen self.now) }
+        ensures { IsTrue result → MayPerform (seen self.now) number op.now }
     {
         self.keeps_key(number, op.key()) && self.may_come(number, op)
     }
 
     fn may_come(&self, number: u64, op: &Op) -> bool
-        ensures { IsTrue result ↔ (captures_at (seen self.now) (key_of op.now) number ≡ false
-            → ComesNext (seen self.now) number op.now) }
+        requires { IsDc (seen self.now) }
+        ensures { IsTrue result → captures_at (seen self.now) (key_of op.now) number ≡ false
+            → ComesNext (seen self.now) number op.now }
     {
         self.captures(number, op.key()) || self.comes_next(number, op)
     }
 
-    /// Whether each performance on the operation's key has a lower number, or both are Adds.
+    /// Whether each entry on the operation's key has a lower number, or both are Adds.
     fn comes_next(&self, number: u64, op: &Op) -> bool
-        ensures { IsTrue result ↔ ComesNext (seen self.now) number op.now }
+        requires kept { IsDc (seen self.now) }
+        requires out { captures_at (seen self.now) (key_of op.now) number ≡ false }
+        ensures { IsTrue result → ComesNext (seen self.now) number op.now }
     {
-        for place in 0..self.performed.len() {
-            let Some(done) = self.performed.get(place) else {
-                unreachable!();
-            };
-            if !may_follow(number, op, done.number, &done.op) {
-                return false;
-            }
-        }
-        true
+        let place = self.system.place_of(op.key());
+        follows_all(self.system.leaf(place).entries(), number, op)
     }
 
+    /// Whether the number is above each low one, and no entry has it on another key.
     fn keeps_key(&self, number: u64, key: &Key) -> bool
-        ensures { IsTrue result ↔ KeepsKey (seen self.now) number key.now }
+        requires { IsDc (seen self.now) }
+        ensures { IsTrue result → KeepsKey (seen self.now) number key.now }
     {
-        self.is_listed_on(number, key) && self.is_saved_on(number, key)
-    }
-
-    /// Whether no performance has the number on another key.
-    fn is_listed_on(&self, number: u64, key: &Key) -> bool
-        ensures { IsTrue result
-            ↔ AllByRecursion (λ (p : PerformanceValue). p.number ≡ number → key_of p.op ≡ key.now) self.now.performed }
-    {
-        for place in 0..self.performed.len() {
-            let Some(done) = self.performed.get(place) else {
-                unreachable!();
-            };
-            if !is_on(done.number, done.op.key(), number, key) {
-                return false;
-            }
-        }
-        true
+        self.greatest_low() < number && self.is_saved_on(number, key)
     }
 
     /// Whether no leaf's entry has the number on another key.
@@ -168,11 +136,29 @@ fn is_on(known: u64, its_key: &Key, number: u64, key: &Key) -> bool
     known != number || its_key == key
 }
 
-/// Whether an operation may follow another: on another key, above its number, or both being Adds.
-fn may_follow(number: u64, op: &Op, before: u64, other: &Op) -> bool
-    ensures { IsTrue result ↔ (key_of other.now ≡ key_of op.now → (before < number) ⊎ AreAdds op.now other.now) }
+/// Whether an operation may follow all of these.
+fn follows_all(entries: &Entries, number: u64, op: &Op) -> bool
+    ensures { IsTrue result → AllByRecursion (Follows number op.now) entries.now }
 {
-    other.key() != op.key() || before < number || (op.is_add() && other.is_add())
+    for place in 0..entries.len() {
+        if !follows(number, op, &entries.entry(place)) {
+            return false;
+        }
+    }
+    true
+}
+
+/// Whether an operation may follow another: on another key, above its number, or both being Adds.
+fn follows(number: u64, op: &Op, entry: &Entry) -> bool
+    ensures { IsTrue result → Follows number op.now entry.now }
+{
+    entry.key != *op.key() || entry.number < number || (op.is_add() && was_added(&entry.answer))
+}
+
+fn was_added(answer: &Answer) -> bool
+    ensures { result ≡ was_added answer.now }
+{
+    matches!(answer, Answer::Added(_))
 }
 
 /// Whether no entry has the number on another key.

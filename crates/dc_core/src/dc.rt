@@ -1,5 +1,5 @@
 //! The data component.
-ghost use Rattle.std.specs.Prelude.{◌≡◌, ◌<◌, ◌≤◌, ◌↔◌, ◌++◌, [], true, None, Some, length, get_or, reverse, slice_get, IsTrue, IfOk, IfErr, OnOk};
+ghost use Rattle.std.specs.Prelude.{◌≡◌, ◌<◌, ◌≤◌, ◌↔◌, ◌++◌, [], true, None, Some, length, get_or, IsTrue, IfOk, IfErr, OnOk};
 ghost use Rattle.std.specs.FinMap as map;
 ghost use Rattle.stable.specs.Crash.{BeginsWith};
 ghost use Rattle.stable.specs.Usage.{called_often};
@@ -17,7 +17,6 @@ ghost use Rattle.dc_core.specs.Tends.{SplitsTo, MergesTo, TendsTo, FlushesTo};
 ghost use Rattle.dc_core.specs.Kept.{IsDc};
 
 use crate::parts::Parts;
-use crate::performance::Performance;
 use codec::{Reply, Request};
 use page::Leaf;
 use record_key::{Key, Refusal, Value};
@@ -114,12 +113,13 @@ impl<D: LogDevice, P: PageDevice> Dc<D, P> {
         self.parts.allows(request)
     }
 
-    /// What a caller asks who doesn't know a request's numbers: whether each is below 2^48; whether an operation's
-    /// number is on the key that it has among the performances and in each leaf's entries, and a new one comes after
-    /// those performed on its key; and whether what was performed above the end of a session that begins can be taken
-    /// back. It costs as much as the history is long, so a caller that knows its numbers doesn't ask.
+    /// What a caller asks who doesn't know a request's numbers: whether the leaves tell that each is below 2^48; that an
+    /// operation's number is on the key that it has among the performances and in each leaf's entries, and a new one
+    /// comes after those performed on its key; and that what was performed above the end of a session that begins can
+    /// be taken back. They don't tell of what a low number has hidden: no where an operation's number isn't above each
+    /// low one, or an end is below one. It reads all leaves, so a caller that knows its numbers doesn't ask.
     pub fn may_ask(&self, request: &Request) -> bool
-        ensures { IsTrue result ↔ (HasRequestNumbers request.now × MayAsk self.now request.now) }
+        ensures { IsTrue result → HasRequestNumbers request.now × MayAsk self.now request.now }
     {
         self.parts.may_ask(request)
     }
@@ -238,20 +238,6 @@ impl<D: LogDevice, P: PageDevice> Dc<D, P> {
         ensures memory { IfErr result (λ refusal. refusal ≡ Refusal.NoMemory) }
     {
         self.parts.rows()
-    }
-
-    /// How many operations were performed since the leaves were opened, and weren't taken back.
-    pub fn performances(&self) -> u64
-        ensures { result ≡ length self.now.performed }
-    {
-        self.parts.performed.len()
-    }
-
-    /// The performance at this place, from 0, the oldest first. Takes no memory.
-    pub fn performance(&self, place: u64) -> Option<Performance>
-        ensures { result ≡ slice_get (reverse self.now.performed) place }
-    {
-        self.parts.performed.get(place)
     }
 
     /// What holds at every moment: the leaves and their devices are well formed, the records are what was performed,

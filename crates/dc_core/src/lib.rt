@@ -1,5 +1,5 @@
-//! The data component: leaves that outlive it in a log and in pages, the session that they serve, and a list of what it
-//! has performed.
+//! The data component: leaves that outlive it in a log and in pages, and the session that they serve. What it has
+//! performed is a list that contracts alone see.
 //!
 //! Knows: requests and replies, sessions, and leaves with what they capture.
 //! Must not know: transactions, the transactions' log, compensation, locks, how messages come or go.

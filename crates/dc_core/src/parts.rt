@@ -67,7 +67,7 @@ impl<D: LogDevice, P: PageDevice> Parts<D, P> {
             opened_to: 0,
             system,
             opened,
-            performed: Performances::new(alloc),
+            performed: Performances::new(),
         })
     }
 
@@ -103,7 +103,7 @@ impl<D: LogDevice, P: PageDevice> Parts<D, P> {
             opened_to: top,
             system: opened.system,
             opened: base,
-            performed: Performances::new(alloc),
+            performed: Performances::new(),
         })
     }
 

@@ -1,8 +1,8 @@
-//! An operation that was performed.
+//! An operation that was performed, which contracts alone see.
 use record_key::{Answer, Op};
 
 /// An operation that was performed under this number, and what it was answered then.
-#[derive(Debug, PartialEq, Eq, Drop)]
+#[derive(Drop)]
 pub struct Performance {
     pub number: u64,
     pub op: Op,

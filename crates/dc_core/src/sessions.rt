@@ -1,14 +1,12 @@
 //! What changes the session, what is known of the requests that are lost, or what all leaves have captured.
 ghost use Rattle.std.specs.Prelude.{◌≡◌, ◌<◌, ◌^◌, false, None, Some, Ok, Err, IfOk, IfErr, OnOk, OnErr};
 ghost use Rattle.system_txn.specs.Gives.{append_refusal, AcceptGives};
-ghost use Rattle.system_txn.specs.Kept.{IsSystem};
 ghost use Rattle.dc_core.specs.Serves.{runs, connect_refusal, MayTakeBack, with_system, connected, knows};
 ghost use Rattle.dc_core.specs.Serves.{lowers, Serves, Stops};
 ghost use Rattle.dc_core.specs.Kept.{IsDc};
 ghost use Rattle.dc_core.specs.Seen.{seen};
 
 use crate::parts::Parts;
-use crate::system::top_of;
 use codec::{Reply, Request};
 use record_key::Refusal;
 use stable::{LogDevice, PageDevice};
@@ -32,8 +30,7 @@ impl<D: LogDevice, P: PageDevice> Parts<D, P> {
         Ok(Reply::Connected { session })
     }
 
-    /// What was performed above the end is taken back. Room for the list of what is left is made first; where no leaf
-    /// has an entry above the end the list stays.
+    /// The session runs once its record is stable and the leaves have taken back what was performed above the end.
     fn begin(&mut self, session: u64, end: u64) -> Result<(), Refusal>
         requires kept { IsDc (seen self.old) }
         requires numbered { session < 2 ^ 48 }
@@ -45,24 +42,6 @@ impl<D: LogDevice, P: PageDevice> Parts<D, P> {
             AcceptGives self.old.system session end (Err refusal) self.new.system) }
         ensures rest { OnErr result (seen self.new ≡ with_system (seen self.old) self.new.system) }
     {
-        if top_of(&self.system) <= end {
-            return self.accept(session, end);
-        }
-        let left = self.performed.up_to(end)?;
-        self.accept(session, end)?;
-        self.performed = left;
-        Ok(())
-    }
-
-    /// The session runs once its record is stable and the leaves have taken back what is above the end.
-    fn accept(&mut self, session: u64, end: u64) -> Result<(), Refusal>
-        requires numbered { session < 2 ^ 48 }
-        ensures system { IsSystem self.new.system }
-        ensures begun { OnOk result (seen self.new
-            ≡ record (connected (seen self.old) session end) { performed = self.old.performed }) }
-        ensures gives { AcceptGives self.old.system session end result self.new.system }
-        ensures rest { OnErr result (seen self.new ≡ with_system (seen self.old) self.new.system) }
-    {
         let accepted = self.system.accept(session, end);
         self.system.kept();
         accepted?;
@@ -70,6 +49,7 @@ impl<D: LogDevice, P: PageDevice> Parts<D, P> {
         self.session = session;
         self.redo = true;
         self.known = session;
+        self.performed = self.performed.up_to(end);
         Ok(())
     }
 

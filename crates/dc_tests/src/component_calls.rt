@@ -2,9 +2,9 @@
 use crate::requests::{put_reply, request_of};
 use call_lines::{Digest, Text, UNREADABLE, Words};
 use codec::{Reply, Request};
-use dc_core::{Dc, Neighbours, Performance, Tended};
+use dc_core::{Dc, Neighbours, Tended};
 use page::Leaf;
-use record_key::{Key, Refusal};
+use record_key::{Entries, Key, Refusal};
 
 pub fn call_of(
     dc: &mut Dc,
@@ -24,7 +24,7 @@ pub fn call_of(
             let request = request_of(words.word(), words)?;
             answer.put(if dc.may_ask(&request) { "yes" } else { "no" });
         }
-        "count" | "session" | "performances" | "performance" | "leaf" | "rows" => {
+        "count" | "session" | "entries" | "entry" | "leaf" | "rows" => {
             read(dc, name, words, answer)?;
         }
         _ => {
@@ -43,8 +43,11 @@ fn read(dc: &Dc, name: &str, words: &mut Words, answer: &mut Text) -> Result<(),
             answer.put_number(dc.stored());
             answer.put_number(dc.session());
         }
-        "performances" => answer.put_number(dc.performances()),
-        "performance" => put_performance(answer, dc.performance(words.number()?)),
+        "entries" => answer.put_number(entries(dc)),
+        "entry" => {
+            let leaf = leaf_at(dc, words.number()? as usize)?;
+            put_entry(answer, leaf.entries(), words.number()? as usize);
+        }
         "leaf" => put_leaf(answer, leaf_at(dc, words.number()? as usize)?),
         _ => {
             let rows = dc.rows()?;
@@ -103,14 +106,23 @@ pub fn put_tended(answer: &mut Text, tended: Tended) {
     }
 }
 
-fn put_performance(answer: &mut Text, performance: Option<Performance>) {
-    match performance {
-        Some(done) => {
-            answer.put_number(done.number);
-            answer.put_op(&done.op);
-            answer.put_answer(&done.answer);
-        }
-        None => answer.put("none"),
+/// How many entries the leaves have: as many as operations were performed, where no low number was raised.
+pub fn entries(dc: &Dc) -> u64 {
+    let mut count = 0_u64;
+    for place in 0..dc.leaves() {
+        count = count.saturating_add(dc.leaf(place).entries().len() as u64);
+    }
+    count
+}
+
+fn put_entry(answer: &mut Text, entries: &Entries, place: usize) {
+    if place < entries.len() {
+        let entry = entries.entry(place);
+        answer.put_number(entry.number);
+        answer.put_bytes(entry.key.as_bytes());
+        answer.put_answer(&entry.answer);
+    } else {
+        answer.put("none");
     }
 }
 
@@ -131,7 +143,6 @@ pub fn put_leaf(answer: &mut Text, leaf: &Leaf) {
 pub fn add_seen(digest: &mut Digest, dc: &Dc) {
     digest.add_number(dc.stored());
     digest.add_number(dc.session());
-    digest.add_number(dc.performances());
     for place in 0..dc.leaves() {
         add_leaf(digest, dc.leaf(place));
     }

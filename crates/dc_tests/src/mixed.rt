@@ -1,5 +1,5 @@
 //! A data component beside the plain table, over operations in an order that mixes them.
-use crate::component_calls::{served, split};
+use crate::component_calls::{entries, served, split};
 use call_lines::Tally;
 use codec::{Reply, Request};
 use dc_core::Dc;
@@ -42,7 +42,7 @@ fn calls_of(dc: &mut Dc, alloc: Global, count: u64, tally: &mut Tally) {
             tally.count(agrees);
         }
     }
-    tally.count(dc.performances() == count && dc.leaves() > 1);
+    tally.count(entries(dc) == count && dc.leaves() > 1);
 }
 
 /// The session that sends this number first.
@@ -152,9 +152,9 @@ fn asked_again(
     request: &Request,
     tally: &mut Tally,
 ) -> Result<Option<Reply>, Refusal> {
-    let before = dc.performances();
+    let before = entries(dc);
     match served(dc, request) {
-        Err(Refusal::NoMemory) if dc.performances() == before => {
+        Err(Refusal::NoMemory) if entries(dc) == before => {
             tally.count_memory();
             served(dc, request)
         }
