@@ -5,8 +5,10 @@ use Rattle.std.specs.Coded.{Coded, coded_ℕ, coded_list}
 use Rattle.record_key.specs.declared.refusal.Refusal.{Refusal}
 use Rattle.codec.specs.declared.dc_record.DcRecord.{DcRecord}
 use Rattle.stable.specs.PagesState.{Pages}
-use Rattle.stable.specs.Usage.{Usage}
+use Rattle.stable.specs.Usage.{Usage, failing_in}
 use Rattle.page.specs.Leaf.{LeafView, first}
+use Rattle.system_txn.specs.declared.devices.Device.{Device}
+use Rattle.system_txn.specs.declared.devices.Device.TheVariants as device
 use Rattle.system_txn.specs.Uses.{refused_use}
 
 -- the leaves in key order; the records of their log, the newest first, and how many of these are stable; the
@@ -44,3 +46,8 @@ log_refused v r = record v { log_usage = refused_use v.log_usage r }
 
 abbrev pub pages_refused : SystemView → Refusal → SystemView
 pages_refused v r = record v { page_usage = refused_use v.page_usage r }
+
+-- the n-th call from now of this device is set to fail
+abbrev pub failing_at : Device → ℕ → SystemView → SystemView
+failing_at device.Log n v = record v { log_usage = failing_in n v.log_usage }
+failing_at device.Pages n v = record v { page_usage = failing_in n v.page_usage }

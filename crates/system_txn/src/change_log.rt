@@ -5,7 +5,7 @@ ghost use Rattle.codec.specs.DcRecords.{record_in, dc_record_bytes, IsOrderedDcR
 ghost use Rattle.codec.specs.Frames.{frame};
 ghost use Rattle.record_key.specs.FirstCause.{MayRefuse};
 ghost use Rattle.stable.specs.Crash.{BeginsWith};
-ghost use Rattle.stable.specs.Usage.{is_due, called, failed};
+ghost use Rattle.stable.specs.Usage.{is_due, called, failed, failing_in};
 ghost use Rattle.recovery_laws.specs.Shape.{named, beginning};
 ghost use Rattle.system_txn.specs.LogView.{AreFrames, refusal_from};
 ghost use Rattle.system_txn.specs.Uses.{refused_use, FailsWhenDue};
@@ -13,7 +13,7 @@ ghost use Rattle.system_txn.specs.Devices.{spelled, AreRecords};
 
 use codec::{DcRecordRef, put_dc_record};
 use record_key::Refusal;
-use stable::{DeviceError, LogDevice};
+use stable::{CrashLog, DeviceError, LogDevice};
 use std::alloc::Global;
 use std::marker::Model;
 
@@ -187,6 +187,16 @@ impl<D: LogDevice> ChangeLog<D> {
         }
         self.stable = self.places.len() as u64;
         Ok(())
+    }
+}
+
+impl<D: CrashLog> ChangeLog<D> {
+    /// The `n`-th call of the device from now fails.
+    pub fn fail_at(&mut self, n: u64)
+        requires { 1 ≤ n }
+        ensures { self.new ≡ record self.old { usage = failing_in n self.old.usage } }
+    {
+        self.device.fail_at(n);
     }
 }
 

@@ -14,3 +14,10 @@ pub struct Refused<D, P> {
     pub refusal: Refusal,
     pub devices: Devices<D, P>,
 }
+
+/// One of the two.
+#[derive(Clone, Copy, Debug, PartialEq, Eq)]
+pub enum Device {
+    Log,
+    Pages,
+}

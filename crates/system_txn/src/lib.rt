@@ -28,7 +28,7 @@ mod tended;
 mod writing;
 
 pub use change_log::ChangeLog;
-pub use devices::{Devices, Refused};
+pub use devices::{Device, Devices, Refused};
 pub use image::{image_of, leaf_of};
 pub use laws::{beginning_law, checkpoint_law, crash_law, never_bad_law, reading_law, restart_law};
 pub use opening::Opened;

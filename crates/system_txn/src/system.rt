@@ -10,20 +10,20 @@ ghost use Rattle.stable.specs.Crash.{BeginsWith};
 ghost use Rattle.btree.specs.Leaves.{leaf_at, place_at, rows_of};
 ghost use Rattle.btree.specs.Performs.{PerformsAt};
 ghost use Rattle.recovery_laws.specs.Shape.{beginning};
-ghost use Rattle.system_txn.specs.SystemView.{fresh};
+ghost use Rattle.system_txn.specs.SystemView.{fresh, failing_at};
 ghost use Rattle.system_txn.specs.Devices.{spelled};
 ghost use Rattle.system_txn.specs.Changes.{lowered};
 ghost use Rattle.system_txn.specs.Gives.{append_refusal, SplitGives, MergeGives, TendGives};
 ghost use Rattle.system_txn.specs.Gives.{FlushGives, CheckpointGives, AcceptGives};
 ghost use Rattle.system_txn.specs.Kept.{IsSystem};
 
-use crate::devices::{Devices, Refused};
+use crate::devices::{Device, Devices, Refused};
 use crate::parts::Parts;
 use crate::tended::{Neighbours, Tended};
 use btree::LeafSet;
 use page::{Done, Leaf};
 use record_key::{Key, Op, Refusal, Value};
-use stable::{LogDevice, PageDevice};
+use stable::{CrashLog, CrashPages, LogDevice, PageDevice};
 use std::alloc::Global;
 use std::marker::Model;
 
@@ -246,5 +246,19 @@ impl<L: LeafSet, D: LogDevice, P: PageDevice> SystemTxns<L, D, P> {
         ensures { IsSystem self.now }
     {
         let _ = &self.parts;
+    }
+}
+
+impl<L: LeafSet, D: CrashLog, P: CrashPages> SystemTxns<L, D, P> {
+    /// The `n`-th call of the device from now fails, once. It takes the place of a failure of that device that was set
+    /// and hasn't happened.
+    pub fn fail_at(&mut self, device: Device, n: u64)
+        requires { 1 ≤ n }
+        ensures { self.new ≡ failing_at device n self.old }
+    {
+        match device {
+            Device::Log => self.parts.log.fail_at(n),
+            Device::Pages => self.parts.pages.fail_at(n),
+        }
     }
 }
