@@ -29,12 +29,12 @@ apart_then Equal p h = h
 apart_then Greater p h = refl
 
 -- at an entry of the transaction, and at another's
-same_txn : (t : ℕ) (lock : Lock) (q : Entry) → t ≡ q.txn → is_entry_of t q lock ≡ is_lock_of q lock
+pub same_txn : (t : ℕ) (lock : Lock) (q : Entry) → t ≡ q.txn → is_entry_of t q lock ≡ is_lock_of q lock
 same_txn t lock q same =
     tied_then (lock_cmp lock q.lock) (nat_cmp t q.txn)
     (subst (λ u. nat_cmp t u ≡ Equal) same (tied_itself nat_cmp_total t))
 
-other_txn : (t : ℕ) (lock : Lock) (q : Entry) → t ≢ q.txn → is_entry_of t q lock ≡ false
+pub other_txn : (t : ℕ) (lock : Lock) (q : Entry) → t ≢ q.txn → is_entry_of t q lock ≡ false
 other_txn t lock q other =
     let apart : is_eq (nat_cmp t q.txn) ≡ false = grind (arith, nat_tests) in
     apart_then (lock_cmp lock q.lock) (nat_cmp t q.txn) apart
@@ -63,11 +63,11 @@ and_true : (x y : Bool) → y ≡ false → (x && not y) ≡ x
 and_true true y h = ap not h
 and_true false y h = refl
 
-any_same : {X : Type 0} (p r : X → Bool) (xs : List X) → ((x : X) → p x ≡ r x) → list_any p xs ≡ list_any r xs
+pub any_same : {X : Type 0} (p r : X → Bool) (xs : List X) → ((x : X) → p x ≡ r x) → list_any p xs ≡ list_any r xs
 any_same p r [] h = refl
 any_same p r (x ∷ xs) h = (λ i. h x i || any_same p r xs h i)
 
-any_none : {X : Type 0} (p : X → Bool) (xs : List X) → ((x : X) → p x ≡ false) → list_any p xs ≡ false
+pub any_none : {X : Type 0} (p : X → Bool) (xs : List X) → ((x : X) → p x ≡ false) → list_any p xs ≡ false
 any_none p [] h = refl
 any_none p (x ∷ xs) h = ap (λ b. b || list_any p xs) (h x) ∙ any_none p xs h
 

@@ -11,5 +11,7 @@ pub mod Derived
 pub mod Placing
 pub mod Returning
 pub mod Forgetting
+pub mod Making
+pub mod Keeping
 pub mod Tables
 pub mod Rebuilding

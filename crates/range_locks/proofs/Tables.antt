@@ -14,7 +14,7 @@ use Rattle.range_locks.specs.Locks.{LocksView, spans_of, set_spans, RisesFrom, I
 pub empty_table : IsTable []
 empty_table = tt
 
-one_number : (t u : ℕ) → t ≡ u → is_eq (nat_cmp t u) ≡ true
+pub one_number : (t u : ℕ) → t ≡ u → is_eq (nat_cmp t u) ≡ true
 one_number t u same = grind (arith, nat_tests)
 
 two_numbers : (t u : ℕ) → t ≢ u → is_eq (nat_cmp t u) ≡ false

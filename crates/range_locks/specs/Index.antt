@@ -1,5 +1,5 @@
--- The index: each lock that is held, with its holder, in one order.
-use Rattle.std.specs.Prelude.{◌≡◌, ℕ, ◌^◌, ◌≤◌, ◌==◌, ◌&&◌, Bool, not, []}
+-- The index: each lock that is held, with its holder, in one order. It may lack where one transaction alone holds.
+use Rattle.std.specs.Prelude.{◌≡◌, ◌≢◌, ℕ, ◌^◌, ◌<◌, ◌≤◌, ◌==◌, ◌&&◌, Bool, not, [], Option, Some, None}
 use Rattle.std.specs.List.{list_any}
 use Rattle.std.specs.Ordering.{is_eq}
 use Rattle.std.specs.BTreeSet.{BTreeSet, contains}
@@ -32,3 +32,14 @@ txn_of e = e.txn
 pub record IsIndexed (h : Held) (s : BTreeSet Entry) : Type 0 where
   pub each : (e : Entry) → contains entry_cmp s e ≡ stands h e
   pub fits : (u : ℕ) → 2 ^ 64 ≤ u → locks_in h u ≡ []
+
+-- no other transaction than one has a lock
+pub record HasOneHolder (h : Held) : Type 0 where
+  pub holder : ℕ
+  pub fits : holder < 2 ^ 64
+  pub others : (u : ℕ) → u ≢ holder → locks_in h u ≡ []
+
+-- where two transactions have locks there is an index, and it is exact
+abbrev pub IsKept : Held → Option (BTreeSet Entry) → Type 0
+IsKept h None = HasOneHolder h
+IsKept h (Some s) = IsIndexed h s

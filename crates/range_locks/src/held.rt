@@ -42,6 +42,7 @@ impl Held {
     }
 
     /// Adds the newest lock of a transaction. Refused NoMemory.
+    #[inline(always)]
     pub fn push(&mut self, alloc: Global, txn: u64, lock: Lock) -> Result<(), Refusal>
         ensures listed { OnOk result (Lists self.old txn (locks_in self.old txn ++ lock ∷ []) self.new) }
         ensures taken { OnOk result
@@ -99,6 +100,13 @@ impl Held {
             Some(locks) => !locks.is_empty(),
             None => false,
         }
+    }
+
+    /// Whether nobody has a lock. False may be said where it is so.
+    pub fn is_empty(&self) -> bool
+        ensures { result ≡ true → (u : ℕ) → locks_in self.now u ≡ [] }
+    {
+        self.by_txn.is_empty()
     }
 
     /// Whether no transaction but this one has a lock: then nothing is in its way. False may be said where it is so.

@@ -21,13 +21,13 @@ pub struct RangeLocks {
 impl Model for RangeLocks {
     ghost use Rattle.range_locks.specs.Locks.{LocksView};
     ghost use Rattle.range_locks.specs.Meant.{seen};
-    ghost use Rattle.range_locks.specs.Index.{IsIndexed};
+    ghost use Rattle.range_locks.specs.Index.{IsKept};
 
     ghost Value = { LocksView };
 
     ghost view = { λ r. seen r.parts.held };
 
-    ghost invariant = { λ r. IsIndexed r.parts.held r.parts.index };
+    ghost invariant = { λ r. IsKept r.parts.held r.parts.index };
 }
 
 impl RangeLocks {

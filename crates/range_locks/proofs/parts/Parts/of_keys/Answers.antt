@@ -10,10 +10,10 @@ loop-txn-preserved c =
     let v = seen c.loop-txn.parts.held in
     let t : ℕ = c.loop-txn-item.result.0 in
     record {
-      kept = c.in_ok-add.ensures.kept;
+      kept = c.in_ok-hold.ensures.kept;
       rebuilt = one_rebuilt c.args.locks.now c.loop-txn.txn-index c.loop-txn-item.result c.loop-txn-test.true
           c.loop-txn-item.is v
-          (seen c.add.new.self.held)
-          (c.in_ok-add.ensures.taken ∙ ap (λ (s : Span). set_spans t (s ∷ spans_of v t) v) c.of_key.ensures)
+          (seen c.hold.new.self.held)
+          (c.in_ok-hold.ensures.taken ∙ ap (λ (s : Span). set_spans t (s ∷ spans_of v t) v) c.of_key.ensures)
           c.loop-txn.invariant.rebuilt;
     }
