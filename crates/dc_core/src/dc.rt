@@ -5,6 +5,7 @@ ghost use Rattle.stable.specs.Crash.{BeginsWith};
 ghost use Rattle.stable.specs.Usage.{called_often};
 ghost use Rattle.recovery_laws.specs.Shape.{beginning};
 ghost use Rattle.system_txn.specs.Devices.{spelled};
+ghost use Rattle.system_txn.specs.SystemView.{failing_at};
 ghost use Rattle.system_txn.specs.Recovering.{Recovers, RefusesRecovery};
 ghost use Rattle.system_txn.specs.Uses.{StopsOpening, log_calls, page_calls};
 ghost use Rattle.dc_core.specs.Restarting.{restarted};
@@ -12,7 +13,7 @@ ghost use Rattle.codec.specs.Requests.{HasRequestNumbers};
 ghost use Rattle.page.specs.Leaf.{first};
 ghost use Rattle.btree.specs.Leaves.{all_rows};
 ghost use Rattle.dc_core.specs.DcView.{fresh, leaves};
-ghost use Rattle.dc_core.specs.Serves.{serve_refusal, MayAsk, ServeGives};
+ghost use Rattle.dc_core.specs.Serves.{serve_refusal, MayAsk, ServeGives, with_system};
 ghost use Rattle.dc_core.specs.Tends.{SplitsTo, MergesTo, TendsTo, FlushesTo};
 ghost use Rattle.dc_core.specs.Kept.{IsDc};
 
@@ -20,10 +21,10 @@ use crate::parts::Parts;
 use codec::{Reply, Request};
 use page::Leaf;
 use record_key::{Key, Refusal, Value};
-use stable::{LogDevice, MemLog, MemPages, PageDevice};
+use stable::{CrashLog, CrashPages, LogDevice, MemLog, MemPages, PageDevice};
 use std::alloc::Global;
 use std::marker::Model;
-use system_txn::{Devices, Neighbours, Refused, Tended};
+use system_txn::{Device, Devices, Neighbours, Refused, Tended};
 
 /// Leaves with their log and their pages, and the session that they serve.
 #[derive(Drop)]
@@ -247,5 +248,16 @@ impl<D: LogDevice, P: PageDevice> Dc<D, P> {
         ensures { IsDc self.now }
     {
         let _ = &self.parts;
+    }
+}
+
+impl<D: CrashLog, P: CrashPages> Dc<D, P> {
+    /// The `n`-th call of the device from now fails, once. It takes the place of a failure of that device that was set
+    /// and hasn't happened.
+    pub fn fail_at(&mut self, device: Device, n: u64)
+        requires { 1 ≤ n }
+        ensures { self.new ≡ with_system self.old (failing_at device n self.old.system) }
+    {
+        self.parts.fail_at(device, n);
     }
 }

@@ -23,4 +23,4 @@ mod tending;
 
 pub use dc::Dc;
 pub use performance::Performance;
-pub use system_txn::{Devices, Neighbours, Refused, Tended};
+pub use system_txn::{Device, Devices, Neighbours, Refused, Tended};

@@ -1,14 +1,15 @@
 //! The parts of the data component, and which messages it takes.
-ghost use Rattle.std.specs.Prelude.{◌≡◌, ◌++◌, [], true, None, Some, length, IfOk, IfErr, OnOk};
+ghost use Rattle.std.specs.Prelude.{◌≡◌, ◌≤◌, ◌++◌, [], true, None, Some, length, IfOk, IfErr, OnOk};
 ghost use Rattle.std.specs.FinMap as map;
 ghost use Rattle.stable.specs.Crash.{BeginsWith};
 ghost use Rattle.stable.specs.Usage.{called_often};
 ghost use Rattle.recovery_laws.specs.Shape.{beginning};
 ghost use Rattle.system_txn.specs.Devices.{spelled};
+ghost use Rattle.system_txn.specs.SystemView.{failing_at};
 ghost use Rattle.system_txn.specs.Recovering.{Recovers, RefusesRecovery};
 ghost use Rattle.system_txn.specs.Uses.{StopsOpening, log_calls, page_calls};
 ghost use Rattle.dc_core.specs.Restarting.{restarted};
-ghost use Rattle.dc_core.specs.Serves.{runs, session_refusal, after_redo_refusal, connect_refusal, serve_refusal};
+ghost use Rattle.dc_core.specs.Serves.{runs, session_refusal, after_redo_refusal, connect_refusal, serve_refusal, with_system};
 ghost use Rattle.dc_core.specs.Tends.{may_merge};
 ghost use Rattle.dc_core.specs.DcView.{fresh};
 ghost use Rattle.dc_core.specs.Kept.{IsDc};
@@ -19,9 +20,9 @@ use crate::performances::Performances;
 use crate::system::{System, top_of};
 use codec::Request;
 use record_key::Refusal;
-use stable::{LogDevice, PageDevice};
+use stable::{CrashLog, CrashPages, LogDevice, PageDevice};
 use std::alloc::Global;
-use system_txn::{Devices, Refused};
+use system_txn::{Device, Devices, Refused};
 
 /// The sessions, the leaves, and what was performed.
 #[derive(Drop)]
@@ -197,5 +198,17 @@ impl<D: LogDevice, P: PageDevice> Parts<D, P> {
             return Err(Refusal::Redoing);
         }
         Ok(())
+    }
+}
+
+impl<D: CrashLog, P: CrashPages> Parts<D, P> {
+    /// The `n`-th call of the device from now fails.
+    pub fn fail_at(&mut self, device: Device, n: u64)
+        requires number { 1 ≤ n }
+        requires kept { IsDc (seen self.old) }
+        ensures kept { IsDc (seen self.new) }
+        ensures set { seen self.new ≡ with_system (seen self.old) (failing_at device n self.old.system) }
+    {
+        self.system.fail_at(device, n);
     }
 }
