@@ -1,9 +1,12 @@
 -- What is found under the lock of each component.
-use Rattle.std.specs.Prelude.{◌≡◌, ℕ, ◌≤◌, Bool, true, false, IsTrue, List}
+use Rattle.std.specs.Prelude.{◌≡◌, ℕ, ◌≤◌, Bool, true, false, IsTrue, List, None}
 use Rattle.atomic_table.specs.Seated.{TableId}
 use Rattle.marks.specs.Seen.{Seen}
 use Rattle.world.specs.declared.event.Event.{Event}
 use Rattle.world.specs.declared.event.Event.TheVariants as event
+use Rattle.world.specs.declared.event.Out.TheVariants as out
+use Rattle.world.specs.Component.{DcSide}
+use Rattle.world.specs.Halves.{DcLeads}
 use Rattle.pool_journal.specs.declared.step.Step.{Step}
 use Rattle.pool_journal.specs.Marking.{announced}
 use Rattle.pool_journal.specs.Steps.{TcState, DcState, GivesTc, GivesDc}
@@ -36,6 +39,11 @@ pub record TcDeskKept (names : ℕ → ℕ) (marks : TableId) (seen : View) (sta
 pub record DcDeskKept (names : ℕ → ℕ) (seen : View) (state : DcState) : Type 0 where
   pub name : seen.name ≡ names 1
   pub gives : GivesDc seen.steps state
+
+-- it was asked to tend its leaves, and had nothing to do
+pub record Rests (old new : DcSide) : Type 0 where
+  pub nothing : DcLeads old None event.Tend None out.Nothing None new
+  pub same : new ≡ old
 
 -- the event delivers a message
 abbrev pub delivers : Event → Bool

@@ -1,11 +1,11 @@
 //! What lies under the lock of the data component.
-ghost use Rattle.std.specs.Prelude.{◌≡◌, ◌+◌, false, None, Some, IfOk, IfErr};
+ghost use Rattle.std.specs.Prelude.{◌≡◌, ◌+◌, false, None, Some, IfOk, IfErr, IfSome, IfNone};
 ghost use Rattle.world.specs.Component as sides;
 ghost use Rattle.world.specs.declared.event.Event.TheVariants as event;
 ghost use Rattle.world.specs.declared.event.Out.TheVariants as out;
 ghost use Rattle.world.specs.Halves.{of_tc, DcLeads, MayDc, IsInNode};
 ghost use Rattle.pool_journal.specs.Ending.{EndsWith};
-ghost use Rattle.pool_journal.specs.Desks.{delivers};
+ghost use Rattle.pool_journal.specs.Desks.{delivers, Rests};
 ghost use Rattle.pool_journal.specs.Slots.{Shown};
 ghost use Rattle.pool_journal.specs.Steps.{GivesDc, dc_start, count};
 
@@ -132,8 +132,16 @@ impl<J: Naming, D: CrashLog, P: CrashPages> DcDesk<J, D, P> {
     }
 
     /// Splits or joins leaves where that is due, and its entry. Where nothing was to be done there is no entry.
-    pub fn tend<R: Wait>(&mut self, rt: &R, row: &Row<Entry>, journal: &Mutex<Journal<J>>)
+    pub fn tend<R: Wait>(
+        &mut self,
+        rt: &R,
+        row: &Row<Entry>,
+        journal: &Mutex<Journal<J>>,
+    ) -> Option<Pushed<Entry>>
         requires row { row.now ≡ J.entries }
+        ensures shown { IfSome result (λ token. Shown J.entries token) }
+        ensures event { IfSome result (λ token. token.value.step.value.event ≡ event.Tend) }
+        ensures rests { IfNone result (Rests self.old.state.side self.new.state.side) }
     {
         let DcDesk {
             alloc,
@@ -143,17 +151,10 @@ impl<J: Naming, D: CrashLog, P: CrashPages> DcDesk<J, D, P> {
         } = self;
         let out = tended(side);
         if let Out::Nothing = &out {
-            return;
+            return None;
         }
-        let step = Step {
-            caller: None,
-            event: Event::Tend,
-            out,
-            sent: None,
-            given: None,
-        };
-        let step = boxed(rt, *alloc, step);
-        hold(rt, journal).enter_dc(rt, row, visitor, step);
+        let step = boxed(rt, *alloc, Step::new(None, Event::Tend, out));
+        Some(hold(rt, journal).enter_dc(rt, row, visitor, step))
     }
 
     /// A split, a merge or a write of leaves, and its entry.
@@ -244,14 +245,7 @@ fn stepped<D: CrashLog, P: CrashPages, R: Wait>(
     ensures given { result.1 ≡ given + count result.0.value.given }
 {
     let next = next_number(rt, given);
-    let step = Step {
-        caller: None,
-        event,
-        out: Out::Nothing,
-        sent: None,
-        given: None,
-    };
-    let mut step = boxed(rt, alloc, step);
+    let mut step = boxed(rt, alloc, Step::new(None, event, Out::Nothing));
     let Step {
         caller: _,
         event,

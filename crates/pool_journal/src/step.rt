@@ -1,4 +1,6 @@
 //! One step of one component, with the message that it sent.
+ghost use Rattle.std.specs.Prelude.{◌≡◌, None};
+
 use codec::{Reply, Request};
 use world::{Event, Out};
 
@@ -11,4 +13,19 @@ pub struct Step {
     pub out: Out,
     pub sent: Option<Request>,
     pub given: Option<Reply>,
+}
+
+impl Step {
+    /// A step that sent nothing.
+    pub(crate) fn new(caller: Option<u64>, event: Event, out: Out) -> Step
+        ensures { result ≡ record { caller = caller; event = event; out = out; sent = None; given = None } }
+    {
+        Step {
+            caller,
+            event,
+            out,
+            sent: None,
+            given: None,
+        }
+    }
 }

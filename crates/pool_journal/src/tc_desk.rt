@@ -371,14 +371,7 @@ fn stepped<D: CrashLog, R: Wait>(
 {
     side.kept();
     let next = next_number(rt, sent);
-    let step = Step {
-        caller,
-        event,
-        out: Out::Nothing,
-        sent: None,
-        given: None,
-    };
-    let mut step = boxed(rt, alloc, step);
+    let mut step = boxed(rt, alloc, Step::new(caller, event, Out::Nothing));
     let Step {
         caller: _,
         event,

@@ -1,5 +1,5 @@
 -- A text that is written line by line.
-use Rattle.std.proofs.Common.{◌≡◌, ◌<◌, ◌+◌, ℕ, List, [], ◌∷◌, ◌++◌, Option, Some, None, ap, sym, subst, refl, ◌∙◌, append_assoc, append-nil, add-one, drop, drop-cons, get_or, length}
+use Rattle.std.proofs.Common.{◌≡◌, ◌<◌, ◌+◌, ℕ, List, ◌∷◌, ◌++◌, Option, ap, sym, subst, refl, ◌∙◌, append_assoc, add-one, drop, drop-cons, get_or, length}
 use Rattle.std.specs.Io.KnownBytes.{Appends}
 use Rattle.record_key.specs.Table.{Bytes}
 use Rattle.node_shell.specs.Printed.{IsCut}
@@ -11,13 +11,6 @@ pub record IsSoFar (old now : Option (List ℕ)) (text left : List ℕ) : Type 0
   pub written : List ℕ
   pub appended : Appends old now written
   pub whole : text ≡ written ++ left
-
-appends_none : (old : Option (List ℕ)) → Appends old old []
-appends_none None = tt
-appends_none (Some x) = sym (append-nil x)
-
-pub so_far_none : (old : Option (List ℕ)) (text left : List ℕ) → text ≡ left → IsSoFar old old text left
-so_far_none old text left e = record { written = []; appended = appends_none old; whole = e }
 
 pub so_far_next : (old now new : Option (List ℕ)) (text line left rest : List ℕ) → IsSoFar old now text left
     → left ≡ line ++ rest → Appends now new line → IsSoFar old new text rest
@@ -35,13 +28,6 @@ so_far_cut old now new text line left rest s e cut =
     s.whole ∙ ap (λ v. s.written ++ v) e ∙ sym (append_assoc s.written line rest) in
     subst P (sym whole)
     (cut_longer old new (s.written ++ line) rest (cut_later old now new s.written line s.appended cut))
-
-pub so_far_all : (old now : Option (List ℕ)) (text left : List ℕ) → IsSoFar old now text left → left ≡ []
-    → Appends old now text
-so_far_all old now text left s e =
-    let P : List ℕ → Type 0 = λ v. Appends old now v in
-    let whole : text ≡ s.written = s.whole ∙ ap (λ v. s.written ++ v) e ∙ append-nil s.written in
-    subst P (sym whole) s.appended
 
 -- the next client's line, and then those of the others
 pub reads_next : (before i : ℕ) (values : List (Option Bytes)) (value : Option Bytes) → i < length values

@@ -6,14 +6,11 @@ use Rattle.boxcar.specs.Table.{Shelves}
 use Rattle.pool_journal.specs.declared.place.Place.{Place}
 use Rattle.worker_pool.specs.Closing.{below}
 use Rattle.pool_journal.specs.Kept.{PlaceKept, PlacesKept}
-use Rattle.worker_pool.specs.Opened.{OpenedView, AreTied, IsNamed, name_at, name_of}
+use Rattle.worker_pool.specs.Opened.{OpenedView, IsNamed, name_at, name_of}
 
 -- the ties from a place on have the names from there on
 abbrev pub TiedFrom : (ℕ → ℕ) → ℕ → List ℕ → Type 0
 TiedFrom names from ties = (k n : ℕ) → slice_get ties k ≡ Some n → n ≡ names (from + k + 2)
-
-pub tied_from : (names : ℕ → ℕ) (ties : List ℕ) → AreTied names ties → TiedFrom names 0 ties
-tied_from names ties tied k n at = let same : k + 2 ≡ 0 + k + 2 = omega arith in tied k n at ∙ ap names same
 
 pub tied_first : (names : ℕ → ℕ) (from n : ℕ) (ties : List ℕ) → TiedFrom names from (n ∷ ties) → n ≡ names (from + 2)
 tied_first names from n ties tied =

@@ -53,7 +53,7 @@ impl<J: Naming, G, D: CrashLog, P: CrashPages> Shared<J, G, D, P> {
         ensures { IfErr result IsOutage }
     {
         let Some(session) = self.session(rt) else {
-            return self.raise(rt);
+            return self.restart_dc(rt);
         };
         match self.entrance.next(rt, session) {
             Next::Nothing => Ok(false),
@@ -71,7 +71,7 @@ impl<J: Naming, G, D: CrashLog, P: CrashPages> Shared<J, G, D, P> {
     }
 
     // The data component is restarted.
-    fn raise<R: Wait>(&self, rt: &R) -> Result<bool, Refusal>
+    fn restart_dc<R: Wait>(&self, rt: &R) -> Result<bool, Refusal>
         ensures { IfErr result IsOutage }
     {
         let board = &self.entrance.board;

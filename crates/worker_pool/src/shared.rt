@@ -93,6 +93,8 @@ impl<J: Naming, G: Gate, D: CrashLog, P: CrashPages> Shared<J, G, D, P> {
         }
     }
 
+    // A session that serves its request itself saves two changes of thread; but it doesn't queue for the data component,
+    // where workers do.
     fn have_served<R: Wait>(
         &self,
         rt: &R,

@@ -10,7 +10,7 @@ pub enter_dc-requires-clause-enters : goal.enter_dc-requires-clause-enters
 enter_dc-requires-clause-enters g c =
     let s = c.self.inside in let n : DcState = record { side = c.tended-out.new.side; given = s.given } in (
       n,
-      subst (λ (x : Step). EntersDc s.visitor.steps x n) (sym c.boxed-step.ensures)
+      subst (λ (x : Step). EntersDc s.visitor.steps x n) (sym (c.boxed-step.ensures ∙ c.new.ensures))
           (tending_enters s.visitor.steps s.side c.tended-out.new.side s.given c.tended-out.result
           c.self.invariant.gives c.tended-out.ensures.leads),
     )
@@ -18,7 +18,7 @@ enter_dc-requires-clause-enters g c =
 pub invariant_of-self-2 : goal.invariant_of-self-2
 invariant_of-self-2 g c =
     let s = c.self.inside in let n : DcState = record { side = c.tended-out.new.side; given = s.given } in
-    let enters = subst (λ (x : Step). EntersDc s.visitor.steps x n) (sym c.boxed-step.ensures)
+    let enters = subst (λ (x : Step). EntersDc s.visitor.steps x n) (sym (c.boxed-step.ensures ∙ c.new.ensures))
     (tending_enters s.visitor.steps s.side c.tended-out.new.side s.given c.tended-out.result c.self.invariant.gives
     c.tended-out.ensures.leads) in
     record {

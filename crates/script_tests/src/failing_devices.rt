@@ -1,0 +1,166 @@
+//! Scripts in which each call of a device fails in turn.
+//!
+//! The line that is refused is given again, and the script goes on. What clients are told then, and the tables that are
+//! shown, must be those of the undisturbed run; only the numbers of transactions may differ, since a session that a
+//! failure stopped may leave its record.
+use crate::reading::word;
+use crate::tally::Tally;
+use crate::told::told_lines;
+use node_shell::run;
+use std::alloc::{AllocError, Global};
+use std::{fs, io};
+
+/// The devices of a node, as scripts name them.
+const DEVICES: [&str; 3] = ["tclog", "dclog", "pages"];
+
+/// More calls than any script here makes of a device.
+const MOST_CALLS: u64 = 1000;
+
+/// A script by its lines, and what it tells undisturbed.
+#[derive(Debug, Clone, Copy)]
+struct Undisturbed<'a> {
+    name: &'a str,
+    lines: &'a [&'a str],
+    told: &'a str,
+    /// Whether its lines name messages by their numbers. A settling that is played again sends other ones.
+    names_messages: bool,
+}
+
+/// What came of a failure.
+#[derive(Debug, Clone, Copy, PartialEq, Eq)]
+enum Came {
+    /// The device isn't called so often.
+    Never,
+    /// It failed amid a settling whose messages the script names.
+    Passed,
+    Agrees,
+    Differs,
+}
+
+/// Fails each call of each device along each script that the file `failed_scripts` names. Prints a line for each failure
+/// after which the script tells something else.
+pub fn compare_device_failures(rt: &HostRuntime) -> io::Result<Tally> {
+    let names = fs::read_to_string(rt, "failed_scripts")?;
+    let mut tally = Tally::new();
+    for name in names.as_str().split_terminator('\n') {
+        fail_along(rt, name, &mut tally)?;
+    }
+    Ok(tally)
+}
+
+/// Fails each call of each device along this script.
+fn fail_along(rt: &HostRuntime, name: &str, tally: &mut Tally) -> io::Result<()> {
+    let script = fs::read_to_string(rt, format!(in rt.alloc(); "{name}.script")?.as_str())?;
+    let mut lines = Vec::new(rt.alloc());
+    let mut names_messages = false;
+    for line in script.as_str().split_terminator('\n') {
+        lines.push(line)?;
+        names_messages |= word(line, 0) == "req" || word(line, 0) == "rep";
+    }
+    let text = written_by(rt.alloc(), script.as_str())?;
+    let told = told_lines(rt.alloc(), text.as_str())?;
+    let undisturbed = Undisturbed {
+        name,
+        lines: lines.as_slice(),
+        told: told.as_str(),
+        names_messages,
+    };
+    for device in DEVICES {
+        fail_device(rt, &undisturbed, device, tally)?;
+    }
+    Ok(())
+}
+
+/// Fails each call of this device along the script.
+fn fail_device(
+    rt: &HostRuntime,
+    script: &Undisturbed<'_>,
+    device: &str,
+    tally: &mut Tally,
+) -> io::Result<()> {
+    for call in 1..=MOST_CALLS {
+        match failed(rt.alloc(), script, device, call)? {
+            Came::Never => return Ok(()),
+            Came::Passed => {}
+            Came::Agrees => tally.count(true),
+            Came::Differs => {
+                let name = script.name;
+                println!(rt; "{name}: something else is told where call {call} of {device} fails")?;
+                tally.count(false);
+            }
+        }
+    }
+    Ok(())
+}
+
+/// Runs the script with this failure, its refused line given again.
+fn failed(alloc: Global, script: &Undisturbed<'_>, device: &str, call: u64) -> io::Result<Came> {
+    let set = format!(in alloc; "fail {device} {call}\n")?;
+    let count = script.lines.len();
+    if !is_refused(alloc, set.as_str(), script.lines, count)? {
+        return Ok(Came::Never);
+    }
+    let refused = refused_line(alloc, set.as_str(), script.lines)?;
+    let Some(line) = script.lines.get(refused) else {
+        return Ok(Came::Differs);
+    };
+    if script.names_messages && word(line, 0) == "settle" {
+        return Ok(Came::Passed);
+    }
+    let mut text = String::from_str(alloc, set.as_str())?;
+    for (place, line) in script.lines.iter().enumerate() {
+        push_line(&mut text, line)?;
+        if place == refused {
+            push_line(&mut text, line)?;
+        }
+    }
+    let text = written_by(alloc, text.as_str())?;
+    let told = told_lines(alloc, text.as_str())?;
+    Ok(if told.as_str() == script.told {
+        Came::Agrees
+    } else {
+        Came::Differs
+    })
+}
+
+/// The place of the line that is refused, where one is: the least so that the lines up to it are refused.
+fn refused_line(alloc: Global, set: &str, lines: &[&str]) -> io::Result<usize> {
+    let mut place = 0;
+    for count in 0..lines.len() {
+        place = count;
+        if is_refused(alloc, set, lines, count.saturating_add(1))? {
+            break;
+        }
+    }
+    Ok(place)
+}
+
+/// Whether the device fails in the first lines, so many.
+fn is_refused(alloc: Global, set: &str, lines: &[&str], count: usize) -> io::Result<bool> {
+    let mut text = String::from_str(alloc, set)?;
+    for line in lines.iter().take(count) {
+        push_line(&mut text, line)?;
+    }
+    let text = written_by(alloc, text.as_str())?;
+    for line in text.as_str().split('\n') {
+        if line == "no 10 Device" {
+            return Ok(true);
+        }
+    }
+    Ok(false)
+}
+
+fn push_line(text: &mut String, line: &str) -> Result<(), AllocError> {
+    text.push_str(line)?;
+    text.push('\n')
+}
+
+/// What the script writes that is run on behind a failure.
+fn written_by(alloc: Global, script: &str) -> io::Result<String> {
+    let mut text = Vec::new(alloc);
+    let _ = run(alloc, true, &mut script.as_bytes(), &mut text);
+    match String::from_utf8(text) {
+        Ok(text) => Ok(text),
+        Err(_) => Ok(String::new(alloc)),
+    }
+}
