@@ -1,4 +1,4 @@
--- Numbers, rows, entries and what was performed: what is read is spelled so, and what has a spelling is read again.
+-- Numbers, rows and entries: what is read is spelled so, and what has a spelling is read again.
 use Rattle.std.proofs.Common.{◌≡◌, ℕ, ◌<◌, ◌+◌, ◌^◌, List, [], ◌∷◌, ◌++◌, length, refl, arith}
 use Rattle.std.specs.List.{AllByRecursion}
 use Rattle.std.proofs.lemmas.List.{length-append}
@@ -7,10 +7,9 @@ use Rattle.record_key.specs.declared.entry.Entry.{Entry}
 use Rattle.codec.specs.Fields.{number, IsNumber, text, answer_bytes, counted}
 use Rattle.codec.specs.Rows.{row_bytes, IsRow, rows_bytes, AreRows}
 use Rattle.codec.specs.Entries.{entry_bytes, HasEntryNumber, IsEntry, entries_bytes, AreEntries}
-use Rattle.codec.specs.Performances.{Performed, performed_bytes, IsPerformed, performed_at}
 use Rattle.codec.specs.Reading.{pair, number_at, row_at, rows_at, counted_at, entry_at, entries_at}
 use Rattle.codec.proofs.Readers.{IsReader, both, mapped_reads, where_reads}
-use Rattle.codec.proofs.Fields.{numbers_length, number_reads, key_reads, op_reads, answer_reads, row_reads}
+use Rattle.codec.proofs.Fields.{numbers_length, number_reads, key_reads, answer_reads, row_reads}
 use Rattle.codec.proofs.Items.{counted_reads}
 
 -- two numbers
@@ -27,10 +26,6 @@ entry_reads : IsReader Entry entry_bytes IsEntry entry_at
 entry_reads = mapped_reads _ Entry _ _ _ entry_bytes IsEntry (both number_reads (both key_reads answer_reads))
     (λ p. record { number = p.0; key = p.1.0; answer = p.1.1 }) (λ entry. (entry.number, (entry.key, entry.answer)))
     (λ p. refl) (λ p has. has) (λ entry. refl) (λ entry has. has)
-
-pub performed_reads : IsReader Performed performed_bytes IsPerformed performed_at
-unfolding performed_at
-performed_reads = both number_reads (both op_reads answer_reads)
 
 pub entries_read : IsReader (List Entry) entries_bytes AreEntries entries_at
 unfolding entries_bytes entries_at

@@ -11,4 +11,3 @@ pub mod Marks
 pub mod FrameIndex
 pub mod Reading
 pub mod Writing
-pub mod Performances

@@ -15,7 +15,6 @@ mod frame_index;
 mod framed;
 mod image;
 mod lengths;
-mod performed;
 mod reading;
 mod record;
 mod reply;
@@ -31,7 +30,6 @@ pub use image::{
     LeafImage, LeafImageRef, leaf_image_len, leaf_image_spelling_law, put_leaf_image,
     take_leaf_image,
 };
-pub use performed::{PERFORMED_LIMIT, put_performed, take_performed};
 pub use record::{asked_op, left_to_undo, put_record, record_spelling_law, step_txn, take_record};
 pub use reply::{Reply, put_reply, reply_session, reply_spelling_law, take_reply};
 pub use request::{Request, put_request, request_spelling_law, take_request};
