@@ -19,7 +19,7 @@ pub fn compare_lines(rt: &HostRuntime) -> io::Result<Tally> {
 /// Whether the line is outside the grammar. Prints what it gives where it isn't.
 fn is_refused(rt: &HostRuntime, line: &str) -> io::Result<bool> {
     let mut written = Vec::new(rt.alloc());
-    let status = run(rt.alloc(), &mut line.as_bytes(), &mut written);
+    let status = run(rt.alloc(), false, &mut line.as_bytes(), &mut written);
     if written.as_slice() != REFUSED {
         print_difference(rt, line, REFUSED, written.as_slice())?;
         return Ok(false);

@@ -34,7 +34,8 @@ fn asked_by(rt: &HostRuntime, words: &str) -> io::Result<String> {
         all.push(word)?;
     }
     match choose(rt.alloc(), all.as_slice()) {
-        Ok(Task::Run) => Ok(String::from_str(rt.alloc(), "run")?),
+        Ok(Task::Run { continues: false }) => Ok(String::from_str(rt.alloc(), "run")?),
+        Ok(Task::Run { continues: true }) => Ok(String::from_str(rt.alloc(), "run on")?),
         Ok(Task::Pool { sessions, rounds }) => {
             Ok(format!(in rt.alloc(); "pool {sessions} {rounds}")?)
         }

@@ -127,7 +127,7 @@ fn with_crash(alloc: Global, script: &str, crashed: &str, kept: u64) -> Result<S
 /// What the script writes, if it ends well.
 fn written_by(alloc: Global, script: &str) -> io::Result<Option<String>> {
     let mut text = Vec::new(alloc);
-    if run(alloc, &mut script.as_bytes(), &mut text) != DONE {
+    if run(alloc, false, &mut script.as_bytes(), &mut text) != DONE {
         return Ok(None);
     }
     Ok(String::from_utf8(text).ok())

@@ -90,14 +90,14 @@ pub fn compare_failures(rt: &HostRuntime) -> io::Result<Tally> {
 /// A read that fails is told, and nothing else.
 fn is_unread(alloc: Global, left: usize) -> bool {
     let mut text = Vec::new(alloc);
-    let status = run(alloc, &mut BrokenReader { left }, &mut text);
+    let status = run(alloc, false, &mut BrokenReader { left }, &mut text);
     status == FAILED && text.as_slice() == b"no 10 Device\n".as_slice()
 }
 
 /// After this many bytes were written no other write is tried.
 fn is_cut(alloc: Global, left: usize, taken: [u8; 8]) -> bool {
     let mut writer = broken_after(left);
-    let status = run(alloc, &mut SCRIPT.as_bytes(), &mut writer);
+    let status = run(alloc, false, &mut SCRIPT.as_bytes(), &mut writer);
     status == FAILED && writer.calls_after == 1 && writer.taken == taken
 }
 
@@ -111,6 +111,6 @@ fn is_stopped(alloc: Global) -> io::Result<bool> {
 /// Runs the script through a small buffer. Gives the exit status, or 0 where it was flushed.
 fn run_gathered(alloc: Global, broken: &mut BrokenWriter) -> io::Result<u8> {
     let mut writer = BufWriter::with_capacity(alloc, 4, Stopping::new(broken))?;
-    let status = run(alloc, &mut SCRIPT.as_bytes(), &mut writer);
+    let status = run(alloc, false, &mut SCRIPT.as_bytes(), &mut writer);
     Ok(if writer.flush().is_err() { status } else { 0 })
 }

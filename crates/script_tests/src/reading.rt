@@ -127,7 +127,7 @@ fn answer_to<'a>(log: &'a str, number: &str) -> &'a str {
 }
 
 /// The word of the line that stands behind this many.
-fn word(line: &str, count: usize) -> &str {
+pub fn word(line: &str, count: usize) -> &str {
     let text = behind(line, count);
     match text.split_once(' ') {
         Some((word, _)) => word,
@@ -136,7 +136,7 @@ fn word(line: &str, count: usize) -> &str {
 }
 
 /// What stands behind this many words of the line.
-fn behind(line: &str, count: usize) -> &str {
+pub fn behind(line: &str, count: usize) -> &str {
     let mut left = line;
     for _ in 0..count {
         left = match left.split_once(' ') {
