@@ -1,5 +1,5 @@
 -- What the leaves tell of the performances, of which each that no low number hides has its entry.
-use Rattle.std.proofs.Common.{◌≡◌, ℕ, ◌<◌, ◌≤◌, Option, None, Some, true, false, List, [], ◌∷◌, refl, ap, sym, subst, ◌∙◌, inl, inr, true≢false, arith}
+use Rattle.std.proofs.Common.{◌≡◌, ℕ, ◌<◌, ◌+◌, Option, None, Some, true, false, List, [], ◌∷◌, refl, ap, sym, subst, ◌∙◌, inl, inr, true≢false, arith}
 use Rattle.std.specs.Prelude.{◌⊎◌, nat_le}
 use Rattle.std.specs.List.{AllByRecursion}
 use Rattle.std.proofs.lemmas.Bool.{cases_lt, or_left, le-leb}
@@ -8,6 +8,8 @@ use Rattle.record_key.specs.declared.op.Op.TheVariants.{Insert, Update, Upsert, 
 use Rattle.record_key.specs.declared.entry.Entry.{Entry}
 use Rattle.record_key.specs.Table.{Bytes, Table, key_of, is_add, AreAdds, answer_at}
 use Rattle.record_key.proofs.Lists.{all_from}
+use Rattle.codec.specs.declared.request.Request.{Request}
+use Rattle.codec.specs.declared.request.Request.TheVariants as asks
 use Rattle.ab_lsn.specs.AbLsn.{stands_in}
 use Rattle.page.specs.Leaf.{LeafView}
 use Rattle.take_back_laws.specs.Performed as laws
@@ -16,9 +18,9 @@ use Rattle.btree.specs.Leaves.{leaf_at}
 use Rattle.btree.proofs.AtKey.{all_at}
 use Rattle.dc_core.specs.declared.performance.Performance.{Performance}
 use Rattle.dc_core.specs.DcView.{DcView, leaves, captures_at}
-use Rattle.dc_core.specs.Following.{was_added, Follows}
+use Rattle.dc_core.specs.Shows.{was_added, Follows, IsOn, IsSavedOn, NoneHidden, MayCome, Shows}
 use Rattle.dc_core.specs.Kept.{IsDc, Saves, for_law, for_laws}
-use Rattle.dc_core.specs.Serves.{ComesNext}
+use Rattle.dc_core.specs.Serves.{ComesNext, MayAsk}
 use Rattle.dc_core.proofs.KeepsDc.{all_both, IsCaptured, AllSave, all_save}
 use Rattle.dc_core.proofs.KeepsConnected.{stands, saved_there}
 
@@ -65,28 +67,23 @@ module _ (w : DcView) (k : IsDc w) where
       (all_save w.performed (leaves w) k.saved)
 
   -- the number is on this key
-  pub listed_on : (n most : ℕ) (key : Bytes) → most < n
-      → AllByRecursion (λ (leaf : LeafView). leaf.ab.low ≤ most) (leaves w)
-      → AllByRecursion
-      (λ (leaf : LeafView). AllByRecursion (λ (e : Entry). e.number ≡ n → e.key ≡ key) leaf.ab.entries) (leaves w)
+  listed_on : (n : ℕ) (key : Bytes) → NoneHidden w n → IsSavedOn w n key
       → AllByRecursion (λ (p : Performance). p.number ≡ n → key_of p.op ≡ key) w.performed
-  listed_on n most key above low on =
+  listed_on n key low on =
       all_from HasEntry (λ (p : Performance). p.number ≡ n → key_of p.op ≡ key)
       (λ p has same.
       let q : Bytes = key_of p.op in
       let leaf : LeafView = leaf_at (leaves w) q in
-      let within : leaf.ab.low ≤ most =
-      all_at (λ (l : LeafView). l.ab.low ≤ most) (leaves w) q k.system.leaves low in
-      saved_has (λ (e : Entry). e.number ≡ n → e.key ≡ key) (key_of p.op ≡ key) (for_law p) leaf.ab.entries
+      let below : leaf.ab.low < n =
+      all_at (λ (l : LeafView). l.ab.low < n) (leaves w) q k.system.leaves low in
+      saved_has (IsOn n key) (key_of p.op ≡ key) (for_law p) leaf.ab.entries
       (λ e of its. of.key ∙ its (sym of.number ∙ same))
-      (all_at (λ (l : LeafView). AllByRecursion (λ (e : Entry). e.number ≡ n → e.key ≡ key) l.ab.entries) (leaves w) q
-      k.system.leaves on)
-      (has (omega (arith, within, same, above)))) w.performed have_entries
+      (all_at (λ (l : LeafView). AllByRecursion (IsOn n key) l.ab.entries) (leaves w) q k.system.leaves on)
+      (has (omega (arith, below, same)))) w.performed have_entries
 
   -- a new operation comes after those on its key
-  pub comes_next : (n : ℕ) (o : Op) → captures_at w (key_of o) n ≡ false
-      → AllByRecursion (Follows n o) (leaf_at (leaves w) (key_of o)).ab.entries → ComesNext w n o
-  comes_next n o out follows =
+  comes_next : (n : ℕ) (o : Op) → MayCome w n o → captures_at w (key_of o) n ≡ false → ComesNext w n o
+  comes_next n o may out =
       all_both HasEntry IsAdd (λ (p : Performance). key_of p.op ≡ key_of o → (p.number < n) ⊎ AreAdds o p.op) next
       w.performed have_entries (all_add w.opened w.performed k.answered)
     where
@@ -118,19 +115,39 @@ module _ (w : DcView) (k : IsDc w) where
             | inl over ↦
                 saved_has (Follows n o) ((p.number < n) ⊎ AreAdds o p.op) (for_law p)
                 (leaf_at (leaves w) (key_of p.op)).ab.entries (follow p adds on)
-                (subst (λ (l : LeafView). AllByRecursion (Follows n o) l.ab.entries) (sym same) follows)
+                (subst (λ (l : LeafView). AllByRecursion (Follows n o) l.ab.entries) (sym same) (may out))
                 (has (omega (arith, over, lows)))
             | inr under ↦ inl (omega (arith, under, above))
           ]
 
   -- nothing above the end is hidden
-  pub none_hidden : (end most : ℕ) → most ≤ end → AllByRecursion (λ (leaf : LeafView). leaf.ab.low ≤ most) (leaves w)
+  none_hidden : (end : ℕ) → NoneHidden w (end + 1)
       → AllByRecursion (λ (p : Performance). end < p.number → (leaf_at (leaves w) (key_of p.op)).ab.low < p.number)
       w.performed
-  none_hidden end most up low =
+  none_hidden end low =
       all_from HasEntry
       (λ (p : Performance). end < p.number → (leaf_at (leaves w) (key_of p.op)).ab.low < p.number)
       (λ p has over.
-      let within : (leaf_at (leaves w) (key_of p.op)).ab.low ≤ most =
-      all_at (λ (l : LeafView). l.ab.low ≤ most) (leaves w) (key_of p.op) k.system.leaves low in
-      omega (arith, within, up, over)) w.performed have_entries
+      let below : (leaf_at (leaves w) (key_of p.op)).ab.low < end + 1 =
+      all_at (λ (l : LeafView). l.ab.low < end + 1) (leaves w) (key_of p.op) k.system.leaves low in
+      omega (arith, below, over)) w.performed have_entries
+
+  -- what the leaves show is what the caller owes
+  pub owed : (request : Request) → Shows w request → MayAsk w request
+  owed (asks.Connect s end) shows =
+      λ allowed begins.
+      let it = shows allowed begins in
+      record { opened = it.0; shown = none_hidden end it.1 }
+  owed (asks.Perform s n stable o) shows =
+      λ allowed.
+      let it = shows allowed in
+      record {
+        key = record { listed = listed_on n (key_of o) it.0.0 it.0.1; saved = it.0.1 };
+        next = comes_next n o it.1;
+      }
+  owed (asks.Get s r key) shows = tt
+  owed (asks.Scan s r low high) shows = tt
+  owed (asks.LowWater s l) shows = tt
+  owed (asks.Checkpoint s l) shows = tt
+  owed (asks.RedoEnd s) shows = tt
+  owed (asks.StableEnd s stable) shows = tt

@@ -2,6 +2,6 @@ pub mod DcView
 pub mod Serves
 pub mod Tends
 pub mod Kept
-pub mod Following
+pub mod Shows
 pub mod Seen
 pub mod Restarting

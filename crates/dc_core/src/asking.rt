@@ -1,14 +1,13 @@
 //! What a caller asks who doesn't know what it owes of a request.
-ghost use Rattle.std.specs.Prelude.{◌≡◌, ◌<◌, ◌≤◌, ◌^◌, ◌↔◌, false, None, IsTrue};
+ghost use Rattle.std.specs.Prelude.{◌≡◌, ◌<◌, ◌+◌, ◌^◌, ◌↔◌, false, None, IsTrue};
 ghost use Rattle.std.specs.List.{AllByRecursion};
 ghost use Rattle.record_key.specs.Table.{key_of};
-ghost use Rattle.record_key.specs.declared.entry.Entry.{Entry as EntryValue};
 ghost use Rattle.codec.specs.Requests.{HasRequestNumbers};
-ghost use Rattle.page.specs.Leaf.{LeafView};
-ghost use Rattle.dc_core.specs.DcView.{captures_at};
-ghost use Rattle.dc_core.specs.Following.{Follows, was_added};
+ghost use Rattle.btree.specs.Leaves.{leaf_at};
+ghost use Rattle.dc_core.specs.DcView.{leaves};
 ghost use Rattle.dc_core.specs.Kept.{IsDc};
-ghost use Rattle.dc_core.specs.Serves.{runs, connect_refusal, KeepsKey, ComesNext, MayPerform, MayTakeBack, MayAsk};
+ghost use Rattle.dc_core.specs.Serves.{runs, connect_refusal, MayAsk};
+ghost use Rattle.dc_core.specs.Shows.{was_added, Follows, IsOn, IsSavedOn, NoneHidden, MayCome, ShowsPerform, ShowsTakeBack, Shows};
 ghost use Rattle.dc_core.specs.Seen.{seen};
 
 use crate::parts::Parts;
@@ -17,19 +16,19 @@ use record_key::{Answer, Entries, Entry, Key, Op};
 use stable::{LogDevice, PageDevice};
 
 impl<D: LogDevice, P: PageDevice> Parts<D, P> {
-    /// Whether the leaves tell that each number of the request is below its bound, an operation's number is on the key
-    /// that it has where it is known, and a new one comes after the others on its key; and that a session that begins
-    /// takes back only what can be. What a low number has hidden they don't tell.
+    /// Whether each number of the request is below its bound and the leaves show what its caller owes. What a low
+    /// number has hidden they don't show.
     pub fn may_ask(&self, request: &Request) -> bool
         requires { IsDc (seen self.now) }
-        ensures { IsTrue result → HasRequestNumbers request.now × MayAsk (seen self.now) request.now }
+        ensures told { IsTrue result ↔ (HasRequestNumbers request.now × Shows (seen self.now) request.now) }
+        ensures owed { IsTrue result → HasRequestNumbers request.now × MayAsk (seen self.now) request.now }
     {
         has_numbers(request) && self.may_serve(request)
     }
 
     fn may_serve(&self, request: &Request) -> bool
-        requires { IsDc (seen self.now) }
-        ensures { IsTrue result → MayAsk (seen self.now) request.now }
+        requires { HasRequestNumbers request.now }
+        ensures { IsTrue result ↔ Shows (seen self.now) request.now }
     {
         match request {
             Request::Connect { session, end } => self.may_connect(*session, *end),
@@ -48,9 +47,10 @@ impl<D: LogDevice, P: PageDevice> Parts<D, P> {
     }
 
     fn may_connect(&self, session: u64, end: u64) -> bool
-        requires { IsDc (seen self.now) }
-        ensures { IsTrue result → connect_refusal (seen self.now) session ≡ None
-            → runs (seen self.now) session ≡ false → MayTakeBack (seen self.now) end }
+        requires { end < 2 ^ 48 }
+        ensures { IsTrue result
+            ↔ (connect_refusal (seen self.now) session ≡ None
+            → runs (seen self.now) session ≡ false → ShowsTakeBack (seen self.now) end) }
     {
         if self.runs(session) {
             return true;
@@ -63,62 +63,48 @@ impl<D: LogDevice, P: PageDevice> Parts<D, P> {
     }
 
     fn may_take_back(&self, end: u64) -> bool
-        requires { IsDc (seen self.now) }
-        ensures { IsTrue result → MayTakeBack (seen self.now) end }
+        requires { end < 2 ^ 48 }
+        ensures { IsTrue result ↔ ShowsTakeBack (seen self.now) end }
     {
-        self.opened_to <= end && self.greatest_low() <= end
-    }
-
-    /// The greatest low number of a leaf.
-    fn greatest_low(&self) -> u64
-        ensures { AllByRecursion (λ (leaf : LeafView). leaf.ab.low ≤ result) self.now.system.leaves }
-    {
-        let mut most = 0;
-        for place in 0..self.system.len() {
-            most = self.system.leaf(place).low().max(most);
-        }
-        most
+        self.opened_to <= end && self.none_hidden(end + 1)
     }
 
     fn may_perform(&self, number: u64, op: &Op) -> bool
-        requires { IsDc (seen self.now) }
-        ensures { IsTrue result → MayPerform (seen self.now) number op.now }
+        ensures { IsTrue result ↔ ShowsPerform (seen self.now) number op.now }
     {
-        self.keeps_key(number, op.key()) && self.may_come(number, op)
+        self.none_hidden(number) && self.is_saved_on(number, op.key()) && self.may_come(number, op)
     }
 
     fn may_come(&self, number: u64, op: &Op) -> bool
-        requires { IsDc (seen self.now) }
-        ensures { IsTrue result → captures_at (seen self.now) (key_of op.now) number ≡ false
-            → ComesNext (seen self.now) number op.now }
+        ensures { IsTrue result ↔ MayCome (seen self.now) number op.now }
     {
         self.captures(number, op.key()) || self.comes_next(number, op)
     }
 
     /// Whether each entry on the operation's key has a lower number, or both are Adds.
     fn comes_next(&self, number: u64, op: &Op) -> bool
-        requires kept { IsDc (seen self.now) }
-        requires out { captures_at (seen self.now) (key_of op.now) number ≡ false }
-        ensures { IsTrue result → ComesNext (seen self.now) number op.now }
+        ensures { IsTrue result ↔ AllByRecursion (Follows number op.now)
+            (leaf_at (leaves (seen self.now)) (key_of op.now)).ab.entries }
     {
         let place = self.system.place_of(op.key());
         follows_all(self.system.leaf(place).entries(), number, op)
     }
 
-    /// Whether the number is above each low one, and no entry has it on another key.
-    fn keeps_key(&self, number: u64, key: &Key) -> bool
-        requires { IsDc (seen self.now) }
-        ensures { IsTrue result → KeepsKey (seen self.now) number key.now }
+    /// Whether each low number is below this one.
+    fn none_hidden(&self, number: u64) -> bool
+        ensures { IsTrue result ↔ NoneHidden (seen self.now) number }
     {
-        self.greatest_low() < number && self.is_saved_on(number, key)
+        for place in 0..self.system.len() {
+            if number <= self.system.leaf(place).low() {
+                return false;
+            }
+        }
+        true
     }
 
     /// Whether no leaf's entry has the number on another key.
     fn is_saved_on(&self, number: u64, key: &Key) -> bool
-        ensures { IsTrue result
-            ↔ AllByRecursion (λ (leaf : LeafView).
-            AllByRecursion (λ (e : EntryValue). e.number ≡ number → e.key ≡ key.now) leaf.ab.entries)
-            self.now.system.leaves }
+        ensures { IsTrue result ↔ IsSavedOn (seen self.now) number key.now }
     {
         for place in 0..self.system.len() {
             if !are_on(self.system.leaf(place).entries(), number, key) {
@@ -138,7 +124,7 @@ fn is_on(known: u64, its_key: &Key, number: u64, key: &Key) -> bool
 
 /// Whether an operation may follow all of these.
 fn follows_all(entries: &Entries, number: u64, op: &Op) -> bool
-    ensures { IsTrue result → AllByRecursion (Follows number op.now) entries.now }
+    ensures { IsTrue result ↔ AllByRecursion (Follows number op.now) entries.now }
 {
     for place in 0..entries.len() {
         if !follows(number, op, &entries.entry(place)) {
@@ -150,7 +136,7 @@ fn follows_all(entries: &Entries, number: u64, op: &Op) -> bool
 
 /// Whether an operation may follow another: on another key, above its number, or both being Adds.
 fn follows(number: u64, op: &Op, entry: &Entry) -> bool
-    ensures { IsTrue result → Follows number op.now entry.now }
+    ensures { IsTrue result ↔ Follows number op.now entry.now }
 {
     entry.key != *op.key() || entry.number < number || (op.is_add() && was_added(&entry.answer))
 }
@@ -163,7 +149,7 @@ fn was_added(answer: &Answer) -> bool
 
 /// Whether no entry has the number on another key.
 fn are_on(entries: &Entries, number: u64, key: &Key) -> bool
-    ensures { IsTrue result ↔ AllByRecursion (λ (e : EntryValue). e.number ≡ number → e.key ≡ key.now) entries.now }
+    ensures { IsTrue result ↔ AllByRecursion (IsOn number key.now) entries.now }
 {
     for place in 0..entries.len() {
         let entry = entries.entry(place);

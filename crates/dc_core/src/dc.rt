@@ -14,6 +14,7 @@ ghost use Rattle.page.specs.Leaf.{first};
 ghost use Rattle.btree.specs.Leaves.{all_rows};
 ghost use Rattle.dc_core.specs.DcView.{fresh, leaves};
 ghost use Rattle.dc_core.specs.Serves.{serve_refusal, MayAsk, ServeGives, with_system};
+ghost use Rattle.dc_core.specs.Shows.{Shows};
 ghost use Rattle.dc_core.specs.Tends.{SplitsTo, MergesTo, TendsTo, FlushesTo};
 ghost use Rattle.dc_core.specs.Kept.{IsDc};
 
@@ -120,7 +121,8 @@ impl<D: LogDevice, P: PageDevice> Dc<D, P> {
     /// be taken back. They don't tell of what a low number has hidden: no where an operation's number isn't above each
     /// low one, or an end is below one. It reads all leaves, so a caller that knows its numbers doesn't ask.
     pub fn may_ask(&self, request: &Request) -> bool
-        ensures { IsTrue result → HasRequestNumbers request.now × MayAsk self.now request.now }
+        ensures told { IsTrue result ↔ (HasRequestNumbers request.now × Shows self.now request.now) }
+        ensures owed { IsTrue result → HasRequestNumbers request.now × MayAsk self.now request.now }
     {
         self.parts.may_ask(request)
     }

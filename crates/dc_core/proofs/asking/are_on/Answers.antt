@@ -1,7 +1,7 @@
 use Rattle.std.proofs.Common.{◌≡◌, Some, length, refl, arith}
 use Rattle.std.specs.Prelude.{slice_get}
 use Rattle.std.proofs.lemmas.Option.{slice_get_read}
-use Rattle.record_key.specs.declared.entry.Entry.{Entry}
+use Rattle.dc_core.specs.Shows.{IsOn}
 use Rattle.dc_core.proofs.Walks.{all_get, all_more, all_through}
 use Rattle.dc_core.proofs.asking.are_on.Goals as goal
 
@@ -15,8 +15,8 @@ returns-then-not-is_on c =
     c.entry-entry.ensures in (
       λ wrong. absurd (cc),
       λ all.
-          let IsOn : Entry → Type 0 = λ e. e.number ≡ c.args.number → e.key ≡ c.args.key.now in
-          let on = c.is_on.ensures.1 (all_get IsOn entries c.loop-place.place entry all there) in
+          let on =
+          c.is_on.ensures.1 (all_get (IsOn c.args.number c.args.key.now) entries c.loop-place.place entry all there) in
           absurd (cc),
     )
 
@@ -24,15 +24,14 @@ pub loop-place-preserved : goal.loop-place-preserved
 loop-place-preserved c =
     let entries = c.args.entries.now in
     let entry = c.entry-entry.result in
-    all_more (λ (e : Entry). e.number ≡ c.args.number → e.key ≡ c.args.key.now) entries c.loop-place.place entry
+    all_more (IsOn c.args.number c.args.key.now) entries c.loop-place.place entry
     (slice_get_read entries (length entries) c.loop-place.place entry refl
     (omega (arith, c.loop-place-test.true, c.len-place-end.ensures))
     c.entry-entry.ensures) c.loop-place.invariant (c.is_on.ensures.0 c.if-not-is_on.false)
 
 pub returns : goal.returns
-returns c =
-    let IsOn : Entry → Type 0 = λ e. e.number ≡ c.args.number → e.key ≡ c.args.key.now in (
-      λ _. all_through IsOn c.args.entries.now c.loop-place.place
-          (omega (arith, c.loop-place-test.false, c.len-place-end.ensures)) c.loop-place.invariant,
-      λ all. refl,
-    )
+returns c = (
+  λ _. all_through (IsOn c.args.number c.args.key.now) c.args.entries.now c.loop-place.place
+      (omega (arith, c.loop-place-test.false, c.len-place-end.ensures)) c.loop-place.invariant,
+  λ all. refl,
+)

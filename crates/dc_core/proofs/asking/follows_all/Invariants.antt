@@ -1,6 +1,6 @@
 use Rattle.std.proofs.Common.{take}
 use Rattle.std.specs.List.{AllByRecursion}
-use Rattle.dc_core.specs.Following.{Follows}
+use Rattle.dc_core.specs.Shows.{Follows}
 use Rattle.dc_core.proofs.asking.follows_all.Given as goal
 
 -- it may follow the entries so far

@@ -1,12 +1,10 @@
-use Rattle.std.proofs.Common.{◌∙◌, ap, subst}
+use Rattle.std.proofs.Common.{◌∙◌, ap, sym, subst}
 use Rattle.std.specs.List.{AllByRecursion}
 use Rattle.record_key.specs.Table.{Bytes}
 use Rattle.page.specs.Leaf.{LeafView}
 use Rattle.btree.specs.Leaves.{leaf_at}
 use Rattle.system_txn.proofs.Places.{leaf_there}
-use Rattle.dc_core.specs.Following.{Follows}
-use Rattle.dc_core.specs.Seen.{seen}
-use Rattle.dc_core.proofs.Owed.{comes_next}
+use Rattle.dc_core.specs.Shows.{Follows}
 use Rattle.dc_core.proofs.parts.Parts.comes_next.Goals as goal
 
 pub returns : goal.returns
@@ -17,5 +15,7 @@ returns g c =
     ∙ ap (λ (leaf : LeafView). leaf.ab.entries)
     (c.leaf.ensures ∙ leaf_there leaves c.key.result.now c.place_of-place.result at.place at.within
     ∙ ap (λ (k : Bytes). leaf_at leaves k) c.key.ensures) in
-    λ yes. comes_next (seen c.args.self.now) c.requires.kept c.args.number c.args.op.now c.requires.out
-    (subst (AllByRecursion (Follows c.args.number c.args.op.now)) read (c.follows_all.ensures yes))
+    let All = AllByRecursion (Follows c.args.number c.args.op.now) in (
+      λ yes. subst All read (c.follows_all.ensures.0 yes),
+      λ all. c.follows_all.ensures.1 (subst All (sym read) all),
+    )
