@@ -1,15 +1,17 @@
 -- What is seen of each component by the node that has it, and what a crash and a restart do to it.
 use Rattle.std.specs.Prelude.{◌≡◌, ◌⊎◌, ℕ, ◌+◌, ◌≤◌, Bool, true, false, List, Option, Some, None, Result, Ok, Err, length, nat_lt, if◌then◌else◌}
 use Rattle.record_key.specs.declared.refusal.Refusal.{Refusal}
-use Rattle.record_key.specs.declared.refusal.Refusal.TheVariants.{NoMemory, Device}
+use Rattle.record_key.specs.declared.refusal.Refusal.TheVariants.{NoMemory}
+use Rattle.record_key.specs.declared.refusal.Refusal.TheVariants as refusal
 use Rattle.codec.specs.declared.dc_record.DcRecord.{DcRecord}
 use Rattle.history.specs.declared.record.Record.{Record}
-use Rattle.stable.specs.Usage.{Usage, called_often}
+use Rattle.stable.specs.Usage.{Usage, called_often, failing_in}
 use Rattle.stable.specs.PagesState.{Pages}
 use Rattle.logical_log.specs.Low.{stable_part}
 use Rattle.logical_log.specs.Spelled as records
 use Rattle.recovery_laws.specs.Shape.{beginning}
-use Rattle.system_txn.specs.SystemView.{with_usage}
+use Rattle.system_txn.specs.declared.devices.Device.{Device}
+use Rattle.system_txn.specs.SystemView.{with_usage, failing_at}
 use Rattle.system_txn.specs.Uses.{StopsOpening, page_calls}
 use Rattle.system_txn.specs.Devices.{spelled}
 use Rattle.system_txn.specs.Crashed.{found, crashed}
@@ -32,7 +34,7 @@ pub record DcSide : Type 0 where
 
 -- room or a device is refused
 abbrev pub LacksDevice : Refusal → Type 0
-LacksDevice r = (r ≡ NoMemory) ⊎ (r ≡ Device)
+LacksDevice r = (r ≡ NoMemory) ⊎ (r ≡ refusal.Device)
 
 abbrev pub lesser : ℕ → ℕ → ℕ
 lesser a b = if nat_lt a b then a else b
@@ -71,6 +73,12 @@ TcRestartsTo old (Ok None) new = (old.up ≡ true) × (new ≡ old)
 TcRestartsTo old (Err r) new =
     (old.up ≡ false) × LacksDevice r × (new ≡ record { up = false; tc = used_so old.tc new.tc.usage })
     × UsedToOpen old.tc.usage r new.tc.usage
+
+-- the call of this number from now is set to fail, if there is one
+abbrev pub TcFailsTo : TcSide → ℕ → Bool → TcSide → Type 0
+TcFailsTo old call true new =
+    (1 ≤ call) × (new ≡ record old { tc = used_so old.tc (failing_in call old.tc.usage) })
+TcFailsTo old call false new = (call ≡ 0) × (new ≡ old)
 
 -- ---- the data component
 
@@ -113,3 +121,8 @@ DcRestartsTo old (Ok (Some count)) new =
 DcRestartsTo old (Ok None) new = (old.up ≡ true) × (new ≡ old)
 DcRestartsTo old (Err r) new =
     (old.up ≡ false) × (new ≡ record { up = false; dc = new.dc }) × IsDownWith old.dc r new.dc
+
+abbrev pub DcFailsTo : DcSide → Device → ℕ → Bool → DcSide → Type 0
+DcFailsTo old device call true new =
+    (1 ≤ call) × (new ≡ record old { dc = with_system old.dc (failing_at device call old.dc.system) })
+DcFailsTo old device call false new = (call ≡ 0) × (new ≡ old)

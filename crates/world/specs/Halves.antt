@@ -24,6 +24,7 @@ of_tc (event.Flush k) = false
 of_tc (event.Request i) = false
 of_tc (event.CrashDc frames bytes) = false
 of_tc event.RestartDc = false
+of_tc (event.FailDc device call) = false
 of_tc _ = true
 
 -- whether it is a crash or a restart

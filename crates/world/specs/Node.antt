@@ -18,6 +18,7 @@ use Rattle.stable.specs.Usage.{unused}
 use Rattle.dc_core.specs.DcView.{DcView, fresh as fresh_dc}
 use Rattle.dc_core.specs.Serves.{ServeGives, serve_refusal}
 use Rattle.dc_core.specs.Tends.{SplitsTo, MergesTo, TendsTo, FlushesTo}
+use Rattle.system_txn.specs.declared.devices.Device.{Device}
 use Rattle.system_txn.specs.declared.tended.Tended.TheVariants as tended
 use Rattle.tc_core.specs.declared.told.Told.{Told}
 use Rattle.tc_core.specs.declared.told.Told.TheVariants as told
@@ -37,7 +38,7 @@ use Rattle.world.specs.declared.event.Event.{Event}
 use Rattle.world.specs.declared.event.Event.TheVariants as event
 use Rattle.world.specs.declared.event.Out.{Out}
 use Rattle.world.specs.declared.event.Out.TheVariants as out
-use Rattle.world.specs.Component.{TcSide, DcSide, TcCrashesTo, TcRestartsTo, DcCrashesTo, DcRestartsTo}
+use Rattle.world.specs.Component.{TcSide, DcSide, TcCrashesTo, TcRestartsTo, TcFailsTo, DcCrashesTo, DcRestartsTo, DcFailsTo}
 use Rattle.world.specs.Messages.{message_at}
 
 -- of each component whether it runs, and what it is, or where it doesn't run will be once it is restarted; every
@@ -313,6 +314,18 @@ RestartsDcTo old (out.Refused r) new =
     DcRestartsTo (dc_side old) (Err r) (dc_side new) × BecomesDc old (dc_side new) new
 RestartsDcTo old _ new = ⊥
 
+abbrev pub FailsTcTo : NodeView → ℕ → Out → NodeView → Type 0
+FailsTcTo old call out.Set new = TcFailsTo (tc_side old) call true (tc_side new) × BecomesTc old (tc_side new) new
+FailsTcTo old call out.Nothing new = TcFailsTo (tc_side old) call false (tc_side new) × BecomesTc old (tc_side new) new
+FailsTcTo old call _ new = ⊥
+
+abbrev pub FailsDcTo : NodeView → Device → ℕ → Out → NodeView → Type 0
+FailsDcTo old device call out.Set new =
+    DcFailsTo (dc_side old) device call true (dc_side new) × BecomesDc old (dc_side new) new
+FailsDcTo old device call out.Nothing new =
+    DcFailsTo (dc_side old) device call false (dc_side new) × BecomesDc old (dc_side new) new
+FailsDcTo old device call _ new = ⊥
+
 abbrev pub as_out : Told → Out
 as_out told.Nothing = out.Nothing
 as_out (told.Connected s) = out.Connected s
@@ -381,3 +394,5 @@ StepsTo old (event.CrashTc frames bytes) output new = CrashesTcTo old frames byt
 StepsTo old event.RestartTc output new = RestartsTcTo old output new
 StepsTo old (event.CrashDc frames bytes) output new = CrashesDcTo old frames bytes output new
 StepsTo old event.RestartDc output new = RestartsDcTo old output new
+StepsTo old (event.FailTc call) output new = FailsTcTo old call output new
+StepsTo old (event.FailDc device call) output new = FailsDcTo old device call output new

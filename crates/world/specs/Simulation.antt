@@ -138,6 +138,10 @@ lines_of (event.CrashDc frames bytes) out.Nothing = Some []
 lines_of event.RestartDc (out.Up count) = Some []
 lines_of event.RestartDc out.Nothing = Some []
 lines_of event.RestartDc (out.Refused r) = Some []
+lines_of (event.FailTc call) out.Set = Some []
+lines_of (event.FailTc call) out.Nothing = Some []
+lines_of (event.FailDc device call) out.Set = Some []
+lines_of (event.FailDc device call) out.Nothing = Some []
 lines_of _ _ = None
 
 abbrev pub StepsIf : Machine → Option (List Line) → Machine → Type 0

@@ -12,7 +12,7 @@ use crate::data_component::DataComponent;
 use crate::event::{Event, Out};
 use crate::tc_events::number_if;
 use codec::{Reply, Request};
-use dc_core::Tended;
+use dc_core::{Device, Tended};
 use record_key::{Key, Refusal};
 use stable::{CrashLog, CrashPages};
 use std::alloc::Global;
@@ -30,6 +30,7 @@ impl<D: CrashLog, P: CrashPages> DataComponent<D, P> {
             Event::Tend => self.tend(),
             Event::Flush { key } => self.flush(key),
             Event::Request { .. } => self.unsent(),
+            Event::FailDc { device, call } => self.fail(*device, *call),
             _ => unreachable!(),
         }
     }
@@ -108,6 +109,21 @@ impl<D: CrashLog, P: CrashPages> DataComponent<D, P> {
             DataComponent::Up(_) => Out::Refused(Refusal::Unsent),
             DataComponent::Down(_) => Out::Refused(Refusal::NotConnected),
         }
+    }
+
+    /// A failure of one of its devices is set.
+    #[inline(never)]
+    fn fail(&mut self, device: Device, call: u64) -> Out
+        ensures { DcCalls (dc_of self.old) (Event.FailDc device call) result (dc_of self.new) }
+    {
+        if call == 0 {
+            return Out::Nothing;
+        }
+        match self {
+            DataComponent::Up(dc) => dc.fail_at(device, call),
+            DataComponent::Down(stopped) => stopped.fail_at(device, call),
+        }
+        Out::Set
     }
 
     /// Its crash, as an event.

@@ -3,7 +3,7 @@ ghost use Rattle.std.specs.Prelude.{◌≡◌};
 ghost use Rattle.world.specs.Halves.{of_tc};
 
 use codec::Rows;
-use dc_core::Neighbours;
+use dc_core::{Device, Neighbours};
 use record_key::{Answer, Key, Op, Refusal, Value};
 use tc_core::Committed;
 
@@ -99,6 +99,16 @@ pub enum Event {
         bytes: u64,
     },
     RestartDc,
+    /// The call of this number from now of the transaction component's device fails, once, whether the component runs or
+    /// is down. It takes the place of a failure that was set and hasn't happened. 0 sets none.
+    FailTc {
+        call: u64,
+    },
+    /// The same of one of the data component's devices.
+    FailDc {
+        device: Device,
+        call: u64,
+    },
 }
 
 impl Event {
@@ -115,6 +125,7 @@ impl Event {
                 | Event::Request { .. }
                 | Event::CrashDc { .. }
                 | Event::RestartDc
+                | Event::FailDc { .. }
         )
     }
 }
@@ -165,5 +176,7 @@ pub enum Out {
     Down,
     /// The component runs again, with so many records or leaves.
     Up(u64),
+    /// A failure was set.
+    Set,
     Refused(Refusal),
 }

@@ -31,7 +31,7 @@ mod tc_side;
 mod transaction_component;
 mod world;
 
-pub use dc_core::Neighbours;
+pub use dc_core::{Device, Neighbours};
 pub use dc_side::DcSide;
 pub use driving::drive;
 pub use event::{Event, Out};

@@ -2,15 +2,17 @@
 ghost use Rattle.std.specs.Prelude.{◌≡◌, ◌⊎◌, ℕ, ◌≤◌, [], List, length, IfOk, IfErr};
 ghost use Rattle.recovery_laws.specs.Shape.{beginning};
 ghost use Rattle.system_txn.specs.Kept.{IsRecoverable};
+ghost use Rattle.system_txn.specs.SystemView.{failing_at};
 ghost use Rattle.system_txn.specs.Recovering.{HoldsFrames};
 ghost use Rattle.dc_core.specs.Kept.{IsDc};
 ghost use Rattle.dc_core.specs.Restarting.{restarted};
+ghost use Rattle.dc_core.specs.Serves.{with_system};
 ghost use Rattle.system_txn.specs.Crashed.{crashed};
 ghost use Rattle.world.specs.Component.{Keeps, dc_size, IsUp, IsDownWith};
 
 use crate::crashing::kept_of;
 use crate::found::Found;
-use dc_core::{Dc, Devices, Refused};
+use dc_core::{Dc, Device, Devices, Refused};
 use record_key::Refusal;
 use stable::{CrashLog, CrashPages};
 use std::alloc::Global;
@@ -92,6 +94,17 @@ impl<D: CrashLog, P: CrashPages> Stopped<D, P> {
                     stopped: Stopped { devices, found },
                 })
             }
+        }
+    }
+
+    /// The `n`-th call of the device from now fails.
+    pub fn fail_at(&mut self, device: Device, n: u64)
+        requires { 1 ≤ n }
+        ensures { self.new ≡ with_system self.old (failing_at device n self.old.system) }
+    {
+        match device {
+            Device::Log => self.devices.log.fail_at(n),
+            Device::Pages => self.devices.pages.fail_at(n),
         }
     }
 

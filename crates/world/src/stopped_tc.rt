@@ -1,5 +1,6 @@
 //! What is left of the transaction component while it is down: its log's device.
-ghost use Rattle.std.specs.Prelude.{◌≡◌, ℕ, IfOk, IfErr, length};
+ghost use Rattle.std.specs.Prelude.{◌≡◌, ◌≤◌, ℕ, IfOk, IfErr, length};
+ghost use Rattle.stable.specs.Usage.{failing_in};
 ghost use Rattle.tc_core.specs.Kept.{IsTc};
 ghost use Rattle.tc_core.specs.Opened.{crashed, IsOpenedAgain};
 ghost use Rattle.logical_log.specs.Opening.{UsedToOpen};
@@ -83,6 +84,14 @@ impl<D: CrashLog> StoppedTc<D> {
                 })
             }
         }
+    }
+
+    /// The `n`-th call of the device from now fails.
+    pub fn fail_at(&mut self, n: u64)
+        requires { 1 ≤ n }
+        ensures { self.new ≡ used_so self.old (failing_in n self.old.usage) }
+    {
+        self.device.fail_at(n);
     }
 
     pub fn kept(&self)

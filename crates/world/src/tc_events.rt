@@ -43,6 +43,7 @@ impl<D: CrashLog> TransactionComponent<D> {
             Event::Checkpoint => self.checkpoint(next, request),
             Event::Tell => self.tell(next, request),
             Event::Reply { .. } => self.unsent(),
+            Event::FailTc { call } => self.fail(*call),
             _ => unreachable!(),
         }
     }
@@ -272,6 +273,21 @@ impl<D: CrashLog> TransactionComponent<D> {
             TransactionComponent::Up(_) => Out::Refused(Refusal::Unsent),
             TransactionComponent::Down(_) => Out::Refused(Refusal::NotConnected),
         }
+    }
+
+    /// A failure of its device is set.
+    #[inline(never)]
+    fn fail(&mut self, call: u64) -> Out
+        ensures { TcCalls (tc_of self.old) (Event.FailTc call) result (tc_of self.new) }
+    {
+        if call == 0 {
+            return Out::Nothing;
+        }
+        match self {
+            TransactionComponent::Up(tc) => tc.fail_at(call),
+            TransactionComponent::Down(stopped) => stopped.fail_at(call),
+        }
+        Out::Set
     }
 
     /// Its crash, as an event.

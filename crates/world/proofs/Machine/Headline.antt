@@ -11,9 +11,13 @@ use Rattle.record_key.specs.Order.{ends_above}
 use Rattle.record_key.specs.Table.{Bytes}
 use Rattle.page.specs.Leaf.{LeafView, first}
 use Rattle.recovery_laws.specs.Ready.{IsHonestTo}
+use Rattle.system_txn.specs.declared.devices.Device.{Device}
+use Rattle.system_txn.specs.declared.devices.Device.TheVariants as device
+use Rattle.system_txn.specs.SystemView.{failing_at}
 use Rattle.system_txn.specs.Devices.{pages_of}
 use Rattle.system_txn.specs.Crashed.{crashed}
 use Rattle.system_txn.proofs.Recoverable.{recoverable_fresh}
+use Rattle.dc_core.specs.Serves.{with_system}
 use Rattle.dc_core.specs.Restarting.{restarted}
 use Rattle.dc_core.proofs.Recoverable.{recoverable_served}
 use Rattle.dc_core.proofs.Checked.{checked_served, fresh_checked}
@@ -35,7 +39,7 @@ use Rattle.world.specs.declared.event.Event.{Event}
 use Rattle.world.specs.declared.event.Event.TheVariants as event
 use Rattle.world.specs.declared.event.Out.{Out}
 use Rattle.world.specs.declared.event.Out.TheVariants as out
-use Rattle.world.specs.Node.{NodeView, with_dc, StepsTo, IfUp, IfTcUp, IfDcUp, down_refusal, ServesTo, Served, PartsTo, JoinsTo, KeepsUpTo, WritesTo, CrashesDcTo, RestartsDcTo, fresh_node}
+use Rattle.world.specs.Node.{NodeView, with_dc, StepsTo, IfUp, IfTcUp, IfDcUp, down_refusal, ServesTo, Served, PartsTo, JoinsTo, KeepsUpTo, WritesTo, CrashesDcTo, RestartsDcTo, FailsDcTo, fresh_node}
 use Rattle.world.specs.Stepping.{IsStep, Chain}
 use Rattle.world.specs.Kept.{IsKept, IsSent, IsAnsweredTo}
 use Rattle.world.specs.Source.{own}
@@ -50,7 +54,7 @@ use Rattle.world.proofs.Invariant.Keeps.{with_reply}
 use Rattle.world.proofs.Machine.Follows.{Follows, at_new, no_line, unchanged, follows_begin, follows_act, follows_get, follows_scan, follows_save, follows_go_back, follows_rollback, follows_commit, follows_undo, follows_force}
 use Rattle.world.proofs.Invariant.Sends.{follows_reconnect, follows_recover, follows_send, follows_low_water, follows_checkpoint, follows_tell}
 use Rattle.world.proofs.Machine.Replies.{follows_reply}
-use Rattle.world.proofs.Restarts.TcCrashes.{follows_tc_crash, follows_tc_restart}
+use Rattle.world.proofs.Restarts.TcCrashes.{follows_tc_crash, follows_tc_restart, follows_tc_fail}
 
 -- a request reaches the data component
 sent_there : (old : NodeView) (i : ℕ) (given : Result (Option Reply) Refusal) (dc : DcView) (k : IsKept old)
@@ -204,6 +208,33 @@ follows_restart old new (out.Refused r) k is h =
     })
 follows_restart old new _ k is h = absurd h
 
+-- a failure is set
+sets : (old new : NodeView) (device : Device) (call : ℕ) (dc : DcView) → IsKept old → IsDc new.dc
+    → dc ≡ dc_used old.dc dc.system.log_usage dc.system.page_usage → new ≡ with_dc old dc
+    → Follows old (event.FailDc device call) out.Set new
+sets old new device call dc k is used same =
+    let is_dc : IsDc (dc_used old.dc dc.system.log_usage dc.system.page_usage) =
+    subst IsDc (ap (λ (w : NodeView). w.dc) same ∙ used) is in
+    at_new old new (with_dc old (dc_used old.dc dc.system.log_usage dc.system.page_usage)) (event.FailDc device call)
+    out.Set (same ∙ ap (with_dc old) used) (record {
+      leads = no_line old (with_dc old (dc_used old.dc dc.system.log_usage dc.system.page_usage))
+          (event.FailDc device call) out.Set refl (λ m stands. stands);
+      kept = used_keeps old dc.system.log_usage dc.system.page_usage k is_dc;
+    })
+
+follows_fail : (old new : NodeView) (device : Device) (call : ℕ) (output : Out) → IsKept old → IsDc new.dc
+    → FailsDcTo old device call output new → Follows old (event.FailDc device call) output new
+follows_fail old new device.Log call out.Set k is h =
+    sets old new device.Log call (with_system old.dc (failing_at device.Log call old.dc.system)) k is refl
+    (h.1 ∙ ap (λ (s : DcSide). record old { dc_up = s.up; dc = s.dc }) h.0.1)
+follows_fail old new device.Pages call out.Set k is h =
+    sets old new device.Pages call (with_system old.dc (failing_at device.Pages call old.dc.system)) k is refl
+    (h.1 ∙ ap (λ (s : DcSide). record old { dc_up = s.up; dc = s.dc }) h.0.1)
+follows_fail old new device call out.Nothing k is h =
+    unchanged old new (event.FailDc device call) out.Nothing k
+    (h.1 ∙ ap (λ (s : DcSide). record old { dc_up = s.up; dc = s.dc }) h.0.1) refl
+follows_fail old new device call _ k is h = absurd h
+
 pub follows : (old new : NodeView) (e : Event) (output : Out) → IsKept old → IsTc new.tc → IsDc new.dc
     → StepsTo old e output new → Follows old e output new
 follows old new event.Reconnect output k tc is h =
@@ -256,6 +287,8 @@ follows old new (event.CrashTc frames bytes) output k tc is h = follows_tc_crash
 follows old new event.RestartTc output k tc is h = follows_tc_restart old new output k tc h
 follows old new (event.CrashDc frames bytes) output k tc is h = follows_crash old new frames bytes output k h
 follows old new event.RestartDc output k tc is h = follows_restart old new output k is h
+follows old new (event.FailTc call) output k tc is h = follows_tc_fail old new call output k h
+follows old new (event.FailDc device call) output k tc is h = follows_fail old new device call output k is h
 
 -- a new node
 first_honest : IsHonestTo [] 0 first

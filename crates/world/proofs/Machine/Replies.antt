@@ -491,4 +491,5 @@ follows_reply old new i out.RollingBack k h = taken old new i out.RollingBack k 
 follows_reply old new i out.Nothing k h = taken old new i out.Nothing k h
 follows_reply old new i out.Noted k h = taken old new i out.Noted k h
 follows_reply old new i out.Down k h = taken old new i out.Down k h
+follows_reply old new i out.Set k h = taken old new i out.Set k h
 follows_reply old new i (out.Up count) k h = taken old new i (out.Up count) k h

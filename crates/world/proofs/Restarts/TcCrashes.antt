@@ -31,7 +31,8 @@ use Rattle.tc_core.proofs.Losers.{listed_loser, loser_listed}
 use Rattle.world.specs.Component.{TcSide}
 use Rattle.world.specs.Fallen.{IsFallen}
 use Rattle.world.specs.Kept.{IsKept}
-use Rattle.world.specs.Node.{NodeView, with_tc, CrashesTcTo, RestartsTcTo}
+use Rattle.stable.specs.Usage.{failing_in}
+use Rattle.world.specs.Node.{NodeView, with_tc, CrashesTcTo, RestartsTcTo, FailsTcTo}
 use Rattle.world.specs.Simulation.{clients}
 use Rattle.world.specs.declared.event.Event.TheVariants as event
 use Rattle.world.specs.declared.event.Out.{Out}
@@ -196,3 +197,21 @@ follows_tc_restart old new (out.Refused r) k is h =
       kept = keeps_up (with_tc old tc) false old.dc_up (kept_left old (with_tc old tc) k refl left);
     })
 follows_tc_restart old new _ k is h = absurd h
+
+-- ---- a failure that is set
+
+pub follows_tc_fail : (old new : NodeView) (call : ℕ) (output : Out) → IsKept old → FailsTcTo old call output new
+    → Follows old (event.FailTc call) output new
+follows_tc_fail old new call out.Set k h =
+    let tc : TcView = used_so old.tc (failing_in call old.tc.usage) in
+    let left : IsLeft old.tc tc = (failing_in call old.tc.usage, refl) in
+    let same : new ≡ with_tc old tc = h.1 ∙ ap (λ (s : TcSide). record old { tc_up = s.up; tc = s.tc }) h.0.1 in
+    at_new old new (with_tc old tc) (event.FailTc call) out.Set same (record {
+      leads = no_line old (with_tc old tc) (event.FailTc call) out.Set refl
+          (λ m stands. stands_left old.tc tc m left stands);
+      kept = kept_left old (with_tc old tc) k refl left;
+    })
+follows_tc_fail old new call out.Nothing k h =
+    unchanged old new (event.FailTc call) out.Nothing k
+    (h.1 ∙ ap (λ (s : TcSide). record old { tc_up = s.up; tc = s.tc }) h.0.1) refl
+follows_tc_fail old new call _ k h = absurd h

@@ -107,6 +107,7 @@ took w tc q dc reply (out.Undone n) new h d = taken_last w tc q dc reply (out.Un
 took w tc q dc reply (out.CheckpointLogged n) new h d = taken_last w tc q dc reply (out.CheckpointLogged n) new h
 took w tc q dc reply (out.Lost n) new h d = taken_last w tc q dc reply (out.Lost n) new h
 took w tc q dc reply out.Down new h d = taken_last w tc q dc reply out.Down new h
+took w tc q dc reply out.Set new h d = taken_last w tc q dc reply out.Set new h
 took w tc q dc reply (out.Up count) new h d = taken_last w tc q dc reply (out.Up count) new h
 
 -- these requests have replies

@@ -35,6 +35,7 @@ done_if (out.Sent n) h = tt
 done_if (out.Replied n) h = tt
 done_if out.Noted h = tt
 done_if out.Down h = tt
+done_if out.Set h = tt
 done_if (out.Up n) h = tt
 done_if (out.Connected n) h = tt
 done_if (out.RedoEnded n) h = tt
