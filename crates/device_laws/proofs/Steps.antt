@@ -31,11 +31,12 @@ use Rattle.world.specs.declared.event.Event.TheVariants as event
 use Rattle.world.specs.declared.event.Out.{Out}
 use Rattle.world.specs.declared.event.Out.TheVariants as out
 use Rattle.world.specs.declared.round.Round.{Round}
+use Rattle.world.specs.declared.round.Round.TheVariants as round
 use Rattle.world.specs.Component.{TcSide, DcSide}
 use Rattle.world.specs.Node.{NodeView, with_tc, with_dc, Calls, IfUp, down_refusal, ReconnectsTo, RecoversTo, BeginsTo, ActsTo, ReadsTo, SavesTo, GoesBackTo, RollsBackTo, CommitsTo, UndoesTo, ForcesTo, SendsTo, LowersTo, AsksCheckpoint, TellsTo, PartsTo, JoinsTo, KeepsUpTo, WritesTo, ServesTo, TakesTo, Taken, as_out, is_replied_to, IsUnsent, Unreplied, Unread, CrashesTcTo, RestartsTcTo, CrashesDcTo, RestartsDcTo, StepsTo, fresh_node}
 use Rattle.world.specs.Stepping.{IsStep, Chain}
 use Rattle.world.specs.Rounds.{Plays, StopsAt, Rounds, events_of, Settles}
-use Rattle.device_laws.specs.Sound.{IsSound, HasSoundDevices, SaysNoFailure}
+use Rattle.device_laws.specs.Sound.{IsSound, HasSoundDevices, SaysNoFailure, SetsNone}
 use Rattle.device_laws.proofs.Causes.{sound_called, not_due, is_device, other_some, refuses_other, room_other, spent_other, running_other, idle_other, begin_other, commit_other, save_other, back_other, read_other, reads_other, undo_other, resend_other, recover_other, reply_other, serve_other}
 use Rattle.device_laws.proofs.TcCalls.{Ends, sound_as, ends_refused, ends_taking, ends_reconnect, sound_undone, sound_sent, sound_replied, sound_opened, ends_opening}
 use Rattle.device_laws.proofs.DcCalls as dc
@@ -408,73 +409,88 @@ range_other low high = by (ends_above high low)
     by true = refl
     by false = refl
 
-safe : (old new : NodeView) (e : Event) (o : Out) → HasSoundDevices old → StepsTo old e o new → Safe new o
-safe old new event.Reconnect o s h = if_up old new old.tc_up NotConnected o _ s refl (reconnects old new o s) h
-safe old new event.Recover o s h = if_up old new old.tc_up NotConnected o _ s refl (recovers old new o s) h
-safe old new event.Begin o s h = if_up old new old.tc_up NotConnected o _ s refl (begins old new o s) h
-safe old new (event.Act t op) o s h = if_up old new old.tc_up NotConnected o _ s refl (acts old new t op o s) h
-safe old new (event.Get t k) o s h = if_up old new old.tc_up NotConnected o _ s refl (reads old new t (Key k) o s) h
-safe old new (event.Scan t low high) o s h =
+safe : (old new : NodeView) (e : Event) (o : Out) → HasSoundDevices old → SetsNone e → StepsTo old e o new
+    → Safe new o
+safe old new event.Reconnect o s none h = if_up old new old.tc_up NotConnected o _ s refl (reconnects old new o s) h
+safe old new event.Recover o s none h = if_up old new old.tc_up NotConnected o _ s refl (recovers old new o s) h
+safe old new event.Begin o s none h = if_up old new old.tc_up NotConnected o _ s refl (begins old new o s) h
+safe old new (event.Act t op) o s none h = if_up old new old.tc_up NotConnected o _ s refl (acts old new t op o s) h
+safe old new (event.Get t k) o s none h = if_up old new old.tc_up NotConnected o _ s refl (reads old new t (Key k) o s) h
+safe old new (event.Scan t low high) o s none h =
     if_up old new old.tc_up (down_refusal low high) o _ s (range_other low high)
     (reads old new t (Range low high) o s) h
-safe old new (event.Save t) o s h = if_up old new old.tc_up NotConnected o _ s refl (saves old new t o s) h
-safe old new (event.GoBack t p) o s h = if_up old new old.tc_up NotConnected o _ s refl (goes_back old new t p o s) h
-safe old new (event.Rollback t) o s h = if_up old new old.tc_up NotConnected o _ s refl (rolls_back old new t o s) h
-safe old new (event.Commit t) o s h = if_up old new old.tc_up NotConnected o _ s refl (commits old new t o s) h
-safe old new (event.Undo t) o s h = if_up old new old.tc_up NotConnected o _ s refl (undoes old new t o s) h
-safe old new event.Force o s h = if_up old new old.tc_up NotConnected o _ s refl (forces old new o s) h
-safe old new (event.Send t) o s h = if_up old new old.tc_up NotConnected o _ s refl (sends old new t o s) h
-safe old new (event.LowWater l) o s h = if_up old new old.tc_up NotConnected o _ s refl (lowers old new l o s) h
-safe old new event.Checkpoint o s h = if_up old new old.tc_up NotConnected o _ s refl (asks_checkpoint old new o s) h
-safe old new event.Tell o s h = if_up old new old.tc_up NotConnected o _ s refl (tells old new o s) h
-safe old new (event.Split k) o s h = if_up old new old.dc_up NotConnected o _ s refl (parts old new k o s) h
-safe old new (event.Merge k) o s h = if_up old new old.dc_up NotConnected o _ s refl (joins old new k o s) h
-safe old new event.Tend o s h = if_up old new old.dc_up NotConnected o _ s refl (keeps_up old new o s) h
-safe old new (event.Flush k) o s h = if_up old new old.dc_up NotConnected o _ s refl (writes old new k o s) h
-safe old new (event.Request i) o s h = if_up old new old.dc_up NotConnected o _ s refl (serves old new i o s) h
-safe old new (event.Reply i) o s h = if_up old new old.tc_up NotConnected o _ s refl (takes old new i o s) h
-safe old new (event.CrashTc frames bytes) o s h = crashes_tc old new frames bytes o s h
-safe old new event.RestartTc o s h = restarts_tc old new o s h
-safe old new (event.CrashDc frames bytes) o s h = crashes_dc old new frames bytes o s h
-safe old new event.RestartDc o s h = restarts_dc old new o s h
+safe old new (event.Save t) o s none h = if_up old new old.tc_up NotConnected o _ s refl (saves old new t o s) h
+safe old new (event.GoBack t p) o s none h = if_up old new old.tc_up NotConnected o _ s refl (goes_back old new t p o s) h
+safe old new (event.Rollback t) o s none h = if_up old new old.tc_up NotConnected o _ s refl (rolls_back old new t o s) h
+safe old new (event.Commit t) o s none h = if_up old new old.tc_up NotConnected o _ s refl (commits old new t o s) h
+safe old new (event.Undo t) o s none h = if_up old new old.tc_up NotConnected o _ s refl (undoes old new t o s) h
+safe old new event.Force o s none h = if_up old new old.tc_up NotConnected o _ s refl (forces old new o s) h
+safe old new (event.Send t) o s none h = if_up old new old.tc_up NotConnected o _ s refl (sends old new t o s) h
+safe old new (event.LowWater l) o s none h = if_up old new old.tc_up NotConnected o _ s refl (lowers old new l o s) h
+safe old new event.Checkpoint o s none h = if_up old new old.tc_up NotConnected o _ s refl (asks_checkpoint old new o s) h
+safe old new event.Tell o s none h = if_up old new old.tc_up NotConnected o _ s refl (tells old new o s) h
+safe old new (event.Split k) o s none h = if_up old new old.dc_up NotConnected o _ s refl (parts old new k o s) h
+safe old new (event.Merge k) o s none h = if_up old new old.dc_up NotConnected o _ s refl (joins old new k o s) h
+safe old new event.Tend o s none h = if_up old new old.dc_up NotConnected o _ s refl (keeps_up old new o s) h
+safe old new (event.Flush k) o s none h = if_up old new old.dc_up NotConnected o _ s refl (writes old new k o s) h
+safe old new (event.Request i) o s none h = if_up old new old.dc_up NotConnected o _ s refl (serves old new i o s) h
+safe old new (event.Reply i) o s none h = if_up old new old.tc_up NotConnected o _ s refl (takes old new i o s) h
+safe old new (event.CrashTc frames bytes) o s none h = crashes_tc old new frames bytes o s h
+safe old new event.RestartTc o s none h = restarts_tc old new o s h
+safe old new (event.CrashDc frames bytes) o s none h = crashes_dc old new frames bytes o s h
+safe old new event.RestartDc o s none h = restarts_dc old new o s h
+safe old new (event.FailTc call) o s none h = absurd (cc none)
+safe old new (event.FailDc device call) o s none h = absurd (cc none)
 
-pub steps_are_sound : (old new : NodeView) (e : Event) (o : Out) → HasSoundDevices old → IsStep old e o new
+pub steps_are_sound : (old new : NodeView) (e : Event) (o : Out) → HasSoundDevices old → SetsNone e → IsStep old e o new
     → HasSoundDevices new × SaysNoFailure o
-steps_are_sound old new e o s h = let x = safe old new e o s h.step in (x.devices, unsaid o x.quiet)
+steps_are_sound old new e o s none h = let x = safe old new e o s none h.step in (x.devices, unsaid o x.quiet)
 
 pub chains_are_sound : (old new : NodeView) (events : List Event) (outs : List Out) → HasSoundDevices old
-    → Chain old events outs new → HasSoundDevices new × AllByRecursion SaysNoFailure outs
-chains_are_sound old new [] [] s h = (subst HasSoundDevices (sym h) s, tt)
-chains_are_sound old new [] (o ∷ os) s h = absurd h
-chains_are_sound old new (e ∷ es) [] s h = absurd h
-chains_are_sound old new (e ∷ es) (o ∷ os) s h =
-    let first = steps_are_sound old h.0 e o s h.1 in
-    let rest = chains_are_sound h.0 new es os first.0 h.2 in
+    → AllByRecursion SetsNone events → Chain old events outs new
+    → HasSoundDevices new × AllByRecursion SaysNoFailure outs
+chains_are_sound old new [] [] s none h = (subst HasSoundDevices (sym h) s, tt)
+chains_are_sound old new [] (o ∷ os) s none h = absurd h
+chains_are_sound old new (e ∷ es) [] s none h = absurd h
+chains_are_sound old new (e ∷ es) (o ∷ os) s none h =
+    let first = steps_are_sound old h.0 e o s none.0 h.1 in
+    let rest = chains_are_sound h.0 new es os first.0 none.1 h.2 in
     (rest.0, (first.1, rest.1))
 
 -- ---- settling
 
+-- it sets no failure
+round_sets_none : (w : NodeView) (r : Round) → AllByRecursion SetsNone (events_of w r)
+round_sets_none w round.RestartDc = (refl, tt)
+round_sets_none w round.RestartTc = (refl, tt)
+round_sets_none w round.Connect = (refl, (refl, (refl, tt)))
+round_sets_none w round.Recover = (refl, (refl, (refl, tt)))
+round_sets_none w round.Lose = (refl, tt)
+round_sets_none w (round.Exchange t) = (refl, (refl, (refl, tt)))
+round_sets_none w (round.Undo t) = (refl, tt)
+round_sets_none w round.Force = (refl, tt)
+
 plays_soundly : (old new : NodeView) (events : List Event) (outs : List Out) → HasSoundDevices old
-    → Plays old events outs new → HasSoundDevices new
-plays_soundly old new [] [] s h = subst HasSoundDevices (sym h) s
-plays_soundly old new [] (o ∷ os) s h = absurd h
-plays_soundly old new (e ∷ es) [] s h = absurd h
-plays_soundly old new (e ∷ es) (o ∷ os) s h =
-    plays_soundly h.0 new es os (steps_are_sound old h.0 e o s h.1).0 h.3
+    → AllByRecursion SetsNone events → Plays old events outs new → HasSoundDevices new
+plays_soundly old new [] [] s none h = subst HasSoundDevices (sym h) s
+plays_soundly old new [] (o ∷ os) s none h = absurd h
+plays_soundly old new (e ∷ es) [] s none h = absurd h
+plays_soundly old new (e ∷ es) (o ∷ os) s none h =
+    plays_soundly h.0 new es os (steps_are_sound old h.0 e o s none.0 h.1).0 none.1 h.3
 
 rounds_are_sound : (old new : NodeView) (rounds : List Round) (outs : List Out) → HasSoundDevices old
     → Rounds old rounds outs new → HasSoundDevices new
 rounds_are_sound old new [] outs s h = subst HasSoundDevices (sym h.1) s
 rounds_are_sound old new (r ∷ rs) outs s h =
-    rounds_are_sound h.0 new rs h.2 (plays_soundly old h.0 (events_of old r) h.1 s h.5) h.6
+    rounds_are_sound h.0 new rs h.2 (plays_soundly old h.0 (events_of old r) h.1 s (round_sets_none old r) h.5) h.6
 
 stops_soundly : (old new : NodeView) (events : List Event) (outs : List Out) (r : Refusal) → HasSoundDevices old
-    → StopsAt old events outs r new → Safe new (out.Refused r)
-stops_soundly old new [] outs r s h = absurd h
-stops_soundly old new (e ∷ es) [] r s (inl h) = unchanged old new (out.Refused r) s h.1 (ap is_device h.0)
-stops_soundly old new (e ∷ es) [] r s (inr h) = safe old new e (out.Refused r) s h.step
-stops_soundly old new (e ∷ es) (o ∷ os) r s h =
-    stops_soundly h.0 new es os r (steps_are_sound old h.0 e o s h.1).0 h.3
+    → AllByRecursion SetsNone events → StopsAt old events outs r new → Safe new (out.Refused r)
+stops_soundly old new [] outs r s none h = absurd h
+stops_soundly old new (e ∷ es) [] r s none (inl h) = unchanged old new (out.Refused r) s h.1 (ap is_device h.0)
+stops_soundly old new (e ∷ es) [] r s none (inr h) = safe old new e (out.Refused r) s none.0 h.step
+stops_soundly old new (e ∷ es) (o ∷ os) r s none h =
+    stops_soundly h.0 new es os r (steps_are_sound old h.0 e o s none.0 h.1).0 none.1 h.3
 
 pub settles_soundly : (old new : NodeView) (most : Option ℕ) (before after : List Out) (result : Result Bool Refusal)
     → HasSoundDevices old → Settles old most before after result new → HasSoundDevices new × (result ≢ Err Device)
@@ -485,7 +501,8 @@ settles_soundly old new most before after (Ok false) s h =
 settles_soundly old new most before after (Err r) s h =
     let b = h.0 in
     let last = rounds_are_sound old b.last b.rounds.rounds b.rounds.outs s b.rounds.played in
-    let x = stops_soundly b.last new (events_of b.last b.round) b.stopped.outs r last b.stopped.stops in
+    let x = stops_soundly b.last new (events_of b.last b.round) b.stopped.outs r last (round_sets_none b.last b.round)
+    b.stopped.stops in
     (x.devices, λ is. unsaid (out.Refused r) x.quiet (ap as_refused is))
   where
     as_refused : Result Bool Refusal → Out

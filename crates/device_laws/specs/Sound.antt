@@ -1,10 +1,11 @@
 -- Devices that don't fail, and what a node never answers that stands on them.
-use Rattle.std.specs.Prelude.{◌≡◌, ◌≢◌, ℕ, Bool, false, List, Option, None, Result, Err}
+use Rattle.std.specs.Prelude.{◌≡◌, ◌≢◌, ℕ, Bool, true, false, List, Option, None, Result, Err}
 use Rattle.std.specs.List.{AllByRecursion}
 use Rattle.record_key.specs.declared.refusal.Refusal.{Refusal}
 use Rattle.record_key.specs.declared.refusal.Refusal.TheVariants.{Device}
 use Rattle.stable.specs.Usage.{Usage}
 use Rattle.world.specs.declared.event.Event.{Event}
+use Rattle.world.specs.declared.event.Event.TheVariants as event
 use Rattle.world.specs.declared.event.Out.{Out}
 use Rattle.world.specs.declared.event.Out.TheVariants as out
 use Rattle.world.specs.Node.{NodeView, fresh_node}
@@ -26,13 +27,23 @@ pub record HasSoundDevices (w : NodeView) : Type 0 where
 abbrev pub SaysNoFailure : Out → Type 0
 SaysNoFailure o = o ≢ out.Refused Device
 
--- a new node's devices are sound; no event of a node with sound devices says that one failed, and no `settle`; and they
--- stay sound
+-- an event that sets no failure
+abbrev pub sets_failure : Event → Bool
+sets_failure (event.FailTc call) = true
+sets_failure (event.FailDc device call) = true
+sets_failure _ = false
+
+abbrev pub SetsNone : Event → Type 0
+SetsNone e = sets_failure e ≡ false
+
+-- a new node's devices are sound; while no event sets a failure, none of a node with sound devices says that one failed,
+-- and no `settle`; and they stay sound
 pub record DeviceLaw : Type 0 where
   pub fresh : HasSoundDevices fresh_node
-  pub step : (old new : NodeView) (e : Event) (o : Out) → HasSoundDevices old → IsStep old e o new
+  pub step : (old new : NodeView) (e : Event) (o : Out) → HasSoundDevices old → SetsNone e → IsStep old e o new
       → HasSoundDevices new × SaysNoFailure o
   pub run : (old new : NodeView) (events : List Event) (outs : List Out) → HasSoundDevices old
-      → Chain old events outs new → HasSoundDevices new × AllByRecursion SaysNoFailure outs
+      → AllByRecursion SetsNone events → Chain old events outs new
+      → HasSoundDevices new × AllByRecursion SaysNoFailure outs
   pub settle : (old new : NodeView) (most : Option ℕ) (before after : List Out) (result : Result Bool Refusal)
       → HasSoundDevices old → Settles old most before after result new → HasSoundDevices new × (result ≢ Err Device)

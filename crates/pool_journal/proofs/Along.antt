@@ -111,6 +111,8 @@ reply_brought before since (event.CrashTc frames bytes) reply h b = b
 reply_brought before since event.RestartTc reply h b = b
 reply_brought before since (event.CrashDc frames bytes) reply h b = b
 reply_brought before since event.RestartDc reply h b = b
+reply_brought before since (event.FailTc call) reply h b = b
+reply_brought before since (event.FailDc device call) reply h b = b
 
 request_brought : (before since : List Step) (e : Event) (request : Option Request) → HandsRequest e request
     → BringsRequest (requests before) e request → BringsRequest (requests (before ++ since)) e request
@@ -141,6 +143,8 @@ request_brought before since (event.CrashTc frames bytes) request h b = b
 request_brought before since event.RestartTc request h b = b
 request_brought before since (event.CrashDc frames bytes) request h b = b
 request_brought before since event.RestartDc request h b = b
+request_brought before since (event.FailTc call) request h b = b
+request_brought before since (event.FailDc device call) request h b = b
 
 pub tc_entered : (before now : List Step) (e : Step) (n : TcState) → is_tc e ≡ true → Sees is_tc before now
     → EntersTc before e n → GivesTc (now ++ e ∷ []) n

@@ -51,6 +51,8 @@ quiet (event.CrashTc frames bytes) o is = absurd (cc (is))
 quiet event.RestartTc o is = absurd (cc (is))
 quiet (event.CrashDc frames bytes) o is = refl
 quiet event.RestartDc o is = refl
+quiet (event.FailTc call) o is = absurd (cc (is))
+quiet (event.FailDc device call) o is = refl
 
 quiet_all : (low : ℕ) (es : List Step) → AllByRecursion (λ e. is_tc e ≡ false) es → announced_after low es ≡ low
 quiet_all low [] n = refl
@@ -117,6 +119,7 @@ sent_is old new sent l (out.Flushed n) request leads = inl refl
 sent_is old new sent l (out.Lost u) request leads = inl refl
 sent_is old new sent l out.Down request leads = inl refl
 sent_is old new sent l (out.Up n) request leads = inl refl
+sent_is old new sent l out.Set request leads = inl refl
 sent_is old new sent l (out.Refused r) request leads = inl refl
 
 pub low_is : (old new : TcSide) (sent : ℕ) (e : Event) (o : Out) (request : Option Request)
@@ -147,3 +150,5 @@ low_is old new sent (event.CrashTc frames bytes) o request leads = inl refl
 low_is old new sent event.RestartTc o request leads = inl refl
 low_is old new sent (event.CrashDc frames bytes) o request leads = inl refl
 low_is old new sent event.RestartDc o request leads = inl refl
+low_is old new sent (event.FailTc call) o request leads = inl refl
+low_is old new sent (event.FailDc device call) o request leads = inl refl

@@ -55,6 +55,8 @@ alone (event.CrashTc frames bytes) is = alone_so (event.CrashTc frames bytes) (�
 alone event.RestartTc is = alone_so event.RestartTc (λ ps. refl) tt (λ qs. refl) tt
 alone (event.CrashDc frames bytes) is = alone_so (event.CrashDc frames bytes) (λ ps. refl) tt (λ qs. refl) tt
 alone event.RestartDc is = alone_so event.RestartDc (λ ps. refl) tt (λ qs. refl) tt
+alone (event.FailTc call) is = alone_so (event.FailTc call) (λ ps. refl) tt (λ qs. refl) tt
+alone (event.FailDc device call) is = alone_so (event.FailDc device call) (λ ps. refl) tt (λ qs. refl) tt
 
 -- ---- the transaction component
 

@@ -33,7 +33,7 @@ use Rattle.world.specs.declared.event.Event.TheVariants as event
 use Rattle.world.specs.declared.event.Out.{Out}
 use Rattle.world.specs.declared.event.Out.TheVariants as out
 use Rattle.world.specs.Component.{TcSide, DcSide, Keeps, tc_size}
-use Rattle.world.specs.Node.{NodeView, ReconnectsTo, RecoversTo, BeginsTo, ActsTo, ReadsTo, SavesTo, GoesBackTo, RollsBackTo, CommitsTo, UndoesTo, ForcesTo, SendsTo, LowersTo, AsksCheckpoint, TellsTo, CrashesTcTo, RestartsTcTo, Taken, TakesTo, IfUp, IfTcUp, down_refusal, StepsTo}
+use Rattle.world.specs.Node.{NodeView, ReconnectsTo, RecoversTo, BeginsTo, ActsTo, ReadsTo, SavesTo, GoesBackTo, RollsBackTo, CommitsTo, UndoesTo, ForcesTo, SendsTo, LowersTo, AsksCheckpoint, TellsTo, CrashesTcTo, FailsTcTo, RestartsTcTo, Taken, TakesTo, IfUp, IfTcUp, down_refusal, StepsTo}
 use Rattle.world.specs.Halves.{of_tc, node_of, also, IsNextNumber, BringsReply, TcLeads}
 
 -- ---- the component's calls
@@ -249,6 +249,11 @@ restarts old new out.Nothing k h = tc_stays old new old.tc (ap (λ (s : TcSide).
 restarts old new (out.Refused r) k h = tc_stays old new _ (ap (λ (s : TcSide). s.tc) h.0.2) refl
 restarts old new _ k h = absurd h
 
+fails : (old new : NodeView) (call : ℕ) (o : Out) → FailsTcTo old call o new → Rises old new
+fails old new call out.Set h = tc_stays old new _ (ap (λ (s : TcSide). s.tc) h.0.1) refl
+fails old new call out.Nothing h = tc_stays old new old.tc (ap (λ (s : TcSide). s.tc) h.0.1) refl
+fails old new call _ h = absurd h
+
 -- where it doesn't run all is as it was
 if_up : (old new : NodeView) (up : Bool) (r : Refusal) (o : Out) (Does : Type 0) → (Does → Rises old new)
     → IfUp up r old o new Does → Rises old new
@@ -280,6 +285,7 @@ rises old new event.Tell o k is h = if_tc_up old new o _ (tells old new o) h
 rises old new (event.Reply i) o k is h = if_tc_up old new o _ (replied old new i o) h
 rises old new (event.CrashTc frames bytes) o k is h = crashes old new frames bytes o h
 rises old new event.RestartTc o k is h = restarts old new o k h
+rises old new (event.FailTc call) o k is h = fails old new call o h
 rises old new _ o k is h = absurd (true≢false (sym is))
 
 -- what is announced is stable, and the component runs
