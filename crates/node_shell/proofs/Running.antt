@@ -1,5 +1,6 @@
 -- One line after another.
-use Rattle.std.proofs.Common.{◌≡◌, ◌⊎◌, ℕ, Bool, true, false, not, List, [], ◌++◌, Option, Some, None, inl, inr, sym, subst, refl, append_assoc, append-nil}
+use Rattle.std.proofs.Common.{◌≡◌, ◌⊎◌, ℕ, Bool, true, false, not, List, [], ◌++◌, ◌||◌, Option, Some, None, Result, Ok, Err, inl, inr, sym, subst, refl, append_assoc, append-nil}
+use Rattle.std.specs.Prelude.{◌&&◌}
 use Rattle.std.specs.Io.KnownBytes.{Appends}
 use Rattle.record_key.specs.declared.refusal.Refusal.{Refusal}
 use Rattle.record_key.specs.declared.refusal.Refusal.TheVariants as refusal
@@ -8,80 +9,138 @@ use Rattle.node_shell.specs.declared.line_result.LineResult.{LineResult}
 use Rattle.node_shell.specs.Labels.{Bindings}
 use Rattle.node_shell.specs.Script.{Command, onto, first_fault, commands_of, lines_of}
 use Rattle.node_shell.specs.Printed.{IsCut, refusal_line}
-use Rattle.node_shell.specs.Text.{ComesTo, Runs, goes_on, fails, is_cut, done, Shows, ends_run, result_text, WritesLine, WritesRun, WritesLines, WritesAlone, WritesText, IsAlone, IsAllOf, IsTextAfterCheck}
+use Rattle.node_shell.specs.Text.{ComesTo, Runs, goes_on, fails, is_cut, done, has_failed, status_after, result_text, WritesLine, WritesRun, WritesLines, WritesAlone, WritesText, IsAlone, IsAllOf, IsTextAfterCheck}
 use Rattle.node_shell.proofs.Printing.{appends_then}
 use Rattle.node_shell.proofs.Telling.{told_run}
 
-pub shows_by : (e : Bool) (r : LineResult) (view : NodeView) (old new : Option (List ℕ)) → e ≡ ends_run r
-    → Appends old new (result_text r view) → Shows (not e) r view old new
-shows_by true r view old new e h = inl (h, sym e)
-shows_by false r view old new e h = (h, sym e)
+-- no line
+pub no_line : {E : Type 0} (view : NodeView) (labels : Bindings) (old new : Option (List ℕ)) → Appends old new []
+    → WritesLine {E = E} (Ok false) None view labels view labels old new
+no_line view labels old new same = record {
+  said = [];
+  appended = same;
+  runs = λ continues. record { goes_on = λ may cs text status k. k; ends = λ failed over cs. absurd (cc failed) };
+}
 
--- a result that was shown is what its line writes
-pub shows_line : (going : Bool) (o : Option Command) (c : Command) (view : NodeView) (labels : Bindings)
-    (r : LineResult)
+-- a line whose text was written
+pub written_line : {E : Type 0} (o : Option Command) (c : Command) (view : NodeView) (labels : Bindings) (r : LineResult)
     (after : NodeView) (next : Bindings) (old new : Option (List ℕ))
-    → o ≡ Some c → ComesTo c view labels r after next → Shows going r after old new
-    → WritesLine going o view labels after next old new
-shows_line true o c view labels r after next old new e replies h = record {
+    → o ≡ Some c → ComesTo c view labels r after next → Appends old new (result_text r after)
+    → WritesLine {E = E} (Ok (has_failed r)) o view labels after next old new
+written_line o c view labels r after next old new e came h = record {
   said = result_text r after;
-  appended = h.0;
-  runs = λ cs text status k. let P : Option Command → Type 0 =
-      λ q. Runs (onto q cs) view labels (result_text r after ++ text) status in
-      subst P (sym e) (goes_on c cs view labels r after next text status replies h.1 k);
+  appended = h;
+  runs = λ continues. record {
+    goes_on = λ may cs text status k. let P : Option Command → Type 0 =
+        λ q. Runs continues (onto q cs) view labels (result_text r after ++ text) (status_after (has_failed r) status)
+        in
+        subst P (sym e) (goes_on c cs view labels r after next text status came may k);
+    ends = λ failed over cs. let P : Option Command → Type 0 =
+        λ q. Runs continues (onto q cs) view labels (result_text r after) 3 in
+        subst P (sym e) (fails c cs view labels r after next came failed over);
+  };
 }
-shows_line false o c view labels r after next old new e replies (inl h) = record {
-  said = result_text r after;
-  appended = h.0;
-  runs = λ cs. let P : Option Command → Type 0 = λ q. Runs (onto q cs) view labels (result_text r after) 3 in
-      subst P (sym e) (fails c cs view labels r after next replies h.1);
-}
-shows_line false o c view labels r after next old new e replies (inr h) = record {
+
+-- a line whose text was cut
+pub cut_line : {E : Type 0} (error : E) (o : Option Command) (c : Command) (view : NodeView) (labels : Bindings)
+    (r : LineResult) (after : NodeView) (next : Bindings) (old new : Option (List ℕ))
+    → o ≡ Some c → ComesTo c view labels r after next → IsCut old new (result_text r after)
+    → WritesLine (Err error) o view labels after next old new
+cut_line error o c view labels r after next old new e came h = record {
   said = h.written;
   appended = h.appended;
-  runs = λ cs. let P : Option Command → Type 0 = λ q. Runs (onto q cs) view labels h.written 3 in
-      subst P (sym e) (is_cut c cs view labels r after next h.written replies (h.left, h.beginning));
+  runs = λ continues cs. let P : Option Command → Type 0 = λ q. Runs continues (onto q cs) view labels h.written 3 in
+      subst P (sym e) (is_cut c cs view labels r after next h.written came (h.left, h.beginning));
 }
 
--- what is written so far, before what these lines write, is what all lines write
-abbrev pub GoesOn : List Command → NodeView → Bindings → List ℕ → List Command → NodeView → Bindings → Type 0
-GoesOn all first start so_far left view labels =
-    (text : List ℕ) (status : ℕ) → Runs left view labels text status → Runs all first start (so_far ++ text) status
+-- what is written so far, before what these lines write, is what all lines write; whether one failed so far decides of
+-- the exit status
+abbrev pub GoesOn : Bool → List Command → NodeView → Bindings → List ℕ → Bool → List Command → NodeView → Bindings
+    → Type 0
+GoesOn continues all first start so_far failed left view labels =
+    (text : List ℕ) (status : ℕ) → Runs continues left view labels text status
+    → Runs continues all first start (so_far ++ text) (status_after failed status)
+
+both_failed : (before now : Bool) (status : ℕ)
+    → status_after before (status_after now status) ≡ status_after (before || now) status
+both_failed true now status = refl
+both_failed false now status = refl
+
+failed_anyway : (before : Bool) → status_after before 3 ≡ 3
+failed_anyway true = refl
+failed_anyway false = refl
 
 -- the run ends with this line
-pub line_stops : (all : List Command) (first : NodeView) (start : Bindings) (so_far : List ℕ) (left : List Command)
-    (view : NodeView) (labels : Bindings) (o : Option Command) (rest : List Command) (after : NodeView)
-    (next : Bindings) (a b c : Option (List ℕ))
-    → left ≡ onto o rest → GoesOn all first start so_far left view labels → Appends a b so_far
-    → WritesLine false o view labels after next b c → WritesRun all first start a c 3
-line_stops all first start so_far left view labels o rest after next a b c e carry before line =
-    let P : List Command → Type 0 = λ cs. Runs cs view labels line.said 3 in
+ends_here : (continues : Bool) (all : List Command) (first : NodeView) (start : Bindings) (so_far : List ℕ)
+    (failed : Bool) (left : List Command) (view : NodeView) (labels : Bindings) (said : List ℕ)
+    (a b c : Option (List ℕ))
+    → GoesOn continues all first start so_far failed left view labels → Appends a b so_far → Appends b c said
+    → Runs continues left view labels said 3 → WritesRun continues all first start a c 3
+ends_here continues all first start so_far failed left view labels said a b c carry before appended runs =
     record {
-      text = so_far ++ line.said;
-      appended = appends_then a b c so_far line.said before line.appended;
-      runs = carry line.said 3 (subst P (sym e) (line.runs rest));
+      text = so_far ++ said;
+      appended = appends_then a b c so_far said before appended;
+      runs = subst (Runs continues all first start (so_far ++ said)) (failed_anyway failed) (carry said 3 runs);
     }
 
+-- a write failed in it
+pub line_cut : {E : Type 0} (continues : Bool) (all : List Command) (first : NodeView) (start : Bindings) (so_far : List ℕ)
+    (failed : Bool) (left : List Command) (view : NodeView) (labels : Bindings) (error : E) (o : Option Command)
+    (rest : List Command) (after : NodeView) (next : Bindings) (a b c : Option (List ℕ))
+    → left ≡ onto o rest → GoesOn continues all first start so_far failed left view labels → Appends a b so_far
+    → WritesLine (Err error) o view labels after next b c → WritesRun continues all first start a c 3
+line_cut continues all first start so_far failed left view labels error o rest after next a b c e carry before line =
+    let P : List Command → Type 0 = λ cs. Runs continues cs view labels line.said 3 in
+    ends_here continues all first start so_far failed left view labels line.said a b c carry before line.appended
+    (subst P (sym e) (line.runs continues rest))
+
+-- memory or a device failed in it, and the run doesn't continue
+pub line_fails : {E : Type 0} (continues : Bool) (all : List Command) (first : NodeView) (start : Bindings) (so_far : List ℕ)
+    (failed : Bool) (left : List Command) (view : NodeView) (labels : Bindings) (now : Bool) (o : Option Command)
+    (rest : List Command) (after : NodeView) (next : Bindings) (a b c : Option (List ℕ))
+    → left ≡ onto o rest → GoesOn continues all first start so_far failed left view labels → Appends a b so_far
+    → WritesLine {E = E} (Ok now) o view labels after next b c → (now && not continues) ≡ true
+    → WritesRun continues all first start a c 3
+line_fails continues all first start so_far failed left view labels now o rest after next a b c e carry before line is =
+    let both = and_both now continues is in
+    let P : List Command → Type 0 = λ cs. Runs continues cs view labels line.said 3 in
+    ends_here continues all first start so_far failed left view labels line.said a b c carry before line.appended
+    (subst P (sym e) ((line.runs continues).ends both.0 both.1 rest))
+  where
+    and_both : (n k : Bool) → (n && not k) ≡ true → (n ≡ true) × (k ≡ false)
+    and_both true true h = absurd (cc h)
+    and_both true false h = (refl, refl)
+    and_both false k h = absurd (cc h)
+
 -- the run goes on behind this line
-pub line_carries : (all : List Command) (first : NodeView) (start : Bindings) (so_far : List ℕ) (left : List Command)
-    (view : NodeView) (labels : Bindings) (o : Option Command) (rest : List Command) (after : NodeView)
-    (next : Bindings) (b c : Option (List ℕ))
-    → left ≡ onto o rest → GoesOn all first start so_far left view labels
-    → (line : WritesLine true o view labels after next b c)
-    → GoesOn all first start (so_far ++ line.said) rest after next
-line_carries all first start so_far left view labels o rest after next b c e carry line text status k =
-    let P : List Command → Type 0 = λ cs. Runs cs view labels (line.said ++ text) status in
-    let Q : List ℕ → Type 0 = λ v. Runs all first start v status in
+pub line_carries : {E : Type 0} (continues : Bool) (all : List Command) (first : NodeView) (start : Bindings) (so_far : List ℕ)
+    (failed : Bool) (left : List Command) (view : NodeView) (labels : Bindings) (now : Bool) (o : Option Command)
+    (rest : List Command) (after : NodeView) (next : Bindings) (b c : Option (List ℕ))
+    → left ≡ onto o rest → GoesOn continues all first start so_far failed left view labels
+    → (line : WritesLine {E = E} (Ok now) o view labels after next b c) → (now && not continues) ≡ false
+    → GoesOn continues all first start (so_far ++ line.said) (failed || now) rest after next
+line_carries continues all first start so_far failed left view labels now o rest after next b c e carry line on text
+    status k =
+    let P : List Command → Type 0 = λ cs. Runs continues cs view labels (line.said ++ text) (status_after now status) in
+    let Q : List ℕ → Type 0 = λ v. Runs continues all first start v (status_after (failed || now) status) in
     subst Q (sym (append_assoc so_far line.said text))
-    (carry (line.said ++ text) status (subst P (sym e) (line.runs rest text status k)))
+    (subst (Runs continues all first start (so_far ++ (line.said ++ text))) (both_failed failed now status)
+    (carry (line.said ++ text) (status_after now status)
+    (subst P (sym e) ((line.runs continues).goes_on (may now continues on) rest text status k))))
+  where
+    may : (n k : Bool) → (n && not k) ≡ false → n ≡ true → k ≡ true
+    may n true h is = refl
+    may true false h is = absurd (cc h)
+    may false false h is = absurd (cc is)
 
 -- no line is left
-pub run_is_done : (all : List Command) (first : NodeView) (start : Bindings) (so_far : List ℕ) (left : List Command)
-    (view : NodeView) (labels : Bindings) (a b : Option (List ℕ))
-    → left ≡ [] → GoesOn all first start so_far left view labels → Appends a b so_far → WritesRun all first start a b 0
-run_is_done all first start so_far left view labels a b e carry before =
-    let P : List Command → Type 0 = λ cs. Runs cs view labels [] 0 in
-    let Q : List ℕ → Type 0 = λ v. Runs all first start v 0 in
+pub run_is_done : (continues : Bool) (all : List Command) (first : NodeView) (start : Bindings) (so_far : List ℕ)
+    (failed : Bool) (left : List Command) (view : NodeView) (labels : Bindings) (a b : Option (List ℕ))
+    → left ≡ [] → GoesOn continues all first start so_far failed left view labels → Appends a b so_far
+    → WritesRun continues all first start a b (status_after failed 0)
+run_is_done continues all first start so_far failed left view labels a b e carry before =
+    let P : List Command → Type 0 = λ cs. Runs continues cs view labels [] 0 in
+    let Q : List ℕ → Type 0 = λ v. Runs continues all first start v (status_after failed 0) in
     record {
       text = so_far;
       appended = before;
@@ -94,25 +153,26 @@ alone_cut line own old new h =
     record { text = h.written; appended = h.appended; alone = inr ((h.left, h.beginning), refl) }
 
 -- a script that could not be read
-pub unread : (given old new : Option (List ℕ)) (r : Refusal) (status : ℕ)
+pub unread : (continues : Bool) (given old new : Option (List ℕ)) (r : Refusal) (status : ℕ)
     → (r ≡ refusal.NoMemory) ⊎ (r ≡ refusal.Device) → WritesAlone (refusal_line r) 3 old new status
-    → WritesText given old new status
-unread given old new r status (inl e) h =
+    → WritesText continues given old new status
+unread continues given old new r status (inl e) h =
     let P : Refusal → Type 0 = λ q. IsAlone (refusal_line q) 3 h.text status in
     record { text = h.text; appended = h.appended; is_text = inr (inl (subst P e h.alone)) }
-unread given old new r status (inr e) h =
+unread continues given old new r status (inr e) h =
     let P : Refusal → Type 0 = λ q. IsAlone (refusal_line q) 3 h.text status in
     record { text = h.text; appended = h.appended; is_text = inr (inr (subst P e h.alone)) }
 
 -- a script without a fault that was run, or for whose node there was no memory
-pub ran : (given old new : Option (List ℕ)) (script : List ℕ) (status : ℕ) → IsAllOf given script
-    → first_fault script ≡ None → WritesLines script old new status → WritesText given old new status
-ran given old new script status all ok (inl h) =
-    let P : Option ℕ → Type 0 = λ fault. IsTextAfterCheck fault script h.2.text status in
+pub ran : (continues : Bool) (given old new : Option (List ℕ)) (script : List ℕ) (status : ℕ) → IsAllOf given script
+    → first_fault script ≡ None → WritesLines continues script old new status
+    → WritesText continues given old new status
+ran continues given old new script status all ok (inl h) =
+    let P : Option ℕ → Type 0 = λ fault. IsTextAfterCheck continues fault script h.2.text status in
     record {
       text = h.2.text;
       appended = h.2.appended;
-      is_text = inl (script, all, subst P (sym ok) (h.0, h.1, told_run (commands_of (lines_of script)) h.0 h.2.text status h.2.runs));
+      is_text = inl (script, all, subst P (sym ok) (h.0, h.1, told_run continues (commands_of (lines_of script)) h.0 h.2.text status h.2.runs));
     }
-ran given old new script status all ok (inr h) =
+ran continues given old new script status all ok (inr h) =
     record { text = h.text; appended = h.appended; is_text = inr (inl h.alone) }

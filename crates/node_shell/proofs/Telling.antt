@@ -93,20 +93,23 @@ line_leads tables old labels r new next h = stays old new h.1
 line_leads (shows p) old labels r new next h = stays old new h.1
 
 -- lines one after another
-run_leads : (cs : List Command) (view : NodeView) (labels : Bindings) (text : List ℕ) (status : ℕ)
-    (run : Runs cs view labels text status) (m : Machine) → Stands view m
-    → (n : Machine) × Steps m (run_lines cs view labels text status run) n
-run_leads _ _ _ _ _ (done view labels) m stands = (m, refl)
-run_leads _ _ _ _ _ (goes_on c cs view labels r after next text status comes on rest) m stands =
+run_leads : (continues : Bool) (cs : List Command) (view : NodeView) (labels : Bindings) (text : List ℕ) (status : ℕ)
+    (run : Runs continues cs view labels text status) (m : Machine) → Stands view m
+    → (n : Machine) × Steps m (run_lines continues cs view labels text status run) n
+run_leads _ _ _ _ _ _ (done view labels) m stands = (m, refl)
+run_leads continues _ _ _ _ _ (goes_on c cs view labels r after next text status comes on rest) m stands =
     let one = line_leads c view labels r after next comes m stands in
-    let more = run_leads cs after next text status rest one.0 one.2 in
-    (more.0, steps_then m (client_lines c labels r) (run_lines cs after next text status rest) one.0 more.0 one.1 more.1)
-run_leads _ _ _ _ _ (fails c cs view labels r after next comes over) m stands =
+    let more = run_leads continues cs after next text status rest one.0 one.2 in (
+      more.0,
+      steps_then m (client_lines c labels r) (run_lines continues cs after next text status rest) one.0 more.0 one.1
+          more.1,
+    )
+run_leads _ _ _ _ _ _ (fails c cs view labels r after next comes failed over) m stands =
     let one = line_leads c view labels r after next comes m stands in (one.0, one.1)
-run_leads _ _ _ _ _ (is_cut c cs view labels r after next text comes cut) m stands =
+run_leads _ _ _ _ _ _ (is_cut c cs view labels r after next text comes cut) m stands =
     let one = line_leads c view labels r after next comes m stands in (one.0, one.1)
 
-pub told_run : (cs : List Command) (labels : Bindings) (text : List ℕ) (status : ℕ)
-    → Runs cs fresh_node labels text status → IsToldRun cs fresh_node labels text status
-told_run cs labels text status runs =
-    record { runs = runs; is_run = run_leads cs fresh_node labels text status runs fresh fresh_stands_for }
+pub told_run : (continues : Bool) (cs : List Command) (labels : Bindings) (text : List ℕ) (status : ℕ)
+    → Runs continues cs fresh_node labels text status → IsToldRun continues cs fresh_node labels text status
+told_run continues cs labels text status runs =
+    record { runs = runs; is_run = run_leads continues cs fresh_node labels text status runs fresh fresh_stands_for }

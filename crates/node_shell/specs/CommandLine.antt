@@ -2,6 +2,7 @@
 use Rattle.std.specs.Prelude.{ℕ, true, [], ◌∷◌, Some, codes}
 use Rattle.clap.specs.Walk.{Rule, Text}
 use Rattle.clap.specs.Simple.{App, new_app, new_rule, on_top, with_rule, with_subcommand}
+use Rattle.clap.specs.declared.builder.action.ArgAction.TheVariants.{SetTrue}
 use Rattle.clap.specs.declared.builder.value_parser.ValueParser.TheVariants.{Unsigned}
 
 -- the program, which must be told what to do
@@ -24,10 +25,18 @@ sessions = counting (codes "sessions") 8 (codes "4")
 abbrev pub rounds : Rule
 rounds = counting (codes "rounds") 99 (codes "3")
 
+-- a script is run on behind a failure
+abbrev pub continuing : Rule
+continuing = record (new_rule (codes "continue")) { long = Some (codes "continue"); action = Some SetTrue }
+
+-- to run a script
+abbrev pub run : App
+run = with_rule (new_app (codes "run")) continuing
+
 -- to let clients play on threads
 abbrev pub pool : App
 pool = with_rule (with_rule (new_app (codes "pool")) sessions) rounds
 
--- the program and all that it may be told: `run`, without arguments, or `pool`
+-- the program and all that it may be told: `run` or `pool`
 abbrev pub command_line : App
-command_line = with_subcommand (with_subcommand program (new_app (codes "run")).top) pool.top
+command_line = with_subcommand (with_subcommand program run.top) pool.top

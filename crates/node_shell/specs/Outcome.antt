@@ -35,6 +35,7 @@ out_text (out.Merged pair) = pair_line (codes "merged ") pair
 out_text (out.Flushed id) = numbered (codes "flushed ") id
 out_text out.Down = codes "down\n"
 out_text (out.Up count) = numbered (codes "up ") count
+out_text out.Set = codes "set\n"
 out_text (out.Refused refusal) = refusal_line refusal
 out_text (out.Answered txn answer) = told_text (out.Answered txn answer)
 out_text (out.Row txn value) = told_text (out.Row txn value)

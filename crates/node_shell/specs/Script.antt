@@ -1,6 +1,7 @@
 -- The grammar of scripts, over their bytes.
-use Rattle.std.specs.Prelude.{ℕ, ◌+◌, ◌==◌, ◌&&◌, Bool, true, not, List, [], ◌∷◌, Option, Some, None, length, codes, bytes_eq, is_none, option_map, if◌then◌else◌}
+use Rattle.std.specs.Prelude.{ℕ, ◌+◌, ◌==◌, ◌&&◌, Bool, true, not, nat_le, List, [], ◌∷◌, Option, Some, None, length, codes, bytes_eq, is_none, option_map, if◌then◌else◌}
 use Rattle.std.specs.List.{slice_split}
+use Rattle.system_txn.specs.declared.devices.Device.TheVariants as of_dc
 use Rattle.world.specs.declared.event.Event.{Event}
 use Rattle.world.specs.declared.event.Event.TheVariants as event
 use Rattle.node_shell.specs.declared.line.Kind.{Kind}
@@ -11,6 +12,8 @@ use Rattle.node_shell.specs.declared.line.LeafCall.{LeafCall}
 use Rattle.node_shell.specs.declared.line.LeafCall.TheVariants as leaf_call
 use Rattle.node_shell.specs.declared.line.Component.{Component}
 use Rattle.node_shell.specs.declared.line.Component.TheVariants as component
+use Rattle.node_shell.specs.declared.line.Device.{Device}
+use Rattle.node_shell.specs.declared.line.Device.TheVariants as device
 use Rattle.node_shell.specs.declared.line.Part.{Part}
 use Rattle.node_shell.specs.declared.line.Part.TheVariants as part
 use Rattle.node_shell.specs.declared.line.Written.{Written}
@@ -114,6 +117,26 @@ abbrev pub restart_of : Component → Event
 restart_of component.Tc = event.RestartTc
 restart_of component.Dc = event.RestartDc
 
+-- the device that a word names
+abbrev pub device_in : List ℕ → Option Device
+device_in word =
+    if bytes_eq word (codes "tclog") then Some device.TcLog
+    else (if bytes_eq word (codes "dclog") then Some device.DcLog
+    else (if bytes_eq word (codes "pages") then Some device.Pages else None))
+
+-- the device's call of this number from now fails
+abbrev pub failure_of : Device → ℕ → Event
+failure_of device.TcLog call = event.FailTc call
+failure_of device.DcLog call = event.FailDc of_dc.Log call
+failure_of device.Pages call = event.FailDc of_dc.Pages call
+
+-- a line of three words, a device and the number of one of its calls, from 1, behind its name
+abbrev pub with_device : List ℕ → Option Device → Option ℕ → Option Command
+with_device name None call = None
+with_device name (Some d) None = None
+with_device name (Some d) (Some call) =
+    if bytes_eq name (codes "fail") && nat_le 1 call then Some (steps (failure_of d call)) else None
+
 -- a line of two words, the second a component
 abbrev pub with_component : List ℕ → Option Component → Option Command
 with_component name None = None
@@ -176,6 +199,13 @@ unlabelled name word =
     first_of (with_number name (number_in word))
     (first_of (with_leaf name (text_in word)) (with_component name (component_in word)))
 
+-- a line of three words
+abbrev pub of_three : List ℕ → List ℕ → List ℕ → Option Command
+of_three name first second =
+    first_of (with_key name (label_in first) (text_in second))
+    (first_of (with_savepoint name (label_in first) (number_in second))
+    (with_device name (device_in first) (number_in second)))
+
 -- a line of four words
 abbrev pub of_four : List ℕ → List ℕ → List ℕ → List ℕ → Option Command
 of_four name first second last =
@@ -188,8 +218,7 @@ of_four name first second last =
 abbrev pub command_of : List (List ℕ) → Option Command
 command_of (name ∷ []) = bare name
 command_of (name ∷ word ∷ []) = first_of (with_label name (label_in word)) (unlabelled name word)
-command_of (name ∷ label ∷ word ∷ []) =
-    first_of (with_key name (label_in label) (text_in word)) (with_savepoint name (label_in label) (number_in word))
+command_of (name ∷ first ∷ second ∷ []) = of_three name first second
 command_of (name ∷ first ∷ second ∷ last ∷ []) = of_four name first second last
 command_of _ = None
 

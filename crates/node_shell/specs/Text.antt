@@ -175,76 +175,91 @@ result_text (came.Settled outs end) view = settled_text outs.items end
 result_text (came.Table rows) view = table_text rows
 result_text (came.Shown p) view = part_text p view
 
-abbrev pub out_ends : Out → Bool
-out_ends (out.Refused r) = is_failure r
-out_ends _ = false
+abbrev pub has_failed_so : Out → Bool
+has_failed_so (out.Refused r) = is_failure r
+has_failed_so _ = false
 
-abbrev pub settling_ends : Result Bool Refusal → Bool
-settling_ends (Ok done) = false
-settling_ends (Err r) = is_failure r
+abbrev pub settling_failed : Result Bool Refusal → Bool
+settling_failed (Ok done) = false
+settling_failed (Err r) = is_failure r
 
-abbrev pub ends_run : LineResult → Bool
-ends_run (came.Event output) = out_ends output
-ends_run (came.Settled outs end) = settling_ends end
-ends_run _ = false
+-- memory or a device failed in a line
+abbrev pub has_failed : LineResult → Bool
+has_failed (came.Event output) = has_failed_so output
+has_failed (came.Settled outs end) = settling_failed end
+has_failed _ = false
 
--- the text of the result is written and the run goes on, or it ends: by the result, or where a write failed
-abbrev pub Shows : Bool → LineResult → NodeView → Option (List ℕ) → Option (List ℕ) → Type 0
-Shows true r view old new = Appends old new (result_text r view) × (ends_run r ≡ false)
-Shows false r view old new =
-    (Appends old new (result_text r view) × (ends_run r ≡ true)) ⊎ IsCut old new (result_text r view)
+-- the exit status of a run that goes on behind a line: that of the lines behind it, but where the line failed
+abbrev pub status_after : Bool → ℕ → ℕ
+status_after failed status = if failed then 3 else status
 
 -- these bytes are a beginning of the text
 abbrev pub IsBeginning : List ℕ → List ℕ → Type 0
 IsBeginning written text = (left : List ℕ) × (text ≡ written ++ left)
 
--- what is written for these lines from a node and labels on, and the exit status
-pub data Runs : List Command → NodeView → Bindings → List ℕ → ℕ → Type 0 where
+-- what is written for these lines from a node and labels on, and the exit status; a run continues behind a line that
+-- failed, or ends there
+pub data Runs (continues : Bool) : List Command → NodeView → Bindings → List ℕ → ℕ → Type 0 where
   -- no line is left
-  done : (view : NodeView) (labels : Bindings) → Runs [] view labels [] 0
+  done : (view : NodeView) (labels : Bindings) → Runs continues [] view labels [] 0
   -- the text of a line, and then of those behind it
   goes_on : (c : Command) (cs : List Command) (view : NodeView) (labels : Bindings) (r : LineResult) (after : NodeView)
       (next : Bindings) (text : List ℕ) (status : ℕ)
-      → ComesTo c view labels r after next → ends_run r ≡ false → Runs cs after next text status
-      → Runs (c ∷ cs) view labels (result_text r after ++ text) status
+      → ComesTo c view labels r after next → (has_failed r ≡ true → continues ≡ true)
+      → Runs continues cs after next text status
+      → Runs continues (c ∷ cs) view labels (result_text r after ++ text) (status_after (has_failed r) status)
   -- memory or a device failed: the text of that line is the last
   fails : (c : Command) (cs : List Command) (view : NodeView) (labels : Bindings) (r : LineResult) (after : NodeView)
       (next : Bindings)
-      → ComesTo c view labels r after next → ends_run r ≡ true → Runs (c ∷ cs) view labels (result_text r after) 3
+      → ComesTo c view labels r after next → has_failed r ≡ true → continues ≡ false
+      → Runs continues (c ∷ cs) view labels (result_text r after) 3
   -- a write failed: a beginning of that line's text is the last
   is_cut : (c : Command) (cs : List Command) (view : NodeView) (labels : Bindings) (r : LineResult) (after : NodeView)
       (next : Bindings) (text : List ℕ)
-      → ComesTo c view labels r after next → IsBeginning text (result_text r after) → Runs (c ∷ cs) view labels text 3
+      → ComesTo c view labels r after next → IsBeginning text (result_text r after)
+      → Runs continues (c ∷ cs) view labels text 3
 
 -- the calls and the told lines of a run
-abbrev pub run_lines : (commands : List Command) (view : NodeView) (labels : Bindings) (text : List ℕ) (status : ℕ)
-    → Runs commands view labels text status → List Line
-run_lines _ _ _ _ _ (done view labels) = []
-run_lines _ _ _ _ _ (goes_on c cs view labels r after next text status came on rest) =
-    client_lines c labels r ++ run_lines cs after next text status rest
-run_lines _ _ _ _ _ (fails c cs view labels r after next came over) = client_lines c labels r
-run_lines _ _ _ _ _ (is_cut c cs view labels r after next text came cut) = client_lines c labels r
+abbrev pub run_lines : (continues : Bool) (commands : List Command) (view : NodeView) (labels : Bindings)
+    (text : List ℕ) (status : ℕ)
+    → Runs continues commands view labels text status → List Line
+run_lines _ _ _ _ _ _ (done view labels) = []
+run_lines continues _ _ _ _ _ (goes_on c cs view labels r after next text status came on rest) =
+    client_lines c labels r ++ run_lines continues cs after next text status rest
+run_lines _ _ _ _ _ _ (fails c cs view labels r after next came failed over) = client_lines c labels r
+run_lines _ _ _ _ _ _ (is_cut c cs view labels r after next text came cut) = client_lines c labels r
 
 -- the text of these lines is written
-pub record WritesRun (commands : List Command) (view : NodeView) (labels : Bindings) (old new : Option (List ℕ))
-    (status : ℕ) : Type 0 where
+pub record WritesRun (continues : Bool) (commands : List Command) (view : NodeView) (labels : Bindings)
+    (old new : Option (List ℕ)) (status : ℕ) : Type 0 where
   pub text : List ℕ
   pub appended : Appends old new text
-  pub runs : Runs commands view labels text status
+  pub runs : Runs continues commands view labels text status
 
--- a line, if there is one, is run and its text written: what those behind it write follows, or nothing does
-abbrev pub RunsLine : Bool → Option Command → NodeView → Bindings → NodeView → Bindings → List ℕ → Type 0
-RunsLine true command view labels after next said =
-    (cs : List Command) (text : List ℕ) (status : ℕ) → Runs cs after next text status
-    → Runs (onto command cs) view labels (said ++ text) status
-RunsLine false command view labels after next said = (cs : List Command) → Runs (onto command cs) view labels said 3
+-- a line, if there is one, is run and its text written: before what the lines behind it write where it failed not or the
+-- run continues, else at the end
+pub record RunsLine (continues failed : Bool) (command : Option Command) (view : NodeView) (labels : Bindings)
+    (after : NodeView) (next : Bindings) (said : List ℕ) : Type 0 where
+  pub goes_on : (failed ≡ true → continues ≡ true) → (cs : List Command) (text : List ℕ) (status : ℕ)
+      → Runs continues cs after next text status
+      → Runs continues (onto command cs) view labels (said ++ text) (status_after failed status)
+  pub ends : failed ≡ true → continues ≡ false → (cs : List Command)
+      → Runs continues (onto command cs) view labels said 3
 
--- a line and those after it: what it writes stands before what they write, with the exit status of the last
-pub record WritesLine (going : Bool) (command : Option Command) (view : NodeView) (labels : Bindings) (after : NodeView)
-    (next : Bindings) (old new : Option (List ℕ)) : Type 0 where
+-- the same, or a write failed
+abbrev pub RunsOr : {E : Type 0} → Bool → Result Bool E → Option Command → NodeView → Bindings → NodeView → Bindings
+    → List ℕ → Type 0
+RunsOr continues (Ok failed) command view labels after next said =
+    RunsLine continues failed command view labels after next said
+RunsOr continues (Err error) command view labels after next said =
+    (cs : List Command) → Runs continues (onto command cs) view labels said 3
+
+-- what a line writes, whether or not the run continues behind a failure
+pub record WritesLine {E : Type 0} (result : Result Bool E) (command : Option Command) (view : NodeView)
+    (labels : Bindings) (after : NodeView) (next : Bindings) (old new : Option (List ℕ)) : Type 0 where
   pub said : List ℕ
   pub appended : Appends old new said
-  pub runs : RunsLine going command view labels after next said
+  pub runs : (continues : Bool) → RunsOr continues result command view labels after next said
 
 -- a line alone with its exit status, or a beginning of it where a write failed
 abbrev pub IsAlone : List ℕ → ℕ → List ℕ → ℕ → Type 0
@@ -257,27 +272,27 @@ pub record WritesAlone (line : List ℕ) (own : ℕ) (old new : Option (List ℕ
   pub alone : IsAlone line own text status
 
 -- what the lines of a script that was checked write; where memory for a node is refused, that alone
-abbrev pub WritesLines : List ℕ → Option (List ℕ) → Option (List ℕ) → ℕ → Type 0
-WritesLines script old new status =
+abbrev pub WritesLines : Bool → List ℕ → Option (List ℕ) → Option (List ℕ) → ℕ → Type 0
+WritesLines continues script old new status =
     ((labels : Bindings) × AreSame unbound labels
-    × WritesRun (commands_of (lines_of script)) fresh_node labels old new status)
+    × WritesRun continues (commands_of (lines_of script)) fresh_node labels old new status)
     ⊎ WritesAlone (refusal_line refusal.NoMemory) 3 old new status
 
 -- the headline: the calls and the told lines of these lines are a run of the list machine, from the empty one on
-pub record IsToldRun (commands : List Command) (view : NodeView) (labels : Bindings) (text : List ℕ) (status : ℕ) :
-    Type 0 where
-  pub runs : Runs commands view labels text status
-  pub is_run : IsRun (run_lines commands view labels text status runs)
+pub record IsToldRun (continues : Bool) (commands : List Command) (view : NodeView) (labels : Bindings)
+    (text : List ℕ) (status : ℕ) : Type 0 where
+  pub runs : Runs continues commands view labels text status
+  pub is_run : IsRun (run_lines continues commands view labels text status runs)
 
 -- the text of a script, where this is its first fault
-abbrev pub IsTextAfterCheck : Option ℕ → List ℕ → List ℕ → ℕ → Type 0
-IsTextAfterCheck (Some line) script text status = IsAlone (refusal_line (refusal.BadScript line)) 2 text status
-IsTextAfterCheck None script text status =
+abbrev pub IsTextAfterCheck : Bool → Option ℕ → List ℕ → List ℕ → ℕ → Type 0
+IsTextAfterCheck continues (Some line) script text status = IsAlone (refusal_line (refusal.BadScript line)) 2 text status
+IsTextAfterCheck continues None script text status =
     (labels : Bindings) × AreSame unbound labels
-    × IsToldRun (commands_of (lines_of script)) fresh_node labels text status
+    × IsToldRun continues (commands_of (lines_of script)) fresh_node labels text status
 
-abbrev pub IsTextOf : List ℕ → List ℕ → ℕ → Type 0
-IsTextOf script text status = IsTextAfterCheck (first_fault script) script text status
+abbrev pub IsTextOf : Bool → List ℕ → List ℕ → ℕ → Type 0
+IsTextOf continues script text status = IsTextAfterCheck continues (first_fault script) script text status
 
 -- what is written where the script could not be read: a device failed, or there was no memory for it or for a node
 abbrev pub IsUnread : List ℕ → ℕ → Type 0
@@ -290,7 +305,7 @@ IsAllOf None script = ⊤
 IsAllOf (Some bytes) script = script ≡ bytes
 
 -- the text of the script that was read is written, and nothing else
-pub record WritesText (given old new : Option (List ℕ)) (status : ℕ) : Type 0 where
+pub record WritesText (continues : Bool) (given old new : Option (List ℕ)) (status : ℕ) : Type 0 where
   pub text : List ℕ
   pub appended : Appends old new text
-  pub is_text : ((script : List ℕ) × IsAllOf given script × IsTextOf script text status) ⊎ IsUnread text status
+  pub is_text : ((script : List ℕ) × IsAllOf given script × IsTextOf continues script text status) ⊎ IsUnread text status

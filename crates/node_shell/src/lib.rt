@@ -8,6 +8,7 @@
 
 mod answers;
 mod components;
+mod failures;
 mod label;
 mod leaves;
 mod line;

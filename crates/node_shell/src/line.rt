@@ -43,6 +43,17 @@ pub enum Component {
     Dc,
 }
 
+/// What may be set to fail.
+#[derive(Debug, Clone, Copy, PartialEq, Eq)]
+pub enum Device {
+    /// That of the transaction component's log.
+    TcLog,
+    /// That of the data component's log.
+    DcLog,
+    /// That of the leaves' pages.
+    Pages,
+}
+
 /// What is printed of the node as it is.
 #[derive(Debug, Clone, Copy, PartialEq, Eq)]
 pub enum Part {

@@ -33,11 +33,11 @@ pub enum LineResult {
 }
 
 impl LineResult {
-    ghost use Rattle.node_shell.specs.Text.{ends_run, result_text, Shows};
+    ghost use Rattle.node_shell.specs.Text.{has_failed, result_text};
 
-    /// Whether the run ends with this line: memory or a device failed.
-    fn ends_run(&self) -> bool
-        ensures { result ≡ ends_run self.now }
+    /// Whether memory or a device failed.
+    pub fn has_failed(&self) -> bool
+        ensures { result ≡ has_failed self.now }
     {
         match self {
             LineResult::Event(Out::Refused(refusal)) => is_failure(*refusal),
@@ -49,18 +49,8 @@ impl LineResult {
         }
     }
 
-    /// Writes its lines. Gives whether the run goes on: not where a write, memory or a device failed.
-    pub fn show<W: io::Write>(&self, world: &World, writer: &mut W) -> bool
-        ensures { Shows result self.now world.now (W.contents writer.old) (W.contents writer.new) }
-    {
-        match self.print(world, writer) {
-            Ok(()) => !self.ends_run(),
-            Err(_) => false,
-        }
-    }
-
     /// Writes its lines. A part that is shown is one of the world as it is.
-    fn print<W: io::Write>(&self, world: &World, writer: &mut W) -> io::Result<()>
+    pub fn print<W: io::Write>(&self, world: &World, writer: &mut W) -> io::Result<()>
         ensures { Prints (W.contents writer.old) (W.contents writer.new) result (result_text self.now world.now) }
     {
         match self {

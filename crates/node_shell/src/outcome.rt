@@ -41,6 +41,7 @@ pub fn print_out<W: io::Write>(writer: &mut W, out: &Out) -> io::Result<()>
         Out::Flushed(id) => print_numbered(writer, "flushed ", *id),
         Out::Down => print(writer, &[Piece::Text("down\n")]),
         Out::Up(count) => print_numbered(writer, "up ", *count),
+        Out::Set => print(writer, &[Piece::Text("set\n")]),
         Out::Refused(refusal) => print_refusal(writer, *refusal),
         _ => print_told(writer, out),
     }

@@ -1,9 +1,10 @@
 //! The grammar of a line: one place for each number of words.
 ghost use Rattle.std.specs.Prelude.{◌≡◌, ◌∷◌, option_map};
 ghost use Rattle.node_shell.specs.Words.{words_of, label_in, text_in, value_in, amount_in, end_in};
-ghost use Rattle.node_shell.specs.Script.{command_of, unlabelled, of_four, write_of, add_of, scan_of, meaning};
+ghost use Rattle.node_shell.specs.Script.{command_of, unlabelled, of_three, of_four, write_of, add_of, scan_of, meaning};
 
 use crate::components::{crash, with_component};
+use crate::failures::with_device;
 use crate::label::Label;
 use crate::line::{Kind, Line};
 use crate::names::{
@@ -56,11 +57,20 @@ fn parse_keyed<'a>(name: &[u8], label: &[u8], rest: &'a [u8]) -> Option<Line<'a>
 {
     let (word, rest) = cut_at(rest, b' ');
     match rest {
-        None => match with_key(name, label, word) {
-            Some(line) => Some(line),
-            None => with_savepoint(name, label, word),
-        },
+        None => parse_three(name, label, word),
         Some(rest) => parse_row(name, label, word, rest),
+    }
+}
+
+fn parse_three<'a>(name: &[u8], first: &[u8], second: &'a [u8]) -> Option<Line<'a>>
+    ensures { option_map meaning result ≡ of_three name.now first.now second.now }
+{
+    if let Some(line) = with_key(name, first, second) {
+        return Some(line);
+    }
+    match with_savepoint(name, first, second) {
+        Some(line) => Some(line),
+        None => with_device(name, first, second),
     }
 }
 

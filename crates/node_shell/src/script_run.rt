@@ -20,9 +20,15 @@ pub const FAULT: u8 = 2;
 pub const FAILED: u8 = 3;
 
 /// Reads the script, runs it and writes its text. Gives the exit status. The calls in the script, with what they were
-/// answered and told, are a run of the list machine, from the empty one on.
-pub fn run<R: io::Read, W: io::Write>(alloc: Global, reader: &mut R, writer: &mut W) -> u8
-    ensures { WritesText (R.remaining reader.old) (W.contents writer.old) (W.contents writer.new) result }
+/// answered and told, are a run of the list machine, from the empty one on. Where memory or a device fails the run goes
+/// on behind that line if it continues, and ends there else.
+pub fn run<R: io::Read, W: io::Write>(
+    alloc: Global,
+    continues: bool,
+    reader: &mut R,
+    writer: &mut W,
+) -> u8
+    ensures { WritesText continues (R.remaining reader.old) (W.contents writer.old) (W.contents writer.new) result }
 {
     let mut script = Vec::new(alloc);
     if let Err(error) = reader.read_to_end(&mut script) {
@@ -30,7 +36,7 @@ pub fn run<R: io::Read, W: io::Write>(alloc: Global, reader: &mut R, writer: &mu
     }
     match first_fault(script.as_slice()) {
         Some(line) => refuse(writer, Refusal::BadScript(line), FAULT),
-        None => run_lines(alloc, script.as_slice(), writer),
+        None => run_lines(alloc, continues, script.as_slice(), writer),
     }
 }
 
@@ -56,38 +62,47 @@ pub fn refuse<W: io::Write>(writer: &mut W, refusal: Refusal, status: u8) -> u8
 }
 
 /// Runs the lines of a script that was checked.
-fn run_lines<W: io::Write>(alloc: Global, script: &[u8], writer: &mut W) -> u8
-    ensures { WritesLines script.now (W.contents writer.old) (W.contents writer.new) result }
+fn run_lines<W: io::Write>(alloc: Global, continues: bool, script: &[u8], writer: &mut W) -> u8
+    ensures { WritesLines continues script.now (W.contents writer.old) (W.contents writer.new) result }
 {
     match Shell::new(alloc) {
-        Ok(mut shell) => run_from(&mut shell, script, writer),
+        Ok(mut shell) => run_from(&mut shell, continues, script, writer),
         Err(refusal) => refuse(writer, refusal, FAILED),
     }
 }
 
-fn run_from<W: io::Write>(shell: &mut Shell, script: &[u8], writer: &mut W) -> u8
-    ensures { WritesRun (commands_of (lines_of script.now)) shell.old.world (number_in shell.old.labels)
+fn run_from<W: io::Write>(shell: &mut Shell, continues: bool, script: &[u8], writer: &mut W) -> u8
+    ensures { WritesRun continues (commands_of (lines_of script.now)) shell.old.world (number_in shell.old.labels)
         (W.contents writer.old) (W.contents writer.new) result }
 {
     let mut left = Some(script);
+    let mut has_failed = false;
     while let Some(bytes) = left {
         let (line, rest) = cut_at(bytes, b'\n');
-        if !run_line(shell, line, writer) {
+        let Ok(failed) = run_line(shell, line, writer) else {
+            return FAILED;
+        };
+        has_failed |= failed;
+        let ends = failed & !continues;
+        if ends {
             return FAILED;
         }
         left = rest;
     }
-    DONE
+    if has_failed { FAILED } else { DONE }
 }
 
-/// Runs a line and writes its text. Gives whether the run goes on.
-fn run_line<W: io::Write>(shell: &mut Shell, line: &[u8], writer: &mut W) -> bool
+/// Runs a line and writes its text. Gives whether memory or a device failed in it.
+fn run_line<W: io::Write>(shell: &mut Shell, line: &[u8], writer: &mut W) -> io::Result<bool>
     ensures { WritesLine result (asked line.now) shell.old.world (number_in shell.old.labels) shell.new.world
         (number_in shell.new.labels) (W.contents writer.old) (W.contents writer.new) }
 {
     let Some(line) = request(line) else {
-        return true;
+        return Ok(false);
     };
     let came = shell.perform(&line);
-    came.show(&shell.world, writer)
+    match came.print(&shell.world, writer) {
+        Ok(()) => Ok(came.has_failed()),
+        Err(error) => Err(error),
+    }
 }

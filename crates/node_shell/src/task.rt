@@ -7,18 +7,18 @@ ghost use Rattle.clap.specs.Simple.{app_of, subcommand_of, subcommand_rows_of};
 ghost use Rattle.clap.specs.Walk.{rows_of, rule_of};
 ghost use Rattle.clap.specs.declared.builder.command.Command.TheViews.{out-Command};
 ghost use Rattle.node_shell.specs.Asked.{Asks, HasClient, IsNumber, MayAsk, NamesCount};
-ghost use Rattle.node_shell.specs.CommandLine.{command_line, counting, pool};
+ghost use Rattle.node_shell.specs.CommandLine.{command_line, counting, pool, run};
 
 use clap::builder::ValueParser;
-use clap::{Arg, ArgMatches, Command, Error};
+use clap::{Arg, ArgAction, ArgMatches, Command, Error};
 use std::alloc::{AllocError, Global};
 use std::convert::AsStr;
 
 /// What the command line asks for.
 #[derive(Debug, Clone, Copy, PartialEq, Eq)]
 pub enum Task {
-    /// A script is read from standard input and run.
-    Run,
+    /// A script is read from standard input and run, also on behind a line in which memory or a device failed.
+    Run { continues: bool },
     /// So many clients, each with a session of its own, play so many rounds on threads.
     Pool { sessions: usize, rounds: u64 },
 }
@@ -56,6 +56,7 @@ A script is lines; empty lines and lines that begin with # are skipped.
                 its log that aren't stable the first N stay, and of the next one
                 the second N bytes
   restart C     opens the component C on its devices
+  fail D N      the N-th call of the device D from now fails, once
   connect       starts a session of the two components
   recover       does one step of recovery
   settle        lets the node work until nothing is left to do
@@ -68,9 +69,10 @@ T is 1 to 8 lower case letters or digits. K and V are letters and digits, or a d
 for the empty text; a key has 1 to 32 bytes, a value 0 to 120. V may also be # and 1
 to 120 bytes, each as two lower case hexadecimal digits; a value of 8 bytes is a
 number, the greatest part first. N is a decimal number below 2 to the power of 48,
-or of 64 where it is added. C is tc, the transaction component, or dc, the data
-component. Words are separated by one space. The whole script is checked before its
-first line is run.
+or of 64 where it is added; of a call it is at least 1. C is tc, the transaction
+component, or dc, the data component. D is tclog or dclog, the log of either, or pages,
+the pages of the data component's leaves. Words are separated by one space. The whole
+script is checked before its first line is run.
 
 Exit status: 0; 2 for a line or a command line outside the grammar; 3 where memory
 or a device failed.";
@@ -103,12 +105,17 @@ fn task_of(matches: &ArgMatches<'_>) -> Task
     ensures asks { Asks (subcommand_rows_of matches.now) result }
     ensures client { HasClient result }
 {
-    match matches.subcommand_matches("pool") {
-        Some(asked) => Task::Pool {
+    if let Some(asked) = matches.subcommand_matches("pool") {
+        return Task::Pool {
             sessions: number_of(asked, "sessions") as usize,
             rounds: number_of(asked, "rounds"),
+        };
+    }
+    match matches.subcommand_matches("run") {
+        Some(asked) => Task::Run {
+            continues: asked.get_flag("continue"),
         },
-        None => Task::Run,
+        None => unreachable!(),
     }
 }
 
@@ -127,15 +134,27 @@ fn number_of(asked: &ArgMatches<'_>, option: &str) -> u64
 fn command_line<'a>(alloc: Global) -> Result<Command<'a>, AllocError>
     ensures { IfOk result (λ program. app_of program ≡ command_line) }
 {
-    let run = Command::new(alloc, "run")
-        .about("Reads a script from standard input and prints what its lines came to")
-        .after_help(LINES);
     Command::new(alloc, "undo_shell")
         .about("A database kernel in two components that undoes by logged compensations")
         .after_help(LINES)
         .subcommand_required(true)
-        .subcommand(run)?
+        .subcommand(run_command(alloc)?)?
         .subcommand(pool_command(alloc)?)
+}
+
+// What runs a script.
+fn run_command<'a>(alloc: Global) -> Result<Command<'a>, AllocError>
+    ensures local { IfOk result (λ command. (out-Command command).has_globals ≡ false) }
+    ensures app { IfOk result (λ command. app_of command ≡ run) }
+{
+    let continuing = Arg::new(alloc, "continue")
+        .long("continue")
+        .action(ArgAction::SetTrue)
+        .help("Goes on behind a line in which memory or a device failed");
+    Command::new(alloc, "run")
+        .about("Reads a script from standard input and prints what its lines came to")
+        .after_help(LINES)
+        .arg(continuing)
 }
 
 // What lets clients play on threads.

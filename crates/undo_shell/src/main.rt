@@ -54,7 +54,7 @@ where
         return refuse(&mut io::writer(&rt), Refusal::NoMemory, FAILED);
     };
     let status = match task {
-        Task::Run => run(alloc, &mut rt.reader(), &mut writer),
+        Task::Run { continues } => run(alloc, continues, &mut rt.reader(), &mut writer),
         Task::Pool { sessions, rounds } => pool(rt, alloc, sessions, rounds, &mut writer),
     };
     match writer.flush() {

@@ -5,7 +5,7 @@ use Rattle.node_shell.proofs.Running.{unread, ran}
 use Rattle.node_shell.proofs.script_run.run.Goals as goal
 
 pub returns-in-Err : goal.returns-in-Err
-returns-in-Err g c = unread _ _ _ c.refusal_of.result c.refuse.result c.refusal_of.ensures c.refuse.ensures
+returns-in-Err g c = unread c.args.continues _ _ _ c.refusal_of.result c.refuse.result c.refusal_of.ensures c.refuse.ensures
 
 pub returns : goal.returns
 returns g c =
@@ -16,6 +16,6 @@ returns g c =
     let all : IsAllOf given script = search rules in
     let ok : first_fault script ≡ None =
     ap first_fault (sym c.as_slice.ensures.value) ∙ sym c.first_fault.ensures ∙ c.in-None.is in
-    ran given old new script c.run_lines.result all ok
-    (subst (λ (s : List ℕ). WritesLines s old new c.run_lines.result) c.as_slice-in-None.ensures.value
+    ran c.args.continues given old new script c.run_lines.result all ok
+    (subst (λ (s : List ℕ). WritesLines c.args.continues s old new c.run_lines.result) c.as_slice-in-None.ensures.value
     c.run_lines.ensures)

@@ -2,7 +2,7 @@ use Rattle.std.proofs.Common.{ℕ, List, ◌++◌, option_map}
 use Rattle.std.specs.Io.KnownBytes.{Appends}
 use Rattle.node_shell.specs.Labels.{number_in}
 use Rattle.node_shell.specs.Script.{size_left, parts_left, lines_of, commands_of}
-use Rattle.node_shell.specs.Text.{Runs}
+use Rattle.node_shell.specs.Text.{Runs, status_after}
 use Rattle.node_shell.proofs.script_run.run_from.Given as goal
 
 -- what is written so far, and then what the lines that are left write, is what all lines write
@@ -11,10 +11,10 @@ invariant-loop-left g l = record {
   so_far : List ℕ;
   appended : Appends (g.W.Write.contents l.initial.writer) (g.W.Write.contents l.writer) so_far;
   goes_on : (text : List ℕ) (status : ℕ)
-      → Runs (commands_of (parts_left 10 (option_map (λ s. s.now) l.left))) l.shell.world (number_in l.shell.labels)
+      → Runs l.fn.continues (commands_of (parts_left 10 (option_map (λ s. s.now) l.left))) l.shell.world (number_in l.shell.labels)
       text status
-      → Runs (commands_of (lines_of l.fn.script)) l.initial.shell.world (number_in l.initial.shell.labels)
-      (so_far ++ text) status;
+      → Runs l.fn.continues (commands_of (lines_of l.fn.script)) l.initial.shell.world (number_in l.initial.shell.labels)
+      (so_far ++ text) (status_after l.has_failed status);
 }
 
 abbrev pub decreases-loop-left : goal.decreases-loop-left

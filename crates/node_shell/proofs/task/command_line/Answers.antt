@@ -1,14 +1,16 @@
-use Rattle.std.proofs.Common.{rules, ap, ap₂, codes, ◌≡◌, ◌∙◌}
+use Rattle.std.proofs.Common.{rules, ap, ap₂, ◌≡◌, ◌∙◌}
 use Rattle.std.proofs.lemmas.Result.{IfOk-weaker}
-use Rattle.clap.specs.Simple.{App, app_of, new_app, shape_of, with_subcommand}
-use Rattle.node_shell.specs.CommandLine.{program, pool}
+use Rattle.clap.specs.Simple.{App, app_of, shape_of, with_subcommand}
+use Rattle.node_shell.specs.CommandLine.{program, pool, run}
 use Rattle.node_shell.proofs.task.command_line.Goals as goal
 
 pub returns : goal.returns
 returns c =
     let top : app_of c.subcommand_required.result ≡ program = search rules in
-    let first : app_of c.in_ok-subcommand.field-0 ≡ with_subcommand program (new_app (codes "run")).top =
-    c.in_ok-subcommand.ensures.shape (search rules) ∙ ap₂ with_subcommand top (search rules) in
+    let ran : shape_of c.in_ok-run_command.field-0 ≡ run.top =
+    ap (λ (a : App). a.top) c.in_ok-run_command.ensures.app in
+    let first : app_of c.in_ok-subcommand.field-0 ≡ with_subcommand program run.top =
+    c.in_ok-subcommand.ensures.shape c.in_ok-run_command.ensures.local ∙ ap₂ with_subcommand top ran in
     let second : shape_of c.in_ok-pool_command.field-0 ≡ pool.top =
     ap (λ (a : App). a.top) c.in_ok-pool_command.ensures.app in
     IfOk-weaker c.subcommand-2.result _ _
