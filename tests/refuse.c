@@ -1,4 +1,5 @@
-/* Refuses the n-th growth of a program, where n is in REFUSED. Loaded before the C library by LD_PRELOAD. */
+/* Refuses the n-th growth of a program, where n is in REFUSED, and each m-th, where m is in REFUSED_EACH. Loaded before
+ * the C library by LD_PRELOAD. */
 #define _GNU_SOURCE
 #include <dlfcn.h>
 #include <errno.h>
@@ -6,6 +7,7 @@
 #include <stdlib.h>
 
 static atomic_long left;
+static long each;
 static void *(*next_malloc)(size_t);
 static void *(*next_realloc)(void *, size_t);
 static int (*next_posix_memalign)(void **, size_t, size_t);
@@ -14,16 +16,19 @@ static void *(*next_aligned_alloc)(size_t, size_t);
 __attribute__((constructor)) static void begin(void)
 {
     const char *refused = getenv("REFUSED");
+    const char *refused_each = getenv("REFUSED_EACH");
     next_malloc = dlsym(RTLD_NEXT, "malloc");
     next_realloc = dlsym(RTLD_NEXT, "realloc");
     next_posix_memalign = dlsym(RTLD_NEXT, "posix_memalign");
     next_aligned_alloc = dlsym(RTLD_NEXT, "aligned_alloc");
     atomic_store(&left, refused ? atol(refused) : 0);
+    each = refused_each ? atol(refused_each) : 0;
 }
 
 static int is_refused(void)
 {
-    return atomic_fetch_sub(&left, 1) == 1;
+    long now = atomic_fetch_sub(&left, 1);
+    return now == 1 || (each > 0 && now % each == 0 && now != 0);
 }
 
 static void *refusal(void)

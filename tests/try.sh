@@ -3,17 +3,19 @@
 # file stdout. Usage: tests/try.sh [NAME..]; without a name all of them. Takes about a minute each on a fresh machine.
 set -eu
 cd "$(dirname "$0")/../crates"
-[ $# -gt 0 ] || set -- record_tests codec_tests log_tests lock_tests leaf_tests dc_tests tc_tests script_tests pool_tests
+[ $# -gt 0 ] || set -- record_tests codec_tests log_tests lock_tests leaf_tests dc_tests tc_tests node_tests script_tests pool_tests
 status=0
 for name in "$@"; do
     cd "$name"
     given=
+    words=
     for file in data/*; do
-        given="$given --data $(basename "$file")=$file"
+        [ -f "$file" ] && given="$given --data $(basename "$file")=$file"
     done
-    # No name of a file has a space.
+    [ -f args ] && words="-- $(tr '\n' ' ' <args)"
+    # No name of a file has a space, and neither has a word.
     # shellcheck disable=SC2086
-    if rt try --seconds 500 $given 2>&1 | sed '/^checked: /,$d' | diff - stdout; then
+    if rt try --seconds 500 $given $words 2>&1 | sed '/^checked: /,$d' | diff - stdout; then
         echo "$name: as it should be"
     else
         status=1

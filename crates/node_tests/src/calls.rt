@@ -3,11 +3,11 @@ use history::Record;
 use record_key::{Key, Refusal, Value};
 use world::{Event, Out, World, settle};
 
-pub(super) fn step(world: &mut World, event: &Event) -> Out {
+pub fn step(world: &mut World, event: &Event) -> Out {
     world.step(event)
 }
 
-pub(super) fn settle_all(
+pub fn settle_all(
     world: &mut World,
     most: Option<u64>,
     outs: &mut Vec<Out>,
@@ -16,18 +16,18 @@ pub(super) fn settle_all(
     Ok(is_done)
 }
 
-pub(super) fn stable_end(world: &World) -> Result<u64, Refusal> {
+pub fn stable_end(world: &World) -> Result<u64, Refusal> {
     world.stable_end()
 }
 
-pub(super) fn records(world: &World) -> Result<u64, Refusal> {
+pub fn records(world: &World) -> Result<u64, Refusal> {
     world.records()
 }
 
-pub(super) fn record(world: &World, number: u64) -> Result<Option<Record>, Refusal> {
+pub fn record(world: &World, number: u64) -> Result<Option<Record>, Refusal> {
     world.record(number)
 }
 
-pub(super) fn rows(world: &World) -> Result<Vec<(Key, Value)>, Refusal> {
+pub fn rows(world: &World) -> Result<Vec<(Key, Value)>, Refusal> {
     world.rows()
 }

@@ -3,7 +3,7 @@ use client_model::Model;
 use rand_pcg::Pcg32;
 use rand_pcg::rand_core::Rng;
 use record_key::{Key, Op, Refusal, Value};
-use world::{Event, Out, World};
+use world::{Device, Event, Out, World};
 
 /// About how many transactions are open at a time.
 const OPEN: u64 = 8;
@@ -140,6 +140,22 @@ impl Chooser {
         }
     }
 
+    /// One of the next calls of a device fails.
+    fn failure(&mut self) -> Event {
+        let call = self.below(3).saturating_add(1);
+        match self.below(3) {
+            0 => Event::FailTc { call },
+            1 => Event::FailDc {
+                device: Device::Log,
+                call,
+            },
+            _ => Event::FailDc {
+                device: Device::Pages,
+                call,
+            },
+        }
+    }
+
     /// Whether the transaction component crashes now that a client was answered, perhaps of what isn't stable.
     fn loses(&mut self) -> bool {
         matches!(self.last, Out::Answered { .. }) && self.below(24) == 0
@@ -187,7 +203,7 @@ impl Chooser {
     /// Any event.
     pub fn any(&mut self, model: &Model, world: &World) -> Result<Event, Refusal> {
         let txn = self.txn;
-        Ok(match self.below(228) {
+        Ok(match self.below(240) {
             0..=79 => Event::Request {
                 number: self.earlier(world.requests()),
             },
@@ -208,8 +224,9 @@ impl Chooser {
             208..=210 => self.crash(),
             211 => Event::RestartDc,
             212 => Event::RestartTc,
-            213..=218 => Event::Checkpoint,
-            219 | 220 => Event::Tell,
+            213..=222 => Event::Checkpoint,
+            223 | 224 => Event::Tell,
+            225..=230 => self.failure(),
             _ => self.call(model)?,
         })
     }

@@ -1,11 +1,10 @@
 //! How far the walks came.
 use client_model::Model;
 use record_key::{Answer, Op, Refusal};
-use std::process::Abort;
 use world::Out;
 
 /// How often each thing happened.
-#[derive(Debug, Drop)]
+#[derive(Debug, Clone, Copy)]
 pub struct Counts {
     answers: u64,
     added: u64,
@@ -43,6 +42,8 @@ pub struct Counts {
     lost: u64,
     /// Beginnings, operations and reads of clients beside those who are to be undone.
     beside_losers: u64,
+    /// Refusals since a device failed.
+    failed: u64,
 }
 
 impl Counts {
@@ -76,6 +77,7 @@ impl Counts {
             losers: 0,
             lost: 0,
             beside_losers: 0,
+            failed: 0,
         }
     }
 
@@ -152,65 +154,101 @@ impl Counts {
             }
             Refusal::Full => more(&mut self.full, 1),
             Refusal::BadSavepoint => more(&mut self.bad_savepoint, 1),
+            Refusal::Device => more(&mut self.failed, 1),
             _ => {}
         }
     }
 
-    /// The walks weren't hollow.
-    pub fn assert_enough(&self, rt: &impl Abort) {
-        self.assert_steps(rt);
-        self.assert_increments(rt);
-        self.assert_ends(rt);
-        self.assert_refusals(rt);
-        self.assert_leaves(rt);
-        self.assert_losers(rt);
+    /// What happened too seldom for the walks to tell much, if anything did.
+    pub fn lack(&self) -> Option<&'static str> {
+        self.lack_of_steps()
+            .or(self.lack_of_increments())
+            .or(self.lack_of_ends())
+            .or(self.lack_of_refusals())
+            .or(self.lack_of_leaves())
+            .or(self.lack_of_losers())
     }
 
-    fn assert_steps(&self, rt: &impl Abort) {
-        assert!(rt; self.answers > 240, "{self:?}");
-        assert!(rt; self.reads > 120, "{self:?}");
-        assert!(rt; self.undone > 60, "{self:?}");
-        assert!(rt; self.savepoints > 400, "{self:?}");
+    fn lack_of_steps(&self) -> Option<&'static str> {
+        first_below(&[
+            (self.answers, 240, "too few answers"),
+            (self.reads, 120, "too few reads"),
+            (self.undone, 60, "too few compensations"),
+            (self.savepoints, 400, "too few savepoints"),
+            (self.failed, 40, "too few failures of devices"),
+        ])
     }
 
-    fn assert_increments(&self, rt: &impl Abort) {
-        assert!(rt; self.added > 40, "{self:?}");
-        assert!(rt; self.not_numbers > 8, "{self:?}");
-        assert!(rt; self.beside_adders > 40, "{self:?}");
-        assert!(rt; self.overtaking > 3, "{self:?}");
+    fn lack_of_increments(&self) -> Option<&'static str> {
+        first_below(&[
+            (self.added, 40, "too few increments"),
+            (
+                self.not_numbers,
+                8,
+                "too few increments of what is no number",
+            ),
+            (self.beside_adders, 40, "too few increments beside others"),
+            (self.overtaking, 3, "too few increments that overtake"),
+        ])
     }
 
-    fn assert_ends(&self, rt: &impl Abort) {
-        assert!(rt; self.backs > 20, "{self:?}");
-        assert!(rt; self.rolled_back > 48, "{self:?}");
-        assert!(rt; self.committed > 120, "{self:?}");
-        assert!(rt; self.sessions > 12, "{self:?}");
+    fn lack_of_ends(&self) -> Option<&'static str> {
+        first_below(&[
+            (self.backs, 20, "too few returns to savepoints"),
+            (self.rolled_back, 48, "too few rollbacks"),
+            (self.committed, 120, "too few commits"),
+            (self.sessions, 12, "too few sessions"),
+        ])
     }
 
-    fn assert_leaves(&self, rt: &impl Abort) {
-        assert!(rt; self.splits > 40, "{self:?}");
-        assert!(rt; self.merges > 40, "{self:?}");
-        assert!(rt; self.flushes > 40, "{self:?}");
-        assert!(rt; self.checkpoints > 3, "{self:?}");
-        assert!(rt; self.crashes > 20, "{self:?}");
-        assert!(rt; self.restarts > 20, "{self:?}");
+    fn lack_of_leaves(&self) -> Option<&'static str> {
+        first_below(&[
+            (self.splits, 40, "too few splits"),
+            (self.merges, 40, "too few merges"),
+            (self.flushes, 40, "too few flushes"),
+            (self.checkpoints, 3, "too few checkpoints"),
+            (self.crashes, 20, "too few crashes"),
+            (self.restarts, 20, "too few restarts"),
+        ])
     }
 
-    fn assert_losers(&self, rt: &impl Abort) {
-        assert!(rt; self.reopened > 16, "{self:?}");
-        assert!(rt; self.lost_answers > 8, "{self:?}");
-        assert!(rt; self.losers > 80, "{self:?}");
-        assert!(rt; self.lost > 80, "{self:?}");
-        assert!(rt; self.beside_losers > 80, "{self:?}");
-        assert!(rt; self.busy_loser > 12, "{self:?}");
+    fn lack_of_losers(&self) -> Option<&'static str> {
+        first_below(&[
+            (self.reopened, 16, "too few logs that were opened"),
+            (self.lost_answers, 8, "too few answers that were lost"),
+            (self.losers, 80, "too few losers"),
+            (self.lost, 80, "too few that were told lost"),
+            (self.beside_losers, 80, "too few calls beside losers"),
+            (self.busy_loser, 12, "too few keys that losers hold"),
+        ])
     }
 
-    fn assert_refusals(&self, rt: &impl Abort) {
-        assert!(rt; self.busy > 600, "{self:?}");
-        assert!(rt; self.busy_committing > 4, "{self:?}");
-        assert!(rt; self.full > 3, "{self:?}");
-        assert!(rt; self.bad_savepoint > 80, "{self:?}");
+    fn lack_of_refusals(&self) -> Option<&'static str> {
+        first_below(&[
+            (self.busy, 600, "too few keys that are held"),
+            (
+                self.busy_committing,
+                4,
+                "too few keys that are held until a commit is told",
+            ),
+            (self.full, 3, "too seldom full"),
+            (
+                self.bad_savepoint,
+                80,
+                "too few savepoints that aren't there",
+            ),
+        ])
     }
+}
+
+/// The text of the first count that isn't above its least.
+fn first_below(counts: &[(u64, u64, &'static str)]) -> Option<&'static str> {
+    for (count, least, text) in counts {
+        if count <= least {
+            return Some(*text);
+        }
+    }
+    None
 }
 
 /// What was logged last adds to a key to which another transaction has added.
