@@ -1,5 +1,5 @@
 -- The journal, one entry on.
-use Rattle.std.proofs.Common.{◌≡◌, ℕ, zero, suc, ◌==◌, Bool, true, false, not, cond, List, [], ◌∷◌, ◌++◌, Option, Some, None, refl, ap, sym, ◌∙◌, subst, arith, slice_get, map, set, eq-eqb, eqb→eq, inr}
+use Rattle.std.proofs.Common.{◌≡◌, ℕ, zero, suc, ◌==◌, Bool, true, false, not, cond, List, [], ◌∷◌, ◌++◌, Option, Some, None, refl, ap, sym, ◌∙◌, subst, arith, slice_get, map, set, eq-eqb, eqb→eq, inl, inr}
 use lib.Dec.{T}
 use Rattle.std.specs.Prelude.{filter, Result, Ok, Err, IfOk, OnErr, IfSome, IfNone}
 use Rattle.std.specs.Option.{is_some}
@@ -15,10 +15,10 @@ use Rattle.world.specs.Messages.{message_at}
 use Rattle.pool_journal.specs.declared.place.Place.{Place}
 use Rattle.pool_journal.specs.declared.step.Step.{Step}
 use Rattle.pool_journal.specs.Kept.{is_dc, calls_of, IsLine, PlaceKept, PlacesKept, LinesKept, place_after, place_heard, EntersTc, EntersDc, IsInRun, IsSentBy}
-use Rattle.pool_journal.specs.Sessions.{LeavesLive, Call, Part, calls_as, calls, called, no_part, line_of, pending, part_of, awaits, called_as, is_pending, live_after, IsClosed, IsSameCall}
+use Rattle.pool_journal.specs.Sessions.{LeavesLive, Call, Part, calls_as, calls, called, no_part, line_of, pending, part_of, awaits, called_as, is_pending, live_after, IsClosed, IsLeft, IsSameCall}
 use Rattle.pool_journal.specs.declared.news.News.{News}
 use Rattle.pool_journal.specs.declared.news.News.TheVariants as news
-use Rattle.pool_journal.specs.Callers.{HasLine, IsToldBy, IsUntold, IsNews}
+use Rattle.pool_journal.specs.Callers.{Awaits, HasLine, IsToldBy, IsUntold, IsNews}
 use Rattle.pool_journal.specs.Waiting.{IsNewsOf}
 use Rattle.pool_journal.specs.Slots.{Slot, step_at, steps, asks, gives, through, seen, Shown, IsShown, last_of}
 use Rattle.pool_journal.specs.Steps.{is_tc, requests, replies, TcState, DcState, GivesTc, GivesDc, IsRun, dc_start}
@@ -327,12 +327,12 @@ module _ {J : Type 0} (row : Shelves) (names : ℕ → ℕ) where
   news_line s before es p token k seen_is is =
       let g = grown s before es (subst (λ (xs : List Step). Sees (calls_of s) xs es) (sym seen_is) k.sees) in
       let l = subst (IsLine (line_of (part_of s es).latest)) is k.line in
-      let h = has_line (part_of s before).latest (part_of s es).latest l.1.0 g.1 l.1.1 in
+      let h = has_line (part_of s before).latest (part_of s es).latest l.1.0 g.latest l.1.1 in
       record {
         txn = l.0;
         line = l.1.0;
         tells = l.1.2;
-        before = g.0;
+        before = g.before;
         latest = h;
         closed = inr (idle (part_of s es).latest l.1.0 l.1.1);
         over = ended s es l.1.0 l.1.1;
@@ -357,8 +357,8 @@ module _ {J : Type 0} (row : Shelves) (names : ℕ → ℕ) where
   news_none s before es p k seen_is old is =
       let g = grown s before es (subst (λ (xs : List Step). Sees (calls_of s) xs es) (sym seen_is) k.sees) in
       record {
-        before = g.0;
-        latest = untold (part_of s before).latest (part_of s es).latest g.1 old (subst
+        before = g.before;
+        latest = untold (part_of s before).latest (part_of s es).latest g.latest old (subst
             (IsLine (line_of (part_of s es).latest)) is k.line);
       }
     where
@@ -367,6 +367,24 @@ module _ {J : Type 0} (row : Shelves) (names : ℕ → ℕ) where
       untold (Some c) new same a b =
           same.1 ∙ ap (λ (o : Option Line). Some (called_as c.event c.out o)) (sym (ap line_of same.1) ∙ b ∙ sym a)
 
+  -- nothing was told, and its transaction is alive
+  awaits_news : (s : ℕ) (before es : List Step) (p : Place J) → PlaceKept row names es s p → before ≡ p.party.steps
+      → line_of (part_of s before).latest ≡ None → p.line ≡ None → is_some p.live ≡ true
+      → Awaits (part_of s before) (part_of s es)
+  awaits_news s before es p k seen_is old is alive =
+      let g = grown s before es (subst (λ (xs : List Step). Sees (calls_of s) xs es) (sym seen_is) k.sees) in
+      let lives : is_some (part_of s es).live ≡ true =
+      ap (λ (o : Option ℕ). is_some o) (sym k.live) ∙ alive in
+      record {
+        untold = news_none s before es p k seen_is old is;
+        live = same (part_of s before).live (part_of s es).live g.live lives;
+        alive = lives;
+      }
+    where
+      same : (old new : Option ℕ) → IsLeft old new → is_some new ≡ true → new ≡ old
+      same old new (inl is) lives = is
+      same old new (inr gone) lives = absurd (cc (sym (ap (λ (o : Option ℕ). is_some o) gone) ∙ lives))
+
   pub news_is : (s : ℕ) (before es : List Step) (p : Place J) (n : News) → PlaceKept row names es s p
       → before ≡ p.party.steps → line_of (part_of s before).latest ≡ None → IsNewsOf p n
       → IsNews row (part_of s before) (part_of s es) n
@@ -374,24 +392,26 @@ module _ {J : Type 0} (row : Shelves) (names : ℕ → ℕ) where
       (subst (IsShown row) is k.shown, news_line s before es p token k seen_is is)
   news_is s before es p news.CutOff k seen_is old is =
       (news_none s before es p k seen_is old is.0, sym k.live ∙ is.1)
-  news_is s before es p news.Nothing k seen_is old is = news_none s before es p k seen_is old is
+  news_is s before es p (news.Refused f) k seen_is old is = awaits_news s before es p k seen_is old is.0 is.1
+  news_is s before es p news.Nothing k seen_is old is = awaits_news s before es p k seen_is old is.0 is.1
 
 -- what a call came to at once leaves of the transaction
-leaves : (o : Out) (part : Part) (live : Option ℕ) → part.live ≡ live_after live o → LeavesLive o part
-leaves (out.Begun t) part live is = is
-leaves _ part live is = tt
+leaves : (o : Out) (was : Option ℕ) (part : Part) (live : Option ℕ) → IsLeft was live → part.live ≡ live_after live o
+    → LeavesLive was o part
+leaves (out.Begun t) was part live left is = is
+leaves _ was part live left is = subst (IsLeft was) (sym is) left
 
 -- what a session's part is once its call stands in the journal
 pub part_called : (s : ℕ) (before es now : List Step) (e : Step) → e.caller ≡ Some s → Sees (calls_of s) before es
     → IsClosed (part_of s before) → now ≡ es ++ e ∷ []
     → ((part_of s now).before ≡ calls (part_of s before))
     × ((part_of s now).latest ≡ Some (called_as e.event e.out None))
-    × LeavesLive e.out (part_of s now)
+    × LeavesLive (part_of s before).live e.out (part_of s now)
 part_called s before es now e own sees closed is =
     let next : part_of s now ≡ called (part_of s es) e.event e.out =
     ap (part_of s) is ∙ part_snoc s no_part es e ∙ after_called s (part_of s es) e (calls_same e.caller s own) in
     let same = closed_on s before es sees closed in (
       ap (λ (p : Part). p.before) next ∙ same.0,
       ap (λ (p : Part). p.latest) next,
-      leaves e.out (part_of s now) (part_of s es).live (ap (λ (p : Part). p.live) next),
+      leaves e.out (part_of s before).live (part_of s now) (part_of s es).live same.2 (ap (λ (p : Part). p.live) next),
     )

@@ -7,7 +7,8 @@ use Rattle.world.specs.declared.event.Out.{Out}
 use Rattle.pool_journal.specs.declared.place.Place.{Place}
 use Rattle.pool_journal.specs.declared.step.Step.{Step}
 use Rattle.pool_journal.specs.Kept.{calls_of, PlaceKept, IsLine, with_told, place_heard}
-use Rattle.pool_journal.specs.Sessions.{Call, Part, with_latest, calls, line_to, line_for, is_pending, awaits, told, told_of, pending, line_of, live_after, ends, called_as, hears, cuts_off, heard, called, after, part_after, no_part, part_of, IsClosed, IsSameCall}
+use Rattle.pool_journal.specs.Sessions.{Call, Part, with_latest, calls, line_to, line_for, is_pending, awaits, told, told_of, pending, line_of, live_after, ends, called_as, hears, cuts_off, heard, called, after, part_after, no_part, part_of, IsClosed, IsLeft, IsSameCall}
+use Rattle.pool_journal.specs.Callers.{IsGrown}
 use Rattle.pool_journal.specs.Slots.{Slot, Shown, IsShown}
 use Rattle.pool_journal.specs.Views.{View, Sees}
 use Rattle.pool_journal.proofs.Lists.{all_snoc}
@@ -40,10 +41,6 @@ told_same c line is = λ i. called_as c.event c.out (cond (is i) (Some line) c.l
 told_of_same : (o : Option Call) (line : Line) → pending o ≡ false → told_of o line ≡ o
 told_of_same None line is = refl
 told_of_same (Some c) line is = ap (λ (d : Call). Some d) (told_same c line is)
-
--- what a session's transaction may become that makes no call
-abbrev IsLeft : Option ℕ → Option ℕ → Type 0
-IsLeft old new = (new ≡ old) ⊎ (new ≡ None)
 
 left_on : (old mid new : Option ℕ) → IsLeft old mid → IsLeft mid new → IsLeft old new
 left_on old mid new a (inr gone) = inr gone
@@ -162,6 +159,7 @@ ended s es = ended_all s no_part es (λ l has end. absurd (cc (has)))
 record Grows (old new : Part) : Type 0 where
   before : new.before ≡ old.before
   latest : IsSameCall old.latest new.latest
+  live : IsLeft old.live new.live
 
 same_call : (o : Option Call) → IsSameCall o o
 same_call None = refl
@@ -178,18 +176,19 @@ same_call_on (Some x) b c is m =
     (n.0, n.1)
 
 hears_grows : (part : Part) (line : Option Line) → Grows part (hears part line)
-hears_grows part None = record { before = refl; latest = same_call part.latest }
-hears_grows part (Some line) = record { before = refl; latest = told_same_call part.latest line }
+hears_grows part None = record { before = refl; latest = same_call part.latest; live = inl refl }
+hears_grows part (Some line) =
+    record { before = refl; latest = told_same_call part.latest line; live = left_if (ends line) part.live }
 
 grows_at : (part : Part) (b : Bool) (o : Out)
     → Grows part (cond b (record { live = None; before = part.before; latest = part.latest })
     (hears part (line_for part.live o)))
-grows_at part true o = record { before = refl; latest = same_call part.latest }
+grows_at part true o = record { before = refl; latest = same_call part.latest; live = inr refl }
 grows_at part false o = hears_grows part (line_for part.live o)
 
 grows : (s : ℕ) (part : Part) (es : List Step) → AllByRecursion (λ e. calls_of s e ≡ false) es
     → Grows part (part_after s part es)
-grows s part [] n = record { before = refl; latest = same_call part.latest }
+grows s part [] n = record { before = refl; latest = same_call part.latest; live = inl refl }
 grows s part (e ∷ es) n =
     let one : Grows part (after s part e) =
     subst (Grows part) (sym (after_heard s part e n.0)) (grows_at part (cuts_off e.event) e.out) in
@@ -197,18 +196,22 @@ grows s part (e ∷ es) n =
     record {
       before = rest.before ∙ one.before;
       latest = same_call_on part.latest (after s part e).latest _ one.latest rest.latest;
+      live = left_on part.live (after s part e).live _ one.live rest.live;
     }
 
 -- the session's calls are those that it knows of, and of the latest more may have been told
-pub grown : (s : ℕ) (before now : List Step) → Sees (calls_of s) before now
-    → ((part_of s now).before ≡ (part_of s before).before)
-    × IsSameCall (part_of s before).latest (part_of s now).latest
+pub grown : (s : ℕ) (before now : List Step) → Sees (calls_of s) before now → IsGrown (part_of s before) (part_of s now)
 grown s before now sees =
     let all : part_of s now ≡ part_after s (part_of s before) sees.since =
     ap (part_of s) sees.all ∙ part_append s no_part before sees.since in
     let g : Grows (part_of s before) (part_of s now) =
     subst (Grows (part_of s before)) (sym all) (grows s (part_of s before) sees.since sees.none) in
-    (g.before, g.latest)
+    record {
+      before = g.before;
+      latest = g.latest;
+      live = g.live;
+      closed = λ is. let on = closed_on s before now sees is in (on.0, on.1);
+    }
 
 -- ---- the place of a session
 

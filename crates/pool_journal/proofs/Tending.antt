@@ -1,6 +1,6 @@
 -- Tending that finds nothing to do leaves the data component as it was, and needs no entry; what it does is entered as a
 -- step that takes nothing and sends nothing.
-use Rattle.std.proofs.Common.{◌≡◌, ℕ, ◌+◌, Bool, true, false, List, [], Option, Some, None, Ok, refl, ap, sym, ◌∙◌, subst, arith}
+use Rattle.std.proofs.Common.{◌≡◌, ℕ, ◌+◌, Bool, true, false, List, [], Some, None, Ok, refl, ap, ◌∙◌, subst, arith}
 use Rattle.std.specs.Bool.{MatchBool}
 use Rattle.dc_core.specs.DcView.{DcView}
 use Rattle.dc_core.specs.Serves.{with_system}
@@ -17,7 +17,7 @@ use Rattle.world.specs.Halves.{DcLeads, node_of}
 use Rattle.world.specs.Node.{NodeView, CallsDc, dc_side}
 use Rattle.pool_journal.specs.declared.step.Step.{Step}
 use Rattle.pool_journal.specs.Kept.{EntersDc}
-use Rattle.pool_journal.specs.Steps.{DcState, GivesDc, tc_start}
+use Rattle.pool_journal.specs.Steps.{GivesDc, tc_start}
 use Rattle.pool_journal.proofs.Sitting.{dc_goes_alone}
 
 rested : (known : ℕ) (old new : SystemView) (t : Tending) → TendsTo known old t tended.Nothing new → new ≡ old

@@ -1,5 +1,6 @@
 -- What is seen of a session: its number, and its part of the entries that it has seen.
 use Rattle.std.specs.Prelude.{◌≡◌, ℕ, true, Option, Some, None}
+use Rattle.std.specs.Option.{is_some}
 use Rattle.history.specs.ListMachine.{Line}
 use Rattle.world.specs.declared.event.Out.{Out}
 use Rattle.boxcar.specs.Table.{Shelves}
@@ -7,7 +8,7 @@ use Rattle.marks.specs.Seen.{Seen}
 use Rattle.pool_journal.specs.declared.news.News.{News}
 use Rattle.pool_journal.specs.declared.news.News.TheVariants as news
 use Rattle.pool_journal.specs.Slots.{Shown}
-use Rattle.pool_journal.specs.Sessions.{Call, Part, called_as, ends, line_to, IsClosed}
+use Rattle.pool_journal.specs.Sessions.{Call, Part, called_as, calls, ends, line_to, IsClosed, IsLeft, IsSameCall}
 
 pub record CallerView : Type 0 where
   pub number : ℕ
@@ -39,8 +40,23 @@ pub record IsUntold (old new : Part) : Type 0 where
   pub before : new.before ≡ old.before
   pub latest : new.latest ≡ old.latest
 
+-- nothing was told of it, and its transaction is alive
+pub record Awaits (old new : Part) : Type 0 where
+  pub untold : IsUntold old new
+  pub live : new.live ≡ old.live
+  pub alive : is_some new.live ≡ true
+
+-- a session's part later on, where the session made no call: of its latest call more may have been told, unless nothing
+-- more is told of it
+pub record IsGrown (old new : Part) : Type 0 where
+  pub before : new.before ≡ old.before
+  pub latest : IsSameCall old.latest new.latest
+  pub live : IsLeft old.live new.live
+  pub closed : IsClosed old → (calls new ≡ calls old) × IsClosed new
+
 -- what a session finds that waits for what is told of its latest call
 abbrev pub IsNews : Shelves → Part → Part → News → Type 0
 IsNews row old new (news.Line p) = Shown row p × IsToldBy old new p.value.step.value.out
 IsNews row old new news.CutOff = IsUntold old new × (new.live ≡ None)
-IsNews row old new news.Nothing = IsUntold old new
+IsNews row old new (news.Refused f) = Awaits old new
+IsNews row old new news.Nothing = Awaits old new

@@ -8,3 +8,4 @@ pub mod Desks
 pub mod Waiting
 pub mod Marking
 pub mod Ending
+pub mod Failing

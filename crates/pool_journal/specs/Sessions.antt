@@ -1,5 +1,5 @@
 -- A session's part of the entries: its calls, in order, each with its output and the first line told of it.
-use Rattle.std.specs.Prelude.{◌≡◌, ◌⊎◌, ℕ, ◌==◌, Bool, true, false, cond, List, [], ◌∷◌, ◌++◌, Option, Some, None, ⊤}
+use Rattle.std.specs.Prelude.{◌≡◌, ◌⊎◌, ℕ, ◌==◌, Bool, true, false, cond, List, [], ◌∷◌, ◌++◌, Option, Some, None}
 use Rattle.std.specs.List.{list_any}
 use Rattle.history.specs.ListMachine.{Line, TellsAnswer, TellsRow, TellsRows, TellsBack, TellsRolledBack, TellsCommitted, TellsLost}
 use Rattle.world.specs.declared.event.Event.{Event}
@@ -144,12 +144,16 @@ part_of s es = part_after s no_part es
 abbrev pub IsClosed : Part → Type 0
 IsClosed part = (part.live ≡ None) ⊎ (pending part.latest ≡ false)
 
+-- a transaction that was a session's still is, or is gone
+abbrev pub IsLeft : Option ℕ → Option ℕ → Type 0
+IsLeft old new = (new ≡ old) ⊎ (new ≡ None)
+
 -- the same call, of which more may have been told
 abbrev pub IsSameCall : Option Call → Option Call → Type 0
 IsSameCall None later = later ≡ None
 IsSameCall (Some c) later = (line : Option Line) × (later ≡ Some (called_as c.event c.out line))
 
 -- what a call that has its entry came to at once leaves of the transaction
-abbrev pub LeavesLive : Out → Part → Type 0
-LeavesLive (out.Begun t) new = new.live ≡ Some t
-LeavesLive _ new = ⊤
+abbrev pub LeavesLive : Option ℕ → Out → Part → Type 0
+LeavesLive was (out.Begun t) new = new.live ≡ Some t
+LeavesLive was _ new = IsLeft was new.live

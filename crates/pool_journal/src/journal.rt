@@ -1,10 +1,10 @@
 //! What lies under the journal's lock.
-ghost use Rattle.std.specs.Prelude.{◌≡◌, ◌++◌, ◌∷◌, [], None, Some, true, IfOk, IfSome, IfNone, OnErr, length, map, vec_len, slice_get};
+ghost use Rattle.std.specs.Prelude.{◌≡◌, ◌++◌, ◌∷◌, [], None, Some, true, false, IfOk, IfSome, IfNone, OnErr, length, map, vec_len, slice_get};
 ghost use Rattle.world.specs.Halves.{IsSpelledIf};
 ghost use Rattle.world.specs.Messages.{message_at};
-ghost use Rattle.pool_journal.specs.Callers.{IsNews};
+ghost use Rattle.pool_journal.specs.Callers.{IsGrown, IsNews, IsUntold};
 ghost use Rattle.pool_journal.specs.Kept.{is_dc, IsInRun, IsSentBy, EntersTc, EntersDc, PlacesKept, place_after};
-ghost use Rattle.pool_journal.specs.Waiting.{IsNewsOf};
+ghost use Rattle.pool_journal.specs.Waiting.{IsCutAt, IsNewsOf};
 ghost use Rattle.pool_journal.specs.Sessions.{IsClosed, LeavesLive, called_as, calls, part_of, line_of};
 ghost use Rattle.pool_journal.specs.Slots.{Shown};
 ghost use Rattle.pool_journal.specs.Steps.{is_tc, IsRun, requests, replies, TcState, DcState, GivesTc, GivesDc};
@@ -12,6 +12,7 @@ ghost use Rattle.pool_journal.specs.Views.{Sees};
 
 use crate::caller::Caller;
 use crate::entry::Entry;
+use crate::failure::Failure;
 use crate::lines::{Lines, Unsent};
 use crate::naming::Naming;
 use crate::news::News;
@@ -30,8 +31,7 @@ use world::DcSide;
 pub struct Journal<J: Naming> {
     lines: Lines<J>,
     places: Vec<Place<J>>,
-    // Whose latest request was answered or lost, so that the session has to look again.
-    again: Stirs,
+    stirs: Stirs,
 }
 
 impl<J: Naming> Model for Journal<J> {
@@ -60,8 +60,8 @@ fn hear_all<J: Naming>(places: &mut Vec<Place<J>>, entry: &Entry, token: &Pushed
     }
 }
 
-// What a place has for a session that waits.
-fn news_of<J: Naming>(place: &Place<J>) -> News
+// What a place has for a session that waits, whose request was refused for this, if it was.
+fn news_of<J: Naming>(place: &Place<J>, refused: Option<Failure>) -> News
     ensures { IsNewsOf place.now result }
 {
     if let Some(token) = &place.line {
@@ -70,7 +70,20 @@ fn news_of<J: Naming>(place: &Place<J>) -> News
     if place.live.is_none() {
         return News::CutOff;
     }
-    News::Nothing
+    match refused {
+        Some(failure) => News::Refused(failure),
+        None => News::Nothing,
+    }
+}
+
+// Whether nothing more is told to the session.
+fn is_cut_at<J: Naming>(places: &Vec<Place<J>>, session: u64) -> bool
+    ensures { result ≡ true → IsCutAt places.now.items session }
+{
+    match places.get(session as usize) {
+        Some(place) => matches!(news_of(place, None), News::CutOff),
+        None => false,
+    }
 }
 
 impl<J: Naming> Journal<J> {
@@ -84,7 +97,7 @@ impl<J: Naming> Journal<J> {
         Journal {
             lines,
             places,
-            again: stirs,
+            stirs,
         }
     }
 
@@ -123,7 +136,7 @@ impl<J: Naming> Journal<J> {
         let Journal {
             lines,
             places: _,
-            again: _,
+            stirs: _,
         } = self;
         lines.meet_tc(row, visitor);
         lines.reply(number)
@@ -153,7 +166,7 @@ impl<J: Naming> Journal<J> {
         let Journal {
             lines,
             places: _,
-            again: _,
+            stirs: _,
         } = self;
         lines.meet_dc(row, visitor, side, given);
         lines.request(number)
@@ -178,7 +191,7 @@ impl<J: Naming> Journal<J> {
         let Journal {
             lines,
             places: _,
-            again: _,
+            stirs: _,
         } = self;
         lines.meet_dc(row, visitor, side, given);
     }
@@ -205,7 +218,7 @@ impl<J: Naming> Journal<J> {
         let Journal {
             lines,
             places,
-            again: _,
+            stirs: _,
         } = self;
         let token = lines.enter_dc(rt, row, visitor, step);
         hear_all(places, row.value(&token), &token);
@@ -235,7 +248,7 @@ impl<J: Naming> Journal<J> {
         let Journal {
             lines,
             places,
-            again: _,
+            stirs: _,
         } = self;
         let token = lines.enter_tc(rt, row, visitor, step);
         hear_all(places, row.value(&token), &token);
@@ -266,12 +279,12 @@ impl<J: Naming> Journal<J> {
         ensures number { caller.new.number ≡ caller.old.number }
         ensures before { caller.new.part.before ≡ calls caller.old.part }
         ensures latest { caller.new.part.latest ≡ Some (called_as step.value.event step.value.out None) }
-        ensures live { LeavesLive step.value.out caller.new.part }
+        ensures live { LeavesLive caller.old.part.live step.value.out caller.new.part }
     {
         let Journal {
             lines,
             places,
-            again: _,
+            stirs,
         } = self;
         let token = lines.enter_tc(rt, row, visitor, step);
         let entry = row.value(&token);
@@ -285,6 +298,7 @@ impl<J: Naming> Journal<J> {
         place.live = live_after(place.live, entry.out());
         place.awaits = is_pending(entry.out());
         place.line = None;
+        stirs.begin(*number, lines.asked());
         token
     }
 
@@ -300,35 +314,59 @@ impl<J: Naming> Journal<J> {
         let Journal {
             lines,
             places,
-            again,
+            stirs,
         } = self;
         let Caller {
             number,
             visitor: own,
         } = caller;
-        again.set(*number, false);
+        let refused = stirs.take(*number);
         let place = &mut places[*number as usize];
         place.party.meet(row, own, &lines.last());
-        news_of(place)
+        news_of(place, refused)
+    }
+
+    /// Whether nothing more is told of a session's latest call, which the session has then seen.
+    pub fn take_cut(&mut self, row: &Row<Entry>, caller: &mut Caller<J>) -> bool
+        requires row { row.now ≡ J.entries }
+        requires untold { line_of caller.old.part.latest ≡ None }
+        ensures same { self.new ≡ self.old }
+        ensures cut { result ≡ true → IsUntold caller.old.part caller.new.part × (caller.new.part.live ≡ None) }
+        ensures number { caller.new.number ≡ caller.old.number }
+        ensures still { result ≡ false → caller.new.part ≡ caller.old.part }
+    {
+        let Journal {
+            lines,
+            places,
+            stirs: _,
+        } = self;
+        let Caller {
+            number,
+            visitor: own,
+        } = caller;
+        if !is_cut_at(places, *number) {
+            return false;
+        }
+        let place = &mut places[*number as usize];
+        place.party.meet(row, own, &lines.last());
+        true
     }
 
     /// The session sees all entries. Its part has just the calls that it knows of. Answers its transaction, if that is
     /// alive.
     pub fn see(&mut self, row: &Row<Entry>, caller: &mut Caller<J>) -> Option<u64>
         requires row { row.now ≡ J.entries }
-        requires closed { IsClosed caller.old.part }
         ensures same { self.new ≡ self.old }
         ensures number { caller.new.number ≡ caller.old.number }
         ensures part { caller.new.part ≡ part_of caller.old.number self.old }
-        ensures calls { calls caller.new.part ≡ calls caller.old.part }
-        ensures closed { IsClosed caller.new.part }
+        ensures grown { IsGrown caller.old.part caller.new.part }
         ensures live { result ≡ caller.new.part.live }
         ensures kept { IfSome result (λ t. caller.old.part.live ≡ Some t) }
     {
         let Journal {
             lines,
             places,
-            again: _,
+            stirs: _,
         } = self;
         let Caller {
             number,
@@ -358,9 +396,9 @@ impl<J: Naming> Journal<J> {
     /// Whether a session that waits has something to do: a line was told, its call was cut off, or what it sent was
     /// answered or lost.
     pub fn has_news(&self, session: u64) -> bool {
-        let again = self.again.is_set(session);
+        let stirred = self.stirs.is_set(session);
         match self.places.get(session as usize) {
-            Some(place) => again || place.line.is_some() || place.live.is_none(),
+            Some(place) => stirred || place.line.is_some() || place.live.is_none(),
             None => true,
         }
     }
@@ -372,8 +410,32 @@ impl<J: Naming> Journal<J> {
         let Journal {
             lines: _,
             places: _,
-            again,
+            stirs,
         } = self;
-        again.set(session, true);
+        stirs.stir(session);
+    }
+
+    /// The session's request of this number was refused.
+    pub fn refuse(&mut self, session: u64, request: u64, failure: Failure)
+        ensures { self.new ≡ self.old }
+    {
+        let Journal {
+            lines: _,
+            places: _,
+            stirs,
+        } = self;
+        stirs.refuse(session, request, failure);
+    }
+
+    /// The session's latest call goes on: what was sent for it so far is no matter any more.
+    pub fn resume(&mut self, session: u64)
+        ensures { self.new ≡ self.old }
+    {
+        let Journal {
+            lines,
+            places: _,
+            stirs,
+        } = self;
+        stirs.begin(session, lines.asked());
     }
 }

@@ -1,5 +1,6 @@
 //! What a session that waits finds.
 use crate::entry::Entry;
+use crate::failure::Failure;
 use boxcar::Pushed;
 
 /// What was told of a session's latest call.
@@ -9,5 +10,7 @@ pub enum News {
     Line(Pushed<Entry>),
     /// Nothing more is told of it.
     CutOff,
+    /// Nothing was told yet, and its request was refused.
+    Refused(Failure),
     Nothing,
 }

@@ -1,30 +1,73 @@
-//! Which sessions have to look again.
+//! Which sessions have to look again, and whose request was refused.
+use crate::failure::Failure;
 use std::alloc::{AllocError, Global};
 
-/// A flag for each session: what it sent was answered or lost. No proof rests on them.
+/// What a session is to know of its latest call.
+#[derive(Debug, Clone, Copy)]
+struct Stir {
+    looks: bool,
+    refused: Option<Failure>,
+    // How many requests had been sent when its call went on: that one of these was refused is no matter of this call.
+    sent: u64,
+}
+
+/// What each session is to know of its latest call. No proof rests on it.
 #[derive(Drop)]
 pub struct Stirs {
-    flags: Vec<bool>,
+    stirs: Vec<Stir>,
 }
 
 impl Stirs {
     pub fn new(alloc: Global, sessions: usize) -> Result<Stirs, AllocError> {
-        let mut flags = Vec::with_capacity(alloc, sessions)?;
+        let mut stirs = Vec::with_capacity(alloc, sessions)?;
         for _ in 0..sessions {
-            flags.push(false)?;
+            stirs.push(Stir {
+                looks: false,
+                refused: None,
+                sent: 0,
+            })?;
         }
-        Ok(Stirs { flags })
+        Ok(Stirs { stirs })
     }
 
-    pub fn set(&mut self, session: u64, flag: bool) {
-        if let Some(place) = self.flags.get_mut(session as usize) {
-            *place = flag;
+    /// The session's call goes on, after so many requests.
+    pub fn begin(&mut self, session: u64, sent: u64) {
+        if let Some(stir) = self.stirs.get_mut(session as usize) {
+            *stir = Stir {
+                looks: false,
+                refused: None,
+                sent,
+            };
         }
+    }
+
+    /// The session has to look again.
+    pub fn stir(&mut self, session: u64) {
+        if let Some(stir) = self.stirs.get_mut(session as usize) {
+            stir.looks = true;
+        }
+    }
+
+    /// The session's request of this number was refused.
+    pub fn refuse(&mut self, session: u64, request: u64, failure: Failure) {
+        if let Some(stir) = self.stirs.get_mut(session as usize) {
+            stir.looks = true;
+            if request > stir.sent {
+                stir.refused = Some(failure);
+            }
+        }
+    }
+
+    /// The session looks: what its request was refused for, if it was.
+    pub fn take(&mut self, session: u64) -> Option<Failure> {
+        let stir = self.stirs.get_mut(session as usize)?;
+        stir.looks = false;
+        stir.refused.take()
     }
 
     pub fn is_set(&self, session: u64) -> bool {
-        match self.flags.get(session as usize) {
-            Some(flag) => *flag,
+        match self.stirs.get(session as usize) {
+            Some(stir) => stir.looks,
             None => true,
         }
     }

@@ -19,19 +19,17 @@ use Rattle.pool_tests.specs.contracts.threads.Ended as Ended
 pub stage_send : IsSend (Arc.the_row Stage.the_row Global.the_row ghosts)
 stage_send = search (stage.the_send, stage.the_sync, crosses, sendable) depth 20
 
-module _ (J : RattleType) (n : naming.Ghosts J.Denot) (s : IsSend J) (y : IsSync J) where
-  client_field_send : IsSend (Client.the_field J n).row
-  client_field_send = struct_send (shape (Client.the_type J n)) (
+module _ (S : RattleType) (s : IsSend S) where
+  client_field_send : IsSend (Client.the_field S).row
+  client_field_send = struct_send (shape (Client.the_type S)) (
     search sendable,
-    (
-      session_send J n s y Door.the_row door.the_send door.the_sync,
-      (search sendable, (search (note.the_send, crosses, sendable) depth 20, tt)),
-    ),
+    (s, (search sendable, (search (note.the_send, crosses, sendable) depth 20, tt))),
   )
 
-  pub client_send : IsSend (Client.the_row J n)
-  client_send = recorded_send (Client.the_field J n).row _ _ (Client.the_type J n).to_one client_field_send
+  pub client_send : IsSend (Client.the_row S)
+  client_send = recorded_send (Client.the_field S).row _ _ (Client.the_type S).to_one client_field_send
 
-  pub ended_send : IsSend (Ended.the_row J n)
-  ended_send = recorded_send (Ended.the_field J n).row _ _ (Ended.the_type J n).to_one
-      (struct_send (shape (Ended.the_type J n)) (client_field_send, (search sendable, tt)))
+pub ended_send : (J : RattleType) (n : naming.Ghosts J.Denot) → IsSend J → IsSync J → IsSend (Ended.the_row J n)
+ended_send J n s y = recorded_send (Ended.the_field J n).row _ _ (Ended.the_type J n).to_one
+    (struct_send (shape (Ended.the_type J n))
+    (client_field_send _ (session_send J n s y Door.the_row door.the_send door.the_sync), (search sendable, tt)))

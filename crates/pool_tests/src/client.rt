@@ -1,11 +1,11 @@
 //! A client: its session, and what it notes of its own calls.
 use crate::call::Call;
-use crate::stage::Door;
+use crate::served::Serves;
 use codec::Rows;
 use record_key::{Answer, Key, Op, Refusal, Value};
 use std::alloc::Global;
 use std::sync::Wait;
-use worker_pool::{Naming, Session};
+use worker_pool::Told;
 use world::{Event, Out};
 
 /// A call, and what the client was answered, as the output that says it.
@@ -17,16 +17,16 @@ pub struct Note {
 
 /// A client with its session, from 0.
 #[derive(Drop)]
-pub struct Client<J: Naming> {
+pub struct Client<S> {
     number: u64,
-    session: Session<J, Door>,
+    session: S,
     txn: u64,
     notes: Vec<Note>,
 }
 
-impl<J: Naming + Drop> Client<J> {
+impl<S: Serves + Drop> Client<S> {
     /// A client that has made no call.
-    pub fn new(alloc: Global, number: u64, session: Session<J, Door>) -> Client<J> {
+    pub fn new(alloc: Global, number: u64, session: S) -> Client<S> {
         Client {
             number,
             session,
@@ -40,7 +40,7 @@ impl<J: Naming + Drop> Client<J> {
     }
 
     /// Its session, and its notes.
-    pub fn parted(self) -> (Session<J, Door>, Vec<Note>) {
+    pub fn parted(self) -> (S, Vec<Note>) {
         let Client {
             number: _,
             session,
@@ -71,6 +71,20 @@ impl<J: Naming + Drop> Client<J> {
         }
         self.notes.push(Note { event, out })?;
         Ok(())
+    }
+
+    /// Carries its unfinished call on, which is noted as answered so: what that was answered.
+    pub fn again<R: Wait>(&mut self, rt: &R) -> Result<&Out, Refusal> {
+        let told = self.session.again(rt)?;
+        let note = self.unfinished().ok_or(Refusal::Unsent)?;
+        note.out = out_of(&note.event, told);
+        Ok(&note.out)
+    }
+
+    // The latest call that a failure left unfinished.
+    fn unfinished(&mut self) -> Option<&mut Note> {
+        let place = self.notes.iter().rposition(|note| is_failure(&note.out))?;
+        self.notes.get_mut(place)
     }
 
     fn answer<R: Wait>(&mut self, rt: &R, call: &Call) -> Result<Out, Refusal> {
@@ -128,6 +142,48 @@ impl<J: Naming + Drop> Client<J> {
 
     fn commit<R: Wait>(&mut self, rt: &R) -> Result<u64, Refusal> {
         self.session.commit(rt)
+    }
+}
+
+/// Whether memory was refused or a device failed.
+pub fn is_failure(out: &Out) -> bool {
+    matches!(out, Out::Refused(Refusal::NoMemory | Refusal::Device))
+}
+
+// What a call was told, as the output that says it.
+fn out_of(event: &Event, told: Told) -> Out {
+    let txn = txn_of(event);
+    match told {
+        Told::Answer(answer) => answered(txn, answer),
+        Told::Row(value) => row(txn, value),
+        Told::Rows(all) => rows(txn, all),
+        Told::Back => Out::Back {
+            txn,
+            savepoint: savepoint_of(event),
+        },
+        Told::RolledBack => Out::RolledBack(txn),
+        Told::Committed(number) => Out::CommitLogged(number),
+    }
+}
+
+// The savepoint to which a call goes back, 0 where it doesn't.
+fn savepoint_of(event: &Event) -> u64 {
+    match event {
+        Event::GoBack { savepoint, .. } => *savepoint,
+        _ => 0,
+    }
+}
+
+/// Whose call it is, 0 where it is no transaction's.
+pub fn txn_of(event: &Event) -> u64 {
+    match event {
+        Event::Act { txn, .. }
+        | Event::Get { txn, .. }
+        | Event::Scan { txn, .. }
+        | Event::GoBack { txn, .. }
+        | Event::Rollback { txn }
+        | Event::Commit { txn } => *txn,
+        _ => 0,
     }
 }
 

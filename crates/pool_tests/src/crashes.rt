@@ -24,7 +24,11 @@ const CRASHES: [Crash; 6] = [
 /// How often a component has crashed once all of these were made.
 pub const FALLS: usize = 7;
 
-/// Makes each crash after so many calls more, and restarts what is down. Whether each restart was done.
+/// How many calls of the log's device after a restart one fails.
+const FAILS: u64 = 9;
+
+/// Makes each crash after so many calls more, restarts what is down, and lets a device fail some calls later. Whether
+/// each restart was done.
 pub fn crash_all<J, R>(rt: &R, engine: &Engine<J, Door>, stage: &Stage, many: &Many) -> bool
 where
     J: Naming + Drop + Send + Sync + 'static,
@@ -60,7 +64,9 @@ where
             engine.crash_dc(rt);
         }
     }
-    let up = engine.restart(rt).is_ok();
+    // (what was to fail may fail here)
+    let up = engine.restart(rt).is_ok() || engine.restart(rt).is_ok();
+    engine.fail_tc(rt, FAILS);
     stage.set_down(false);
     up
 }

@@ -3,19 +3,15 @@ use crate::crashes::FALLS;
 use crate::parts::Part;
 use crate::plan::Many;
 use crate::playing::{OWN, own_key};
+use crate::served::Leaves;
 use crate::told::put_rows;
 use crate::{machine, parts};
 use record_key::Refusal;
 use std::alloc::Global;
-use worker_pool::{Closed, Naming};
 use world::Out;
 
 /// Whether the journal is what the plain model says, and each session's part of it what its client noted.
-pub fn is_journal<J: Naming>(
-    alloc: Global,
-    closed: &Closed<J>,
-    parts: &[Part],
-) -> Result<bool, Refusal> {
+pub fn is_journal<L: Leaves>(alloc: Global, closed: &L, parts: &[Part]) -> Result<bool, Refusal> {
     for part in parts {
         if !parts::agrees(closed, part) {
             return Ok(false);
@@ -25,9 +21,9 @@ pub fn is_journal<J: Naming>(
 }
 
 /// Whether these records are left.
-pub fn leaves<J: Naming>(alloc: Global, closed: &Closed<J>, wanted: &str) -> Result<bool, Refusal> {
+pub fn leaves<L: Leaves>(alloc: Global, closed: &L, wanted: &str) -> Result<bool, Refusal> {
     let mut text = String::new(alloc);
-    match closed.rows() {
+    match closed.records() {
         Some(rows) => put_rows(&mut text, rows)?,
         None => text.push_str("down")?,
     }
@@ -35,7 +31,7 @@ pub fn leaves<J: Naming>(alloc: Global, closed: &Closed<J>, wanted: &str) -> Res
 }
 
 /// Whether the case wasn't hollow: each client's own record is left, and each crash was one.
-pub fn is_played<J: Naming>(closed: &Closed<J>, many: &Many) -> Result<bool, Refusal> {
+pub fn is_played<L: Leaves>(closed: &L, many: &Many) -> Result<bool, Refusal> {
     let wanted = if many.plan.crashes.is_some() {
         FALLS
     } else {
@@ -45,10 +41,10 @@ pub fn is_played<J: Naming>(closed: &Closed<J>, many: &Many) -> Result<bool, Ref
 }
 
 // How often a component fell that ran.
-fn falls<J: Naming>(closed: &Closed<J>) -> usize {
+fn falls<L: Leaves>(closed: &L) -> usize {
     let mut count = 0usize;
-    for place in 0..closed.len() {
-        if let Some(step) = closed.step(place)
+    for place in 0..closed.count() {
+        if let Some(step) = closed.step_at(place)
             && step.out == Out::Down
         {
             count = count.saturating_add(1);
@@ -57,8 +53,8 @@ fn falls<J: Naming>(closed: &Closed<J>) -> usize {
     count
 }
 
-fn has_own<J: Naming>(closed: &Closed<J>, many: &Many) -> Result<bool, Refusal> {
-    let Some(rows) = closed.rows() else {
+fn has_own<L: Leaves>(closed: &L, many: &Many) -> Result<bool, Refusal> {
+    let Some(rows) = closed.records() else {
         return Ok(false);
     };
     for client in 0..many.sessions as u64 {

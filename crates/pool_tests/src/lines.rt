@@ -1,6 +1,7 @@
 //! Calls that are lines of text, each with its answer.
 use crate::call::Call;
 use crate::client::Client;
+use crate::served::Serves;
 use crate::stage::Door;
 use crate::told::put_told;
 use record_key::Refusal;
@@ -19,10 +20,10 @@ fn parts(line: &str) -> (&str, &str) {
 }
 
 /// Makes the calls of one client, up to the first line whose answer differs. Whether none does.
-pub fn follow<J: Naming + Drop, R: Wait>(
+pub fn follow<S: Serves + Drop, R: Wait>(
     rt: &R,
     alloc: Global,
-    client: &mut Client<J>,
+    client: &mut Client<S>,
     lines: &str,
 ) -> Result<bool, Refusal> {
     for line in lines.lines() {
@@ -34,10 +35,10 @@ pub fn follow<J: Naming + Drop, R: Wait>(
 }
 
 // Whether a client's call is answered as the line says.
-fn answers<J: Naming + Drop, R: Wait>(
+fn answers<S: Serves + Drop, R: Wait>(
     rt: &R,
     alloc: Global,
-    client: &mut Client<J>,
+    client: &mut Client<S>,
     line: &str,
 ) -> Result<bool, Refusal> {
     let (call, wanted) = parts(line);
@@ -47,24 +48,37 @@ fn answers<J: Naming + Drop, R: Wait>(
 }
 
 // Makes a call, and appends what it is answered.
-fn put_answer<J: Naming + Drop, R: Wait>(
+fn put_answer<S: Serves + Drop, R: Wait>(
     rt: &R,
-    client: &mut Client<J>,
+    client: &mut Client<S>,
     words: &mut Words<'_>,
     text: &mut String,
 ) -> Result<(), Refusal> {
     let mut first = *words;
-    if first.word() == "marks" {
-        return put_marks(client, text);
+    match first.word() {
+        "marks" => return put_marks(client, text),
+        "again" => return put_again(rt, client, text),
+        _ => client.make(rt, &Call::read(words)?)?,
     }
-    client.make(rt, &Call::read(words)?)?;
     match client.heard() {
         Some(out) => put_told(text, out),
         None => Ok(()),
     }
 }
 
-fn put_marks<J: Naming + Drop>(client: &mut Client<J>, text: &mut String) -> Result<(), Refusal> {
+// Carries the client's unfinished call on, and appends what that is answered.
+fn put_again<S: Serves + Drop, R: Wait>(
+    rt: &R,
+    client: &mut Client<S>,
+    text: &mut String,
+) -> Result<(), Refusal> {
+    match client.again(rt) {
+        Ok(out) => put_told(text, out),
+        Err(refusal) => put_refusal(text, refusal),
+    }
+}
+
+fn put_marks<S: Serves + Drop>(client: &mut Client<S>, text: &mut String) -> Result<(), Refusal> {
     let (stable, low) = client.marks();
     write!(text, "{stable} {low}")?;
     Ok(())
@@ -72,15 +86,16 @@ fn put_marks<J: Naming + Drop>(client: &mut Client<J>, text: &mut String) -> Res
 
 /// Does what each line says, of a client by its number or of the engine, up to the first whose answer differs. Whether
 /// none does.
-pub fn follow_all<J, R>(
+pub fn follow_all<J, S, R>(
     rt: &R,
     alloc: Global,
     engine: &Engine<J, Door>,
-    clients: &mut Vec<Client<J>>,
+    clients: &mut Vec<Client<S>>,
     lines: &str,
 ) -> Result<bool, Refusal>
 where
     J: Naming + Drop + Send + Sync + 'static,
+    S: Serves + Drop,
     R: Wait,
 {
     for line in lines.lines() {
@@ -92,15 +107,16 @@ where
 }
 
 // Whether what the line says is answered so.
-fn happens<J, R>(
+fn happens<J, S, R>(
     rt: &R,
     alloc: Global,
     engine: &Engine<J, Door>,
-    clients: &mut Vec<Client<J>>,
+    clients: &mut Vec<Client<S>>,
     line: &str,
 ) -> Result<bool, Refusal>
 where
     J: Naming + Drop + Send + Sync + 'static,
+    S: Serves + Drop,
     R: Wait,
 {
     let (call, wanted) = parts(line);
@@ -108,6 +124,7 @@ where
     let mut words = Words::new(alloc, call);
     match words.word() {
         "crash" => crash(rt, engine, &mut words)?,
+        "fail" => engine.fail_tc(rt, words.number()?),
         "restart" => put_restart(rt, engine, &mut text)?,
         number => {
             let Some(place) = place_of(clients, number) else {
@@ -122,7 +139,7 @@ where
 }
 
 // Where the client of this number stands, if it isn't on a thread.
-fn place_of<J: Naming + Drop>(clients: &Vec<Client<J>>, number: &str) -> Option<usize> {
+fn place_of<S: Serves + Drop>(clients: &Vec<Client<S>>, number: &str) -> Option<usize> {
     let number = number.parse::<u64>().ok()?;
     for (place, client) in clients.iter().enumerate() {
         if client.number() == number {

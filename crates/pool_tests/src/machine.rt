@@ -2,10 +2,12 @@
 //!
 //! The model has one list of operations, with those crossed out that were rolled back, and reads and answers by a plain
 //! table of the others. Of a restart the journal tells how many records the log had then, and who is lost.
+use crate::client::is_failure;
+use crate::served::Leaves;
 use client_model::{Beside, Model, Span};
 use record_key::{Op, Refusal};
 use std::alloc::{AllocError, Global};
-use worker_pool::{Closed, Naming, Step};
+use worker_pool::Step;
 use world::{Event, Out};
 
 /// An operation that was logged.
@@ -31,17 +33,13 @@ struct Machine {
 }
 
 /// Whether each step is what the model says, and the records at the end are its table's.
-pub fn agrees<J: Naming>(alloc: Global, closed: &Closed<J>) -> Result<bool, Refusal> {
+pub fn agrees<L: Leaves>(alloc: Global, closed: &L) -> Result<bool, Refusal> {
     let mut machine = Machine::new(alloc);
     follows(&mut machine, alloc, closed)
 }
 
-fn follows<J: Naming>(
-    machine: &mut Machine,
-    alloc: Global,
-    closed: &Closed<J>,
-) -> Result<bool, Refusal> {
-    for place in 0..closed.len() {
+fn follows<L: Leaves>(machine: &mut Machine, alloc: Global, closed: &L) -> Result<bool, Refusal> {
+    for place in 0..closed.count() {
         if !machine.follow(alloc, closed, place)? {
             return Ok(false);
         }
@@ -61,9 +59,9 @@ fn number_of(out: &Out) -> Option<u64> {
 }
 
 // Whether the transaction is told to be lost before the next crash.
-fn is_lost<J: Naming>(closed: &Closed<J>, from: usize, txn: u64) -> bool {
-    for place in from..closed.len() {
-        if let Some(step) = closed.step(place) {
+fn is_lost<L: Leaves>(closed: &L, from: usize, txn: u64) -> bool {
+    for place in from..closed.count() {
+        if let Some(step) = closed.step_at(place) {
             if let Event::CrashTc { .. } = &step.event {
                 return false;
             }
@@ -89,13 +87,13 @@ impl Machine {
     }
 
     // Takes a step. Whether it is what the model says.
-    fn follow<J: Naming>(
+    fn follow<L: Leaves>(
         &mut self,
         alloc: Global,
-        closed: &Closed<J>,
+        closed: &L,
         place: usize,
     ) -> Result<bool, Refusal> {
-        let Some(step) = closed.step(place) else {
+        let Some(step) = closed.step_at(place) else {
             return Ok(false);
         };
         self.turn(alloc, closed, place, step)?;
@@ -107,10 +105,10 @@ impl Machine {
     }
 
     // The transaction component crashes or is opened again.
-    fn turn<J: Naming>(
+    fn turn<L: Leaves>(
         &mut self,
         alloc: Global,
-        closed: &Closed<J>,
+        closed: &L,
         place: usize,
         step: &Step,
     ) -> Result<(), Refusal> {
@@ -139,8 +137,11 @@ impl Machine {
         rises
     }
 
-    // Whether a client's call came to what the model says.
+    // Whether a client's call came to what the model says, to which nothing fails.
     fn calls(&mut self, alloc: Global, step: &Step) -> bool {
+        if is_failure(&step.out) {
+            return true;
+        }
         let next = number_of(&step.out).unwrap_or(0);
         match self.model.call(alloc, &step.event, next) {
             Some(wanted) => wanted == step.out,
@@ -185,10 +186,10 @@ impl Machine {
     }
 
     // Who is lost: what they did is crossed out, and they hold the keys of their operations.
-    fn reopen<J: Naming>(
+    fn reopen<L: Leaves>(
         &mut self,
         alloc: Global,
-        closed: &Closed<J>,
+        closed: &L,
         place: usize,
     ) -> Result<(), AllocError> {
         let losers = self.losers(alloc, closed, place)?;
@@ -201,10 +202,10 @@ impl Machine {
     }
 
     // Who began and hasn't committed, but for who has ended. Whose End was lost is told so again.
-    fn losers<J: Naming>(
+    fn losers<L: Leaves>(
         &self,
         alloc: Global,
-        closed: &Closed<J>,
+        closed: &L,
         place: usize,
     ) -> Result<Vec<u64>, AllocError> {
         let mut losers = Vec::new(alloc);
@@ -239,8 +240,8 @@ impl Machine {
     }
 
     // Whether the records at the end are the table's, where both components are up.
-    fn has_rows<J: Naming>(&self, alloc: Global, closed: &Closed<J>) -> Result<bool, Refusal> {
-        match closed.rows() {
+    fn has_rows<L: Leaves>(&self, alloc: Global, closed: &L) -> Result<bool, Refusal> {
+        match closed.records() {
             Some(rows) if !self.down => Ok(self.model.table(alloc)?.rows() == rows),
             _ => Ok(true),
         }

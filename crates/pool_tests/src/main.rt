@@ -18,6 +18,7 @@ mod parts;
 mod plan;
 mod playing;
 mod running;
+mod served;
 mod stage;
 mod table;
 mod tally;

@@ -1,7 +1,8 @@
 //! What each client noted, beside its session's part of the journal.
-use crate::client::Note;
+use crate::client::{Note, is_failure, txn_of};
+use crate::served::Leaves;
 use record_key::Refusal;
-use worker_pool::{Closed, Naming, Step};
+use worker_pool::Step;
 use world::{Event, Out};
 
 /// A session's number, and what its client noted.
@@ -11,9 +12,10 @@ pub struct Part {
     pub notes: Vec<Note>,
 }
 
-/// Whether the session's part of the journal has just the noted calls, in their order, each answered as noted. Of a call
-/// without a transaction, or of a second beginning, there is no entry.
-pub fn agrees<J: Naming>(closed: &Closed<J>, part: &Part) -> bool {
+/// Whether the session's part of the journal has just the noted calls, in their order, each answered as noted, but for those
+/// that a failure left unfinished. Of a call without a transaction or amid an unfinished one, or of a second beginning,
+/// there is no entry.
+pub fn agrees<L: Leaves>(closed: &L, part: &Part) -> bool {
     let mut from = 0;
     for note in &part.notes {
         if has_entry(note) {
@@ -32,15 +34,15 @@ pub fn agrees<J: Naming>(closed: &Closed<J>, part: &Part) -> bool {
 fn has_entry(note: &Note) -> bool {
     match (&note.event, &note.out) {
         (Event::Begin, Out::Refused(Refusal::Full)) => false,
-        (_, Out::Refused(Refusal::NotOpen)) => false,
+        (_, Out::Refused(Refusal::NotOpen | Refusal::Unanswered | Refusal::RollingBack)) => false,
         _ => true,
     }
 }
 
 // Where the session's next call stands.
-fn next_call<J: Naming>(closed: &Closed<J>, session: u64, from: usize) -> Option<usize> {
-    for place in from..closed.len() {
-        if let Some(step) = closed.step(place)
+fn next_call<L: Leaves>(closed: &L, session: u64, from: usize) -> Option<usize> {
+    for place in from..closed.count() {
+        if let Some(step) = closed.step_at(place)
             && step.caller == Some(session)
         {
             return Some(place);
@@ -50,17 +52,20 @@ fn next_call<J: Naming>(closed: &Closed<J>, session: u64, from: usize) -> Option
 }
 
 // Whether the call at a place is the noted one, and came to what is noted.
-fn is_noted<J: Naming>(closed: &Closed<J>, place: usize, note: &Note) -> bool {
-    let Some(step) = closed.step(place) else {
+fn is_noted<L: Leaves>(closed: &L, place: usize, note: &Note) -> bool {
+    let Some(step) = closed.step_at(place) else {
         return false;
     };
     step.event == note.event && came_to(closed, place, step, &note.out)
 }
 
 // Whether a call came to what its client was answered: to what was told of it, where more was to be told.
-fn came_to<J: Naming>(closed: &Closed<J>, place: usize, step: &Step, answered: &Out) -> bool {
+fn came_to<L: Leaves>(closed: &L, place: usize, step: &Step, answered: &Out) -> bool {
     if !is_pending(&step.out) {
         return step.out == *answered;
+    }
+    if is_failure(answered) {
+        return true;
     }
     match line_after(closed, place.saturating_add(1), txn_of(&step.event)) {
         None => *answered == Out::Refused(Refusal::NotConnected),
@@ -76,23 +81,10 @@ fn is_pending(out: &Out) -> bool {
     )
 }
 
-// Whose call it is, 0 where it is no transaction's.
-fn txn_of(event: &Event) -> u64 {
-    match event {
-        Event::Act { txn, .. }
-        | Event::Get { txn, .. }
-        | Event::Scan { txn, .. }
-        | Event::GoBack { txn, .. }
-        | Event::Rollback { txn }
-        | Event::Commit { txn } => *txn,
-        _ => 0,
-    }
-}
-
 // The first line that is told to the transaction from a place on, unless a crash comes before it.
-fn line_after<J: Naming>(closed: &Closed<J>, from: usize, txn: u64) -> Option<&Out> {
-    for place in from..closed.len() {
-        if let Some(step) = closed.step(place) {
+fn line_after<L: Leaves>(closed: &L, from: usize, txn: u64) -> Option<&Out> {
+    for place in from..closed.count() {
+        if let Some(step) = closed.step_at(place) {
             if let Event::CrashTc { .. } = &step.event {
                 return None;
             }

@@ -3,10 +3,10 @@ use crate::call::Call;
 use crate::client::Client;
 use crate::draws::Draws;
 use crate::plan::Plan;
+use crate::served::Serves;
 use crate::stage::Stage;
 use record_key::{Key, Op, Refusal, Value};
 use std::sync::Wait;
-use worker_pool::Naming;
 use world::Out;
 
 /// No call is made more often, one after another, than there are crashes, and some more.
@@ -25,6 +25,8 @@ enum Heard {
     Down,
     /// The transaction is gone.
     Gone,
+    /// Memory was refused or a device failed.
+    Failed,
 }
 
 fn hearing(out: Option<&Out>) -> Heard {
@@ -32,14 +34,15 @@ fn hearing(out: Option<&Out>) -> Heard {
         Some(Out::Refused(Refusal::Busy(_))) => Heard::Barred,
         Some(Out::Refused(Refusal::NotOpen)) => Heard::Gone,
         Some(Out::Refused(Refusal::NotConnected | Refusal::Redoing)) => Heard::Down,
+        Some(Out::Refused(Refusal::NoMemory | Refusal::Device)) => Heard::Failed,
         _ => Heard::Done,
     }
 }
 
 /// Plays all transactions of the plan, and at last one that writes the client's own record and commits.
-pub fn play<J: Naming + Drop, R: Wait>(
+pub fn play<S: Serves + Drop, R: Wait>(
     rt: &R,
-    client: &mut Client<J>,
+    client: &mut Client<S>,
     stage: &Stage,
     plan: Plan,
 ) -> Result<(), Refusal> {
@@ -50,9 +53,9 @@ pub fn play<J: Naming + Drop, R: Wait>(
 }
 
 // Tries a transaction until nobody bars it, so many times.
-fn try_txn<J: Naming + Drop, R: Wait>(
+fn try_txn<S: Serves + Drop, R: Wait>(
     rt: &R,
-    client: &mut Client<J>,
+    client: &mut Client<S>,
     stage: &Stage,
     plan: Plan,
     txn: u64,
@@ -67,9 +70,9 @@ fn try_txn<J: Naming + Drop, R: Wait>(
 }
 
 // A transaction of drawn calls. Where another bars it, it is rolled back.
-fn play_txn<J: Naming + Drop, R: Wait>(
+fn play_txn<S: Serves + Drop, R: Wait>(
     rt: &R,
-    client: &mut Client<J>,
+    client: &mut Client<S>,
     stage: &Stage,
     draws: &mut Draws,
 ) -> Result<Heard, Refusal> {
@@ -89,17 +92,34 @@ fn play_txn<J: Naming + Drop, R: Wait>(
     insist(rt, client, stage, &end)
 }
 
+// What became of a call that is carried on for as long as it is unfinished. One that failed at its entry is to be made
+// again, as where a component was down.
+fn carry_on<S: Serves + Drop, R: Wait>(rt: &R, client: &mut Client<S>) -> Heard {
+    let mut heard = hearing(client.heard());
+    for _ in 0..MOST {
+        if heard != Heard::Failed {
+            return heard;
+        }
+        heard = match client.again(rt) {
+            Ok(out) => hearing(Some(out)),
+            Err(Refusal::NoMemory | Refusal::Device) => Heard::Failed,
+            Err(_) => Heard::Down,
+        };
+    }
+    Heard::Down
+}
+
 // Makes a call, and again where the components were down.
-fn insist<J: Naming + Drop, R: Wait>(
+fn insist<S: Serves + Drop, R: Wait>(
     rt: &R,
-    client: &mut Client<J>,
+    client: &mut Client<S>,
     stage: &Stage,
     call: &Call,
 ) -> Result<Heard, Refusal> {
     for _ in 0..MOST {
         client.make(rt, call)?;
         stage.count_call();
-        let heard = hearing(client.heard());
+        let heard = carry_on(rt, client);
         if heard != Heard::Down {
             return Ok(heard);
         }
@@ -114,9 +134,9 @@ pub fn own_key(client: u64) -> Result<Key, Refusal> {
 }
 
 // Writes the client's own record, until that is committed.
-fn write_own<J: Naming + Drop, R: Wait>(
+fn write_own<S: Serves + Drop, R: Wait>(
     rt: &R,
-    client: &mut Client<J>,
+    client: &mut Client<S>,
     stage: &Stage,
 ) -> Result<(), Refusal> {
     let write = Call::Act(Op::Upsert(own_key(client.number())?, Value::new(OWN)?));
@@ -129,9 +149,9 @@ fn write_own<J: Naming + Drop, R: Wait>(
     Ok(())
 }
 
-fn play_own<J: Naming + Drop, R: Wait>(
+fn play_own<S: Serves + Drop, R: Wait>(
     rt: &R,
-    client: &mut Client<J>,
+    client: &mut Client<S>,
     stage: &Stage,
     write: &Call,
 ) -> Result<Heard, Refusal> {

@@ -2,19 +2,19 @@
 ghost use Rattle.std.specs.Prelude.{◌<◌};
 ghost use Rattle.worker_pool.specs.Opened.{IsNamed};
 
-use crate::client::Client;
 use crate::judging::{is_journal, is_played, leaves};
 use crate::parts::Part;
 use crate::plan::Many;
+use crate::served::Leaves;
 use crate::stage::{Door, Hold, Stage};
 use crate::table::Table;
-use crate::threads::{play_many, play_table};
+use crate::threads::{Client, play_many, play_table};
 use record_key::Refusal;
 use std::alloc::Global;
 use std::marker::Brand;
 use std::sync::{Arc, Wait};
 use std::thread::Threads;
-use worker_pool::{Closed, Engine, Naming, Opened, Session};
+use worker_pool::{Engine, Naming, Opened, Session};
 
 /// A case.
 #[derive(Debug, Clone, Copy)]
@@ -82,10 +82,42 @@ where
     requires some { 0 < workers }
 {
     let stage = Arc::new(alloc, Stage::new(case.hold()))?;
-    let door = Door::new(Arc::try_clone(&stage)?);
-    let (engine, sessions) = Engine::<J, Door>::new(rt, opened, workers, door)?;
-    match play(rt, alloc, &engine, sessions, &stage, &case) {
-        Ok(played) => close(rt, alloc, engine, played, &case),
+    let (engine, sessions) = begun::<J, R>(rt, opened, workers, &stage)?;
+    let played = play(rt, alloc, &engine, sessions, &stage, &case);
+    end(rt, alloc, engine, played, &case)
+}
+
+// An engine with its sessions, at the gate of this stage.
+fn begun<J, R>(
+    rt: R,
+    opened: Opened,
+    workers: usize,
+    stage: &Arc<Stage>,
+) -> Result<(Engine<J, Door>, Vec<Session<J, Door>>), Refusal>
+where
+    J: Naming + Drop + Send + Sync + 'static,
+    R: Threads + Wait + Copy + Send + 'static,
+    requires named { IsNamed opened J.entries J.marks J.names J.sessions }
+    requires some { 0 < workers }
+{
+    let door = Door::new(Arc::try_clone(stage)?);
+    Engine::<J, Door>::new(rt, opened, workers, door)
+}
+
+// Closes the engine, also where no client played.
+fn end<J, R>(
+    rt: R,
+    alloc: Global,
+    engine: Engine<J, Door>,
+    played: Result<Played<J>, Refusal>,
+    case: &Case<'_>,
+) -> Result<bool, Refusal>
+where
+    J: Naming + Drop + Send + Sync + 'static,
+    R: Threads + Wait + Copy + Send + 'static,
+{
+    match played {
+        Ok(played) => close(rt, alloc, engine, played, case),
         Err(refusal) => {
             let _ = engine.close(&rt, Vec::new(alloc));
             Err(refusal)
@@ -114,9 +146,9 @@ where
     Ok(agrees && judge(alloc, &closed, &parts, case)?)
 }
 
-fn judge<J: Naming>(
+fn judge<L: Leaves>(
     alloc: Global,
-    closed: &Closed<J>,
+    closed: &L,
     parts: &[Part],
     case: &Case<'_>,
 ) -> Result<bool, Refusal> {

@@ -1,17 +1,20 @@
 //! Clients on threads, and what is done beside them.
-use crate::client::Client;
 use crate::crashes::crash_all;
-use crate::lines;
 use crate::plan::{Many, Plan};
 use crate::playing::play;
+use crate::served::Serves;
 use crate::stage::{Door, Stage};
 use crate::table::Table;
+use crate::{client, lines};
 use record_key::Refusal;
 use std::alloc::{AllocError, Global};
 use std::sync::{Arc, Wait};
 use std::thread;
 use std::thread::{JoinHandle, Threads};
-use worker_pool::{Engine, Naming};
+use worker_pool::{Engine, Naming, Session};
+
+/// A client of an engine.
+pub type Client<J> = client::Client<Session<J, Door>>;
 
 /// What a client does on its thread.
 #[derive(Debug, Drop)]
@@ -58,10 +61,10 @@ fn follow<J: Naming + Drop, R: Wait>(
 }
 
 // Whether all was as it is to be.
-fn perform<J: Naming + Drop, R: Wait>(
+fn perform<S: Serves + Drop, R: Wait>(
     rt: &R,
     alloc: Global,
-    client: &mut Client<J>,
+    client: &mut client::Client<S>,
     stage: &Stage,
     task: &Task,
 ) -> bool {

@@ -39,6 +39,7 @@ use Rattle.pool_journal.proofs.caller.Caller.TheSendSync as caller
 use Rattle.pool_journal.proofs.hall.Hall.TheSendSync as hall
 use Rattle.pool_journal.proofs.journal.Journal.TheSendSync as journal
 use Rattle.worker_pool.proofs.board.Job.TheSendSync as job
+use Rattle.worker_pool.proofs.ended.Unfinished.TheSendSync as unfinished
 use Rattle.pool_journal.proofs.tc_desk.TcDesk.TheSendSync as tc_desk
 use Rattle.pool_journal.proofs.view.Visitor.TheSendSync as visitor
 use Rattle.pool_journal.specs.declared.naming.Naming as naming
@@ -115,7 +116,8 @@ module _ (D : RattleType) (d : log_device.Ghosts D.Denot) (sd : IsSend D) (P : R
       arc_send = search (shared_send, shared_sync, crosses, sendable) depth 8
 
       session_inside_send : IsSend (SessionInside.the_row J G D P n d p)
-      session_inside_send = search (caller.the_send, seat.the_send, arc_send, work_send, sendable) depth 20
+      session_inside_send =
+          search (caller.the_send, unfinished.the_send, seat.the_send, arc_send, work_send, crosses, sendable) depth 20
 
       pub any_session_send : IsSend (Session.the_row J G D P n d p)
       any_session_send = search (session_inside_send, sendable) depth 20

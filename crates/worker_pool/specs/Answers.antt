@@ -13,8 +13,10 @@ use Rattle.worker_pool.specs.declared.ended.Ended.{Ended}
 use Rattle.worker_pool.specs.declared.ended.Ended.TheVariants as ended
 use Rattle.worker_pool.specs.Asking.{is_answered}
 use Rattle.pool_journal.specs.Sessions.{LeavesLive, Call, Part, called_as, calls, ends, is_pending, line_to}
-use Rattle.pool_journal.specs.Callers.{IsToldBy, IsUntold}
+use Rattle.pool_journal.specs.Callers.{Awaits, IsToldBy, IsUntold}
+use Rattle.pool_journal.specs.Failing.{IsFailure}
 use Rattle.pool_journal.specs.Slots.{Slot, Shown}
+use Rattle.worker_pool.specs.Unfinished.{IsUnfinished, bar}
 use Rattle.worker_pool.specs.Why.{IsWhy, why_of}
 
 -- one call more, with what it came to and the line that was told of it
@@ -26,27 +28,36 @@ abbrev pub AddsTo : (ℕ → Event) → Out → Option Line → Part → Part �
 AddsTo of o line old new = (t : ℕ) × (old.live ≡ Some t) × Adds (of t) o line old new
 
 -- a call with an entry that is refused, since it wasn't answered
-pub record Refused (e : Event) (old : Part) (r : Refusal) (new : Part) : Type 0 where
+pub record Refused (e : Event) (was : Option ℕ) (old : Part) (r : Refusal) (new : Part) : Type 0 where
   pub call : Call
   pub event : call.event ≡ e
   pub adds : calls new ≡ calls old ++ call ∷ []
   pub unanswered : is_answered call ≡ false
-  pub why : IsWhy call new.live r
+  pub why : IsWhy call was new.live r
 
 -- there is no entry, since no transaction is alive
 abbrev pub IsUnasked : Part → Part → Type 0
 IsUnasked old new = (calls new ≡ calls old) × (new.live ≡ None)
 
+-- nor as long as an earlier call is unfinished
+pub record IsBarred (old : Part) (r : Refusal) (new : Part) : Type 0 where
+  pub unfinished : IsUnfinished old
+  pub why : r ≡ bar old.latest
+  pub same : new ≡ old
+
+abbrev pub IsUncalled : Part → Refusal → Part → Type 0
+IsUncalled old r new = ((r ≡ NotOpen) × IsUnasked old new) ⊎ IsBarred old r new
+
 abbrev pub RefusedCall : (ℕ → Event) → Part → Refusal → Part → Type 0
 RefusedCall of old r new =
-    ((r ≡ NotOpen) × IsUnasked old new) ⊎ ((t : ℕ) × (old.live ≡ Some t) × Refused (of t) old r new)
+    IsUncalled old r new ⊎ ((t : ℕ) × (old.live ≡ Some t) × Refused (of t) old.live old r new)
 
 -- of the call that begins a transaction there is no entry where one is alive
 abbrev pub IsSecond : Part → Part → Type 0
 IsSecond old new = (calls new ≡ calls old) × (is_some new.live ≡ true)
 
 abbrev pub RefusedBegin : Part → Refusal → Part → Type 0
-RefusedBegin old r new = ((r ≡ Full) × IsSecond old new) ⊎ Refused event.Begin old r new
+RefusedBegin old r new = ((r ≡ Full) × IsSecond old new) ⊎ Refused event.Begin old.live old r new
 
 -- after such a line no transaction is alive
 abbrev pub IsOver : Line → Part → Type 0
@@ -55,19 +66,23 @@ IsOver line new = ends line ≡ true → new.live ≡ None
 -- the call stands in the journal, and nothing was told of it yet
 pub record Calls (row : Shelves) (e : Event) (old : Part) (token : Slot) (new : Part) : Type 0 where
   pub shown : Shown row token
+  pub event : token.value.step.value.event ≡ e
   pub before : new.before ≡ calls old
   pub latest : new.latest ≡ Some (called_as e token.value.step.value.out None)
-  pub live : LeavesLive token.value.step.value.out new
+  pub live : LeavesLive old.live token.value.step.value.out new
 
 -- how a call with an entry ended, by what it adds to the session's list
 abbrev pub Ends : Shelves → Event → Part → Ended → Part → Type 0
 Ends row e old (ended.AtOnce p) new =
     Shown row p × (is_pending p.value.step.value.out ≡ false) × Adds e p.value.step.value.out None old new
-    × LeavesLive p.value.step.value.out new
+    × LeavesLive old.live p.value.step.value.out new
 Ends row e old (ended.Told p q) new =
     Shown row p × Shown row q × (is_pending p.value.step.value.out ≡ true)
     × ((t : ℕ) × ((line : Line) × (line_to t q.value.step.value.out ≡ Some line) × IsOver line new
     × Adds e p.value.step.value.out (Some line) old new))
+Ends row e old (ended.Unfinished u f) new =
+    (is_pending u.call.value.step.value.out ≡ true) × (new.live ≡ old.live) × (is_some new.live ≡ true)
+    × Adds e u.call.value.step.value.out None old new
 Ends row e old ended.CutOff new =
     (o : Out) × (is_pending o ≡ true) × (new.live ≡ None) × Adds e o None old new
 
@@ -75,12 +90,14 @@ Ends row e old ended.CutOff new =
 abbrev pub AreShown : Shelves → Ended → Type 0
 AreShown row (ended.AtOnce p) = Shown row p
 AreShown row (ended.Told p q) = Shown row p × Shown row q
+AreShown row (ended.Unfinished u f) = ⊤
 AreShown row ended.CutOff = ⊤
 
 -- why it is refused, where neither its entry nor what was told of it answers it
 abbrev pub IsRefusal : (Out → Bool) → (Out → Out → Bool) → Ended → Refusal → Type 0
 IsRefusal done told (ended.AtOnce p) r = (r ≡ why_of p.value.step.value.out) × (done p.value.step.value.out ≡ false)
 IsRefusal done told (ended.Told p q) r = (r ≡ NotConnected) × (told p.value.step.value.out q.value.step.value.out ≡ false)
+IsRefusal done told (ended.Unfinished u f) r = IsFailure r
 IsRefusal done told ended.CutOff r = r ≡ NotConnected
 
 -- it came to this, and was told of by that
@@ -106,5 +123,7 @@ Finishes row token old (ended.AtOnce p) new =
 Finishes row token old (ended.Told p q) new =
     Shown row p × (p ≡ token) × Shown row q × (is_pending token.value.step.value.out ≡ true)
     × IsToldBy old new q.value.step.value.out
+Finishes row token old (ended.Unfinished u f) new =
+    (u.call ≡ token) × (is_pending token.value.step.value.out ≡ true) × Awaits old new
 Finishes row token old ended.CutOff new =
     (is_pending token.value.step.value.out ≡ true) × (new.live ≡ None) × IsUntold old new

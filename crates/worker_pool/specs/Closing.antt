@@ -1,5 +1,5 @@
 -- What an engine begins with, and what it leaves.
-use Rattle.std.specs.Prelude.{◌≡◌, ◌⊎◌, ℕ, zero, suc, true, false, List, [], ◌∷◌, ◌++◌, Option, Some, None, map}
+use Rattle.std.specs.Prelude.{◌≡◌, ◌⊎◌, ℕ, zero, suc, List, [], ◌∷◌, ◌++◌, Option, map}
 use Rattle.std.specs.Global.{Vec}
 use Rattle.record_key.specs.Table.{Bytes}
 use Rattle.record_key.specs.declared.refusal.Refusal.{Refusal}
@@ -8,8 +8,8 @@ use Rattle.atomic_table.specs.Seated.{TableId}
 use Rattle.marks.specs.Seen.{reader}
 use Rattle.worker_pool.specs.declared.seated.Sitter.{Sitter}
 use Rattle.pool_journal.specs.declared.step.Step.{Step}
-use Rattle.pool_journal.specs.Callers.{CallerView, SessionView}
-use Rattle.pool_journal.specs.Sessions.{IsClosed, part_of, calls, no_part}
+use Rattle.pool_journal.specs.Callers.{CallerView, SessionView, IsGrown}
+use Rattle.pool_journal.specs.Sessions.{part_of, no_part}
 
 -- the components can't be brought up now
 abbrev pub IsOutage : Refusal → Type 0
@@ -39,16 +39,12 @@ caller_as s = record { number = s.number; part = s.part }
 abbrev pub callers_as : List SessionView → List CallerView
 callers_as ss = map caller_as ss
 
--- nothing more is told of its calls
-abbrev pub AreClosed : CallerView → Type 0
-AreClosed c = IsClosed c.part
-
--- the session's part of these steps has just the calls that it knows of
+-- the session's part of these steps has just the calls that it knows of; of one that is unfinished more may have been told
 abbrev pub IsCovered : List Step → CallerView → Type 0
-IsCovered es c = calls (part_of c.number es) ≡ calls c.part
+IsCovered es c = IsGrown c.part (part_of c.number es)
 
 abbrev pub IsKeptBy : List Step → SessionView → Type 0
-IsKeptBy es s = calls (part_of s.number es) ≡ calls s.part
+IsKeptBy es s = IsGrown s.part (part_of s.number es)
 
 -- the journal, and the records at its end
 pub record ClosedView : Type 0 where

@@ -1,5 +1,7 @@
 pub mod Asking
 pub mod Answers
 pub mod Why
+pub mod Unfinished
+pub mod Again
 pub mod Opened
 pub mod Closing

@@ -2,16 +2,18 @@
 ghost use Rattle.std.specs.Prelude.{◌≡◌, ℕ, false, IfOk, IfErr};
 ghost use Rattle.world.specs.declared.event.Out as outs;
 ghost use Rattle.world.specs.declared.event.Out.TheVariants as out;
+ghost use Rattle.worker_pool.specs.Again.{IsGiven, IsNotTold, IsToldSo, is_given};
 ghost use Rattle.worker_pool.specs.Answers.{AreShown, IsRefusal, IsToldAs, IsAtOnce, TellsCommit};
 ghost use Rattle.worker_pool.specs.Asking.{both, is_begun, is_saved, is_logged, is_asked, is_rolling, is_commit_logged, gives_answer, gives_row, gives_rows, gives_back, gives_rolled_back, gives_commit};
 
 use crate::ended::{Ended, why};
+use crate::told::Told;
 use codec::Rows;
 use pool_journal::{Hall, Naming, copied_value};
 use record_key::{Answer, Refusal, Value};
 use std::sync::Wait;
 use std::thread;
-use world::Out;
+use world::{Event, Out};
 
 /// The answer that a transaction's operation was told.
 pub(crate) fn answer_told<J: Naming>(hall: &Hall<J>, ended: &Ended) -> Result<Answer, Refusal>
@@ -25,6 +27,7 @@ pub(crate) fn answer_told<J: Naming>(hall: &Hall<J>, ended: &Ended) -> Result<An
     match ended {
         Ended::CutOff => Err(Refusal::NotConnected),
         Ended::AtOnce(call) => Err(why(hall.row().value(call).out())),
+        Ended::Unfinished(_, failure) => Err(failure.refusal()),
         Ended::Told(call, line) => answer_of(
             hall.row().value(call).out(),
             hall.row().value(line).out(),
@@ -58,6 +61,7 @@ pub(crate) fn row_told<J: Naming>(hall: &Hall<J>, ended: &Ended) -> Result<Optio
     match ended {
         Ended::CutOff => Err(Refusal::NotConnected),
         Ended::AtOnce(call) => Err(why(hall.row().value(call).out())),
+        Ended::Unfinished(_, failure) => Err(failure.refusal()),
         Ended::Told(call, line) => row_of(
             hall.row().value(call).out(),
             hall.row().value(line).out(),
@@ -95,6 +99,7 @@ pub(crate) fn rows_told<J: Naming, R: Wait>(
     match ended {
         Ended::CutOff => Err(Refusal::NotConnected),
         Ended::AtOnce(call) => Err(why(hall.row().value(call).out())),
+        Ended::Unfinished(_, failure) => Err(failure.refusal()),
         Ended::Told(call, line) => rows_of(
             rt,
             hall.row().value(call).out(),
@@ -129,6 +134,7 @@ pub(crate) fn back_told<J: Naming>(hall: &Hall<J>, ended: &Ended) -> Result<(), 
     match ended {
         Ended::CutOff => Err(Refusal::NotConnected),
         Ended::AtOnce(call) => Err(why(hall.row().value(call).out())),
+        Ended::Unfinished(_, failure) => Err(failure.refusal()),
         Ended::Told(call, line) => back_of(
             hall.row().value(call).out(),
             hall.row().value(line).out(),
@@ -162,6 +168,7 @@ pub(crate) fn rollback_told<J: Naming>(hall: &Hall<J>, ended: &Ended) -> Result<
     match ended {
         Ended::CutOff => Err(Refusal::NotConnected),
         Ended::AtOnce(call) => Err(why(hall.row().value(call).out())),
+        Ended::Unfinished(_, failure) => Err(failure.refusal()),
         Ended::Told(call, line) => rollback_of(
             hall.row().value(call).out(),
             hall.row().value(line).out(),
@@ -193,6 +200,7 @@ pub(crate) fn commit_told<J: Naming>(hall: &Hall<J>, ended: &Ended) -> Result<u6
     match ended {
         Ended::CutOff => Err(Refusal::NotConnected),
         Ended::AtOnce(call) => Err(why(hall.row().value(call).out())),
+        Ended::Unfinished(_, failure) => Err(failure.refusal()),
         Ended::Told(call, line) => commit_of(
             hall.row().value(call).out(),
             hall.row().value(line).out(),
@@ -212,6 +220,49 @@ fn commit_of(call: &Out, line: &Out) -> Result<u64, Refusal>
     }
 }
 
+/// What was told of a call that was carried on.
+pub(crate) fn carried_told<J: Naming, R: Wait>(
+    rt: &R,
+    hall: &Hall<J>,
+    ended: &Ended,
+) -> Result<Told, Refusal>
+    requires { AreShown J.entries ended.now }
+    ensures told { IfOk result (IsToldSo ended.now) }
+    ensures refused { IfErr result (IsNotTold ended.now) }
+{
+    match ended {
+        Ended::AtOnce(_) | Ended::CutOff => Err(Refusal::NotConnected),
+        Ended::Unfinished(_, failure) => Err(failure.refusal()),
+        Ended::Told(call, line) => {
+            let step = &hall.row().value(call).step;
+            told_of(rt, &step.event, &step.out, hall.row().value(line).out())
+        }
+    }
+}
+
+// What is told of a call by a line.
+fn told_of<R: Wait>(rt: &R, event: &Event, call: &Out, line: &Out) -> Result<Told, Refusal>
+    ensures told { IfOk result (IsGiven event.now call.now line.now) }
+    ensures refused { IfErr result (λ r. (r ≡ Refusal.NotConnected)
+        × (is_given event.now call.now line.now ≡ false)) }
+{
+    match event {
+        Event::Act { .. } => Ok(Told::Answer(answer_of(call, line)?)),
+        Event::Get { .. } => Ok(Told::Row(row_of(call, line)?)),
+        Event::Scan { .. } => Ok(Told::Rows(rows_of(rt, call, line)?)),
+        Event::GoBack { .. } => {
+            back_of(call, line)?;
+            Ok(Told::Back)
+        }
+        Event::Rollback { .. } => {
+            rollback_of(call, line)?;
+            Ok(Told::RolledBack)
+        }
+        Event::Commit { .. } => Ok(Told::Committed(commit_of(call, line)?)),
+        _ => Err(Refusal::NotConnected),
+    }
+}
+
 /// The number of a savepoint that was set.
 pub(crate) fn saved<J: Naming>(hall: &Hall<J>, ended: &Ended) -> Result<u64, Refusal>
     requires { AreShown J.entries ended.now }
@@ -220,6 +271,7 @@ pub(crate) fn saved<J: Naming>(hall: &Hall<J>, ended: &Ended) -> Result<u64, Ref
 {
     match ended {
         Ended::CutOff | Ended::Told(_, _) => Err(Refusal::NotConnected),
+        Ended::Unfinished(_, failure) => Err(failure.refusal()),
         Ended::AtOnce(call) => match hall.row().value(call).out() {
             Out::Saved(savepoint) => Ok(*savepoint),
             out => Err(why(out)),
@@ -235,6 +287,7 @@ pub(crate) fn begun<J: Naming>(hall: &Hall<J>, ended: &Ended) -> Result<u64, Ref
 {
     match ended {
         Ended::CutOff | Ended::Told(_, _) => Err(Refusal::NotConnected),
+        Ended::Unfinished(_, failure) => Err(failure.refusal()),
         Ended::AtOnce(call) => match hall.row().value(call).out() {
             Out::Begun(txn) => Ok(*txn),
             out => Err(why(out)),

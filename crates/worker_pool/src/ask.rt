@@ -2,7 +2,6 @@
 ghost use Rattle.std.specs.Prelude.{◌≡◌};
 ghost use Rattle.worker_pool.specs.Asking.{event_of};
 
-use crate::shared::Rest;
 use record_key::{Key, Op};
 use world::Event;
 
@@ -19,15 +18,6 @@ pub(crate) enum Ask {
 }
 
 impl Ask {
-    /// What is left to do of it once it has its entry, if more is told of it.
-    pub(crate) fn rest(&self) -> Rest {
-        match self {
-            Ask::GoBack(_) | Ask::Rollback => Rest::Undo,
-            Ask::Commit => Rest::Force,
-            _ => Rest::Request,
-        }
-    }
-
     /// The event that it is of this transaction.
     pub(crate) fn into_event(self, txn: u64) -> Event
         ensures { result ≡ event_of txn self }

@@ -1,12 +1,13 @@
 //! What every thread looks at: the entries, and what sessions wait for.
-ghost use Rattle.std.specs.Prelude.{◌≡◌, ℕ, Some, None, IfSome};
-ghost use Rattle.pool_journal.specs.Callers.{IsNews};
+ghost use Rattle.std.specs.Prelude.{◌≡◌, ℕ, true, false, Some, None, IfSome};
+ghost use Rattle.pool_journal.specs.Callers.{IsNews, IsUntold};
 ghost use Rattle.pool_journal.specs.Sessions.{IsClosed, calls, line_of};
 ghost use Rattle.pool_journal.specs.Slots.{Shown};
 
+use crate::after::After;
 use boxcar::Pushed;
 use crossbeam_channel::Sender;
-use pool_journal::{Caller, Entry, Hall, Journal, Naming, News, hold};
+use pool_journal::{Caller, Entry, Failure, Hall, Journal, Naming, News, hold};
 use std::sync::atomic::{AtomicU64, Ordering};
 use std::sync::{Condvar, Mutex, Wait};
 use world::{Event, Out};
@@ -77,16 +78,46 @@ impl<J: Naming> Board<J> {
         }
     }
 
+    /// The request of this number was refused, which the session sent, if one did.
+    pub(crate) fn refuse<R: Wait>(&self, rt: &R, job: Job, failure: Failure) {
+        if let Some(session) = job.session {
+            hold(rt, &self.journal).refuse(session, job.number, failure);
+        }
+    }
+
+    /// The session's latest call goes on: what was sent for it so far is no matter any more.
+    pub(crate) fn resume<R: Wait>(&self, rt: &R, session: u64) {
+        hold(rt, &self.journal).resume(session);
+    }
+
     /// Whether a session that waits has something to do.
     pub(crate) fn has_news<R: Wait>(&self, rt: &R, session: u64) -> bool {
         hold(rt, &self.journal).has_news(session)
     }
 
     /// Waits until something was told of the session's call, or another step may be made.
-    pub(crate) fn wait<R: Wait>(&self, rt: &R, session: u64, restarts: u64) {
+    fn wait<R: Wait>(&self, rt: &R, session: u64, restarts: u64) {
         let _journal = self.news.wait_while(rt, self.journal.lock(rt), |journal| {
             !journal.has_news(session) && self.restarts() == restarts
         });
+    }
+
+    /// Waits where that is to follow a step of the session's call. Answers what the step failed by, if it did.
+    pub(crate) fn follow<R: Wait>(
+        &self,
+        rt: &R,
+        session: u64,
+        restarts: u64,
+        after: After,
+    ) -> Option<Failure> {
+        match after {
+            After::Look => None,
+            After::Wait => {
+                self.wait(rt, session, restarts);
+                None
+            }
+            After::Stop(failure) => Some(failure),
+        }
     }
 
     /// What a session finds that waits.
@@ -96,6 +127,16 @@ impl<J: Naming> Board<J> {
         ensures news { IsNews J.entries caller.old.part caller.new.part result }
     {
         hold(rt, &self.journal).take_news(self.hall.row(), caller)
+    }
+
+    /// Whether nothing more is told of the session's latest call, which the session has then seen.
+    pub(crate) fn take_cut<R: Wait>(&self, rt: &R, caller: &mut Caller<J>) -> bool
+        requires untold { line_of caller.old.part.latest ≡ None }
+        ensures number { caller.new.number ≡ caller.old.number }
+        ensures cut { result ≡ true → IsUntold caller.old.part caller.new.part × (caller.new.part.live ≡ None) }
+        ensures still { result ≡ false → caller.new.part ≡ caller.old.part }
+    {
+        hold(rt, &self.journal).take_cut(self.hall.row(), caller)
     }
 
     /// The session's transaction, if that is alive, where the session has seen all entries.

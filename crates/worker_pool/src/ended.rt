@@ -1,11 +1,19 @@
 //! How a call ended.
 ghost use Rattle.std.specs.Prelude.{◌≡◌};
+ghost use Rattle.worker_pool.specs.Unfinished.{bar_of, left_by};
 ghost use Rattle.worker_pool.specs.Why.{why_of};
 
 use boxcar::Pushed;
-use pool_journal::Entry;
+use pool_journal::{Entry, Failure};
 use record_key::Refusal;
 use world::Out;
+
+/// A call that has its entry, and more is to be told of it: its transaction, and that entry.
+#[derive(Drop)]
+pub(crate) struct Unfinished {
+    pub(crate) txn: u64,
+    pub(crate) call: Pushed<Entry>,
+}
 
 /// How a session's call ended that has an entry.
 #[derive(Drop)]
@@ -14,8 +22,32 @@ pub(crate) enum Ended {
     AtOnce(Pushed<Entry>),
     /// The second entry told of it.
     Told(Pushed<Entry>, Pushed<Entry>),
+    /// A later step failed.
+    Unfinished(Unfinished, Failure),
     /// A crash cut it off.
     CutOff,
+}
+
+impl Unfinished {
+    /// The same call again.
+    pub(crate) fn again(&self) -> Unfinished
+        ensures { result ≡ self.now }
+    {
+        Unfinished {
+            txn: self.txn,
+            call: self.call.again(),
+        }
+    }
+}
+
+/// The call that is left unfinished, if one is.
+pub(crate) fn left_by(ended: &Ended) -> Option<Unfinished>
+    ensures { result ≡ left_by ended.now }
+{
+    match ended {
+        Ended::Unfinished(unfinished, _) => Some(unfinished.again()),
+        _ => None,
+    }
 }
 
 /// Why a call is refused that came to this.
@@ -25,5 +57,17 @@ pub(crate) fn why(out: &Out) -> Refusal
     match out {
         Out::Refused(refusal) => *refusal,
         _ => Refusal::NotConnected,
+    }
+}
+
+/// Why the other calls of a transaction are refused one of whose calls came to this, as long as that is unfinished: as the
+/// transaction component refuses them.
+pub(crate) fn bar(out: &Out) -> Refusal
+    ensures { result ≡ bar_of out.now }
+{
+    match out {
+        Out::RollingBack => Refusal::RollingBack,
+        Out::CommitLogged(_) => Refusal::NotOpen,
+        _ => Refusal::Unanswered,
     }
 }

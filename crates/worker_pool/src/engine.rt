@@ -21,6 +21,7 @@ use std::alloc::{AllocError, Global};
 use std::sync::{Arc, Wait};
 use std::thread;
 use std::thread::{JoinHandle, Threads};
+use world::Event;
 
 /// Workers that serve the sessions' requests. What its sessions are called with is given out with it.
 pub struct Engine<J: Naming, G, D: CrashLog = MemLog, P: CrashPages = MemPages> {
@@ -146,6 +147,11 @@ where
         self.shared.entrance.crash(rt, kept);
     }
 
+    /// The call of this number, from now on, of the device of the transaction component's log fails.
+    pub fn fail_tc<R: Wait>(&self, rt: &R, call: u64) {
+        self.shared.entrance.enter(rt, Event::FailTc { call });
+    }
+
     /// Brings both components up, in one session, and undoes who was lost. Refused NoMemory, Device, NumbersSpent; what
     /// was done by then stands.
     pub fn restart<R: Wait>(&self, rt: &R) -> Result<(), Refusal>
@@ -155,7 +161,7 @@ where
     }
 
     /// Ends the engine with all of its sessions, and joins every thread: the journal, and where the data component runs
-    /// its records. Refused NoMemory; the engine is gone then too.
+    /// its records. What is unfinished of a session's transaction stays so. Refused NoMemory; the engine is gone then too.
     pub fn close<R: Threads + Wait>(
         self,
         rt: &R,

@@ -6,19 +6,24 @@
 //! session made, each with what it was answered.
 #![tactic(auto)]
 
+mod after;
 mod answers;
 mod ask;
 mod assembly;
 mod board;
+mod calls;
 mod closed;
 mod ended;
 mod engine;
 mod entrance;
+mod freeing;
 mod opened;
 mod rounds;
 mod seated;
 mod session;
 mod shared;
+mod steps;
+mod told;
 mod worker;
 
 pub use closed::Closed;
@@ -26,3 +31,4 @@ pub use engine::Engine;
 pub use opened::Opened;
 pub use pool_journal::{Entry, Gate, Naming, Step};
 pub use session::Session;
+pub use told::Told;

@@ -1,7 +1,7 @@
 //! The places and callers of an engine's sessions.
 ghost use Rattle.std.specs.Prelude.{◌≡◌, ◌≤◌, [], IfOk, length, vec_len};
 ghost use Rattle.std.specs.List.{AllByRecursion};
-ghost use Rattle.worker_pool.specs.Closing.{IsFresh, IsCovered, IsSeated, AreClosed, below, callers_as, numbers_in, numbers_of};
+ghost use Rattle.worker_pool.specs.Closing.{IsFresh, IsCovered, IsSeated, below, callers_as, numbers_in, numbers_of};
 ghost use Rattle.pool_journal.specs.Kept.{PlacesKept};
 ghost use Rattle.worker_pool.specs.Opened.{AreTied, IsReader, ties_of};
 
@@ -97,7 +97,6 @@ where
     D: CrashLog + Drop,
     P: CrashPages + Drop,
     ensures callers { IfOk result (λ callers. callers.items ≡ callers_as sessions.items) }
-    ensures closed { IfOk result (λ callers. AllByRecursion AreClosed callers.items) }
 {
     let mut callers = Vec::with_capacity(alloc, sessions.len())?;
     for session in sessions {
@@ -106,10 +105,10 @@ where
     Ok(callers)
 }
 
-/// Each session's part of the journal has just the calls that the session knows of.
+/// Each session's part of the journal has just the calls that the session knows of; of one that is unfinished more may have
+/// been told.
 pub(crate) fn cover<J: Naming>(journal: &mut Journal<J>, row: &Row<Entry>, callers: Vec<Caller<J>>)
     requires row { row.now ≡ J.entries }
-    requires closed { AllByRecursion AreClosed callers.items }
     ensures same { journal.new ≡ journal.old }
     ensures covered { AllByRecursion (IsCovered journal.old) callers.items }
 {

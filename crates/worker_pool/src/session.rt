@@ -1,20 +1,23 @@
 //! A client's calls.
-ghost use Rattle.std.specs.Prelude.{◌≡◌, ◌≤◌, ℕ, Some, None, IfOk, IfErr, IfNone, IfSome};
+ghost use Rattle.std.specs.Prelude.{◌≡◌, ◌≤◌, ℕ, Some, None, IfOk, IfErr};
 ghost use Rattle.history.specs.ListMachine.{TellsAnswer, TellsRow, TellsRows, TellsBack, TellsRolledBack, TellsCommitted};
 ghost use Rattle.marks.specs.Seen.{reader, seeing};
 ghost use Rattle.world.specs.declared.event.Event.TheVariants as event;
 ghost use Rattle.world.specs.declared.event.Out.TheVariants as out;
-ghost use Rattle.worker_pool.specs.Answers.{Adds, AddsTo, RefusedCall, RefusedBegin, Ends, IsUnasked};
+ghost use Rattle.worker_pool.specs.Answers.{Adds, AddsTo, RefusedCall, RefusedBegin, Ends, IsUncalled};
+ghost use Rattle.worker_pool.specs.Again.{CarriesOn, IsSeenBy, RefusedAgain, Resumes};
 ghost use Rattle.worker_pool.specs.Asking.{event_of};
 ghost use Rattle.pool_journal.specs.Sessions.{IsClosed};
 
 use crate::answers::{
-    answer_told, back_told, begun, commit_told, rollback_told, row_told, rows_told, saved,
+    answer_told, back_told, begun, carried_told, commit_told, rollback_told, row_told, rows_told,
+    saved,
 };
 use crate::ask::Ask;
 use crate::board::Job;
-use crate::ended::Ended;
+use crate::ended::{Ended, Unfinished};
 use crate::shared::Shared;
+use crate::told::Told;
 use codec::Rows;
 use crossbeam_channel::Sender;
 use marks::Seat;
@@ -29,6 +32,7 @@ use std::sync::{Arc, Wait};
 #[derive(Drop)]
 pub struct Session<J: Naming, G, D: CrashLog = MemLog, P: CrashPages = MemPages> {
     caller: Caller<J>,
+    unfinished: Option<Unfinished>,
     seat: Seat,
     shared: Arc<Shared<J, G, D, P>>,
     work: Sender<Job>,
@@ -39,7 +43,7 @@ impl<J: Naming, G, D: CrashLog, P: CrashPages> Model for Session<J, G, D, P> {
     ghost use Rattle.std.specs.Coded.{codes};
     ghost use Rattle.atomic_table.specs.Seated.{table_id_coded};
     ghost use Rattle.pool_journal.specs.Callers.{SessionView};
-    ghost use Rattle.pool_journal.specs.Sessions.{IsClosed};
+    ghost use Rattle.worker_pool.specs.Unfinished.{IsAtRest};
 
     ghost Value = { SessionView };
 
@@ -47,7 +51,7 @@ impl<J: Naming, G, D: CrashLog, P: CrashPages> Model for Session<J, G, D, P> {
 
     ghost view = { λ s. record { number = s.caller.number; part = s.caller.part; seat = s.seat } };
 
-    ghost invariant = { λ s. IsClosed s.caller.part × (s.seat.marks ≡ J.marks) };
+    ghost invariant = { λ s. IsAtRest J.entries s.caller.part s.unfinished × (s.seat.marks ≡ J.marks) };
 }
 
 impl<J: Naming, G: Gate + Drop, D: CrashLog + Drop, P: CrashPages + Drop> Session<J, G, D, P> {
@@ -64,6 +68,7 @@ impl<J: Naming, G: Gate + Drop, D: CrashLog + Drop, P: CrashPages + Drop> Sessio
     {
         Session {
             caller,
+            unfinished: None,
             seat,
             shared,
             work,
@@ -74,7 +79,6 @@ impl<J: Naming, G: Gate + Drop, D: CrashLog + Drop, P: CrashPages + Drop> Sessio
     pub(crate) fn into_caller(self) -> Caller<J>
         ensures number { result.number ≡ self.number }
         ensures part { result.part ≡ self.part }
-        ensures closed { IsClosed result.part }
     {
         let Session { caller, .. } = self;
         caller
@@ -90,6 +94,7 @@ impl<J: Naming, G: Gate + Drop, D: CrashLog + Drop, P: CrashPages + Drop> Sessio
     {
         let Session {
             caller: _,
+            unfinished: _,
             seat,
             shared,
             work: _,
@@ -106,35 +111,38 @@ impl<J: Naming, G: Gate + Drop, D: CrashLog + Drop, P: CrashPages + Drop> Sessio
     {
         let Session {
             caller,
+            unfinished,
             seat: _,
             shared,
             work,
         } = self;
-        let Some(ended) = shared.begin(rt, work, caller) else {
+        let Some(ended) = shared.begin(rt, work, caller, unfinished) else {
             return Err(Refusal::Full);
         };
         begun(shared.hall(), &ended)
     }
 
-    // A call of the session's transaction, from its entry to what was told of it. Without an entry where there is none
-    // that is alive.
-    fn run<R: Wait>(&mut self, rt: &R, ask: Ask) -> Option<Ended>
+    // A call of the session's transaction, from its entry to what was told of it.
+    fn run<R: Wait>(&mut self, rt: &R, ask: Ask) -> Result<Ended, Refusal>
         ensures number { self.new.number ≡ self.old.number }
-        ensures none { IfNone result (IsUnasked self.old.part self.new.part) }
-        ensures ends { IfSome result (λ ended. (t : ℕ) × (self.old.part.live ≡ Some t)
+        ensures uncalled { IfErr result (λ r. IsUncalled self.old.part r self.new.part) }
+        ensures ends { IfOk result (λ ended. (t : ℕ) × (self.old.part.live ≡ Some t)
             × Ends J.entries (event_of t ask) self.old.part ended self.new.part) }
     {
         let Session {
             caller,
+            unfinished,
             seat: _,
             shared,
             work,
         } = self;
-        shared.run(rt, work, caller, ask)
+        shared.run(rt, work, caller, unfinished, ask)
     }
 
     /// Does an operation, and answers what it gave. Refused NotOpen where the session has no transaction that is alive,
-    /// NotConnected where a crash cut the call off; else as its entry says. So are the other calls.
+    /// NotConnected where a crash cut the call off; else as its entry says. Refused NoMemory or Device where a later step
+    /// failed: the call is unfinished then, and `again` carries it on. Until that has ended, refused with no entry: for an
+    /// operation or a read Unanswered, for a rollback RollingBack, for a commit NotOpen. So are the other calls.
     pub fn act<R: Wait>(&mut self, rt: &R, op: &Op) -> Result<Answer, Refusal>
         ensures number { self.new.number ≡ self.old.number }
         ensures answered { IfOk result (λ a. (u : ℕ) × (n : ℕ) ×
@@ -142,9 +150,7 @@ impl<J: Naming, G: Gate + Drop, D: CrashLog + Drop, P: CrashPages + Drop> Sessio
         ensures refused { IfErr result (λ r.
             RefusedCall (λ t. event.Act t op.now) self.old.part r self.new.part) }
     {
-        let Some(ended) = self.run(rt, Ask::Act(op.copied())) else {
-            return Err(Refusal::NotOpen);
-        };
+        let ended = self.run(rt, Ask::Act(op.copied()))?;
         answer_told(self.shared.hall(), &ended)
     }
 
@@ -156,9 +162,7 @@ impl<J: Naming, G: Gate + Drop, D: CrashLog + Drop, P: CrashPages + Drop> Sessio
         ensures refused { IfErr result (λ r.
             RefusedCall (λ t. event.Get t key.now) self.old.part r self.new.part) }
     {
-        let Some(ended) = self.run(rt, Ask::Get(key.copied())) else {
-            return Err(Refusal::NotOpen);
-        };
+        let ended = self.run(rt, Ask::Get(key.copied()))?;
         row_told(self.shared.hall(), &ended)
     }
 
@@ -171,9 +175,7 @@ impl<J: Naming, G: Gate + Drop, D: CrashLog + Drop, P: CrashPages + Drop> Sessio
         ensures refused { IfErr result (λ r.
             RefusedCall (λ t. event.Scan t low.now high.now) self.old.part r self.new.part) }
     {
-        let Some(ended) = self.run(rt, Ask::Scan(low.copied(), copied_end(high))) else {
-            return Err(Refusal::NotOpen);
-        };
+        let ended = self.run(rt, Ask::Scan(low.copied(), copied_end(high)))?;
         rows_told(rt, self.shared.hall(), &ended)
     }
 
@@ -184,9 +186,7 @@ impl<J: Naming, G: Gate + Drop, D: CrashLog + Drop, P: CrashPages + Drop> Sessio
             AddsTo (λ t. event.Save t) (out.Saved s) None self.old.part self.new.part) }
         ensures refused { IfErr result (λ r. RefusedCall (λ t. event.Save t) self.old.part r self.new.part) }
     {
-        let Some(ended) = self.run(rt, Ask::Save) else {
-            return Err(Refusal::NotOpen);
-        };
+        let ended = self.run(rt, Ask::Save)?;
         saved(self.shared.hall(), &ended)
     }
 
@@ -199,9 +199,7 @@ impl<J: Naming, G: Gate + Drop, D: CrashLog + Drop, P: CrashPages + Drop> Sessio
         ensures refused { IfErr result (λ r.
             RefusedCall (λ t. event.GoBack t savepoint) self.old.part r self.new.part) }
     {
-        let Some(ended) = self.run(rt, Ask::GoBack(savepoint)) else {
-            return Err(Refusal::NotOpen);
-        };
+        let ended = self.run(rt, Ask::GoBack(savepoint))?;
         back_told(self.shared.hall(), &ended)
     }
 
@@ -213,9 +211,7 @@ impl<J: Naming, G: Gate + Drop, D: CrashLog + Drop, P: CrashPages + Drop> Sessio
             × (self.new.part.live ≡ None)) }
         ensures refused { IfErr result (λ r. RefusedCall (λ t. event.Rollback t) self.old.part r self.new.part) }
     {
-        let Some(ended) = self.run(rt, Ask::Rollback) else {
-            return Err(Refusal::NotOpen);
-        };
+        let ended = self.run(rt, Ask::Rollback)?;
         rollback_told(self.shared.hall(), &ended)
     }
 
@@ -229,18 +225,67 @@ impl<J: Naming, G: Gate + Drop, D: CrashLog + Drop, P: CrashPages + Drop> Sessio
         ensures stable { IfOk result (λ n. n ≤ self.new.seat.stable) }
         ensures refused { IfErr result (λ r. RefusedCall (λ t. event.Commit t) self.old.part r self.new.part) }
     {
-        let Some(ended) = self.run(rt, Ask::Commit) else {
-            return Err(Refusal::NotOpen);
-        };
+        let ended = self.run(rt, Ask::Commit)?;
+        let number = commit_told(self.shared.hall(), &ended)?;
+        self.learn(rt, number);
+        Ok(number)
+    }
+
+    /// Carries on what is unfinished of the session's transaction, and answers what the call would have: `again` is no
+    /// call of the session's list, where that call gets its line. Refused Unsent where nothing is unfinished, NoMemory
+    /// and Device where a step failed once more, NotConnected where a crash has cut the call off.
+    pub fn again<R: Wait>(&mut self, rt: &R) -> Result<Told, Refusal>
+        ensures number { self.new.number ≡ self.old.number }
+        ensures told { IfOk result (λ told. CarriesOn self.old.part told self.new.part) }
+        ensures stable { IfOk result (IsSeenBy self.new.seat.stable) }
+        ensures refused { IfErr result (λ r. RefusedAgain self.old.part r self.new.part) }
+    {
+        let ended = self.resume(rt)?;
+        let told = carried_told(rt, self.shared.hall(), &ended)?;
+        self.learn_of(rt, &told);
+        Ok(told)
+    }
+
+    // Of a commit that was told the session sees that its record is stable.
+    fn learn_of<R: Wait>(&mut self, rt: &R, told: &Told)
+        ensures same { (self.new.number ≡ self.old.number) × (self.new.part ≡ self.old.part) }
+        ensures stable { IsSeenBy self.new.seat.stable told.now }
+    {
+        if let Told::Committed(number) = told {
+            self.learn(rt, *number);
+        }
+    }
+
+    // The unfinished call, up to what was told of it.
+    fn resume<R: Wait>(&mut self, rt: &R) -> Result<Ended, Refusal>
+        ensures number { self.new.number ≡ self.old.number }
+        ensures none { IfErr result (λ r.
+            (r ≡ Refusal.Unsent) × IsClosed self.old.part × (self.new.part ≡ self.old.part)) }
+        ensures resumes { IfOk result (λ ended. Resumes J.entries self.old.part ended self.new.part) }
+    {
+        let Session {
+            caller,
+            unfinished,
+            seat: _,
+            shared,
+            work,
+        } = self;
+        shared.again(rt, work, caller, unfinished)
+    }
+
+    // The session sees that the log is stable up to the record.
+    fn learn<R: Wait>(&mut self, rt: &R, number: u64)
+        ensures same { (self.new.number ≡ self.old.number) × (self.new.part ≡ self.old.part) }
+        ensures stable { number ≤ self.new.seat.stable }
+    {
         let Session {
             caller: _,
+            unfinished: _,
             seat,
             shared,
             work,
         } = self;
-        let number = commit_told(shared.hall(), &ended)?;
         shared.entrance.learn(rt, work, seat, number);
-        Ok(number)
     }
 }
 

@@ -2,11 +2,12 @@
 ghost use Rattle.std.specs.Prelude.{IfSome};
 ghost use Rattle.pool_journal.specs.Slots.{Shown};
 
+use crate::after::After;
 use crate::board::Job;
 use crate::shared::Shared;
 use boxcar::Pushed;
 use crossbeam_channel::Receiver;
-use pool_journal::{DcDesk, Entry, Gate, Naming, hold};
+use pool_journal::{DcDesk, Entry, Failure, Gate, Naming, hold};
 use record_key::Refusal;
 use stable::{CrashLog, CrashPages};
 use std::sync::{MutexGuard, Wait};
@@ -29,6 +30,14 @@ where
     }
 }
 
+// What follows a step that came to this: who waits for it looks again, unless it failed.
+fn stop_or_look(out: &Out) -> After {
+    match Failure::of(out) {
+        Some(failure) => After::Stop(failure),
+        None => After::Look,
+    }
+}
+
 impl<J: Naming, G: Gate, D: CrashLog, P: CrashPages> Shared<J, G, D, P> {
     // Serves one request, and hands its reply over.
     fn serve<R: Wait>(&self, rt: &R, job: Job) {
@@ -37,8 +46,10 @@ impl<J: Naming, G: Gate, D: CrashLog, P: CrashPages> Shared<J, G, D, P> {
         if let Ok(sent) = found {
             self.look_on(&sent);
         }
-        if self.exchange(rt, hold(rt, &self.dc), job.number) {
-            board.stir(rt, job.session);
+        match self.exchange(rt, hold(rt, &self.dc), job.number) {
+            After::Look => board.stir(rt, job.session),
+            After::Wait => {}
+            After::Stop(failure) => board.refuse(rt, job, failure),
         }
         board.wake();
     }
@@ -52,17 +63,17 @@ impl<J: Naming, G: Gate, D: CrashLog, P: CrashPages> Shared<J, G, D, P> {
         }
     }
 
-    /// The request is served, the leaves are kept small, and its reply is taken. Whether the session has to look again:
-    /// not where the data component is down, in redo or in another session, since who restarts it says when it is up.
+    /// The request is served, the leaves are kept small, and its reply is taken. The session has to look again; but not
+    /// where the data component is down, in redo or in another session, since who restarts it says when it is up.
     pub(crate) fn exchange<R: Wait>(
         &self,
         rt: &R,
         desk: MutexGuard<'_, DcDesk<J, D, P>>,
         number: u64,
-    ) -> bool {
+    ) -> After {
         match self.served(rt, desk, number) {
             Some(token) => self.take_over(rt, &token),
-            None => true,
+            None => After::Look,
         }
     }
 
@@ -83,8 +94,8 @@ impl<J: Naming, G: Gate, D: CrashLog, P: CrashPages> Shared<J, G, D, P> {
         served.ok()
     }
 
-    // The reply that an entry gave is taken. Whether the session has to look again.
-    fn take_over<R: Wait>(&self, rt: &R, token: &Pushed<Entry>) -> bool
+    // The reply that an entry gave is taken.
+    fn take_over<R: Wait>(&self, rt: &R, token: &Pushed<Entry>) -> After
         requires { Shown J.entries token.now }
     {
         let entry = self.hall().row().value(token);
@@ -92,12 +103,17 @@ impl<J: Naming, G: Gate, D: CrashLog, P: CrashPages> Shared<J, G, D, P> {
             self.gate.after(reply);
         }
         match entry.out() {
-            Out::Replied(reply) => {
-                self.entrance.take(rt, *reply);
-                true
-            }
-            Out::Refused(Refusal::NotConnected | Refusal::Redoing | Refusal::Stale) => false,
-            _ => true,
+            Out::Replied(reply) => self.take(rt, *reply),
+            Out::Refused(Refusal::NotConnected | Refusal::Redoing | Refusal::Stale) => After::Wait,
+            out => stop_or_look(out),
+        }
+    }
+
+    // The reply of this number is taken.
+    fn take<R: Wait>(&self, rt: &R, number: u64) -> After {
+        match self.entrance.take(rt, number) {
+            Some(token) => stop_or_look(self.entrance.board.out(&token)),
+            None => After::Look,
         }
     }
 }

@@ -7,7 +7,7 @@ use Rattle.pool_journal.specs.declared.place.Place.{Place}
 use Rattle.pool_journal.specs.declared.step.Step.{Step}
 use Rattle.pool_journal.specs.Callers.{CallerView}
 use Rattle.pool_journal.specs.Kept.{PlaceKept, PlacesKept, calls_of, place_after}
-use Rattle.pool_journal.specs.Sessions.{calls, live_after, is_pending, IsClosed}
+use Rattle.pool_journal.specs.Sessions.{LeavesLive, calls, live_after, is_pending, part_of, IsClosed}
 use Rattle.pool_journal.specs.Slots.{Slot, through}
 use Rattle.pool_journal.specs.Views.{View, Sees}
 use Rattle.pool_journal.proofs.Entering.{own_place, places_called, part_called, calls_same}
@@ -151,5 +151,7 @@ returns-clause-live g c =
     let now : c.meet.new.visitor.steps ≡ s.lines ++ c.args.step.value ∷ [] =
     ap (λ (v : View). v.steps) (c.meet.ensures.visitor ∙ c.meet.ensures.party)
     ∙ ap (λ (x : Slot). through x.value) c.again.ensures ∙ c.enter_tc-token.ensures.through in
+    subst (λ (v : CallerView). LeavesLive v.part.live c.args.step.value.out (part_of n c.meet.new.visitor.steps))
+    c.caller.view_is
     (part_called n c.caller.inside.visitor.steps s.lines c.meet.new.visitor.steps c.args.step.value
     (c.requires.own ∙ ap (λ (m : ℕ). Some m) number) sees closed now).2

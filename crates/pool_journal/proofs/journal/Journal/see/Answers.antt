@@ -2,11 +2,11 @@ use Rattle.std.proofs.Common.{◌≡◌, ◌<◌, IfSome, List, Some, ap, sym, �
 use Rattle.std.proofs.lemmas.Option.{slice_get_read}
 use Rattle.pool_journal.specs.declared.step.Step.{Step}
 use Rattle.pool_journal.specs.Kept.{calls_of}
-use Rattle.pool_journal.specs.Sessions.{calls, part_of, IsClosed}
-use Rattle.pool_journal.specs.Callers.{CallerView}
+use Rattle.pool_journal.specs.Sessions.{Part, part_of}
+use Rattle.pool_journal.specs.Callers.{CallerView, IsGrown}
 use Rattle.pool_journal.specs.Views.{View, Sees}
 use Rattle.pool_journal.proofs.Entering.{places_seen}
-use Rattle.pool_journal.proofs.Parts.{closed_on, still}
+use Rattle.pool_journal.proofs.Parts.{grown, still}
 use Rattle.pool_journal.proofs.journal.Journal.see.Goals as goal
 
 pub meet-requires-clause-name : goal.meet-requires-clause-name
@@ -32,8 +32,8 @@ invariant_of-self g c =
       c.self.invariant.1,
     )
 
-pub returns-clause-calls : goal.returns-clause-calls
-returns-clause-calls g c =
+pub returns-clause-grown : goal.returns-clause-grown
+returns-clause-grown g c =
     let s = c.self.inside in
     let n = c.caller.inside.number in
     let p = c.index_mut-place.result.now in
@@ -42,27 +42,11 @@ returns-clause-calls g c =
     let k = c.self.invariant.0 n p at in
     let sees : Sees (calls_of n) c.caller.inside.visitor.steps s.lines =
     subst (λ (v : View). Sees (calls_of n) v.steps s.lines) c.meet.ensures.same k.sees in
-    let closed = subst (λ (v : CallerView). IsClosed v.part) (sym c.caller.view_is) c.requires.closed in
     let now : c.meet.new.visitor.steps ≡ s.lines =
     ap (λ (v : View). v.steps) (c.meet.ensures.visitor ∙ c.meet.ensures.party) ∙ c.last.ensures.seen in
-    let on = closed_on n c.caller.inside.visitor.steps s.lines sees closed in
-    ap (λ (es : List Step). calls (part_of n es)) now ∙ on.0 ∙ ap (λ (v : CallerView). calls v.part) c.caller.view_is
-
-pub returns-clause-closed : goal.returns-clause-closed
-returns-clause-closed g c =
-    let s = c.self.inside in
-    let n = c.caller.inside.number in
-    let p = c.index_mut-place.result.now in
-    let less : n < length s.places.items = search rules in
-    let at = slice_get_read s.places.items (length s.places.items) n p refl less c.index_mut-place.ensures.value in
-    let k = c.self.invariant.0 n p at in
-    let sees : Sees (calls_of n) c.caller.inside.visitor.steps s.lines =
-    subst (λ (v : View). Sees (calls_of n) v.steps s.lines) c.meet.ensures.same k.sees in
-    let closed = subst (λ (v : CallerView). IsClosed v.part) (sym c.caller.view_is) c.requires.closed in
-    let now : c.meet.new.visitor.steps ≡ s.lines =
-    ap (λ (v : View). v.steps) (c.meet.ensures.visitor ∙ c.meet.ensures.party) ∙ c.last.ensures.seen in
-    let on = closed_on n c.caller.inside.visitor.steps s.lines sees closed in
-    subst (λ (es : List Step). IsClosed (part_of n es)) (sym now) on.1
+    subst (λ (w : Part × List Step). IsGrown w.0 (part_of n w.1))
+    (λ i. (ap (λ (v : CallerView). v.part) c.caller.view_is i, sym now i))
+    (grown n c.caller.inside.visitor.steps s.lines sees)
 
 pub returns-clause-live : goal.returns-clause-live
 returns-clause-live g c =
@@ -71,14 +55,9 @@ returns-clause-live g c =
     let p = c.index_mut-place.result.now in
     let less : n < length s.places.items = search rules in
     let at = slice_get_read s.places.items (length s.places.items) n p refl less c.index_mut-place.ensures.value in
-    let k = c.self.invariant.0 n p at in
-    let sees : Sees (calls_of n) c.caller.inside.visitor.steps s.lines =
-    subst (λ (v : View). Sees (calls_of n) v.steps s.lines) c.meet.ensures.same k.sees in
-    let closed = subst (λ (v : CallerView). IsClosed v.part) (sym c.caller.view_is) c.requires.closed in
     let now : c.meet.new.visitor.steps ≡ s.lines =
     ap (λ (v : View). v.steps) (c.meet.ensures.visitor ∙ c.meet.ensures.party) ∙ c.last.ensures.seen in
-    let on = closed_on n c.caller.inside.visitor.steps s.lines sees closed in
-    k.live ∙ ap (λ (es : List Step). (part_of n es).live) (sym now)
+    (c.self.invariant.0 n p at).live ∙ ap (λ (es : List Step). (part_of n es).live) (sym now)
 
 pub returns-clause-kept : goal.returns-clause-kept
 returns-clause-kept g c =
@@ -90,9 +69,6 @@ returns-clause-kept g c =
     let k = c.self.invariant.0 n p at in
     let sees : Sees (calls_of n) c.caller.inside.visitor.steps s.lines =
     subst (λ (v : View). Sees (calls_of n) v.steps s.lines) c.meet.ensures.same k.sees in
-    let closed = subst (λ (v : CallerView). IsClosed v.part) (sym c.caller.view_is) c.requires.closed in
-    let now : c.meet.new.visitor.steps ≡ s.lines =
-    ap (λ (v : View). v.steps) (c.meet.ensures.visitor ∙ c.meet.ensures.party) ∙ c.last.ensures.seen in
-    let on = closed_on n c.caller.inside.visitor.steps s.lines sees closed in
+    let before = c.caller.inside.visitor.steps in
     subst (λ (v : CallerView). IfSome p.live (λ t. v.part.live ≡ Some t)) c.caller.view_is
-    (still p.live (part_of n c.caller.inside.visitor.steps).live (part_of n s.lines).live k.live on.2)
+    (still p.live (part_of n before).live (part_of n s.lines).live k.live (grown n before s.lines sees).live)

@@ -1,4 +1,4 @@
-use Rattle.std.proofs.Common.{◌≡◌, ℕ, Bool, true, false, Some, None, subst, sym, ap}
+use Rattle.std.proofs.Common.{◌≡◌, ℕ, Some, None, subst, sym, ap}
 use Rattle.history.specs.ListMachine.{Line, TellsCommitted}
 use Rattle.boxcar.specs.Table.{Shelves}
 use Rattle.world.specs.declared.event.Event.TheVariants as event
@@ -7,18 +7,9 @@ use Rattle.world.specs.declared.event.Out.TheVariants as out
 use Rattle.worker_pool.specs.declared.ended.Ended.{Ended}
 use Rattle.worker_pool.specs.declared.ended.Ended.TheVariants as ended
 use Rattle.worker_pool.specs.Answers.{Adds, Ends, IsToldAs, TellsCommit}
-use Rattle.pool_journal.specs.Callers.{SessionView}
-use Rattle.pool_journal.specs.Sessions.{Part, ends, is_among, line_to, only_if}
+use Rattle.pool_journal.specs.Sessions.{Part, ends}
+use Rattle.worker_pool.proofs.Telling.{commits as committed}
 use Rattle.worker_pool.proofs.session.Session.commit.Goals as goal
-
-one_line : (b : Bool) (told line : Line) → only_if b told ≡ Some line → line ≡ told
-one_line true told line is = let same : told ≡ line = cc (is) in sym same
-one_line false told line is = absurd (cc (is))
-
-tells : (t : ℕ) (o : Out) (line : Line) → line_to t o ≡ Some line → TellsCommit o → line ≡ TellsCommitted t
-tells t (out.Stable end committed) line is h = one_line (is_among t committed) (TellsCommitted t) line is
-tells t (out.Connects i committed) line is h = one_line (is_among t committed) (TellsCommitted t) line is
-tells t _ line is h = absurd h
 
 -- a commit that was told
 abbrev Committed : ℕ → Part → Part → Type 0
@@ -30,7 +21,7 @@ commits : (row : Shelves) (how : Ended) (old new : Part) (n t : ℕ) → old.liv
     → Ends row (event.Commit t) old how new → IsToldAs (λ (o : Out). o ≡ out.CommitLogged n) TellsCommit how
     → Committed n old new
 commits row (ended.Told p q) old new n t live (p_shown, q_shown, pending, (u, (line, is, over, adds))) (call, what) =
-    let told = tells u q.value.step.value.out line is what in
+    let told = committed u q.value.step.value.out line is what in
     let so = subst (λ (l : Line). Adds (event.Commit t) p.value.step.value.out (Some l) old new) told adds in (
       u,
       (t, live, subst (λ (o : Out). Adds (event.Commit t) o (Some (TellsCommitted u)) old new) call so),
@@ -38,11 +29,12 @@ commits row (ended.Told p q) old new n t live (p_shown, q_shown, pending, (u, (l
     )
 commits row (ended.AtOnce p) old new n t live how told = absurd told
 commits row ended.CutOff old new n t live how told = absurd told
+commits row (ended.Unfinished u f) old new n t live how told = absurd told
 
 pub returns-clause-committed : goal.returns-clause-committed
 returns-clause-committed g c =
     let old = c.args.self.now.part in
-    let run = c.in-Some.ensures.ends in
+    let run = c.in_ok-ended.ensures.ends in
     let n = c.in_ok-number.number in
-    subst (λ (v : SessionView). Committed n old v.part) (sym c.self.view_is)
-    (commits g.J.Naming.entries c.in-Some.ended old c.run.new.self.part n run.0 run.1 run.2 c.in_ok-number.ensures.told)
+    subst (λ (p : Part). Committed n old p) (sym c.learn.ensures.same.1)
+    (commits g.J.Naming.entries c.in_ok-ended.ended old c.run.new.self.part n run.0 run.1 run.2 c.in_ok-number.ensures.told)

@@ -2,8 +2,9 @@ use Rattle.std.proofs.Common.{◌≡◌}
 use Rattle.pool_journal.specs.Callers.{IsUntold}
 use Rattle.worker_pool.proofs.shared.Shared.carry_on.Given as goal
 
--- nothing was told so far
+-- nothing was told so far, and the transaction is what it was
 abbrev pub invariant-loop : goal.invariant-loop
 invariant-loop g l =
     (l.caller.number ≡ l.initial.caller.number) × IsUntold l.initial.caller.part l.caller.part
+    × (l.caller.part.live ≡ l.initial.caller.part.live)
     × (goal.iterator-loop g).can_next l.iterator' × (goal.iterator-loop g).is_finite l.iterator'

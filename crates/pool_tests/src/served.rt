@@ -1,0 +1,95 @@
+//! The calls of a session, and of what an engine leaves, as traits: who plays or judges is proved for whatever has these
+//! calls, and knows nothing of what a session owns.
+use crate::stage::Door;
+use codec::Rows;
+use record_key::{Answer, Key, Op, Refusal, Value};
+use std::sync::Wait;
+use worker_pool::{Closed, Naming, Session, Step, Told};
+
+/// A client's calls.
+pub trait Serves {
+    fn marks(&mut self) -> (u64, u64);
+
+    fn begin<R: Wait>(&mut self, rt: &R) -> Result<u64, Refusal>;
+
+    fn act<R: Wait>(&mut self, rt: &R, op: &Op) -> Result<Answer, Refusal>;
+
+    fn get<R: Wait>(&mut self, rt: &R, key: &Key) -> Result<Option<Value>, Refusal>;
+
+    fn scan<R: Wait>(&mut self, rt: &R, low: &Key, high: &Option<Key>) -> Result<Rows, Refusal>;
+
+    fn save<R: Wait>(&mut self, rt: &R) -> Result<u64, Refusal>;
+
+    fn back_to<R: Wait>(&mut self, rt: &R, savepoint: u64) -> Result<(), Refusal>;
+
+    fn rollback<R: Wait>(&mut self, rt: &R) -> Result<(), Refusal>;
+
+    fn commit<R: Wait>(&mut self, rt: &R) -> Result<u64, Refusal>;
+
+    fn again<R: Wait>(&mut self, rt: &R) -> Result<Told, Refusal>;
+}
+
+/// What is left: steps in their order, and the records where the data component runs.
+pub trait Leaves {
+    fn count(&self) -> usize;
+
+    fn step_at(&self, place: usize) -> Option<&Step>;
+
+    fn records(&self) -> Option<&[(Key, Value)]>;
+}
+
+impl<J: Naming> Serves for Session<J, Door> {
+    fn marks(&mut self) -> (u64, u64) {
+        Session::marks(self)
+    }
+
+    fn begin<R: Wait>(&mut self, rt: &R) -> Result<u64, Refusal> {
+        Session::begin(self, rt)
+    }
+
+    fn act<R: Wait>(&mut self, rt: &R, op: &Op) -> Result<Answer, Refusal> {
+        Session::act(self, rt, op)
+    }
+
+    fn get<R: Wait>(&mut self, rt: &R, key: &Key) -> Result<Option<Value>, Refusal> {
+        Session::get(self, rt, key)
+    }
+
+    fn scan<R: Wait>(&mut self, rt: &R, low: &Key, high: &Option<Key>) -> Result<Rows, Refusal> {
+        Session::scan(self, rt, low, high)
+    }
+
+    fn save<R: Wait>(&mut self, rt: &R) -> Result<u64, Refusal> {
+        Session::save(self, rt)
+    }
+
+    fn back_to<R: Wait>(&mut self, rt: &R, savepoint: u64) -> Result<(), Refusal> {
+        Session::back_to(self, rt, savepoint)
+    }
+
+    fn rollback<R: Wait>(&mut self, rt: &R) -> Result<(), Refusal> {
+        Session::rollback(self, rt)
+    }
+
+    fn commit<R: Wait>(&mut self, rt: &R) -> Result<u64, Refusal> {
+        Session::commit(self, rt)
+    }
+
+    fn again<R: Wait>(&mut self, rt: &R) -> Result<Told, Refusal> {
+        Session::again(self, rt)
+    }
+}
+
+impl<J: Naming> Leaves for Closed<J> {
+    fn count(&self) -> usize {
+        self.len()
+    }
+
+    fn step_at(&self, place: usize) -> Option<&Step> {
+        self.step(place)
+    }
+
+    fn records(&self) -> Option<&[(Key, Value)]> {
+        self.rows()
+    }
+}

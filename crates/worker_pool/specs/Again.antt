@@ -1,0 +1,99 @@
+-- What a session is answered that carries an unfinished call on.
+use Rattle.std.specs.Prelude.{◌≡◌, ◌⊎◌, ℕ, ◌≤◌, Bool, false, ◌++◌, ◌∷◌, [], Option, Some, None, ⊤}
+use Rattle.boxcar.specs.Table.{Shelves}
+use Rattle.history.specs.ListMachine.{Line, TellsAnswer, TellsRow, TellsRows, TellsBack, TellsRolledBack, TellsCommitted}
+use Rattle.record_key.specs.declared.refusal.Refusal.{Refusal}
+use Rattle.record_key.specs.declared.refusal.Refusal.TheVariants.{NotConnected, Unsent}
+use Rattle.world.specs.declared.event.Event.{Event}
+use Rattle.world.specs.declared.event.Event.TheVariants as event
+use Rattle.world.specs.declared.event.Out.{Out}
+use Rattle.world.specs.declared.event.Out.TheVariants as out
+use Rattle.pool_journal.specs.Failing.{IsFailure}
+use Rattle.pool_journal.specs.Sessions.{Call, Part, called_as, calls, IsClosed}
+use Rattle.pool_journal.specs.Slots.{Slot, Shown}
+use Rattle.worker_pool.specs.Answers.{Finishes, IsOver, TellsCommit}
+use Rattle.worker_pool.specs.Asking.{both, gives_answer, gives_back, gives_commit, gives_rolled_back, gives_row, gives_rows, is_answered, is_asked, is_commit_logged, is_logged, is_rolling}
+use Rattle.worker_pool.specs.Unfinished.{IsUnfinished, call_in}
+use Rattle.worker_pool.specs.declared.ended.Ended.{Ended}
+use Rattle.worker_pool.specs.declared.ended.Ended.TheVariants as ended
+use Rattle.worker_pool.specs.declared.told.Told.{Told}
+use Rattle.worker_pool.specs.declared.told.Told.TheVariants as told
+
+-- a call that came to this is answered so by this line
+abbrev pub IsAnswer : Event → Out → Line → Told → Type 0
+IsAnswer (event.Act t op) o line (told.Answer a) = ((n : ℕ) × (o ≡ out.Logged n)) × ((u : ℕ) × (line ≡ TellsAnswer u a))
+IsAnswer (event.Get t key) o line (told.Row v) = ((n : ℕ) × (o ≡ out.Asked n)) × ((u : ℕ) × (line ≡ TellsRow u v))
+IsAnswer (event.Scan t low high) o line (told.Rows rows) =
+    ((n : ℕ) × (o ≡ out.Asked n)) × ((u : ℕ) × (line ≡ TellsRows u rows))
+IsAnswer (event.GoBack t s) o line told.Back = (o ≡ out.RollingBack) × ((u : ℕ) × (n : ℕ) × (line ≡ TellsBack u n))
+IsAnswer (event.Rollback t) o line told.RolledBack = (o ≡ out.RollingBack) × ((u : ℕ) × (line ≡ TellsRolledBack u))
+IsAnswer (event.Commit t) o line (told.Committed n) = (o ≡ out.CommitLogged n) × ((u : ℕ) × (line ≡ TellsCommitted u))
+IsAnswer _ o line _ = ⊥
+
+-- the same of the output that tells the line
+abbrev pub IsGiven : Event → Out → Out → Told → Type 0
+IsGiven (event.Act t op) o l (told.Answer a) = ((n : ℕ) × (o ≡ out.Logged n)) × ((u : ℕ) × (l ≡ out.Answered u a))
+IsGiven (event.Get t key) o l (told.Row v) = ((n : ℕ) × (o ≡ out.Asked n)) × ((u : ℕ) × (l ≡ out.Row u v))
+IsGiven (event.Scan t low high) o l (told.Rows rows) =
+    ((n : ℕ) × (o ≡ out.Asked n)) × ((u : ℕ) × (l ≡ out.Rows u rows))
+IsGiven (event.GoBack t s) o l told.Back = (o ≡ out.RollingBack) × ((u : ℕ) × (n : ℕ) × (l ≡ out.Back u n))
+IsGiven (event.Rollback t) o l told.RolledBack = (o ≡ out.RollingBack) × ((u : ℕ) × (l ≡ out.RolledBack u))
+IsGiven (event.Commit t) o l (told.Committed n) = (o ≡ out.CommitLogged n) × TellsCommit l
+IsGiven _ o l _ = ⊥
+
+-- whether the output answers a call that came to this
+abbrev pub is_given : Event → Out → Out → Bool
+is_given (event.Act t op) o l = both (is_logged o) (gives_answer l)
+is_given (event.Get t key) o l = both (is_asked o) (gives_row l)
+is_given (event.Scan t low high) o l = both (is_asked o) (gives_rows l)
+is_given (event.GoBack t s) o l = both (is_rolling o) (gives_back l)
+is_given (event.Rollback t) o l = both (is_rolling o) (gives_rolled_back l)
+is_given (event.Commit t) o l = both (is_commit_logged o) (gives_commit l)
+is_given _ o l = false
+
+-- how an unfinished call went on
+abbrev pub Resumes : Shelves → Part → Ended → Part → Type 0
+Resumes row old how new =
+    (p : Slot) × Shown row p × (old.latest ≡ Some (call_in p)) × IsUnfinished old × Finishes row p old how new
+
+abbrev pub IsToldSo : Ended → Told → Type 0
+IsToldSo (ended.Told p q) t =
+    IsGiven p.value.step.value.event p.value.step.value.out q.value.step.value.out t
+IsToldSo _ t = ⊥
+
+abbrev pub IsNotTold : Ended → Refusal → Type 0
+IsNotTold (ended.AtOnce p) r = ⊤
+IsNotTold (ended.Told p q) r = (r ≡ NotConnected)
+    × (is_given p.value.step.value.event p.value.step.value.out q.value.step.value.out ≡ false)
+IsNotTold (ended.Unfinished u f) r = IsFailure r
+IsNotTold ended.CutOff r = r ≡ NotConnected
+
+-- ---- what the session's list shows of it
+
+-- the unfinished call has got its line, and that answers it so
+pub record CarriesOn (old : Part) (t : Told) (new : Part) : Type 0 where
+  pub unfinished : IsUnfinished old
+  pub call : Call
+  pub was : old.latest ≡ Some call
+  pub line : Line
+  pub answers : IsAnswer call.event call.out line t
+  pub list : calls new ≡ old.before ++ called_as call.event call.out (Some line) ∷ []
+  pub over : IsOver line new
+
+-- a commit that was told was seen to be stable
+abbrev pub IsSeenBy : ℕ → Told → Type 0
+IsSeenBy stable t = (n : ℕ) → t ≡ told.Committed n → n ≤ stable
+
+-- nothing more is told of the call: a line was told of it that doesn't answer it, or a crash has cut it off
+pub record IsLost (old new : Part) : Type 0 where
+  pub call : Call
+  pub was : old.latest ≡ Some call
+  pub line : Option Line
+  pub list : calls new ≡ old.before ++ called_as call.event call.out line ∷ []
+  pub unanswered : is_answered (called_as call.event call.out line) ≡ false
+  pub cut : line ≡ None → new.live ≡ None
+
+abbrev pub RefusedAgain : Part → Refusal → Part → Type 0
+RefusedAgain old r new =
+    ((r ≡ Unsent) × IsClosed old × (new ≡ old)) ⊎ ((IsFailure r × IsUnfinished old × (new ≡ old))
+    ⊎ ((r ≡ NotConnected) × IsUnfinished old × IsLost old new))

@@ -1,0 +1,13 @@
+//! What follows a step of a session's call.
+use pool_journal::Failure;
+
+/// What its session does after a step of a call.
+#[derive(Debug, Clone, Copy, PartialEq, Eq)]
+pub(crate) enum After {
+    /// It looks what was told.
+    Look,
+    /// It waits until something was told, or another step may be made.
+    Wait,
+    /// It goes on no more.
+    Stop(Failure),
+}
