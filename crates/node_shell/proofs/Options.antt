@@ -1,4 +1,4 @@
--- An option has a value that passed its parser, where the words are taken.
+-- Where the words are taken an option has a value that passed its parser, or none if it has no default.
 use Rattle.std.proofs.Common.{zero, suc, ◌≡◌, ◌⊎◌, ℕ, Bool, true, false, List, [], ◌∷◌, ◌++◌, Option, Some, None, is_some, length, ap, sym, subst, refl, inl, inr}
 use Rattle.std.specs.Prelude.{⊤, find, fold, ◌||◌, cond, drop, option_and_then, option_map, slice_get, encode_utf8}
 use Rattle.std.specs.List.{AllByRecursion}
@@ -27,11 +27,16 @@ abbrev pub FirstPasses : Rule → List Text → Type 0
 FirstPasses a [] = ⊥
 FirstPasses a (v ∷ vs) = value_passes a v ≡ true
 
--- each use takes a value, and so it has one where there is none
+-- a default passes, where there is one
+abbrev pub DefaultPasses : Rule → List Text → Type 0
+DefaultPasses a [] = ⊤
+DefaultPasses a (v ∷ vs) = value_passes a v ≡ true
+
+-- each use takes a value
 pub record IsOption (a : Rule) : Type 0 where
   pub sets : action_of a ≡ Set
   pub least : (unwrap_or_range a.range).start_inclusive ≡ 1
-  pub default : FirstPasses a a.defaults
+  pub default : DefaultPasses a a.defaults
 
 -- no use of it is taken
 abbrev pub IsRequest : Rule → Type 0
@@ -307,7 +312,7 @@ module _ (a : Rule) (s : Shape) (has : HasOption a s) (names : Names) where
 -- ---- defaults
 
 default_rows_fit : (a : Rule) (id : Text) (how : Reading) (values : List Text) (rows : List Row)
-    → (bytes_eq id a.id ≡ true → FirstPasses a values × (how ≡ reading_by a)) → Fits a rows
+    → (bytes_eq id a.id ≡ true → DefaultPasses a values × (how ≡ reading_by a)) → Fits a rows
     → Fits a (default_rows id how values rows)
 default_rows_fit a id how [] rows new f = f
 default_rows_fit a id how (v ∷ vs) rows new f = with_values_fits a id how DefaultValue (v ∷ vs) rows new f
@@ -318,7 +323,7 @@ default_fits a b rows is known f = go (has_row b.id rows)
     go : (t : Bool) → Fits a (cond t rows (default_rows b.id (reading_by b) b.defaults rows))
     go true = f
     go false =
-        let P : Rule → Type 0 = λ x. FirstPasses a x.defaults in
+        let P : Rule → Type 0 = λ x. DefaultPasses a x.defaults in
         default_rows_fit a b.id (reading_by b) b.defaults rows
         (λ h. (subst P (sym (known.same h)) is.default, ap reading_by (known.same h))) f
 
@@ -371,8 +376,8 @@ row_comes id s values r (x ∷ xs) same = go (bytes_eq x.id id) refl (row_comes 
     go true here later = rw here refl
     go false here later = or_right (bytes_eq x.id id) _ later
 
-default_comes : (a : Rule) (rows : List Row) → IsOption a → has_row a.id (with_default rows a) ≡ true
-default_comes a rows is = go (has_row a.id rows) refl a.defaults is.default
+default_comes : (a : Rule) (rows : List Row) → FirstPasses a a.defaults → has_row a.id (with_default rows a) ≡ true
+default_comes a rows default = go (has_row a.id rows) refl a.defaults default
   where
     go : (t : Bool) → has_row a.id rows ≡ t → (values : List Text) → FirstPasses a values
         → has_row a.id (cond t rows (default_rows a.id (reading_by a) values rows)) ≡ true
@@ -390,14 +395,14 @@ defaults_keep : (id : Text) (d : List Rule) (rows : List Row) → has_row id row
 defaults_keep id [] rows h = h
 defaults_keep id (b ∷ d) rows h = defaults_keep id d (with_default rows b) (default_keeps id b rows h)
 
-defaults_come : (a : Rule) (d : List Rule) (rows : List Row) → IsOption a → IsAmongRules a d
+defaults_come : (a : Rule) (d : List Rule) (rows : List Row) → FirstPasses a a.defaults → IsAmongRules a d
     → has_row a.id (fold with_default rows d) ≡ true
-defaults_come a [] rows is among = absurd among
-defaults_come a (b ∷ d) rows is among = elim among [
+defaults_come a [] rows default among = absurd among
+defaults_come a (b ∷ d) rows default among = elim among [
   | inl here ↦
       let P : Rule → Type 0 = λ x. has_row a.id (with_default rows x) ≡ true in
-      defaults_keep a.id d (with_default rows b) (subst P (sym here) (default_comes a rows is))
-  | inr later ↦ defaults_come a d (with_default rows b) is later
+      defaults_keep a.id d (with_default rows b) (subst P (sym here) (default_comes a rows default))
+  | inr later ↦ defaults_come a d (with_default rows b) default later
 ]
 
 -- what the option has is a value that passes
@@ -427,16 +432,45 @@ found_value a (r ∷ rs) f h = go (bytes_eq r.id a.id) refl h (found_value a rs 
     go true here h later = row_value a r r.values (f.0 here).0 (f.0 here).1
     go false here h later = later h
 
--- an option of a command that takes the words has a value that passes
-pub level_has_value : (a : Rule) (s : Shape) (names : Names) (words : List Text) (used : Bool) (below : Kinds)
-    → HasOption a s → IsAmongRules a s.rules → level_fault s names nothing_held words used below ≡ []
-    → HasValue a (rows_after s.rules names words)
-level_has_value a s names words used below has among none =
+no_value : (id : Text) (rows : List Row) → has_row id rows ≡ false → one_of id rows ≡ None
+no_value id [] h = refl
+no_value id (r ∷ rs) h = go (bytes_eq r.id id) h (no_value id rs)
+  where
+    go : (t : Bool) → (t || has_row id rs) ≡ false → (has_row id rs ≡ false → one_of id rs ≡ None)
+        → option_and_then row_text (cond t (Some r) (find (λ r. bytes_eq r.id id) rs)) ≡ None
+    go true h later = absurd (cc h)
+    go false h later = later h
+
+value_if : (a : Rule) (rows : List Row) (t : Bool) → has_row a.id rows ≡ t → Fits a rows
+    → (one_of a.id rows ≡ None) ⊎ HasValue a rows
+value_if a rows false h f = inl (no_value a.id rows h)
+value_if a rows true h f =
+    let value = found_value a rows f h in
+    inr (record { text = value.0; found = value.1; passes = value.2 })
+
+-- what the words and the defaults leave of an option of a command that takes the words
+rows_fit : (a : Rule) (s : Shape) (names : Names) (words : List Text) (used : Bool) (below : Kinds) → HasOption a s
+    → level_fault s names nothing_held words used below ≡ [] → Fits a (rows_after s.rules names words)
+rows_fit a s names words used below has none =
     let end = (walk s.rules names nothing_held words).held in
     let parts = both_none _ _ none in
     let rest = both_none _ _ (both_none _ _ parts.1).1 in
     let walked = walk_fits a s has names words (walk_from nothing_held) tt parts.0 in
     let settled = settled_fits a has.is s.rules has.known s.args_override_self end walked rest.0 in
-    let value = found_value a _ (defaults_fit a s.rules _ has.is has.known settled)
-    (defaults_come a s.rules _ has.is among) in
+    defaults_fit a s.rules _ has.is has.known settled
+
+-- an option of a command that takes the words has no value, or one that passes
+pub level_may_have_value : (a : Rule) (s : Shape) (names : Names) (words : List Text) (used : Bool) (below : Kinds)
+    → HasOption a s → level_fault s names nothing_held words used below ≡ []
+    → (one_of a.id (rows_after s.rules names words) ≡ None) ⊎ HasValue a (rows_after s.rules names words)
+level_may_have_value a s names words used below has none =
+    value_if a _ _ refl (rows_fit a s names words used below has none)
+
+-- and where it has a default it has one that passes
+pub level_has_value : (a : Rule) (s : Shape) (names : Names) (words : List Text) (used : Bool) (below : Kinds)
+    → HasOption a s → FirstPasses a a.defaults → IsAmongRules a s.rules
+    → level_fault s names nothing_held words used below ≡ [] → HasValue a (rows_after s.rules names words)
+level_has_value a s names words used below has default among none =
+    let value = found_value a _ (rows_fit a s names words used below has none)
+    (defaults_come a s.rules _ default among) in
     record { text = value.0; found = value.1; passes = value.2 }

@@ -1,11 +1,11 @@
 -- The subcommand that words name which are taken, and what it was given.
-use Rattle.std.proofs.Common.{◌≡◌, ◌⊎◌, ℕ, Bool, true, false, not, List, [], ◌∷◌, Option, Some, None, is_some, length, refl, inl, inr, sym, subst, ◌∙◌, ◌||◌}
+use Rattle.std.proofs.Common.{zero, suc, ◌≡◌, ◌⊎◌, ℕ, Bool, true, false, not, List, [], ◌∷◌, Option, Some, None, is_some, length, refl, inl, inr, sym, subst, ◌∙◌, ◌||◌}
 use Rattle.std.specs.Prelude.{⊤, fold, ◌&&◌, cond, codes, option_map}
 use Rattle.std.specs.Option.{option_map_or}
 use Rattle.std.specs.Str.{bytes_eq}
 use Rattle.std.proofs.lemmas.Slice.Eq.{bytes_eq-Decides}
 use Rattle.clap.specs.Kinds.{or_else, range_kinds}
-use Rattle.clap.specs.Walk.{Held, Names, Outcome, Row, Rule, Step, Text, Waiting, Walk, action_of, after_flag, after_step, answers_to, arg_by_index, done, finished, idle, long_or_other, next, nothing_held, option, plain, plain_word, positional, refused, short_or_plain, subcommand, subcommand_met, subcommand_or_other, to_positional, trailing, value, waits, walk, walk_from, walked, walked_from, word_met}
+use Rattle.clap.specs.Walk.{Held, Names, Outcome, Row, Rule, Step, Text, Waiting, Walk, action_of, after_flag, after_step, answers_to, arg_by_index, done, finished, idle, long_or_other, next, nothing_held, one_of, option, plain, plain_word, positional, refused, short_or_plain, subcommand, subcommand_met, subcommand_or_other, to_positional, trailing, value, waits, walk, walk_from, walked, walked_from, word_met}
 use Rattle.clap.specs.Lexer.{long_of, short_of}
 use Rattle.clap.specs.Simple.{App, Shape, argument_words, built, entered, filled, help_rule, names_of, rows_at, subcommand_of}
 use Rattle.clap.specs.Faults.{check_fault, entered_fault, fault_of, level_fault, other_fault, step_fault, walk_fault, word_fault}
@@ -14,9 +14,9 @@ use Rattle.clap.specs.declared.error.kind.ErrorKind.TheVariants as kind
 use Rattle.clap.specs.declared.builder.value_parser.ValueParser.TheVariants.{Unsigned}
 use Rattle.clap.proofs.ValueTestLemmas.{accepts-Accepts}
 use Rattle.clap.proofs.OnLiterals.{clap_on_literals}
-use Rattle.node_shell.proofs.Options.{HasOption, HasValue, IsKnown, IsRequest, both_none, level_has_value}
-use Rattle.node_shell.specs.CommandLine.{command_line, counting, rounds, sessions}
-use Rattle.node_shell.specs.Asked.{MayAsk, NamesCount}
+use Rattle.node_shell.proofs.Options.{HasOption, HasValue, IsKnown, IsRequest, both_none, level_has_value, level_may_have_value}
+use Rattle.node_shell.specs.CommandLine.{at, command_line, counting, last, numbering, rounds, sessions}
+use Rattle.node_shell.specs.Asked.{MayAsk, MayCount, NamesCount, most_number}
 
 -- ---- a call for help is never taken
 
@@ -106,30 +106,32 @@ module _ (s : Shape) (helps : s.disable_help_subcommand ≡ false) (names : Name
 abbrev line : App
 line = built command_line
 
-abbrev first : List Shape → Shape
-first [] = line.top
-first (a ∷ bs) = a
+abbrev shape_in : ℕ → List Shape → Shape
+shape_in n [] = line.top
+shape_in zero (a ∷ bs) = a
+shape_in (suc n) (a ∷ bs) = shape_in n bs
 
-abbrev third : List Shape → Shape
-third [] = line.top
-third (a ∷ []) = line.top
-third (a ∷ b ∷ []) = line.top
-third (a ∷ b ∷ c ∷ ds) = c
-
-abbrev second : List Shape → Shape
-second [] = line.top
-second (a ∷ []) = line.top
-second (a ∷ b ∷ cs) = b
-
--- the clients' command and its options, as they are built
+-- the commands that have options of numbers, as they are built
 abbrev pool_shape : Shape
-pool_shape = second line.subs
+pool_shape = shape_in 1 line.subs
+
+abbrev explain_shape : Shape
+explain_shape = shape_in 2 line.subs
+
+abbrev draw_shape : Shape
+draw_shape = shape_in 3 line.subs
 
 abbrev pub sessions_rule : Rule
 sessions_rule = filled sessions
 
 abbrev pub rounds_rule : Rule
 rounds_rule = filled rounds
+
+abbrev at_rule : Rule
+at_rule = filled at
+
+abbrev last_rule : Rule
+last_rule = filled last
 
 abbrev asking_rule : Rule
 asking_rule = filled help_rule
@@ -165,6 +167,20 @@ has_rounds = record {
   no_places = λ i. refl;
 }
 
+has_at : HasOption at_rule explain_shape
+has_at = record {
+  is = record { sets = refl; least = refl; default = tt };
+  known = (itself at_rule refl, (another at_rule asking_rule (inr asks_help) refl, tt));
+  no_places = λ i. refl;
+}
+
+has_last : HasOption last_rule draw_shape
+has_last = record {
+  is = record { sets = refl; least = refl; default = tt };
+  known = (itself last_rule refl, (another last_rule asking_rule (inr asks_help) refl, tt));
+  no_places = λ i. refl;
+}
+
 named : (most : ℕ) (name default : Text) (rows : List Row) → HasValue (filled (counting name most default)) rows
     → NamesCount rows name most
 named most name default rows v = record {
@@ -173,6 +189,15 @@ named most name default rows v = record {
   within = accepts-Accepts false (Unsigned 1 most) v.text v.passes;
 }
 
+may_name : (name : Text) (rows : List Row)
+    → (one_of name rows ≡ None) ⊎ HasValue (filled (numbering name)) rows → MayCount rows name
+may_name name rows (inl none) = inl none
+may_name name rows (inr v) = inr (record {
+  text = v.text;
+  given = v.found;
+  within = accepts-Accepts false (Unsigned 1 most_number) v.text v.passes;
+})
+
 enters : (has : Bool) (rows : List Row) → check_fault line.top rows has ≡ [] → has ≡ true
 enters true rows e = refl
 enters false rows e = absurd (cc e)
@@ -180,9 +205,21 @@ enters false rows e = absurd (cc e)
 pool_taken : (words : List Text) → level_fault pool_shape [] nothing_held words false [] ≡ []
     → MayAsk (Some (rows_at pool_shape words))
 pool_taken words e =
-    let first = level_has_value sessions_rule pool_shape [] words false [] has_sessions (inl refl) e in
-    let second = level_has_value rounds_rule pool_shape [] words false [] has_rounds (inr (inl refl)) e in
-    inr (refl, named 8 (codes "sessions") (codes "4") _ first, named 99 (codes "rounds") (codes "3") _ second)
+    let first = level_has_value sessions_rule pool_shape [] words false [] has_sessions refl (inl refl) e in
+    let second = level_has_value rounds_rule pool_shape [] words false [] has_rounds refl (inr (inl refl)) e in
+    inr (inl (refl, named 8 (codes "sessions") (codes "4") _ first, named 99 (codes "rounds") (codes "3") _ second))
+
+explain_taken : (words : List Text) → level_fault explain_shape [] nothing_held words false [] ≡ []
+    → MayAsk (Some (rows_at explain_shape words))
+explain_taken words e =
+    let given = level_may_have_value at_rule explain_shape [] words false [] has_at e in
+    inr (inr (inl (refl, may_name (codes "at") _ given)))
+
+draw_taken : (words : List Text) → level_fault draw_shape [] nothing_held words false [] ≡ []
+    → MayAsk (Some (rows_at draw_shape words))
+draw_taken words e =
+    let given = level_may_have_value last_rule draw_shape [] words false [] has_last e in
+    inr (inr (inr (refl, may_name (codes "last") _ given)))
 
 is_help : (name : Text) (more : Bool) → more ≡ false → (bytes_eq (codes "help") name || more) ≡ true
     → bytes_eq name (codes "help") ≡ false → ⊥
@@ -196,24 +233,27 @@ is_help name false none e apart = go (bytes_eq (codes "help") name) refl e
         let P : Text → Type 0 = λ v. bytes_eq v (codes "help") ≡ false in
         absurd (cc (subst P (sym same) apart))
 
-abbrev chosen : Bool → Bool → Bool → Option Shape
-chosen r q h = cond r (Some (first line.subs)) (cond q (Some pool_shape) (cond h (Some (third line.subs)) None))
+abbrev chosen : Bool → Bool → Bool → Bool → Bool → Option Shape
+chosen r q x d h = cond r (Some (shape_in 0 line.subs)) (cond q (Some pool_shape)
+    (cond x (Some explain_shape) (cond d (Some draw_shape) (cond h (Some (shape_in 4 line.subs)) None))))
 
 stop_taken : (stop : Option (Text × List Text)) → NoHelp stop → entered_fault line stop ≡ []
     → is_some (entered line stop) ≡ true → MayAsk (entered line stop)
 stop_taken None apart e some = absurd (cc some)
 stop_taken (Some p) apart e some =
-    go (answers_to p.0 (codes "run", [])) (answers_to p.0 (codes "pool", [])) (answers_to p.0 (codes "help", []))
-    refl e some
+    go (answers_to p.0 (codes "run", [])) (answers_to p.0 (codes "pool", [])) (answers_to p.0 (codes "explain", []))
+    (answers_to p.0 (codes "draw", [])) (answers_to p.0 (codes "help", [])) refl e some
   where
-    go : (r q h : Bool) → answers_to p.0 (codes "help", []) ≡ h
-        → option_map_or (λ s. level_fault s [] nothing_held p.1 false []) (chosen r q h) [] ≡ []
-        → is_some (option_map (λ s. rows_at s p.1) (chosen r q h)) ≡ true
-        → MayAsk (option_map (λ s. rows_at s p.1) (chosen r q h))
-    go true q h asks e some = inl refl
-    go false true h asks e some = pool_taken p.1 e
-    go false false true asks e some = absurd (is_help p.0 false refl asks apart)
-    go false false false asks e some = absurd (cc some)
+    go : (r q x d h : Bool) → answers_to p.0 (codes "help", []) ≡ h
+        → option_map_or (λ s. level_fault s [] nothing_held p.1 false []) (chosen r q x d h) [] ≡ []
+        → is_some (option_map (λ s. rows_at s p.1) (chosen r q x d h)) ≡ true
+        → MayAsk (option_map (λ s. rows_at s p.1) (chosen r q x d h))
+    go true q x d h asks e some = inl refl
+    go false true x d h asks e some = pool_taken p.1 e
+    go false false true d h asks e some = explain_taken p.1 e
+    go false false false true h asks e some = draw_taken p.1 e
+    go false false false false true asks e some = absurd (is_help p.0 false refl asks apart)
+    go false false false false false asks e some = absurd (cc some)
 
 -- words without a fault name a subcommand that is taken
 pub words_taken : (words : List Text) → fault_of command_line words ≡ [] → MayAsk (subcommand_of command_line words)

@@ -4,6 +4,7 @@ use Rattle.clap.specs.Walk.{Rule, Text}
 use Rattle.clap.specs.Simple.{App, new_app, new_rule, on_top, with_rule, with_subcommand}
 use Rattle.clap.specs.declared.builder.action.ArgAction.TheVariants.{SetTrue}
 use Rattle.clap.specs.declared.builder.value_parser.ValueParser.TheVariants.{Unsigned}
+use Rattle.node_shell.specs.Asked.{most_number}
 
 -- the program, which must be told what to do
 abbrev pub program : App
@@ -37,6 +38,31 @@ run = with_rule (new_app (codes "run")) continuing
 abbrev pub pool : App
 pool = with_rule (with_rule (new_app (codes "pool")) sessions) rounds
 
--- the program and all that it may be told: `run` or `pool`
+-- an option that is a number from 1 on, below 2 to the power of 48, and may be left out
+abbrev pub numbering : Text → Rule
+numbering name = record (new_rule name) {
+  long = Some name;
+  value_names = 1;
+  parser = Some (Unsigned 1 most_number);
+}
+
+-- which line is explained alone
+abbrev pub at : Rule
+at = numbering (codes "at")
+
+-- to explain a script
+abbrev pub explain : App
+explain = with_rule (new_app (codes "explain")) at
+
+-- how many events are drawn
+abbrev pub last : Rule
+last = numbering (codes "last")
+
+-- to draw a script
+abbrev pub draw : App
+draw = with_rule (new_app (codes "draw")) last
+
+-- the program and all that it may be told: `run`, `pool`, `explain` or `draw`
 abbrev pub command_line : App
-command_line = with_subcommand (with_subcommand program run.top) pool.top
+command_line = with_subcommand
+    (with_subcommand (with_subcommand (with_subcommand program run.top) pool.top) explain.top) draw.top

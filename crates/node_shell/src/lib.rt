@@ -31,9 +31,16 @@ mod told;
 mod words;
 
 pub use answers::value_piece;
-pub use pieces::{Piece, print};
+pub use label::Label;
+pub use line::{Call, Component, Device, Kind, LeafCall, Line, Part, Written};
+pub use line_result::LineResult;
+pub use logged::print_record;
+pub use pieces::{Piece, print, put};
 pub use printed::print_refusal;
 pub use rows::print_table;
+pub use script::{first_fault, request};
 pub use script_run::{DONE, FAILED, FAULT, refusal_of, refuse, run};
+pub use shell::Shell;
 pub use stopping::Stopping;
 pub use task::{Task, choose};
+pub use told::print_told;

@@ -41,6 +41,13 @@ impl Shell {
         })
     }
 
+    /// The number of the transaction that the label stands for, 0 where it is not bound.
+    pub fn bound(&self, label: &Label) -> u64
+        ensures { result ≡ number_in self.now.labels label.now }
+    {
+        self.labels.number(label)
+    }
+
     /// Runs the line.
     pub fn perform(&mut self, line: &Line<'_>) -> LineResult
         ensures { ComesTo (meaning line.now) self.old.world (number_in self.old.labels) result self.new.world

@@ -6,8 +6,8 @@ ghost use Rattle.clap.specs.Matches.{found_of};
 ghost use Rattle.clap.specs.Simple.{app_of, subcommand_of, subcommand_rows_of};
 ghost use Rattle.clap.specs.Walk.{rows_of, rule_of};
 ghost use Rattle.clap.specs.declared.builder.command.Command.TheViews.{out-Command};
-ghost use Rattle.node_shell.specs.Asked.{Asks, HasClient, IsNumber, MayAsk, NamesCount};
-ghost use Rattle.node_shell.specs.CommandLine.{command_line, counting, pool, run};
+ghost use Rattle.node_shell.specs.Asked.{Asks, HasClient, IsGiven, IsNumber, MayAsk, MayCount, NamesCount};
+ghost use Rattle.node_shell.specs.CommandLine.{command_line, counting, draw, explain, numbering, pool, run};
 
 use clap::builder::ValueParser;
 use clap::{Arg, ArgAction, ArgMatches, Command, Error};
@@ -21,6 +21,10 @@ pub enum Task {
     Run { continues: bool },
     /// So many clients, each with a session of its own, play so many rounds on threads.
     Pool { sessions: usize, rounds: u64 },
+    /// A script is read from standard input and explained, of its lines just line `at` where there is a number.
+    Explain { at: Option<u64> },
+    /// A script is read from standard input and drawn, of its events just the `last` ones where there is a number.
+    Draw { last: Option<u64> },
 }
 
 const LINES: &str = "\
@@ -86,6 +90,27 @@ A line for each client says what it read; then the records follow.
 
 Exit status: 0; 2 for a command line outside the grammar; 3 where memory failed.";
 
+const EXPLAINED: &str = "\
+Behind each line that changes something it says what its events did, how each open
+transaction stands, which keys it holds and what undo does next, how long the log is
+and up to where it is stable, what each leaf has captured, which messages have not
+arrived, and at a crash what was lost. No line is longer than 100 columns.
+undo_shell run --help says what a script is.
+
+Exit status: 0; 2 for a line or a command line outside the grammar; 3 where memory
+or a device failed.";
+
+const DRAWN: &str = "\
+Time runs from left to right, an event a column: the transactions above, then the log,
+the messages, and the leaves below. Of more than 300 events just the last 300 are drawn
+unless a number is given. undo_shell run --help says what a script is.
+
+Exit status: 0; 2 for a line or a command line outside the grammar; 3 where memory
+or a device failed.";
+
+/// The greatest number of a line or of events that may be asked for.
+const MOST_NUMBER: u64 = (1 << 48) - 1;
+
 /// What these words ask for, the first of them the program's name. Refused just where they have a fault or ask for
 /// help, with the kind of that, or where memory runs out.
 pub fn choose<S: AsStr>(alloc: Global, words: &[S]) -> Result<Task, Error>
@@ -111,6 +136,16 @@ fn task_of(matches: &ArgMatches<'_>) -> Task
             rounds: number_of(asked, "rounds"),
         };
     }
+    if let Some(asked) = matches.subcommand_matches("explain") {
+        return Task::Explain {
+            at: number_if(asked, "at"),
+        };
+    }
+    if let Some(asked) = matches.subcommand_matches("draw") {
+        return Task::Draw {
+            last: number_if(asked, "last"),
+        };
+    }
     match matches.subcommand_matches("run") {
         Some(asked) => Task::Run {
             continues: asked.get_flag("continue"),
@@ -130,6 +165,17 @@ fn number_of(asked: &ArgMatches<'_>, option: &str) -> u64
     }
 }
 
+// The number that an option is, where the words give it.
+fn number_if(asked: &ArgMatches<'_>, option: &str) -> Option<u64>
+    requires { MayCount (rows_of (found_of asked.now)) option.now }
+    ensures { IsGiven (rows_of (found_of asked.now)) option.now result }
+{
+    match asked.get_one(option) {
+        Some(number) => Some(number),
+        None => None,
+    }
+}
+
 /// The program and its subcommands.
 fn command_line<'a>(alloc: Global) -> Result<Command<'a>, AllocError>
     ensures { IfOk result (λ program. app_of program ≡ command_line) }
@@ -139,7 +185,9 @@ fn command_line<'a>(alloc: Global) -> Result<Command<'a>, AllocError>
         .after_help(LINES)
         .subcommand_required(true)
         .subcommand(run_command(alloc)?)?
-        .subcommand(pool_command(alloc)?)
+        .subcommand(pool_command(alloc)?)?
+        .subcommand(explain_command(alloc)?)?
+        .subcommand(draw_command(alloc)?)
 }
 
 // What runs a script.
@@ -173,6 +221,41 @@ fn pool_command<'a>(alloc: Global) -> Result<Command<'a>, AllocError>
         .after_help(CLIENTS)
         .arg(sessions)?
         .arg(rounds)
+}
+
+// What explains a script.
+fn explain_command<'a>(alloc: Global) -> Result<Command<'a>, AllocError>
+    ensures local { IfOk result (λ command. (out-Command command).has_globals ≡ false) }
+    ensures app { IfOk result (λ command. app_of command ≡ explain) }
+{
+    let at = numbering(alloc, "at", "N").help("Explains just line N of the script");
+    Command::new(alloc, "explain")
+        .about("Reads a script from standard input and explains what each of its lines changes")
+        .after_help(EXPLAINED)
+        .arg(at)
+}
+
+// What draws a script.
+fn draw_command<'a>(alloc: Global) -> Result<Command<'a>, AllocError>
+    ensures local { IfOk result (λ command. (out-Command command).has_globals ≡ false) }
+    ensures app { IfOk result (λ command. app_of command ≡ draw) }
+{
+    let last = numbering(alloc, "last", "N").help("Draws just the last N events");
+    Command::new(alloc, "draw")
+        .about("Reads a script from standard input and draws its events as an SVG picture")
+        .after_help(DRAWN)
+        .arg(last)
+}
+
+// An option that is a number, which may be left out.
+fn numbering<'a>(alloc: Global, name: &'a str, letter: &'a str) -> Arg<'a>
+    ensures global { result.global ≡ false }
+    ensures rule { rule_of result ≡ numbering name.entry.now }
+{
+    Arg::new(alloc, name)
+        .long(name)
+        .value_name(letter)
+        .value_parser(ValueParser::unsigned(1, MOST_NUMBER))
 }
 
 // An option that is a number from 1 to the most, and this one where the words give none.

@@ -39,6 +39,16 @@ fn asked_by(rt: &HostRuntime, words: &str) -> io::Result<String> {
         Ok(Task::Pool { sessions, rounds }) => {
             Ok(format!(in rt.alloc(); "pool {sessions} {rounds}")?)
         }
+        Ok(Task::Explain { at }) => numbered(rt, "explain", at),
+        Ok(Task::Draw { last }) => numbered(rt, "draw", last),
         Err(_) => Ok(String::from_str(rt.alloc(), "no")?),
+    }
+}
+
+/// A task that may have a number.
+fn numbered(rt: &HostRuntime, task: &str, number: Option<u64>) -> io::Result<String> {
+    match number {
+        Some(number) => Ok(format!(in rt.alloc(); "{task} {number}")?),
+        None => Ok(String::from_str(rt.alloc(), task)?),
     }
 }

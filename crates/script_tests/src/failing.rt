@@ -7,8 +7,8 @@ use std::io::{BufWriter, Write};
 
 /// Gives some bytes, and then fails.
 #[derive(Drop)]
-struct BrokenReader {
-    left: usize,
+pub struct BrokenReader {
+    pub left: usize,
 }
 
 impl io::Read for BrokenReader {
@@ -24,11 +24,11 @@ impl io::Read for BrokenReader {
 
 /// Takes some bytes, one at a time, and then fails once; what is written after that is counted.
 #[derive(Drop)]
-struct BrokenWriter {
+pub struct BrokenWriter {
     left: usize,
-    taken: [u8; 8],
+    pub taken: [u8; 8],
     count: usize,
-    calls_after: usize,
+    pub calls_after: usize,
 }
 
 impl io::Write for BrokenWriter {
@@ -53,7 +53,7 @@ impl io::Write for BrokenWriter {
 }
 
 /// Takes this many bytes.
-fn broken_after(left: usize) -> BrokenWriter {
+pub fn broken_after(left: usize) -> BrokenWriter {
     BrokenWriter {
         left,
         taken: [0; 8],

@@ -9,6 +9,7 @@ ghost use Rattle.node_shell.specs.Asked.{HasClient};
 
 use clap::Error;
 use clap::error::ErrorKind;
+use node_pictures::{draw, explain};
 use node_shell::{DONE, FAILED, FAULT, Stopping, Task, choose, refusal_of, refuse, run};
 use pool_shell::pool;
 use record_key::Refusal;
@@ -39,7 +40,7 @@ where
 {
     match choose(alloc, words) {
         Ok(task) => perform(rt, alloc, task),
-        Err(fault) => explain(&rt, &fault),
+        Err(fault) => print_fault(&rt, &fault),
     }
 }
 
@@ -56,6 +57,8 @@ where
     let status = match task {
         Task::Run { continues } => run(alloc, continues, &mut rt.reader(), &mut writer),
         Task::Pool { sessions, rounds } => pool(rt, alloc, sessions, rounds, &mut writer),
+        Task::Explain { at } => explain(alloc, at, &mut rt.reader(), &mut writer),
+        Task::Draw { last } => draw(alloc, last, &mut rt.reader(), &mut writer),
     };
     match writer.flush() {
         Ok(()) => status,
@@ -64,7 +67,7 @@ where
 }
 
 /// Prints why nothing is run: help to standard output, a fault's text to standard error.
-fn explain<R: Print + Eprint>(rt: &R, fault: &Error) -> u8 {
+fn print_fault<R: Print + Eprint>(rt: &R, fault: &Error) -> u8 {
     if fault.kind() == ErrorKind::OutOfMemory {
         return refuse(&mut io::writer(rt), Refusal::NoMemory, FAILED);
     }

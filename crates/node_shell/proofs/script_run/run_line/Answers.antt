@@ -2,7 +2,7 @@ use Rattle.std.proofs.Common.{ap, sym, ◌∙◌, option_map, subst}
 use Rattle.std.specs.Prelude.{Bool, Ok}
 use Rattle.node_shell.specs.Labels.{number_in}
 use Rattle.node_shell.specs.Script.{asked, meaning}
-use Rattle.node_shell.specs.Text.{WritesLine, has_failed}
+use Rattle.node_shell.specs.Text.{WritesLine}
 use Rattle.node_shell.proofs.Running.{written_line, cut_line}
 use Rattle.node_shell.proofs.script_run.run_line.Goals as goal
 

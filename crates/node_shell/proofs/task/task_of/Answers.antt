@@ -20,7 +20,7 @@ asks_run (Some s) rows set name same is =
 
 pub returns-clause-asks : goal.returns-clause-asks
 returns-clause-asks c =
-    let found : Found = found_of c.in-Some-subcommand_matches.asked.now in
+    let found : Found = found_of c.in-Some-subcommand_matches-3.asked.now in
     let text : one_text found (codes "continue") ≡ one_of (codes "continue") (rows_of found) =
     one_text-rows found (codes "continue") in
     asks_run (subcommand_rows_of c.args.matches.now) (rows_of found) c.get_flag.result (search rules) (search rules)

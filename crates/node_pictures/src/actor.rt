@@ -1,0 +1,69 @@
+//! Transactions, the keys that they hold, and their savepoints.
+
+/// How a transaction stands.
+#[derive(Debug, Clone, Copy, PartialEq, Eq)]
+pub enum State {
+    Open,
+    /// It is being rolled back: what is above the bound is undone.
+    Rolling { bound: u64 },
+    Committing,
+    /// A crash found it open: recovery undoes it.
+    Loser,
+    Committed,
+    RolledBack,
+    Lost,
+    /// A crash has taken its Begin record: nothing of it is left.
+    Gone,
+}
+
+/// A transaction.
+#[derive(Debug, Clone, Copy, PartialEq, Eq)]
+pub struct Actor<'a> {
+    pub txn: u64,
+    pub label: &'a [u8],
+    pub born: usize,
+    /// The step in which it ended.
+    pub ended: Option<usize>,
+    pub state: State,
+    /// The record whose answer it waits for.
+    pub waiting: Option<u64>,
+    /// It waits for what it reads.
+    pub is_reading: bool,
+}
+
+/// How keys are held.
+#[derive(Debug, Clone, Copy, PartialEq, Eq)]
+pub enum Mode {
+    Shared,
+    Increment,
+    Exclusive,
+}
+
+/// Up to where keys are held.
+#[derive(Debug, Clone, Copy, PartialEq, Eq)]
+pub enum End<'a> {
+    /// One key alone.
+    Single,
+    Below(&'a [u8]),
+    Open,
+}
+
+/// Keys that a transaction holds.
+#[derive(Debug, Clone, Copy, PartialEq, Eq)]
+pub struct Hold<'a> {
+    pub txn: u64,
+    /// The record for which they were taken, 0 for a read.
+    pub of: u64,
+    pub low: &'a [u8],
+    pub end: End<'a>,
+    pub mode: Mode,
+}
+
+/// A savepoint: the log's end when it was set.
+#[derive(Debug, Clone, Copy, PartialEq, Eq)]
+pub struct Mark {
+    pub txn: u64,
+    pub savepoint: u64,
+    pub end: u64,
+    pub step: usize,
+}

@@ -1,0 +1,48 @@
+//! Messages, and how they arrive.
+
+/// What a message says.
+#[derive(Debug, Clone, Copy, PartialEq, Eq)]
+pub enum About {
+    Connect,
+    /// To perform the operation of a record.
+    Perform(u64),
+    Read,
+    Low,
+    Checkpoint,
+    Tell,
+    RedoEnd,
+}
+
+/// A message. Requests and replies are numbered apart, each from 1.
+#[derive(Debug, Clone, Copy, PartialEq, Eq)]
+pub struct Message {
+    pub is_reply: bool,
+    pub number: u64,
+    pub sent: usize,
+    /// How many sessions had been started when it was sent.
+    pub session: u64,
+    pub about: About,
+    pub deliveries: u64,
+}
+
+/// How a message arrived.
+#[derive(Debug, Clone, Copy, PartialEq, Eq)]
+pub enum Fate {
+    First,
+    Again,
+    /// Behind one that was sent after it, or in another session.
+    Late,
+    /// Late, and not for the first time.
+    LateAgain,
+    /// At a component that is down.
+    Missed,
+}
+
+#[derive(Debug, Clone, Copy, PartialEq, Eq)]
+pub struct Delivery {
+    pub is_reply: bool,
+    pub number: u64,
+    pub sent: usize,
+    pub step: usize,
+    pub fate: Fate,
+}

@@ -1,0 +1,37 @@
+//! The events of a line that settles.
+use crate::step::{Doing, Step};
+use crate::story::{Story, label_of};
+use node_shell::{Piece, print};
+use std::io;
+
+/// What such an event is, as a line of its own would name it.
+pub fn put_round<W: io::Write>(
+    writer: &mut W,
+    story: &Story<'_>,
+    step: &Step<'_>,
+) -> io::Result<()> {
+    print(writer, &[Piece::Text(name_of(step.doing))])?;
+    match step.doing {
+        Doing::Request(number) | Doing::Reply(number) => print(writer, &[Piece::Number(number)]),
+        Doing::Send | Doing::Undo => {
+            let label = label_of(story.actors.as_slice(), step.txn);
+            print(writer, &[Piece::Word(label)])
+        }
+        _ => Ok(()),
+    }
+}
+
+fn name_of(doing: Doing) -> &'static str {
+    match doing {
+        Doing::Connect => "connect",
+        Doing::Recover => "recover",
+        Doing::Force => "force",
+        Doing::Send => "send ",
+        Doing::Undo => "undo ",
+        Doing::Request(_) => "req ",
+        Doing::Reply(_) => "rep ",
+        Doing::RestartTc => "restart tc",
+        Doing::RestartDc => "restart dc",
+        _ => "",
+    }
+}

@@ -1,0 +1,185 @@
+//! What a step came to, in words.
+use crate::log_seen::find;
+use crate::step::{Doing, Step};
+use crate::story::{Story, label_of};
+use history::Record;
+use node_shell::{Piece, print, print_refusal, print_told, request};
+use std::io;
+use world::Out;
+
+/// What a step came to, and the end of its line.
+pub fn tell_out(text: &mut Vec<u8>, story: &Story<'_>, step: &Step<'_>) -> io::Result<()> {
+    match &step.out {
+        Out::Refused(refusal) => {
+            print(text, &[Piece::Text("refused, so nothing changes: ")])?;
+            print_refusal(text, *refusal)
+        }
+        Out::Stable { end, committed } => {
+            numbered(text, "the log is stable up to ", *end)?;
+            tell_committed(text, story, committed.as_slice())
+        }
+        Out::Connects { request, committed } => {
+            numbered(text, "a session is started by request ", *request)?;
+            tell_committed(text, story, committed.as_slice())
+        }
+        Out::Answered { .. } => told(text, "its client is told: ", &step.out),
+        Out::Row { .. } => told(text, "its client is told: ", &step.out),
+        Out::Rows { txn, rows } => {
+            named(
+                text,
+                "",
+                story,
+                *txn,
+                " is given the rows that it asked for: ",
+            )?;
+            numbered(text, "", rows.as_slice().len() as u64)
+        }
+        Out::Compensated(number) => tell_comp(text, story, *number),
+        out => tell_plain(text, story, step, out),
+    }
+}
+
+fn told(text: &mut Vec<u8>, words: &str, out: &Out) -> io::Result<()> {
+    print(text, &[Piece::Text(words)])?;
+    print_told(text, out)
+}
+
+fn tell_committed(text: &mut Vec<u8>, story: &Story<'_>, committed: &[u64]) -> io::Result<()> {
+    for txn in committed {
+        named(
+            text,
+            "    ",
+            story,
+            *txn,
+            " has committed, and its keys are free.\n",
+        )?;
+    }
+    Ok(())
+}
+
+/// A compensation: what it undoes, and what is left.
+fn tell_comp(text: &mut Vec<u8>, story: &Story<'_>, number: u64) -> io::Result<()> {
+    let Some(logged) = find(story.log.as_slice(), number) else {
+        return print(text, &[Piece::Text("a compensation\n")]);
+    };
+    match &logged.record {
+        Record::Comp {
+            txn,
+            undoes,
+            next,
+            ..
+        } => {
+            named(text, "", story, *txn, " undoes ")?;
+            print(
+                text,
+                &[
+                    Piece::Number(*undoes),
+                    Piece::Text(" by "),
+                    Piece::Number(number),
+                ],
+            )?;
+            tell_left(text, *next)
+        }
+        _ => print(text, &[Piece::Text("a compensation\n")]),
+    }
+}
+
+fn tell_left(text: &mut Vec<u8>, next: u64) -> io::Result<()> {
+    if next == 0 {
+        return print(text, &[Piece::Text("; nothing of it is left to undo\n")]);
+    }
+    numbered(text, "; what is left to undo of it begins at ", next)
+}
+
+/// An output with one number or none.
+fn tell_plain(text: &mut Vec<u8>, story: &Story<'_>, step: &Step<'_>, out: &Out) -> io::Result<()> {
+    match out {
+        Out::Begun(txn) => named(text, "", story, *txn, " begins\n"),
+        Out::Logged(number) => numbered(text, "logged as ", *number),
+        Out::Saved(savepoint) => numbered(text, "savepoint ", *savepoint),
+        Out::RollingBack => named(text, "", story, step.txn, " begins to roll back\n"),
+        Out::CommitLogged(number) => numbered(text, "its commit is logged as ", *number),
+        Out::RolledBack(txn) => named(
+            text,
+            "",
+            story,
+            *txn,
+            " is rolled back, and its keys are free\n",
+        ),
+        Out::Back { txn, savepoint } => {
+            named(text, "", story, *txn, " is back at its savepoint ")?;
+            numbered(text, "", *savepoint)
+        }
+        Out::Lost(txn) => named(
+            text,
+            "",
+            story,
+            *txn,
+            " is lost: undone, and its keys are free\n",
+        ),
+        Out::Asked(number) => numbered(text, "asks by read ", *number),
+        Out::Sent(number) => numbered(text, "sent as request ", *number),
+        Out::Replied(number) => numbered(text, "answered by reply ", *number),
+        Out::Connected(session) => numbered(text, "connected in session ", *session),
+        Out::RedoEnded(session) => numbered(text, "redo has ended in session ", *session),
+        Out::Undone(number) => numbered(text, "undone for good by compensation ", *number),
+        Out::CheckpointLogged(number) => numbered(text, "the checkpoint is logged as ", *number),
+        Out::Up(count) => numbered(text, up_words(step.doing), *count),
+        other => print(text, &[Piece::Text(words_of(other, step.doing))]),
+    }
+}
+
+fn up_words(doing: Doing) -> &'static str {
+    if doing == Doing::RestartTc {
+        "the transaction component runs again; records left: "
+    } else {
+        "the data component runs again; leaves: "
+    }
+}
+
+fn words_of(out: &Out, doing: Doing) -> &'static str {
+    match (out, doing) {
+        (Out::Down, Doing::CrashTc) => "the transaction component is down\n",
+        (Out::Down, _) => "the data component is down\n",
+        (Out::Noted, _) => "the data component knows what is stable\n",
+        (Out::Split(_), _) => "a leaf is split\n",
+        (Out::Merged(_), _) => "two leaves are joined\n",
+        (Out::Flushed(_), _) => "a leaf is written\n",
+        (Out::Set, _) => "a failure is set\n",
+        (Out::Nothing, Doing::Reply(_)) => "nothing new\n",
+        _ => "nothing happens\n",
+    }
+}
+
+fn numbered(text: &mut Vec<u8>, words: &str, number: u64) -> io::Result<()> {
+    print(
+        text,
+        &[Piece::Text(words), Piece::Number(number), Piece::Text("\n")],
+    )
+}
+
+/// A transaction by its label and its number, and what is said of it.
+fn named(
+    text: &mut Vec<u8>,
+    before: &str,
+    story: &Story<'_>,
+    txn: u64,
+    words: &str,
+) -> io::Result<()> {
+    print(text, &[Piece::Text(before)])?;
+    put_name(text, label_of(story.actors.as_slice(), txn), txn)?;
+    print(text, &[Piece::Text(words)])
+}
+
+/// A transaction's label and number.
+pub fn put_name(text: &mut Vec<u8>, label: &[u8], txn: u64) -> io::Result<()> {
+    print(
+        text,
+        &[
+            Piece::Word(label),
+            Piece::Text(" ("),
+            Piece::Number(txn),
+            Piece::Text(")"),
+        ],
+    )
+}

@@ -1,0 +1,81 @@
+//! What each step of a line has done, in words.
+use crate::message::{Delivery, Fate};
+use crate::messages::message_of;
+use crate::rounds::put_round;
+use crate::step::Step;
+use crate::story::Story;
+use crate::told_changes::tell_changes;
+use crate::told_losses::tell_losses;
+use crate::told_messages::put_message;
+use crate::told_out::tell_out;
+use node_shell::{Piece, print, print_record};
+use std::io;
+use world::Out;
+
+/// Lines of the steps from this one on.
+pub fn tell_steps(
+    text: &mut Vec<u8>,
+    story: &Story<'_>,
+    whole: &Story<'_>,
+    first: usize,
+) -> io::Result<()> {
+    for (at, step) in story.steps.as_slice().iter().enumerate().skip(first) {
+        tell_step(text, story, step, at)?;
+        tell_records(text, story, at)?;
+        tell_changes(text, story.changes.as_slice(), at)?;
+        if step.out == Out::Down {
+            tell_losses(text, whole, step.doing, at)?;
+        }
+    }
+    Ok(())
+}
+
+fn tell_step(text: &mut Vec<u8>, story: &Story<'_>, step: &Step<'_>, at: usize) -> io::Result<()> {
+    print(text, &[Piece::Text("  - ")])?;
+    if step.is_round {
+        put_round(text, story, step)?;
+        print(text, &[Piece::Text(": ")])?;
+    }
+    tell_delivery(text, story, at)?;
+    tell_out(text, story, step)
+}
+
+/// Which message arrives, and how.
+fn tell_delivery(text: &mut Vec<u8>, story: &Story<'_>, at: usize) -> io::Result<()> {
+    for delivery in story.deliveries.as_slice() {
+        if delivery.step == at {
+            tell_arrival(text, story, delivery)?;
+        }
+    }
+    Ok(())
+}
+
+fn tell_arrival(text: &mut Vec<u8>, story: &Story<'_>, delivery: &Delivery) -> io::Result<()> {
+    let found = message_of(
+        story.messages.as_slice(),
+        delivery.is_reply,
+        delivery.number,
+    );
+    if let Some(message) = &found {
+        put_message(text, message)?;
+    }
+    let how = match delivery.fate {
+        Fate::First => " arrives: ",
+        Fate::Again => " arrives again: ",
+        Fate::Late => " arrives late: ",
+        Fate::LateAgain => " arrives again, late: ",
+        Fate::Missed => " is lost, the component is down: ",
+    };
+    print(text, &[Piece::Text(how)])
+}
+
+/// The records that are new.
+fn tell_records(text: &mut Vec<u8>, story: &Story<'_>, at: usize) -> io::Result<()> {
+    for logged in story.log.as_slice() {
+        if logged.born == at {
+            print(text, &[Piece::Text("    logged: ")])?;
+            print_record(text, logged.number, &logged.record)?;
+        }
+    }
+    Ok(())
+}
