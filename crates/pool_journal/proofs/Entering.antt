@@ -15,7 +15,9 @@ use Rattle.world.specs.Messages.{message_at}
 use Rattle.pool_journal.specs.declared.place.Place.{Place}
 use Rattle.pool_journal.specs.declared.step.Step.{Step}
 use Rattle.pool_journal.specs.Kept.{is_dc, calls_of, IsLine, PlaceKept, PlacesKept, LinesKept, place_after, place_heard, EntersTc, EntersDc, IsInRun, IsSentBy}
-use Rattle.pool_journal.specs.Sessions.{LeavesLive, Call, Part, calls_as, calls, called, no_part, line_of, pending, part_of, awaits, called_as, is_pending, live_after, IsClosed, IsLeft, IsSameCall}
+use Rattle.pool_journal.specs.Sessions.{IsCalled, LeavesLive, Call, Part, calls_as, calls, called, no_part, line_of, pending, part_of, awaits, called_as, is_pending, live_after, IsClosed, IsLeft, IsSameCall}
+use Rattle.pool_journal.specs.Errands.{FailsSince}
+use Rattle.pool_journal.specs.declared.failure.Failure.{Failure}
 use Rattle.pool_journal.specs.declared.news.News.{News}
 use Rattle.pool_journal.specs.declared.news.News.TheVariants as news
 use Rattle.pool_journal.specs.Callers.{Awaits, HasLine, IsToldBy, IsUntold, IsNews}
@@ -25,6 +27,7 @@ use Rattle.pool_journal.specs.Steps.{is_tc, requests, replies, TcState, DcState,
 use Rattle.pool_journal.specs.Views.{View, Sees}
 use Rattle.pool_journal.proofs.Lists.{all_snoc, all_map, kept_at, last_snoc, filter_snoc, request_of, reply_of}
 use Rattle.pool_journal.proofs.Along.{tc_on, dc_on, tc_entered, dc_entered, runs, in_run, spelled}
+use Rattle.pool_journal.proofs.Failures.{forgotten, none_since}
 use Rattle.pool_journal.proofs.Parts.{heard_kept, grown, part_snoc, after_called, closed_on, ended}
 
 -- ---- the entries
@@ -296,17 +299,17 @@ module _ {J : Type 0} (row : Shelves) (names : ℕ → ℕ) where
             (heard_kept row names es s p token shown off k)
       ]
 
-  -- only what a session has seen changes
+  -- only what a session has seen changes, and what failed so far is of no matter any more
   pub places_seen : (es : List Step) (places : List (Place J)) (n : ℕ) (p q : Place J) → PlacesKept row names es places
       → slice_get places n ≡ Some p
-      → q ≡ record p { party = record { name = p.party.name; steps = es } }
+      → q ≡ record p { party = record { name = p.party.name; steps = es }; failed = None }
       → PlacesKept row names es (set places n q)
   places_seen es places n p q kept there is s r at =
       elim (placed places n q s r at) [
         | here same r_is ↦
             let k = kept n p there in
             let done : PlaceKept row names es n
-            (record p { party = record { name = p.party.name; steps = es } }) = record {
+            (record p { party = record { name = p.party.name; steps = es }; failed = None }) = record {
               number = k.number;
               name = k.name;
               sees = sees_all (calls_of n) es es refl;
@@ -314,6 +317,32 @@ module _ {J : Type 0} (row : Shelves) (names : ℕ → ℕ) where
               awaits = k.awaits;
               shown = k.shown;
               line = k.line;
+              errand = k.errand;
+              failed = none_since (part_of n es).failures;
+            } in
+            subst (λ (w : ℕ × Place J). PlaceKept row names es w.0 w.1) (λ i. (sym same i, (sym is ∙ r_is) i)) done
+        | elsewhere other old ↦ kept s r old
+      ]
+
+  -- what failed so far is of no matter any more
+  pub places_resumed : (es : List Step) (places : List (Place J)) (n : ℕ) (p q : Place J)
+      → PlacesKept row names es places → slice_get places n ≡ Some p → q ≡ record p { failed = None }
+      → PlacesKept row names es (set places n q)
+  places_resumed es places n p q kept there is s r at =
+      elim (placed places n q s r at) [
+        | here same r_is ↦
+            let k = kept n p there in
+            let done : PlaceKept row names es n (record p { failed = None }) = record {
+              number = k.number;
+              name = k.name;
+              sees = k.sees;
+              live = k.live;
+              awaits = k.awaits;
+              shown = k.shown;
+              line = k.line;
+              errand = k.errand;
+              failed =
+                  forgotten (part_of n p.party.steps).failures (part_of n es).failures p.failed k.failed;
             } in
             subst (λ (w : ℕ × Place J). PlaceKept row names es w.0 w.1) (λ i. (sym same i, (sym is ∙ r_is) i)) done
         | elsewhere other old ↦ kept s r old
@@ -385,6 +414,13 @@ module _ {J : Type 0} (row : Shelves) (names : ℕ → ℕ) where
       same old new (inl is) lives = is
       same old new (inr gone) lives = absurd (cc (sym (ap (λ (o : Option ℕ). is_some o) gone) ∙ lives))
 
+  failures_news : (s : ℕ) (before es : List Step) (p : Place J) (u : Option Failure) → PlaceKept row names es s p
+      → before ≡ p.party.steps → p.failed ≡ u
+      → FailsSince (part_of s before).failures (part_of s es).failures u
+  failures_news s before es p u k seen_is is =
+      subst (λ (w : List Step × Option Failure). FailsSince (part_of s w.0).failures (part_of s es).failures w.1)
+      (λ i. (sym seen_is i, is i)) k.failed
+
   pub news_is : (s : ℕ) (before es : List Step) (p : Place J) (n : News) → PlaceKept row names es s p
       → before ≡ p.party.steps → line_of (part_of s before).latest ≡ None → IsNewsOf p n
       → IsNews row (part_of s before) (part_of s es) n
@@ -392,8 +428,10 @@ module _ {J : Type 0} (row : Shelves) (names : ℕ → ℕ) where
       (subst (IsShown row) is k.shown, news_line s before es p token k seen_is is)
   news_is s before es p news.CutOff k seen_is old is =
       (news_none s before es p k seen_is old is.0, sym k.live ∙ is.1)
-  news_is s before es p (news.Refused f) k seen_is old is = awaits_news s before es p k seen_is old is.0 is.1
-  news_is s before es p news.Nothing k seen_is old is = awaits_news s before es p k seen_is old is.0 is.1
+  news_is s before es p (news.Refused f) k seen_is old is =
+      (awaits_news s before es p k seen_is old is.0 is.1, failures_news s before es p (Some f) k seen_is is.2)
+  news_is s before es p news.Nothing k seen_is old is =
+      (awaits_news s before es p k seen_is old is.0 is.1, failures_news s before es p None k seen_is is.2)
 
 -- what a call came to at once leaves of the transaction
 leaves : (o : Out) (was : Option ℕ) (part : Part) (live : Option ℕ) → IsLeft was live → part.live ≡ live_after live o
@@ -403,15 +441,16 @@ leaves _ was part live left is = subst (IsLeft was) (sym is) left
 
 -- what a session's part is once its call stands in the journal
 pub part_called : (s : ℕ) (before es now : List Step) (e : Step) → e.caller ≡ Some s → Sees (calls_of s) before es
-    → IsClosed (part_of s before) → now ≡ es ++ e ∷ []
-    → ((part_of s now).before ≡ calls (part_of s before))
-    × ((part_of s now).latest ≡ Some (called_as e.event e.out None))
-    × LeavesLive (part_of s before).live e.out (part_of s now)
+    → IsClosed (part_of s before) → now ≡ es ++ e ∷ [] → IsCalled (part_of s before) e.event e.out (part_of s now)
 part_called s before es now e own sees closed is =
     let next : part_of s now ≡ called (part_of s es) e.event e.out =
     ap (part_of s) is ∙ part_snoc s no_part es e ∙ after_called s (part_of s es) e (calls_same e.caller s own) in
-    let same = closed_on s before es sees closed in (
-      ap (λ (p : Part). p.before) next ∙ same.0,
-      ap (λ (p : Part). p.latest) next,
-      leaves e.out (part_of s before).live (part_of s now) (part_of s es).live same.2 (ap (λ (p : Part). p.live) next),
-    )
+    let same = closed_on s before es sees closed in
+    record {
+      before = ap (λ (p : Part). p.before) next ∙ same.0;
+      latest = ap (λ (p : Part). p.latest) next;
+      live =
+          leaves e.out (part_of s before).live (part_of s now) (part_of s es).live same.2
+          (ap (λ (p : Part). p.live) next);
+      failures = ap (λ (p : Part). p.failures) next;
+    }

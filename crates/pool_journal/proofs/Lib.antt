@@ -1,6 +1,7 @@
 pub mod Sent
 pub mod Lists
 pub mod Along
+pub mod Failures
 pub mod Parts
 pub mod Entering
 pub mod Marking

@@ -3,14 +3,20 @@ use Rattle.std.proofs.Common.{◌≡◌, ◌⊎◌, ℕ, IfSome, Bool, true, fal
 use Rattle.std.specs.List.{AllByRecursion}
 use Rattle.boxcar.specs.Table.{Shelves}
 use Rattle.history.specs.ListMachine.{Line}
+use Rattle.world.specs.declared.event.Event.{Event}
 use Rattle.world.specs.declared.event.Out.{Out}
+use Rattle.world.specs.Halves.{also}
+use Rattle.pool_journal.specs.declared.errand.Errand.{Errand}
+use Rattle.pool_journal.specs.declared.failure.Failure.{Failure}
 use Rattle.pool_journal.specs.declared.place.Place.{Place}
 use Rattle.pool_journal.specs.declared.step.Step.{Step}
-use Rattle.pool_journal.specs.Kept.{calls_of, PlaceKept, IsLine, with_told, place_heard}
-use Rattle.pool_journal.specs.Sessions.{Call, Part, with_latest, calls, line_to, line_for, is_pending, awaits, told, told_of, pending, line_of, live_after, ends, called_as, hears, cuts_off, heard, called, after, part_after, no_part, part_of, IsClosed, IsLeft, IsSameCall}
+use Rattle.pool_journal.specs.Errands.{EndsWithFailure, FailsSince, errand_after, errand_of, fails}
+use Rattle.pool_journal.specs.Kept.{calls_of, PlaceKept, IsLine, later, with_told, place_heard, place_worked}
+use Rattle.pool_journal.specs.Sessions.{Call, Part, with_latest, calls, line_to, line_for, is_pending, awaits, told, told_of, pending, line_of, live_after, ends, called_as, hears, worked, cut, cuts_off, heard, called, after, part_after, no_part, part_of, IsClosed, IsLeft, IsSameCall}
 use Rattle.pool_journal.specs.Callers.{IsGrown}
 use Rattle.pool_journal.specs.Slots.{Slot, Shown, IsShown}
 use Rattle.pool_journal.specs.Views.{View, Sees}
+use Rattle.pool_journal.proofs.Failures.{also_since, failed_on, none_since, since_on}
 use Rattle.pool_journal.proofs.Lists.{all_snoc}
 use Rattle.std.proofs.lemmas.List.{append-nil}
 use Rattle.std.proofs.Common.{append_assoc}
@@ -68,11 +74,12 @@ hears_closed part (Some line) (inr idle) none =
 line_for_none : (live : Option ℕ) (o : Out) → live ≡ None → line_for live o ≡ None
 line_for_none live o is = ap (λ (l : Option ℕ). line_for l o) is
 
-heard_at : (part : Part) (b : Bool) (o : Out) → IsClosed part
-    → Stays part (cond b (record { live = None; before = part.before; latest = part.latest })
-    (hears part (line_for part.live o)))
-heard_at part true o is = record { before = refl; latest = refl; closed = inl refl; live = inr refl }
-heard_at part false o is = hears_closed part (line_for part.live o) is (line_for_none part.live o)
+heard_at : (part : Part) (b : Bool) (e : Event) (o : Out) → IsClosed part
+    → Stays part (cond b (cut part) (hears (worked part e o) (line_for part.live o)))
+heard_at part true e o is = record { before = refl; latest = refl; closed = inl refl; live = inr refl }
+heard_at part false e o is =
+    let s = hears_closed (worked part e o) (line_for part.live o) is (line_for_none part.live o) in
+    record { before = s.before; latest = s.latest; closed = s.closed; live = s.live }
 
 on : (old mid new : Part) → Stays old mid → Stays mid new → Stays old new
 on old mid new a b = record {
@@ -87,7 +94,7 @@ stays : (s : ℕ) (part : Part) (es : List Step) → AllByRecursion (λ e. calls
 stays s part [] n is = record { before = refl; latest = refl; closed = is; live = inl refl }
 stays s part (e ∷ es) n is =
     let one : Stays part (after s part e) =
-    subst (Stays part) (sym (after_heard s part e n.0)) (heard_at part (cuts_off e.event) e.out is) in
+    subst (Stays part) (sym (after_heard s part e n.0)) (heard_at part (cuts_off e.event) e.event e.out is) in
     on part (after s part e) _ one (stays s (after s part e) es n.1 one.closed)
 
 -- what a session has seen to be closed is still so, and no other transaction is its own
@@ -134,18 +141,17 @@ ended_hears part (Some heard) all = at part.latest (awaits_of part.latest) refl 
         gone (ends heard) part.live
         (was l (sym (ap (λ (x : Bool). cond x (Some heard) c.line) is) ∙ has) end)
 
-ended_heard : (part : Part) (b : Bool) (o : Out) → EndsAll part
-    → EndsAll (cond b (record { live = None; before = part.before; latest = part.latest })
-    (hears part (line_for part.live o)))
-ended_heard part true o all = λ l has end. refl
-ended_heard part false o all = ended_hears part (line_for part.live o) all
+ended_heard : (part : Part) (b : Bool) (e : Event) (o : Out) → EndsAll part
+    → EndsAll (cond b (cut part) (hears (worked part e o) (line_for part.live o)))
+ended_heard part true e o all = λ l has end. refl
+ended_heard part false e o all = ended_hears (worked part e o) (line_for part.live o) all
 
 ended_after : (s : ℕ) (part : Part) (e : Step) → EndsAll part → EndsAll (after s part e)
 ended_after s part e all = at (calls_of s e)
   where
     at : (b : Bool) → EndsAll (cond b (called part e.event e.out) (heard part e.event e.out))
     at true = λ l has end. absurd (cc (has))
-    at false = ended_heard part (cuts_off e.event) e.out all
+    at false = ended_heard part (cuts_off e.event) e.event e.out all
 
 ended_all : (s : ℕ) (part : Part) (es : List Step) → EndsAll part → EndsAll (part_after s part es)
 ended_all s part [] all = all
@@ -160,6 +166,7 @@ record Grows (old new : Part) : Type 0 where
   before : new.before ≡ old.before
   latest : IsSameCall old.latest new.latest
   live : IsLeft old.live new.live
+  failures : FailsSince old.failures new.failures None
 
 same_call : (o : Option Call) → IsSameCall o o
 same_call None = refl
@@ -176,27 +183,44 @@ same_call_on (Some x) b c is m =
     (n.0, n.1)
 
 hears_grows : (part : Part) (line : Option Line) → Grows part (hears part line)
-hears_grows part None = record { before = refl; latest = same_call part.latest; live = inl refl }
-hears_grows part (Some line) =
-    record { before = refl; latest = told_same_call part.latest line; live = left_if (ends line) part.live }
+hears_grows part None =
+    record { before = refl; latest = same_call part.latest; live = inl refl; failures = none_since part.failures }
+hears_grows part (Some line) = record {
+  before = refl;
+  latest = told_same_call part.latest line;
+  live = left_if (ends line) part.live;
+  failures = none_since part.failures;
+}
 
-grows_at : (part : Part) (b : Bool) (o : Out)
-    → Grows part (cond b (record { live = None; before = part.before; latest = part.latest })
-    (hears part (line_for part.live o)))
-grows_at part true o = record { before = refl; latest = same_call part.latest; live = inr refl }
-grows_at part false o = hears_grows part (line_for part.live o)
+grows_at : (part : Part) (b : Bool) (e : Event) (o : Out)
+    → Grows part (cond b (cut part) (hears (worked part e o) (line_for part.live o)))
+grows_at part true e o =
+    record { before = refl; latest = same_call part.latest; live = inr refl; failures = none_since part.failures }
+grows_at part false e o =
+    let mid = worked part e o in
+    let g = hears_grows mid (line_for part.live o) in
+    record {
+      before = g.before;
+      latest = g.latest;
+      live = g.live;
+      failures =
+          since_on part.failures mid.failures (hears mid (line_for part.live o)).failures
+          (also_since part.failures (fails part.live part.errand e o)) g.failures;
+    }
 
 grows : (s : ℕ) (part : Part) (es : List Step) → AllByRecursion (λ e. calls_of s e ≡ false) es
     → Grows part (part_after s part es)
-grows s part [] n = record { before = refl; latest = same_call part.latest; live = inl refl }
+grows s part [] n =
+    record { before = refl; latest = same_call part.latest; live = inl refl; failures = none_since part.failures }
 grows s part (e ∷ es) n =
     let one : Grows part (after s part e) =
-    subst (Grows part) (sym (after_heard s part e n.0)) (grows_at part (cuts_off e.event) e.out) in
+    subst (Grows part) (sym (after_heard s part e n.0)) (grows_at part (cuts_off e.event) e.event e.out) in
     let rest = grows s (after s part e) es n.1 in
     record {
       before = rest.before ∙ one.before;
       latest = same_call_on part.latest (after s part e).latest _ one.latest rest.latest;
       live = left_on part.live (after s part e).live _ one.live rest.live;
+      failures = since_on part.failures (after s part e).failures _ one.failures rest.failures;
     }
 
 -- the session's calls are those that it knows of, and of the latest more may have been told
@@ -210,6 +234,7 @@ grown s before now sees =
       before = g.before;
       latest = g.latest;
       live = g.live;
+      failures = g.failures;
       closed = λ is. let on = closed_on s before now sees is in (on.0, on.1);
     }
 
@@ -259,15 +284,18 @@ pending_at o = at (is_pending o)
 
 module _ {J : Type 0} (row : Shelves) where
   -- the place tells what the part has
-  record Tells (part : Part) (p : Place J) : Type 0 where
+  record Tells (before : List Failure) (part : Part) (p : Place J) : Type 0 where
     live : p.live ≡ part.live
     awaits : p.awaits ≡ pending part.latest
     line : IsLine (line_of part.latest) p.line
+    errand : p.errand ≡ part.errand
+    failed : FailsSince before part.failures p.failed
 
-  hears_tells : (token : Slot) (part : Part) (p : Place J) (line : Option Line) → Tells part p
-      → line_for part.live token.value.step.value.out ≡ line → Tells (hears part line) (with_told line token p)
-  hears_tells token part p None k is = k
-  hears_tells token part p (Some l) k is =
+  hears_tells : (before : List Failure) (token : Slot) (part : Part) (p : Place J) (line : Option Line)
+      → Tells before part p → line_for part.live token.value.step.value.out ≡ line
+      → Tells before (hears part line) (with_told line token p)
+  hears_tells before token part p None k is = k
+  hears_tells before token part p (Some l) k is =
       let t = teller part.live token.value.step.value.out l is in
       record {
         live = ap (cond (ends l) None) k.live;
@@ -275,17 +303,41 @@ module _ {J : Type 0} (row : Shelves) where
         line =
             subst (λ (b : Bool). IsLine (line_of (told_of part.latest l)) (cond b (Some token) p.line)) (sym k.awaits)
             (told_line token part.latest l p.line t.0 t.1 k.line (pending part.latest) refl);
+        errand = k.errand;
+        failed = k.failed;
       }
 
-  heard_tells : (token : Slot) (part : Part) (p : Place J) (b : Bool) → Tells part p
-      → Tells (cond b (record { live = None; before = part.before; latest = part.latest })
-      (hears part (line_for part.live token.value.step.value.out)))
-      (cond b (record p { live = None }) (with_told (line_for p.live token.value.step.value.out) token p))
-  heard_tells token part p true k = record { live = refl; awaits = k.awaits; line = k.line }
-  heard_tells token part p false k =
-      subst (λ (live : Option ℕ). Tells (hears part (line_for part.live token.value.step.value.out))
-      (with_told (line_for live token.value.step.value.out) token p)) (sym k.live)
-      (hears_tells token part p (line_for part.live token.value.step.value.out) k refl)
+  worked_tells : (before : List Failure) (e : Event) (o : Out) (part : Part) (p : Place J) → Tells before part p
+      → Tells before (worked part e o) (place_worked e o p)
+  worked_tells before e o part p k =
+      let f = fails part.live part.errand e o in
+      let same : fails p.live p.errand e o ≡ f = λ i. fails (k.live i) (k.errand i) e o in
+      record {
+        live = k.live;
+        awaits = k.awaits;
+        line = k.line;
+        errand = λ i. errand_after (k.live i) (k.errand i) e o;
+        failed =
+            subst (λ (u : Option Failure). FailsSince before (also part.failures f) (later p.failed u)) (sym same)
+            (failed_on before part.failures p.failed f k.failed);
+      }
+
+  heard_tells : (before : List Failure) (token : Slot) (e : Event) (part : Part) (p : Place J) (b : Bool)
+      → Tells before part p
+      → Tells before
+      (cond b (cut part)
+      (hears (worked part e token.value.step.value.out) (line_for part.live token.value.step.value.out)))
+      (cond b (record p { live = None })
+      (with_told (line_for p.live token.value.step.value.out) token (place_worked e token.value.step.value.out p)))
+  heard_tells before token e part p true k =
+      record { live = refl; awaits = k.awaits; line = k.line; errand = k.errand; failed = k.failed }
+  heard_tells before token e part p false k =
+      let o = token.value.step.value.out in
+      let mid = worked part e o in
+      let q = place_worked e o p in
+      subst (λ (live : Option ℕ). Tells before (hears mid (line_for part.live o)) (with_told (line_for live o) token q))
+      (sym k.live)
+      (hears_tells before token mid q (line_for part.live o) (worked_tells before e o part p k) refl)
 
   -- what an entry leaves of a place that isn't its caller's
   record Keeps (token : Slot) (p q : Place J) : Type 0 where
@@ -299,10 +351,12 @@ module _ {J : Type 0} (row : Shelves) where
   with_told_keeps token p (Some l) here =
       record { number = refl; party = refl; shown = λ there. shown_at row token p.awaits p.line here there }
 
-  heard_keeps : (token : Slot) (p : Place J) (b : Bool) → Shown row token
-      → Keeps token p (cond b (record p { live = None }) (with_told (line_for p.live token.value.step.value.out) token p))
-  heard_keeps token p true here = record { number = refl; party = refl; shown = λ there. there }
-  heard_keeps token p false here = with_told_keeps token p (line_for p.live token.value.step.value.out) here
+  heard_keeps : (token : Slot) (e : Event) (o : Out) (p : Place J) (b : Bool) → Shown row token
+      → Keeps token p (cond b (record p { live = None }) (with_told (line_for p.live o) token (place_worked e o p)))
+  heard_keeps token e o p true here = record { number = refl; party = refl; shown = λ there. there }
+  heard_keeps token e o p false here =
+      let k = with_told_keeps token (place_worked e o p) (line_for p.live o) here in
+      record { number = k.number; party = k.party; shown = k.shown }
 
   -- a place after an entry that is no call of its session
   pub heard_kept : (names : ℕ → ℕ) (es : List Step) (s : ℕ) (p : Place J) (token : Slot) → Shown row token
@@ -312,13 +366,15 @@ module _ {J : Type 0} (row : Shelves) where
   heard_kept names es s p token here other k =
       let e = token.value.step.value in
       let q = place_heard e.event e.out token p in
-      let keeps : Keeps token p q = heard_keeps token p (cuts_off e.event) here in
+      let keeps : Keeps token p q = heard_keeps token e.event e.out p (cuts_off e.event) here in
       let part = part_of s es in
       let next : part_of s (es ++ e ∷ []) ≡ heard part e.event e.out =
       part_snoc s no_part es e ∙ after_heard s part e other in
-      let was : Tells part p = record { live = k.live; awaits = k.awaits; line = k.line } in
-      let tells : Tells (part_of s (es ++ e ∷ [])) q =
-      subst (λ (x : Part). Tells x q) (sym next) (heard_tells token part p (cuts_off e.event) was) in
+      let before = (part_of s p.party.steps).failures in
+      let was : Tells before part p =
+      record { live = k.live; awaits = k.awaits; line = k.line; errand = k.errand; failed = k.failed } in
+      let tells : Tells before (part_of s (es ++ e ∷ [])) q =
+      subst (λ (x : Part). Tells before x q) (sym next) (heard_tells before token e.event part p (cuts_off e.event) was) in
       let sees : Sees (calls_of s) p.party.steps (es ++ e ∷ []) = record {
         since = k.sees.since ++ e ∷ [];
         all = ap (λ (xs : List Step). xs ++ e ∷ []) k.sees.all ∙ append_assoc p.party.steps k.sees.since (e ∷ []);
@@ -332,14 +388,19 @@ module _ {J : Type 0} (row : Shelves) where
         awaits = tells.awaits;
         shown = keeps.shown k.shown;
         line = tells.line;
+        errand = tells.errand;
+        failed =
+            subst (λ (v : View). FailsSince (part_of s v.steps).failures (part_of s (es ++ e ∷ [])).failures q.failed)
+            (sym keeps.party) tells.failed;
       }
 
   -- a place after a call of its session, which has seen it
   pub called_kept : (names : ℕ → ℕ) (es : List Step) (s : ℕ) (p q : Place J) (e : Step) → calls_of s e ≡ true
       → PlaceKept row names es s p → q.number ≡ p.number
       → q.party ≡ record { name = p.party.name; steps = es ++ e ∷ [] } → q.live ≡ live_after p.live e.out
-      → q.awaits ≡ is_pending e.out → q.line ≡ None → PlaceKept row names (es ++ e ∷ []) s q
-  called_kept names es s p q e own k number party live awaits_is line =
+      → q.awaits ≡ is_pending e.out → q.line ≡ None → q.errand ≡ errand_of e.out → q.failed ≡ None
+      → PlaceKept row names (es ++ e ∷ []) s q
+  called_kept names es s p q e own k number party live awaits_is line errand failed =
       let part = part_of s es in
       let next : part_of s (es ++ e ∷ []) ≡ called part e.event e.out =
       part_snoc s no_part es e ∙ after_called s part e own in
@@ -357,4 +418,9 @@ module _ {J : Type 0} (row : Shelves) where
         line =
             subst (λ (o : Option Slot). IsLine (line_of (part_of s (es ++ e ∷ [])).latest) o) (sym line)
             (ap (λ (x : Part). line_of x.latest) next);
+        errand = errand ∙ sym (ap (λ (x : Part). x.errand) next);
+        failed =
+            let now = (part_of s (es ++ e ∷ [])).failures in
+            subst (λ (w : List Step × Option Failure). FailsSince (part_of s w.0).failures now w.1)
+            (λ i. (sym (ap (λ (v : View). v.steps) party) i, sym failed i)) (none_since now);
       }

@@ -1,12 +1,14 @@
 -- What is seen of a session: its number, and its part of the entries that it has seen.
-use Rattle.std.specs.Prelude.{◌≡◌, ℕ, true, Option, Some, None}
+use Rattle.std.specs.Prelude.{◌≡◌, ℕ, true, List, ◌++◌, Option, Some, None}
 use Rattle.std.specs.Option.{is_some}
 use Rattle.history.specs.ListMachine.{Line}
 use Rattle.world.specs.declared.event.Out.{Out}
 use Rattle.boxcar.specs.Table.{Shelves}
 use Rattle.marks.specs.Seen.{Seen}
+use Rattle.pool_journal.specs.declared.failure.Failure.{Failure}
 use Rattle.pool_journal.specs.declared.news.News.{News}
 use Rattle.pool_journal.specs.declared.news.News.TheVariants as news
+use Rattle.pool_journal.specs.Errands.{EndsWithFailure, FailsSince}
 use Rattle.pool_journal.specs.Slots.{Shown}
 use Rattle.pool_journal.specs.Sessions.{Call, Part, called_as, calls, ends, line_to, IsClosed, IsLeft, IsSameCall}
 
@@ -47,16 +49,17 @@ pub record Awaits (old new : Part) : Type 0 where
   pub alive : is_some new.live ≡ true
 
 -- a session's part later on, where the session made no call: of its latest call more may have been told, unless nothing
--- more is told of it
+-- more is told of it, and more of its steps may have failed
 pub record IsGrown (old new : Part) : Type 0 where
   pub before : new.before ≡ old.before
   pub latest : IsSameCall old.latest new.latest
   pub live : IsLeft old.live new.live
+  pub failures : FailsSince old.failures new.failures None
   pub closed : IsClosed old → (calls new ≡ calls old) × IsClosed new
 
 -- what a session finds that waits for what is told of its latest call
 abbrev pub IsNews : Shelves → Part → Part → News → Type 0
 IsNews row old new (news.Line p) = Shown row p × IsToldBy old new p.value.step.value.out
 IsNews row old new news.CutOff = IsUntold old new × (new.live ≡ None)
-IsNews row old new (news.Refused f) = Awaits old new
-IsNews row old new news.Nothing = Awaits old new
+IsNews row old new (news.Refused f) = Awaits old new × EndsWithFailure old.failures new.failures f
+IsNews row old new news.Nothing = Awaits old new × FailsSince old.failures new.failures None

@@ -1,5 +1,5 @@
 -- Why a step is refused that may be made again.
-use Rattle.std.specs.Prelude.{◌≡◌, ◌⊎◌, Option, Some, None}
+use Rattle.std.specs.Prelude.{Option, Some, None}
 use Rattle.record_key.specs.declared.refusal.Refusal.{Refusal}
 use Rattle.record_key.specs.declared.refusal.Refusal.TheVariants.{NoMemory, Device}
 use Rattle.world.specs.declared.event.Out.{Out}
@@ -20,7 +20,3 @@ failure_in _ = None
 abbrev pub failure_of : Out → Option Failure
 failure_of (out.Refused r) = failure_in r
 failure_of _ = None
-
--- a growth was refused, or a device failed
-abbrev pub IsFailure : Refusal → Type 0
-IsFailure r = (r ≡ NoMemory) ⊎ (r ≡ Device)

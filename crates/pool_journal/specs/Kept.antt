@@ -9,6 +9,7 @@ use Rattle.world.specs.declared.event.Event.{Event}
 use Rattle.world.specs.declared.event.Out.{Out}
 use Rattle.world.specs.declared.event.Event.TheVariants as event
 use Rattle.pool_journal.specs.declared.step.Step.{Step}
+use Rattle.pool_journal.specs.declared.failure.Failure.{Failure}
 use Rattle.pool_journal.specs.declared.place.Place.{Place}
 use Rattle.pool_journal.specs.declared.place.Told.{Told}
 use Rattle.pool_journal.specs.declared.place.Told.TheVariants as is
@@ -17,6 +18,7 @@ use Rattle.world.specs.Component.{DcSide}
 use Rattle.world.specs.Messages.{message_at}
 use Rattle.world.specs.Node.{NodeView, dc_side}
 use Rattle.pool_journal.specs.Steps.{is_tc, requests, replies, TcState, DcState, TcStep, DcStep, GivesTc, GivesDc, RunsTo, dc_start}
+use Rattle.pool_journal.specs.Errands.{errand_after, fails, FailsSince}
 use Rattle.pool_journal.specs.Sessions.{part_of, calls_as, pending, line_of, line_to, line_for, ends, cuts_off}
 use Rattle.pool_journal.specs.Slots.{Slot, steps, asks, gives, seen, Shown, IsShown, last_of}
 use Rattle.pool_journal.specs.Views.{View, Sees}
@@ -42,6 +44,8 @@ pub record PlaceKept {J : Type 0} (row : Shelves) (names : ℕ → ℕ) (es : Li
   pub awaits : p.awaits ≡ pending (part_of s es).latest
   pub shown : IsShown row p.line
   pub line : IsLine (line_of (part_of s es).latest) p.line
+  pub errand : p.errand ≡ (part_of s es).errand
+  pub failed : FailsSince (part_of s p.party.steps).failures (part_of s es).failures p.failed
 
 -- the place of each session
 abbrev pub PlacesKept : {J : Type 0} → Shelves → (ℕ → ℕ) → List Step → List (Place J) → Type 0
@@ -75,8 +79,21 @@ with_told (Some line) token p = record p {
   line = cond p.awaits (Some token) p.line;
 }
 
+-- the later of two failures, if there are any
+abbrev pub later : Option Failure → Option Failure → Option Failure
+later was None = was
+later was (Some f) = Some f
+
+-- what a place is after a step that may have been made for its transaction
+abbrev pub place_worked : {J : Type 0} → Event → Out → Place J → Place J
+place_worked e o p = record p {
+  errand = errand_after p.live p.errand e o;
+  failed = later p.failed (fails p.live p.errand e o);
+}
+
 abbrev pub place_heard : {J : Type 0} → Event → Out → Slot → Place J → Place J
-place_heard e o token p = cond (cuts_off e) (record p { live = None }) (with_told (line_for p.live o) token p)
+place_heard e o token p =
+    cond (cuts_off e) (record p { live = None }) (with_told (line_for p.live o) token (place_worked e o p))
 
 -- of the sessions that didn't make the call
 abbrev pub place_after : {J : Type 0} → Slot → Place J → Place J

@@ -9,3 +9,4 @@ pub mod Waiting
 pub mod Marking
 pub mod Ending
 pub mod Failing
+pub mod Errands

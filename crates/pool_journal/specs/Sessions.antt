@@ -1,4 +1,5 @@
--- A session's part of the entries: its calls, in order, each with its output and the first line told of it.
+-- A session's part of the entries: its calls, in order, each with its output and the first line told of it; and what the
+-- steps that were made for the latest of them failed by.
 use Rattle.std.specs.Prelude.{◌≡◌, ◌⊎◌, ℕ, ◌==◌, Bool, true, false, cond, List, [], ◌∷◌, ◌++◌, Option, Some, None}
 use Rattle.std.specs.List.{list_any}
 use Rattle.history.specs.ListMachine.{Line, TellsAnswer, TellsRow, TellsRows, TellsBack, TellsRolledBack, TellsCommitted, TellsLost}
@@ -6,7 +7,11 @@ use Rattle.world.specs.declared.event.Event.{Event}
 use Rattle.world.specs.declared.event.Event.TheVariants as event
 use Rattle.world.specs.declared.event.Out.{Out}
 use Rattle.world.specs.declared.event.Out.TheVariants as out
+use Rattle.pool_journal.specs.Errands.{errand_after, errand_of, fails, no_errand}
+use Rattle.pool_journal.specs.declared.errand.Errand.{Errand}
+use Rattle.pool_journal.specs.declared.failure.Failure.{Failure}
 use Rattle.pool_journal.specs.declared.step.Step.{Step}
+use Rattle.world.specs.Halves.{also}
 
 -- a call with what it came to, and the line that was told of it
 pub record Call : Type 0 where
@@ -14,11 +19,14 @@ pub record Call : Type 0 where
   pub out : Out
   pub line : Option Line
 
--- the transaction whose lines are the session's, its calls before the latest, and that one
+-- the transaction whose lines are the session's, its calls before the latest, and that one; what is on its way for that,
+-- and what its steps failed by, in order
 pub record Part : Type 0 where
   pub live : Option ℕ
   pub before : List Call
   pub latest : Option Call
+  pub errand : Errand
+  pub failures : List Failure
 
 abbrev pub with_latest : List Call → Option Call → List Call
 with_latest before None = before
@@ -107,6 +115,27 @@ hears part (Some line) = record {
   live = cond (ends line) None part.live;
   before = part.before;
   latest = told_of part.latest line;
+  errand = part.errand;
+  failures = part.failures;
+}
+
+-- a step that was made for the transaction goes on, or fails
+abbrev pub worked : Part → Event → Out → Part
+worked part e o = record {
+  live = part.live;
+  before = part.before;
+  latest = part.latest;
+  errand = errand_after part.live part.errand e o;
+  failures = also part.failures (fails part.live part.errand e o);
+}
+
+abbrev pub cut : Part → Part
+cut part = record {
+  live = None;
+  before = part.before;
+  latest = part.latest;
+  errand = part.errand;
+  failures = part.failures;
 }
 
 -- a crash of the transaction component cuts every session's transaction off
@@ -115,14 +144,15 @@ cuts_off (event.CrashTc frames bytes) = true
 cuts_off _ = false
 
 abbrev pub heard : Part → Event → Out → Part
-heard part e o = cond (cuts_off e) (record { live = None; before = part.before; latest = part.latest })
-    (hears part (line_for part.live o))
+heard part e o = cond (cuts_off e) (cut part) (hears (worked part e o) (line_for part.live o))
 
 abbrev pub called : Part → Event → Out → Part
 called part e o = record {
   live = live_after part.live o;
   before = calls part;
   latest = Some (called_as e o None);
+  errand = errand_of o;
+  failures = [];
 }
 
 -- a session's part after one more step
@@ -134,7 +164,7 @@ part_after s part [] = part
 part_after s part (e ∷ es) = part_after s (after s part e) es
 
 abbrev pub no_part : Part
-no_part = record { live = None; before = []; latest = None }
+no_part = record { live = None; before = []; latest = None; errand = no_errand; failures = [] }
 
 abbrev pub part_of : ℕ → List Step → Part
 part_of s es = part_after s no_part es
@@ -157,3 +187,10 @@ IsSameCall (Some c) later = (line : Option Line) × (later ≡ Some (called_as c
 abbrev pub LeavesLive : Option ℕ → Out → Part → Type 0
 LeavesLive was (out.Begun t) new = new.live ≡ Some t
 LeavesLive was _ new = IsLeft was new.live
+
+-- a session's part once its call stands in the journal, which came to this at once
+pub record IsCalled (old : Part) (e : Event) (o : Out) (new : Part) : Type 0 where
+  pub before : new.before ≡ calls old
+  pub latest : new.latest ≡ Some (called_as e o None)
+  pub live : LeavesLive old.live o new
+  pub failures : new.failures ≡ []

@@ -8,9 +8,9 @@ use Rattle.pool_journal.specs.declared.place.Place.{Place}
 abbrev pub IsNewsOf : {J : Type 0} → Place J → News → Type 0
 IsNewsOf p (news.Line token) = p.line ≡ Some token
 IsNewsOf p news.CutOff = (p.line ≡ None) × (p.live ≡ None)
-IsNewsOf p (news.Refused f) = (p.line ≡ None) × (is_some p.live ≡ true)
-IsNewsOf p news.Nothing = (p.line ≡ None) × (is_some p.live ≡ true)
+IsNewsOf p (news.Refused f) = (p.line ≡ None) × (is_some p.live ≡ true) × (p.failed ≡ Some f)
+IsNewsOf p news.Nothing = (p.line ≡ None) × (is_some p.live ≡ true) × (p.failed ≡ None)
 
--- nothing more is told to the session at this place
-abbrev pub IsCutAt : {J : Type 0} → List (Place J) → ℕ → Type 0
-IsCutAt {J} places s = (p : Place J) → slice_get places s ≡ Some p → IsNewsOf p news.CutOff
+-- the same of the place of a session, where there is one
+abbrev pub IsNewsAt : {J : Type 0} → List (Place J) → ℕ → News → Type 0
+IsNewsAt {J} places s n = (p : Place J) → slice_get places s ≡ Some p → IsNewsOf p n

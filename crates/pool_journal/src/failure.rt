@@ -1,6 +1,6 @@
 //! Why a step is refused that may be made again.
 ghost use Rattle.std.specs.Prelude.{◌≡◌};
-ghost use Rattle.pool_journal.specs.Failing.{IsFailure, failure_in, failure_of, refusal_of};
+ghost use Rattle.pool_journal.specs.Failing.{failure_in, failure_of, refusal_of};
 
 use record_key::Refusal;
 use world::Out;
@@ -35,8 +35,7 @@ impl Failure {
     }
 
     pub fn refusal(self) -> Refusal
-        ensures refusal { result ≡ refusal_of self }
-        ensures failure { IsFailure result }
+        ensures { result ≡ refusal_of self }
     {
         match self {
             Failure::NoMemory => Refusal::NoMemory,

@@ -4,15 +4,17 @@ ghost use Rattle.world.specs.Halves.{IsSpelledIf};
 ghost use Rattle.world.specs.Messages.{message_at};
 ghost use Rattle.pool_journal.specs.Callers.{IsGrown, IsNews, IsUntold};
 ghost use Rattle.pool_journal.specs.Kept.{is_dc, IsInRun, IsSentBy, EntersTc, EntersDc, PlacesKept, place_after};
-ghost use Rattle.pool_journal.specs.Waiting.{IsCutAt, IsNewsOf};
-ghost use Rattle.pool_journal.specs.Sessions.{IsClosed, LeavesLive, called_as, calls, part_of, line_of};
+ghost use Rattle.pool_journal.specs.declared.news.News.{News};
+ghost use Rattle.pool_journal.specs.declared.news.News.TheVariants as news;
+ghost use Rattle.pool_journal.specs.Waiting.{IsNewsAt, IsNewsOf};
+ghost use Rattle.pool_journal.specs.Sessions.{IsCalled, IsClosed, part_of, line_of};
 ghost use Rattle.pool_journal.specs.Slots.{Shown};
 ghost use Rattle.pool_journal.specs.Steps.{is_tc, IsRun, requests, replies, TcState, DcState, GivesTc, GivesDc};
 ghost use Rattle.pool_journal.specs.Views.{Sees};
 
 use crate::caller::Caller;
 use crate::entry::Entry;
-use crate::failure::Failure;
+use crate::errand::Errand;
 use crate::lines::{Lines, Unsent};
 use crate::naming::Naming;
 use crate::news::News;
@@ -60,8 +62,8 @@ fn hear_all<J: Naming>(places: &mut Vec<Place<J>>, entry: &Entry, token: &Pushed
     }
 }
 
-// What a place has for a session that waits, whose request was refused for this, if it was.
-fn news_of<J: Naming>(place: &Place<J>, refused: Option<Failure>) -> News
+// What a place has for a session that waits.
+fn news_of<J: Naming>(place: &Place<J>) -> News
     ensures { IsNewsOf place.now result }
 {
     if let Some(token) = &place.line {
@@ -70,20 +72,58 @@ fn news_of<J: Naming>(place: &Place<J>, refused: Option<Failure>) -> News
     if place.live.is_none() {
         return News::CutOff;
     }
-    match refused {
+    match place.failed {
         Some(failure) => News::Refused(failure),
+        None => News::Nothing,
+    }
+}
+
+// The same of the place of a session.
+fn news_at<J: Naming>(places: &Vec<Place<J>>, session: u64) -> News
+    ensures { IsNewsAt places.now.items session result }
+{
+    match places.get(session as usize) {
+        Some(place) => news_of(place),
         None => News::Nothing,
     }
 }
 
 // Whether nothing more is told to the session.
 fn is_cut_at<J: Naming>(places: &Vec<Place<J>>, session: u64) -> bool
-    ensures { result ≡ true → IsCutAt places.now.items session }
+    ensures { result ≡ true → IsNewsAt places.now.items session news.CutOff }
 {
-    match places.get(session as usize) {
-        Some(place) => matches!(news_of(place, None), News::CutOff),
-        None => false,
-    }
+    matches!(news_at(places, session), News::CutOff)
+}
+
+// A session has seen all entries from now on, and what its place has for it. Answers its transaction, if that is alive.
+fn show<J: Naming>(
+    lines: &Lines<J>,
+    places: &mut Vec<Place<J>>,
+    row: &Row<Entry>,
+    caller: &mut Caller<J>,
+) -> Option<u64>
+    requires row { row.now ≡ J.entries }
+    requires places { PlacesKept J.entries J.names lines.now places.old.items }
+    requires count { vec_len places.old ≡ J.sessions }
+    ensures places { PlacesKept J.entries J.names lines.now places.new.items }
+    ensures count { vec_len places.new ≡ vec_len places.old }
+    ensures number { caller.new.number ≡ caller.old.number }
+    ensures part { caller.new.part ≡ part_of caller.old.number lines.now }
+    ensures grown { IsGrown caller.old.part caller.new.part }
+    ensures live { result ≡ caller.new.part.live }
+    ensures kept { IfSome result (λ t. caller.old.part.live ≡ Some t) }
+    ensures news { line_of caller.old.part.latest ≡ None → (n : News)
+        → IsNewsAt places.old.items caller.old.number n → IsNews J.entries caller.old.part caller.new.part n }
+{
+    let last = lines.last();
+    let Caller {
+        number,
+        visitor: own,
+    } = caller;
+    let place = &mut places[*number as usize];
+    place.failed = None;
+    place.party.meet(row, own, &last);
+    place.live
 }
 
 impl<J: Naming> Journal<J> {
@@ -277,9 +317,7 @@ impl<J: Naming> Journal<J> {
         ensures sees { Sees is_tc visitor.old.steps self.old }
         ensures gives { (n : TcState) → EntersTc visitor.old.steps step.value n → GivesTc visitor.new.steps n }
         ensures number { caller.new.number ≡ caller.old.number }
-        ensures before { caller.new.part.before ≡ calls caller.old.part }
-        ensures latest { caller.new.part.latest ≡ Some (called_as step.value.event step.value.out None) }
-        ensures live { LeavesLive caller.old.part.live step.value.out caller.new.part }
+        ensures called { IsCalled caller.old.part step.value.event step.value.out caller.new.part }
     {
         let Journal {
             lines,
@@ -298,7 +336,9 @@ impl<J: Naming> Journal<J> {
         place.live = live_after(place.live, entry.out());
         place.awaits = is_pending(entry.out());
         place.line = None;
-        stirs.begin(*number, lines.asked());
+        place.errand = Errand::of(entry.out());
+        place.failed = None;
+        stirs.set(*number, false);
         token
     }
 
@@ -316,14 +356,11 @@ impl<J: Naming> Journal<J> {
             places,
             stirs,
         } = self;
-        let Caller {
-            number,
-            visitor: own,
-        } = caller;
-        let refused = stirs.take(*number);
-        let place = &mut places[*number as usize];
-        place.party.meet(row, own, &lines.last());
-        news_of(place, refused)
+        let session = caller.number();
+        stirs.set(session, false);
+        let news = news_at(places, session);
+        show(lines, places, row, caller);
+        news
     }
 
     /// Whether nothing more is told of a session's latest call, which the session has then seen.
@@ -340,15 +377,10 @@ impl<J: Naming> Journal<J> {
             places,
             stirs: _,
         } = self;
-        let Caller {
-            number,
-            visitor: own,
-        } = caller;
-        if !is_cut_at(places, *number) {
+        if !is_cut_at(places, caller.number()) {
             return false;
         }
-        let place = &mut places[*number as usize];
-        place.party.meet(row, own, &lines.last());
+        show(lines, places, row, caller);
         true
     }
 
@@ -368,13 +400,7 @@ impl<J: Naming> Journal<J> {
             places,
             stirs: _,
         } = self;
-        let Caller {
-            number,
-            visitor: own,
-        } = caller;
-        let place = &mut places[*number as usize];
-        place.party.meet(row, own, &lines.last());
-        place.live
+        show(lines, places, row, caller)
     }
 
     /// How many entries there are.
@@ -393,14 +419,10 @@ impl<J: Naming> Journal<J> {
         self.lines.token(place)
     }
 
-    /// Whether a session that waits has something to do: a line was told, its call was cut off, or what it sent was
-    /// answered or lost.
+    /// Whether a session that waits has something to do: a line was told, its call was cut off or a step of it failed, or
+    /// what it sent was answered or lost.
     pub fn has_news(&self, session: u64) -> bool {
-        let stirred = self.stirs.is_set(session);
-        match self.places.get(session as usize) {
-            Some(place) => stirred || place.line.is_some() || place.live.is_none(),
-            None => true,
-        }
+        self.stirs.is_set(session) || !matches!(news_at(&self.places, session), News::Nothing)
     }
 
     /// What the session sent was answered or lost.
@@ -412,30 +434,21 @@ impl<J: Naming> Journal<J> {
             places: _,
             stirs,
         } = self;
-        stirs.stir(session);
+        stirs.set(session, true);
     }
 
-    /// The session's request of this number was refused.
-    pub fn refuse(&mut self, session: u64, request: u64, failure: Failure)
+    /// The session's latest call goes on: what failed of it so far is no matter any more.
+    pub fn resume(&mut self, caller: &Caller<J>)
         ensures { self.new ≡ self.old }
     {
         let Journal {
             lines: _,
-            places: _,
+            places,
             stirs,
         } = self;
-        stirs.refuse(session, request, failure);
-    }
-
-    /// The session's latest call goes on: what was sent for it so far is no matter any more.
-    pub fn resume(&mut self, session: u64)
-        ensures { self.new ≡ self.old }
-    {
-        let Journal {
-            lines,
-            places: _,
-            stirs,
-        } = self;
-        stirs.begin(session, lines.asked());
+        let Caller { number, visitor: _ } = caller;
+        stirs.set(*number, false);
+        let place = &mut places[*number as usize];
+        place.failed = None;
     }
 }

@@ -183,11 +183,6 @@ impl<J: Naming> Lines<J> {
         self.dc.meet(row, visitor, &last);
     }
 
-    /// How many requests were sent.
-    pub fn asked(&self) -> u64 {
-        self.asked.len() as u64
-    }
-
     /// The entry that sent the request of this number, if one did.
     pub fn request(&self, number: u64) -> Result<Pushed<Entry>, Unsent>
         ensures shown { IfOk result (λ token. Shown J.entries token) }

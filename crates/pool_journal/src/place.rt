@@ -1,9 +1,12 @@
 //! What the journal keeps of a session.
 ghost use Rattle.std.specs.Prelude.{◌≡◌, ◌+◌, [], cond};
-ghost use Rattle.pool_journal.specs.Kept.{PlaceKept, place_after, kind_of, told_kind};
+ghost use Rattle.std.specs.Prelude.{Some};
+ghost use Rattle.pool_journal.specs.Kept.{PlaceKept, place_after, place_worked, kind_of, told_kind};
 ghost use Rattle.pool_journal.specs.Sessions.{line_to, is_among, is_pending, live_after, calls_as, cuts_off};
 
 use crate::entry::Entry;
+use crate::errand::Errand;
+use crate::failure::Failure;
 use crate::naming::Naming;
 use crate::view::Party;
 use boxcar::Pushed;
@@ -12,7 +15,8 @@ use tie::Book;
 use world::{Event, Out};
 
 /// A session's place: its side of what the session has seen, the transaction whose lines are the session's, whether its
-/// latest call is still to be told of, and the entry that told of it.
+/// latest call is still to be told of, and the entry that told of it; what is on its way for that call, and what a step of
+/// it failed by that the session hasn't seen.
 #[derive(Drop)]
 pub struct Place<J: Naming> {
     pub(crate) number: u64,
@@ -20,6 +24,8 @@ pub struct Place<J: Naming> {
     pub(crate) live: Option<u64>,
     pub(crate) awaits: bool,
     pub(crate) line: Option<Pushed<Entry>>,
+    pub(crate) errand: Errand,
+    pub(crate) failed: Option<Failure>,
 }
 
 /// What an output tells a transaction.
@@ -95,7 +101,27 @@ impl<J: Naming> Place<J> {
             live: None,
             awaits: false,
             line: None,
+            errand: Errand {
+                request: None,
+                reply: None,
+                commits: false,
+            },
+            failed: None,
         }
+    }
+
+    // A step that was made for its transaction goes on, or fails.
+    fn work(&mut self, txn: u64, event: &Event, out: &Out)
+        requires { self.old.live ≡ Some txn }
+        ensures { self.new ≡ place_worked event.now out.now self.old }
+    {
+        if !self.errand.serves(txn, event) {
+            return;
+        }
+        if let Some(failure) = Failure::of(out) {
+            self.failed = Some(failure);
+        }
+        self.errand = self.errand.sent_on(out);
     }
 
     // A line is told to it. Only the first one told of a call counts.
@@ -111,7 +137,7 @@ impl<J: Naming> Place<J> {
         }
     }
 
-    /// An entry that is no call of its session may tell it a line, or cut it off.
+    /// An entry that is no call of its session may be made for it, tell it a line, or cut it off.
     pub fn hear(&mut self, entry: &Entry, token: &Pushed<Entry>)
         requires { entry.now ≡ token.now.value }
         ensures { self.new ≡ place_after token.now self.old }
@@ -126,6 +152,7 @@ impl<J: Naming> Place<J> {
         let Some(txn) = self.live else {
             return;
         };
+        self.work(txn, &entry.step.event, entry.out());
         let kind = told_to(txn, entry.out());
         if kind != Told::Nothing {
             self.tell(kind, token);

@@ -5,14 +5,13 @@ ghost use Rattle.tc_core.specs.Kept.{IsTc};
 ghost use Rattle.world.specs.Halves.{of_tc, TcLeads};
 ghost use Rattle.pool_journal.specs.Desks.{delivers};
 ghost use Rattle.pool_journal.specs.Marking.{announced, low_of, tells_commit, IsLowOf};
-ghost use Rattle.pool_journal.specs.Sessions.{IsClosed, LeavesLive, called_as, calls};
+ghost use Rattle.pool_journal.specs.Sessions.{IsCalled, IsClosed};
 ghost use Rattle.pool_journal.specs.Slots.{Shown};
 ghost use Rattle.pool_journal.specs.Steps.{GivesTc, tc_start, count};
 
 use crate::caller::Caller;
 use crate::copying::copied;
 use crate::entry::Entry;
-use crate::failure::Failure;
 use crate::hall::Hall;
 use crate::holding::hold;
 use crate::journal::Journal;
@@ -144,9 +143,7 @@ impl<J: Naming, D: CrashLog> TcDesk<J, D> {
         ensures shown { Shown J.entries result }
         ensures event { result.value.step.value.event ≡ event }
         ensures number { caller.new.number ≡ caller.old.number }
-        ensures before { caller.new.part.before ≡ calls caller.old.part }
-        ensures latest { caller.new.part.latest ≡ Some (called_as event result.value.step.value.out None) }
-        ensures live { LeavesLive caller.old.part.live result.value.step.value.out caller.new.part }
+        ensures called { IsCalled caller.old.part event result.value.step.value.out caller.new.part }
     {
         let TcDesk {
             alloc,
@@ -198,27 +195,22 @@ impl<J: Naming, D: CrashLog> TcDesk<J, D> {
     }
 
     /// Makes the log stable, and enters that. Where that told a commit, the data component is told how much is stable, and
-    /// what may be announced as answered is announced: the entries of both. Refused where that failed; there is an entry of
-    /// that too.
+    /// what may be announced as answered is announced: the entries of both.
     pub fn force<R: Wait>(
         &mut self,
         rt: &R,
         hall: &Hall<J>,
         journal: &Mutex<Journal<J>>,
-    ) -> Result<(Option<Pushed<Entry>>, Option<Pushed<Entry>>), Failure>
-        ensures tell { IfOk result (λ made. IfSome made.0 (λ token. Shown J.entries token)) }
-        ensures low { IfOk result (λ made. IfSome made.1 (λ token. Shown J.entries token)) }
+    ) -> (Option<Pushed<Entry>>, Option<Pushed<Entry>>)
+        ensures tell { IfSome result.0 (λ token. Shown J.entries token) }
+        ensures low { IfSome result.1 (λ token. Shown J.entries token) }
     {
         let token = self.enter(rt, hall, journal, Event::Force);
-        let out = hall.row().value(&token).out();
-        if let Some(failure) = Failure::of(out) {
-            return Err(failure);
-        }
-        if !tells_commit(out) {
-            return Ok((None, None));
+        if !tells_commit(hall.row().value(&token).out()) {
+            return (None, None);
         }
         let tell = self.enter(rt, hall, journal, Event::Tell);
-        Ok((Some(tell), self.announce(rt, hall, journal)))
+        (Some(tell), self.announce(rt, hall, journal))
     }
 
     /// The component crashes, and keeps so many bytes of what isn't stable of its log; and the entry of that.

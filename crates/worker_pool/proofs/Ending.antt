@@ -1,11 +1,13 @@
 -- How a call ends, from its entry on.
-use Rattle.std.proofs.Common.{◌≡◌, ℕ, true, [], ◌∷◌, ◌++◌, Option, Some, None, ap, sym, ◌∙◌, subst, inl, inr}
+use Rattle.std.proofs.Common.{◌≡◌, ℕ, true, List, [], ◌∷◌, ◌++◌, Option, Some, None, ap, sym, ◌∙◌, subst, inl, inr}
 use Rattle.std.specs.Option.{is_some}
 use Rattle.boxcar.specs.Table.{Shelves}
 use Rattle.world.specs.declared.event.Event.{Event}
 use Rattle.world.specs.declared.event.Out.{Out}
 use Rattle.world.specs.declared.event.Out.TheVariants as out
 use Rattle.pool_journal.specs.Callers.{HasLine}
+use Rattle.pool_journal.specs.Errands.{EndsWithFailure}
+use Rattle.pool_journal.specs.declared.failure.Failure.{Failure}
 use Rattle.pool_journal.specs.Sessions.{Call, IsLeft, LeavesLive, Part, called_as, calls, is_pending, with_latest}
 use Rattle.pool_journal.specs.Slots.{Slot}
 use Rattle.worker_pool.specs.Answers.{Adds, Calls, Ends, Finishes}
@@ -41,17 +43,17 @@ pub ends_by : (row : Shelves) (e : Event) (old mid new : Part) (token : Slot) (h
     → Finishes row token mid how new → Ends row e old how new
 ends_by row e old mid new token (ended.AtOnce p) k (shown, is, done, still) =
     let same : out_of p ≡ out_of token = ap out_of is in
-    let live : LeavesLive old.live (out_of token) new = subst (LeavesLive old.live (out_of token)) (sym still) k.live in (
+    let live : LeavesLive old.live (out_of token) new = subst (LeavesLive old.live (out_of token)) (sym still) k.called.live in (
       shown,
       ap is_pending same ∙ done,
       subst (λ (o : Out). Adds e o None old new) (sym same)
-          (ap calls still ∙ adds (called_as e (out_of token) None) old mid k.before k.latest),
+          (ap calls still ∙ adds (called_as e (out_of token) None) old mid k.called.before k.called.latest),
       subst (λ (o : Out). LeavesLive old.live o new) (sym same) live,
     )
 ends_by row e old mid new token (ended.Told p q) k (p_shown, is, q_shown, pends, told) =
     let same : out_of p ≡ out_of token = ap out_of is in
     let latest : new.latest ≡ Some (called_as e (out_of token) (Some told.line)) =
-    subst (λ (o : Option Call). HasLine o new.latest told.line) k.latest told.latest in (
+    subst (λ (o : Option Call). HasLine o new.latest told.line) k.called.latest told.latest in (
       p_shown,
       q_shown,
       ap is_pending same ∙ pends,
@@ -62,22 +64,23 @@ ends_by row e old mid new token (ended.Told p q) k (p_shown, is, q_shown, pends,
           told.tells,
           told.over,
           subst (λ (o : Out). Adds e o (Some told.line) old new) (sym same)
-              (adds (called_as e (out_of token) (Some told.line)) old new (told.before ∙ k.before) latest),
+              (adds (called_as e (out_of token) (Some told.line)) old new (told.before ∙ k.called.before) latest),
         ),
       ),
     )
-ends_by row e old mid new token (ended.Unfinished u f) k (is, pends, waits) =
+ends_by row e old mid new token (ended.Unfinished u f) k (is, pends, waits, failed) =
     let same : out_of u.call ≡ out_of token = ap out_of is in (
       ap is_pending same ∙ pends,
-      halted (out_of token) old.live mid new pends k.live waits.live waits.alive,
+      halted (out_of token) old.live mid new pends k.called.live waits.live waits.alive,
       waits.alive,
       subst (λ (o : Out). Adds e o None old new) (sym same)
-          (adds (called_as e (out_of token) None) old new (waits.untold.before ∙ k.before)
-          (waits.untold.latest ∙ k.latest)),
+          (adds (called_as e (out_of token) None) old new (waits.untold.before ∙ k.called.before)
+          (waits.untold.latest ∙ k.called.latest)),
+      subst (λ (fs : List Failure). EndsWithFailure fs new.failures f) k.called.failures failed,
     )
 ends_by row e old mid new token ended.CutOff k (pends, gone, untold) = (
   out_of token,
   pends,
   gone,
-  adds (called_as e (out_of token) None) old new (untold.before ∙ k.before) (untold.latest ∙ k.latest),
+  adds (called_as e (out_of token) None) old new (untold.before ∙ k.called.before) (untold.latest ∙ k.called.latest),
 )

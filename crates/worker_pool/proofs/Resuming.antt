@@ -105,13 +105,15 @@ refused_again row old new (ended.Told p q) r (s, s_shown, was, unfinished, (p_sh
         cut = λ none. absurd (cc (none));
       },
     ))
-refused_again row old new (ended.Unfinished u f) r (s, s_shown, was, unfinished, (is, pends, waits)) failed =
-    let same : new ≡ old = λ i. record {
-      live = waits.live i;
-      before = waits.untold.before i;
-      latest = waits.untold.latest i;
-    } in
-    inr (inl (failed, unfinished, same))
+refused_again row old new (ended.Unfinished u f) r (s, s_shown, was, unfinished, (is, pends, waits, failed)) why =
+    inr (inl record {
+      unfinished = unfinished;
+      failure = f;
+      failed = failed;
+      why = why;
+      same = λ i. with_latest (waits.untold.before i) (waits.untold.latest i);
+      still = waits.live;
+    })
 refused_again row old new ended.CutOff r (s, s_shown, was, unfinished, (pends, gone, untold)) why =
     inr (inr (
       why,

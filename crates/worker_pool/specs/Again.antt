@@ -8,9 +8,11 @@ use Rattle.world.specs.declared.event.Event.{Event}
 use Rattle.world.specs.declared.event.Event.TheVariants as event
 use Rattle.world.specs.declared.event.Out.{Out}
 use Rattle.world.specs.declared.event.Out.TheVariants as out
-use Rattle.pool_journal.specs.Failing.{IsFailure}
+use Rattle.pool_journal.specs.Errands.{EndsWithFailure}
+use Rattle.pool_journal.specs.Failing.{refusal_of}
 use Rattle.pool_journal.specs.Sessions.{Call, Part, called_as, calls, IsClosed}
 use Rattle.pool_journal.specs.Slots.{Slot, Shown}
+use Rattle.pool_journal.specs.declared.failure.Failure.{Failure}
 use Rattle.worker_pool.specs.Answers.{Finishes, IsOver, TellsCommit}
 use Rattle.worker_pool.specs.Asking.{both, gives_answer, gives_back, gives_commit, gives_rolled_back, gives_row, gives_rows, is_answered, is_asked, is_commit_logged, is_logged, is_rolling}
 use Rattle.worker_pool.specs.Unfinished.{IsUnfinished, call_in}
@@ -65,7 +67,7 @@ abbrev pub IsNotTold : Ended → Refusal → Type 0
 IsNotTold (ended.AtOnce p) r = ⊤
 IsNotTold (ended.Told p q) r = (r ≡ NotConnected)
     × (is_given p.value.step.value.event p.value.step.value.out q.value.step.value.out ≡ false)
-IsNotTold (ended.Unfinished u f) r = IsFailure r
+IsNotTold (ended.Unfinished u f) r = r ≡ refusal_of f
 IsNotTold ended.CutOff r = r ≡ NotConnected
 
 -- ---- what the session's list shows of it
@@ -93,7 +95,16 @@ pub record IsLost (old new : Part) : Type 0 where
   pub unanswered : is_answered (called_as call.event call.out line) ≡ false
   pub cut : line ≡ None → new.live ≡ None
 
+-- another step that was made for the call failed: it is unfinished still
+pub record IsHeldUp (old : Part) (r : Refusal) (new : Part) : Type 0 where
+  pub unfinished : IsUnfinished old
+  pub failure : Failure
+  pub failed : EndsWithFailure old.failures new.failures failure
+  pub why : r ≡ refusal_of failure
+  pub same : calls new ≡ calls old
+  pub still : new.live ≡ old.live
+
 abbrev pub RefusedAgain : Part → Refusal → Part → Type 0
 RefusedAgain old r new =
-    ((r ≡ Unsent) × IsClosed old × (new ≡ old)) ⊎ ((IsFailure r × IsUnfinished old × (new ≡ old))
+    ((r ≡ Unsent) × IsClosed old × (new ≡ old)) ⊎ (IsHeldUp old r new
     ⊎ ((r ≡ NotConnected) × IsUnfinished old × IsLost old new))

@@ -12,9 +12,10 @@ use Rattle.boxcar.specs.Table.{Shelves}
 use Rattle.worker_pool.specs.declared.ended.Ended.{Ended}
 use Rattle.worker_pool.specs.declared.ended.Ended.TheVariants as ended
 use Rattle.worker_pool.specs.Asking.{is_answered}
-use Rattle.pool_journal.specs.Sessions.{LeavesLive, Call, Part, called_as, calls, ends, is_pending, line_to}
+use Rattle.pool_journal.specs.Sessions.{IsCalled, LeavesLive, Call, Part, called_as, calls, ends, is_pending, line_to}
 use Rattle.pool_journal.specs.Callers.{Awaits, IsToldBy, IsUntold}
-use Rattle.pool_journal.specs.Failing.{IsFailure}
+use Rattle.pool_journal.specs.Errands.{EndsWithFailure}
+use Rattle.pool_journal.specs.Failing.{refusal_of}
 use Rattle.pool_journal.specs.Slots.{Slot, Shown}
 use Rattle.worker_pool.specs.Unfinished.{IsUnfinished, bar}
 use Rattle.worker_pool.specs.Why.{IsWhy, why_of}
@@ -33,7 +34,7 @@ pub record Refused (e : Event) (was : Option ℕ) (old : Part) (r : Refusal) (ne
   pub event : call.event ≡ e
   pub adds : calls new ≡ calls old ++ call ∷ []
   pub unanswered : is_answered call ≡ false
-  pub why : IsWhy call was new.live r
+  pub why : IsWhy call was r new
 
 -- there is no entry, since no transaction is alive
 abbrev pub IsUnasked : Part → Part → Type 0
@@ -67,9 +68,7 @@ IsOver line new = ends line ≡ true → new.live ≡ None
 pub record Calls (row : Shelves) (e : Event) (old : Part) (token : Slot) (new : Part) : Type 0 where
   pub shown : Shown row token
   pub event : token.value.step.value.event ≡ e
-  pub before : new.before ≡ calls old
-  pub latest : new.latest ≡ Some (called_as e token.value.step.value.out None)
-  pub live : LeavesLive old.live token.value.step.value.out new
+  pub called : IsCalled old e token.value.step.value.out new
 
 -- how a call with an entry ended, by what it adds to the session's list
 abbrev pub Ends : Shelves → Event → Part → Ended → Part → Type 0
@@ -82,7 +81,7 @@ Ends row e old (ended.Told p q) new =
     × Adds e p.value.step.value.out (Some line) old new))
 Ends row e old (ended.Unfinished u f) new =
     (is_pending u.call.value.step.value.out ≡ true) × (new.live ≡ old.live) × (is_some new.live ≡ true)
-    × Adds e u.call.value.step.value.out None old new
+    × Adds e u.call.value.step.value.out None old new × EndsWithFailure [] new.failures f
 Ends row e old ended.CutOff new =
     (o : Out) × (is_pending o ≡ true) × (new.live ≡ None) × Adds e o None old new
 
@@ -97,7 +96,7 @@ AreShown row ended.CutOff = ⊤
 abbrev pub IsRefusal : (Out → Bool) → (Out → Out → Bool) → Ended → Refusal → Type 0
 IsRefusal done told (ended.AtOnce p) r = (r ≡ why_of p.value.step.value.out) × (done p.value.step.value.out ≡ false)
 IsRefusal done told (ended.Told p q) r = (r ≡ NotConnected) × (told p.value.step.value.out q.value.step.value.out ≡ false)
-IsRefusal done told (ended.Unfinished u f) r = IsFailure r
+IsRefusal done told (ended.Unfinished u f) r = r ≡ refusal_of f
 IsRefusal done told ended.CutOff r = r ≡ NotConnected
 
 -- it came to this, and was told of by that
@@ -125,5 +124,6 @@ Finishes row token old (ended.Told p q) new =
     × IsToldBy old new q.value.step.value.out
 Finishes row token old (ended.Unfinished u f) new =
     (u.call ≡ token) × (is_pending token.value.step.value.out ≡ true) × Awaits old new
+    × EndsWithFailure old.failures new.failures f
 Finishes row token old ended.CutOff new =
     (is_pending token.value.step.value.out ≡ true) × (new.live ≡ None) × IsUntold old new

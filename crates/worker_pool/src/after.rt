@@ -1,6 +1,4 @@
 //! What follows a step of a session's call.
-use pool_journal::Failure;
-
 /// What its session does after a step of a call.
 #[derive(Debug, Clone, Copy, PartialEq, Eq)]
 pub(crate) enum After {
@@ -8,6 +6,4 @@ pub(crate) enum After {
     Look,
     /// It waits until something was told, or another step may be made.
     Wait,
-    /// It goes on no more.
-    Stop(Failure),
 }

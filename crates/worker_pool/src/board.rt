@@ -7,7 +7,7 @@ ghost use Rattle.pool_journal.specs.Slots.{Shown};
 use crate::after::After;
 use boxcar::Pushed;
 use crossbeam_channel::Sender;
-use pool_journal::{Caller, Entry, Failure, Hall, Journal, Naming, News, hold};
+use pool_journal::{Caller, Entry, Hall, Journal, Naming, News, hold};
 use std::sync::atomic::{AtomicU64, Ordering};
 use std::sync::{Condvar, Mutex, Wait};
 use world::{Event, Out};
@@ -78,16 +78,9 @@ impl<J: Naming> Board<J> {
         }
     }
 
-    /// The request of this number was refused, which the session sent, if one did.
-    pub(crate) fn refuse<R: Wait>(&self, rt: &R, job: Job, failure: Failure) {
-        if let Some(session) = job.session {
-            hold(rt, &self.journal).refuse(session, job.number, failure);
-        }
-    }
-
-    /// The session's latest call goes on: what was sent for it so far is no matter any more.
-    pub(crate) fn resume<R: Wait>(&self, rt: &R, session: u64) {
-        hold(rt, &self.journal).resume(session);
+    /// The session's latest call goes on: what failed of it so far is no matter any more.
+    pub(crate) fn resume<R: Wait>(&self, rt: &R, caller: &Caller<J>) {
+        hold(rt, &self.journal).resume(caller);
     }
 
     /// Whether a session that waits has something to do.
@@ -95,28 +88,17 @@ impl<J: Naming> Board<J> {
         hold(rt, &self.journal).has_news(session)
     }
 
-    /// Waits until something was told of the session's call, or another step may be made.
+    /// Waits until something was told of the session's call, or failed of it, or another step may be made.
     fn wait<R: Wait>(&self, rt: &R, session: u64, restarts: u64) {
         let _journal = self.news.wait_while(rt, self.journal.lock(rt), |journal| {
             !journal.has_news(session) && self.restarts() == restarts
         });
     }
 
-    /// Waits where that is to follow a step of the session's call. Answers what the step failed by, if it did.
-    pub(crate) fn follow<R: Wait>(
-        &self,
-        rt: &R,
-        session: u64,
-        restarts: u64,
-        after: After,
-    ) -> Option<Failure> {
-        match after {
-            After::Look => None,
-            After::Wait => {
-                self.wait(rt, session, restarts);
-                None
-            }
-            After::Stop(failure) => Some(failure),
+    /// Waits where that is to follow a step of the session's call.
+    pub(crate) fn follow<R: Wait>(&self, rt: &R, session: u64, restarts: u64, after: After) {
+        if after == After::Wait {
+            self.wait(rt, session, restarts);
         }
     }
 

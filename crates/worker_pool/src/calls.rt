@@ -16,7 +16,7 @@ use crate::freeing::free;
 use crate::shared::Shared;
 use crate::steps::Rest;
 use crossbeam_channel::Sender;
-use pool_journal::{Caller, Failure, Gate, Naming, News, is_pending};
+use pool_journal::{Caller, Gate, Naming, News, is_pending};
 use record_key::Refusal;
 use stable::{CrashLog, CrashPages};
 use std::sync::Wait;
@@ -29,7 +29,6 @@ impl<J: Naming, G: Gate, D: CrashLog, P: CrashPages> Shared<J, G, D, P> {
         work: &Sender<Job>,
         caller: &mut Caller<J>,
         call: Unfinished,
-        failed: Option<Failure>,
     ) -> Ended
         requires shown { Shown J.entries call.call }
         requires awaited { is_pending call.call.value.step.value.out ≡ true }
@@ -42,7 +41,6 @@ impl<J: Naming, G: Gate, D: CrashLog, P: CrashPages> Shared<J, G, D, P> {
         let session = caller.number();
         let Unfinished { txn, call } = call;
         let rest = Rest::of(board.out(&call));
-        let mut failed = failed;
         for _ in rt.forever() {
             match board.look(rt, caller) {
                 News::Line(line) => return Ended::Told(call, line),
@@ -52,22 +50,18 @@ impl<J: Naming, G: Gate, D: CrashLog, P: CrashPages> Shared<J, G, D, P> {
                 }
                 News::Nothing => {}
             }
-            if let Some(failure) = failed {
-                return Ended::Unfinished(Unfinished { txn, call }, failure);
-            }
-            failed = self.step(rt, work, session, txn, rest);
+            self.step(rt, work, session, txn, rest);
         }
         unreachable!()
     }
 
-    // A call that has its entry, up to what was told of it. Its first step may have failed.
+    // A call that has its entry, up to what was told of it.
     fn finish<R: Wait>(
         &self,
         rt: &R,
         work: &Sender<Job>,
         caller: &mut Caller<J>,
         call: Unfinished,
-        failed: Option<Failure>,
     ) -> Ended
         requires shown { Shown J.entries call.call }
         requires latest { caller.old.part.latest ≡ Some (call_in call.call) }
@@ -79,7 +73,7 @@ impl<J: Naming, G: Gate, D: CrashLog, P: CrashPages> Shared<J, G, D, P> {
             let Unfinished { txn: _, call } = call;
             return Ended::AtOnce(call);
         }
-        self.carry_on(rt, work, caller, call, failed)
+        self.carry_on(rt, work, caller, call)
     }
 
     /// The call that begins a transaction, unless the session has one that is alive.
@@ -106,7 +100,7 @@ impl<J: Naming, G: Gate, D: CrashLog, P: CrashPages> Shared<J, G, D, P> {
             txn: 0,
             call: token,
         };
-        let ended = self.finish(rt, work, caller, call, None);
+        let ended = self.finish(rt, work, caller, call);
         *unfinished = left_by(&ended);
         Some(ended)
     }
@@ -134,15 +128,13 @@ impl<J: Naming, G: Gate, D: CrashLog, P: CrashPages> Shared<J, G, D, P> {
         let Some(Called { txn, token, sent }) = self.entrance.call(rt, caller, ask) else {
             return Err(Refusal::NotOpen);
         };
-        let mut failed = None;
         if let Some(sent) = &sent {
             let after = self.deliver(rt, work, caller.number(), sent);
-            failed = self
-                .entrance
+            self.entrance
                 .board
                 .follow(rt, caller.number(), restarts, after);
         }
-        let ended = self.finish(rt, work, caller, Unfinished { txn, call: token }, failed);
+        let ended = self.finish(rt, work, caller, Unfinished { txn, call: token });
         *unfinished = left_by(&ended);
         Ok(ended)
     }
@@ -165,8 +157,8 @@ impl<J: Naming, G: Gate, D: CrashLog, P: CrashPages> Shared<J, G, D, P> {
         let Some(call) = unfinished.take() else {
             return Err(Refusal::Unsent);
         };
-        self.entrance.board.resume(rt, caller.number());
-        let ended = self.carry_on(rt, work, caller, call, None);
+        self.entrance.board.resume(rt, caller);
+        let ended = self.carry_on(rt, work, caller, call);
         *unfinished = left_by(&ended);
         Ok(ended)
     }

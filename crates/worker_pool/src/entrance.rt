@@ -15,7 +15,7 @@ use crate::board::{Board, Job};
 use boxcar::Pushed;
 use crossbeam_channel::Sender;
 use marks::Seat;
-use pool_journal::{Caller, Entry, Failure, Naming, Next, TcDesk, hold};
+use pool_journal::{Caller, Entry, Naming, Next, TcDesk, hold};
 use stable::CrashLog;
 use std::sync::{Mutex, Wait};
 use world::{Event, Out};
@@ -96,16 +96,15 @@ impl<J: Naming, D: CrashLog> Entrance<J, D> {
     }
 
     /// Makes the log stable; says how much is stable, and announces what is answered.
-    pub(crate) fn force<R: Wait>(&self, rt: &R, work: &Sender<Job>) -> Result<(), Failure> {
+    pub(crate) fn force<R: Wait>(&self, rt: &R, work: &Sender<Job>) {
         let Entrance { board, tc } = self;
-        let (tell, low) = hold(rt, tc).force(rt, &board.hall, &board.journal)?;
+        let (tell, low) = hold(rt, tc).force(rt, &board.hall, &board.journal);
         if let Some(tell) = tell {
             board.hand_over(rt, work, &tell);
         }
         if let Some(low) = low {
             board.hand_over_low(rt, work, &low);
         }
-        Ok(())
     }
 
     /// Lets a session see that the log is stable up to the record, and makes it so where it isn't. Where that fails it is
@@ -120,7 +119,7 @@ impl<J: Naming, D: CrashLog> Entrance<J, D> {
             if number <= stable {
                 return;
             }
-            let _ = self.force(rt, work);
+            self.force(rt, work);
         }
         unreachable!()
     }

@@ -7,7 +7,7 @@ use crate::board::Job;
 use crate::shared::Shared;
 use boxcar::Pushed;
 use crossbeam_channel::Sender;
-use pool_journal::{Entry, Failure, Gate, Naming};
+use pool_journal::{Entry, Gate, Naming};
 use record_key::Refusal;
 use stable::{CrashLog, CrashPages};
 use std::sync::Wait;
@@ -47,13 +47,9 @@ impl<J: Naming, G: Gate, D: CrashLog, P: CrashPages> Shared<J, G, D, P> {
     ) -> After
         requires shown { Shown J.entries token.now }
     {
-        let out = self.entrance.board.out(token);
-        if let Some(failure) = Failure::of(out) {
-            return After::Stop(failure);
-        }
-        match out {
+        match self.entrance.board.out(token) {
             Out::Sent(number) => self.have_served(rt, work, session, token, *number),
-            Out::Refused(Refusal::Unsent) => After::Look,
+            Out::Refused(Refusal::Unsent | Refusal::NoMemory | Refusal::Device) => After::Look,
             _ => After::Wait,
         }
     }
@@ -90,11 +86,8 @@ impl<J: Naming, G: Gate, D: CrashLog, P: CrashPages> Shared<J, G, D, P> {
     // One step back.
     fn undo<R: Wait>(&self, rt: &R, work: &Sender<Job>, session: u64, txn: u64) -> After {
         let token = self.entrance.enter(rt, Event::Undo { txn });
-        let out = self.entrance.board.out(&token);
-        if let Some(failure) = Failure::of(out) {
-            return After::Stop(failure);
-        }
-        match out {
+        match self.entrance.board.out(&token) {
+            Out::Refused(Refusal::NoMemory | Refusal::Device) => After::Look,
             Out::Compensated(_) | Out::Refused(_) => self.send(rt, work, session, txn),
             _ => After::Look,
         }
@@ -102,13 +95,10 @@ impl<J: Naming, G: Gate, D: CrashLog, P: CrashPages> Shared<J, G, D, P> {
 
     // The log is made stable, unless another session's force has told of the call.
     fn force<R: Wait>(&self, rt: &R, work: &Sender<Job>, session: u64) -> After {
-        if self.entrance.board.has_news(rt, session) {
-            return After::Look;
+        if !self.entrance.board.has_news(rt, session) {
+            self.entrance.force(rt, work);
         }
-        match self.entrance.force(rt, work) {
-            Ok(()) => After::Look,
-            Err(failure) => After::Stop(failure),
-        }
+        After::Look
     }
 
     // One step towards what is told of a call.
@@ -127,7 +117,7 @@ impl<J: Naming, G: Gate, D: CrashLog, P: CrashPages> Shared<J, G, D, P> {
         }
     }
 
-    /// One step towards what is told of a call, and the wait for what follows it. Answers what it failed by, if it did.
+    /// One step towards what is told of a call, and the wait for what follows it. What it fails by is in the journal.
     pub(crate) fn step<R: Wait>(
         &self,
         rt: &R,
@@ -135,9 +125,9 @@ impl<J: Naming, G: Gate, D: CrashLog, P: CrashPages> Shared<J, G, D, P> {
         session: u64,
         txn: u64,
         rest: Rest,
-    ) -> Option<Failure> {
+    ) {
         let restarts = self.entrance.board.restarts();
         let after = self.go_on(rt, work, session, txn, rest);
-        self.entrance.board.follow(rt, session, restarts, after)
+        self.entrance.board.follow(rt, session, restarts, after);
     }
 }

@@ -7,7 +7,7 @@ use crate::board::Job;
 use crate::shared::Shared;
 use boxcar::Pushed;
 use crossbeam_channel::Receiver;
-use pool_journal::{DcDesk, Entry, Failure, Gate, Naming, hold};
+use pool_journal::{DcDesk, Entry, Gate, Naming, hold};
 use record_key::Refusal;
 use stable::{CrashLog, CrashPages};
 use std::sync::{MutexGuard, Wait};
@@ -30,14 +30,6 @@ where
     }
 }
 
-// What follows a step that came to this: who waits for it looks again, unless it failed.
-fn stop_or_look(out: &Out) -> After {
-    match Failure::of(out) {
-        Some(failure) => After::Stop(failure),
-        None => After::Look,
-    }
-}
-
 impl<J: Naming, G: Gate, D: CrashLog, P: CrashPages> Shared<J, G, D, P> {
     // Serves one request, and hands its reply over.
     fn serve<R: Wait>(&self, rt: &R, job: Job) {
@@ -46,10 +38,8 @@ impl<J: Naming, G: Gate, D: CrashLog, P: CrashPages> Shared<J, G, D, P> {
         if let Ok(sent) = found {
             self.look_on(&sent);
         }
-        match self.exchange(rt, hold(rt, &self.dc), job.number) {
-            After::Look => board.stir(rt, job.session),
-            After::Wait => {}
-            After::Stop(failure) => board.refuse(rt, job, failure),
+        if self.exchange(rt, hold(rt, &self.dc), job.number) == After::Look {
+            board.stir(rt, job.session);
         }
         board.wake();
     }
@@ -103,17 +93,12 @@ impl<J: Naming, G: Gate, D: CrashLog, P: CrashPages> Shared<J, G, D, P> {
             self.gate.after(reply);
         }
         match entry.out() {
-            Out::Replied(reply) => self.take(rt, *reply),
+            Out::Replied(reply) => {
+                self.entrance.take(rt, *reply);
+                After::Look
+            }
             Out::Refused(Refusal::NotConnected | Refusal::Redoing | Refusal::Stale) => After::Wait,
-            out => stop_or_look(out),
-        }
-    }
-
-    // The reply of this number is taken.
-    fn take<R: Wait>(&self, rt: &R, number: u64) -> After {
-        match self.entrance.take(rt, number) {
-            Some(token) => stop_or_look(self.entrance.board.out(&token)),
-            None => After::Look,
+            _ => After::Look,
         }
     }
 }

@@ -7,7 +7,8 @@ use Rattle.pool_journal.specs.declared.place.Place.{Place}
 use Rattle.pool_journal.specs.declared.step.Step.{Step}
 use Rattle.pool_journal.specs.Callers.{CallerView}
 use Rattle.pool_journal.specs.Kept.{PlaceKept, PlacesKept, calls_of, place_after}
-use Rattle.pool_journal.specs.Sessions.{LeavesLive, calls, live_after, is_pending, part_of, IsClosed}
+use Rattle.pool_journal.specs.Errands.{errand_of}
+use Rattle.pool_journal.specs.Sessions.{IsCalled, live_after, is_pending, part_of, IsClosed}
 use Rattle.pool_journal.specs.Slots.{Slot, through}
 use Rattle.pool_journal.specs.Views.{View, Sees}
 use Rattle.pool_journal.proofs.Entering.{own_place, places_called, part_called, calls_same}
@@ -62,13 +63,17 @@ invariant_of-self g c =
       live = c.live_after-place.result;
       awaits = c.is_pending-place.result;
       line = None;
+      errand = c.of-place.result;
+      failed = None;
     } in
     let done : PlaceKept J.entries J.names (s.lines ++ e ∷ []) n q =
     called_kept J.entries J.names s.lines n p q e (calls_same e.caller n own) k refl party
     (c.live_after-place.ensures ∙ ap (λ (o : Out). live_after p.live o) c.out.ensures
     ∙ ap (λ (x : Step). live_after p.live x.out) entry)
     (c.is_pending-place.ensures ∙ ap (λ (o : Out). is_pending o) c.out-2.ensures
-    ∙ ap (λ (x : Step). is_pending x.out) entry) refl in
+    ∙ ap (λ (x : Step). is_pending x.out) entry) refl
+    (c.of-place.ensures ∙ ap (λ (o : Out). errand_of o) c.out-3.ensures
+    ∙ ap (λ (x : Step). errand_of x.out) entry) refl in
     let kept = places_called J.entries J.names s.lines s.places.items token n q c.self.invariant.0
     c.enter_tc-token.ensures.shown own done in
     let now : s.lines ++ e ∷ [] ≡ c.enter_tc-token.new.self =
@@ -78,8 +83,8 @@ invariant_of-self g c =
       c.hear_all.ensures.count ∙ c.self.invariant.1,
     )
 
-pub returns-clause-before : goal.returns-clause-before
-returns-clause-before g c =
+pub returns-clause-called : goal.returns-clause-called
+returns-clause-called g c =
     let J = g.J.Naming in
     let s = c.self.inside in
     let n = c.caller.inside.number in
@@ -100,58 +105,7 @@ returns-clause-before g c =
     let now : c.meet.new.visitor.steps ≡ s.lines ++ c.args.step.value ∷ [] =
     ap (λ (v : View). v.steps) (c.meet.ensures.visitor ∙ c.meet.ensures.party)
     ∙ ap (λ (x : Slot). through x.value) c.again.ensures ∙ c.enter_tc-token.ensures.through in
+    subst (λ (v : CallerView). IsCalled v.part c.args.step.value.event c.args.step.value.out
+    (part_of n c.meet.new.visitor.steps)) c.caller.view_is
     (part_called n c.caller.inside.visitor.steps s.lines c.meet.new.visitor.steps c.args.step.value
-    (c.requires.own ∙ ap (λ (m : ℕ). Some m) number) sees closed now).0
-    ∙ ap (λ (v : CallerView). calls v.part) c.caller.view_is
-
-pub returns-clause-latest : goal.returns-clause-latest
-returns-clause-latest g c =
-    let J = g.J.Naming in
-    let s = c.self.inside in
-    let n = c.caller.inside.number in
-    let token = c.enter_tc-token.result in
-    let p = c.index_mut-place.result.now in
-    let less : n < length c.hear_all.new.places.items = search rules in
-    let there = slice_get_read c.hear_all.new.places.items
-    (length c.hear_all.new.places.items) n p refl less c.index_mut-place.ensures.value in
-    let at : slice_get (map (place_after token) s.places.items) n ≡ Some p =
-    subst (λ (ps : List (Place g.row.J.Denot)). slice_get ps n ≡ Some p) c.hear_all.ensures.heard there in
-    let number : c.args.caller.now.number ≡ n = ap (λ (v : CallerView). v.number) (sym c.caller.view_is) in
-    let own : token.value.step.value.caller ≡ Some n =
-    ap (λ (x : Step). x.caller) c.enter_tc-token.ensures.value ∙ c.requires.own ∙ ap (λ (m : ℕ). Some m) number in
-    let k = own_place J.entries J.names s.lines s.places.items token n p c.self.invariant.0 own at in
-    let sees : Sees (calls_of n) c.caller.inside.visitor.steps s.lines =
-    subst (λ (v : View). Sees (calls_of n) v.steps s.lines) c.meet.ensures.same k.sees in
-    let closed = subst (λ (v : CallerView). IsClosed v.part) (sym c.caller.view_is) c.requires.closed in
-    let now : c.meet.new.visitor.steps ≡ s.lines ++ c.args.step.value ∷ [] =
-    ap (λ (v : View). v.steps) (c.meet.ensures.visitor ∙ c.meet.ensures.party)
-    ∙ ap (λ (x : Slot). through x.value) c.again.ensures ∙ c.enter_tc-token.ensures.through in
-    (part_called n c.caller.inside.visitor.steps s.lines c.meet.new.visitor.steps c.args.step.value
-    (c.requires.own ∙ ap (λ (m : ℕ). Some m) number) sees closed now).1
-
-pub returns-clause-live : goal.returns-clause-live
-returns-clause-live g c =
-    let J = g.J.Naming in
-    let s = c.self.inside in
-    let n = c.caller.inside.number in
-    let token = c.enter_tc-token.result in
-    let p = c.index_mut-place.result.now in
-    let less : n < length c.hear_all.new.places.items = search rules in
-    let there = slice_get_read c.hear_all.new.places.items
-    (length c.hear_all.new.places.items) n p refl less c.index_mut-place.ensures.value in
-    let at : slice_get (map (place_after token) s.places.items) n ≡ Some p =
-    subst (λ (ps : List (Place g.row.J.Denot)). slice_get ps n ≡ Some p) c.hear_all.ensures.heard there in
-    let number : c.args.caller.now.number ≡ n = ap (λ (v : CallerView). v.number) (sym c.caller.view_is) in
-    let own : token.value.step.value.caller ≡ Some n =
-    ap (λ (x : Step). x.caller) c.enter_tc-token.ensures.value ∙ c.requires.own ∙ ap (λ (m : ℕ). Some m) number in
-    let k = own_place J.entries J.names s.lines s.places.items token n p c.self.invariant.0 own at in
-    let sees : Sees (calls_of n) c.caller.inside.visitor.steps s.lines =
-    subst (λ (v : View). Sees (calls_of n) v.steps s.lines) c.meet.ensures.same k.sees in
-    let closed = subst (λ (v : CallerView). IsClosed v.part) (sym c.caller.view_is) c.requires.closed in
-    let now : c.meet.new.visitor.steps ≡ s.lines ++ c.args.step.value ∷ [] =
-    ap (λ (v : View). v.steps) (c.meet.ensures.visitor ∙ c.meet.ensures.party)
-    ∙ ap (λ (x : Slot). through x.value) c.again.ensures ∙ c.enter_tc-token.ensures.through in
-    subst (λ (v : CallerView). LeavesLive v.part.live c.args.step.value.out (part_of n c.meet.new.visitor.steps))
-    c.caller.view_is
-    (part_called n c.caller.inside.visitor.steps s.lines c.meet.new.visitor.steps c.args.step.value
-    (c.requires.own ∙ ap (λ (m : ℕ). Some m) number) sees closed now).2
+    (c.requires.own ∙ ap (λ (m : ℕ). Some m) number) sees closed now)
