@@ -39,7 +39,7 @@ use Rattle.pool_journal.proofs.caller.Caller.TheSendSync as caller
 use Rattle.pool_journal.proofs.hall.Hall.TheSendSync as hall
 use Rattle.pool_journal.proofs.journal.Journal.TheSendSync as journal
 use Rattle.worker_pool.proofs.board.Job.TheSendSync as job
-use Rattle.worker_pool.proofs.ended.Unfinished.TheSendSync as unfinished
+use Rattle.session_answers.proofs.ended.Unfinished.TheSendSync as unfinished
 use Rattle.pool_journal.proofs.tc_desk.TcDesk.TheSendSync as tc_desk
 use Rattle.pool_journal.proofs.view.Visitor.TheSendSync as visitor
 use Rattle.pool_journal.specs.declared.naming.Naming as naming

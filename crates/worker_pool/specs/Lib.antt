@@ -1,7 +1,2 @@
-pub mod Asking
-pub mod Answers
-pub mod Why
-pub mod Unfinished
-pub mod Again
 pub mod Opened
 pub mod Closing

@@ -3,14 +3,12 @@ ghost use Rattle.std.specs.Prelude.{◌≡◌, true, ℕ, Some, None, IfOk, IfEr
 ghost use Rattle.pool_journal.specs.Sessions.{IsClosed, is_pending};
 ghost use Rattle.pool_journal.specs.Slots.{Shown};
 ghost use Rattle.world.specs.declared.event.Event.TheVariants as event;
-ghost use Rattle.worker_pool.specs.Again.{Resumes};
-ghost use Rattle.worker_pool.specs.Answers.{Ends, Finishes, IsSecond, IsUncalled};
-ghost use Rattle.worker_pool.specs.Asking.{event_of};
-ghost use Rattle.worker_pool.specs.Unfinished.{IsAtRest, call_in, left_by};
+ghost use Rattle.session_answers.specs.Again.{Resumes};
+ghost use Rattle.session_answers.specs.Answers.{Ends, Finishes, IsSecond, IsUncalled};
+ghost use Rattle.session_answers.specs.Asking.{event_of};
+ghost use Rattle.session_answers.specs.Unfinished.{IsAtRest, call_in, left_by};
 
-use crate::ask::Ask;
 use crate::board::Job;
-use crate::ended::{Ended, Unfinished, left_by};
 use crate::entrance::Called;
 use crate::freeing::free;
 use crate::shared::Shared;
@@ -18,6 +16,7 @@ use crate::steps::Rest;
 use crossbeam_channel::Sender;
 use pool_journal::{Caller, Gate, Naming, News, is_pending};
 use record_key::Refusal;
+use session_answers::{Ask, Ended, Unfinished, left_by};
 use stable::{CrashLog, CrashPages};
 use std::sync::Wait;
 

@@ -7,15 +7,15 @@ ghost use Rattle.world.specs.Halves.{of_tc};
 ghost use Rattle.pool_journal.specs.Desks.{delivers};
 ghost use Rattle.pool_journal.specs.Sessions.{IsClosed};
 ghost use Rattle.pool_journal.specs.Slots.{Shown};
-ghost use Rattle.worker_pool.specs.Answers.{Calls, IsUnasked, IsSecond};
-ghost use Rattle.worker_pool.specs.Asking.{event_of};
+ghost use Rattle.session_answers.specs.Answers.{Calls, IsUnasked, IsSecond};
+ghost use Rattle.session_answers.specs.Asking.{event_of};
 
-use crate::ask::Ask;
 use crate::board::{Board, Job};
 use boxcar::Pushed;
 use crossbeam_channel::Sender;
 use marks::Seat;
 use pool_journal::{Caller, Entry, Naming, Next, TcDesk, hold};
+use session_answers::Ask;
 use stable::CrashLog;
 use std::sync::{Mutex, Wait};
 use world::{Event, Out};

@@ -1,13 +1,13 @@
 //! Whether a session's next call may be entered.
 ghost use Rattle.std.specs.Prelude.{◌≡◌, None, IfErr, OnOk};
 ghost use Rattle.pool_journal.specs.Sessions.{calls};
-ghost use Rattle.worker_pool.specs.Answers.{IsUncalled};
-ghost use Rattle.worker_pool.specs.Unfinished.{IsAtRest};
+ghost use Rattle.session_answers.specs.Answers.{IsUncalled};
+ghost use Rattle.session_answers.specs.Unfinished.{IsAtRest};
 
 use crate::board::Board;
-use crate::ended::{Unfinished, bar};
 use pool_journal::{Caller, Naming};
 use record_key::Refusal;
+use session_answers::{Unfinished, bar};
 use std::sync::Wait;
 
 /// Lets the next call be entered. As long as an earlier one is unfinished it is refused as the transaction component

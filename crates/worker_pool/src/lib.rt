@@ -7,13 +7,10 @@
 #![tactic(auto)]
 
 mod after;
-mod answers;
-mod ask;
 mod assembly;
 mod board;
 mod calls;
 mod closed;
-mod ended;
 mod engine;
 mod entrance;
 mod freeing;
@@ -23,7 +20,6 @@ mod seated;
 mod session;
 mod shared;
 mod steps;
-mod told;
 mod worker;
 
 pub use closed::Closed;
@@ -31,4 +27,4 @@ pub use engine::Engine;
 pub use opened::Opened;
 pub use pool_journal::{Entry, Gate, Naming, Step};
 pub use session::Session;
-pub use told::Told;
+pub use session_answers::Told;

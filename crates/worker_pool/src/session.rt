@@ -4,25 +4,22 @@ ghost use Rattle.history.specs.ListMachine.{TellsAnswer, TellsRow, TellsRows, Te
 ghost use Rattle.marks.specs.Seen.{reader, seeing};
 ghost use Rattle.world.specs.declared.event.Event.TheVariants as event;
 ghost use Rattle.world.specs.declared.event.Out.TheVariants as out;
-ghost use Rattle.worker_pool.specs.Answers.{Adds, AddsTo, RefusedCall, RefusedBegin, Ends, IsUncalled};
-ghost use Rattle.worker_pool.specs.Again.{CarriesOn, IsSeenBy, RefusedAgain, Resumes};
-ghost use Rattle.worker_pool.specs.Asking.{event_of};
+ghost use Rattle.session_answers.specs.Answers.{Adds, AddsTo, RefusedCall, RefusedBegin, Ends, IsUncalled};
+ghost use Rattle.session_answers.specs.Again.{CarriesOn, IsSeenBy, RefusedAgain, Resumes};
+ghost use Rattle.session_answers.specs.Asking.{event_of};
 ghost use Rattle.pool_journal.specs.Sessions.{IsClosed};
 
-use crate::answers::{
-    answer_told, back_told, begun, carried_told, commit_told, rollback_told, row_told, rows_told,
-    saved,
-};
-use crate::ask::Ask;
 use crate::board::Job;
-use crate::ended::{Ended, Unfinished};
 use crate::shared::Shared;
-use crate::told::Told;
 use codec::Rows;
 use crossbeam_channel::Sender;
 use marks::Seat;
 use pool_journal::{Caller, Gate, Naming};
 use record_key::{Answer, Key, Op, Refusal, Value};
+use session_answers::{
+    Ask, Ended, Told, Unfinished, answer_told, back_told, begun, carried_told, commit_told,
+    rollback_told, row_told, rows_told, saved,
+};
 use stable::{CrashLog, CrashPages, MemLog, MemPages};
 use std::marker::Model;
 use std::sync::{Arc, Wait};
@@ -43,7 +40,7 @@ impl<J: Naming, G, D: CrashLog, P: CrashPages> Model for Session<J, G, D, P> {
     ghost use Rattle.std.specs.Coded.{codes};
     ghost use Rattle.atomic_table.specs.Seated.{table_id_coded};
     ghost use Rattle.pool_journal.specs.Callers.{SessionView};
-    ghost use Rattle.worker_pool.specs.Unfinished.{IsAtRest};
+    ghost use Rattle.session_answers.specs.Unfinished.{IsAtRest};
 
     ghost Value = { SessionView };
 

@@ -4,11 +4,11 @@ use Rattle.boxcar.specs.Table.{Shelves}
 use Rattle.world.specs.declared.event.Event.TheVariants as event
 use Rattle.world.specs.declared.event.Out.{Out}
 use Rattle.world.specs.declared.event.Out.TheVariants as out
-use Rattle.worker_pool.specs.declared.ended.Ended.{Ended}
-use Rattle.worker_pool.specs.declared.ended.Ended.TheVariants as ended
-use Rattle.worker_pool.specs.Answers.{Adds, Ends, IsToldAs, TellsCommit}
+use Rattle.session_answers.specs.declared.ended.Ended.{Ended}
+use Rattle.session_answers.specs.declared.ended.Ended.TheVariants as ended
+use Rattle.session_answers.specs.Answers.{Adds, Ends, IsToldAs, TellsCommit}
 use Rattle.pool_journal.specs.Sessions.{Part, ends}
-use Rattle.worker_pool.proofs.Telling.{commits as committed}
+use Rattle.session_answers.proofs.Telling.{commits as committed}
 use Rattle.worker_pool.proofs.session.Session.commit.Goals as goal
 
 -- a commit that was told

@@ -1,7 +1,7 @@
 use Rattle.std.proofs.Common.{◌≡◌, ℕ, Some, subst}
 use Rattle.std.specs.Prelude.{IfOk}
-use Rattle.worker_pool.specs.Answers.{Ends}
-use Rattle.worker_pool.specs.Asking.{event_of}
+use Rattle.session_answers.specs.Answers.{Ends}
+use Rattle.session_answers.specs.Asking.{event_of}
 use Rattle.pool_journal.specs.Callers.{SessionView}
 use Rattle.worker_pool.proofs.session.Session.run.Goals as goal
 

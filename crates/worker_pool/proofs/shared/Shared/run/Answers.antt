@@ -1,8 +1,8 @@
 use Rattle.std.proofs.Common.{◌≡◌, Some, subst}
 use Rattle.pool_journal.specs.Sessions.{Part}
-use Rattle.worker_pool.proofs.Ending.{ends_by}
-use Rattle.worker_pool.specs.Answers.{Calls}
-use Rattle.worker_pool.specs.Asking.{event_of}
+use Rattle.session_answers.proofs.Ending.{ends_by}
+use Rattle.session_answers.specs.Answers.{Calls}
+use Rattle.session_answers.specs.Asking.{event_of}
 use Rattle.worker_pool.specs.declared.entrance.Called.{Called}
 use Rattle.worker_pool.proofs.shared.Shared.run.Goals as goal
 

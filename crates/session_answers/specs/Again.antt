@@ -13,13 +13,13 @@ use Rattle.pool_journal.specs.Failing.{refusal_of}
 use Rattle.pool_journal.specs.Sessions.{Call, Part, called_as, calls, IsClosed}
 use Rattle.pool_journal.specs.Slots.{Slot, Shown}
 use Rattle.pool_journal.specs.declared.failure.Failure.{Failure}
-use Rattle.worker_pool.specs.Answers.{Finishes, IsOver, TellsCommit}
-use Rattle.worker_pool.specs.Asking.{both, gives_answer, gives_back, gives_commit, gives_rolled_back, gives_row, gives_rows, is_answered, is_asked, is_commit_logged, is_logged, is_rolling}
-use Rattle.worker_pool.specs.Unfinished.{IsUnfinished, call_in}
-use Rattle.worker_pool.specs.declared.ended.Ended.{Ended}
-use Rattle.worker_pool.specs.declared.ended.Ended.TheVariants as ended
-use Rattle.worker_pool.specs.declared.told.Told.{Told}
-use Rattle.worker_pool.specs.declared.told.Told.TheVariants as told
+use Rattle.session_answers.specs.Answers.{Finishes, IsOver, TellsCommit}
+use Rattle.session_answers.specs.Asking.{both, gives_answer, gives_back, gives_commit, gives_rolled_back, gives_row, gives_rows, is_answered, is_asked, is_commit_logged, is_logged, is_rolling}
+use Rattle.session_answers.specs.Unfinished.{IsUnfinished, call_in}
+use Rattle.session_answers.specs.declared.ended.Ended.{Ended}
+use Rattle.session_answers.specs.declared.ended.Ended.TheVariants as ended
+use Rattle.session_answers.specs.declared.told.Told.{Told}
+use Rattle.session_answers.specs.declared.told.Told.TheVariants as told
 
 -- a call that came to this is answered so by this line
 abbrev pub IsAnswer : Event → Out → Line → Told → Type 0

@@ -8,9 +8,9 @@ use Rattle.world.specs.declared.event.Out.{Out}
 use Rattle.world.specs.declared.event.Out.TheVariants as out
 use Rattle.pool_journal.specs.Sessions.{Call, Part, called_as, is_pending, pending, IsClosed}
 use Rattle.pool_journal.specs.Slots.{Slot, Shown}
-use Rattle.worker_pool.specs.declared.ended.Ended.{Ended}
-use Rattle.worker_pool.specs.declared.ended.Ended.TheVariants as ended
-use Rattle.worker_pool.specs.declared.ended.Unfinished.{Unfinished}
+use Rattle.session_answers.specs.declared.ended.Ended.{Ended}
+use Rattle.session_answers.specs.declared.ended.Ended.TheVariants as ended
+use Rattle.session_answers.specs.declared.ended.Unfinished.{Unfinished}
 
 -- the latest call is to be told of, and its transaction is alive
 abbrev pub IsUnfinished : Part → Type 0

@@ -9,16 +9,16 @@ use Rattle.world.specs.declared.event.Event.TheVariants as event
 use Rattle.world.specs.declared.event.Out.{Out}
 use Rattle.world.specs.declared.event.Out.TheVariants as out
 use Rattle.boxcar.specs.Table.{Shelves}
-use Rattle.worker_pool.specs.declared.ended.Ended.{Ended}
-use Rattle.worker_pool.specs.declared.ended.Ended.TheVariants as ended
-use Rattle.worker_pool.specs.Asking.{is_answered}
+use Rattle.session_answers.specs.declared.ended.Ended.{Ended}
+use Rattle.session_answers.specs.declared.ended.Ended.TheVariants as ended
+use Rattle.session_answers.specs.Asking.{is_answered}
 use Rattle.pool_journal.specs.Sessions.{IsCalled, LeavesLive, Call, Part, called_as, calls, ends, is_pending, line_to}
 use Rattle.pool_journal.specs.Callers.{Awaits, IsToldBy, IsUntold}
 use Rattle.pool_journal.specs.Errands.{EndsWithFailure}
 use Rattle.pool_journal.specs.Failing.{refusal_of}
 use Rattle.pool_journal.specs.Slots.{Slot, Shown}
-use Rattle.worker_pool.specs.Unfinished.{IsUnfinished, bar}
-use Rattle.worker_pool.specs.Why.{IsWhy, why_of}
+use Rattle.session_answers.specs.Unfinished.{IsUnfinished, bar}
+use Rattle.session_answers.specs.Why.{IsWhy, why_of}
 
 -- one call more, with what it came to and the line that was told of it
 abbrev pub Adds : Event → Out → Option Line → Part → Part → Type 0

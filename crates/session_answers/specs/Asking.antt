@@ -5,8 +5,8 @@ use Rattle.world.specs.declared.event.Event.{Event}
 use Rattle.world.specs.declared.event.Event.TheVariants as event
 use Rattle.world.specs.declared.event.Out.{Out}
 use Rattle.world.specs.declared.event.Out.TheVariants as out
-use Rattle.worker_pool.specs.declared.ask.Ask.{Ask}
-use Rattle.worker_pool.specs.declared.ask.Ask.TheVariants as ask
+use Rattle.session_answers.specs.declared.ask.Ask.{Ask}
+use Rattle.session_answers.specs.declared.ask.Ask.TheVariants as ask
 use Rattle.pool_journal.specs.Sessions.{Call, is_pending}
 
 -- the event that it is of this transaction

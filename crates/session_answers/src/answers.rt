@@ -2,9 +2,9 @@
 ghost use Rattle.std.specs.Prelude.{◌≡◌, ℕ, false, IfOk, IfErr};
 ghost use Rattle.world.specs.declared.event.Out as outs;
 ghost use Rattle.world.specs.declared.event.Out.TheVariants as out;
-ghost use Rattle.worker_pool.specs.Again.{IsGiven, IsNotTold, IsToldSo, is_given};
-ghost use Rattle.worker_pool.specs.Answers.{AreShown, IsRefusal, IsToldAs, IsAtOnce, TellsCommit};
-ghost use Rattle.worker_pool.specs.Asking.{both, is_begun, is_saved, is_logged, is_asked, is_rolling, is_commit_logged, gives_answer, gives_row, gives_rows, gives_back, gives_rolled_back, gives_commit};
+ghost use Rattle.session_answers.specs.Again.{IsGiven, IsNotTold, IsToldSo, is_given};
+ghost use Rattle.session_answers.specs.Answers.{AreShown, IsRefusal, IsToldAs, IsAtOnce, TellsCommit};
+ghost use Rattle.session_answers.specs.Asking.{both, is_begun, is_saved, is_logged, is_asked, is_rolling, is_commit_logged, gives_answer, gives_row, gives_rows, gives_back, gives_rolled_back, gives_commit};
 
 use crate::ended::{Ended, why};
 use crate::told::Told;
@@ -16,7 +16,7 @@ use std::thread;
 use world::{Event, Out};
 
 /// The answer that a transaction's operation was told.
-pub(crate) fn answer_told<J: Naming>(hall: &Hall<J>, ended: &Ended) -> Result<Answer, Refusal>
+pub fn answer_told<J: Naming>(hall: &Hall<J>, ended: &Ended) -> Result<Answer, Refusal>
     requires { AreShown J.entries ended.now }
     ensures told { IfOk result (λ answer.
         IsToldAs (λ (o : outs.Out). (n : ℕ) × (o ≡ out.Logged n))
@@ -24,14 +24,12 @@ pub(crate) fn answer_told<J: Naming>(hall: &Hall<J>, ended: &Ended) -> Result<An
     ensures refused { IfErr result (λ r. IsRefusal (λ (o : outs.Out). false)
         (λ (o : outs.Out) (line : outs.Out). both (is_logged o) (gives_answer line)) ended.now r) }
 {
+    let row = hall.row();
     match ended {
         Ended::CutOff => Err(Refusal::NotConnected),
-        Ended::AtOnce(call) => Err(why(hall.row().value(call).out())),
+        Ended::AtOnce(call) => Err(why(row.value(call).out())),
         Ended::Unfinished(_, failure) => Err(failure.refusal()),
-        Ended::Told(call, line) => answer_of(
-            hall.row().value(call).out(),
-            hall.row().value(line).out(),
-        ),
+        Ended::Told(call, line) => answer_of(row.value(call).out(), row.value(line).out()),
     }
 }
 
@@ -50,7 +48,7 @@ fn answer_of(call: &Out, line: &Out) -> Result<Answer, Refusal>
 }
 
 /// The value that a Get was told.
-pub(crate) fn row_told<J: Naming>(hall: &Hall<J>, ended: &Ended) -> Result<Option<Value>, Refusal>
+pub fn row_told<J: Naming>(hall: &Hall<J>, ended: &Ended) -> Result<Option<Value>, Refusal>
     requires { AreShown J.entries ended.now }
     ensures told { IfOk result (λ value.
         IsToldAs (λ (o : outs.Out). (n : ℕ) × (o ≡ out.Asked n))
@@ -58,14 +56,12 @@ pub(crate) fn row_told<J: Naming>(hall: &Hall<J>, ended: &Ended) -> Result<Optio
     ensures refused { IfErr result (λ r. IsRefusal (λ (o : outs.Out). false)
         (λ (o : outs.Out) (line : outs.Out). both (is_asked o) (gives_row line)) ended.now r) }
 {
+    let row = hall.row();
     match ended {
         Ended::CutOff => Err(Refusal::NotConnected),
-        Ended::AtOnce(call) => Err(why(hall.row().value(call).out())),
+        Ended::AtOnce(call) => Err(why(row.value(call).out())),
         Ended::Unfinished(_, failure) => Err(failure.refusal()),
-        Ended::Told(call, line) => row_of(
-            hall.row().value(call).out(),
-            hall.row().value(line).out(),
-        ),
+        Ended::Told(call, line) => row_of(row.value(call).out(), row.value(line).out()),
     }
 }
 
@@ -84,11 +80,7 @@ fn row_of(call: &Out, line: &Out) -> Result<Option<Value>, Refusal>
 }
 
 /// The rows that a Scan was told.
-pub(crate) fn rows_told<J: Naming, R: Wait>(
-    rt: &R,
-    hall: &Hall<J>,
-    ended: &Ended,
-) -> Result<Rows, Refusal>
+pub fn rows_told<J: Naming, R: Wait>(rt: &R, hall: &Hall<J>, ended: &Ended) -> Result<Rows, Refusal>
     requires { AreShown J.entries ended.now }
     ensures told { IfOk result (λ rows.
         IsToldAs (λ (o : outs.Out). (n : ℕ) × (o ≡ out.Asked n))
@@ -96,15 +88,12 @@ pub(crate) fn rows_told<J: Naming, R: Wait>(
     ensures refused { IfErr result (λ r. IsRefusal (λ (o : outs.Out). false)
         (λ (o : outs.Out) (line : outs.Out). both (is_asked o) (gives_rows line)) ended.now r) }
 {
+    let row = hall.row();
     match ended {
         Ended::CutOff => Err(Refusal::NotConnected),
-        Ended::AtOnce(call) => Err(why(hall.row().value(call).out())),
+        Ended::AtOnce(call) => Err(why(row.value(call).out())),
         Ended::Unfinished(_, failure) => Err(failure.refusal()),
-        Ended::Told(call, line) => rows_of(
-            rt,
-            hall.row().value(call).out(),
-            hall.row().value(line).out(),
-        ),
+        Ended::Told(call, line) => rows_of(rt, row.value(call).out(), row.value(line).out()),
     }
 }
 
@@ -123,7 +112,7 @@ fn rows_of<R: Wait>(rt: &R, call: &Out, line: &Out) -> Result<Rows, Refusal>
 }
 
 /// That a transaction is back at a savepoint.
-pub(crate) fn back_told<J: Naming>(hall: &Hall<J>, ended: &Ended) -> Result<(), Refusal>
+pub fn back_told<J: Naming>(hall: &Hall<J>, ended: &Ended) -> Result<(), Refusal>
     requires { AreShown J.entries ended.now }
     ensures told { IfOk result (λ done.
         IsToldAs (λ (o : outs.Out). o ≡ out.RollingBack)
@@ -131,14 +120,12 @@ pub(crate) fn back_told<J: Naming>(hall: &Hall<J>, ended: &Ended) -> Result<(), 
     ensures refused { IfErr result (λ r. IsRefusal (λ (o : outs.Out). false)
         (λ (o : outs.Out) (line : outs.Out). both (is_rolling o) (gives_back line)) ended.now r) }
 {
+    let row = hall.row();
     match ended {
         Ended::CutOff => Err(Refusal::NotConnected),
-        Ended::AtOnce(call) => Err(why(hall.row().value(call).out())),
+        Ended::AtOnce(call) => Err(why(row.value(call).out())),
         Ended::Unfinished(_, failure) => Err(failure.refusal()),
-        Ended::Told(call, line) => back_of(
-            hall.row().value(call).out(),
-            hall.row().value(line).out(),
-        ),
+        Ended::Told(call, line) => back_of(row.value(call).out(), row.value(line).out()),
     }
 }
 
@@ -157,7 +144,7 @@ fn back_of(call: &Out, line: &Out) -> Result<(), Refusal>
 }
 
 /// That a transaction is rolled back.
-pub(crate) fn rollback_told<J: Naming>(hall: &Hall<J>, ended: &Ended) -> Result<(), Refusal>
+pub fn rollback_told<J: Naming>(hall: &Hall<J>, ended: &Ended) -> Result<(), Refusal>
     requires { AreShown J.entries ended.now }
     ensures told { IfOk result (λ done.
         IsToldAs (λ (o : outs.Out). o ≡ out.RollingBack)
@@ -165,14 +152,12 @@ pub(crate) fn rollback_told<J: Naming>(hall: &Hall<J>, ended: &Ended) -> Result<
     ensures refused { IfErr result (λ r. IsRefusal (λ (o : outs.Out). false)
         (λ (o : outs.Out) (line : outs.Out). both (is_rolling o) (gives_rolled_back line)) ended.now r) }
 {
+    let row = hall.row();
     match ended {
         Ended::CutOff => Err(Refusal::NotConnected),
-        Ended::AtOnce(call) => Err(why(hall.row().value(call).out())),
+        Ended::AtOnce(call) => Err(why(row.value(call).out())),
         Ended::Unfinished(_, failure) => Err(failure.refusal()),
-        Ended::Told(call, line) => rollback_of(
-            hall.row().value(call).out(),
-            hall.row().value(line).out(),
-        ),
+        Ended::Told(call, line) => rollback_of(row.value(call).out(), row.value(line).out()),
     }
 }
 
@@ -189,7 +174,7 @@ fn rollback_of(call: &Out, line: &Out) -> Result<(), Refusal>
 }
 
 /// The number of the Commit record of a transaction that was told to have committed.
-pub(crate) fn commit_told<J: Naming>(hall: &Hall<J>, ended: &Ended) -> Result<u64, Refusal>
+pub fn commit_told<J: Naming>(hall: &Hall<J>, ended: &Ended) -> Result<u64, Refusal>
     requires { AreShown J.entries ended.now }
     ensures told { IfOk result (λ number.
         IsToldAs (λ (o : outs.Out). o ≡ out.CommitLogged number)
@@ -197,14 +182,12 @@ pub(crate) fn commit_told<J: Naming>(hall: &Hall<J>, ended: &Ended) -> Result<u6
     ensures refused { IfErr result (λ r. IsRefusal (λ (o : outs.Out). false)
         (λ (o : outs.Out) (line : outs.Out). both (is_commit_logged o) (gives_commit line)) ended.now r) }
 {
+    let row = hall.row();
     match ended {
         Ended::CutOff => Err(Refusal::NotConnected),
-        Ended::AtOnce(call) => Err(why(hall.row().value(call).out())),
+        Ended::AtOnce(call) => Err(why(row.value(call).out())),
         Ended::Unfinished(_, failure) => Err(failure.refusal()),
-        Ended::Told(call, line) => commit_of(
-            hall.row().value(call).out(),
-            hall.row().value(line).out(),
-        ),
+        Ended::Told(call, line) => commit_of(row.value(call).out(), row.value(line).out()),
     }
 }
 
@@ -221,7 +204,7 @@ fn commit_of(call: &Out, line: &Out) -> Result<u64, Refusal>
 }
 
 /// What was told of a call that was carried on.
-pub(crate) fn carried_told<J: Naming, R: Wait>(
+pub fn carried_told<J: Naming, R: Wait>(
     rt: &R,
     hall: &Hall<J>,
     ended: &Ended,
@@ -264,7 +247,7 @@ fn told_of<R: Wait>(rt: &R, event: &Event, call: &Out, line: &Out) -> Result<Tol
 }
 
 /// The number of a savepoint that was set.
-pub(crate) fn saved<J: Naming>(hall: &Hall<J>, ended: &Ended) -> Result<u64, Refusal>
+pub fn saved<J: Naming>(hall: &Hall<J>, ended: &Ended) -> Result<u64, Refusal>
     requires { AreShown J.entries ended.now }
     ensures told { IfOk result (λ s. IsAtOnce (out.Saved s) ended.now) }
     ensures refused { IfErr result (λ r. IsRefusal is_saved (λ (o : outs.Out) (line : outs.Out). false) ended.now r) }
@@ -280,7 +263,7 @@ pub(crate) fn saved<J: Naming>(hall: &Hall<J>, ended: &Ended) -> Result<u64, Ref
 }
 
 /// The number of a transaction that has begun.
-pub(crate) fn begun<J: Naming>(hall: &Hall<J>, ended: &Ended) -> Result<u64, Refusal>
+pub fn begun<J: Naming>(hall: &Hall<J>, ended: &Ended) -> Result<u64, Refusal>
     requires { AreShown J.entries ended.now }
     ensures told { IfOk result (λ t. IsAtOnce (out.Begun t) ended.now) }
     ensures refused { IfErr result (λ r. IsRefusal is_begun (λ (o : outs.Out) (line : outs.Out). false) ended.now r) }

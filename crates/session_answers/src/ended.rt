@@ -1,7 +1,7 @@
 //! How a call ended.
 ghost use Rattle.std.specs.Prelude.{◌≡◌};
-ghost use Rattle.worker_pool.specs.Unfinished.{bar_of, left_by};
-ghost use Rattle.worker_pool.specs.Why.{why_of};
+ghost use Rattle.session_answers.specs.Unfinished.{bar_of, left_by};
+ghost use Rattle.session_answers.specs.Why.{why_of};
 
 use boxcar::Pushed;
 use pool_journal::{Entry, Failure};
@@ -10,14 +10,14 @@ use world::Out;
 
 /// A call that has its entry, and more is to be told of it: its transaction, and that entry.
 #[derive(Drop)]
-pub(crate) struct Unfinished {
-    pub(crate) txn: u64,
-    pub(crate) call: Pushed<Entry>,
+pub struct Unfinished {
+    pub txn: u64,
+    pub call: Pushed<Entry>,
 }
 
 /// How a session's call ended that has an entry.
 #[derive(Drop)]
-pub(crate) enum Ended {
+pub enum Ended {
     /// Its entry says all.
     AtOnce(Pushed<Entry>),
     /// The second entry told of it.
@@ -30,7 +30,7 @@ pub(crate) enum Ended {
 
 impl Unfinished {
     /// The same call again.
-    pub(crate) fn again(&self) -> Unfinished
+    pub fn again(&self) -> Unfinished
         ensures { result ≡ self.now }
     {
         Unfinished {
@@ -41,7 +41,7 @@ impl Unfinished {
 }
 
 /// The call that is left unfinished, if one is.
-pub(crate) fn left_by(ended: &Ended) -> Option<Unfinished>
+pub fn left_by(ended: &Ended) -> Option<Unfinished>
     ensures { result ≡ left_by ended.now }
 {
     match ended {
@@ -62,7 +62,7 @@ pub(crate) fn why(out: &Out) -> Refusal
 
 /// Why the other calls of a transaction are refused one of whose calls came to this, as long as that is unfinished: as the
 /// transaction component refuses them.
-pub(crate) fn bar(out: &Out) -> Refusal
+pub fn bar(out: &Out) -> Refusal
     ensures { result ≡ bar_of out.now }
 {
     match out {

@@ -10,9 +10,9 @@ use Rattle.pool_journal.specs.Errands.{EndsWithFailure}
 use Rattle.pool_journal.specs.declared.failure.Failure.{Failure}
 use Rattle.pool_journal.specs.Sessions.{Call, IsLeft, LeavesLive, Part, called_as, calls, is_pending, with_latest}
 use Rattle.pool_journal.specs.Slots.{Slot}
-use Rattle.worker_pool.specs.Answers.{Adds, Calls, Ends, Finishes}
-use Rattle.worker_pool.specs.declared.ended.Ended.{Ended}
-use Rattle.worker_pool.specs.declared.ended.Ended.TheVariants as ended
+use Rattle.session_answers.specs.Answers.{Adds, Calls, Ends, Finishes}
+use Rattle.session_answers.specs.declared.ended.Ended.{Ended}
+use Rattle.session_answers.specs.declared.ended.Ended.TheVariants as ended
 
 -- of a call that is told of later the transaction is the one that was alive before, if one is
 halted : (o : Out) (was : Option ℕ) (mid new : Part) → is_pending o ≡ true → LeavesLive was o mid

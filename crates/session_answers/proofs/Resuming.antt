@@ -9,14 +9,14 @@ use Rattle.world.specs.declared.event.Out.{Out}
 use Rattle.pool_journal.specs.Callers.{HasLine}
 use Rattle.pool_journal.specs.Sessions.{Call, Part, called_as, calls, is_pending, line_to, pending, with_latest}
 use Rattle.pool_journal.specs.Slots.{Slot}
-use Rattle.worker_pool.proofs.Telling.{commits, given_as_told, one_line}
-use Rattle.worker_pool.specs.Again.{CarriesOn, IsAnswer, IsGiven, IsNotTold, IsToldSo, RefusedAgain, Resumes}
-use Rattle.worker_pool.specs.Asking.{is_answered, is_done, is_told}
-use Rattle.worker_pool.specs.Unfinished.{call_in}
-use Rattle.worker_pool.specs.declared.ended.Ended.{Ended}
-use Rattle.worker_pool.specs.declared.ended.Ended.TheVariants as ended
-use Rattle.worker_pool.specs.declared.told.Told.{Told}
-use Rattle.worker_pool.specs.declared.told.Told.TheVariants as told
+use Rattle.session_answers.proofs.Telling.{commits, given_as_told, one_line}
+use Rattle.session_answers.specs.Again.{CarriesOn, IsAnswer, IsGiven, IsNotTold, IsToldSo, RefusedAgain, Resumes}
+use Rattle.session_answers.specs.Asking.{is_answered, is_done, is_told}
+use Rattle.session_answers.specs.Unfinished.{call_in}
+use Rattle.session_answers.specs.declared.ended.Ended.{Ended}
+use Rattle.session_answers.specs.declared.ended.Ended.TheVariants as ended
+use Rattle.session_answers.specs.declared.told.Told.{Told}
+use Rattle.session_answers.specs.declared.told.Told.TheVariants as told
 
 abbrev event_in : Slot → Event
 event_in p = p.value.step.value.event

@@ -1,13 +1,13 @@
 //! What a session asks for within its transaction.
 ghost use Rattle.std.specs.Prelude.{◌≡◌};
-ghost use Rattle.worker_pool.specs.Asking.{event_of};
+ghost use Rattle.session_answers.specs.Asking.{event_of};
 
 use record_key::{Key, Op};
 use world::Event;
 
 /// A call of a session's transaction.
 #[derive(Drop)]
-pub(crate) enum Ask {
+pub enum Ask {
     Act(Op),
     Get(Key),
     Scan(Key, Option<Key>),
@@ -19,7 +19,7 @@ pub(crate) enum Ask {
 
 impl Ask {
     /// The event that it is of this transaction.
-    pub(crate) fn into_event(self, txn: u64) -> Event
+    pub fn into_event(self, txn: u64) -> Event
         ensures { result ≡ event_of txn self }
     {
         match self {

@@ -3,11 +3,11 @@ use Rattle.std.proofs.Common.{◌≡◌, Bool, true, false, cond, Option, Some, 
 use Rattle.boxcar.specs.Table.{Shelves}
 use Rattle.record_key.specs.declared.refusal.Refusal.{Refusal}
 use Rattle.pool_journal.specs.Sessions.{Call, Part, pending}
-use Rattle.worker_pool.specs.Again.{Resumes}
-use Rattle.worker_pool.specs.Answers.{Finishes, IsBarred}
-use Rattle.worker_pool.specs.Unfinished.{IsHalfDone, IsUnfinished, bar, bar_of, call_in}
-use Rattle.worker_pool.specs.declared.ended.Ended.{Ended}
-use Rattle.worker_pool.specs.declared.ended.Unfinished.{Unfinished}
+use Rattle.session_answers.specs.Again.{Resumes}
+use Rattle.session_answers.specs.Answers.{Finishes, IsBarred}
+use Rattle.session_answers.specs.Unfinished.{IsHalfDone, IsUnfinished, bar, bar_of, call_in}
+use Rattle.session_answers.specs.declared.ended.Ended.{Ended}
+use Rattle.session_answers.specs.declared.ended.Unfinished.{Unfinished}
 
 pub is_unfinished : (row : Shelves) (part : Part) (u : Unfinished) → IsHalfDone row part u → IsUnfinished part
 is_unfinished row part u half =

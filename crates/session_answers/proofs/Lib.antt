@@ -1,0 +1,4 @@
+pub mod HalfDone
+pub mod Telling
+pub mod Ending
+pub mod Resuming
