@@ -10,3 +10,4 @@ pub mod Marking
 pub mod Ending
 pub mod Failing
 pub mod Errands
+pub mod Messages

@@ -14,6 +14,7 @@ use crate::gate::Gate;
 use crate::holding::hold;
 use crate::journal::Journal;
 use crate::lines::Unsent;
+use crate::message::Message;
 use crate::naming::Naming;
 use crate::row::boxed;
 use crate::step::Step;
@@ -124,7 +125,8 @@ impl<J: Naming, D: CrashLog, P: CrashPages> DcDesk<J, D, P> {
             visitor,
         } = self;
         let sent = hold(rt, journal).look_request(row, visitor, side, *given, number)?;
-        let request = row.value(&sent).sent();
+        let none = None;
+        let request = row.value(&sent).sent(&none);
         look_on(gate, request);
         let (step, after) = stepped(rt, *alloc, side, *given, Event::Request { number }, request);
         *given = after;
@@ -251,9 +253,11 @@ fn stepped<D: CrashLog, P: CrashPages, R: Wait>(
         event,
         out,
         sent: _,
-        given: reply,
+        given: message,
     } = &mut *step;
-    *out = side.step(event, request, Some(next), reply);
+    let mut reply = None;
+    *out = side.step(event, request, Some(next), &mut reply);
     let after = if reply.is_some() { next } else { given };
+    *message = Message::new(rt, alloc, reply);
     (step, after)
 }

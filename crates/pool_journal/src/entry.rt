@@ -1,5 +1,5 @@
 //! What stands in the row.
-ghost use Rattle.std.specs.Prelude.{◌≡◌};
+ghost use Rattle.std.specs.Prelude.{◌≡◌, None};
 
 use crate::step::Step;
 use crate::trace::Trace;
@@ -21,17 +21,19 @@ impl Entry {
         &self.step.out
     }
 
-    /// The request that it sent, if it sent one.
-    pub fn sent(&self) -> &Option<Request>
+    /// The request that it sent, or what is lent for none.
+    pub fn sent<'a>(&'a self, none: &'a Option<Request>) -> &'a Option<Request>
+        requires { none.now ≡ None }
         ensures { result.now ≡ self.now.step.value.sent }
     {
-        &self.step.sent
+        self.step.sent.get(none)
     }
 
-    /// The reply that it gave, if it gave one.
-    pub fn given(&self) -> &Option<Reply>
+    /// The reply that it gave, or what is lent for none.
+    pub fn given<'a>(&'a self, none: &'a Option<Reply>) -> &'a Option<Reply>
+        requires { none.now ≡ None }
         ensures { result.now ≡ self.now.step.value.given }
     {
-        &self.step.given
+        self.step.given.get(none)
     }
 }

@@ -11,13 +11,21 @@ const PAUSES: u32 = 30;
 /// Takes a lock. Who holds it does one step of a component, or writes one entry down, which is sooner done than a thread
 /// put to sleep and woken: so it is looked at for a while first.
 pub fn hold<'a, T, R: Wait>(rt: &R, lock: &'a Mutex<T>) -> MutexGuard<'a, T> {
+    match hold_soon(lock) {
+        Some(guard) => guard,
+        None => lock.lock(rt),
+    }
+}
+
+/// Takes a lock, if it is free soon.
+pub fn hold_soon<T>(lock: &Mutex<T>) -> Option<MutexGuard<'_, T>> {
     for _ in 0..LOOKS {
         if let Some(guard) = lock.try_lock() {
-            return guard;
+            return Some(guard);
         }
         for _ in 0..PAUSES {
             spin_loop();
         }
     }
-    lock.lock(rt)
+    None
 }

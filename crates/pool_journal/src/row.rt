@@ -3,22 +3,21 @@ ghost use Rattle.std.specs.Prelude.{◌≡◌, ◌<◌, vec_len, vec_capacity};
 ghost use Rattle.pool_journal.specs.Slots.{Shown};
 
 use crate::entry::Entry;
-use crate::step::Step;
 use boxcar::{Pushed, Vec as Row};
 use std::alloc::{AllocFailed, Global};
 use std::sync::Wait;
 use std::thread;
 
-/// A step in the box in which it will stand in the row, so that what it comes to can be written there and nothing of it is
-/// moved again. Where memory for it is refused it is tried again until it is made.
-pub fn boxed<R: Wait>(rt: &R, alloc: Global, step: Step) -> Box<Step>
-    ensures { result.value ≡ step }
+/// A value in a box. Where memory for it is refused it is tried again until it is made. A step is boxed before it is made,
+/// so that what it comes to can be written where it will stand, and is moved no more.
+pub fn boxed<T, R: Wait>(rt: &R, alloc: Global, value: T) -> Box<T>
+    ensures { result.value ≡ value }
 {
-    let mut step = step;
+    let mut value = value;
     for _ in rt.forever() {
-        match Box::new(alloc, step) {
+        match Box::new(alloc, value) {
             Ok(boxed) => return boxed,
-            Err(AllocFailed { value }) => step = value,
+            Err(AllocFailed { value: back }) => value = back,
         }
         thread::yield_now();
     }

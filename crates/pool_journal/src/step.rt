@@ -1,6 +1,7 @@
 //! One step of one component, with the message that it sent.
 ghost use Rattle.std.specs.Prelude.{◌≡◌, None};
 
+use crate::message::Message;
 use codec::{Reply, Request};
 use world::{Event, Out};
 
@@ -11,8 +12,8 @@ pub struct Step {
     pub caller: Option<u64>,
     pub event: Event,
     pub out: Out,
-    pub sent: Option<Request>,
-    pub given: Option<Reply>,
+    pub sent: Message<Request>,
+    pub given: Message<Reply>,
 }
 
 impl Step {
@@ -24,8 +25,8 @@ impl Step {
             caller,
             event,
             out,
-            sent: None,
-            given: None,
+            sent: Message::none(),
+            given: Message::none(),
         }
     }
 }

@@ -16,6 +16,7 @@ use crate::hall::Hall;
 use crate::holding::hold;
 use crate::journal::Journal;
 use crate::lines::Unsent;
+use crate::message::Message;
 use crate::naming::Naming;
 use crate::next::Next;
 use crate::row::boxed;
@@ -176,7 +177,8 @@ impl<J: Naming, D: CrashLog> TcDesk<J, D> {
             seat,
         } = self;
         let given = hold(rt, journal).look_reply(hall.row(), visitor, number)?;
-        let Some(reply) = hall.row().value(&given).given() else {
+        let none = None;
+        let Some(reply) = hall.row().value(&given).given(&none) else {
             return Err(Unsent);
         };
         let reply = copy(rt, reply);
@@ -374,10 +376,12 @@ fn stepped<D: CrashLog, R: Wait>(
         caller: _,
         event,
         out,
-        sent: request,
+        sent: message,
         given: _,
     } = &mut *step;
-    *out = side.step(event, reply, Some(next), request);
+    let mut request = None;
+    *out = side.step(event, reply, Some(next), &mut request);
     let after = if request.is_some() { next } else { sent };
+    *message = Message::new(rt, alloc, request);
     (step, after)
 }

@@ -10,9 +10,8 @@ ghost use Rattle.pool_journal.specs.Slots.{Shown};
 ghost use Rattle.session_answers.specs.Answers.{Calls, IsUnasked, IsSecond};
 ghost use Rattle.session_answers.specs.Asking.{event_of};
 
-use crate::board::{Board, Job};
+use crate::board::Board;
 use boxcar::Pushed;
-use crossbeam_channel::Sender;
 use marks::Seat;
 use pool_journal::{Caller, Entry, Naming, Next, TcDesk, hold};
 use session_answers::Ask;
@@ -95,21 +94,18 @@ impl<J: Naming, D: CrashLog> Entrance<J, D> {
         Some(desk.call(rt, &board.hall, &board.journal, Event::Begin, caller))
     }
 
-    /// Makes the log stable; says how much is stable, and announces what is answered.
-    pub(crate) fn force<R: Wait>(&self, rt: &R, work: &Sender<Job>) {
+    /// Makes the log stable; says how much is stable, and announces what is answered: the entries of both.
+    pub(crate) fn force<R: Wait>(&self, rt: &R) -> (Option<Pushed<Entry>>, Option<Pushed<Entry>>)
+        ensures tell { IfSome result.0 (λ token. Shown J.entries token) }
+        ensures low { IfSome result.1 (λ token. Shown J.entries token) }
+    {
         let Entrance { board, tc } = self;
-        let (tell, low) = hold(rt, tc).force(rt, &board.hall, &board.journal);
-        if let Some(tell) = tell {
-            board.hand_over(rt, work, &tell);
-        }
-        if let Some(low) = low {
-            board.hand_over_low(rt, work, &low);
-        }
+        hold(rt, tc).force(rt, &board.hall, &board.journal)
     }
 
     /// Lets a session see that the log is stable up to the record, and makes it so where it isn't. Where that fails it is
-    /// tried again.
-    pub(crate) fn learn<R: Wait>(&self, rt: &R, work: &Sender<Job>, seat: &mut Seat, number: u64)
+    /// tried again. The data component is told of it with the next commit.
+    pub(crate) fn learn<R: Wait>(&self, rt: &R, seat: &mut Seat, number: u64)
         requires seat { seat.old.marks ≡ J.marks }
         ensures seat { seat.new.marks ≡ J.marks }
         ensures stable { number ≤ seat.new.stable }
@@ -119,7 +115,7 @@ impl<J: Naming, D: CrashLog> Entrance<J, D> {
             if number <= stable {
                 return;
             }
-            self.force(rt, work);
+            self.force(rt);
         }
         unreachable!()
     }

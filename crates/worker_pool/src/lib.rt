@@ -7,6 +7,7 @@
 #![tactic(auto)]
 
 mod after;
+mod ahead;
 mod assembly;
 mod board;
 mod calls;

@@ -5,6 +5,7 @@ ghost use Rattle.worker_pool.specs.Closing.{IsFresh, IsCovered, IsSeated, below,
 ghost use Rattle.pool_journal.specs.Kept.{PlacesKept};
 ghost use Rattle.worker_pool.specs.Opened.{AreTied, IsReader, ties_of};
 
+use crate::ahead::Ahead;
 use crate::board::Job;
 use crate::opened::Chair;
 use crate::session::Session;
@@ -80,7 +81,8 @@ where
     let mut sessions = Vec::with_capacity(alloc, sitters.len())?;
     for sitter in sitters {
         let Sitter { caller, seat } = sitter;
-        let session = Session::new(caller, seat, Arc::try_clone(shared)?, work.clone()?);
+        let ahead = Ahead::new(alloc);
+        let session = Session::new(caller, seat, Arc::try_clone(shared)?, work.clone()?, ahead);
         sessions.push(session)?;
     }
     Ok(sessions)

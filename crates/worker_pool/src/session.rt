@@ -9,6 +9,7 @@ ghost use Rattle.session_answers.specs.Again.{CarriesOn, IsSeenBy, RefusedAgain,
 ghost use Rattle.session_answers.specs.Asking.{event_of};
 ghost use Rattle.pool_journal.specs.Sessions.{IsClosed};
 
+use crate::ahead::Ahead;
 use crate::board::Job;
 use crate::shared::Shared;
 use codec::Rows;
@@ -33,6 +34,7 @@ pub struct Session<J: Naming, G, D: CrashLog = MemLog, P: CrashPages = MemPages>
     seat: Seat,
     shared: Arc<Shared<J, G, D, P>>,
     work: Sender<Job>,
+    ahead: Ahead,
 }
 
 impl<J: Naming, G, D: CrashLog, P: CrashPages> Model for Session<J, G, D, P> {
@@ -58,6 +60,7 @@ impl<J: Naming, G: Gate + Drop, D: CrashLog + Drop, P: CrashPages + Drop> Sessio
         seat: Seat,
         shared: Arc<Shared<J, G, D, P>>,
         work: Sender<Job>,
+        ahead: Ahead,
     ) -> Session<J, G, D, P>
         requires closed { IsClosed caller.part }
         requires seat { seat.marks ≡ J.marks }
@@ -69,6 +72,7 @@ impl<J: Naming, G: Gate + Drop, D: CrashLog + Drop, P: CrashPages + Drop> Sessio
             seat,
             shared,
             work,
+            ahead,
         }
     }
 
@@ -95,6 +99,7 @@ impl<J: Naming, G: Gate + Drop, D: CrashLog + Drop, P: CrashPages + Drop> Sessio
             seat,
             shared,
             work: _,
+            ahead: _,
         } = self;
         shared.hall().marks().read(seat)
     }
@@ -112,6 +117,7 @@ impl<J: Naming, G: Gate + Drop, D: CrashLog + Drop, P: CrashPages + Drop> Sessio
             seat: _,
             shared,
             work,
+            ahead: _,
         } = self;
         let Some(ended) = shared.begin(rt, work, caller, unfinished) else {
             return Err(Refusal::Full);
@@ -132,7 +138,9 @@ impl<J: Naming, G: Gate + Drop, D: CrashLog + Drop, P: CrashPages + Drop> Sessio
             seat: _,
             shared,
             work,
+            ahead,
         } = self;
+        ahead.call();
         shared.run(rt, work, caller, unfinished, ask)
     }
 
@@ -266,6 +274,7 @@ impl<J: Naming, G: Gate + Drop, D: CrashLog + Drop, P: CrashPages + Drop> Sessio
             seat: _,
             shared,
             work,
+            ahead: _,
         } = self;
         shared.again(rt, work, caller, unfinished)
     }
@@ -280,9 +289,10 @@ impl<J: Naming, G: Gate + Drop, D: CrashLog + Drop, P: CrashPages + Drop> Sessio
             unfinished: _,
             seat,
             shared,
-            work,
+            work: _,
+            ahead: _,
         } = self;
-        shared.entrance.learn(rt, work, seat, number);
+        shared.entrance.learn(rt, seat, number);
     }
 }
 

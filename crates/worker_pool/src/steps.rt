@@ -7,7 +7,7 @@ use crate::board::Job;
 use crate::shared::Shared;
 use boxcar::Pushed;
 use crossbeam_channel::Sender;
-use pool_journal::{Entry, Gate, Naming};
+use pool_journal::{Entry, Gate, Naming, hold_soon};
 use record_key::Refusal;
 use stable::{CrashLog, CrashPages};
 use std::sync::Wait;
@@ -37,7 +37,7 @@ impl Rest {
 
 impl<J: Naming, G: Gate, D: CrashLog, P: CrashPages> Shared<J, G, D, P> {
     /// Has the request served, if the entry is that of one that was sent: by the session itself where the data component
-    /// is free, else by a worker.
+    /// is free soon, else by a worker.
     pub(crate) fn deliver<R: Wait>(
         &self,
         rt: &R,
@@ -48,29 +48,28 @@ impl<J: Naming, G: Gate, D: CrashLog, P: CrashPages> Shared<J, G, D, P> {
         requires shown { Shown J.entries token.now }
     {
         match self.entrance.board.out(token) {
-            Out::Sent(number) => self.have_served(rt, work, session, token, *number),
+            Out::Sent(number) => self.have_served(rt, work, Some(session), token, *number),
             Out::Refused(Refusal::Unsent | Refusal::NoMemory | Refusal::Device) => After::Look,
             _ => After::Wait,
         }
     }
 
-    // A session that serves its request itself saves two changes of thread; but it doesn't queue for the data component,
-    // where workers do.
+    // A session that serves its request itself saves two changes of thread, which take longer than a request; so it looks
+    // for a while whether the data component is free. But it doesn't sleep for it, where workers do.
     fn have_served<R: Wait>(
         &self,
         rt: &R,
         work: &Sender<Job>,
-        session: u64,
+        session: Option<u64>,
         token: &Pushed<Entry>,
         number: u64,
     ) -> After
         requires shown { Shown J.entries token.now }
     {
         self.look_on(token);
-        if let Some(desk) = self.dc.try_lock() {
+        if let Some(desk) = hold_soon(&self.dc) {
             return self.exchange(rt, desk, number);
         }
-        let session = Some(session);
         match work.send(rt, Job { number, session }) {
             Ok(()) => After::Wait,
             Err(_) => After::Look,
@@ -95,10 +94,26 @@ impl<J: Naming, G: Gate, D: CrashLog, P: CrashPages> Shared<J, G, D, P> {
 
     // The log is made stable, unless another session's force has told of the call.
     fn force<R: Wait>(&self, rt: &R, work: &Sender<Job>, session: u64) -> After {
-        if !self.entrance.board.has_news(rt, session) {
-            self.entrance.force(rt, work);
+        if self.entrance.board.has_news(rt, session) {
+            return After::Look;
+        }
+        let (tell, low) = self.entrance.force(rt);
+        if let Some(tell) = tell {
+            self.tell(rt, work, &tell);
+        }
+        if let Some(low) = low {
+            self.entrance.board.hand_over_low(rt, work, &low);
         }
         After::Look
+    }
+
+    // The data component is told how much of the log is stable. Nobody waits for what comes of it.
+    fn tell<R: Wait>(&self, rt: &R, work: &Sender<Job>, token: &Pushed<Entry>)
+        requires shown { Shown J.entries token.now }
+    {
+        if let Out::Sent(number) = self.entrance.board.out(token) {
+            self.have_served(rt, work, None, token, *number);
+        }
     }
 
     // One step towards what is told of a call.

@@ -48,7 +48,8 @@ impl<J: Naming, G: Gate, D: CrashLog, P: CrashPages> Shared<J, G, D, P> {
     pub(crate) fn look_on(&self, token: &Pushed<Entry>)
         requires { Shown J.entries token.now }
     {
-        if let Some(request) = self.hall().row().value(token).sent() {
+        let none = None;
+        if let Some(request) = self.hall().row().value(token).sent(&none) {
             self.gate.before(request);
         }
     }
@@ -89,7 +90,8 @@ impl<J: Naming, G: Gate, D: CrashLog, P: CrashPages> Shared<J, G, D, P> {
         requires { Shown J.entries token.now }
     {
         let entry = self.hall().row().value(token);
-        if let Some(reply) = entry.given() {
+        let none = None;
+        if let Some(reply) = entry.given(&none) {
             self.gate.after(reply);
         }
         match entry.out() {

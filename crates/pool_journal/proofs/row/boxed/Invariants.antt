@@ -3,5 +3,5 @@ use Rattle.pool_journal.proofs.row.boxed.Given as goal
 
 abbrev pub invariant-loop : goal.invariant-loop
 invariant-loop g l =
-    (l.step ≡ l.initial.step) × (goal.iterator-loop g).can_next l.iterator'
+    (l.value ≡ l.initial.value) × (goal.iterator-loop g).can_next l.iterator'
     × (goal.iterator-loop g).is_finite l.iterator'
