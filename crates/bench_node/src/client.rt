@@ -6,7 +6,8 @@ use world::{Event, Out, World, settle};
 /// A node and the transaction of its one client, who hands on the messages. After each call nothing waits.
 #[derive(Drop)]
 pub struct Client {
-    world: World,
+    /// Behind a pointer, since a node is large: each step of a function that has one by value is dear to check.
+    world: Box<World>,
     outs: Vec<Out>,
     txn: u64,
     /// Whether operations are sent before they are stable.
@@ -17,7 +18,7 @@ impl Client {
     /// A node whose session runs.
     pub fn new(alloc: Global) -> Result<Client, Refusal> {
         let mut client = Client {
-            world: World::new(alloc)?,
+            world: Box::new(alloc, World::new(alloc)?)?,
             outs: Vec::new(alloc),
             txn: 0,
             is_early: false,

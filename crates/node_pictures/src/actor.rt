@@ -1,7 +1,7 @@
 //! Transactions, the keys that they hold, and their savepoints.
 
 /// How a transaction stands.
-#[derive(Debug, Clone, Copy, PartialEq, Eq)]
+#[derive(Clone, Copy)]
 pub enum State {
     Open,
     /// It is being rolled back: what is above the bound is undone.
@@ -17,7 +17,7 @@ pub enum State {
 }
 
 /// A transaction.
-#[derive(Debug, Clone, Copy, PartialEq, Eq)]
+#[derive(Clone, Copy)]
 pub struct Actor<'a> {
     pub txn: u64,
     pub label: &'a [u8],
@@ -32,7 +32,7 @@ pub struct Actor<'a> {
 }
 
 /// How keys are held.
-#[derive(Debug, Clone, Copy, PartialEq, Eq)]
+#[derive(Clone, Copy, PartialEq, Eq)]
 pub enum Mode {
     Shared,
     Increment,
@@ -40,7 +40,7 @@ pub enum Mode {
 }
 
 /// Up to where keys are held.
-#[derive(Debug, Clone, Copy, PartialEq, Eq)]
+#[derive(Clone, Copy, PartialEq, Eq)]
 pub enum End<'a> {
     /// One key alone.
     Single,
@@ -49,7 +49,7 @@ pub enum End<'a> {
 }
 
 /// Keys that a transaction holds.
-#[derive(Debug, Clone, Copy, PartialEq, Eq)]
+#[derive(Clone, Copy)]
 pub struct Hold<'a> {
     pub txn: u64,
     /// The record for which they were taken, 0 for a read.
@@ -60,7 +60,7 @@ pub struct Hold<'a> {
 }
 
 /// A savepoint: the log's end when it was set.
-#[derive(Debug, Clone, Copy, PartialEq, Eq)]
+#[derive(Clone, Copy)]
 pub struct Mark {
     pub txn: u64,
     pub savepoint: u64,

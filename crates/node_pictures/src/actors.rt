@@ -20,7 +20,7 @@ pub fn note_actors<'a>(
         Out::Begun(txn) => begin(story, *txn, label, at),
         Out::Saved(savepoint) => save(story, step.txn, *savepoint, at),
         Out::Up(count) => {
-            if step.doing == Doing::RestartTc {
+            if matches!(step.doing, Doing::RestartTc) {
                 open_again(story, *count, at);
             }
             Ok(())

@@ -3,29 +3,29 @@ use crate::shapes::put_box;
 use crate::sheet::{At, HEAD, Sheet};
 use crate::step::Doing;
 use crate::story::Story;
+use crate::text::Text;
 use std::io;
 use world::Out;
 
-pub fn draw_bars<W: io::Write>(writer: &mut W, story: &Story<'_>, sheet: Sheet) -> io::Result<()> {
+pub fn draw_bars<W: io::Write>(text: &mut Text<'_, W>, story: &Story<'_>, sheet: Sheet) {
     for (at, step) in story.steps.as_slice().iter().enumerate() {
         if sheet.is_drawn(at) {
-            draw_bar(writer, sheet, at, step.doing, &step.out)?;
+            draw_bar(text, sheet, at, step.doing, &step.out);
         }
     }
-    Ok(())
 }
 
 fn draw_bar<W: io::Write>(
-    writer: &mut W,
+    text: &mut Text<'_, W>,
     sheet: Sheet,
     step: usize,
     doing: Doing,
     out: &Out,
-) -> io::Result<()> {
+) {
     let class = match (doing, out) {
         (Doing::CrashTc | Doing::CrashDc, Out::Down) => "crash",
         (Doing::RestartTc | Doing::RestartDc, Out::Up(_)) => "rise",
-        _ => return Ok(()),
+        _ => return,
     };
     let height = sheet.bottom.saturating_sub(HEAD);
     let middle = At {
@@ -33,10 +33,10 @@ fn draw_bar<W: io::Write>(
         y: HEAD.saturating_add(height / 2),
     };
     put_box(
-        writer,
+        text,
         class,
         middle,
         sheet.column().saturating_sub(2),
         height,
-    )
+    );
 }

@@ -10,7 +10,8 @@ use crate::opening::put_opening;
 use crate::playing::play;
 use crate::sheet::sheet_of;
 use crate::story::{Story, begin};
-use node_shell::{DONE, FAILED, FAULT, Piece, first_fault, print, refusal_of, refuse};
+use crate::text::Text;
+use node_shell::{DONE, FAILED, FAULT, first_fault, refusal_of, refuse};
 use record_key::Refusal;
 use std::alloc::Global;
 use std::io;
@@ -58,21 +59,24 @@ fn draw_played<'a, W: io::Write>(
         Ok(failed) => failed,
         Err(refusal) => return refuse(writer, refusal, FAILED),
     };
-    match draw_story(story, last.unwrap_or(MOST) as usize, writer) {
-        Ok(()) if !failed => DONE,
-        _ => FAILED,
+    let mut text = Text::new(writer);
+    draw_story(&mut text, story, last.unwrap_or(MOST) as usize);
+    if text.is_whole() && !failed {
+        DONE
+    } else {
+        FAILED
     }
 }
 
-fn draw_story<W: io::Write>(story: &Story<'_>, count: usize, writer: &mut W) -> io::Result<()> {
+fn draw_story<W: io::Write>(text: &mut Text<'_, W>, story: &Story<'_>, count: usize) {
     let sheet = sheet_of(story, count);
-    put_opening(writer, sheet)?;
-    draw_bars(writer, story, sheet)?;
-    draw_head(writer, story, sheet)?;
-    draw_txns(writer, story, sheet)?;
-    draw_log(writer, story, sheet)?;
-    draw_messages(writer, story, sheet)?;
-    draw_leaves(writer, story, sheet)?;
-    draw_legend(writer, sheet)?;
-    print(writer, &[Piece::Text("</svg>\n")])
+    put_opening(text, sheet);
+    draw_bars(text, story, sheet);
+    draw_head(text, story, sheet);
+    draw_txns(text, story, sheet);
+    draw_log(text, story, sheet);
+    draw_messages(text, story, sheet);
+    draw_leaves(text, story, sheet);
+    draw_legend(text, sheet);
+    text.say("</svg>\n");
 }

@@ -4,136 +4,133 @@ use crate::leaf::{Birth, Change, What};
 use crate::shapes::{put_box, put_circle, put_cross, put_line};
 use crate::sheet::{At, LEAF, NAME, Sheet};
 use crate::story::Story;
-use node_shell::{Piece, print};
+use crate::text::Text;
 use std::io;
 
-pub fn draw_leaves<W: io::Write>(
-    writer: &mut W,
-    story: &Story<'_>,
-    sheet: Sheet,
-) -> io::Result<()> {
+pub fn draw_leaves<W: io::Write>(text: &mut Text<'_, W>, story: &Story<'_>, sheet: Sheet) {
     let mut y = sheet.leaves.saturating_add(LEAF / 2);
     for birth in story.births.as_slice() {
         if birth.step < sheet.end {
-            draw_leaf(writer, story, sheet, birth, y)?;
+            draw_leaf(text, story, sheet, birth, y);
             y = y.saturating_add(LEAF);
         }
     }
-    Ok(())
 }
 
 fn draw_leaf<W: io::Write>(
-    writer: &mut W,
+    text: &mut Text<'_, W>,
     story: &Story<'_>,
     sheet: Sheet,
     birth: &Birth,
     y: u64,
-) -> io::Result<()> {
-    put_name(writer, birth, y)?;
+) {
+    put_name(text, birth, y);
     let changes = story.changes.as_slice();
     let end = end_of(changes, birth, sheet.end);
-    put_line(writer, "lane", sheet.at(birth.step, y), sheet.at(end, y))?;
+    put_line(text, "lane", sheet.at(birth.step, y), sheet.at(end, y));
     let mut below = (sheet.end, 0);
     for change in changes {
         let is_here = change.leaf == birth.leaf && change.step >= birth.step && change.step <= end;
         if is_here && sheet.is_drawn(change.step) {
-            below = draw_change(writer, story, sheet, change, y, below)?;
+            below = draw_change(text, story, sheet, change, y, below);
         }
     }
-    Ok(())
 }
 
 /// The step in which the leaf ends, or the last that is drawn.
 fn end_of(changes: &[Change], birth: &Birth, end: usize) -> usize {
     for change in changes {
-        if change.leaf == birth.leaf && change.what == What::Ends && change.step > birth.step {
+        if change.leaf == birth.leaf
+            && matches!(change.what, What::Ends)
+            && change.step > birth.step
+        {
             return change.step.min(end);
         }
     }
     end
 }
 
-fn put_name<W: io::Write>(writer: &mut W, birth: &Birth, y: u64) -> io::Result<()> {
+fn put_name<W: io::Write>(text: &mut Text<'_, W>, birth: &Birth, y: u64) {
     begin_label(
-        writer,
+        text,
         "name",
         At {
             x: NAME,
             y: y.saturating_add(4),
         },
-    )?;
-    print(writer, &[Piece::Text("leaf "), Piece::Number(birth.leaf)])?;
+    );
+    text.say("leaf ").number(birth.leaf);
     if let Some(key) = &birth.from {
-        print(writer, &[Piece::Text(", ")])?;
-        put_clipped(writer, key.as_bytes(), 4)?;
+        text.say(", ");
+        put_clipped(text, key.as_bytes(), 4);
     }
-    end_label(writer)
+    end_label(text);
 }
 
 /// Draws a change. Gives the step of the last text below the line, and how many stand there.
 fn draw_change<W: io::Write>(
-    writer: &mut W,
+    text: &mut Text<'_, W>,
     story: &Story<'_>,
     sheet: Sheet,
     change: &Change,
     y: u64,
     below: (usize, u64),
-) -> io::Result<(usize, u64)> {
+) -> (usize, u64) {
     let at = sheet.at(change.step, y);
     match change.what {
-        What::Captures(number) => put_captured(writer, at, number)?,
+        What::Captures(number) => put_captured(text, at, number),
         What::Loses(number) => {
             let count = if below.0 == change.step { below.1 } else { 0 };
-            put_lost(writer, at, number, count)?;
-            return Ok((change.step, count.saturating_add(1)));
+            put_lost(text, at, number, count);
+            return (change.step, count.saturating_add(1));
         }
-        What::Low(low) => put_low(writer, at, low)?,
-        What::Flushed => put_box(writer, "ink", at, 9, 9)?,
-        What::Splits(leaf) => put_arrow(writer, story, sheet, change, leaf, true)?,
-        What::TakesIn(leaf) => put_arrow(writer, story, sheet, change, leaf, false)?,
+        What::Low(low) => put_low(text, at, low),
+        What::Flushed => put_box(text, "ink", at, 9, 9),
+        What::Splits(leaf) => put_arrow(text, story, sheet, change, leaf, true),
+        What::TakesIn(leaf) => put_arrow(text, story, sheet, change, leaf, false),
         What::Ends => {}
     }
-    Ok(below)
+    below
 }
 
-fn put_captured<W: io::Write>(writer: &mut W, at: At, number: u64) -> io::Result<()> {
-    put_circle(writer, "ink", at, 3)?;
+fn put_captured<W: io::Write>(text: &mut Text<'_, W>, at: At, number: u64) {
+    put_circle(text, "ink", at, 3);
     let above = At {
         x: at.x,
         y: at.y.saturating_sub(8),
     };
-    put_numbered(writer, "number", above, "", number)
+    put_numbered(text, "number", above, "", number);
 }
 
 /// Numbers that are lost at once stand beside each other.
-fn put_lost<W: io::Write>(writer: &mut W, at: At, number: u64, count: u64) -> io::Result<()> {
+fn put_lost<W: io::Write>(text: &mut Text<'_, W>, at: At, number: u64, count: u64) {
     if count == 0 {
-        put_cross(writer, "cross", at, 4)?;
+        put_cross(text, "cross", at, 4);
     }
     let below = At {
         x: at.x.saturating_add(count.saturating_mul(18)),
         y: at.y.saturating_add(17),
     };
-    put_numbered(writer, "struck", below, "", number)
+    put_numbered(text, "struck", below, "", number);
 }
 
-fn put_low<W: io::Write>(writer: &mut W, at: At, low: u64) -> io::Result<()> {
+fn put_low<W: io::Write>(text: &mut Text<'_, W>, at: At, low: u64) {
     let below = At {
         x: at.x.saturating_sub(3),
         y: at.y.saturating_add(17),
     };
-    put_numbered(writer, "low", below, "low ", low)
+    put_numbered(text, "low", below, "low ", low);
 }
 
 /// From a leaf to the one that is split off from it, or back from one that it takes in.
 fn put_arrow<W: io::Write>(
-    writer: &mut W,
+    text: &mut Text<'_, W>,
     story: &Story<'_>,
     sheet: Sheet,
     change: &Change,
     other: u64,
     splits: bool,
-) -> io::Result<()> {
+) {
     let births = story.births.as_slice();
     let own = sheet.at(
         change.step,
@@ -141,9 +138,9 @@ fn put_arrow<W: io::Write>(
     );
     let other = sheet.at(change.step, lane_of(births, sheet, other, change.step));
     if splits {
-        put_line(writer, "message", own, other)
+        put_line(text, "message", own, other);
     } else {
-        put_line(writer, "message", other, own)
+        put_line(text, "message", other, own);
     }
 }
 

@@ -5,53 +5,52 @@ use crate::logged::Logged;
 use crate::shapes::{put_arc, put_box, put_line};
 use crate::sheet::{ARCS, At, BOX, NAME, Sheet};
 use crate::story::Story;
+use crate::text::Text;
 use history::Record;
 use std::io;
 use world::Out;
 
-pub fn draw_log<W: io::Write>(writer: &mut W, story: &Story<'_>, sheet: Sheet) -> io::Result<()> {
+pub fn draw_log<W: io::Write>(text: &mut Text<'_, W>, story: &Story<'_>, sheet: Sheet) {
     let name = At {
         x: NAME,
         y: sheet.log.saturating_add(ARCS + BOX / 2 + 4),
     };
-    put_label(writer, "name", name, "log")?;
+    put_label(text, "name", name, "log");
     for logged in story.log.as_slice() {
         if sheet.is_drawn(logged.born) {
-            draw_chain(writer, story.log.as_slice(), sheet, logged)?;
-            draw_record(writer, sheet, logged)?;
+            draw_chain(text, story.log.as_slice(), sheet, logged);
+            draw_record(text, sheet, logged);
         }
     }
     for (at, step) in story.steps.as_slice().iter().enumerate() {
         if let Out::Stable { end, .. } = &step.out {
             if sheet.is_drawn(at) {
-                draw_stable(writer, story.log.as_slice(), sheet, at, *end)?;
+                draw_stable(text, story.log.as_slice(), sheet, at, *end);
             }
         }
     }
-    Ok(())
 }
 
-fn draw_record<W: io::Write>(writer: &mut W, sheet: Sheet, logged: &Logged) -> io::Result<()> {
+fn draw_record<W: io::Write>(text: &mut Text<'_, W>, sheet: Sheet, logged: &Logged) {
     let middle = sheet.at(logged.born, sheet.log.saturating_add(ARCS + BOX / 2));
-    put_box(writer, class_of(&logged.record), middle, sheet.boxed, BOX)?;
+    put_box(text, class_of(&logged.record), middle, sheet.boxed, BOX);
     let upper = At {
         x: middle.x,
         y: middle.y.saturating_sub(2),
     };
-    put_numbered(writer, "number", upper, "", logged.number)?;
+    put_numbered(text, "number", upper, "", logged.number);
     let lower = At {
         x: middle.x,
         y: middle.y.saturating_add(10),
     };
-    put_label(writer, "number", lower, letter_of(&logged.record))?;
+    put_label(text, "number", lower, letter_of(&logged.record));
     if logged.lost.is_some() {
-        return strike(writer, sheet, middle);
+        strike(text, sheet, middle);
     }
-    Ok(())
 }
 
 /// A record that is lost is struck out between its number and its kind.
-fn strike<W: io::Write>(writer: &mut W, sheet: Sheet, middle: At) -> io::Result<()> {
+fn strike<W: io::Write>(text: &mut Text<'_, W>, sheet: Sheet, middle: At) {
     let half = sheet.boxed / 2 + 4;
     let from = At {
         x: middle.x.saturating_sub(half),
@@ -61,7 +60,7 @@ fn strike<W: io::Write>(writer: &mut W, sheet: Sheet, middle: At) -> io::Result<
         x: middle.x.saturating_add(half),
         y: middle.y,
     };
-    put_line(writer, "cross", from, to)
+    put_line(text, "cross", from, to);
 }
 
 fn class_of(record: &Record) -> &'static str {
@@ -86,22 +85,19 @@ fn letter_of(record: &Record) -> &'static str {
 }
 
 /// The arrows from a record along its transaction's chain.
-fn draw_chain<W: io::Write>(
-    writer: &mut W,
-    log: &[Logged],
-    sheet: Sheet,
-    logged: &Logged,
-) -> io::Result<()> {
+fn draw_chain<W: io::Write>(text: &mut Text<'_, W>, log: &[Logged], sheet: Sheet, logged: &Logged) {
     match &logged.record {
-        Record::Op { prev, .. } => match place_of(log, sheet, logged, *prev) {
-            Some(place) => draw_prev(writer, sheet, logged.born, place),
-            None => Ok(()),
-        },
-        Record::Comp { next, .. } => match place_of(log, sheet, logged, *next) {
-            Some(place) => draw_next(writer, sheet, logged.born, place),
-            None => Ok(()),
-        },
-        _ => Ok(()),
+        Record::Op { prev, .. } => {
+            if let Some(place) = place_of(log, sheet, logged, *prev) {
+                draw_prev(text, sheet, logged.born, place);
+            }
+        }
+        Record::Comp { next, .. } => {
+            if let Some(place) = place_of(log, sheet, logged, *next) {
+                draw_next(text, sheet, logged.born, place);
+            }
+        }
+        _ => {}
     }
 }
 
@@ -123,7 +119,7 @@ fn height_of(from: u64, to: u64) -> u64 {
     long.saturating_add(16).min(2 * (ARCS - 6))
 }
 
-fn draw_prev<W: io::Write>(writer: &mut W, sheet: Sheet, from: usize, to: usize) -> io::Result<()> {
+fn draw_prev<W: io::Write>(text: &mut Text<'_, W>, sheet: Sheet, from: usize, to: usize) {
     let y = sheet.log.saturating_add(ARCS);
     let from = sheet.at(from, y);
     let to = sheet.at(to, y);
@@ -131,10 +127,10 @@ fn draw_prev<W: io::Write>(writer: &mut W, sheet: Sheet, from: usize, to: usize)
         x: middle_of(from.x, to.x),
         y: y.saturating_sub(height_of(from.x, to.x)),
     };
-    put_arc(writer, "prev", from, by, to)
+    put_arc(text, "prev", from, by, to);
 }
 
-fn draw_next<W: io::Write>(writer: &mut W, sheet: Sheet, from: usize, to: usize) -> io::Result<()> {
+fn draw_next<W: io::Write>(text: &mut Text<'_, W>, sheet: Sheet, from: usize, to: usize) {
     let y = sheet.log.saturating_add(ARCS + BOX);
     let from = sheet.at(from, y);
     let to = sheet.at(to, y);
@@ -142,7 +138,7 @@ fn draw_next<W: io::Write>(writer: &mut W, sheet: Sheet, from: usize, to: usize)
         x: middle_of(from.x, to.x),
         y: y.saturating_add(height_of(from.x, to.x)),
     };
-    put_arc(writer, "next", from, by, to)
+    put_arc(text, "next", from, by, to);
 }
 
 fn middle_of(from: u64, to: u64) -> u64 {
@@ -151,12 +147,12 @@ fn middle_of(from: u64, to: u64) -> u64 {
 
 /// Up to where a force has made the log stable.
 fn draw_stable<W: io::Write>(
-    writer: &mut W,
+    text: &mut Text<'_, W>,
     log: &[Logged],
     sheet: Sheet,
     at: usize,
     end: u64,
-) -> io::Result<()> {
+) {
     let mut born = sheet.first;
     for logged in log {
         if logged.number == end && logged.born <= at {
@@ -166,20 +162,14 @@ fn draw_stable<W: io::Write>(
     let y = sheet.log.saturating_add(ARCS + BOX + ARCS + 8);
     let x = sheet.x(born).saturating_add(sheet.column() / 2);
     put_line(
-        writer,
+        text,
         "stable",
         At {
             x,
             y: sheet.log.saturating_add(ARCS - 4),
         },
         At { x, y },
-    )?;
-    put_line(writer, "stable", At { x, y }, sheet.at(at, y))?;
-    put_numbered(
-        writer,
-        "number",
-        sheet.at(at, y.saturating_add(12)),
-        "",
-        end,
-    )
+    );
+    put_line(text, "stable", At { x, y }, sheet.at(at, y));
+    put_numbered(text, "number", sheet.at(at, y.saturating_add(12)), "", end);
 }

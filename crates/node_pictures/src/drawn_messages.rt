@@ -4,42 +4,38 @@ use crate::message::{Delivery, Fate, Message};
 use crate::shapes::{put_cross, put_line};
 use crate::sheet::{At, NAME, Sheet};
 use crate::story::Story;
+use crate::text::Text;
 use std::io;
 
-pub fn draw_messages<W: io::Write>(
-    writer: &mut W,
-    story: &Story<'_>,
-    sheet: Sheet,
-) -> io::Result<()> {
-    draw_side(writer, sheet, sheet.tc, "TC")?;
-    draw_side(writer, sheet, sheet.dc, "DC")?;
+pub fn draw_messages<W: io::Write>(text: &mut Text<'_, W>, story: &Story<'_>, sheet: Sheet) {
+    draw_side(text, sheet, sheet.tc, "TC");
+    draw_side(text, sheet, sheet.dc, "DC");
     for message in story.messages.as_slice() {
         if sheet.is_drawn(message.sent) {
-            draw_number(writer, sheet, message)?;
-            draw_lost(writer, story.deliveries.as_slice(), sheet, message)?;
+            draw_number(text, sheet, message);
+            draw_lost(text, story.deliveries.as_slice(), sheet, message);
         }
     }
     for delivery in story.deliveries.as_slice() {
         if sheet.is_drawn(delivery.step) {
-            draw_delivery(writer, sheet, delivery)?;
+            draw_delivery(text, sheet, delivery);
         }
     }
-    Ok(())
 }
 
 /// The line of a component.
-fn draw_side<W: io::Write>(writer: &mut W, sheet: Sheet, y: u64, name: &str) -> io::Result<()> {
+fn draw_side<W: io::Write>(text: &mut Text<'_, W>, sheet: Sheet, y: u64, name: &str) {
     let place = At {
         x: NAME,
         y: y.saturating_add(4),
     };
-    put_label(writer, "name", place, name)?;
+    put_label(text, "name", place, name);
     put_line(
-        writer,
+        text,
         "faint",
         sheet.at(sheet.first, y),
         sheet.at(sheet.end, y),
-    )
+    );
 }
 
 /// The lines from which and to which a message goes.
@@ -52,30 +48,30 @@ fn ends_of(sheet: Sheet, is_reply: bool) -> (u64, u64) {
 }
 
 /// A message's number, at its sender.
-fn draw_number<W: io::Write>(writer: &mut W, sheet: Sheet, message: &Message) -> io::Result<()> {
+fn draw_number<W: io::Write>(text: &mut Text<'_, W>, sheet: Sheet, message: &Message) {
     let y = if message.is_reply {
         sheet.dc.saturating_add(13)
     } else {
         sheet.tc.saturating_sub(5)
     };
     put_numbered(
-        writer,
+        text,
         "number",
         sheet.at(message.sent, y),
         "",
         message.number,
-    )
+    );
 }
 
 /// A message that was never delivered ends in a cross.
 fn draw_lost<W: io::Write>(
-    writer: &mut W,
+    text: &mut Text<'_, W>,
     deliveries: &[Delivery],
     sheet: Sheet,
     message: &Message,
-) -> io::Result<()> {
+) {
     if is_delivered(deliveries, message, sheet.end) {
-        return Ok(());
+        return;
     }
     let (from, _) = ends_of(sheet, message.is_reply);
     let y = if message.is_reply {
@@ -87,8 +83,8 @@ fn draw_lost<W: io::Write>(
         x: sheet.x(message.sent).saturating_add(4),
         y,
     };
-    put_line(writer, "lost", sheet.at(message.sent, from), end)?;
-    put_cross(writer, "cross", end, 4)
+    put_line(text, "lost", sheet.at(message.sent, from), end);
+    put_cross(text, "cross", end, 4);
 }
 
 fn is_delivered(deliveries: &[Delivery], message: &Message, end: usize) -> bool {
@@ -101,19 +97,15 @@ fn is_delivered(deliveries: &[Delivery], message: &Message, end: usize) -> bool 
     false
 }
 
-fn draw_delivery<W: io::Write>(
-    writer: &mut W,
-    sheet: Sheet,
-    delivery: &Delivery,
-) -> io::Result<()> {
+fn draw_delivery<W: io::Write>(text: &mut Text<'_, W>, sheet: Sheet, delivery: &Delivery) {
     let (from, to) = ends_of(sheet, delivery.is_reply);
     let start = sheet.at(delivery.sent, from);
     let end = sheet.at(delivery.step, to);
-    put_line(writer, class_of(delivery.fate), start, end)?;
+    put_line(text, class_of(delivery.fate), start, end);
     match delivery.fate {
-        Fate::Missed => put_cross(writer, "cross", end, 5),
-        Fate::Late | Fate::LateAgain => draw_late(writer, delivery.is_reply, end),
-        Fate::First | Fate::Again => Ok(()),
+        Fate::Missed => put_cross(text, "cross", end, 5),
+        Fate::Late | Fate::LateAgain => draw_late(text, delivery.is_reply, end),
+        Fate::First | Fate::Again => {}
     }
 }
 
@@ -127,11 +119,11 @@ fn class_of(fate: Fate) -> &'static str {
     }
 }
 
-fn draw_late<W: io::Write>(writer: &mut W, is_reply: bool, end: At) -> io::Result<()> {
+fn draw_late<W: io::Write>(text: &mut Text<'_, W>, is_reply: bool, end: At) {
     let y = if is_reply {
         end.y.saturating_sub(5)
     } else {
         end.y.saturating_add(26)
     };
-    put_label(writer, "number", At { x: end.x, y }, "L")
+    put_label(text, "number", At { x: end.x, y }, "L");
 }

@@ -1,13 +1,14 @@
 //! The text that explains a script, line by line.
 use crate::playing::{play, play_line};
 use crate::story::{Story, begin};
+use crate::text::Text;
 use crate::told_leaves::tell_leaves;
 use crate::told_log::tell_log;
 use crate::told_messages::tell_messages;
 use crate::told_steps::tell_steps;
 use crate::told_txns::tell_txns;
 use crate::wrapped::put_wrapped;
-use node_shell::{DONE, FAILED, FAULT, Piece, first_fault, print, refusal_of, refuse};
+use node_shell::{DONE, FAILED, FAULT, first_fault, refusal_of, refuse};
 use record_key::Refusal;
 use std::alloc::Global;
 use std::io;
@@ -108,48 +109,45 @@ fn tell_line<W: io::Write>(
     first: usize,
     writer: &mut W,
 ) -> bool {
-    let mut text = Vec::new(*story.changes.allocator());
-    match put_text(&mut text, story, whole, number, line, first) {
-        Ok(()) => put_wrapped(writer, text.as_slice()).is_ok(),
-        Err(error) => {
-            let _status = refuse(writer, refusal_of(&error), FAILED);
-            false
-        }
+    let mut lines = Vec::new(*story.changes.allocator());
+    let mut text = Text::new(&mut lines);
+    put_text(&mut text, story, whole, number, line, first);
+    if !text.is_whole() {
+        let _status = refuse(writer, Refusal::NoMemory, FAILED);
+        return false;
     }
+    let mut wrapped = Text::new(writer);
+    put_wrapped(&mut wrapped, lines.as_slice());
+    wrapped.is_whole()
 }
 
 fn put_text(
-    text: &mut Vec<u8>,
+    text: &mut Text<'_, Vec<u8>>,
     story: &Story<'_>,
     whole: &Story<'_>,
     number: u64,
     line: &[u8],
     first: usize,
-) -> io::Result<()> {
-    print(
-        text,
-        &[
-            Piece::Text("line "),
-            Piece::Number(number),
-            Piece::Text("  "),
-            Piece::Word(line),
-            Piece::Text("\n"),
-        ],
-    )?;
-    tell_steps(text, story, whole, first)?;
+) {
+    text.say("line ")
+        .number(number)
+        .say("  ")
+        .word(line)
+        .say("\n");
+    tell_steps(text, story, whole, first);
     if changes(story, first) {
-        tell_txns(text, story)?;
-        tell_log(text, story)?;
-        tell_leaves(text, story)?;
-        tell_messages(text, story)?;
+        tell_txns(text, story);
+        tell_log(text, story);
+        tell_leaves(text, story);
+        tell_messages(text, story);
     }
-    Ok(())
 }
 
 /// Whether one of the steps isn't refused.
 fn changes(story: &Story<'_>, first: usize) -> bool {
-    for step in story.steps.as_slice().iter().skip(first) {
-        if !matches!(step.out, Out::Refused(_)) {
+    let steps = story.steps.as_slice();
+    for at in first..steps.len() {
+        if !matches!(steps[at].out, Out::Refused(_)) {
             return true;
         }
     }

@@ -4,7 +4,7 @@ use crate::rounds::put_round;
 use crate::sheet::{At, HEAD, Sheet};
 use crate::step::Step;
 use crate::story::Story;
-use node_shell::{Piece, print};
+use crate::text::Text;
 use std::io;
 use world::Out;
 
@@ -12,41 +12,35 @@ use world::Out;
 const LETTERS: usize = 24;
 
 /// What each step is, upwards above its column.
-pub fn draw_head<W: io::Write>(writer: &mut W, story: &Story<'_>, sheet: Sheet) -> io::Result<()> {
+pub fn draw_head<W: io::Write>(text: &mut Text<'_, W>, story: &Story<'_>, sheet: Sheet) {
     if sheet.first > 0 {
-        put_cut(writer, sheet)?;
+        put_cut(text, sheet);
     }
     for (at, step) in story.steps.as_slice().iter().enumerate() {
         if sheet.is_drawn(at) {
-            draw_name(writer, story, sheet, step, at)?;
+            draw_name(text, story, sheet, step, at);
         }
     }
-    Ok(())
 }
 
 /// That steps are left out.
-fn put_cut<W: io::Write>(writer: &mut W, sheet: Sheet) -> io::Result<()> {
-    begin_label(writer, "start", At { x: 10, y: 16 })?;
-    print(
-        writer,
-        &[
-            Piece::Text("The last "),
-            Piece::Number(sheet.end.saturating_sub(sheet.first) as u64),
-            Piece::Text(" of "),
-            Piece::Number(sheet.end as u64),
-            Piece::Text(" events"),
-        ],
-    )?;
-    end_label(writer)
+fn put_cut<W: io::Write>(text: &mut Text<'_, W>, sheet: Sheet) {
+    begin_label(text, "start", At { x: 10, y: 16 });
+    text.say("The last ")
+        .number(sheet.end.saturating_sub(sheet.first) as u64)
+        .say(" of ")
+        .number(sheet.end as u64)
+        .say(" events");
+    end_label(text);
 }
 
 fn draw_name<W: io::Write>(
-    writer: &mut W,
+    text: &mut Text<'_, W>,
     story: &Story<'_>,
     sheet: Sheet,
     step: &Step<'_>,
     at: usize,
-) -> io::Result<()> {
+) {
     let foot = At {
         x: sheet.x(at).saturating_add(4),
         y: HEAD - 22,
@@ -56,17 +50,16 @@ fn draw_name<W: io::Write>(
         _ if step.is_round => "round",
         _ => "own",
     };
-    begin_upright(writer, class, foot)?;
+    begin_upright(text, class, foot);
     if step.is_round {
-        put_round(writer, story, step)?;
+        put_round(text, story, step);
     } else {
-        put_clipped(writer, step.text, LETTERS)?;
+        put_clipped(text, step.text, LETTERS);
     }
-    end_label(writer)?;
-    if step.is_round && at > 0 && is_same_line(story, step, at - 1) {
-        return Ok(());
+    end_label(text);
+    if !step.is_round || at == 0 || !is_same_line(story, step, at - 1) {
+        put_numbered(text, "number", sheet.at(at, HEAD - 6), "", step.line);
     }
-    put_numbered(writer, "number", sheet.at(at, HEAD - 6), "", step.line)
 }
 
 /// Whether the step before is of the same line.

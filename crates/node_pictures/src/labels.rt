@@ -1,81 +1,68 @@
 //! Texts of an SVG file.
 use crate::sheet::At;
-use node_shell::{Piece, print, put};
+use crate::text::Text;
 use std::io;
 
 /// A text whose beginning, middle or end stands at a place, as its class says.
-pub fn put_label<W: io::Write>(writer: &mut W, class: &str, at: At, text: &str) -> io::Result<()> {
-    begin_label(writer, class, at)?;
-    print(writer, &[Piece::Text(text)])?;
-    end_label(writer)
+pub fn put_label<W: io::Write>(text: &mut Text<'_, W>, class: &str, at: At, words: &str) {
+    begin_label(text, class, at);
+    text.say(words);
+    end_label(text);
 }
 
 /// The same of a text and a number.
 pub fn put_numbered<W: io::Write>(
-    writer: &mut W,
+    text: &mut Text<'_, W>,
     class: &str,
     at: At,
-    text: &str,
+    words: &str,
     number: u64,
-) -> io::Result<()> {
-    begin_label(writer, class, at)?;
-    print(writer, &[Piece::Text(text), Piece::Number(number)])?;
-    end_label(writer)
+) {
+    begin_label(text, class, at);
+    text.say(words).number(number);
+    end_label(text);
 }
 
-pub fn begin_label<W: io::Write>(writer: &mut W, class: &str, at: At) -> io::Result<()> {
-    print(
-        writer,
-        &[
-            Piece::Text("<text class=\""),
-            Piece::Text(class),
-            Piece::Text("\" x=\""),
-            Piece::Number(at.x),
-            Piece::Text("\" y=\""),
-            Piece::Number(at.y),
-            Piece::Text("\">"),
-        ],
-    )
+pub fn begin_label<W: io::Write>(text: &mut Text<'_, W>, class: &str, at: At) {
+    text.say("<text class=\"")
+        .say(class)
+        .say("\" x=\"")
+        .number(at.x)
+        .say("\" y=\"")
+        .number(at.y)
+        .say("\">");
 }
 
 /// A text that runs upwards from a place.
-pub fn begin_upright<W: io::Write>(writer: &mut W, class: &str, at: At) -> io::Result<()> {
-    print(
-        writer,
-        &[
-            Piece::Text("<text class=\""),
-            Piece::Text(class),
-            Piece::Text("\" transform=\"translate("),
-            Piece::Number(at.x),
-            Piece::Text(" "),
-            Piece::Number(at.y),
-            Piece::Text(") rotate(-90)\">"),
-        ],
-    )
+pub fn begin_upright<W: io::Write>(text: &mut Text<'_, W>, class: &str, at: At) {
+    text.say("<text class=\"")
+        .say(class)
+        .say("\" transform=\"translate(")
+        .place(at)
+        .say(") rotate(-90)\">");
 }
 
-pub fn end_label<W: io::Write>(writer: &mut W) -> io::Result<()> {
-    print(writer, &[Piece::Text("</text>\n")])
+pub fn end_label<W: io::Write>(text: &mut Text<'_, W>) {
+    text.say("</text>\n");
 }
 
 /// Bytes of a script, so many at most, with what XML reads as its own written out.
-pub fn put_clipped<W: io::Write>(writer: &mut W, bytes: &[u8], most: usize) -> io::Result<()> {
-    for byte in bytes.iter().take(most) {
-        put_escaped(writer, *byte)?;
+pub fn put_clipped<W: io::Write>(text: &mut Text<'_, W>, bytes: &[u8], most: usize) {
+    for byte in &bytes[..most.min(bytes.len())] {
+        put_escaped(text, *byte);
     }
     if bytes.len() > most {
-        return put(writer, b"..");
+        text.bytes(b"..");
     }
-    Ok(())
 }
 
-fn put_escaped<W: io::Write>(writer: &mut W, byte: u8) -> io::Result<()> {
+fn put_escaped<W: io::Write>(text: &mut Text<'_, W>, byte: u8) {
     match byte {
-        b'<' => put(writer, b"&lt;"),
-        b'>' => put(writer, b"&gt;"),
-        b'&' => put(writer, b"&amp;"),
-        b'"' => put(writer, b"&quot;"),
-        b' '..=b'~' => put(writer, &[byte]),
-        _ => put(writer, b"?"),
-    }
+        b'<' => text.bytes(b"&lt;"),
+        b'>' => text.bytes(b"&gt;"),
+        b'&' => text.bytes(b"&amp;"),
+        b'"' => text.bytes(b"&quot;"),
+        b' '..=b'~' => text.bytes(&[byte]),
+        _ => text.bytes(b"?"),
+    };
 }

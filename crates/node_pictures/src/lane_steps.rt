@@ -6,38 +6,38 @@ use crate::logged::Logged;
 use crate::shapes::{put_box, put_circle, put_line};
 use crate::sheet::{At, Sheet};
 use crate::step::Step;
+use crate::text::Text;
 use history::Record;
-use node_shell::{Piece, print};
 use std::io;
 use world::Out;
 
 /// What a step does in the lane of a transaction.
 pub fn draw_step<W: io::Write>(
-    writer: &mut W,
+    text: &mut Text<'_, W>,
     log: &[Logged],
     actor: &Actor<'_>,
     step: &Step<'_>,
     sheet: Sheet,
     at: At,
-) -> io::Result<()> {
+) {
     match &step.out {
         Out::Compensated(number) if is_of(log, *number, actor.txn) => {
-            put_box(writer, "comp", at, sheet.boxed, 17)?;
-            put_figure(writer, at, *number)
+            put_box(text, "comp", at, sheet.boxed, 17);
+            put_figure(text, at, *number);
         }
         Out::Logged(number) if step.txn == actor.txn => {
-            put_circle(writer, "op", at, sheet.boxed / 2 + 1)?;
-            put_figure(writer, at, *number)
+            put_circle(text, "op", at, sheet.boxed / 2 + 1);
+            put_figure(text, at, *number);
         }
         Out::CommitLogged(number) if step.txn == actor.txn => {
-            put_circle(writer, "answer", at, sheet.boxed / 2 + 1)?;
-            put_figure(writer, at, *number)
+            put_circle(text, "answer", at, sheet.boxed / 2 + 1);
+            put_figure(text, at, *number);
         }
-        Out::Saved(savepoint) if step.txn == actor.txn => put_saved(writer, at, *savepoint),
-        Out::RollingBack if step.txn == actor.txn => put_triangle(writer, at),
-        Out::Asked(_) if step.txn == actor.txn => put_circle(writer, "op", at, 4),
-        Out::Begun(txn) if *txn == actor.txn => put_tick(writer, at),
-        _ => Ok(()),
+        Out::Saved(savepoint) if step.txn == actor.txn => put_saved(text, at, *savepoint),
+        Out::RollingBack if step.txn == actor.txn => put_triangle(text, at),
+        Out::Asked(_) if step.txn == actor.txn => put_circle(text, "op", at, 4),
+        Out::Begun(txn) if *txn == actor.txn => put_tick(text, at),
+        _ => {}
     }
 }
 
@@ -54,24 +54,24 @@ fn is_comp(record: &Record) -> bool {
     matches!(record, Record::Comp { .. })
 }
 
-fn put_figure<W: io::Write>(writer: &mut W, at: At, number: u64) -> io::Result<()> {
+fn put_figure<W: io::Write>(text: &mut Text<'_, W>, at: At, number: u64) {
     let foot = At {
         x: at.x,
         y: at.y.saturating_add(4),
     };
-    put_numbered(writer, "number", foot, "", number)
+    put_numbered(text, "number", foot, "", number);
 }
 
-fn put_saved<W: io::Write>(writer: &mut W, at: At, savepoint: u64) -> io::Result<()> {
-    put_tick(writer, at)?;
+fn put_saved<W: io::Write>(text: &mut Text<'_, W>, at: At, savepoint: u64) {
+    put_tick(text, at);
     let foot = At {
         x: at.x,
         y: at.y.saturating_sub(8),
     };
-    put_numbered(writer, "number", foot, "s", savepoint)
+    put_numbered(text, "number", foot, "s", savepoint);
 }
 
-fn put_tick<W: io::Write>(writer: &mut W, at: At) -> io::Result<()> {
+fn put_tick<W: io::Write>(text: &mut Text<'_, W>, at: At) {
     let top = At {
         x: at.x,
         y: at.y.saturating_sub(6),
@@ -80,22 +80,21 @@ fn put_tick<W: io::Write>(writer: &mut W, at: At) -> io::Result<()> {
         x: at.x,
         y: at.y.saturating_add(6),
     };
-    put_line(writer, "thick", top, foot)
+    put_line(text, "thick", top, foot);
 }
 
-fn put_triangle<W: io::Write>(writer: &mut W, at: At) -> io::Result<()> {
-    print(
-        writer,
-        &[
-            Piece::Text("<path class=\"ink\" d=\"M"),
-            Piece::Number(at.x.saturating_add(5)),
-            Piece::Text(" "),
-            Piece::Number(at.y.saturating_sub(7)),
-            Piece::Text("v14L"),
-            Piece::Number(at.x.saturating_sub(7)),
-            Piece::Text(" "),
-            Piece::Number(at.y),
-            Piece::Text("z\"/>\n"),
-        ],
-    )
+fn put_triangle<W: io::Write>(text: &mut Text<'_, W>, at: At) {
+    let top = At {
+        x: at.x.saturating_add(5),
+        y: at.y.saturating_sub(7),
+    };
+    let tip = At {
+        x: at.x.saturating_sub(7),
+        y: at.y,
+    };
+    text.say("<path class=\"ink\" d=\"M")
+        .place(top)
+        .say("v14L")
+        .place(tip)
+        .say("z\"/>\n");
 }

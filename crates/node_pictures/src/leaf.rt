@@ -2,21 +2,21 @@
 use record_key::Key;
 
 /// A leaf as it was seen last.
-#[derive(Debug, Clone, Copy, PartialEq, Eq)]
+#[derive(Clone, Copy)]
 pub struct Shot {
     pub leaf: u64,
     pub low: u64,
 }
 
 /// A number that a leaf has captured beyond its low number.
-#[derive(Debug, Clone, Copy, PartialEq, Eq)]
+#[derive(Clone, Copy, PartialEq, Eq)]
 pub struct Held {
     pub leaf: u64,
     pub number: u64,
 }
 
 /// A leaf appears, with its low fence.
-#[derive(Debug, Drop)]
+#[derive(Drop)]
 pub struct Birth {
     pub leaf: u64,
     pub step: usize,
@@ -24,7 +24,7 @@ pub struct Birth {
 }
 
 /// What happens at a leaf.
-#[derive(Debug, Clone, Copy, PartialEq, Eq)]
+#[derive(Clone, Copy)]
 pub enum What {
     /// It is gone.
     Ends,
@@ -39,7 +39,7 @@ pub enum What {
     TakesIn(u64),
 }
 
-#[derive(Debug, Clone, Copy, PartialEq, Eq)]
+#[derive(Clone, Copy)]
 pub struct Change {
     pub step: usize,
     pub leaf: u64,

@@ -1,6 +1,7 @@
 //! What the signs of a picture mean.
 use crate::labels::put_label;
 use crate::sheet::{At, Sheet};
+use crate::text::Text;
 use std::io;
 
 /// What the signs mean, a line each.
@@ -17,11 +18,10 @@ to its page; low n: captured is all up to n. Arrows between leaves: split and me
 refused.",
 ];
 
-pub fn draw_legend<W: io::Write>(writer: &mut W, sheet: Sheet) -> io::Result<()> {
+pub fn draw_legend<W: io::Write>(text: &mut Text<'_, W>, sheet: Sheet) {
     let mut y = sheet.bottom.saturating_add(16);
     for line in LEGEND {
-        put_label(writer, "start", At { x: 10, y }, line)?;
+        put_label(text, "start", At { x: 10, y }, line);
         y = y.saturating_add(16);
     }
-    Ok(())
 }

@@ -41,6 +41,7 @@ mod shapes;
 mod sheet;
 mod step;
 mod story;
+mod text;
 mod told_changes;
 mod told_leaves;
 mod told_log;

@@ -2,7 +2,7 @@
 use history::Record;
 
 /// A record of the log, also one that a crash has taken.
-#[derive(Debug, Drop)]
+#[derive(Drop)]
 pub struct Logged {
     pub number: u64,
     pub record: Record,

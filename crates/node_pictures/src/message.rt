@@ -1,7 +1,7 @@
 //! Messages, and how they arrive.
 
 /// What a message says.
-#[derive(Debug, Clone, Copy, PartialEq, Eq)]
+#[derive(Clone, Copy)]
 pub enum About {
     Connect,
     /// To perform the operation of a record.
@@ -14,7 +14,7 @@ pub enum About {
 }
 
 /// A message. Requests and replies are numbered apart, each from 1.
-#[derive(Debug, Clone, Copy, PartialEq, Eq)]
+#[derive(Clone, Copy)]
 pub struct Message {
     pub is_reply: bool,
     pub number: u64,
@@ -26,7 +26,7 @@ pub struct Message {
 }
 
 /// How a message arrived.
-#[derive(Debug, Clone, Copy, PartialEq, Eq)]
+#[derive(Clone, Copy)]
 pub enum Fate {
     First,
     Again,
@@ -38,7 +38,7 @@ pub enum Fate {
     Missed,
 }
 
-#[derive(Debug, Clone, Copy, PartialEq, Eq)]
+#[derive(Clone, Copy)]
 pub struct Delivery {
     pub is_reply: bool,
     pub number: u64,

@@ -76,11 +76,11 @@ fn deliver(
         fate,
     };
     story.deliveries.push(delivery)?;
-    if fate == Fate::Missed {
+    if matches!(fate, Fate::Missed) {
         return Ok(());
     }
     count(story, is_reply, number);
-    if is_reply && fate == Fate::First {
+    if is_reply && matches!(fate, Fate::First) {
         go_on(story, message.about, &step.out);
     }
     Ok(())

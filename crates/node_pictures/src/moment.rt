@@ -1,7 +1,7 @@
 //! Where a node is.
 
 /// Where the node is.
-#[derive(Debug, Clone, Copy, PartialEq, Eq)]
+#[derive(Clone, Copy)]
 pub struct Moment {
     pub records: u64,
     pub stable: u64,

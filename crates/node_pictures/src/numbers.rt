@@ -1,6 +1,5 @@
 //! Lists of numbers.
-use node_shell::{Piece, print, put};
-use std::io;
+use crate::text::Text;
 
 /// Numbers that are printed one by one: those that follow each other as one span.
 #[derive(Clone, Copy)]
@@ -22,47 +21,38 @@ impl Numbers {
     }
 
     /// Takes the next number, which is above those before.
-    pub fn take(&mut self, text: &mut Vec<u8>, number: u64) -> io::Result<()> {
+    pub fn take(&mut self, text: &mut Text<'_, Vec<u8>>, number: u64) {
         if self.is_begun && self.last.checked_add(1) == Some(number) {
             self.last = number;
-            return Ok(());
+            return;
         }
-        self.put(text)?;
+        self.put(text);
         self.first = number;
         self.last = number;
         self.is_begun = true;
-        Ok(())
     }
 
     /// Writes the span that is left, if any.
-    fn put(&mut self, text: &mut Vec<u8>) -> io::Result<()> {
+    fn put(&mut self, text: &mut Text<'_, Vec<u8>>) {
         if !self.is_begun {
-            return Ok(());
+            return;
         }
         if self.has_any {
-            print(text, &[Piece::Text(", ")])?;
+            text.say(", ");
         }
         self.has_any = true;
         self.is_begun = false;
-        if self.first == self.last {
-            return print(text, &[Piece::Number(self.first)]);
+        text.number(self.first);
+        if self.first != self.last {
+            text.say("-").number(self.last);
         }
-        print(
-            text,
-            &[
-                Piece::Number(self.first),
-                Piece::Text("-"),
-                Piece::Number(self.last),
-            ],
-        )
     }
 
     /// Writes what is left, or that there is none.
-    pub fn end(&mut self, text: &mut Vec<u8>) -> io::Result<()> {
-        self.put(text)?;
-        if self.has_any {
-            return Ok(());
+    pub fn end(&mut self, text: &mut Text<'_, Vec<u8>>) {
+        self.put(text);
+        if !self.has_any {
+            text.say("none");
         }
-        print(text, &[Piece::Text("none")])
     }
 }

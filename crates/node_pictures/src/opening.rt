@@ -1,7 +1,7 @@
 //! The opening of a picture: how its shapes look in light and in dark.
 use crate::shapes::put_box;
 use crate::sheet::{At, Sheet};
-use node_shell::{Piece, print};
+use crate::text::Text;
 use std::io;
 
 const STYLE: &str = "<style>
@@ -64,25 +64,20 @@ markerUnits=\"userSpaceOnUse\"><path class=\"red\" d=\"M0 0L7 3L0 6z\"/></marker
 </defs>
 ";
 
-pub fn put_opening<W: io::Write>(writer: &mut W, sheet: Sheet) -> io::Result<()> {
-    print(
-        writer,
-        &[
-            Piece::Text("<svg xmlns=\"http://www.w3.org/2000/svg\" viewBox=\"0 0 "),
-            Piece::Number(sheet.width),
-            Piece::Text(" "),
-            Piece::Number(sheet.height),
-            Piece::Text("\" width=\""),
-            Piece::Number(sheet.width),
-            Piece::Text("\" height=\""),
-            Piece::Number(sheet.height),
-            Piece::Text("\">\n"),
-            Piece::Text(STYLE),
-        ],
-    )?;
+pub fn put_opening<W: io::Write>(text: &mut Text<'_, W>, sheet: Sheet) {
+    text.say("<svg xmlns=\"http://www.w3.org/2000/svg\" viewBox=\"0 0 ")
+        .number(sheet.width)
+        .say(" ")
+        .number(sheet.height)
+        .say("\" width=\"")
+        .number(sheet.width)
+        .say("\" height=\"")
+        .number(sheet.height)
+        .say("\">\n")
+        .say(STYLE);
     let middle = At {
         x: sheet.width / 2,
         y: sheet.height / 2,
     };
-    put_box(writer, "page", middle, sheet.width, sheet.height)
+    put_box(text, "page", middle, sheet.width, sheet.height);
 }

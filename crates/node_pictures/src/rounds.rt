@@ -1,23 +1,21 @@
 //! The events of a line that settles.
 use crate::step::{Doing, Step};
 use crate::story::{Story, label_of};
-use node_shell::{Piece, print};
+use crate::text::Text;
 use std::io;
 
 /// What such an event is, as a line of its own would name it.
-pub fn put_round<W: io::Write>(
-    writer: &mut W,
-    story: &Story<'_>,
-    step: &Step<'_>,
-) -> io::Result<()> {
-    print(writer, &[Piece::Text(name_of(step.doing))])?;
+pub fn put_round<W: io::Write>(text: &mut Text<'_, W>, story: &Story<'_>, step: &Step<'_>) {
+    text.say(name_of(step.doing));
     match step.doing {
-        Doing::Request(number) | Doing::Reply(number) => print(writer, &[Piece::Number(number)]),
+        Doing::Request(number) | Doing::Reply(number) => {
+            text.number(number);
+        }
         Doing::Send | Doing::Undo => {
             let label = label_of(story.actors.as_slice(), step.txn);
-            print(writer, &[Piece::Word(label)])
+            text.word(label);
         }
-        _ => Ok(()),
+        _ => {}
     }
 }
 

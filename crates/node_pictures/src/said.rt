@@ -41,7 +41,7 @@ fn recovering(story: &Story<'_>) -> About {
     }
     let mut about = About::RedoEnd;
     for logged in story.log.as_slice() {
-        if about == About::RedoEnd && is_redone(logged, story.now.redo) {
+        if matches!(about, About::RedoEnd) && is_redone(logged, story.now.redo) {
             about = About::Perform(logged.number);
         }
     }

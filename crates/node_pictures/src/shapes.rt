@@ -1,112 +1,60 @@
 //! Shapes and texts of an SVG file.
 use crate::sheet::At;
-use node_shell::{Piece, print};
+use crate::text::Text;
 use std::io;
 
-pub fn put_line<W: io::Write>(writer: &mut W, class: &str, from: At, to: At) -> io::Result<()> {
-    print(
-        writer,
-        &[
-            Piece::Text("<path class=\""),
-            Piece::Text(class),
-            Piece::Text("\" d=\"M"),
-            Piece::Number(from.x),
-            Piece::Text(" "),
-            Piece::Number(from.y),
-            Piece::Text("L"),
-            Piece::Number(to.x),
-            Piece::Text(" "),
-            Piece::Number(to.y),
-            Piece::Text("\"/>\n"),
-        ],
-    )
+pub fn put_line<W: io::Write>(text: &mut Text<'_, W>, class: &str, from: At, to: At) {
+    text.say("<path class=\"")
+        .say(class)
+        .say("\" d=\"M")
+        .place(from)
+        .say("L")
+        .place(to)
+        .say("\"/>\n");
 }
 
 /// A line that is bent towards a place.
-pub fn put_arc<W: io::Write>(
-    writer: &mut W,
-    class: &str,
-    from: At,
-    by: At,
-    to: At,
-) -> io::Result<()> {
-    print(
-        writer,
-        &[
-            Piece::Text("<path class=\""),
-            Piece::Text(class),
-            Piece::Text("\" d=\"M"),
-            Piece::Number(from.x),
-            Piece::Text(" "),
-            Piece::Number(from.y),
-        ],
-    )?;
-    print(
-        writer,
-        &[
-            Piece::Text("Q"),
-            Piece::Number(by.x),
-            Piece::Text(" "),
-            Piece::Number(by.y),
-            Piece::Text(" "),
-            Piece::Number(to.x),
-            Piece::Text(" "),
-            Piece::Number(to.y),
-            Piece::Text("\"/>\n"),
-        ],
-    )
+pub fn put_arc<W: io::Write>(text: &mut Text<'_, W>, class: &str, from: At, by: At, to: At) {
+    text.say("<path class=\"")
+        .say(class)
+        .say("\" d=\"M")
+        .place(from)
+        .say("Q")
+        .place(by)
+        .say(" ")
+        .place(to)
+        .say("\"/>\n");
 }
 
 /// A box round a place.
-pub fn put_box<W: io::Write>(
-    writer: &mut W,
-    class: &str,
-    at: At,
-    width: u64,
-    height: u64,
-) -> io::Result<()> {
-    print(
-        writer,
-        &[
-            Piece::Text("<rect class=\""),
-            Piece::Text(class),
-            Piece::Text("\" x=\""),
-            Piece::Number(at.x.saturating_sub(width / 2)),
-            Piece::Text("\" y=\""),
-            Piece::Number(at.y.saturating_sub(height / 2)),
-            Piece::Text("\" width=\""),
-            Piece::Number(width),
-            Piece::Text("\" height=\""),
-            Piece::Number(height),
-            Piece::Text("\"/>\n"),
-        ],
-    )
+pub fn put_box<W: io::Write>(text: &mut Text<'_, W>, class: &str, at: At, width: u64, height: u64) {
+    text.say("<rect class=\"")
+        .say(class)
+        .say("\" x=\"")
+        .number(at.x.saturating_sub(width / 2))
+        .say("\" y=\"")
+        .number(at.y.saturating_sub(height / 2))
+        .say("\" width=\"")
+        .number(width)
+        .say("\" height=\"")
+        .number(height)
+        .say("\"/>\n");
 }
 
-pub fn put_circle<W: io::Write>(
-    writer: &mut W,
-    class: &str,
-    at: At,
-    radius: u64,
-) -> io::Result<()> {
-    print(
-        writer,
-        &[
-            Piece::Text("<circle class=\""),
-            Piece::Text(class),
-            Piece::Text("\" cx=\""),
-            Piece::Number(at.x),
-            Piece::Text("\" cy=\""),
-            Piece::Number(at.y),
-            Piece::Text("\" r=\""),
-            Piece::Number(radius),
-            Piece::Text("\"/>\n"),
-        ],
-    )
+pub fn put_circle<W: io::Write>(text: &mut Text<'_, W>, class: &str, at: At, radius: u64) {
+    text.say("<circle class=\"")
+        .say(class)
+        .say("\" cx=\"")
+        .number(at.x)
+        .say("\" cy=\"")
+        .number(at.y)
+        .say("\" r=\"")
+        .number(radius)
+        .say("\"/>\n");
 }
 
 /// Two strokes that cross at a place.
-pub fn put_cross<W: io::Write>(writer: &mut W, class: &str, at: At, size: u64) -> io::Result<()> {
+pub fn put_cross<W: io::Write>(text: &mut Text<'_, W>, class: &str, at: At, size: u64) {
     let low = At {
         x: at.x.saturating_sub(size),
         y: at.y.saturating_sub(size),
@@ -115,9 +63,9 @@ pub fn put_cross<W: io::Write>(writer: &mut W, class: &str, at: At, size: u64) -
         x: at.x.saturating_add(size),
         y: at.y.saturating_add(size),
     };
-    put_line(writer, class, low, high)?;
+    put_line(text, class, low, high);
     put_line(
-        writer,
+        text,
         class,
         At {
             x: low.x,
@@ -127,5 +75,5 @@ pub fn put_cross<W: io::Write>(writer: &mut W, class: &str, at: At, size: u64) -
             x: high.x,
             y: low.y,
         },
-    )
+    );
 }

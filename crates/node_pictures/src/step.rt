@@ -4,7 +4,7 @@ use record_key::Refusal;
 use world::Out;
 
 /// What an event is.
-#[derive(Debug, Clone, Copy, PartialEq, Eq)]
+#[derive(Clone, Copy)]
 pub enum Doing {
     Begin,
     Write,
@@ -33,7 +33,7 @@ pub enum Doing {
 }
 
 /// An event of a line.
-#[derive(Debug, Drop)]
+#[derive(Drop)]
 pub struct Step<'a> {
     /// The line's number, from 1.
     pub line: u64,

@@ -1,19 +1,17 @@
 //! What a step has changed at leaves, in words.
 use crate::leaf::{Change, What};
-use node_shell::{Piece, print};
-use std::io;
+use crate::text::Text;
 
 /// A line of each change that this step has made.
-pub fn tell_changes(text: &mut Vec<u8>, changes: &[Change], at: usize) -> io::Result<()> {
+pub fn tell_changes(text: &mut Text<'_, Vec<u8>>, changes: &[Change], at: usize) {
     for change in changes {
         if change.step == at {
-            tell_change(text, change)?;
+            tell_change(text, change);
         }
     }
-    Ok(())
 }
 
-fn tell_change(text: &mut Vec<u8>, change: &Change) -> io::Result<()> {
+fn tell_change(text: &mut Text<'_, Vec<u8>>, change: &Change) {
     match change.what {
         What::Ends => put(text, change.leaf, " is gone", None),
         What::Captures(number) => put(text, change.leaf, " captures ", Some(number)),
@@ -30,17 +28,10 @@ fn tell_change(text: &mut Vec<u8>, change: &Change) -> io::Result<()> {
     }
 }
 
-fn put(text: &mut Vec<u8>, leaf: u64, words: &str, number: Option<u64>) -> io::Result<()> {
-    print(
-        text,
-        &[
-            Piece::Text("    leaf "),
-            Piece::Number(leaf),
-            Piece::Text(words),
-        ],
-    )?;
+fn put(text: &mut Text<'_, Vec<u8>>, leaf: u64, words: &str, number: Option<u64>) {
+    text.say("    leaf ").number(leaf).say(words);
     if let Some(number) = number {
-        print(text, &[Piece::Number(number)])?;
+        text.number(number);
     }
-    print(text, &[Piece::Text(".\n")])
+    text.say(".\n");
 }

@@ -4,84 +4,66 @@ ghost use Rattle.node_shell.specs.View.{leaves_of};
 
 use crate::numbers::Numbers;
 use crate::story::Story;
-use node_shell::{Piece, print};
+use crate::text::Text;
 use page::Leaf;
 use record_key::Key;
-use std::io;
 use world::World;
 
 /// A line of each leaf as it is.
-pub fn tell_leaves(text: &mut Vec<u8>, story: &Story<'_>) -> io::Result<()> {
+pub fn tell_leaves(text: &mut Text<'_, Vec<u8>>, story: &Story<'_>) {
     match story.shell.world.leaves() {
         Ok(count) => tell_each(text, &story.shell.world, count),
-        Err(_) => print(text, &[Piece::Text("  leaves: their component is down.\n")]),
+        Err(_) => {
+            text.say("  leaves: their component is down.\n");
+        }
     }
 }
 
-fn tell_each(text: &mut Vec<u8>, world: &World, count: usize) -> io::Result<()>
+fn tell_each(text: &mut Text<'_, Vec<u8>>, world: &World, count: usize)
     requires up { world.now.dc_up ≡ true }
     requires all { count ≡ length (leaves_of world.now) }
 {
     for place in 0..count {
-        tell_leaf(text, world.leaf(place))?;
+        tell_leaf(text, world.leaf(place));
     }
-    Ok(())
 }
 
-fn tell_leaf(text: &mut Vec<u8>, leaf: &Leaf) -> io::Result<()> {
-    print(
-        text,
-        &[
-            Piece::Text("  leaf "),
-            Piece::Number(leaf.id()),
-            Piece::Text(": "),
-        ],
-    )?;
-    tell_fences(text, leaf.low_fence(), leaf.high_fence())?;
-    print(
-        text,
-        &[
-            Piece::Text("records "),
-            Piece::Number(leaf.rows().len() as u64),
-            Piece::Text(", low "),
-            Piece::Number(leaf.low()),
-            Piece::Text(", captured beyond it: "),
-        ],
-    )?;
-    tell_captured(text, leaf)?;
-    print(text, &[Piece::Text(".\n")])
+fn tell_leaf(text: &mut Text<'_, Vec<u8>>, leaf: &Leaf) {
+    text.say("  leaf ").number(leaf.id()).say(": ");
+    tell_fences(text, leaf.low_fence(), leaf.high_fence());
+    text.say("records ")
+        .number(leaf.rows().len() as u64)
+        .say(", low ")
+        .number(leaf.low())
+        .say(", captured beyond it: ");
+    tell_captured(text, leaf);
+    text.say(".\n");
 }
 
-fn tell_fences(text: &mut Vec<u8>, low: Option<&Key>, high: Option<&Key>) -> io::Result<()> {
+fn tell_fences(text: &mut Text<'_, Vec<u8>>, low: Option<&Key>, high: Option<&Key>) {
     match low {
-        Some(key) => print(
-            text,
-            &[
-                Piece::Text("keys from "),
-                Piece::Word(key.as_bytes()),
-                Piece::Text(" on"),
-            ],
-        )?,
-        None => print(text, &[Piece::Text("keys from the first on")])?,
+        Some(key) => {
+            text.say("keys from ").word(key.as_bytes()).say(" on");
+        }
+        None => {
+            text.say("keys from the first on");
+        }
     }
     match high {
-        Some(key) => print(
-            text,
-            &[
-                Piece::Text(" and below "),
-                Piece::Word(key.as_bytes()),
-                Piece::Text("; "),
-            ],
-        ),
-        None => print(text, &[Piece::Text(" to the last; ")]),
+        Some(key) => {
+            text.say(" and below ").word(key.as_bytes()).say("; ");
+        }
+        None => {
+            text.say(" to the last; ");
+        }
     }
 }
 
-fn tell_captured(text: &mut Vec<u8>, leaf: &Leaf) -> io::Result<()> {
+fn tell_captured(text: &mut Text<'_, Vec<u8>>, leaf: &Leaf) {
     let mut numbers = Numbers::new();
     let entries = leaf.entries();
     for at in 0..entries.len() {
-        numbers.take(text, entries.entry(at).number)?;
+        numbers.take(text, entries.entry(at).number);
     }
-    numbers.end(text)
+    numbers.end(text);
 }

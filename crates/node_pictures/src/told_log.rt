@@ -3,35 +3,27 @@ use crate::log_seen::is_asked;
 use crate::logged::Logged;
 use crate::numbers::Numbers;
 use crate::story::Story;
-use node_shell::{Piece, print};
-use std::io;
+use crate::text::Text;
 
 /// A line of the log as it is.
-pub fn tell_log(text: &mut Vec<u8>, story: &Story<'_>) -> io::Result<()> {
+pub fn tell_log(text: &mut Text<'_, Vec<u8>>, story: &Story<'_>) {
     if !story.now.is_tc_up {
-        return print(
-            text,
-            &[Piece::Text("  transactions and log: their component is down.\n")],
-        );
+        text.say("  transactions and log: their component is down.\n");
+        return;
     }
-    print(
-        text,
-        &[
-            Piece::Text("  log: records "),
-            Piece::Number(story.now.records),
-            Piece::Text(", stable up to "),
-            Piece::Number(story.now.stable),
-            Piece::Text("; not answered: "),
-        ],
-    )?;
+    text.say("  log: records ")
+        .number(story.now.records)
+        .say(", stable up to ")
+        .number(story.now.stable)
+        .say("; not answered: ");
     let mut numbers = Numbers::new();
     for logged in story.log.as_slice() {
         if is_unanswered(logged) {
-            numbers.take(text, logged.number)?;
+            numbers.take(text, logged.number);
         }
     }
-    numbers.end(text)?;
-    print(text, &[Piece::Text(".\n")])
+    numbers.end(text);
+    text.say(".\n");
 }
 
 fn is_unanswered(logged: &Logged) -> bool {

@@ -1,48 +1,43 @@
 //! Messages, in words: which haven't arrived.
 use crate::message::{About, Message};
 use crate::story::Story;
-use node_shell::{Piece, print};
-use std::io;
+use crate::text::Text;
 
 /// A line of the messages that were never delivered, if there are any.
-pub fn tell_messages(text: &mut Vec<u8>, story: &Story<'_>) -> io::Result<()> {
+pub fn tell_messages(text: &mut Text<'_, Vec<u8>>, story: &Story<'_>) {
     let mut separator = "  not delivered so far: ";
     for message in story.messages.as_slice() {
         if message.deliveries == 0 {
-            print(text, &[Piece::Text(separator)])?;
-            put_message(text, message)?;
+            text.say(separator);
+            put_message(text, message);
             separator = ", ";
         }
     }
     if separator == ", " {
-        return print(text, &[Piece::Text(".\n")]);
+        text.say(".\n");
     }
-    Ok(())
 }
 
 /// A message by its number, and what it says.
-pub fn put_message(text: &mut Vec<u8>, message: &Message) -> io::Result<()> {
+pub fn put_message(text: &mut Text<'_, Vec<u8>>, message: &Message) {
     let kind = if message.is_reply {
         "reply "
     } else {
         "request "
     };
-    print(
-        text,
-        &[
-            Piece::Text(kind),
-            Piece::Number(message.number),
-            Piece::Text(" ("),
-        ],
-    )?;
-    put_about(text, message.about)?;
-    print(text, &[Piece::Text(")")])
+    text.say(kind).number(message.number).say(" (");
+    put_about(text, message.about);
+    text.say(")");
 }
 
-fn put_about(text: &mut Vec<u8>, about: About) -> io::Result<()> {
+fn put_about(text: &mut Text<'_, Vec<u8>>, about: About) {
     match about {
-        About::Perform(number) => print(text, &[Piece::Text("perform "), Piece::Number(number)]),
-        other => print(text, &[Piece::Text(words_of(other))]),
+        About::Perform(number) => {
+            text.say("perform ").number(number);
+        }
+        other => {
+            text.say(words_of(other));
+        }
     }
 }
 

@@ -2,25 +2,25 @@
 use crate::log_seen::find;
 use crate::step::{Doing, Step};
 use crate::story::{Story, label_of};
+use crate::text::Text;
 use history::Record;
-use node_shell::{Piece, print, print_refusal, print_told, request};
-use std::io;
+use node_shell::request;
 use world::Out;
 
 /// What a step came to, and the end of its line.
-pub fn tell_out(text: &mut Vec<u8>, story: &Story<'_>, step: &Step<'_>) -> io::Result<()> {
+pub fn tell_out(text: &mut Text<'_, Vec<u8>>, story: &Story<'_>, step: &Step<'_>) {
     match &step.out {
         Out::Refused(refusal) => {
-            print(text, &[Piece::Text("refused, so nothing changes: ")])?;
-            print_refusal(text, *refusal)
+            text.say("refused, so nothing changes: ");
+            text.refusal(*refusal);
         }
         Out::Stable { end, committed } => {
-            numbered(text, "the log is stable up to ", *end)?;
-            tell_committed(text, story, committed.as_slice())
+            numbered(text, "the log is stable up to ", *end);
+            tell_committed(text, story, committed.as_slice());
         }
         Out::Connects { request, committed } => {
-            numbered(text, "a session is started by request ", *request)?;
-            tell_committed(text, story, committed.as_slice())
+            numbered(text, "a session is started by request ", *request);
+            tell_committed(text, story, committed.as_slice());
         }
         Out::Answered { .. } => told(text, "its client is told: ", &step.out),
         Out::Row { .. } => told(text, "its client is told: ", &step.out),
@@ -31,20 +31,20 @@ pub fn tell_out(text: &mut Vec<u8>, story: &Story<'_>, step: &Step<'_>) -> io::R
                 story,
                 *txn,
                 " is given the rows that it asked for: ",
-            )?;
-            numbered(text, "", rows.as_slice().len() as u64)
+            );
+            numbered(text, "", rows.as_slice().len() as u64);
         }
         Out::Compensated(number) => tell_comp(text, story, *number),
         out => tell_plain(text, story, step, out),
     }
 }
 
-fn told(text: &mut Vec<u8>, words: &str, out: &Out) -> io::Result<()> {
-    print(text, &[Piece::Text(words)])?;
-    print_told(text, out)
+fn told(text: &mut Text<'_, Vec<u8>>, words: &str, out: &Out) {
+    text.say(words);
+    text.told(out);
 }
 
-fn tell_committed(text: &mut Vec<u8>, story: &Story<'_>, committed: &[u64]) -> io::Result<()> {
+fn tell_committed(text: &mut Text<'_, Vec<u8>>, story: &Story<'_>, committed: &[u64]) {
     for txn in committed {
         named(
             text,
@@ -52,15 +52,15 @@ fn tell_committed(text: &mut Vec<u8>, story: &Story<'_>, committed: &[u64]) -> i
             story,
             *txn,
             " has committed, and its keys are free.\n",
-        )?;
+        );
     }
-    Ok(())
 }
 
 /// A compensation: what it undoes, and what is left.
-fn tell_comp(text: &mut Vec<u8>, story: &Story<'_>, number: u64) -> io::Result<()> {
+fn tell_comp(text: &mut Text<'_, Vec<u8>>, story: &Story<'_>, number: u64) {
     let Some(logged) = find(story.log.as_slice(), number) else {
-        return print(text, &[Piece::Text("a compensation\n")]);
+        text.say("a compensation\n");
+        return;
     };
     match &logged.record {
         Record::Comp {
@@ -69,30 +69,26 @@ fn tell_comp(text: &mut Vec<u8>, story: &Story<'_>, number: u64) -> io::Result<(
             next,
             ..
         } => {
-            named(text, "", story, *txn, " undoes ")?;
-            print(
-                text,
-                &[
-                    Piece::Number(*undoes),
-                    Piece::Text(" by "),
-                    Piece::Number(number),
-                ],
-            )?;
-            tell_left(text, *next)
+            named(text, "", story, *txn, " undoes ");
+            text.number(*undoes).say(" by ").number(number);
+            tell_left(text, *next);
         }
-        _ => print(text, &[Piece::Text("a compensation\n")]),
+        _ => {
+            text.say("a compensation\n");
+        }
     }
 }
 
-fn tell_left(text: &mut Vec<u8>, next: u64) -> io::Result<()> {
+fn tell_left(text: &mut Text<'_, Vec<u8>>, next: u64) {
     if next == 0 {
-        return print(text, &[Piece::Text("; nothing of it is left to undo\n")]);
+        text.say("; nothing of it is left to undo\n");
+    } else {
+        numbered(text, "; what is left to undo of it begins at ", next);
     }
-    numbered(text, "; what is left to undo of it begins at ", next)
 }
 
 /// An output with one number or none.
-fn tell_plain(text: &mut Vec<u8>, story: &Story<'_>, step: &Step<'_>, out: &Out) -> io::Result<()> {
+fn tell_plain(text: &mut Text<'_, Vec<u8>>, story: &Story<'_>, step: &Step<'_>, out: &Out) {
     match out {
         Out::Begun(txn) => named(text, "", story, *txn, " begins\n"),
         Out::Logged(number) => numbered(text, "logged as ", *number),
@@ -107,8 +103,8 @@ fn tell_plain(text: &mut Vec<u8>, story: &Story<'_>, step: &Step<'_>, out: &Out)
             " is rolled back, and its keys are free\n",
         ),
         Out::Back { txn, savepoint } => {
-            named(text, "", story, *txn, " is back at its savepoint ")?;
-            numbered(text, "", *savepoint)
+            named(text, "", story, *txn, " is back at its savepoint ");
+            numbered(text, "", *savepoint);
         }
         Out::Lost(txn) => named(
             text,
@@ -125,12 +121,14 @@ fn tell_plain(text: &mut Vec<u8>, story: &Story<'_>, step: &Step<'_>, out: &Out)
         Out::Undone(number) => numbered(text, "undone for good by compensation ", *number),
         Out::CheckpointLogged(number) => numbered(text, "the checkpoint is logged as ", *number),
         Out::Up(count) => numbered(text, up_words(step.doing), *count),
-        other => print(text, &[Piece::Text(words_of(other, step.doing))]),
+        other => {
+            text.say(words_of(other, step.doing));
+        }
     }
 }
 
 fn up_words(doing: Doing) -> &'static str {
-    if doing == Doing::RestartTc {
+    if matches!(doing, Doing::RestartTc) {
         "the transaction component runs again; records left: "
     } else {
         "the data component runs again; leaves: "
@@ -151,35 +149,18 @@ fn words_of(out: &Out, doing: Doing) -> &'static str {
     }
 }
 
-fn numbered(text: &mut Vec<u8>, words: &str, number: u64) -> io::Result<()> {
-    print(
-        text,
-        &[Piece::Text(words), Piece::Number(number), Piece::Text("\n")],
-    )
+fn numbered(text: &mut Text<'_, Vec<u8>>, words: &str, number: u64) {
+    text.say(words).number(number).say("\n");
 }
 
 /// A transaction by its label and its number, and what is said of it.
-fn named(
-    text: &mut Vec<u8>,
-    before: &str,
-    story: &Story<'_>,
-    txn: u64,
-    words: &str,
-) -> io::Result<()> {
-    print(text, &[Piece::Text(before)])?;
-    put_name(text, label_of(story.actors.as_slice(), txn), txn)?;
-    print(text, &[Piece::Text(words)])
+fn named(text: &mut Text<'_, Vec<u8>>, before: &str, story: &Story<'_>, txn: u64, words: &str) {
+    text.say(before);
+    put_name(text, label_of(story.actors.as_slice(), txn), txn);
+    text.say(words);
 }
 
 /// A transaction's label and number.
-pub fn put_name(text: &mut Vec<u8>, label: &[u8], txn: u64) -> io::Result<()> {
-    print(
-        text,
-        &[
-            Piece::Word(label),
-            Piece::Text(" ("),
-            Piece::Number(txn),
-            Piece::Text(")"),
-        ],
-    )
+pub fn put_name(text: &mut Text<'_, Vec<u8>>, label: &[u8], txn: u64) {
+    text.word(label).say(" (").number(txn).say(")");
 }

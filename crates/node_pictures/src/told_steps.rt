@@ -4,60 +4,59 @@ use crate::messages::message_of;
 use crate::rounds::put_round;
 use crate::step::Step;
 use crate::story::Story;
+use crate::text::Text;
 use crate::told_changes::tell_changes;
 use crate::told_losses::tell_losses;
 use crate::told_messages::put_message;
 use crate::told_out::tell_out;
-use node_shell::{Piece, print, print_record};
-use std::io;
 use world::Out;
 
 /// Lines of the steps from this one on.
 pub fn tell_steps(
-    text: &mut Vec<u8>,
+    text: &mut Text<'_, Vec<u8>>,
     story: &Story<'_>,
     whole: &Story<'_>,
     first: usize,
-) -> io::Result<()> {
-    for (at, step) in story.steps.as_slice().iter().enumerate().skip(first) {
-        tell_step(text, story, step, at)?;
-        tell_records(text, story, at)?;
-        tell_changes(text, story.changes.as_slice(), at)?;
+) {
+    let steps = story.steps.as_slice();
+    for at in first..steps.len() {
+        let step = &steps[at];
+        tell_step(text, story, step, at);
+        tell_records(text, story, at);
+        tell_changes(text, story.changes.as_slice(), at);
         if step.out == Out::Down {
-            tell_losses(text, whole, step.doing, at)?;
+            tell_losses(text, whole, step.doing, at);
         }
     }
-    Ok(())
 }
 
-fn tell_step(text: &mut Vec<u8>, story: &Story<'_>, step: &Step<'_>, at: usize) -> io::Result<()> {
-    print(text, &[Piece::Text("  - ")])?;
+fn tell_step(text: &mut Text<'_, Vec<u8>>, story: &Story<'_>, step: &Step<'_>, at: usize) {
+    text.say("  - ");
     if step.is_round {
-        put_round(text, story, step)?;
-        print(text, &[Piece::Text(": ")])?;
+        put_round(text, story, step);
+        text.say(": ");
     }
-    tell_delivery(text, story, at)?;
-    tell_out(text, story, step)
+    tell_delivery(text, story, at);
+    tell_out(text, story, step);
 }
 
 /// Which message arrives, and how.
-fn tell_delivery(text: &mut Vec<u8>, story: &Story<'_>, at: usize) -> io::Result<()> {
+fn tell_delivery(text: &mut Text<'_, Vec<u8>>, story: &Story<'_>, at: usize) {
     for delivery in story.deliveries.as_slice() {
         if delivery.step == at {
-            tell_arrival(text, story, delivery)?;
+            tell_arrival(text, story, delivery);
         }
     }
-    Ok(())
 }
 
-fn tell_arrival(text: &mut Vec<u8>, story: &Story<'_>, delivery: &Delivery) -> io::Result<()> {
+fn tell_arrival(text: &mut Text<'_, Vec<u8>>, story: &Story<'_>, delivery: &Delivery) {
     let found = message_of(
         story.messages.as_slice(),
         delivery.is_reply,
         delivery.number,
     );
     if let Some(message) = &found {
-        put_message(text, message)?;
+        put_message(text, message);
     }
     let how = match delivery.fate {
         Fate::First => " arrives: ",
@@ -66,16 +65,15 @@ fn tell_arrival(text: &mut Vec<u8>, story: &Story<'_>, delivery: &Delivery) -> i
         Fate::LateAgain => " arrives again, late: ",
         Fate::Missed => " is lost, the component is down: ",
     };
-    print(text, &[Piece::Text(how)])
+    text.say(how);
 }
 
 /// The records that are new.
-fn tell_records(text: &mut Vec<u8>, story: &Story<'_>, at: usize) -> io::Result<()> {
+fn tell_records(text: &mut Text<'_, Vec<u8>>, story: &Story<'_>, at: usize) {
     for logged in story.log.as_slice() {
         if logged.born == at {
-            print(text, &[Piece::Text("    logged: ")])?;
-            print_record(text, logged.number, &logged.record)?;
+            text.say("    logged: ");
+            text.record(logged.number, &logged.record);
         }
     }
-    Ok(())
 }

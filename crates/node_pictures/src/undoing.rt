@@ -2,9 +2,8 @@
 use crate::actor::{Actor, State};
 use crate::logged::Logged;
 use crate::story::Story;
+use crate::text::Text;
 use history::Record;
-use node_shell::{Piece, print};
-use std::io;
 
 /// Where a chain stands: its last record, and what that leaves to undo.
 #[derive(Clone, Copy)]
@@ -15,24 +14,18 @@ struct Chain {
 }
 
 /// A line of what is undone next for this transaction.
-pub fn tell_undo(text: &mut Vec<u8>, story: &Story<'_>, actor: &Actor<'_>) -> io::Result<()> {
+pub fn tell_undo(text: &mut Text<'_, Vec<u8>>, story: &Story<'_>, actor: &Actor<'_>) {
     let bound = match actor.state {
         State::Rolling { bound } => bound,
         _ => 0,
     };
-    print(
-        text,
-        &[
-            Piece::Text("    undo of "),
-            Piece::Word(actor.label),
-            Piece::Text(": "),
-        ],
-    )?;
+    text.say("    undo of ").word(actor.label).say(": ");
     let chain = chain_of(story.log.as_slice(), actor.txn);
     if chain.next <= bound {
-        return tell_last(text, chain, bound);
+        tell_last(text, chain, bound);
+    } else {
+        tell_next(text, chain);
     }
-    tell_next(text, chain)
 }
 
 /// The last step of a transaction in the log, and the operation that is undone next.
@@ -70,52 +63,25 @@ fn follow(chain: Chain, logged: &Logged, txn: u64) -> Chain {
     }
 }
 
-fn tell_next(text: &mut Vec<u8>, chain: Chain) -> io::Result<()> {
-    if !chain.is_comp {
-        return print(
-            text,
-            &[
-                Piece::Text("next is "),
-                Piece::Number(chain.next),
-                Piece::Text(", its newest operation, behind which nothing is undone yet.\n"),
-            ],
-        );
+fn tell_next(text: &mut Text<'_, Vec<u8>>, chain: Chain) {
+    text.say("next is ").number(chain.next);
+    if chain.is_comp {
+        text.say(", by the undo-next of comp ")
+            .number(chain.last)
+            .say("; what is undone is skipped, so undo never begins again.\n");
+    } else {
+        text.say(", its newest operation, behind which nothing is undone yet.\n");
     }
-    print(
-        text,
-        &[
-            Piece::Text("next is "),
-            Piece::Number(chain.next),
-            Piece::Text(", by the undo-next of comp "),
-            Piece::Number(chain.last),
-            Piece::Text("; what is undone is skipped, so undo never begins again.\n"),
-        ],
-    )
 }
 
-fn tell_last(text: &mut Vec<u8>, chain: Chain, bound: u64) -> io::Result<()> {
+fn tell_last(text: &mut Text<'_, Vec<u8>>, chain: Chain, bound: u64) {
     if chain.last == 0 {
-        return print(
-            text,
-            &[Piece::Text("it logged no operation, so only its end is left.\n")],
-        );
+        text.say("it logged no operation, so only its end is left.\n");
+    } else if bound == 0 {
+        text.say("nothing is left, by the undo-next 0 of comp ")
+            .number(chain.last)
+            .say(".\n");
+    } else {
+        text.say("nothing above ").number(bound).say(" is left.\n");
     }
-    if bound == 0 {
-        return print(
-            text,
-            &[
-                Piece::Text("nothing is left, by the undo-next 0 of comp "),
-                Piece::Number(chain.last),
-                Piece::Text(".\n"),
-            ],
-        );
-    }
-    print(
-        text,
-        &[
-            Piece::Text("nothing above "),
-            Piece::Number(bound),
-            Piece::Text(" is left.\n"),
-        ],
-    )
 }

@@ -1,7 +1,13 @@
 //! The calls of a node, each in a small function without a contract: a test of several calls is cheap to check then.
 use history::Record;
 use record_key::{Key, Refusal, Value};
+use std::alloc::Global;
 use world::{Event, Out, World, settle};
+
+/// A new node, behind a pointer: each step of a function that has a whole node by value is dear to check.
+pub fn new_world(alloc: Global) -> Result<Box<World>, Refusal> {
+    Ok(Box::new(alloc, World::new(alloc)?)?)
+}
 
 pub fn step(world: &mut World, event: &Event) -> Out {
     world.step(event)

@@ -4,7 +4,7 @@ use record_key::{Answer, Op, Refusal};
 use world::Out;
 
 /// How often each thing happened.
-#[derive(Debug, Clone, Copy)]
+#[derive(Clone, Copy)]
 pub struct Counts {
     answers: u64,
     added: u64,

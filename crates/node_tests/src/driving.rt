@@ -1,5 +1,5 @@
 //! A list of events at once, beside the same events one by one; and each event again where memory is refused.
-use crate::calls::step;
+use crate::calls::{new_world, step};
 use crate::flaw::{Flaw, check};
 use record_key::{Answer, Key, Op, Refusal, Value};
 use std::alloc::Global;
@@ -86,13 +86,13 @@ fn driven_beside(
 /// The other node does the events one by one.
 fn beside_another(alloc: Global, world: &mut World) -> Result<(), Flaw> {
     let events = late_messages(alloc)?;
-    let mut other = World::new(alloc)?;
+    let mut other = new_world(alloc)?;
     driven_beside(alloc, world, &mut other, &events)
 }
 
 /// A list of events at once.
 pub fn at_once(alloc: Global) -> Result<(), Flaw> {
-    let mut world = World::new(alloc)?;
+    let mut world = new_world(alloc)?;
     beside_another(alloc, &mut world)
 }
 
@@ -117,12 +117,12 @@ fn check_alike(world: &mut World, other: &mut World, events: &[Event]) -> Result
 
 fn alike_beside(alloc: Global, world: &mut World) -> Result<(), Flaw> {
     let events = late_messages(alloc)?;
-    let mut other = World::new(alloc)?;
+    let mut other = new_world(alloc)?;
     check_alike(world, &mut other, &events)
 }
 
 /// Two nodes answer alike. One growth may be refused in the run of the program.
 pub fn again(alloc: Global) -> Result<(), Flaw> {
-    let mut world = World::new(alloc)?;
+    let mut world = new_world(alloc)?;
     alike_beside(alloc, &mut world)
 }

@@ -2,7 +2,7 @@
 use world::{Device, Event};
 
 /// Which device may fail, and how often they do at most.
-#[derive(Debug, Clone, Copy)]
+#[derive(Clone, Copy)]
 pub struct Failures {
     tc_log: bool,
     dc_log: bool,

@@ -3,7 +3,7 @@ use record_key::Refusal;
 use std::alloc::{AllocError, AllocFailed};
 
 /// What ends a walk before its end.
-#[derive(Debug, Clone, Copy, PartialEq, Eq)]
+#[derive(Clone, Copy)]
 pub enum Flaw {
     /// Something isn't as it must be.
     Differs(&'static str),

@@ -4,7 +4,7 @@ use std::io;
 
 /// How many came to what they must, how many to something else, and how many were given up where the memory of the
 /// model ran out.
-#[derive(Debug, Clone, Copy, PartialEq, Eq)]
+#[derive(Clone, Copy)]
 pub struct Tally {
     agree: u64,
     differ: u64,

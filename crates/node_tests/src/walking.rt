@@ -1,5 +1,5 @@
 //! A random walk, with messages late, repeated and lost and crashes of both components, beside the plain slow model.
-use crate::calls::{record, records, rows, settle_all, stable_end};
+use crate::calls::{new_world, record, records, rows, settle_all, stable_end};
 use crate::choosing::{Chooser, is_dc_down, is_tc_down};
 use crate::counts::Counts;
 use crate::driving::step_again;
@@ -15,7 +15,7 @@ use world::{Event, Out, World};
 /// A node, the model beside it, and how far the walk came.
 #[derive(Drop)]
 pub struct Walk {
-    world: World,
+    world: Box<World>,
     model: Model,
     chooser: Chooser,
     /// The log at the latest crash of the transaction component, and how many of its records had to be kept.
@@ -29,7 +29,7 @@ impl Walk {
     /// Another walk after those that were counted.
     pub fn new(alloc: Global, seed: u64, counts: Counts) -> Result<Walk, Refusal> {
         Ok(Walk {
-            world: World::new(alloc)?,
+            world: new_world(alloc)?,
             model: Model::new(alloc),
             chooser: Chooser::new(seed),
             crashed: Vec::new(alloc),
@@ -40,17 +40,8 @@ impl Walk {
     }
 
     /// How far it and those before it came.
-    pub fn into_counts(self) -> Counts {
-        let Walk {
-            world: _,
-            model: _,
-            chooser: _,
-            crashed: _,
-            least: _,
-            failures: _,
-            counts,
-        } = self;
-        counts
+    pub fn counts(&self) -> Counts {
+        self.counts
     }
 
     /// One event: two of three go on from the last, the others are any.

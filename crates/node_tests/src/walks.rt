@@ -8,7 +8,7 @@ use std::alloc::Global;
 use std::io;
 
 /// How long a walk is.
-#[derive(Debug, Clone, Copy, PartialEq, Eq)]
+#[derive(Clone, Copy)]
 pub enum Kind {
     /// Four thousand events; after each hundred the node is settled and compared.
     Walk,
@@ -29,7 +29,7 @@ pub fn play(rt: &HostRuntime, kind: Kind, first: u64, count: u64) -> io::Result<
             println!(rt; "{} {seed}: {what}", name(kind))?;
         }
     }
-    if kind == Kind::Walk
+    if let Kind::Walk = kind
         && let Some(lack) = counts.lack()
     {
         println!(rt; "walks: {lack}")?;
@@ -51,7 +51,7 @@ fn played(alloc: Global, kind: Kind, seed: u64, counts: &mut Counts) -> Result<(
         Kind::Walk => walk_far(alloc, &mut walk),
         Kind::Script => walk_briefly(alloc, &mut walk, seed),
     };
-    *counts = walk.into_counts();
+    *counts = walk.counts();
     came
 }
 
