@@ -1,6 +1,7 @@
 //! A client: its session, and what it notes of its own calls.
 use crate::call::Call;
 use crate::served::Serves;
+use crate::verdict::{TRIES, Verdict};
 use codec::Rows;
 use record_key::{Answer, Key, Op, Refusal, Value};
 use std::alloc::Global;
@@ -59,8 +60,20 @@ impl<S: Serves + Drop> Client<S> {
         self.session.marks()
     }
 
-    /// Makes a call, and notes what it is answered. Refused NoMemory where it can't be noted.
+    /// Makes a call, and notes what it is answered. Where that is NoMemory it is carried on, or made again if nothing of
+    /// it stands. Refused NoMemory where this comes to nothing.
     pub fn make<R: Wait>(&mut self, rt: &R, call: &Call) -> Result<(), Refusal> {
+        for _ in 0..TRIES {
+            if self.make_once(rt, call).is_ok() && self.is_made(rt)? {
+                return Ok(());
+            }
+        }
+        Err(Refusal::NoMemory)
+    }
+
+    // Makes a call. Refused NoMemory where it couldn't be noted; it isn't made then.
+    fn make_once<R: Wait>(&mut self, rt: &R, call: &Call) -> Result<(), Refusal> {
+        self.notes.reserve(1)?;
         let event = call.event(self.txn);
         let out = match self.answer(rt, call) {
             Ok(out) => out,
@@ -73,12 +86,43 @@ impl<S: Serves + Drop> Client<S> {
         Ok(())
     }
 
-    /// Carries its unfinished call on, which is noted as answered so: what that was answered.
+    // Whether the latest call has another answer than NoMemory, once it was carried on; it hasn't where nothing of it
+    // stands. Refused NoMemory where it stays unfinished.
+    fn is_made<R: Wait>(&mut self, rt: &R) -> Verdict {
+        let Some(Out::Refused(Refusal::NoMemory)) = self.heard() else {
+            return Ok(true);
+        };
+        match self.again(rt) {
+            Ok(Out::Refused(Refusal::NoMemory)) => Err(Refusal::NoMemory),
+            Ok(_) => Ok(true),
+            Err(_) => Ok(false),
+        }
+    }
+
+    /// Carries its unfinished call on, for as long as memory is refused, and notes what that is answered. Refused Unsent
+    /// where none is unfinished.
     pub fn again<R: Wait>(&mut self, rt: &R) -> Result<&Out, Refusal> {
-        let told = self.session.again(rt)?;
+        let told = self.carried_on(rt);
+        if let Err(Refusal::Unsent) = told {
+            return Err(Refusal::Unsent);
+        }
         let note = self.unfinished().ok_or(Refusal::Unsent)?;
-        note.out = out_of(&note.event, told);
+        note.out = match told {
+            Ok(told) => out_of(&note.event, told),
+            Err(refusal) => Out::Refused(refusal),
+        };
         Ok(&note.out)
+    }
+
+    // What its unfinished call comes to.
+    fn carried_on<R: Wait>(&mut self, rt: &R) -> Result<Told, Refusal> {
+        for _ in 0..TRIES {
+            match self.session.again(rt) {
+                Err(Refusal::NoMemory) => {}
+                told => return told,
+            }
+        }
+        Err(Refusal::NoMemory)
     }
 
     // The latest call that a failure left unfinished.

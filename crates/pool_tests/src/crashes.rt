@@ -1,6 +1,8 @@
-//! Crashes that the main thread makes beside its clients.
-use crate::plan::Many;
+//! What the main thread does to the engine beside its clients: crashes, and failures of the log's device.
+use crate::plan::{Many, Trouble};
 use crate::stage::{Door, Stage};
+use crate::verdict::{TRIES, Verdict, both};
+use record_key::Refusal;
 use std::sync::Wait;
 use worker_pool::{Engine, Naming};
 
@@ -12,45 +14,103 @@ enum Crash {
     Both,
 }
 
-const CRASHES: [Crash; 6] = [
-    Crash::Data,
-    Crash::Transactions(0),
-    Crash::Transactions(1000),
-    Crash::Both,
-    Crash::Transactions(7),
-    Crash::Data,
-];
+/// How many crashes a case has.
+const CRASHES: u64 = 6;
 
 /// How often a component has crashed once all of these were made.
 pub const FALLS: usize = 7;
 
+// What crashes at each of them.
+fn crash_at(place: u64) -> Crash {
+    match place {
+        1 => Crash::Transactions(0),
+        2 => Crash::Transactions(1000),
+        3 => Crash::Both,
+        4 => Crash::Transactions(7),
+        _ => Crash::Data,
+    }
+}
+
 /// How many calls of the log's device after a restart one fails.
 const FAILS: u64 = 9;
 
-/// Makes each crash after so many calls more, restarts what is down, and lets a device fail some calls later. Whether
-/// each restart was done.
-pub fn crash_all<J, R>(rt: &R, engine: &Engine<J, Door>, stage: &Stage, many: &Many) -> bool
+/// How often a call of the log's device fails where nothing crashes.
+const FAILURES: u64 = 60;
+
+/// Makes the trouble of a case. Whether each restart was done.
+pub fn trouble<J, R>(rt: &R, engine: &Engine<J, Door>, stage: &Stage, many: &Many) -> Verdict
 where
     J: Naming + Drop + Send + Sync + 'static,
     R: Wait,
 {
-    let Some(step) = many.plan.crashes else {
-        return true;
-    };
-    let mut up = true;
-    let mut calls = 0u64;
-    for crash in CRASHES {
-        calls = calls.saturating_add(step);
-        stage.wait_calls(calls, many.sessions as u64);
-        if !fall(rt, engine, stage, crash) {
-            up = false;
+    let clients = many.sessions as u64;
+    match many.plan.trouble {
+        Trouble::Nothing => Ok(true),
+        Trouble::Crashes(step) => crash_all(rt, engine, stage, clients, step),
+        Trouble::Failures(step) => {
+            fail_all(rt, engine, stage, clients, step);
+            Ok(true)
         }
+    }
+}
+
+// Lets the log's device fail its next call, the second or the third, each time after so many calls more.
+fn fail_all<J, R>(rt: &R, engine: &Engine<J, Door>, stage: &Stage, clients: u64, step: u64)
+where
+    J: Naming + Drop + Send + Sync + 'static,
+    R: Wait,
+{
+    let mut calls = 0u64;
+    for place in 0..FAILURES {
+        calls = calls.saturating_add(step);
+        stage.wait_calls(calls, clients);
+        engine.fail_tc(rt, place % 3 + 1);
+    }
+}
+
+// Makes each crash after so many calls more, restarts what is down, and lets a device fail some calls later. Whether each
+// restart was done.
+fn crash_all<J, R>(
+    rt: &R,
+    engine: &Engine<J, Door>,
+    stage: &Stage,
+    clients: u64,
+    step: u64,
+) -> Verdict
+where
+    J: Naming + Drop + Send + Sync + 'static,
+    R: Wait,
+{
+    let mut up = Ok(true);
+    let mut calls = 0u64;
+    for place in 0..CRASHES {
+        calls = calls.saturating_add(step);
+        stage.wait_calls(calls, clients);
+        up = both(up, fall(rt, engine, stage, crash_at(place)));
     }
     up
 }
 
+/// Brings the components up, and answers how often that was refused memory. Where it always is the transaction component
+/// crashes, so that no call waits for them.
+pub fn bring_up<J, R>(rt: &R, engine: &Engine<J, Door>) -> Result<u64, Refusal>
+where
+    J: Naming + Drop + Send + Sync + 'static,
+    R: Wait,
+{
+    for refused in 0..TRIES {
+        match engine.restart(rt) {
+            Err(Refusal::NoMemory) => {}
+            Ok(()) => return Ok(refused),
+            Err(refusal) => return Err(refusal),
+        }
+    }
+    engine.crash_tc(rt, 0);
+    Err(Refusal::NoMemory)
+}
+
 // Clients wait from before a crash until all is up again, if they are refused.
-fn fall<J, R>(rt: &R, engine: &Engine<J, Door>, stage: &Stage, crash: Crash) -> bool
+fn fall<J, R>(rt: &R, engine: &Engine<J, Door>, stage: &Stage, crash: Crash) -> Verdict
 where
     J: Naming + Drop + Send + Sync + 'static,
     R: Wait,
@@ -65,8 +125,14 @@ where
         }
     }
     // (what was to fail may fail here)
-    let up = engine.restart(rt).is_ok() || engine.restart(rt).is_ok();
+    let up = match bring_up(rt, engine) {
+        Err(Refusal::Device) => bring_up(rt, engine),
+        up => up,
+    };
     engine.fail_tc(rt, FAILS);
     stage.set_down(false);
-    up
+    match up {
+        Ok(_) => Ok(true),
+        Err(refusal) => Err(refusal),
+    }
 }

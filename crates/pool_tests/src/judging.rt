@@ -1,27 +1,28 @@
 //! What an engine leaves, judged.
 use crate::crashes::FALLS;
 use crate::parts::Part;
-use crate::plan::Many;
+use crate::plan::{Many, Trouble};
 use crate::playing::{OWN, own_key};
 use crate::served::Leaves;
 use crate::told::put_rows;
+use crate::verdict::Verdict;
 use crate::{machine, parts};
-use record_key::Refusal;
 use std::alloc::Global;
 use world::Out;
 
-/// Whether the journal is what the plain model says, and each session's part of it what its client noted.
-pub fn is_journal<L: Leaves>(alloc: Global, closed: &L, parts: &[Part]) -> Result<bool, Refusal> {
+/// Whether the journal is what the plain model says, and each session's part of it what its client noted; and where the
+/// case is whole, the records too.
+pub fn is_journal<L: Leaves>(alloc: Global, closed: &L, parts: &[Part], whole: bool) -> Verdict {
     for part in parts {
         if !parts::agrees(closed, part) {
             return Ok(false);
         }
     }
-    machine::agrees(alloc, closed)
+    machine::agrees(alloc, closed, whole)
 }
 
 /// Whether these records are left.
-pub fn leaves<L: Leaves>(alloc: Global, closed: &L, wanted: &str) -> Result<bool, Refusal> {
+pub fn leaves<L: Leaves>(alloc: Global, closed: &L, wanted: &str) -> Verdict {
     let mut text = String::new(alloc);
     match closed.records() {
         Some(rows) => put_rows(&mut text, rows)?,
@@ -31,11 +32,10 @@ pub fn leaves<L: Leaves>(alloc: Global, closed: &L, wanted: &str) -> Result<bool
 }
 
 /// Whether the case wasn't hollow: each client's own record is left, and each crash was one.
-pub fn is_played<L: Leaves>(closed: &L, many: &Many) -> Result<bool, Refusal> {
-    let wanted = if many.plan.crashes.is_some() {
-        FALLS
-    } else {
-        0
+pub fn is_played<L: Leaves>(closed: &L, many: &Many) -> Verdict {
+    let wanted = match many.plan.trouble {
+        Trouble::Crashes(_) => FALLS,
+        Trouble::Nothing | Trouble::Failures(_) => 0,
     };
     Ok(falls(closed) == wanted && has_own(closed, many)?)
 }
@@ -53,7 +53,7 @@ fn falls<L: Leaves>(closed: &L) -> usize {
     count
 }
 
-fn has_own<L: Leaves>(closed: &L, many: &Many) -> Result<bool, Refusal> {
+fn has_own<L: Leaves>(closed: &L, many: &Many) -> Verdict {
     let Some(rows) = closed.records() else {
         return Ok(false);
     };

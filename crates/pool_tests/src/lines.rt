@@ -1,15 +1,37 @@
 //! Calls that are lines of text, each with its answer.
 use crate::call::Call;
 use crate::client::Client;
+use crate::crashes::bring_up;
 use crate::served::Serves;
 use crate::stage::Door;
 use crate::told::put_told;
+use crate::verdict::Verdict;
 use record_key::Refusal;
-use std::alloc::Global;
+use std::alloc::{AllocError, Global};
 use std::fmt::Write;
 use std::sync::Wait;
 use test_lines::{Words, put_refusal};
 use worker_pool::{Engine, Naming};
+
+/// An answer of so many bytes takes no memory.
+const ROOM: usize = 1024;
+
+// Room for answers, asked for once more where memory was refused.
+fn room(alloc: Global) -> Result<String, AllocError> {
+    let mut text = String::new(alloc);
+    if text.reserve(ROOM).is_err() {
+        text.reserve(ROOM)?;
+    }
+    Ok(text)
+}
+
+// The call that the words say, read once more where memory was refused.
+fn read(words: Words<'_>) -> Result<Call, Refusal> {
+    match Call::read(&mut { words }) {
+        Err(Refusal::NoMemory) => Call::read(&mut { words }),
+        call => call,
+    }
+}
 
 /// A line without what stands around it: the call, and behind ` => ` the answer, which is nothing where that isn't there.
 fn parts(line: &str) -> (&str, &str) {
@@ -25,9 +47,10 @@ pub fn follow<S: Serves + Drop, R: Wait>(
     alloc: Global,
     client: &mut Client<S>,
     lines: &str,
-) -> Result<bool, Refusal> {
+) -> Verdict {
+    let mut text = room(alloc)?;
     for line in lines.lines() {
-        if !line.trim().is_empty() && !answers(rt, alloc, client, line)? {
+        if !line.trim().is_empty() && !answers(rt, alloc, client, line, &mut text)? {
             return Ok(false);
         }
     }
@@ -40,10 +63,11 @@ fn answers<S: Serves + Drop, R: Wait>(
     alloc: Global,
     client: &mut Client<S>,
     line: &str,
-) -> Result<bool, Refusal> {
+    text: &mut String,
+) -> Verdict {
     let (call, wanted) = parts(line);
-    let mut text = String::new(alloc);
-    put_answer(rt, client, &mut Words::new(alloc, call), &mut text)?;
+    text.clear();
+    put_answer(rt, client, Words::new(alloc, call), text)?;
     Ok(text.as_str() == wanted)
 }
 
@@ -51,14 +75,14 @@ fn answers<S: Serves + Drop, R: Wait>(
 fn put_answer<S: Serves + Drop, R: Wait>(
     rt: &R,
     client: &mut Client<S>,
-    words: &mut Words<'_>,
+    words: Words<'_>,
     text: &mut String,
 ) -> Result<(), Refusal> {
-    let mut first = *words;
+    let mut first = words;
     match first.word() {
         "marks" => return put_marks(client, text),
         "again" => return put_again(rt, client, text),
-        _ => client.make(rt, &Call::read(words)?)?,
+        _ => client.make(rt, &read(words)?)?,
     }
     match client.heard() {
         Some(out) => put_told(text, out),
@@ -92,14 +116,15 @@ pub fn follow_all<J, S, R>(
     engine: &Engine<J, Door>,
     clients: &mut Vec<Client<S>>,
     lines: &str,
-) -> Result<bool, Refusal>
+) -> Verdict
 where
     J: Naming + Drop + Send + Sync + 'static,
     S: Serves + Drop,
     R: Wait,
 {
+    let mut text = room(alloc)?;
     for line in lines.lines() {
-        if !line.trim().is_empty() && !happens(rt, alloc, engine, clients, line)? {
+        if !line.trim().is_empty() && !happens(rt, alloc, engine, clients, line, &mut text)? {
             return Ok(false);
         }
     }
@@ -113,25 +138,26 @@ fn happens<J, S, R>(
     engine: &Engine<J, Door>,
     clients: &mut Vec<Client<S>>,
     line: &str,
-) -> Result<bool, Refusal>
+    text: &mut String,
+) -> Verdict
 where
     J: Naming + Drop + Send + Sync + 'static,
     S: Serves + Drop,
     R: Wait,
 {
     let (call, wanted) = parts(line);
-    let mut text = String::new(alloc);
+    text.clear();
     let mut words = Words::new(alloc, call);
     match words.word() {
         "crash" => crash(rt, engine, &mut words)?,
         "fail" => engine.fail_tc(rt, words.number()?),
-        "restart" => put_restart(rt, engine, &mut text)?,
+        "restart" => put_restart(rt, engine, text)?,
         number => {
             let Some(place) = place_of(clients, number) else {
                 return Ok(false);
             };
             if let Some(client) = clients.get_mut(place) {
-                put_answer(rt, client, &mut words, &mut text)?;
+                put_answer(rt, client, words, text)?;
             }
         }
     }
@@ -163,14 +189,16 @@ where
     Ok(())
 }
 
-// Brings the components up, and appends whether they are.
+// Brings the components up, and appends whether they are. Refused NoMemory where that was: records have other numbers
+// than the lines say once it is tried again.
 fn put_restart<J, R>(rt: &R, engine: &Engine<J, Door>, text: &mut String) -> Result<(), Refusal>
 where
     J: Naming + Drop + Send + Sync + 'static,
     R: Wait,
 {
-    match engine.restart(rt) {
-        Ok(()) => Ok(text.push_str("up")?),
+    match bring_up(rt, engine) {
+        Ok(0) => Ok(text.push_str("up")?),
+        Ok(_) | Err(Refusal::NoMemory) => Err(Refusal::NoMemory),
         Err(refusal) => put_refusal(text, refusal),
     }
 }

@@ -4,6 +4,7 @@
 //! table of the others. Of a restart the journal tells how many records the log had then, and who is lost.
 use crate::client::is_failure;
 use crate::served::Leaves;
+use crate::verdict::Verdict;
 use client_model::{Beside, Model, Span};
 use record_key::{Op, Refusal};
 use std::alloc::{AllocError, Global};
@@ -32,19 +33,19 @@ struct Machine {
     ended: Vec<u64>,
 }
 
-/// Whether each step is what the model says, and the records at the end are its table's.
-pub fn agrees<L: Leaves>(alloc: Global, closed: &L) -> Result<bool, Refusal> {
+/// Whether each step is what the model says; and where the case is whole, the records at the end are its table's.
+pub fn agrees<L: Leaves>(alloc: Global, closed: &L, whole: bool) -> Verdict {
     let mut machine = Machine::new(alloc);
-    follows(&mut machine, alloc, closed)
+    follows(&mut machine, alloc, closed, whole)
 }
 
-fn follows<L: Leaves>(machine: &mut Machine, alloc: Global, closed: &L) -> Result<bool, Refusal> {
+fn follows<L: Leaves>(machine: &mut Machine, alloc: Global, closed: &L, whole: bool) -> Verdict {
     for place in 0..closed.count() {
         if !machine.follow(alloc, closed, place)? {
             return Ok(false);
         }
     }
-    machine.has_rows(alloc, closed)
+    Ok(!whole || machine.has_rows(alloc, closed)?)
 }
 
 // The number of the record that an output tells of.
@@ -87,17 +88,12 @@ impl Machine {
     }
 
     // Takes a step. Whether it is what the model says.
-    fn follow<L: Leaves>(
-        &mut self,
-        alloc: Global,
-        closed: &L,
-        place: usize,
-    ) -> Result<bool, Refusal> {
+    fn follow<L: Leaves>(&mut self, alloc: Global, closed: &L, place: usize) -> Verdict {
         let Some(step) = closed.step_at(place) else {
             return Ok(false);
         };
         self.turn(alloc, closed, place, step)?;
-        if !self.counts(&step.out) || !self.calls(alloc, step) {
+        if !self.counts(&step.out) || !self.calls(alloc, step)? {
             return Ok(false);
         }
         self.keep(step)?;
@@ -138,19 +134,20 @@ impl Machine {
     }
 
     // Whether a client's call came to what the model says, to which nothing fails.
-    fn calls(&mut self, alloc: Global, step: &Step) -> bool {
+    fn calls(&mut self, alloc: Global, step: &Step) -> Verdict {
         if is_failure(&step.out) {
-            return true;
+            return Ok(true);
         }
         let next = number_of(&step.out).unwrap_or(0);
         match self.model.call(alloc, &step.event, next) {
-            Some(wanted) => wanted == step.out,
-            None => true,
+            Some(Out::Refused(Refusal::NoMemory)) => Err(Refusal::NoMemory),
+            Some(wanted) => Ok(wanted == step.out),
+            None => Ok(true),
         }
     }
 
     // Whether what is told is what the model says.
-    fn tells(&mut self, alloc: Global, out: &Out) -> Result<bool, Refusal> {
+    fn tells(&mut self, alloc: Global, out: &Out) -> Verdict {
         match self.model.tell(alloc, out)? {
             Some(wanted) => Ok(wanted == *out),
             None => Ok(true),
@@ -240,7 +237,7 @@ impl Machine {
     }
 
     // Whether the records at the end are the table's, where both components are up.
-    fn has_rows<L: Leaves>(&self, alloc: Global, closed: &L) -> Result<bool, Refusal> {
+    fn has_rows<L: Leaves>(&self, alloc: Global, closed: &L) -> Verdict {
         match closed.records() {
             Some(rows) if !self.down => Ok(self.model.table(alloc)?.rows() == rows),
             _ => Ok(true),

@@ -3,8 +3,10 @@
 //! Knows: the public calls of an engine and its sessions, what each call of its data is to be answered, and the plain
 //! model of a node's clients.
 //! Must not know: how an engine serves its clients.
-//! Promises its reader to print how many cases agree, or the names of those that differ. What a client is told is
-//! compared with what is written out or with the plain model, and what clients noted with the engine's journal.
+//! Promises its reader to print how many cases agree, the names of those that differ, and how many gave up since they
+//! were refused memory themselves. What a client is told is compared with what is written out or with the plain model,
+//! and what clients noted with the engine's journal. A call that is refused memory is carried on, or made again, and has
+//! to be answered like any other then.
 #![tactic(auto)]
 
 mod call;
@@ -24,16 +26,18 @@ mod table;
 mod tally;
 mod threads;
 mod told;
+mod verdict;
 
 use plan::Many;
 use record_key::Refusal;
-use running::{Case, run};
-use std::alloc::{AllocError, Global};
+use running::{Case, run_case};
+use std::alloc::Global;
 use std::sync::Wait;
 use std::thread::Threads;
 use std::{fs, io};
 use table::Table;
 use tally::Tally;
+use verdict::Verdict;
 use worker_pool::Opened;
 
 fn main(rt: HostRuntime) -> io::Result<()> {
@@ -41,9 +45,9 @@ fn main(rt: HostRuntime) -> io::Result<()> {
     let tables = fs::read_to_string(&rt, "tables.txt")?;
     let plans = fs::read_to_string(&rt, "plans.txt")?;
     let mut tally = Tally::new(alloc);
-    run_tables(rt, alloc, tables.as_str(), &mut tally)?;
-    run_plans(rt, alloc, plans.as_str(), &mut tally)?;
-    tally.count("nine_sessions", Ok(refuses_nine(alloc)))?;
+    run_tables(rt, alloc, tables.as_str(), &mut tally);
+    run_plans(rt, alloc, plans.as_str(), &mut tally);
+    tally.count("nine_sessions", refuses_nine(alloc));
     tally.report(&rt)
 }
 
@@ -61,47 +65,57 @@ fn name_of(text: &str) -> &str {
 }
 
 // Runs the cases that are written out, each a block of lines.
-fn run_tables<R>(rt: R, alloc: Global, text: &str, tally: &mut Tally) -> Result<(), AllocError>
+fn run_tables<R>(rt: R, alloc: Global, text: &str, tally: &mut Tally)
 where
     R: Threads + Wait + Copy + Send + 'static,
 {
     for block in text.split("\n\n") {
         let block = block.trim();
         if is_case(block) {
-            tally.count(name_of(block), run_table(rt, alloc, block))?;
+            tally.count(name_of(block), run_table(rt, alloc, block));
         }
     }
-    Ok(())
 }
 
-fn run_table<R>(rt: R, alloc: Global, block: &str) -> Result<bool, Refusal>
+fn run_table<R>(rt: R, alloc: Global, block: &str) -> Verdict
 where
     R: Threads + Wait + Copy + Send + 'static,
 {
-    run(rt, alloc, Case::Table(Table::read(alloc, block)?))
+    run_case(rt, alloc, Case::Table(Table::read(alloc, block)?))
 }
 
 // Runs the cases whose calls are drawn, each a line.
-fn run_plans<R>(rt: R, alloc: Global, text: &str, tally: &mut Tally) -> Result<(), AllocError>
+fn run_plans<R>(rt: R, alloc: Global, text: &str, tally: &mut Tally)
 where
     R: Threads + Wait + Copy + Send + 'static,
 {
     for line in text.lines() {
         if is_case(line) {
-            tally.count(name_of(line), run_plan(rt, alloc, line))?;
+            tally.count(name_of(line), run_plan(rt, alloc, line));
         }
     }
-    Ok(())
 }
 
-fn run_plan<R>(rt: R, alloc: Global, line: &str) -> Result<bool, Refusal>
+fn run_plan<R>(rt: R, alloc: Global, line: &str) -> Verdict
 where
     R: Threads + Wait + Copy + Send + 'static,
 {
-    run(rt, alloc, Case::Many(Many::read(alloc, line)?))
+    run_case(rt, alloc, Case::Many(Many::read(alloc, line)?))
 }
 
 // An engine has at most eight sessions.
-fn refuses_nine(alloc: Global) -> bool {
-    matches!(Opened::new(alloc, 9), Err(Refusal::Full)) && Opened::new(alloc, 8).is_ok()
+fn refuses_nine(alloc: Global) -> Verdict {
+    match opens(alloc, 9) {
+        Err(Refusal::Full) => opens(alloc, 8),
+        Ok(_) => Ok(false),
+        refusal => refusal,
+    }
+}
+
+// Whether one of so many sessions is made.
+fn opens(alloc: Global, sessions: usize) -> Verdict {
+    match Opened::new(alloc, sessions) {
+        Ok(_) => Ok(true),
+        Err(refusal) => Err(refusal),
+    }
 }

@@ -3,16 +3,24 @@ use record_key::Refusal;
 use std::alloc::Global;
 use test_lines::Words;
 
+/// What befalls an engine beside its clients: nothing; or after so many calls, and again after as many more, something
+/// crashes, or a call of the log's device fails.
+#[derive(Debug, Clone, Copy)]
+pub enum Trouble {
+    Nothing,
+    Crashes(u64),
+    Failures(u64),
+}
+
 /// What each client of a case does: so many transactions on so many keys, each tried again so often where another
-/// transaction bars it. Beside them something crashes after so many calls, and again after as many more; or nothing
-/// does.
+/// transaction bars it.
 #[derive(Debug, Clone, Copy)]
 pub struct Plan {
     pub seed: u64,
     pub txns: u64,
     pub keys: u64,
     pub tries: u64,
-    pub crashes: Option<u64>,
+    pub trouble: Trouble,
 }
 
 /// A case of many clients.
@@ -42,13 +50,14 @@ fn read_plan(words: &mut Words<'_>) -> Result<Plan, Refusal> {
         txns: words.number()?,
         keys: words.number()?,
         tries: words.number()?,
-        crashes: read_crashes(words)?,
+        trouble: read_trouble(words)?,
     })
 }
 
-fn read_crashes(words: &mut Words<'_>) -> Result<Option<u64>, Refusal> {
-    if words.is_empty() {
-        return Ok(None);
+fn read_trouble(words: &mut Words<'_>) -> Result<Trouble, Refusal> {
+    match words.word() {
+        "crashes" => Ok(Trouble::Crashes(words.number()?)),
+        "fails" => Ok(Trouble::Failures(words.number()?)),
+        _ => Ok(Trouble::Nothing),
     }
-    Ok(Some(words.number()?))
 }

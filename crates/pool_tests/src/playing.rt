@@ -102,7 +102,6 @@ fn carry_on<S: Serves + Drop, R: Wait>(rt: &R, client: &mut Client<S>) -> Heard 
         }
         heard = match client.again(rt) {
             Ok(out) => hearing(Some(out)),
-            Err(Refusal::NoMemory | Refusal::Device) => Heard::Failed,
             Err(_) => Heard::Down,
         };
     }

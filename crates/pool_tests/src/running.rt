@@ -9,8 +9,9 @@ use crate::served::Leaves;
 use crate::stage::{Door, Hold, Stage};
 use crate::table::Table;
 use crate::threads::{Client, play_many, play_table};
+use crate::verdict::{Verdict, both};
 use record_key::Refusal;
-use std::alloc::Global;
+use std::alloc::{AllocError, Global};
 use std::marker::Brand;
 use std::sync::{Arc, Wait};
 use std::thread::Threads;
@@ -51,11 +52,32 @@ impl Case<'_> {
 struct Played<J: Naming> {
     sessions: Vec<Session<J, Door>>,
     parts: Vec<Part>,
-    agrees: bool,
+    agrees: Verdict,
+}
+
+impl<J: Naming + Drop> Played<J> {
+    // Takes a client's session and notes.
+    fn take(&mut self, client: Client<J>) -> Result<(), AllocError> {
+        let session = client.number();
+        let (own, notes) = client.parted();
+        self.sessions.push(own)?;
+        self.parts.push(Part { session, notes })?;
+        Ok(())
+    }
 }
 
 /// Runs a case on an engine of its own. Whether it agrees.
-pub fn run<R>(rt: R, alloc: Global, case: Case<'_>) -> Result<bool, Refusal>
+pub fn run_case<R>(rt: R, alloc: Global, case: Case<'_>) -> Verdict
+where
+    R: Threads + Wait + Copy + Send + 'static,
+{
+    let stage = Arc::new(alloc, Stage::new(case.hold()))?;
+    let door = Door::new(Arc::try_clone(&stage)?);
+    run(rt, alloc, &stage, door, &case)
+}
+
+// The same at the gate of this stage. What an engine is made of is made last, so that no early exit drops it.
+fn run<R>(rt: R, alloc: Global, stage: &Arc<Stage>, door: Door, case: &Case<'_>) -> Verdict
 where
     R: Threads + Wait + Copy + Send + 'static,
 {
@@ -64,7 +86,7 @@ where
         return Ok(false);
     }
     let opened = Opened::new(alloc, case.sessions())?;
-    run_opened::<Brand, R>(rt, alloc, opened, workers, case)
+    run_opened::<Brand, R>(rt, alloc, opened, workers, stage, door, case)
 }
 
 // The same with what an engine is made of.
@@ -73,56 +95,19 @@ fn run_opened<J, R>(
     alloc: Global,
     opened: Opened,
     workers: usize,
-    case: Case<'_>,
-) -> Result<bool, Refusal>
-where
-    J: Naming + Drop + Send + Sync + 'static,
-    R: Threads + Wait + Copy + Send + 'static,
-    requires named { IsNamed opened J.entries J.marks J.names J.sessions }
-    requires some { 0 < workers }
-{
-    let stage = Arc::new(alloc, Stage::new(case.hold()))?;
-    let (engine, sessions) = begun::<J, R>(rt, opened, workers, &stage)?;
-    let played = play(rt, alloc, &engine, sessions, &stage, &case);
-    end(rt, alloc, engine, played, &case)
-}
-
-// An engine with its sessions, at the gate of this stage.
-fn begun<J, R>(
-    rt: R,
-    opened: Opened,
-    workers: usize,
     stage: &Arc<Stage>,
-) -> Result<(Engine<J, Door>, Vec<Session<J, Door>>), Refusal>
+    door: Door,
+    case: &Case<'_>,
+) -> Verdict
 where
     J: Naming + Drop + Send + Sync + 'static,
     R: Threads + Wait + Copy + Send + 'static,
     requires named { IsNamed opened J.entries J.marks J.names J.sessions }
     requires some { 0 < workers }
 {
-    let door = Door::new(Arc::try_clone(stage)?);
-    Engine::<J, Door>::new(rt, opened, workers, door)
-}
-
-// Closes the engine, also where no client played.
-fn end<J, R>(
-    rt: R,
-    alloc: Global,
-    engine: Engine<J, Door>,
-    played: Result<Played<J>, Refusal>,
-    case: &Case<'_>,
-) -> Result<bool, Refusal>
-where
-    J: Naming + Drop + Send + Sync + 'static,
-    R: Threads + Wait + Copy + Send + 'static,
-{
-    match played {
-        Ok(played) => close(rt, alloc, engine, played, case),
-        Err(refusal) => {
-            let _ = engine.close(&rt, Vec::new(alloc));
-            Err(refusal)
-        }
-    }
+    let (engine, sessions) = Engine::<J, Door>::new(rt, opened, workers, door)?;
+    let played = play(rt, alloc, &engine, sessions, stage, case);
+    close(rt, alloc, engine, played, case)
 }
 
 // Closes the engine, and judges what it leaves.
@@ -132,7 +117,7 @@ fn close<J, R>(
     engine: Engine<J, Door>,
     played: Played<J>,
     case: &Case<'_>,
-) -> Result<bool, Refusal>
+) -> Verdict
 where
     J: Naming + Drop + Send + Sync + 'static,
     R: Threads + Wait + Copy + Send + 'static,
@@ -143,23 +128,36 @@ where
         agrees,
     } = played;
     let closed = engine.close(&rt, sessions)?;
-    Ok(agrees && judge(alloc, &closed, &parts, case)?)
+    both(
+        agrees,
+        judge(alloc, &closed, &parts, case, is_whole(agrees)),
+    )
 }
 
+// Whether the case was played to its end.
+fn is_whole(agrees: Verdict) -> bool {
+    matches!(agrees, Ok(true))
+}
+
+// What a case leaves that wasn't played to its end is judged by its journal alone.
 fn judge<L: Leaves>(
     alloc: Global,
     closed: &L,
     parts: &[Part],
     case: &Case<'_>,
-) -> Result<bool, Refusal> {
-    let left = match case {
-        Case::Table(table) => leaves(alloc, closed, table.left)?,
-        Case::Many(many) => is_played(closed, many)?,
-    };
-    Ok(left && is_journal(alloc, closed, parts)?)
+    whole: bool,
+) -> Verdict {
+    if !is_journal(alloc, closed, parts, whole)? {
+        return Ok(false);
+    }
+    match case {
+        _ if !whole => Ok(true),
+        Case::Table(table) => leaves(alloc, closed, table.left),
+        Case::Many(many) => is_played(closed, many),
+    }
 }
 
-// Lets the clients play.
+// Lets the clients play. Where there is no memory for them they are gone.
 fn play<J, R>(
     rt: R,
     alloc: Global,
@@ -167,50 +165,49 @@ fn play<J, R>(
     sessions: Vec<Session<J, Door>>,
     stage: &Arc<Stage>,
     case: &Case<'_>,
-) -> Result<Played<J>, Refusal>
+) -> Played<J>
 where
     J: Naming + Drop + Send + Sync + 'static,
     R: Threads + Wait + Copy + Send + 'static,
 {
-    let mut clients = clients_of(alloc, sessions)?;
+    let mut clients = Vec::new(alloc);
+    let all = add_clients(alloc, &mut clients, sessions);
     let agrees = match case {
-        Case::Table(table) => play_table(rt, alloc, engine, &mut clients, stage, table)?,
-        Case::Many(many) => play_many(rt, alloc, engine, &mut clients, stage, many)?,
+        _ if !all => Err(Refusal::NoMemory),
+        Case::Table(table) => play_table(rt, alloc, engine, &mut clients, stage, table),
+        Case::Many(many) => play_many(rt, alloc, engine, &mut clients, stage, many),
     };
     parted(alloc, clients, agrees)
 }
 
-// A client of each session.
-fn clients_of<J: Naming + Drop>(
+// A client of each session. Whether there is memory for all.
+fn add_clients<J: Naming + Drop>(
     alloc: Global,
+    clients: &mut Vec<Client<J>>,
     sessions: Vec<Session<J, Door>>,
-) -> Result<Vec<Client<J>>, Refusal> {
-    let mut clients = Vec::with_capacity(alloc, sessions.len())?;
+) -> bool {
+    let mut all = true;
     let mut number = 0u64;
     for session in sessions {
-        clients.push(Client::new(alloc, number, session))?;
+        if clients.push(Client::new(alloc, number, session)).is_err() {
+            all = false;
+        }
         number = number.saturating_add(1);
     }
-    Ok(clients)
+    all
 }
 
 // The clients' sessions and notes.
-fn parted<J: Naming + Drop>(
-    alloc: Global,
-    clients: Vec<Client<J>>,
-    agrees: bool,
-) -> Result<Played<J>, Refusal> {
-    let mut sessions = Vec::with_capacity(alloc, clients.len())?;
-    let mut parts = Vec::with_capacity(alloc, clients.len())?;
-    for client in clients {
-        let session = client.number();
-        let (own, notes) = client.parted();
-        sessions.push(own)?;
-        parts.push(Part { session, notes })?;
-    }
-    Ok(Played {
-        sessions,
-        parts,
+fn parted<J: Naming + Drop>(alloc: Global, clients: Vec<Client<J>>, agrees: Verdict) -> Played<J> {
+    let mut played = Played {
+        sessions: Vec::new(alloc),
+        parts: Vec::new(alloc),
         agrees,
-    })
+    };
+    for client in clients {
+        if played.take(client).is_err() {
+            played.agrees = both(played.agrees, Err(Refusal::NoMemory));
+        }
+    }
+    played
 }

@@ -77,11 +77,14 @@ impl Stage {
         self.late.store(true, Ordering::SeqCst);
     }
 
-    /// Waits until a message waits here. Whether one came.
+    /// Waits until a message waits here, or a client makes no more calls. Whether one came.
     pub fn wait_held(&self) -> bool {
         for _ in 0..TURNS {
             if self.held.load(Ordering::SeqCst) {
                 return true;
+            }
+            if self.over.load(Ordering::SeqCst) > 0 {
+                break;
             }
             thread::yield_now();
         }

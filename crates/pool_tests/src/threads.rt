@@ -1,10 +1,11 @@
 //! Clients on threads, and what is done beside them.
-use crate::crashes::crash_all;
+use crate::crashes::trouble;
 use crate::plan::{Many, Plan};
 use crate::playing::play;
 use crate::served::Serves;
 use crate::stage::{Door, Stage};
 use crate::table::Table;
+use crate::verdict::{Verdict, both};
 use crate::{client, lines};
 use record_key::Refusal;
 use std::alloc::{AllocError, Global};
@@ -27,7 +28,7 @@ enum Task {
 #[derive(Drop)]
 pub struct Ended<J: Naming> {
     client: Client<J>,
-    agrees: bool,
+    agrees: Verdict,
 }
 
 // A client's thread. Refused where none can be made; the client is gone then.
@@ -35,14 +36,13 @@ fn start<J, R>(
     rt: R,
     alloc: Global,
     client: Client<J>,
-    stage: &Arc<Stage>,
+    stage: Arc<Stage>,
     task: Task,
 ) -> Result<JoinHandle<Ended<J>>, AllocError>
 where
     J: Naming + Drop + Send + Sync + 'static,
     R: Threads + Wait + Copy + Send + 'static,
 {
-    let stage = Arc::try_clone(stage)?;
     Ok(thread::spawn(&rt, move || follow(&rt, alloc, client, &*stage, task))?)
 }
 
@@ -67,10 +67,13 @@ fn perform<S: Serves + Drop, R: Wait>(
     client: &mut client::Client<S>,
     stage: &Stage,
     task: &Task,
-) -> bool {
+) -> Verdict {
     match task {
-        Task::Lines(text) => matches!(lines::follow(rt, alloc, client, text.as_str()), Ok(true)),
-        Task::Drawn(plan) => play(rt, client, stage, *plan).is_ok(),
+        Task::Lines(text) => lines::follow(rt, alloc, client, text.as_str()),
+        Task::Drawn(plan) => {
+            play(rt, client, stage, *plan)?;
+            Ok(true)
+        }
     }
 }
 
@@ -82,7 +85,7 @@ pub fn play_table<J, R>(
     clients: &mut Vec<Client<J>>,
     stage: &Arc<Stage>,
     table: &Table<'_>,
-) -> Result<bool, Refusal>
+) -> Verdict
 where
     J: Naming + Drop + Send + Sync + 'static,
     R: Threads + Wait + Copy + Send + 'static,
@@ -101,24 +104,28 @@ fn play_beside<J, R>(
     clients: &mut Vec<Client<J>>,
     stage: &Arc<Stage>,
     table: &Table<'_>,
-) -> Result<bool, Refusal>
+) -> Verdict
 where
     J: Naming + Drop + Send + Sync + 'static,
     R: Threads + Wait + Copy + Send + 'static,
 {
     let task = Task::Lines(String::from_str(alloc, table.there)?);
+    let own = Arc::try_clone(stage)?;
     let Some(client) = clients.pop() else {
         return Ok(false);
     };
-    let thread = start(rt, alloc, client, stage, task)?;
-    let beside = stage.wait_held()
-        && matches!(
-            lines::follow_all(&rt, alloc, engine, clients, table.beside),
-            Ok(true)
-        );
+    let thread = start(rt, alloc, client, own, task)?;
+    let held = stage.wait_held();
+    let beside = if held {
+        lines::follow_all(&rt, alloc, engine, clients, table.beside)
+    } else {
+        Ok(true)
+    };
     stage.open();
-    let there = join(&rt, thread, clients);
-    Ok(there && beside && !stage.is_late())
+    match join(&rt, thread, clients) {
+        Ok(_) if !held || stage.is_late() => Ok(false),
+        there => both(there, beside),
+    }
 }
 
 // Waits for a client's thread. Whether all was as it is to be.
@@ -126,13 +133,14 @@ fn join<J: Naming + Drop, R: Threads>(
     rt: &R,
     thread: JoinHandle<Ended<J>>,
     clients: &mut Vec<Client<J>>,
-) -> bool {
+) -> Verdict {
     let Ended { client, agrees } = thread.join(rt);
-    clients.push(client).is_ok() && agrees
+    clients.push(client)?;
+    agrees
 }
 
-/// Each client follows the plan on a thread of its own, beside the crashes. Whether no call was refused for want of
-/// memory, and the components were brought up after each crash.
+/// Each client follows the plan on a thread of its own, beside its trouble. Whether the components were brought up after
+/// each crash.
 pub fn play_many<J, R>(
     rt: R,
     alloc: Global,
@@ -140,17 +148,18 @@ pub fn play_many<J, R>(
     clients: &mut Vec<Client<J>>,
     stage: &Arc<Stage>,
     many: &Many,
-) -> Result<bool, Refusal>
+) -> Verdict
 where
     J: Naming + Drop + Send + Sync + 'static,
     R: Threads + Wait + Copy + Send + 'static,
 {
     let mut threads = Vec::with_capacity(alloc, clients.len())?;
     let started = start_all(rt, alloc, clients, stage, many.plan, &mut threads);
-    let up = crash_all(&rt, engine, stage, many);
-    let played = join_all(&rt, threads, clients);
-    started?;
-    Ok(up && played)
+    let up = match started {
+        Ok(()) => trouble(&rt, engine, stage, many),
+        Err(refusal) => Err(refusal),
+    };
+    both(up, join_all(&rt, threads, clients))
 }
 
 fn start_all<J, R>(
@@ -166,8 +175,9 @@ where
     R: Threads + Wait + Copy + Send + 'static,
 {
     for _ in 0..clients.len() {
+        let own = Arc::try_clone(stage)?;
         if let Some(client) = clients.pop() {
-            threads.push(start(rt, alloc, client, stage, Task::Drawn(plan))?)?;
+            threads.push(start(rt, alloc, client, own, Task::Drawn(plan))?)?;
         }
     }
     Ok(())
@@ -177,12 +187,10 @@ fn join_all<J: Naming + Drop, R: Threads>(
     rt: &R,
     threads: Vec<JoinHandle<Ended<J>>>,
     clients: &mut Vec<Client<J>>,
-) -> bool {
-    let mut agree = true;
+) -> Verdict {
+    let mut agree = Ok(true);
     for thread in threads {
-        if !join(rt, thread, clients) {
-            agree = false;
-        }
+        agree = both(agree, join(rt, thread, clients));
     }
     agree
 }

@@ -4,7 +4,7 @@ ghost use Rattle.std.specs.List.{AllByRecursion};
 ghost use Rattle.worker_pool.specs.Closing.{IsSeated, below, numbers_in};
 ghost use Rattle.worker_pool.specs.Opened.{IsNamed};
 
-use crate::opened::Opened;
+use crate::opened::{Opened, Start};
 use crate::seated::{Seated, Sitter, seat_all};
 use crate::shared::Shared;
 use pool_journal::{DcDesk, Gate, Hall, Journal, Lines, Naming, Stirs, TcDesk};
@@ -26,8 +26,9 @@ where
     ensures sitters { IfOk result (λ made. AllByRecursion (IsSeated J.marks) made.1.items) }
     ensures numbers { IfOk result (λ made. numbers_in made.1.items ≡ below J.sessions) }
 {
-    let stirs = Stirs::new(opened.alloc, opened.chairs.len())?;
-    let Opened {
+    let Opened { start } = opened;
+    let stirs = Stirs::new(start.alloc, start.chairs.len())?;
+    let Start {
         alloc,
         row,
         marks,
@@ -37,7 +38,7 @@ where
         chairs,
         transactions,
         data,
-    } = opened;
+    } = Box::into_inner(start);
     let (tc_book, tc_mark) = tc.parted();
     let (dc_book, dc_mark) = dc.parted();
     let Seated { places, sitters } = seat_all::<J>(alloc, chairs)?;

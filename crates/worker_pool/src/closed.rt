@@ -1,20 +1,27 @@
 //! What an engine leaves.
-ghost use Rattle.std.specs.Prelude.{◌≡◌, length, slice_get, IfSome, IfNone, Some, None};
+ghost use Rattle.std.specs.Prelude.{◌≡◌, length, slice_get, IfOk, IfErr, IfSome, IfNone, Some, None};
 ghost use Rattle.world.specs.Node.{NodeView};
 ghost use Rattle.world.specs.Promises.{Promises};
 ghost use Rattle.pool_journal.specs.Ending.{EndsWith};
 ghost use Rattle.pool_journal.specs.Steps.{IsRun, RunsTo};
 
 use pool_journal::{Hall, Journal, Naming, Step};
-use record_key::{Key, Value};
+use record_key::{Key, Refusal, Value};
+use std::alloc::Global;
 use std::marker::Model;
 
-/// The journal, and where the data component ran at the end its records. Contracts see the steps, and the records.
+/// The journal with its row, and where the data component ran at the end its records.
+#[derive(Drop)]
+struct Left<J: Naming> {
+    hall: Hall<J>,
+    journal: Journal<J>,
+    rows: Option<Vec<(Key, Value)>>,
+}
+
+/// What an engine leaves, behind a pointer as what it is made of. Contracts see the steps, and the records.
 #[derive(Drop)]
 pub struct Closed<J: Naming> {
-    pub(crate) hall: Hall<J>,
-    pub(crate) journal: Journal<J>,
-    pub(crate) rows: Option<Vec<(Key, Value)>>,
+    left: Box<Left<J>>,
 }
 
 impl<J: Naming> Model for Closed<J> {
@@ -26,12 +33,33 @@ impl<J: Naming> Model for Closed<J> {
 
     ghost coded = { Prim.hlevel codes };
 
-    ghost view = { λ c. record { steps = c.journal; rows = c.rows } };
+    ghost view = { λ c. record { steps = c.left.value.journal; rows = c.left.value.rows } };
 
-    ghost invariant = { λ c. EndsWith c.journal c.rows };
+    ghost invariant = { λ c. EndsWith c.left.value.journal c.left.value.rows };
 }
 
 impl<J: Naming> Closed<J> {
+    /// What the journal ends with. Refused NoMemory.
+    pub(crate) fn new(
+        alloc: Global,
+        hall: Hall<J>,
+        journal: Journal<J>,
+        rows: Option<Vec<(Key, Value)>>,
+    ) -> Result<Closed<J>, Refusal>
+        requires ends { EndsWith journal rows }
+        ensures closed { IfOk result (λ closed. closed ≡ record { steps = journal; rows = rows }) }
+        ensures refused { IfErr result (λ refusal. refusal ≡ Refusal.NoMemory) }
+    {
+        let left = Left {
+            hall,
+            journal,
+            rows,
+        };
+        Ok(Closed {
+            left: Box::new(alloc, left)?,
+        })
+    }
+
     /// The steps are a run of the node, from its start on, which ends with these records; and what a node promises at
     /// every moment holds at its end. So where it is settled, the records are those of a plain map after the operations
     /// that stand.
@@ -40,14 +68,14 @@ impl<J: Naming> Closed<J> {
         ensures rows { EndsWith self.now.steps self.now.rows }
         ensures promised { (w : NodeView) → RunsTo self.now.steps w → Promises w }
     {
-        self.journal.is_run();
+        self.left.journal.is_run();
     }
 
     /// How many steps there are.
     pub fn len(&self) -> usize
         ensures { result ≡ length self.now.steps }
     {
-        self.journal.count()
+        self.left.journal.count()
     }
 
     /// The step at a place, from 0.
@@ -55,8 +83,8 @@ impl<J: Naming> Closed<J> {
         ensures step { IfSome result (λ step. slice_get self.now.steps place ≡ Some step.now) }
         ensures none { IfNone result (slice_get self.now.steps place ≡ None) }
     {
-        let token = self.journal.token(place)?;
-        Some(&self.hall.row().value(&token).step)
+        let token = self.left.journal.token(place)?;
+        Some(&self.left.hall.row().value(&token).step)
     }
 
     /// The records in key order, where the data component ran.
@@ -64,6 +92,6 @@ impl<J: Naming> Closed<J> {
         ensures rows { IfSome result (λ rows. IfSome self.now.rows (λ all. rows.now ≡ all.items)) }
         ensures none { IfNone result (self.now.rows ≡ None) }
     {
-        Some(self.rows.as_ref()?.as_slice())
+        Some(self.left.rows.as_ref()?.as_slice())
     }
 }

@@ -88,7 +88,7 @@ where
         ensures fresh { IfOk result (λ made. AllByRecursion (IsFresh J.marks) made.1.items) }
         ensures numbers { IfOk result (λ made. numbers_of made.1.items ≡ below (length opened.sessions)) }
     {
-        let alloc = opened.alloc;
+        let alloc = opened.start.alloc;
         let (shared, sitters) = share(opened, gate)?;
         let (work, jobs) = crossbeam_channel::unbounded(alloc)?;
         let sessions = sessions_of(alloc, sitters, &shared, &work)?;
@@ -186,11 +186,7 @@ where
         let mut journal = journal.into_inner();
         cover(&mut journal, hall.row(), callers);
         match dc.into_inner().rows(hall.row(), &mut journal) {
-            Ok(rows) => Ok(Closed {
-                hall,
-                journal,
-                rows,
-            }),
+            Ok(rows) => Closed::new(alloc, hall, journal, rows),
             Err(refusal) => Err(refusal),
         }
     }

@@ -59,9 +59,9 @@ pub(crate) struct Chair {
 }
 
 /// Both components at their start, a row without entries, marks that nobody has raised, and a tie for each component and
-/// for each session. Contracts see what they are known by.
+/// for each session.
 #[derive(Drop)]
-pub struct Opened<D: CrashLog = MemLog, P: CrashPages = MemPages> {
+pub(crate) struct Start<D: CrashLog, P: CrashPages> {
     pub(crate) alloc: Global,
     pub(crate) row: Row<Entry>,
     pub(crate) marks: Marks,
@@ -71,6 +71,13 @@ pub struct Opened<D: CrashLog = MemLog, P: CrashPages = MemPages> {
     pub(crate) chairs: Vec<Chair>,
     pub(crate) transactions: TcSide<D>,
     pub(crate) data: DcSide<D, P>,
+}
+
+/// What an engine is made of. Contracts see what it is known by. It stands behind a pointer, since whoever has something
+/// large by value is dear to check.
+#[derive(Drop)]
+pub struct Opened<D: CrashLog = MemLog, P: CrashPages = MemPages> {
+    pub(crate) start: Box<Start<D, P>>,
 }
 
 impl<D: CrashLog, P: CrashPages> Model for Opened<D, P> {
@@ -83,9 +90,11 @@ impl<D: CrashLog, P: CrashPages> Model for Opened<D, P> {
 
     ghost coded = { Prim.hlevel (codes, shelves_coded, table_id_coded) };
 
-    ghost view = { λ o. opened_as o.row o.marks o.tc o.dc o.chairs.items };
+    ghost view = { λ o. opened_as o.start.value.row o.start.value.marks o.start.value.tc o.start.value.dc
+        o.start.value.chairs.items };
 
-    ghost invariant = { λ o. IsOpened o.marks o.seat o.chairs.items o.transactions o.data };
+    ghost invariant = { λ o. IsOpened o.start.value.marks o.start.value.seat o.start.value.chairs.items
+        o.start.value.transactions o.start.value.data };
 }
 
 impl Opened<MemLog, MemPages> {
@@ -101,7 +110,7 @@ impl Opened<MemLog, MemPages> {
         let (marks, seat, readers) = Marks::new(alloc, sessions)?;
         let chairs = chairs(alloc, &marks, readers)?;
         let data = DcSide::new(alloc)?;
-        Ok(Opened {
+        let start = Start {
             alloc,
             row,
             marks,
@@ -111,6 +120,9 @@ impl Opened<MemLog, MemPages> {
             chairs,
             transactions: TcSide::new(alloc),
             data,
+        };
+        Ok(Opened {
+            start: Box::new(alloc, start)?,
         })
     }
 }

@@ -1,12 +1,15 @@
-use Rattle.std.proofs.Common.{subst}
+use Rattle.std.proofs.Common.{List, subst}
 use Rattle.world.proofs.Invariant.Promised.{promised}
 use Rattle.pool_journal.specs.Ending.{EndsWith}
+use Rattle.pool_journal.specs.declared.step.Step.{Step}
 use Rattle.worker_pool.specs.Closing.{ClosedView}
 use Rattle.pool_journal.specs.Steps.{IsRun}
 use Rattle.worker_pool.proofs.closed.Closed.kept.Goals as goal
 
 pub returns-clause-run : goal.returns-clause-run
-returns-clause-run g c = subst (λ (v : ClosedView). IsRun v.steps) c.self.view_is c.is_run.ensures
+returns-clause-run g c =
+    subst (λ (v : ClosedView). IsRun v.steps) c.self.view_is
+    (subst (λ (es : List Step). IsRun es) (λ i. (c.deref.ensures i).journal) c.is_run.ensures)
 
 pub returns-clause-rows : goal.returns-clause-rows
 returns-clause-rows g c = subst (λ (v : ClosedView). EndsWith v.steps v.rows) c.self.view_is c.self.invariant
