@@ -8,6 +8,7 @@ use Rattle.std.specs.contracts.impls.GlobalAllocator.TheImpl.{ghosts}
 use Rattle.std.specs.contracts.sync.Arc as Arc
 use Rattle.worker_pool.proofs.Sharing.{session_send}
 use Rattle.pool_journal.specs.declared.naming.Naming as naming
+use Rattle.record_key.proofs.refusal.Refusal.TheSendSync as refusal
 use Rattle.pool_tests.proofs.client.Note.TheSendSync as note
 use Rattle.pool_tests.proofs.stage.Door.TheSendSync as door
 use Rattle.pool_tests.proofs.stage.Stage.TheSendSync as stage
@@ -31,5 +32,7 @@ module _ (S : RattleType) (s : IsSend S) where
 
 pub ended_send : (J : RattleType) (n : naming.Ghosts J.Denot) → IsSend J → IsSync J → IsSend (Ended.the_row J n)
 ended_send J n s y = recorded_send (Ended.the_field J n).row _ _ (Ended.the_type J n).to_one
-    (struct_send (shape (Ended.the_type J n))
-    (client_field_send _ (session_send J n s y Door.the_row door.the_send door.the_sync), (search sendable, tt)))
+    (struct_send (shape (Ended.the_type J n)) (
+      client_field_send _ (session_send J n s y Door.the_row door.the_send door.the_sync),
+      (search (refusal.the_send, crosses, sendable) depth 20, tt),
+    ))
