@@ -1,8 +1,8 @@
 #!/bin/sh
-# Usage: tests/refused_pool.sh FIRST STEP LAST PROGRAM. Runs PROGRAM, which is pool_tests, once for each n from FIRST to
-# LAST by STEP, with the n-th growth refused; then with growths refused at regular distances, first those of all threads,
-# then those of all but the first, which judges the others. Each run must end by itself, within a minute, and no case may
-# differ. Prints in how many runs all cases agreed and in how many some gave up. Needs a C compiler.
+# Usage: tests/refused_pool.sh FIRST STEP LAST PROGRAM. Runs PROGRAM, which is pool_tests, once for each n from FIRST
+# to LAST by STEP, with the n-th growth refused; then with growths refused at regular distances, first those of all
+# threads, then those of all but the first, which judges the others. Each run must end by itself, within ten minutes,
+# and no case may differ. Prints in how many runs all cases agreed and in how many some gave up. Needs a C compiler.
 set -u
 folder=$(mktemp -d)
 trap 'rm -rf "$folder"' EXIT
@@ -18,7 +18,7 @@ given_up=0
 wrong=0
 # One run with these variables. Without a line it gave up before its first case.
 run() {
-    timeout 60 env "$@" LD_PRELOAD="$folder/refuse.so" "$program" >text 2>errors
+    timeout 600 env "$@" LD_PRELOAD="$folder/refuse.so" "$program" >text 2>errors
     status=$?
     line=$(tail -n 1 text)
     case $status:$line in
