@@ -178,7 +178,7 @@ undone_wholly (r ∷ log) t e n o legal end by =
         ])
 
 -- whether it is left open, as a test
-begin_is : (r : Option Record) → is_begin r ≡ true → r ≡ Some is.Begin
+pub begin_is : (r : Option Record) → is_begin r ≡ true → r ≡ Some is.Begin
 begin_is (Some is.Begin) h = refl
 begin_is None h = absurd (true≢false (sym h))
 begin_is (Some _) h = absurd (true≢false (sym h))

@@ -26,3 +26,4 @@ pub mod Falling
 pub mod Committing
 pub mod Resting
 pub mod AtRest
+pub mod Reading

@@ -1,7 +1,6 @@
 -- What is free by the component's spans is free for the machine.
 use Rattle.std.proofs.Common.{◌≡◌, ℕ, true, List, [], ◌∷◌, refl, subst, inl, inr}
 use Rattle.record_key.specs.declared.op.Op.{Op}
-use Rattle.record_key.specs.Table.{key_of}
 use Rattle.history.specs.Spans.{Span, Conflict, AnyConflict, changed_span}
 use Rattle.history.specs.Log.{IsOpBy}
 use Rattle.history.specs.ListMachine.{Status, Open, Waiting, Reading, Rolling, Committing, Committed, Losing, Gone}

@@ -5,3 +5,4 @@ pub mod Views
 pub mod Refusals
 pub mod Examples
 pub mod Lasting
+pub mod Reading

@@ -1,6 +1,7 @@
 //! What is true of every log, and whatever the component stands for.
 ghost use Rattle.simulation.specs.Laws.{StartsFresh, CrashIsAStep, CommitsAreTold, LosersAreTold};
 ghost use Rattle.simulation.specs.Lasting.{CommitsLast, ToldIsCommitted, StableIsCommitted, RunsHaveBegun, StoodForHaveBegun, EntriesLast, AskedIsCommitted, ValuesLast, AtRestByTheLog, OpenedIsAtRest};
+ghost use Rattle.simulation.specs.Reading.{OpenedIsRead};
 
 /// With nothing logged the component stands for the machine to which nothing was done.
 pub fn fresh_law()
@@ -50,4 +51,9 @@ pub fn value_law()
     ensures lasts { ValuesLast }
     ensures at_rest { AtRestByTheLog }
     ensures opened { OpenedIsAtRest }
+{}
+
+/// What is opened on a legal log, whoever wrote it, stands for the machine that the log tells of.
+pub fn opened_law()
+    ensures { OpenedIsRead }
 {}

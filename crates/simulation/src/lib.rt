@@ -17,7 +17,8 @@ mod views;
 
 pub use examples::{kept_commit, lost_commit};
 pub use laws::{
-    answered_law, begun_law, commit_law, crash_law, fresh_law, lasting_law, lost_law, value_law,
+    answered_law, begun_law, commit_law, crash_law, fresh_law, lasting_law, lost_law, opened_law,
+    value_law,
 };
 pub use refusals::{
     bad_range_law, bad_savepoint_law, busy_law, full_law, node_refusal_law, not_open_law,

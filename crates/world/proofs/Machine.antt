@@ -4,6 +4,7 @@ pub mod Clients
 pub mod Committing
 pub mod Follows
 pub mod Headline
+pub mod Opened
 pub mod Idle
 pub mod Readers
 pub mod Reading

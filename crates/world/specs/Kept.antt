@@ -26,7 +26,7 @@ use Rattle.system_txn.specs.Devices.{pages_of}
 use Rattle.system_txn.specs.Kept.{IsRecoverable}
 use Rattle.system_txn.specs.Checked.{IsChecked}
 use Rattle.dc_core.specs.declared.performance.Performance.{Performance}
-use Rattle.dc_core.specs.DcView.{DcView, captures_at}
+use Rattle.dc_core.specs.DcView.{DcView, captures_at, fresh as fresh_dc}
 use Rattle.dc_core.specs.Serves.{runs}
 use Rattle.dc_core.specs.Tends.{may_merge}
 use Rattle.dc_core.specs.Kept.{IsDc}
@@ -36,6 +36,8 @@ use Rattle.tc_core.specs.declared.phase.Phase.TheVariants as phase
 use Rattle.tc_core.specs.OpenTxns.{find}
 use Rattle.tc_core.specs.Changes.{shared}
 use Rattle.tc_core.specs.TcView.{TcView}
+use Rattle.tc_core.specs.Opening.{IsOpened}
+use Rattle.stable.specs.Usage.{Usage}
 use Rattle.history.specs.Legal.{FitsCheckpoint}
 use Rattle.logical_log.specs.Low.{stable_part}
 use Rattle.logical_log.specs.LogView.{last_not_session}
@@ -227,3 +229,16 @@ pub record IsKept (w : NodeView) : Type 0 where
   pub known : w.dc.known ≤ source.sure
   pub opened : w.dc.opened_to ≤ last_not_session (stable_part w.tc.log w.tc.stable)
   pub quiet : IsWaiting w.tc.phase → last_not_session w.tc.log ≤ w.tc.stable
+
+-- what may be made a node with a data component of no records: a component that was opened on a log, whoever wrote that,
+-- where each answer in it is the right one and no checkpoint stands in it, after which redo would leave records out
+pub record IsRebuildable (w : TcView) : Type 0 where
+  pub bytes : List ℕ
+  pub usage : Usage
+  pub opened : IsOpened bytes usage w
+  pub right : HasRightAnswers w.log
+  pub unchecked : w.checkpointed ≡ 0
+
+-- a data component of no records, whatever its devices were used for
+abbrev pub IsFreshDc : DcView → Type 0
+IsFreshDc dc = (log_usage : Usage) × (page_usage : Usage) × (dc ≡ fresh_dc log_usage page_usage)

@@ -57,16 +57,13 @@ pub record AreUp (w : NodeView) : Type 0 where
   pub tc : w.tc_up ≡ true
   pub dc : w.dc_up ≡ true
 
+-- both components run, and nothing was sent between them
+abbrev pub joined : TcView → DcView → NodeView
+joined tc dc = record { tc_up = true; tc = tc; dc_up = true; dc = dc; requests = []; replies = [] }
+
 -- nothing is logged, stored or sent
 abbrev pub fresh_node : NodeView
-fresh_node = record {
-  tc_up = true;
-  tc = fresh unused;
-  dc_up = true;
-  dc = fresh_dc unused unused;
-  requests = [];
-  replies = [];
-}
+fresh_node = joined (fresh unused) (fresh_dc unused unused)
 
 -- the transaction component is in this state; the rest stays
 abbrev pub with_tc : NodeView → TcView → NodeView

@@ -1,13 +1,10 @@
 //! The data component, which runs or is down.
-ghost use Rattle.std.specs.Prelude.{◌≡◌, [], true, IfOk, IfErr};
-ghost use Rattle.std.specs.FinMap as map;
-ghost use Rattle.dc_core.specs.DcView.{fresh};
 ghost use Rattle.dc_core.specs.Kept.{IsDc};
 ghost use Rattle.system_txn.specs.Kept.{IsRecoverable};
 ghost use Rattle.world.specs.Component.{DcCrashesTo, DcRestartsTo};
 ghost use Rattle.world.specs.Seen.{dc_of};
 
-use crate::stopped::{Stopped, Unopened};
+use crate::stopped_dc::{StoppedDc, UnopenedDc};
 use dc_core::Dc;
 use record_key::Refusal;
 use stable::{CrashLog, CrashPages};
@@ -16,24 +13,10 @@ use std::alloc::Global;
 #[derive(Drop)]
 pub enum DataComponent<D: CrashLog, P: CrashPages> {
     Up(Dc<D, P>),
-    Down(Stopped<D, P>),
+    Down(StoppedDc<D, P>),
 }
 
 impl<D: CrashLog, P: CrashPages> DataComponent<D, P> {
-    /// One that runs, of no records on empty devices, and has taken no session.
-    pub fn new(alloc: Global, log: D, pages: P) -> Result<DataComponent<D, P>, Refusal>
-    where
-        D: Drop,
-        P: Drop,
-        requires logged { (D.forced log ≡ []) × (D.pending log ≡ []) }
-        requires written { P.pages pages ≡ map.empty }
-        ensures fresh { IfOk result (λ component.
-            dc_of component ≡ record { up = true; dc = fresh (D.usage log) (P.usage pages) }) }
-        ensures memory { IfErr result (λ refusal. refusal ≡ Refusal.NoMemory) }
-    {
-        Ok(DataComponent::Up(Dc::new(alloc, log, pages)?))
-    }
-
     pub fn kept(&self)
         ensures { IsDc (dc_of self.now).dc }
     {
@@ -51,7 +34,7 @@ impl<D: CrashLog, P: CrashPages> DataComponent<D, P> {
     {
         match self {
             DataComponent::Up(dc) => {
-                let stopped = Stopped::crashed(dc, frames, bytes);
+                let stopped = StoppedDc::crashed(dc, frames, bytes);
                 (DataComponent::Down(stopped), true)
             }
             down => (down, false),
@@ -70,7 +53,7 @@ impl<D: CrashLog, P: CrashPages> DataComponent<D, P> {
                     let leaves = dc.leaves();
                     (DataComponent::Up(dc), Ok(Some(leaves)))
                 }
-                Err(Unopened { refusal, stopped }) => {
+                Err(UnopenedDc { refusal, stopped }) => {
                     (DataComponent::Down(stopped), Err(refusal))
                 }
             },

@@ -2,6 +2,7 @@
 //! out its replies.
 ghost use Rattle.std.specs.Prelude.{◌≡◌, true, false, Some, None, OnOk, OnErr, IfOk, IfErr, if◌then◌else◌};
 ghost use Rattle.std.specs.FinMap.{entries};
+ghost use Rattle.std.specs.Option.{option_copied};
 ghost use Rattle.stable.specs.Usage.{unused};
 ghost use Rattle.btree.specs.Leaves.{rows_of};
 ghost use Rattle.system_txn.specs.Kept.{IsRecoverable};
@@ -54,30 +55,37 @@ impl DcSide<MemLog, MemPages> {
         ensures fresh { IfOk result (λ side. side ≡ record { up = true; dc = fresh unused unused }) }
         ensures memory { IfErr result (λ refusal. refusal ≡ Refusal.NoMemory) }
     {
-        let component = DataComponent::new(alloc, MemLog::new(alloc), MemPages::new(alloc))?;
-        component.kept();
-        Ok(DcSide {
-            alloc,
-            component: Some(component),
-        })
+        let dc = Dc::new(alloc, MemLog::new(alloc), MemPages::new(alloc))?;
+        Ok(DcSide::of(alloc, dc))
     }
 }
 
 impl<D: CrashLog, P: CrashPages> DcSide<D, P> {
+    /// This component, which runs.
+    pub(crate) fn of(alloc: Global, dc: Dc<D, P>) -> DcSide<D, P>
+        ensures { result ≡ record { up = true; dc = dc } }
+    {
+        dc.kept();
+        DcSide {
+            alloc,
+            component: Some(DataComponent::Up(dc)),
+        }
+    }
+
     /// One event of the data component. A Request event delivers `request`; where that is None there is none of its
     /// number. What is replied has the number `next`, and is left in `reply`; where that number is None there is no room
     /// for it, and a request that has a reply is refused NoMemory.
     pub fn step(
         &mut self,
         event: &Event,
-        request: &Option<Request>,
+        request: Option<&Request>,
         next: Option<u64>,
         reply: &mut Option<Reply>,
     ) -> Out
         requires own { of_tc event.now ≡ false }
-        requires may { MayDc self.old event.now request.now }
+        requires may { MayDc self.old event.now (option_copied request) }
         requires none { reply.old ≡ None }
-        ensures { DcLeads self.old next event.now request.now result reply.new self.new }
+        ensures { DcLeads self.old next event.now (option_copied request.entry) result reply.new self.new }
     {
         match event {
             Event::Request { .. } => match request {

@@ -1,9 +1,9 @@
 //! The two components, and the messages between them.
-ghost use Rattle.std.specs.Prelude.{◌≡◌, true, None, IfOk, IfErr, OnSome};
+ghost use Rattle.std.specs.Prelude.{◌≡◌, true, [], None, IfOk, IfErr, OnSome};
 ghost use Rattle.world.specs.Node.{fresh_node, StepsTo};
 ghost use Rattle.dc_core.specs.Kept.{IsDc};
 ghost use Rattle.tc_core.specs.Kept.{IsTc};
-ghost use Rattle.world.specs.Halves.{of_tc, IsNextNumber, BringsReply};
+ghost use Rattle.world.specs.Halves.{node_of, of_tc, IsNextNumber, BringsReply};
 ghost use Rattle.world.specs.Kept.{IsKept};
 ghost use Rattle.world.specs.Seen.{seen};
 
@@ -34,12 +34,21 @@ impl Node<MemLog, MemPages> {
     {
         let dc = DcSide::new(alloc)?;
         dc.kept();
-        Ok(Node {
-            tc: TcSide::new(alloc),
+        Ok(Node::of(alloc, TcSide::new(alloc), dc))
+    }
+}
+
+impl<D: CrashLog, P: CrashPages> Node<D, P> {
+    /// Two components, between which nothing was sent.
+    pub fn of(alloc: Global, tc: TcSide<D>, dc: DcSide<D, P>) -> Node<D, P>
+        ensures { seen result ≡ node_of tc dc [] [] }
+    {
+        Node {
+            tc,
             dc,
             requests: Sent::new(alloc),
             replies: Sent::new(alloc),
-        })
+        }
     }
 }
 

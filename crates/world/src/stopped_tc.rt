@@ -8,7 +8,7 @@ ghost use Rattle.tc_core.specs.TcView.{used_so};
 ghost use Rattle.world.specs.Component.{Keeps, tc_size, LacksDevice};
 
 use crate::crashing::bytes_kept_of;
-use crate::found_log::FoundLog;
+use crate::found_tc_log::FoundTcLog;
 use logical_log::Refused;
 use record_key::Refusal;
 use stable::CrashLog;
@@ -20,7 +20,7 @@ use tc_core::Tc;
 #[derive(Drop)]
 pub struct StoppedTc<D: CrashLog> {
     device: D,
-    found: FoundLog,
+    found: FoundTcLog,
 }
 
 impl<D: CrashLog> Model for StoppedTc<D> {
@@ -59,7 +59,7 @@ impl<D: CrashLog> StoppedTc<D> {
         let mut device = tc.stop();
         let forced = end - device.unforced();
         device.crash(kept.saturating_sub(forced));
-        let found = FoundLog::on(&device);
+        let found = FoundTcLog::on(&device);
         StoppedTc { device, found }
     }
 
@@ -77,7 +77,7 @@ impl<D: CrashLog> StoppedTc<D> {
                 Ok(tc)
             }
             Err(Refused { refusal, device }) => {
-                let found = FoundLog::on(&device);
+                let found = FoundTcLog::on(&device);
                 Err(UnopenedTc {
                     refusal,
                     stopped: StoppedTc { device, found },

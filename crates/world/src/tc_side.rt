@@ -46,16 +46,22 @@ impl TcSide<MemLog> {
     pub fn new(alloc: Global) -> TcSide
         ensures { result ≡ record { up = true; tc = fresh unused } }
     {
-        let component = TransactionComponent::new(alloc, MemLog::new(alloc));
-        component.kept();
-        TcSide {
-            alloc,
-            component: Some(component),
-        }
+        TcSide::of(alloc, Tc::new(alloc, MemLog::new(alloc)))
     }
 }
 
 impl<D: CrashLog> TcSide<D> {
+    /// This component, which runs.
+    pub(crate) fn of(alloc: Global, tc: Tc<D>) -> TcSide<D>
+        ensures { result ≡ record { up = true; tc = tc } }
+    {
+        tc.kept();
+        TcSide {
+            alloc,
+            component: Some(TransactionComponent::Up(tc)),
+        }
+    }
+
     /// One event of the transaction component. A Reply event delivers `reply`; where that is None there is none of its
     /// number. What is sent has the number `next`, and is left in `request`; where that number is None there is no room
     /// for it, and an event that sends is refused NoMemory.

@@ -1,6 +1,4 @@
 //! The transaction component, which runs or is down.
-ghost use Rattle.std.specs.Prelude.{◌≡◌, [], true};
-ghost use Rattle.tc_core.specs.TcView.{fresh};
 ghost use Rattle.tc_core.specs.Kept.{IsTc};
 ghost use Rattle.world.specs.Component.{TcCrashesTo, TcRestartsTo};
 ghost use Rattle.world.specs.Seen.{tc_of};
@@ -18,14 +16,6 @@ pub enum TransactionComponent<D: CrashLog> {
 }
 
 impl<D: CrashLog> TransactionComponent<D> {
-    /// One that runs, with an empty log on an empty device, and no session.
-    pub fn new(alloc: Global, device: D) -> TransactionComponent<D>
-        requires { (D.forced device ≡ []) × (D.pending device ≡ []) }
-        ensures { tc_of result ≡ record { up = true; tc = fresh (D.usage device) } }
-    {
-        TransactionComponent::Up(Tc::new(alloc, device))
-    }
-
     pub fn kept(&self)
         ensures { IsTc (tc_of self.now).tc }
     {

@@ -7,16 +7,19 @@ ghost use Rattle.page.specs.Leaf.{first};
 ghost use Rattle.btree.specs.Leaves.{rows_of};
 ghost use Rattle.dc_core.specs.DcView.{leaves};
 ghost use Rattle.tc_core.specs.Causes.{begin_refusal};
-ghost use Rattle.world.specs.Node.{fresh_node, if_up};
+ghost use Rattle.world.specs.Node.{fresh_node, joined, if_up};
 ghost use Rattle.world.specs.Simulation.{Stands};
 ghost use Rattle.world.specs.Stepping.{IsStep};
-ghost use Rattle.world.specs.Kept.{IsKept};
+ghost use Rattle.simulation.specs.Reading.{machine_read};
+ghost use Rattle.world.specs.Kept.{IsKept, IsRebuildable, IsFreshDc};
 ghost use Rattle.world.specs.Promises.{Promises};
 ghost use Rattle.world.specs.Rounds.{IsNext, IsAtRest, AreApart, round_for, recovery_round};
 
+use crate::dc_side::DcSide;
 use crate::event::{Event, Out};
 use crate::node::Node;
 use crate::round::Round;
+use crate::tc_side::TcSide;
 use dc_core::Dc;
 use history::Record;
 use page::Leaf;
@@ -63,6 +66,22 @@ impl World<MemLog, MemPages> {
 }
 
 impl<D: CrashLog, P: CrashPages> World<D, P> {
+    /// A node of a component that was opened on a log, whoever wrote that, and of a data component of no records: redo
+    /// brings it all that stands in the log. It stands for the machine that the log tells of: whoever has committed
+    /// there has committed, and whoever was open loses.
+    pub fn over(alloc: Global, tc: Tc<D>, dc: Dc<D, P>) -> World<D, P>
+        requires log { IsRebuildable tc }
+        requires empty { IsFreshDc dc }
+        ensures node { result ≡ joined tc dc }
+        ensures stands { Stands result (machine_read tc.log) }
+    {
+        tc.kept();
+        dc.kept();
+        World {
+            node: Node::of(alloc, TcSide::of(alloc, tc), DcSide::of(alloc, dc)),
+        }
+    }
+
     /// One event. What it came to and what it left are what the components' contracts say. Whatever list machine the
     /// node stood for, it leads from there to one that the node stands for then. What holds of a node at every moment
     /// holds after it too.

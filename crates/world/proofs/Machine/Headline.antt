@@ -1,30 +1,20 @@
 -- Every step follows the list machine.
-use Rattle.std.proofs.Common.{◌≡◌, ℕ, ◌+◌, ◌<◌, List, [], ◌∷◌, ◌++◌, length, Bool, true, false, Option, Some, None, refl, sym, ap, ◌∙◌, subst, arith, take, get_or, inl, inr, true≢false}
-use Rattle.std.specs.Ordering.{nat_cmp}
-use Rattle.std.specs.Cmp.Lexicographic.{slice_cmp}
-use Rattle.std.specs.FinMap.{get-empty}
-use Rattle.std.specs.FinMap as map
-use Rattle.std.proofs.lemmas.Bool.Decides.{nat_tests}
+use Rattle.std.proofs.Common.{◌≡◌, ℕ, ◌+◌, ◌<◌, List, [], ◌∷◌, ◌++◌, length, Bool, true, false, Option, Some, None, refl, sym, ap, ◌∙◌, subst, take, get_or, inl, inr, true≢false}
 use Rattle.std.specs.Prelude.{Result, Ok, Err, if◌then◌else◌}
 use Rattle.record_key.specs.declared.refusal.Refusal.{Refusal}
 use Rattle.record_key.specs.Order.{ends_above}
 use Rattle.record_key.specs.Table.{Bytes}
-use Rattle.page.specs.Leaf.{LeafView, first}
-use Rattle.recovery_laws.specs.Ready.{IsHonestTo}
 use Rattle.system_txn.specs.declared.devices.Device.{Device}
 use Rattle.system_txn.specs.declared.devices.Device.TheVariants as device
 use Rattle.system_txn.specs.SystemView.{failing_at}
-use Rattle.system_txn.specs.Devices.{pages_of}
 use Rattle.system_txn.specs.Crashed.{crashed}
-use Rattle.system_txn.proofs.Recoverable.{recoverable_fresh}
 use Rattle.dc_core.specs.Serves.{with_system}
 use Rattle.dc_core.specs.Restarting.{restarted}
 use Rattle.dc_core.proofs.Recoverable.{recoverable_served}
-use Rattle.dc_core.proofs.Checked.{checked_served, fresh_checked}
+use Rattle.dc_core.proofs.Checked.{checked_served}
 use Rattle.tc_core.specs.Kept.{IsTc}
 use Rattle.stable.specs.Usage.{unused}
 use Rattle.tc_core.specs.TcView.{fresh}
-use Rattle.tc_core.proofs.Low.{may_none}
 use Rattle.record_key.specs.declared.refusal.Refusal.TheVariants.{NotConnected, BadRange}
 use Rattle.world.specs.Component.{DcSide, dc_used}
 use Rattle.world.proofs.Restarts.Crashes.{crash_keeps, keeps_up, used_keeps}
@@ -41,8 +31,7 @@ use Rattle.world.specs.declared.event.Out.{Out}
 use Rattle.world.specs.declared.event.Out.TheVariants as out
 use Rattle.world.specs.Node.{NodeView, with_dc, StepsTo, IfUp, IfTcUp, IfDcUp, down_refusal, ServesTo, Served, PartsTo, JoinsTo, KeepsUpTo, WritesTo, CrashesDcTo, RestartsDcTo, FailsDcTo, fresh_node}
 use Rattle.world.specs.Stepping.{IsStep, Chain}
-use Rattle.world.specs.Kept.{IsKept, IsSent, IsAnsweredTo}
-use Rattle.world.specs.Source.{own}
+use Rattle.world.specs.Kept.{IsKept, IsSent}
 use Rattle.world.specs.Simulation.{StepsIf, lines_of, Happens, Run, Leads, LeadsAll, Stands}
 use Rattle.world.proofs.Invariant.CallsKeep.{fresh_tc}
 use Rattle.simulation.proofs.Told.{fresh_stands}
@@ -54,6 +43,7 @@ use Rattle.world.proofs.Invariant.Keeps.{with_reply}
 use Rattle.world.proofs.Machine.Follows.{Follows, at_new, no_line, unchanged, follows_begin, follows_act, follows_get, follows_scan, follows_save, follows_go_back, follows_rollback, follows_commit, follows_undo, follows_force}
 use Rattle.world.proofs.Invariant.Sends.{follows_reconnect, follows_recover, follows_send, follows_low_water, follows_checkpoint, follows_tell}
 use Rattle.world.proofs.Machine.Replies.{follows_reply}
+use Rattle.world.proofs.Machine.Opened.{kept_joined}
 use Rattle.world.proofs.Restarts.TcCrashes.{follows_tc_crash, follows_tc_restart, follows_tc_fail}
 
 -- a request reaches the data component
@@ -291,42 +281,8 @@ follows old new (event.FailTc call) output k tc is h = follows_tc_fail old new c
 follows old new (event.FailDc device call) output k tc is h = follows_fail old new device call output k is h
 
 -- a new node
-first_honest : IsHonestTo [] 0 first
-first_honest = record {
-  honest = record { at = λ k within. record { left_out = tt; right = get-empty (slice_cmp nat_cmp) k }; saved = tt };
-  within = λ n captured. grind (arith, nat_tests, captured);
-}
-
-low_answered : IsAnsweredTo (fresh unused) 0
-low_answered = may_none []
-
 pub kept_fresh : IsDc (fresh_dc unused unused) → IsKept fresh_node
-kept_fresh is = record {
-  tc = fresh_tc;
-  right = tt;
-  dc = is;
-  recoverable = recoverable_fresh unused unused;
-  source = own (fresh unused);
-  from = inl refl;
-  true_to = record {
-    leaves = (first_honest.honest, tt);
-    low = (low_answered, tt);
-    written = record { first_leaf = first_honest; page = λ id page h. absurd (no_page id page h); logged = tt };
-    written_low = record { first_leaf = low_answered; page = λ id page h. absurd (no_page id page h); logged = tt };
-  };
-  performed = tt;
-  answered = λ may. absurd (cc);
-  sent = tt;
-  given = tt;
-  sessions = record { begun = record { recorded = omega arith; most = λ some. omega arith }; served = tt };
-  checked = fresh_checked unused unused;
-  known = omega arith;
-  opened = omega arith;
-  quiet = λ waits. omega arith;
-}
-  where
-    no_page : (id : ℕ) (page : LeafView) → pages_of map.empty id ≡ Some page → ⊥
-    no_page id page h = let none : None ≡ Some page = rw (get-empty nat_cmp id) at h in absurd (cc)
+kept_fresh is = kept_joined (fresh unused) unused unused fresh_tc tt refl refl refl refl is
 
 -- and stands for the machine to which nothing was done
 pub fresh_stands_for : Stands fresh_node machine.fresh

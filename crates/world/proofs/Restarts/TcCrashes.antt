@@ -24,10 +24,11 @@ use Rattle.tc_core.specs.Locking.{is_listed}
 use Rattle.stable.specs.Usage.{Usage}
 use Rattle.tc_core.specs.TcView.{TcView, used_so}
 use Rattle.tc_core.specs.Kept.{IsTc}
-use Rattle.tc_core.specs.Opening.{opened as opened_tc}
+use Rattle.tc_core.specs.Opening.{opened as opened_tc, IsOpened}
 use Rattle.tc_core.specs.Opened.{opens_as, crashed, losers_of, IsOpenedAgain}
-use Rattle.tc_core.proofs.CrashedTc.{crashed_kept, same_are_lost}
+use Rattle.tc_core.proofs.CrashedTc.{crashed_kept, opens_again, same_are_lost}
 use Rattle.tc_core.proofs.Losers.{listed_loser, loser_listed}
+use Rattle.tc_core.proofs.OpenedLog.{opened_kept}
 use Rattle.world.specs.Component.{TcSide}
 use Rattle.world.specs.Fallen.{IsFallen}
 use Rattle.world.specs.Kept.{IsKept}
@@ -109,6 +110,15 @@ stands_again old new m k is again stands =
     leftovers_are_no_step (clients was) m (clients was).saves spans there (λ t. inl refl)
     (λ t. inr (refl, all_forced was refl t)) in
     subst (λ x. StandsFor (clients x) m) (sym again.is) (subst (λ (v : View). StandsFor v m) path moved)
+
+-- a component that was opened on any bytes stands for what one that is opened on the log's own order stands for
+pub stands_over : (bytes : List ℕ) (usage : Usage) (w : TcView) (m : Machine) → IsTc w → IsOpened bytes usage w
+    → StandsFor (opened w.log) m → StandsFor (clients w) m
+stands_over bytes usage w m k is stands =
+    let other : TcView = opens_as w.log usage in
+    let is_tc : IsTc other = opened_kept w.log usage k.legal k.few.records in
+    stands_again other w m is_tc k (opens_again bytes w.log usage w is.log is k)
+    (stands_opened w.log usage m is_tc stands)
 
 -- ---- a crash
 

@@ -1,0 +1,15 @@
+//! A log that nobody vouches for, read record by record: whether each Answer in it is what its operation gets.
+//!
+//! Knows: the definitions of `history`.
+//! Must not know: where the records come from, and whether the log is legal.
+//! Promises the crates above: a record is taken just where the answers are right with it, in the time of a look-up or
+//! two in an ordered map; a wrong or refused one changes nothing.
+#![tactic(auto)]
+
+mod effects;
+mod parts;
+mod replay;
+mod taken;
+mod values;
+
+pub use replay::Replay;
