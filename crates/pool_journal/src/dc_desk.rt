@@ -1,5 +1,6 @@
 //! What lies under the lock of the data component.
 ghost use Rattle.std.specs.Prelude.{◌≡◌, ◌+◌, false, None, Some, IfOk, IfErr, IfSome, IfNone};
+ghost use Rattle.std.specs.Option.{option_copied};
 ghost use Rattle.world.specs.Component as sides;
 ghost use Rattle.world.specs.declared.event.Event.TheVariants as event;
 ghost use Rattle.world.specs.declared.event.Out.TheVariants as out;
@@ -125,8 +126,7 @@ impl<J: Naming, D: CrashLog, P: CrashPages> DcDesk<J, D, P> {
             visitor,
         } = self;
         let sent = hold(rt, journal).look_request(row, visitor, side, *given, number)?;
-        let none = None;
-        let request = row.value(&sent).sent(&none);
+        let request = row.value(&sent).sent();
         look_on(gate, request);
         let (step, after) = stepped(rt, *alloc, side, *given, Event::Request { number }, request);
         *given = after;
@@ -180,7 +180,7 @@ impl<J: Naming, D: CrashLog, P: CrashPages> DcDesk<J, D, P> {
             given,
             visitor,
         } = self;
-        let (step, after) = stepped(rt, *alloc, side, *given, event, &None);
+        let (step, after) = stepped(rt, *alloc, side, *given, event, None);
         *given = after;
         hold(rt, journal).enter_dc(rt, row, visitor, step)
     }
@@ -207,14 +207,14 @@ impl<J: Naming, D: CrashLog, P: CrashPages> DcDesk<J, D, P> {
             visitor,
         } = self;
         hold(rt, journal).look_dc(row, visitor, side, *given);
-        let (step, after) = stepped(rt, *alloc, side, *given, event, &None);
+        let (step, after) = stepped(rt, *alloc, side, *given, event, None);
         *given = after;
         hold(rt, journal).enter_dc(rt, row, visitor, step)
     }
 }
 
 // The program looks on while a request is served.
-fn look_on<G: Gate>(gate: &G, request: &Option<Request>) {
+fn look_on<G: Gate>(gate: &G, request: Option<&Request>) {
     if let Some(request) = request {
         gate.in_dc(request);
     }
@@ -226,7 +226,7 @@ fn tended<D: CrashLog, P: CrashPages>(side: &mut DcSide<D, P>) -> Out
     ensures nothing { result ≡ out.Nothing → side.new ≡ side.old }
 {
     let mut reply = None;
-    side.step(&Event::Tend, &None, None, &mut reply)
+    side.step(&Event::Tend, None, None, &mut reply)
 }
 
 // One step of the component, and how many messages it has given then.
@@ -236,14 +236,14 @@ fn stepped<D: CrashLog, P: CrashPages, R: Wait>(
     side: &mut DcSide<D, P>,
     given: u64,
     event: Event,
-    request: &Option<Request>,
+    request: Option<&Request>,
 ) -> (Box<Step>, u64)
     requires dc { of_tc event ≡ false }
-    requires may { MayDc side.old event request.now }
+    requires may { MayDc side.old event (option_copied request) }
     ensures caller { result.0.value.caller ≡ None }
     ensures event { result.0.value.event ≡ event }
     ensures none { result.0.value.sent ≡ None }
-    ensures leads { DcLeads side.old (Some (given + 1)) event request.now result.0.value.out result.0.value.given side.new }
+    ensures leads { DcLeads side.old (Some (given + 1)) event (option_copied request.entry) result.0.value.out result.0.value.given side.new }
     ensures given { result.1 ≡ given + count result.0.value.given }
 {
     let next = next_number(rt, given);

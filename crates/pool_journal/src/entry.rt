@@ -1,5 +1,6 @@
 //! What stands in the row.
-ghost use Rattle.std.specs.Prelude.{◌≡◌, None};
+ghost use Rattle.std.specs.Prelude.{◌≡◌};
+ghost use Rattle.std.specs.Option.{option_copied};
 
 use crate::step::Step;
 use crate::trace::Trace;
@@ -21,19 +22,17 @@ impl Entry {
         &self.step.out
     }
 
-    /// The request that it sent, or what is lent for none.
-    pub fn sent<'a>(&'a self, none: &'a Option<Request>) -> &'a Option<Request>
-        requires { none.now ≡ None }
-        ensures { result.now ≡ self.now.step.value.sent }
+    /// The request that it sent.
+    pub fn sent(&self) -> Option<&Request>
+        ensures { option_copied result ≡ self.now.step.value.sent }
     {
-        self.step.sent.get(none)
+        self.step.sent.get()
     }
 
-    /// The reply that it gave, or what is lent for none.
-    pub fn given<'a>(&'a self, none: &'a Option<Reply>) -> &'a Option<Reply>
-        requires { none.now ≡ None }
-        ensures { result.now ≡ self.now.step.value.given }
+    /// The reply that it gave.
+    pub fn given(&self) -> Option<&Reply>
+        ensures { option_copied result ≡ self.now.step.value.given }
     {
-        self.step.given.get(none)
+        self.step.given.get()
     }
 }

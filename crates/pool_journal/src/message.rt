@@ -1,6 +1,6 @@
 //! A message in a box of its own: of a hundred steps of a transaction forty send one, and the others are small.
 ghost use Rattle.std.specs.Prelude.{◌≡◌, None};
-ghost use Rattle.std.specs.Option.{is_some};
+ghost use Rattle.std.specs.Option.{is_some, option_copied};
 
 use crate::row::boxed;
 use std::alloc::Global;
@@ -10,7 +10,7 @@ use std::sync::Wait;
 /// A message, if there is one. Contracts see the message.
 #[derive(Debug, Drop)]
 pub struct Message<T> {
-    inside: Option<Box<Option<T>>>,
+    inside: Option<Box<T>>,
 }
 
 impl<T> Model for Message<T> {
@@ -37,20 +37,15 @@ impl<T> Message<T> {
     pub fn is_some(&self) -> bool
         ensures { result ≡ is_some self.now }
     {
-        match &self.inside {
-            Some(message) => message.is_some(),
-            None => false,
-        }
+        self.inside.is_some()
     }
 
-    /// The message, or what is lent for none.
-    pub fn get<'a>(&'a self, none: &'a Option<T>) -> &'a Option<T>
-        requires { none.now ≡ None }
-        ensures { result.now ≡ self.now }
+    pub fn get(&self) -> Option<&T>
+        ensures { option_copied result ≡ self.now }
     {
         match &self.inside {
-            Some(message) => message,
-            None => none,
+            Some(message) => Some(message),
+            None => None,
         }
     }
 }
@@ -60,11 +55,11 @@ impl<T: Drop> Message<T> {
     pub fn new<R: Wait>(rt: &R, alloc: Global, message: Option<T>) -> Message<T>
         ensures { result ≡ message }
     {
-        if message.is_none() {
-            return Message::none();
-        }
-        Message {
-            inside: Some(boxed(rt, alloc, message)),
+        match message {
+            Some(message) => Message {
+                inside: Some(boxed(rt, alloc, message)),
+            },
+            None => Message::none(),
         }
     }
 }

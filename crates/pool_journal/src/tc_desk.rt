@@ -177,8 +177,7 @@ impl<J: Naming, D: CrashLog> TcDesk<J, D> {
             seat,
         } = self;
         let given = hold(rt, journal).look_reply(hall.row(), visitor, number)?;
-        let none = None;
-        let Some(reply) = hall.row().value(&given).given(&none) else {
+        let Some(reply) = hall.row().value(&given).given() else {
             return Err(Unsent);
         };
         let reply = copy(rt, reply);

@@ -33,7 +33,7 @@ use Rattle.marks.proofs.seat.Seat.TheSendSync as seat
 use Rattle.std.specs.contracts.alloc.Global as Global
 use Rattle.std.specs.contracts.impls.GlobalAllocator.TheImpl.{ghosts}
 use Rattle.std.specs.contracts.sync.Arc as Arc
-use Rattle.world.proofs.stopped.Stopped.TheSendSync as stopped
+use Rattle.world.proofs.stopped_dc.StoppedDc.TheSendSync as stopped
 use Rattle.world.specs.contracts.dc_side.DcSide as DcSide
 use Rattle.pool_journal.proofs.caller.Caller.TheSendSync as caller
 use Rattle.pool_journal.proofs.hall.Hall.TheSendSync as hall

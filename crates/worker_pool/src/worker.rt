@@ -48,8 +48,7 @@ impl<J: Naming, G: Gate, D: CrashLog, P: CrashPages> Shared<J, G, D, P> {
     pub(crate) fn look_on(&self, token: &Pushed<Entry>)
         requires { Shown J.entries token.now }
     {
-        let none = None;
-        if let Some(request) = self.hall().row().value(token).sent(&none) {
+        if let Some(request) = self.hall().row().value(token).sent() {
             self.gate.before(request);
         }
     }
@@ -90,8 +89,7 @@ impl<J: Naming, G: Gate, D: CrashLog, P: CrashPages> Shared<J, G, D, P> {
         requires { Shown J.entries token.now }
     {
         let entry = self.hall().row().value(token);
-        let none = None;
-        if let Some(reply) = entry.given(&none) {
+        if let Some(reply) = entry.given() {
             self.gate.after(reply);
         }
         match entry.out() {

@@ -1,3 +1,4 @@
+use Rattle.std.specs.Option.{option_copied}
 use Rattle.std.proofs.Common.{◌≡◌, ap, ◌∙◌, subst, sym}
 use Rattle.pool_journal.specs.declared.entry.Entry.{Entry}
 use Rattle.world.specs.Halves.{IsSpelledIf, IsInNode}
@@ -18,7 +19,7 @@ invariant_of-self g c =
 pub stepped-step-requires-clause-may : goal.stepped-step-requires-clause-may
 stepped-step-requires-clause-may g c =
     let s = c.self.inside in
-    let found : c.in_ok-sent.sent.value.step.value.sent ≡ c.sent-request.result.now =
+    let found : c.in_ok-sent.sent.value.step.value.sent ≡ option_copied c.sent-request.result =
     ap (λ (x : Entry). x.step.value.sent) (sym c.value.ensures) ∙ sym c.sent-request.ensures in (
       subst (IsInNode s.side (event.Request c.args.number)) found
           (in_node_with _ s.side c.args.number _ c.look_request.ensures.run c.in_ok-sent.ensures.sent),
@@ -29,16 +30,16 @@ pub enter_dc-requires-clause-enters : goal.enter_dc-requires-clause-enters
 enter_dc-requires-clause-enters g c =
     let s = c.self.inside in let look = c.look_request.ensures in let e = c.stepped-step.ensures in
     let v = c.look_request.new.visitor in
-    let found : c.in_ok-sent.sent.value.step.value.sent ≡ c.sent-request.result.now =
+    let found : c.in_ok-sent.sent.value.step.value.sent ≡ option_copied c.sent-request.result =
     ap (λ (x : Entry). x.step.value.sent) (sym c.value.ensures) ∙ sym c.sent-request.ensures in
-    let by : IsSentBy (requests v.steps) c.args.number c.sent-request.result.now =
+    let by : IsSentBy (requests v.steps) c.args.number (option_copied c.sent-request.result) =
     subst (IsSentBy (requests v.steps) c.args.number) found
     (subst (λ (x : View). IsSentBy (requests x.steps) c.args.number c.in_ok-sent.sent.value.step.value.sent)
     (sym look.visitor)
     c.in_ok-sent.ensures.sent) in (
       _,
       dc_goes_with s.visitor.steps v.steps s.side c.stepped-step.new.side s.given c.stepped-step.result.1
-          c.stepped-step.result.0.value c.args.number c.sent-request.result.now
+          c.stepped-step.result.0.value c.args.number (option_copied c.sent-request.result)
           (subst (λ (x : View). Sees is_dc s.visitor.steps x.steps) (sym look.visitor) look.sees) c.self.invariant.gives
           e.event by e.leads e.given e.none,
     )
@@ -47,15 +48,15 @@ pub invariant_of-self-2 : goal.invariant_of-self-2
 invariant_of-self-2 g c =
     let s = c.self.inside in let look = c.look_request.ensures in let e = c.stepped-step.ensures in
     let v = c.look_request.new.visitor in
-    let found : c.in_ok-sent.sent.value.step.value.sent ≡ c.sent-request.result.now =
+    let found : c.in_ok-sent.sent.value.step.value.sent ≡ option_copied c.sent-request.result =
     ap (λ (x : Entry). x.step.value.sent) (sym c.value.ensures) ∙ sym c.sent-request.ensures in
-    let by : IsSentBy (requests v.steps) c.args.number c.sent-request.result.now =
+    let by : IsSentBy (requests v.steps) c.args.number (option_copied c.sent-request.result) =
     subst (IsSentBy (requests v.steps) c.args.number) found
     (subst (λ (x : View). IsSentBy (requests x.steps) c.args.number c.in_ok-sent.sent.value.step.value.sent)
     (sym look.visitor)
     c.in_ok-sent.ensures.sent) in
     let enters = dc_goes_with s.visitor.steps v.steps s.side c.stepped-step.new.side s.given c.stepped-step.result.1
-    c.stepped-step.result.0.value c.args.number c.sent-request.result.now
+    c.stepped-step.result.0.value c.args.number (option_copied c.sent-request.result)
     (subst (λ (x : View). Sees is_dc s.visitor.steps x.steps) (sym look.visitor) look.sees) c.self.invariant.gives
     e.event by e.leads e.given e.none in
     record {

@@ -1,3 +1,4 @@
+use Rattle.std.specs.Option.{option_copied}
 use Rattle.std.proofs.Common.{◌≡◌, ap, ◌∙◌, subst, sym, Some, refl, inl, le_trans}
 use Rattle.world.specs.declared.event.Event.{Event}
 use Rattle.world.specs.declared.event.Event.TheVariants as event
@@ -26,7 +27,7 @@ enter_tc-requires-clause-enters g c =
     let by = subst (λ (x : View). IsSentBy (replies x.steps) c.args.number c.in_ok-given.given.value.step.value.given)
     (sym look.visitor) c.in_ok-given.ensures.given in
     let has : c.in_ok-given.given.value.step.value.given ≡ Some c.copy-reply.result =
-    ap (λ (x : Entry). x.step.value.given) (sym c.value.ensures) ∙ sym c.given-2.ensures ∙ c.in-Some.is
+    ap (λ (x : Entry). x.step.value.given) (sym c.value.ensures) ∙ sym c.given-2.ensures ∙ ap option_copied c.in-Some.is
     ∙ ap (λ (r : Reply). Some r) (sym c.copy-reply.ensures) in (
       _,
       tc_goes_with s.visitor.steps v.steps s.side c.stepped-step.new.side s.sent c.stepped-step.result.1
@@ -42,7 +43,7 @@ mark-requires-clause-stable g c =
     let by = subst (λ (x : View). IsSentBy (replies x.steps) c.args.number c.in_ok-given.given.value.step.value.given)
     (sym look.visitor) c.in_ok-given.ensures.given in
     let has : c.in_ok-given.given.value.step.value.given ≡ Some c.copy-reply.result =
-    ap (λ (x : Entry). x.step.value.given) (sym c.value.ensures) ∙ sym c.given-2.ensures ∙ c.in-Some.is
+    ap (λ (x : Entry). x.step.value.given) (sym c.value.ensures) ∙ sym c.given-2.ensures ∙ ap option_copied c.in-Some.is
     ∙ ap (λ (r : Reply). Some r) (sym c.copy-reply.ensures) in
     le_trans c.self.invariant.seated.stable_so
     (next_rises s.side c.stepped-step.new.side s.sent (event.Reply c.args.number) (Some c.copy-reply.result)
@@ -61,7 +62,7 @@ invariant_of-self-2 g c =
     let by = subst (λ (x : View). IsSentBy (replies x.steps) c.args.number c.in_ok-given.given.value.step.value.given)
     (sym look.visitor) c.in_ok-given.ensures.given in
     let has : c.in_ok-given.given.value.step.value.given ≡ Some c.copy-reply.result =
-    ap (λ (x : Entry). x.step.value.given) (sym c.value.ensures) ∙ sym c.given-2.ensures ∙ c.in-Some.is
+    ap (λ (x : Entry). x.step.value.given) (sym c.value.ensures) ∙ sym c.given-2.ensures ∙ ap option_copied c.in-Some.is
     ∙ ap (λ (r : Reply). Some r) (sym c.copy-reply.ensures) in
     let enters = tc_goes_with s.visitor.steps v.steps s.side c.stepped-step.new.side s.sent c.stepped-step.result.1
     c.stepped-step.result.0.value c.args.number _ c.copy-reply.result

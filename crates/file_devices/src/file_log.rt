@@ -1,0 +1,158 @@
+//! A log device over a file.
+ghost use Rattle.std.specs.Prelude.{◌≡◌, ◌≤◌, [], OnOk};
+ghost use Rattle.file_devices.specs.Failing.{freely_unused};
+
+use crate::faults::Faults;
+use crate::log_file::LogFile;
+use stable::{CrashLog, DeviceError, LogDevice};
+use std::alloc::Global;
+use std::io;
+use std::marker::Model;
+
+/// All bytes of a log in memory, and a file that each force brings up to them. The system may refuse any call, and then
+/// the bytes and which of them are forced stay as they were.
+#[derive(Drop)]
+pub struct FileLog {
+    bytes: Vec<u8>,
+    // How many of the bytes are forced.
+    forced: usize,
+    // How many of the bytes the file surely has.
+    written: usize,
+    file: Option<LogFile>,
+    faults: Faults,
+}
+
+impl Model for FileLog {
+    ghost use Rattle.std.specs.Prelude.{◌≤◌, take, drop, length};
+    ghost use Rattle.stable.specs.LogState.{LogState};
+
+    ghost Value = { LogState };
+
+    ghost view = { λ m. record {
+      forced = take m.forced m.bytes.items;
+      pending = drop m.forced m.bytes.items;
+      usage = m.faults;
+    } };
+
+    ghost invariant = { λ m. (m.written ≤ m.forced) × (m.forced ≤ length m.bytes.items) };
+}
+
+impl FileLog {
+    /// An empty log that no file keeps, which takes its memory from `alloc`: it lives as long as its process. It is for
+    /// a component whose log is made again from another's.
+    pub fn volatile(alloc: Global) -> FileLog
+        ensures forced { result.forced ≡ [] }
+        ensures pending { result.pending ≡ [] }
+        ensures unused { result.usage ≡ freely_unused }
+    {
+        FileLog {
+            bytes: Vec::new(alloc),
+            forced: 0,
+            written: 0,
+            file: None,
+            faults: Faults::new(),
+        }
+    }
+
+    /// The log over a file that has these bytes, all of them synced.
+    pub(crate) fn over(file: LogFile, bytes: Vec<u8>) -> FileLog
+        ensures forced { result.forced ≡ bytes.items }
+        ensures pending { result.pending ≡ [] }
+        ensures unused { result.usage ≡ freely_unused }
+    {
+        let len = bytes.len();
+        FileLog {
+            bytes,
+            forced: len,
+            written: len,
+            file: Some(file),
+            faults: Faults::new(),
+        }
+    }
+}
+
+impl LogDevice for FileLog {
+    ghost use Rattle.std.specs.Prelude.{true};
+
+    ghost forced = { λ log. log.forced };
+
+    ghost pending = { λ log. log.pending };
+
+    ghost usage = { λ log. log.usage };
+
+    ghost forces_whole = { true };
+
+    fn append(&mut self, bytes: &[u8]) -> Result<(), DeviceError> {
+        self.bytes.reserve(bytes.len())?;
+        self.faults.call()?;
+        self.bytes.extend_from_slice(bytes)?;
+        Ok(())
+    }
+
+    // What a failed force wrote is written again by the next one, from the same place: after a sync that failed, the
+    // system may have dropped what it had not yet brought to the disk, and may say of the next sync that all went well.
+    fn force(&mut self) -> Result<(), DeviceError> {
+        self.faults.call()?;
+        let Ok(()) = extend(&mut self.file, self.written, &self.bytes[self.written..]) else {
+            return self.faults.fail();
+        };
+        self.forced = self.bytes.len();
+        self.written = self.forced;
+        Ok(())
+    }
+
+    // Where the sync is refused, the file may be cut already: from there on the next force writes it again.
+    fn cut(&mut self, len: usize) -> Result<(), DeviceError> {
+        self.faults.call()?;
+        let Ok(()) = cut(&mut self.file, &mut self.written, len) else {
+            return self.faults.fail();
+        };
+        self.bytes.truncate(len);
+        self.forced = len;
+        Ok(())
+    }
+
+    fn bytes(&mut self) -> Result<&[u8], DeviceError> {
+        self.faults.call()?;
+        Ok(&self.bytes)
+    }
+}
+
+impl CrashLog for FileLog {
+    fn unforced(&self) -> usize {
+        self.bytes.len() - self.forced
+    }
+
+    // The crash of a component within the process, which no file sees. The bytes that it keeps are written with the
+    // next force. No client is told of them before: a component that is opened on them logs its session, and forces
+    // that, before its first message.
+    fn crash(&mut self, kept: usize) {
+        let pending = self.unforced();
+        self.forced += kept.min(pending);
+        self.bytes.truncate(self.forced);
+    }
+
+    fn fail_at(&mut self, n: u64) {
+        self.faults.fail_at(n);
+    }
+}
+
+fn extend(file: &mut Option<LogFile>, at: usize, bytes: &[u8]) -> io::Result<()> {
+    match file {
+        Some(file) => file.extend(at, bytes),
+        None => Ok(()),
+    }
+}
+
+fn cut(file: &mut Option<LogFile>, written: &mut usize, len: usize) -> io::Result<()>
+    ensures fewer { written.new ≤ written.old }
+    ensures cut { OnOk result (written.new ≤ len) }
+{
+    match file {
+        Some(file) => file.cut(written, len),
+        None => {
+            *written = len.min(*written);
+            Ok(())
+        }
+    }
+}

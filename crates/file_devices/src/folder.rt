@@ -1,0 +1,77 @@
+//! The folder of a store.
+use crate::store_error::{StoreError, StoreFile, Tried};
+use std::fs::{File, Files, OpenOptions};
+use std::os::fd::AsRawFd;
+use std::path::Path;
+use std::{fs, io};
+
+/// Makes the folder where it isn't there. The folder above it is made by others.
+pub(crate) fn make<R: Files<File = File>>(rt: &R, folder: &str) -> Result<(), StoreError> {
+    match fs::create_dir(rt, folder) {
+        Ok(()) => Ok(()),
+        Err(cause) if cause.kind() == io::ErrorKind::AlreadyExists => Ok(()),
+        Err(cause) => Err(StoreError::new(Tried::Make, StoreFile::Folder, cause)),
+    }
+}
+
+/// After it the folder and the files that were made in it are found whatever happens to the machine.
+pub(crate) fn sync<R: Files<File = File>>(rt: &R, folder: &str) -> Result<(), StoreError> {
+    sync_one(rt, folder, StoreFile::Folder)?;
+    sync_one(rt, parent_of(folder), StoreFile::Parent)
+}
+
+fn parent_of(folder: &str) -> &str {
+    match Path::new(folder).parent() {
+        Some(parent) if !parent.as_str().is_empty() => parent.as_str(),
+        _ => ".",
+    }
+}
+
+fn sync_one<R: Files<File = File>>(rt: &R, path: &str, which: StoreFile) -> Result<(), StoreError> {
+    let folder = fs::open(rt, path).map_err(|cause| StoreError::new(Tried::Open, which, cause))?;
+    folder
+        .sync_all()
+        .map_err(|cause| StoreError::new(Tried::Sync, which, cause))
+}
+
+/// Whether each file of the folder has one of these names.
+pub(crate) fn has_only<R: Files + AllocGlobal + Clone + Drop>(
+    rt: &R,
+    folder: &str,
+    names: &[&str],
+) -> Result<bool, StoreError> {
+    list(rt, folder, names).map_err(|cause| StoreError::new(Tried::List, StoreFile::Folder, cause))
+}
+
+fn list<R: Files + AllocGlobal + Clone + Drop>(
+    rt: &R,
+    folder: &str,
+    names: &[&str],
+) -> io::Result<bool> {
+    for entry in fs::read_dir(rt, folder)? {
+        if !names.contains(&entry?.file_name()) {
+            return Ok(false);
+        }
+    }
+    Ok(true)
+}
+
+/// Opens a file of the folder for reading and writing, and makes it where that is asked for.
+pub(crate) fn open<R: Files<File = File> + AllocGlobal>(
+    rt: &R,
+    folder: &str,
+    name: &str,
+    creates: bool,
+) -> io::Result<File> {
+    let path = Path::new(folder).join(rt.alloc(), name)?;
+    let file = OpenOptions::new()
+        .read(true)
+        .write(true)
+        .create(creates)
+        .open(rt, path)?;
+    // What is meant for a standard stream that was closed must not land in the store.
+    if file.as_raw_fd() <= 2 {
+        return file.try_clone();
+    }
+    Ok(file)
+}

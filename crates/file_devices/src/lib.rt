@@ -1,0 +1,20 @@
+//! Devices over files: a log that outlives its process, and pages that are never kept.
+//! It knows bytes, files and the calls of the system. It must not know what the bytes spell.
+//! It promises the next crates: a log over a file meets what any log device promises, and each byte that it calls
+//! forced was written to the file and synced, but for those that a crash of its component left and no force has
+//! written since; a store is open once at a time; no page is ever said to be written.
+#![tactic(auto)]
+
+mod faults;
+mod file_log;
+mod folder;
+mod log_file;
+mod mark;
+mod no_pages;
+mod store;
+mod store_error;
+
+pub use file_log::FileLog;
+pub use no_pages::NoPages;
+pub use store::open_store;
+pub use store_error::{StoreError, StoreFile, Tried};
