@@ -11,7 +11,6 @@ use std::alloc::Global;
 use std::fs::{File, Files};
 use std::io;
 use std::io::Read;
-use std::os::fd::AsRawFd;
 
 const LOG: &str = "log";
 
@@ -73,15 +72,9 @@ fn len_of(log: &File) -> Result<u64, StoreError> {
     }
 }
 
-/// All bytes of the file, once they are on the disk: whoever wrote them may have been killed before its sync, or its
-/// sync may have failed and left them in the system's memory alone, which is dropped for that.
+/// All bytes of the file, once they are on the disk: whoever wrote them may have been killed before its sync.
 fn settle(alloc: Global, log: &mut File) -> Result<Vec<u8>, StoreError> {
     log.sync_all().map_err(|cause| StoreError::new(Tried::Sync, StoreFile::Log, cause))?;
-    let advised = libc::posix_fadvise(log.as_raw_fd(), 0, 0, libc::POSIX_FADV_DONTNEED);
-    if advised != 0 {
-        let cause = io::Error::from_raw_os_error(advised);
-        return Err(StoreError::new(Tried::Sync, StoreFile::Log, cause));
-    }
     let len = len_of(log)?;
     read(alloc, log, len).map_err(|cause| StoreError::new(Tried::Read, StoreFile::Log, cause))
 }

@@ -1,0 +1,61 @@
+-- The oldest records of a log, so many.
+use Rattle.std.proofs.Common.{◌≡◌, ℕ, suc, ◌+◌, ◌-◌, ◌<◌, ◌≤◌, List, [], ◌∷◌, length, drop, Some, refl, sym, ap, ◌∙◌, arith, inl, inr}
+use Rattle.std.proofs.lemmas.Bool.{cases_eq}
+use Rattle.history.specs.declared.record.Record.{Record}
+use Rattle.history.specs.declared.record.Record.TheVariants as is
+use Rattle.history.specs.Log.{record_at, before}
+use Rattle.log_laws.proofs.Records.{newest_at, older_at, before_old, before_new, within}
+use Rattle.logical_log.specs.Low.{stable_part}
+
+-- of a longer log they are the same
+part_longer : (q : Record) (log : List Record) (n : ℕ) → n ≤ length log
+    → stable_part (q ∷ log) n ≡ stable_part log n
+part_longer q log n le =
+    let e : length (q ∷ log) - n ≡ suc (length log - n) = omega (arith, le) in ap (λ (k : ℕ). drop k (q ∷ log)) e
+
+-- none of them
+pub part_none : (log : List Record) → stable_part log 0 ≡ []
+part_none [] = refl
+part_none (q ∷ log) = part_longer q log 0 (omega arith) ∙ part_none log
+
+-- all
+pub part_whole : (log : List Record) → stable_part log (length log) ≡ log
+part_whole log = let e : length log - length log ≡ 0 = omega arith in ap (λ (k : ℕ). drop k log) e
+
+-- one more
+pub part_next : (log : List Record) (n : ℕ) (r : Record) → n < length log → record_at log (n + 1) ≡ Some r
+    → stable_part log (n + 1) ≡ r ∷ stable_part log n
+part_next [] n r lt at = absurd (omega (arith, lt))
+part_next (q ∷ log) n r lt at =
+    elim (cases_eq n (length log)) [
+      | inl e ↦
+          let newest : Some q ≡ Some r = newest_at (λ x. x ≡ Some r) q log (n + 1) (omega (arith, e)) at in
+          let same : q ≡ r = cc in
+          let all : length (q ∷ log) - (n + 1) ≡ 0 = omega (arith, e) in
+          ap (λ (k : ℕ). drop k (q ∷ log)) all
+          ∙ (λ i. same i ∷ sym (part_longer q log n (omega (arith, e)) ∙ ap (stable_part log) e ∙ part_whole log) i)
+      | inr e ↦
+          let there : record_at log (n + 1) ≡ Some r =
+          older_at (λ x. x ≡ Some r) q log (n + 1) (λ same. e (omega (arith, same))) at in
+          part_longer q log (n + 1) (omega (arith, lt, e)) ∙ part_next log n r (omega (arith, lt, e)) there
+          ∙ ap (λ (l : List Record). r ∷ l) (sym (part_longer q log n (omega (arith, lt, e))))
+    ]
+
+-- what stands before a number
+pub before_is : (log : List Record) (n : ℕ) → n < length log → before log (n + 1) ≡ stable_part log n
+before_is [] n lt = absurd (omega (arith, lt))
+before_is (q ∷ log) n lt =
+    elim (cases_eq n (length log)) [
+      | inl e ↦ before_new q log (n + 1) (omega (arith, e))
+          ∙ sym (part_longer q log n (omega (arith, e)) ∙ ap (stable_part log) e ∙ part_whole log)
+      | inr e ↦ before_old q log (n + 1) (λ same. e (omega (arith, same)))
+          ∙ before_is log n (omega (arith, lt, e)) ∙ sym (part_longer q log n (omega (arith, lt, e)))
+    ]
+
+-- no checkpoint stands among them
+abbrev pub HasNoneTo : List Record → ℕ → Type 0
+HasNoneTo log n = (m low : ℕ) → m ≤ n → record_at log m ≡ Some (is.Checkpoint low) → ⊥
+
+pub none_to_zero : (log : List Record) → HasNoneTo log 0
+none_to_zero log m low le at =
+    let number = within (λ r. r ≡ Some (is.Checkpoint low)) (λ none. cc) log m at in omega (arith, number.positive, le)
