@@ -1,17 +1,17 @@
 -- One line after another.
-use Rattle.std.proofs.Common.{◌≡◌, ◌⊎◌, ℕ, Bool, true, false, not, List, [], ◌++◌, ◌||◌, Option, Some, None, Result, Ok, Err, inl, inr, sym, subst, refl, append_assoc, append-nil}
+use Rattle.std.proofs.Common.{◌≡◌, ◌⊎◌, ℕ, Bool, true, false, not, List, [], ◌++◌, ◌||◌, Option, Some, None, Ok, Err, inl, inr, sym, subst, refl, append_assoc, append-nil}
 use Rattle.std.specs.Prelude.{◌&&◌}
 use Rattle.std.specs.Io.KnownBytes.{Appends}
 use Rattle.record_key.specs.declared.refusal.Refusal.{Refusal}
 use Rattle.record_key.specs.declared.refusal.Refusal.TheVariants as refusal
-use Rattle.world.specs.Node.{NodeView}
+use Rattle.world.specs.Node.{NodeView, fresh_node}
 use Rattle.node_shell.specs.declared.line_result.LineResult.{LineResult}
-use Rattle.node_shell.specs.Labels.{Bindings}
+use Rattle.node_shell.specs.Labels.{AreSame, Bindings, unbound}
 use Rattle.node_shell.specs.Script.{Command, onto, first_fault, commands_of, lines_of}
 use Rattle.node_shell.specs.Printed.{IsCut, refusal_line}
-use Rattle.node_shell.specs.Text.{ComesTo, Runs, goes_on, fails, is_cut, done, has_failed, status_after, result_text, WritesLine, WritesRun, WritesLines, WritesAlone, WritesText, IsAlone, IsAllOf, IsTextAfterCheck}
+use Rattle.node_shell.specs.Text.{ComesTo, Runs, goes_on, fails, is_cut, done, has_failed, status_after, result_text, WritesLine, WritesRun, WritesAlone, WritesText, WritesTextFrom, IsAlone, IsAllOf, IsCheckedFrom, IsTextAfterCheck, IsTextFrom, IsTextOf, IsUnread}
 use Rattle.node_shell.proofs.Printing.{appends_then}
-use Rattle.node_shell.proofs.Telling.{told_run}
+use Rattle.node_shell.proofs.Telling.{led_run, told_run}
 
 -- no line
 pub no_line : {E : Type 0} (view : NodeView) (labels : Bindings) (old new : Option (List ℕ)) → Appends old new []
@@ -153,26 +153,47 @@ alone_cut line own old new h =
     record { text = h.written; appended = h.appended; alone = inr ((h.left, h.beginning), refl) }
 
 -- a script that could not be read
-pub unread : (continues : Bool) (given old new : Option (List ℕ)) (r : Refusal) (status : ℕ)
-    → (r ≡ refusal.NoMemory) ⊎ (r ≡ refusal.Device) → WritesAlone (refusal_line r) 3 old new status
-    → WritesText continues given old new status
-unread continues given old new r status (inl e) h =
+pub unread : (continues : Bool) (view : NodeView) (labels : Bindings) (given old new : Option (List ℕ)) (r : Refusal)
+    (status : ℕ) → (r ≡ refusal.NoMemory) ⊎ (r ≡ refusal.Device) → WritesAlone (refusal_line r) 3 old new status
+    → WritesTextFrom continues view labels given old new status
+unread continues view labels given old new r status (inl e) h =
     let P : Refusal → Type 0 = λ q. IsAlone (refusal_line q) 3 h.text status in
     record { text = h.text; appended = h.appended; is_text = inr (inl (subst P e h.alone)) }
-unread continues given old new r status (inr e) h =
+unread continues view labels given old new r status (inr e) h =
     let P : Refusal → Type 0 = λ q. IsAlone (refusal_line q) 3 h.text status in
     record { text = h.text; appended = h.appended; is_text = inr (inr (subst P e h.alone)) }
 
--- a script without a fault that was run, or for whose node there was no memory
-pub ran : (continues : Bool) (given old new : Option (List ℕ)) (script : List ℕ) (status : ℕ) → IsAllOf given script
-    → first_fault script ≡ None → WritesLines continues script old new status
+-- a script without a fault that was run
+pub ran : (continues : Bool) (view : NodeView) (labels : Bindings) (given old new : Option (List ℕ)) (script : List ℕ)
+    (status : ℕ) → IsAllOf given script → first_fault script ≡ None
+    → WritesRun continues (commands_of (lines_of script)) view labels old new status
+    → WritesTextFrom continues view labels given old new status
+ran continues view labels given old new script status all ok h =
+    let P : Option ℕ → Type 0 = λ fault. IsCheckedFrom continues view labels fault script h.text status in
+    let led = led_run continues (commands_of (lines_of script)) view labels h.text status h.runs in
+    record { text = h.text; appended = h.appended; is_text = inl (script, all, subst P (sym ok) led) }
+
+-- on a new node
+pub on_new : (continues : Bool) (labels : Bindings) (given old new : Option (List ℕ)) (status : ℕ)
+    → AreSame unbound labels → WritesTextFrom continues fresh_node labels given old new status
     → WritesText continues given old new status
-ran continues given old new script status all ok (inl h) =
-    let P : Option ℕ → Type 0 = λ fault. IsTextAfterCheck continues fault script h.2.text status in
-    record {
-      text = h.2.text;
-      appended = h.2.appended;
-      is_text = inl (script, all, subst P (sym ok) (h.0, h.1, told_run continues (commands_of (lines_of script)) h.0 h.2.text status h.2.runs));
-    }
-ran continues given old new script status all ok (inr h) =
-    record { text = h.text; appended = h.appended; is_text = inr (inl h.alone) }
+on_new continues labels given old new status same h =
+    record { text = h.text; appended = h.appended; is_text = told h.is_text }
+  where
+    checked : (fault : Option ℕ) (script : List ℕ) → IsCheckedFrom continues fresh_node labels fault script h.text status
+        → IsTextAfterCheck continues fault script h.text status
+    checked (Some line) script alone = alone
+    checked None script led = (labels, same, told_run continues (commands_of (lines_of script)) labels h.text status led)
+
+    told : ((script : List ℕ) × IsAllOf given script × IsTextFrom continues fresh_node labels script h.text status)
+        ⊎ IsUnread h.text status
+        → ((script : List ℕ) × IsAllOf given script × IsTextOf continues script h.text status) ⊎ IsUnread h.text status
+    told (inl s) = inl (s.0, s.1, checked (first_fault s.0) s.0 s.2)
+    told (inr u) = inr u
+
+-- memory for a node was refused
+pub unmade : (continues : Bool) (given old new : Option (List ℕ)) (r : Refusal) (status : ℕ) → r ≡ refusal.NoMemory
+    → WritesAlone (refusal_line r) 3 old new status → WritesText continues given old new status
+unmade continues given old new r status e h =
+    let P : Refusal → Type 0 = λ q. IsAlone (refusal_line q) 3 h.text status in
+    record { text = h.text; appended = h.appended; is_text = inr (inl (subst P e h.alone)) }

@@ -18,7 +18,7 @@ use Rattle.node_shell.specs.declared.line_result.LineResult.{LineResult}
 use Rattle.node_shell.specs.declared.line_result.LineResult.TheVariants as came
 use Rattle.node_shell.specs.Labels.{Bindings}
 use Rattle.node_shell.specs.Script.{Command, begins, writes, adds, gets, scans, calls, treats, steps, settles, tables, shows}
-use Rattle.node_shell.specs.Text.{ComesTo, StepsUnless, Runs, goes_on, fails, is_cut, done, lines_if, lines_unless, client_lines, run_lines, op_of, length_fault, keys_fault, event_of, leaf_event, IsToldRun}
+use Rattle.node_shell.specs.Text.{ComesTo, StepsUnless, Runs, goes_on, fails, is_cut, done, lines_if, lines_unless, client_lines, run_lines, op_of, length_fault, keys_fault, event_of, leaf_event, IsLedRun, IsToldRun}
 
 -- whatever machine the node stood for, these lines lead from it to one that the node stands for then
 abbrev LeadsBy : NodeView → List Line → NodeView → Type 0
@@ -109,7 +109,13 @@ run_leads _ _ _ _ _ _ (fails c cs view labels r after next comes failed over) m 
 run_leads _ _ _ _ _ _ (is_cut c cs view labels r after next text comes cut) m stands =
     let one = line_leads c view labels r after next comes m stands in (one.0, one.1)
 
+pub led_run : (continues : Bool) (cs : List Command) (view : NodeView) (labels : Bindings) (text : List ℕ) (status : ℕ)
+    → Runs continues cs view labels text status → IsLedRun continues cs view labels text status
+led_run continues cs view labels text status runs =
+    record { runs = runs; leads = λ m stands. run_leads continues cs view labels text status runs m stands }
+
+-- a new node stands for the empty list machine
 pub told_run : (continues : Bool) (cs : List Command) (labels : Bindings) (text : List ℕ) (status : ℕ)
-    → Runs continues cs fresh_node labels text status → IsToldRun continues cs fresh_node labels text status
-told_run continues cs labels text status runs =
-    record { runs = runs; is_run = run_leads continues cs fresh_node labels text status runs fresh fresh_stands_for }
+    → IsLedRun continues cs fresh_node labels text status → IsToldRun continues cs fresh_node labels text status
+told_run continues cs labels text status led =
+    record { runs = led.runs; is_run = led.leads fresh fresh_stands_for }

@@ -1,8 +1,9 @@
 -- What the words of a command line ask for, by the subcommand that they name and what its options are.
-use Rattle.std.specs.Prelude.{◌≡◌, ◌⊎◌, ◌<◌, ◌≤◌, ℕ, Bool, true, false, List, Option, Some, None, ⊤, codes}
+use Rattle.std.specs.Prelude.{◌≡◌, ◌⊎◌, ◌<◌, ◌≤◌, ℕ, Bool, true, false, List, Option, Some, None, ⊤, codes, option_map}
+use Rattle.std.specs.Borrow.{Bor}
 use Rattle.std.specs.Str.Parse.{digits_value, without_leading_plus}
 use Rattle.clap.specs.Values.{IsUnsignedIn}
-use Rattle.clap.specs.Walk.{Row, Text, one_of}
+use Rattle.clap.specs.Walk.{Row, Text, first_of, one_of}
 use Rattle.node_shell.specs.declared.task.Task.{Task}
 use Rattle.node_shell.specs.declared.task.Task.TheVariants as task
 
@@ -48,10 +49,15 @@ pub record IsSet (rows : List Row) (flag : Text) (set : Bool) : Type 0 where
   pub otherwise : one_of flag rows ≡ Some (codes "false") → set ≡ false
   pub absent : one_of flag rows ≡ None → set ≡ false
 
+-- it is none where it is left out, else the text that is given
+abbrev pub IsNamed : List Row → Text → Option (Bor Text) → Type 0
+IsNamed rows option name = option_map (λ text. text.now) name ≡ first_of option rows
+
 -- the task is what they ask for
 abbrev pub Asks : Option (Text × List Row) → Task → Type 0
 Asks None t = ⊥
-Asks (Some s) (task.Run continues) = (s.0 ≡ codes "run") × IsSet s.1 (codes "continue") continues
+Asks (Some s) (task.Run continues store) = (s.0 ≡ codes "run")
+    × IsSet s.1 (codes "continue") continues × IsNamed s.1 (codes "store") store
 Asks (Some s) (task.Pool sessions rounds) = (s.0 ≡ codes "pool")
     × IsCount s.1 (codes "sessions") 8 sessions × IsCount s.1 (codes "rounds") 99 rounds
 Asks (Some s) (task.Explain at) = (s.0 ≡ codes "explain") × IsGiven s.1 (codes "at") at
@@ -59,7 +65,7 @@ Asks (Some s) (task.Draw last) = (s.0 ≡ codes "draw") × IsGiven s.1 (codes "l
 
 -- it is a script, or there is a client
 abbrev pub HasClient : Task → Type 0
-HasClient (task.Run continues) = ⊤
+HasClient (task.Run continues store) = ⊤
 HasClient (task.Pool sessions rounds) = 0 < sessions
 HasClient (task.Explain at) = ⊤
 HasClient (task.Draw last) = ⊤

@@ -3,7 +3,7 @@ use Rattle.std.specs.Prelude.{ℕ, true, [], ◌∷◌, Some, codes}
 use Rattle.clap.specs.Walk.{Rule, Text}
 use Rattle.clap.specs.Simple.{App, new_app, new_rule, on_top, with_rule, with_subcommand}
 use Rattle.clap.specs.declared.builder.action.ArgAction.TheVariants.{SetTrue}
-use Rattle.clap.specs.declared.builder.value_parser.ValueParser.TheVariants.{Unsigned}
+use Rattle.clap.specs.declared.builder.value_parser.ValueParser.TheVariants.{NonEmptyString, Unsigned}
 use Rattle.node_shell.specs.Asked.{most_number}
 
 -- the program, which must be told what to do
@@ -26,13 +26,29 @@ sessions = counting (codes "sessions") 8 (codes "4")
 abbrev pub rounds : Rule
 rounds = counting (codes "rounds") 99 (codes "3")
 
+-- a flag
+abbrev pub flag : Text → Rule
+flag name = record (new_rule name) { long = Some name; action = Some SetTrue }
+
+-- an option that is a text with something in it, and may be left out
+abbrev pub naming : Text → Rule
+naming name = record (new_rule name) {
+  long = Some name;
+  value_names = 1;
+  parser = Some NonEmptyString;
+}
+
 -- a script is run on behind a failure
 abbrev pub continuing : Rule
-continuing = record (new_rule (codes "continue")) { long = Some (codes "continue"); action = Some SetTrue }
+continuing = flag (codes "continue")
+
+-- the folder of the store that a script is run on
+abbrev pub storing : Rule
+storing = naming (codes "store")
 
 -- to run a script
 abbrev pub run : App
-run = with_rule (new_app (codes "run")) continuing
+run = with_rule (with_rule (new_app (codes "run")) continuing) storing
 
 -- to let clients play on threads
 abbrev pub pool : App

@@ -6,13 +6,14 @@ use Rattle.record_key.specs.declared.refusal.Refusal.TheVariants as refusal
 use Rattle.record_key.specs.FirstCause.{first_of}
 use Rattle.record_key.specs.declared.op.Op.{Op}
 use Rattle.record_key.specs.declared.op.Op.TheVariants as op
-use Rattle.history.specs.ListMachine.{Line, IsRun}
+use Rattle.history.specs.ListMachine.{Machine, Line, Steps, IsRun}
 use Rattle.world.specs.declared.event.Event.{Event}
 use Rattle.world.specs.declared.event.Event.TheVariants as event
 use Rattle.world.specs.declared.event.Out.{Out}
 use Rattle.world.specs.declared.event.Out.TheVariants as out
 use Rattle.world.specs.Node.{NodeView, fresh_node}
 use Rattle.world.specs.Stepping.{IsStep, told_by_all}
+use Rattle.world.specs.Simulation.{Stands}
 use Rattle.world.specs.Simulation as sim
 use Rattle.world.specs.Rounds.{Settles}
 use Rattle.node_shell.specs.Labels.{Bindings, unbound, AreSame, IsBound}
@@ -28,7 +29,7 @@ use Rattle.node_shell.specs.Script.{Command, begins, writes, adds, gets, scans, 
 use Rattle.node_shell.specs.Ending.{is_failure, settled_text}
 use Rattle.node_shell.specs.Stored.{table_text}
 use Rattle.node_shell.specs.View.{records_of, part_text}
-use Rattle.node_shell.specs.Printed.{IsCut, refusal_line}
+use Rattle.node_shell.specs.Printed.{refusal_line}
 use Rattle.node_shell.specs.Outcome.{out_text}
 
 -- the label of a `begin` is bound to the transaction that it began
@@ -271,18 +272,18 @@ pub record WritesAlone (line : List ℕ) (own : ℕ) (old new : Option (List ℕ
   pub appended : Appends old new text
   pub alone : IsAlone line own text status
 
--- what the lines of a script that was checked write; where memory for a node is refused, that alone
-abbrev pub WritesLines : Bool → List ℕ → Option (List ℕ) → Option (List ℕ) → ℕ → Type 0
-WritesLines continues script old new status =
-    ((labels : Bindings) × AreSame unbound labels
-    × WritesRun continues (commands_of (lines_of script)) fresh_node labels old new status)
-    ⊎ WritesAlone (refusal_line refusal.NoMemory) 3 old new status
-
 -- the headline: the calls and the told lines of these lines are a run of the list machine, from the empty one on
 pub record IsToldRun (continues : Bool) (commands : List Command) (view : NodeView) (labels : Bindings)
     (text : List ℕ) (status : ℕ) : Type 0 where
   pub runs : Runs continues commands view labels text status
   pub is_run : IsRun (run_lines continues commands view labels text status runs)
+
+-- whatever list machine the node stands for, the calls and the told lines of these lines lead from it to another
+pub record IsLedRun (continues : Bool) (commands : List Command) (view : NodeView) (labels : Bindings)
+    (text : List ℕ) (status : ℕ) : Type 0 where
+  pub runs : Runs continues commands view labels text status
+  pub leads : (m : Machine) → Stands view m
+      → (n : Machine) × Steps m (run_lines continues commands view labels text status runs) n
 
 -- the text of a script, where this is its first fault
 abbrev pub IsTextAfterCheck : Bool → Option ℕ → List ℕ → List ℕ → ℕ → Type 0
@@ -293,6 +294,17 @@ IsTextAfterCheck continues None script text status =
 
 abbrev pub IsTextOf : Bool → List ℕ → List ℕ → ℕ → Type 0
 IsTextOf continues script text status = IsTextAfterCheck continues (first_fault script) script text status
+
+-- the same on this node, with these labels
+abbrev pub IsCheckedFrom : Bool → NodeView → Bindings → Option ℕ → List ℕ → List ℕ → ℕ → Type 0
+IsCheckedFrom continues view labels (Some line) script text status =
+    IsAlone (refusal_line (refusal.BadScript line)) 2 text status
+IsCheckedFrom continues view labels None script text status =
+    IsLedRun continues (commands_of (lines_of script)) view labels text status
+
+abbrev pub IsTextFrom : Bool → NodeView → Bindings → List ℕ → List ℕ → ℕ → Type 0
+IsTextFrom continues view labels script text status =
+    IsCheckedFrom continues view labels (first_fault script) script text status
 
 -- what is written where the script could not be read: a device failed, or there was no memory for it or for a node
 abbrev pub IsUnread : List ℕ → ℕ → Type 0
@@ -309,3 +321,16 @@ pub record WritesText (continues : Bool) (given old new : Option (List ℕ)) (st
   pub text : List ℕ
   pub appended : Appends old new text
   pub is_text : ((script : List ℕ) × IsAllOf given script × IsTextOf continues script text status) ⊎ IsUnread text status
+
+-- the same on this node, with these labels
+pub record WritesTextFrom (continues : Bool) (view : NodeView) (labels : Bindings) (given old new : Option (List ℕ))
+    (status : ℕ) : Type 0 where
+  pub text : List ℕ
+  pub appended : Appends old new text
+  pub is_text : ((script : List ℕ) × IsAllOf given script × IsTextFrom continues view labels script text status)
+      ⊎ IsUnread text status
+
+-- and with no label bound
+abbrev pub WritesTextOn : Bool → NodeView → Option (List ℕ) → Option (List ℕ) → Option (List ℕ) → ℕ → Type 0
+WritesTextOn continues view given old new status =
+    (labels : Bindings) × AreSame unbound labels × WritesTextFrom continues view labels given old new status

@@ -39,7 +39,7 @@ pub use pieces::{Piece, print, put};
 pub use printed::print_refusal;
 pub use rows::print_table;
 pub use script::{first_fault, request};
-pub use script_run::{DONE, FAILED, FAULT, refusal_of, refuse, run};
+pub use script_run::{DONE, FAILED, FAULT, refusal_of, refuse, run, run_on};
 pub use shell::Shell;
 pub use stopping::Stopping;
 pub use task::{Task, choose};

@@ -13,6 +13,7 @@ use crate::shown::print_part;
 use crate::told::print_told;
 use codec::Rows;
 use record_key::Refusal;
+use stable::{CrashLog, CrashPages};
 use std::io;
 use world::{Out, World};
 
@@ -50,7 +51,11 @@ impl LineResult {
     }
 
     /// Writes its lines. A part that is shown is one of the world as it is.
-    pub fn print<W: io::Write>(&self, world: &World, writer: &mut W) -> io::Result<()>
+    pub fn print<D: CrashLog, P: CrashPages, W: io::Write>(
+        &self,
+        world: &World<D, P>,
+        writer: &mut W,
+    ) -> io::Result<()>
         ensures { Prints (W.contents writer.old) (W.contents writer.new) result (result_text self.now world.now) }
     {
         match self {

@@ -3,14 +3,16 @@ ghost use Rattle.std.specs.Prelude.{◌≡◌, ◌⊎◌};
 ghost use Rattle.node_shell.specs.Labels.{number_in};
 ghost use Rattle.node_shell.specs.Script.{lines_of, commands_of, asked};
 ghost use Rattle.node_shell.specs.Printed.{refusal_line};
-ghost use Rattle.node_shell.specs.Text.{WritesText, WritesLines, WritesRun, WritesLine, WritesAlone};
+ghost use Rattle.node_shell.specs.Text.{WritesText, WritesTextFrom, WritesTextOn, WritesRun, WritesLine, WritesAlone};
 
 use crate::printed::print_refusal;
 use crate::script::{cut_at, first_fault, request};
 use crate::shell::Shell;
 use record_key::Refusal;
+use stable::{CrashLog, CrashPages};
 use std::alloc::Global;
 use std::io;
+use world::World;
 
 /// The exit status of a script that ran to its end.
 pub const DONE: u8 = 0;
@@ -19,9 +21,9 @@ pub const FAULT: u8 = 2;
 /// The exit status where memory or a device failed.
 pub const FAILED: u8 = 3;
 
-/// Reads the script, runs it and writes its text. Gives the exit status. The calls in the script, with what they were
-/// answered and told, are a run of the list machine, from the empty one on. Where memory or a device fails the run goes
-/// on behind that line if it continues, and ends there else.
+/// Reads the script, runs it on a new node and writes its text. Gives the exit status. The calls in the script, with what
+/// they were answered and told, are a run of the list machine, from the empty one on. Where memory or a device fails the
+/// run goes on behind that line if it continues, and ends there else.
 pub fn run<R: io::Read, W: io::Write>(
     alloc: Global,
     continues: bool,
@@ -30,13 +32,50 @@ pub fn run<R: io::Read, W: io::Write>(
 ) -> u8
     ensures { WritesText continues (R.remaining reader.old) (W.contents writer.old) (W.contents writer.new) result }
 {
+    match Shell::new(alloc) {
+        Ok(mut shell) => run_in(alloc, &mut shell, continues, reader, writer),
+        Err(refusal) => refuse(writer, refusal, FAILED),
+    }
+}
+
+/// The same on this node, whatever its devices: from each list machine that it stands for, the calls in the script lead
+/// to another.
+pub fn run_on<D: CrashLog + Drop, P: CrashPages + Drop, R: io::Read, W: io::Write>(
+    alloc: Global,
+    world: World<D, P>,
+    continues: bool,
+    reader: &mut R,
+    writer: &mut W,
+) -> u8
+    ensures { WritesTextOn continues world (R.remaining reader.old) (W.contents writer.old) (W.contents writer.new) result }
+{
+    run_in(
+        alloc,
+        &mut Shell::on(alloc, world),
+        continues,
+        reader,
+        writer,
+    )
+}
+
+/// Reads the script, checks it, runs it in the shell and writes its text.
+fn run_in<D: CrashLog, P: CrashPages, R: io::Read, W: io::Write>(
+    alloc: Global,
+    shell: &mut Shell<D, P>,
+    continues: bool,
+    reader: &mut R,
+    writer: &mut W,
+) -> u8
+    ensures { WritesTextFrom continues shell.old.world (number_in shell.old.labels) (R.remaining reader.old)
+        (W.contents writer.old) (W.contents writer.new) result }
+{
     let mut script = Vec::new(alloc);
     if let Err(error) = reader.read_to_end(&mut script) {
         return refuse(writer, refusal_of(&error), FAILED);
     }
     match first_fault(script.as_slice()) {
         Some(line) => refuse(writer, Refusal::BadScript(line), FAULT),
-        None => run_lines(alloc, continues, script.as_slice(), writer),
+        None => run_from(shell, continues, script.as_slice(), writer),
     }
 }
 
@@ -62,16 +101,12 @@ pub fn refuse<W: io::Write>(writer: &mut W, refusal: Refusal, status: u8) -> u8
 }
 
 /// Runs the lines of a script that was checked.
-fn run_lines<W: io::Write>(alloc: Global, continues: bool, script: &[u8], writer: &mut W) -> u8
-    ensures { WritesLines continues script.now (W.contents writer.old) (W.contents writer.new) result }
-{
-    match Shell::new(alloc) {
-        Ok(mut shell) => run_from(&mut shell, continues, script, writer),
-        Err(refusal) => refuse(writer, refusal, FAILED),
-    }
-}
-
-fn run_from<W: io::Write>(shell: &mut Shell, continues: bool, script: &[u8], writer: &mut W) -> u8
+fn run_from<D: CrashLog, P: CrashPages, W: io::Write>(
+    shell: &mut Shell<D, P>,
+    continues: bool,
+    script: &[u8],
+    writer: &mut W,
+) -> u8
     ensures { WritesRun continues (commands_of (lines_of script.now)) shell.old.world (number_in shell.old.labels)
         (W.contents writer.old) (W.contents writer.new) result }
 {
@@ -93,7 +128,11 @@ fn run_from<W: io::Write>(shell: &mut Shell, continues: bool, script: &[u8], wri
 }
 
 /// Runs a line and writes its text. Gives whether memory or a device failed in it.
-fn run_line<W: io::Write>(shell: &mut Shell, line: &[u8], writer: &mut W) -> io::Result<bool>
+fn run_line<D: CrashLog, P: CrashPages, W: io::Write>(
+    shell: &mut Shell<D, P>,
+    line: &[u8],
+    writer: &mut W,
+) -> io::Result<bool>
     ensures { WritesLine result (asked line.now) shell.old.world (number_in shell.old.labels) shell.new.world
         (number_in shell.new.labels) (W.contents writer.old) (W.contents writer.new) }
 {

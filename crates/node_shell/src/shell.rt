@@ -16,29 +16,40 @@ use crate::line::{Call, Kind, LeafCall, Line};
 use crate::line_result::LineResult;
 use codec::Rows;
 use record_key::{Key, Op, Refusal, Value};
+use stable::{CrashLog, CrashPages, MemLog, MemPages};
 use std::alloc::Global;
 use world::{Event, Out, World, settle};
 
 /// A node, and what the labels of the script stand for.
 #[derive(Drop)]
-pub struct Shell {
+pub struct Shell<D: CrashLog = MemLog, P: CrashPages = MemPages> {
     alloc: Global,
-    pub world: World,
+    pub world: World<D, P>,
     labels: Labels,
 }
 
-impl Shell {
+impl Shell<MemLog, MemPages> {
     /// A new node, and no label bound.
     pub fn new(alloc: Global) -> Result<Shell, Refusal>
         ensures world { IfOk result (λ shell. shell.world ≡ fresh_node) }
         ensures labels { IfOk result (λ shell. AreSame unbound (number_in shell.labels)) }
         ensures memory { IfErr result (λ refusal. refusal ≡ Refusal.NoMemory) }
     {
-        Ok(Shell {
+        Ok(Shell::on(alloc, World::new(alloc)?))
+    }
+}
+
+impl<D: CrashLog, P: CrashPages> Shell<D, P> {
+    /// This node, and no label bound.
+    pub fn on(alloc: Global, world: World<D, P>) -> Shell<D, P>
+        ensures world { result.world ≡ world }
+        ensures labels { AreSame unbound (number_in result.labels) }
+    {
+        Shell {
             alloc,
-            world: World::new(alloc)?,
+            world,
             labels: Labels::new(alloc),
-        })
+        }
     }
 
     /// The number of the transaction that the label stands for, 0 where it is not bound.
@@ -244,7 +255,11 @@ fn event_of(call: Call, txn: u64) -> Event
 }
 
 /// Lets the node work until nothing is left to do, or for so many rounds at most.
-fn settled(alloc: Global, world: &mut World, most: Option<u64>) -> LineResult
+fn settled<D: CrashLog, P: CrashPages>(
+    alloc: Global,
+    world: &mut World<D, P>,
+    most: Option<u64>,
+) -> LineResult
     ensures { IsSettling most world.old result world.new }
 {
     let mut outs = Vec::new(alloc);

@@ -12,11 +12,16 @@ use crate::logged::print_record;
 use crate::pieces::{Piece, print};
 use crate::printed::print_refusal;
 use record_key::Refusal;
+use stable::{CrashLog, CrashPages};
 use std::io;
 use world::World;
 
 /// The lines of this part of the world as it is.
-pub fn print_part<W: io::Write>(writer: &mut W, part: Part, world: &World) -> io::Result<()>
+pub fn print_part<D: CrashLog, P: CrashPages, W: io::Write>(
+    writer: &mut W,
+    part: Part,
+    world: &World<D, P>,
+) -> io::Result<()>
     ensures { Prints (W.contents writer.old) (W.contents writer.new) result (part_text part world.now) }
 {
     match part {
@@ -26,7 +31,10 @@ pub fn print_part<W: io::Write>(writer: &mut W, part: Part, world: &World) -> io
 }
 
 /// The lines of the leaves, or that the data component is down.
-fn print_leaves<W: io::Write>(writer: &mut W, world: &World) -> io::Result<()>
+fn print_leaves<D: CrashLog, P: CrashPages, W: io::Write>(
+    writer: &mut W,
+    world: &World<D, P>,
+) -> io::Result<()>
     ensures { Prints (W.contents writer.old) (W.contents writer.new) result
         (leaves_text world.now.dc_up (leaves_of world.now)) }
 {
@@ -37,7 +45,11 @@ fn print_leaves<W: io::Write>(writer: &mut W, world: &World) -> io::Result<()>
 }
 
 /// The lines of the leaves, of which there are so many.
-fn print_each_leaf<W: io::Write>(writer: &mut W, world: &World, count: usize) -> io::Result<()>
+fn print_each_leaf<D: CrashLog, P: CrashPages, W: io::Write>(
+    writer: &mut W,
+    world: &World<D, P>,
+    count: usize,
+) -> io::Result<()>
     requires up { world.now.dc_up ≡ true }
     requires all { count ≡ length (leaves_of world.now) }
     ensures { Prints (W.contents writer.old) (W.contents writer.new) result (flat_map leaf_line (leaves_of world.now)) }
@@ -49,7 +61,10 @@ fn print_each_leaf<W: io::Write>(writer: &mut W, world: &World, count: usize) ->
 }
 
 /// The lines of the log, or that the transaction component is down.
-fn print_log<W: io::Write>(writer: &mut W, world: &World) -> io::Result<()>
+fn print_log<D: CrashLog, P: CrashPages, W: io::Write>(
+    writer: &mut W,
+    world: &World<D, P>,
+) -> io::Result<()>
     ensures { Prints (W.contents writer.old) (W.contents writer.new) result
         (log_if_up world.now.tc_up (log_of world.now) (stable_of world.now)) }
 {
@@ -60,7 +75,7 @@ fn print_log<W: io::Write>(writer: &mut W, world: &World) -> io::Result<()>
 }
 
 /// How many records the log has, and how many of them are stable. Refused NotConnected.
-fn log_ends(world: &World) -> Result<(u64, u64), Refusal>
+fn log_ends<D: CrashLog, P: CrashPages>(world: &World<D, P>) -> Result<(u64, u64), Refusal>
     ensures count { IfOk result (λ ends. ends.0 ≡ length (log_of world.now)) }
     ensures stable { IfOk result (λ ends. ends.1 ≡ stable_of world.now) }
     ensures up { OnOk result (world.now.tc_up ≡ true) }
@@ -71,9 +86,9 @@ fn log_ends(world: &World) -> Result<(u64, u64), Refusal>
 }
 
 /// The lines of the records, of which there are so many, and the one behind them, up to which they are stable.
-fn print_whole_log<W: io::Write>(
+fn print_whole_log<D: CrashLog, P: CrashPages, W: io::Write>(
     writer: &mut W,
-    world: &World,
+    world: &World<D, P>,
     count: u64,
     stable: u64,
 ) -> io::Result<()>
@@ -97,7 +112,11 @@ fn print_whole_log<W: io::Write>(
 }
 
 /// The lines of the first records, so many of them.
-fn print_records<W: io::Write>(writer: &mut W, world: &World, count: u64) -> io::Result<()>
+fn print_records<D: CrashLog, P: CrashPages, W: io::Write>(
+    writer: &mut W,
+    world: &World<D, P>,
+    count: u64,
+) -> io::Result<()>
     requires { world.now.tc_up ≡ true }
     ensures { Prints (W.contents writer.old) (W.contents writer.new) result (lines_to (log_of world.now) count) }
 {
@@ -108,7 +127,11 @@ fn print_records<W: io::Write>(writer: &mut W, world: &World, count: u64) -> io:
 }
 
 /// The line of the record of this number.
-fn print_at<W: io::Write>(writer: &mut W, world: &World, lsn: u64) -> io::Result<()>
+fn print_at<D: CrashLog, P: CrashPages, W: io::Write>(
+    writer: &mut W,
+    world: &World<D, P>,
+    lsn: u64,
+) -> io::Result<()>
     requires { world.now.tc_up ≡ true }
     ensures { Prints (W.contents writer.old) (W.contents writer.new) result
         (line_at lsn (record_at (log_of world.now) lsn)) }

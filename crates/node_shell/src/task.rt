@@ -7,7 +7,7 @@ ghost use Rattle.clap.specs.Simple.{app_of, subcommand_of, subcommand_rows_of};
 ghost use Rattle.clap.specs.Walk.{rows_of, rule_of};
 ghost use Rattle.clap.specs.declared.builder.command.Command.TheViews.{out-Command};
 ghost use Rattle.node_shell.specs.Asked.{Asks, HasClient, IsGiven, IsNumber, MayAsk, MayCount, NamesCount};
-ghost use Rattle.node_shell.specs.CommandLine.{command_line, counting, draw, explain, numbering, pool, run};
+ghost use Rattle.node_shell.specs.CommandLine.{command_line, counting, draw, explain, flag, naming, numbering, pool, run};
 
 use clap::builder::ValueParser;
 use clap::{Arg, ArgAction, ArgMatches, Command, Error};
@@ -16,15 +16,26 @@ use std::convert::AsStr;
 
 /// What the command line asks for.
 #[derive(Debug, Clone, Copy, PartialEq, Eq)]
-pub enum Task {
-    /// A script is read from standard input and run, also on behind a line in which memory or a device failed.
-    Run { continues: bool },
+pub enum Task<'a> {
+    /// A script is read from standard input and run, also on behind a line in which memory or a device failed where it
+    /// continues. The node is that of the store in this folder where there is one, else a new one in memory.
+    Run {
+        continues: bool,
+        store: Option<&'a str>,
+    },
     /// So many clients, each with a session of its own, play so many rounds on threads.
-    Pool { sessions: usize, rounds: u64 },
+    Pool {
+        sessions: usize,
+        rounds: u64,
+    },
     /// A script is read from standard input and explained, of its lines just line `at` where there is a number.
-    Explain { at: Option<u64> },
+    Explain {
+        at: Option<u64>,
+    },
     /// A script is read from standard input and drawn, of its events just the `last` ones where there is a number.
-    Draw { last: Option<u64> },
+    Draw {
+        last: Option<u64>,
+    },
 }
 
 const LINES: &str = "\
@@ -78,8 +89,8 @@ component, or dc, the data component. D is tclog or dclog, the log of either, or
 the pages of the data component's leaves. Words are separated by one space. The whole
 script is checked before its first line is run.
 
-Exit status: 0; 2 for a line or a command line outside the grammar; 3 where memory
-or a device failed.";
+Exit status: 0; 2 for a line or a command line outside the grammar, and for a store
+that can't be opened; 3 where memory or a device failed.";
 
 const CLIENTS: &str = "\
 Client S writes the round's number to the record sS, inserts it as the record sSrR for
@@ -113,7 +124,7 @@ const MOST_NUMBER: u64 = (1 << 48) - 1;
 
 /// What these words ask for, the first of them the program's name. Refused just where they have a fault or ask for
 /// help, with the kind of that, or where memory runs out.
-pub fn choose<S: AsStr>(alloc: Global, words: &[S]) -> Result<Task, Error>
+pub fn choose<'a, S: AsStr>(alloc: Global, words: &'a [S]) -> Result<Task<'a>, Error>
     ensures task { IfOk result (Asks (subcommand_of command_line (map S.text words.now))) }
     ensures client { IfOk result HasClient }
     ensures fault { FailsBy (fault_of command_line (map S.text words.now)) result }
@@ -125,7 +136,7 @@ pub fn choose<S: AsStr>(alloc: Global, words: &[S]) -> Result<Task, Error>
 }
 
 // What the words asked for that have these matches.
-fn task_of(matches: &ArgMatches<'_>) -> Task
+fn task_of<'a>(matches: &ArgMatches<'a>) -> Task<'a>
     requires { MayAsk (subcommand_rows_of matches.now) }
     ensures asks { Asks (subcommand_rows_of matches.now) result }
     ensures client { HasClient result }
@@ -149,6 +160,7 @@ fn task_of(matches: &ArgMatches<'_>) -> Task
     match matches.subcommand_matches("run") {
         Some(asked) => Task::Run {
             continues: asked.get_flag("continue"),
+            store: asked.get_str("store"),
         },
         None => unreachable!(),
     }
@@ -195,14 +207,17 @@ fn run_command<'a>(alloc: Global) -> Result<Command<'a>, AllocError>
     ensures local { IfOk result (λ command. (out-Command command).has_globals ≡ false) }
     ensures app { IfOk result (λ command. app_of command ≡ run) }
 {
-    let continuing = Arg::new(alloc, "continue")
-        .long("continue")
-        .action(ArgAction::SetTrue)
-        .help("Goes on behind a line in which memory or a device failed");
+    let continuing = flag(alloc, "continue").help(
+        "Goes on behind a line in which memory or a device failed",
+    );
+    let store = naming(alloc, "store", "FOLDER").help(
+        "Keeps the log in this folder, and goes on where the last run on it ended",
+    );
     Command::new(alloc, "run")
         .about("Reads a script from standard input and prints what its lines came to")
         .after_help(LINES)
-        .arg(continuing)
+        .arg(continuing)?
+        .arg(store)
 }
 
 // What lets clients play on threads.
@@ -245,6 +260,25 @@ fn draw_command<'a>(alloc: Global) -> Result<Command<'a>, AllocError>
         .about("Reads a script from standard input and draws its events as an SVG picture")
         .after_help(DRAWN)
         .arg(last)
+}
+
+// A flag.
+fn flag<'a>(alloc: Global, name: &'a str) -> Arg<'a>
+    ensures global { result.global ≡ false }
+    ensures rule { rule_of result ≡ flag name.entry.now }
+{
+    Arg::new(alloc, name).long(name).action(ArgAction::SetTrue)
+}
+
+// An option that is a text with something in it, which may be left out.
+fn naming<'a>(alloc: Global, name: &'a str, letters: &'a str) -> Arg<'a>
+    ensures global { result.global ≡ false }
+    ensures rule { rule_of result ≡ naming name.entry.now }
+{
+    Arg::new(alloc, name)
+        .long(name)
+        .value_name(letters)
+        .value_parser(ValueParser::NonEmptyString)
 }
 
 // An option that is a number, which may be left out.

@@ -34,14 +34,22 @@ fn asked_by(rt: &HostRuntime, words: &str) -> io::Result<String> {
         all.push(word)?;
     }
     match choose(rt.alloc(), all.as_slice()) {
-        Ok(Task::Run { continues: false }) => Ok(String::from_str(rt.alloc(), "run")?),
-        Ok(Task::Run { continues: true }) => Ok(String::from_str(rt.alloc(), "run on")?),
+        Ok(Task::Run { continues, store }) => run_of(rt, continues, store),
         Ok(Task::Pool { sessions, rounds }) => {
             Ok(format!(in rt.alloc(); "pool {sessions} {rounds}")?)
         }
         Ok(Task::Explain { at }) => numbered(rt, "explain", at),
         Ok(Task::Draw { last }) => numbered(rt, "draw", last),
         Err(_) => Ok(String::from_str(rt.alloc(), "no")?),
+    }
+}
+
+/// A run, which may go on behind failures and may be of a store.
+fn run_of(rt: &HostRuntime, continues: bool, store: Option<&str>) -> io::Result<String> {
+    let run = if continues { "run on" } else { "run" };
+    match store {
+        Some(folder) => Ok(format!(in rt.alloc(); "{run} of {folder}")?),
+        None => Ok(String::from_str(rt.alloc(), run)?),
     }
 }
 

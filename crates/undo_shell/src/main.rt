@@ -9,20 +9,24 @@ ghost use Rattle.node_shell.specs.Asked.{HasClient};
 
 use clap::Error;
 use clap::error::ErrorKind;
+use file_devices::{FileLog, NoPages, StoreError, StoreFile, Tried, open_store};
 use node_pictures::{draw, explain};
-use node_shell::{DONE, FAILED, FAULT, Stopping, Task, choose, refusal_of, refuse, run};
+use node_shell::{DONE, FAILED, FAULT, Stopping, Task, choose, refusal_of, refuse, run, run_on};
+use node_store::{OpenError, open};
 use pool_shell::pool;
 use record_key::Refusal;
 use std::alloc::Global;
-use std::io::{BufWriter, Write};
+use std::fs::{File, Files};
+use std::io::{BufWriter, LineWriter, Write};
 use std::process::ExitCode;
 use std::sync::Wait;
 use std::thread::Threads;
 use std::{env, io};
+use world::World;
 
 fn main(rt: HostRuntime) -> ExitCode {
     let status = match arguments(&rt) {
-        Ok(words) => start(rt, rt.alloc(), words.as_slice()),
+        Ok(words) => start(rt, words.as_slice()),
         Err(error) => refuse(&mut io::writer(&rt), refusal_of(&error), FAILED),
     };
     ExitCode::from(status)
@@ -34,19 +38,87 @@ fn arguments(rt: &HostRuntime) -> io::Result<Vec<String>> {
 }
 
 /// Does what the command line asks for. Gives the exit status.
-fn start<R>(rt: R, alloc: Global, words: &[String]) -> u8
+fn start<R>(rt: R, words: &[String]) -> u8
 where
-    R: Input + Print + Eprint + Threads + Wait + Copy + Send + Sync + 'static,
+    R: Input + Print + Eprint + AllocGlobal + Files<File = File> + Threads + Wait,
+    R: Copy + Send + Sync + 'static,
 {
-    match choose(alloc, words) {
-        Ok(task) => perform(rt, alloc, task),
+    match choose(rt.alloc(), words) {
+        Ok(
+            Task::Run {
+                continues,
+                store: Some(folder),
+            },
+        ) => run_stored(&rt, continues, folder),
+        Ok(task) => perform(rt, rt.alloc(), task),
         Err(fault) => print_fault(&rt, &fault),
     }
 }
 
-/// Writes the text of a task to standard output. It is gathered and written in large pieces, and nothing of it after a
-/// write that failed.
-fn perform<R>(rt: R, alloc: Global, task: Task) -> u8
+/// Runs a script on the store in this folder.
+fn run_stored<R>(rt: &R, continues: bool, folder: &str) -> u8
+where
+    R: Input + Print + Eprint + AllocGlobal + Files<File = File> + Copy,
+{
+    match open_store(rt, folder) {
+        Ok(log) => match open(
+            rt.alloc(),
+            log,
+            FileLog::volatile(rt.alloc()),
+            NoPages::new(),
+        ) {
+            Ok(world) => run_world(rt, continues, world),
+            Err(error) => print_unread(rt, folder, &error),
+        },
+        Err(error) => print_unopened(rt, folder, &error),
+    }
+}
+
+/// Runs a script on a node that a store has. Each line of its text is written as soon as it ends: a client that reads of
+/// a commit has it whatever becomes of the process, and one that has it should learn so before the process is gone.
+fn run_world<R>(rt: &R, continues: bool, world: World<FileLog, NoPages>) -> u8
+where
+    R: Input + Print + AllocGlobal,
+{
+    let Ok(mut writer) = LineWriter::new(rt.alloc(), Stopping::new(io::writer(rt))) else {
+        return refuse(&mut io::writer(rt), Refusal::NoMemory, FAILED);
+    };
+    let status = run_on(rt.alloc(), world, continues, &mut rt.reader(), &mut writer);
+    finish(&mut writer, status)
+}
+
+/// Prints to standard error why a store isn't opened.
+fn print_unopened<R: Eprint>(rt: &R, folder: &str, error: &StoreError) -> u8 {
+    let status = match error {
+        StoreError::NoMemory => FAILED,
+        StoreError::Io {
+            tried: Tried::Write | Tried::Sync,
+            ..
+        } => FAILED,
+        _ => FAULT,
+    };
+    match eprintln!(rt; "undo_shell: {folder}: {error}") {
+        Ok(()) => status,
+        Err(_) => FAILED,
+    }
+}
+
+/// Prints to standard error why no node is made of a store's log.
+fn print_unread<R: Eprint>(rt: &R, folder: &str, error: &OpenError) -> u8 {
+    let status = match error {
+        OpenError::Refused(Refusal::NoMemory | Refusal::Device) => FAILED,
+        _ => FAULT,
+    };
+    let file = StoreFile::Log;
+    match eprintln!(rt; "undo_shell: {folder}: {file}: {error}") {
+        Ok(()) => status,
+        Err(_) => FAILED,
+    }
+}
+
+/// Writes the text of a task that has no store to standard output. It is gathered and written in large pieces, and
+/// nothing of it after a write that failed.
+fn perform<R>(rt: R, alloc: Global, task: Task<'_>) -> u8
 where
     R: Input + Print + Threads + Wait + Copy + Send + Sync + 'static,
     requires { HasClient task }
@@ -55,11 +127,16 @@ where
         return refuse(&mut io::writer(&rt), Refusal::NoMemory, FAILED);
     };
     let status = match task {
-        Task::Run { continues } => run(alloc, continues, &mut rt.reader(), &mut writer),
+        Task::Run { continues, .. } => run(alloc, continues, &mut rt.reader(), &mut writer),
         Task::Pool { sessions, rounds } => pool(rt, alloc, sessions, rounds, &mut writer),
         Task::Explain { at } => explain(alloc, at, &mut rt.reader(), &mut writer),
         Task::Draw { last } => draw(alloc, last, &mut rt.reader(), &mut writer),
     };
+    finish(&mut writer, status)
+}
+
+/// Writes what of a text isn't written yet.
+fn finish<W: Write>(writer: &mut W, status: u8) -> u8 {
     match writer.flush() {
         Ok(()) => status,
         Err(_) => FAILED,

@@ -1,21 +1,20 @@
-use Rattle.std.proofs.Common.{rules, ◌≡◌, ℕ, List, Option, None, sym, ap, ◌∙◌, subst}
-use Rattle.node_shell.specs.Script.{first_fault}
-use Rattle.node_shell.specs.Text.{WritesLines, IsAllOf}
-use Rattle.node_shell.proofs.Running.{unread, ran}
+use Rattle.std.proofs.Common.{List, ℕ, Option, subst}
+use Rattle.world.specs.Node.{NodeView}
+use Rattle.node_shell.specs.Labels.{Bindings, number_in}
+use Rattle.node_shell.specs.Text.{WritesTextFrom}
+use Rattle.node_shell.proofs.Running.{on_new, unmade}
 use Rattle.node_shell.proofs.script_run.run.Goals as goal
 
-pub returns-in-Err : goal.returns-in-Err
-returns-in-Err g c = unread c.args.continues _ _ _ c.refusal_of.result c.refuse.result c.refusal_of.ensures c.refuse.ensures
-
-pub returns : goal.returns
-returns g c =
+pub returns-in-Ok : goal.returns-in-Ok
+returns-in-Ok g c =
     let given : Option (List ℕ) = g.R.Read.remaining c.args.reader.now in
     let old : Option (List ℕ) = g.W.Write.contents c.args.writer.now in
-    let new : Option (List ℕ) = g.W.Write.contents c.run_lines.new.writer in
-    let script : List ℕ = c.read_to_end.new.buf.items in
-    let all : IsAllOf given script = search rules in
-    let ok : first_fault script ≡ None =
-    ap first_fault (sym c.as_slice.ensures.value) ∙ sym c.first_fault.ensures ∙ c.in-None.is in
-    ran c.args.continues given old new script c.run_lines.result all ok
-    (subst (λ (s : List ℕ). WritesLines c.args.continues s old new c.run_lines.result) c.as_slice-in-None.ensures.value
-    c.run_lines.ensures)
+    let new : Option (List ℕ) = g.W.Write.contents c.run_in.new.writer in
+    let labels : Bindings = number_in c.in-Ok.shell.labels in
+    let P : NodeView → Type 0 = λ view. WritesTextFrom c.args.continues view labels given old new c.run_in.result in
+    on_new c.args.continues labels given old new c.run_in.result c.in-Ok.ensures.labels
+    (subst P c.in-Ok.ensures.world c.run_in.ensures)
+
+pub returns-in-Err : goal.returns-in-Err
+returns-in-Err g c =
+    unmade c.args.continues _ _ _ c.in-Err.refusal c.refuse.result c.in-Err.ensures.memory c.refuse.ensures

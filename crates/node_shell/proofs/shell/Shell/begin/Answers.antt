@@ -7,7 +7,7 @@ use Rattle.node_shell.proofs.Telling.{refused_step}
 use Rattle.node_shell.proofs.shell.Shell.begin.Goals as goal
 
 pub returns-in-Err : goal.returns-in-Err
-returns-in-Err c =
+returns-in-Err g c =
     let w : NodeView = c.args.self.now.world in
     let P : NodeView → Type 0 = IsStep w event.Begin (out.Refused c.in-Err.refusal) in
     let step : StepsTo w event.Begin (out.Refused c.in-Err.refusal) w = search rules in (
