@@ -12,7 +12,7 @@ use clap::error::ErrorKind;
 use file_devices::{FileLog, NoPages, StoreError, StoreFile, Tried, open_store};
 use node_pictures::{draw, explain};
 use node_shell::{DONE, FAILED, FAULT, Stopping, Task, choose, refusal_of, refuse, run, run_on};
-use node_store::{OpenError, open};
+use node_store::{Unopened, open};
 use pool_shell::pool;
 use record_key::Refusal;
 use std::alloc::Global;
@@ -104,9 +104,9 @@ fn print_unopened<R: Eprint>(rt: &R, folder: &str, error: &StoreError) -> u8 {
 }
 
 /// Prints to standard error why no node is made of a store's log.
-fn print_unread<R: Eprint>(rt: &R, folder: &str, error: &OpenError) -> u8 {
+fn print_unread<R: Eprint>(rt: &R, folder: &str, error: &Unopened) -> u8 {
     let status = match error {
-        OpenError::Refused(Refusal::NoMemory | Refusal::Device) => FAILED,
+        Unopened::Refused(Refusal::NoMemory | Refusal::Device) => FAILED,
         _ => FAULT,
     };
     let file = StoreFile::Log;
