@@ -3,10 +3,10 @@
 
 Of every byte BITS bits are flipped, one at a time (1 if not given, 8 for all); every file is cut to each shorter length,
 made longer, taken away, made a folder, a link to itself, and a file that may not be read; the folder is a file, or lies
-in none. Each run must end with a refusal that names the file, and the place where the damage is in the log (status 2 and
-nothing on standard output), or with the records of the store; with those of an earlier commit only where the log was
-cut short, or the damage is in its last frame. Opened once more it must give the same. Prints how many runs there were
-of each kind, and a line for each that did something else; exit status 1 then.
+in none. Each run must end with a refusal that names the file (status 2 and nothing on standard output), or with the
+records of the store; with those of an earlier commit only where the log was cut short. Where a bit of the log was
+flipped it must be refused, with the place of that block. Opened once more a store must give the same. Prints how many
+runs there were of each kind, and a line for each that did something else; exit status 1 then.
 """
 import collections
 import os
@@ -17,7 +17,7 @@ import sys
 import tempfile
 
 sys.dont_write_bytecode = True
-from store_model import Model, NUMBER, follow, read
+from store_model import Model, follow, read
 
 COMMITS = """settle
 table
@@ -77,13 +77,15 @@ def records(text):
     return {key.encode(): read(value) for key, value in (line.split("=") for line in lines[:-2])}
 
 
-def last_frame(log):
-    """Where the last frame of a log begins (docs/FORMATS.md)."""
-    at = last = 0
+def blocks(log):
+    """The place of each block of a log (docs/STORE.md)."""
+    places = []
+    at = 0
     while at < len(log):
-        last, at = at, at + 8 + int.from_bytes(log[at:at + 8], "big")
+        places.append(at)
+        at += 40 + int.from_bytes(log[at + 8:at + 16], "big")
     assert at == len(log)
-    return last
+    return places
 
 
 class Damage:
@@ -113,18 +115,18 @@ class Damage:
                 out.write(data)
         return folder
 
-    def judge(self, what, folder, names, needs_place, oldest):
+    def judge(self, what, folder, names, oldest):
         """Opens the store. `oldest`: how many commits it may lack, None where it must be refused."""
         text, fault, status = run(self.shell, folder, b"settle\ntable\n")
-        kind = self.kind(folder, text, fault, status, names, needs_place, oldest)
+        kind = self.kind(folder, text, fault, status, names, oldest)
         self.counts[kind.split(":")[0]] += 1
         if ":" in kind:
             self.faults += 1
             print(f"{what}: {kind}; status {status}, {fault.strip()!r}")
 
-    def kind(self, folder, text, fault, status, names, needs_place, oldest):
+    def kind(self, folder, text, fault, status, names, oldest):
         if status == 2:
-            if text or not any(name in fault for name in names) or needs_place and not NUMBER.search(fault):
+            if text or not any(name in fault for name in names):
                 return "refused without a name: the text must name one of " + ", ".join(names)
             return "refused"
         if status != 0:
@@ -145,23 +147,24 @@ class Damage:
     def bytes(self, bits):
         chance = random.Random(1)
         for name, data in self.files.items():
-            tail = last_frame(data) if name == "log" else len(data)
+            places = blocks(data) if name == "log" else []
             for at in range(len(data)):
+                named = [f"byte {place} " for place in places if place <= at][-1:]
                 for bit in sorted(chance.sample(range(8), bits)):
                     changed = bytearray(data)
                     changed[at] ^= 1 << bit
                     folder = self.store({**self.files, name: bytes(changed)})
-                    self.judge(f"{name}, bit {bit} of byte {at}", folder, [name], name == "log", int(at >= tail))
+                    self.judge(f"{name}, bit {bit} of byte {at}", folder, named or [name], None if named else 0)
 
     def lengths(self):
         for name, data in self.files.items():
-            last = data[last_frame(data):] if name == "log" else data
+            last = data[blocks(data)[-1]:] if name == "log" else data
             for length in range(len(data)):
                 folder = self.store({**self.files, name: data[:length]})
-                self.judge(f"{name}, cut to {length}", folder, self.files, False, len(self.history))
+                self.judge(f"{name}, cut to {length}", folder, self.files, len(self.history))
             for more in (b"\0", b"\0" * 8, b"\0" * 4096, b"\xff" * 16, b"\0" * 7 + b"\x01\x09", b"x" * 100, last):
                 folder = self.store({**self.files, name: data + more})
-                self.judge(f"{name}, longer by {more[:16]!r}", folder, [name], False, 0)
+                self.judge(f"{name}, longer by {more[:16]!r}", folder, [name], 0)
 
     def places(self):
         for name in self.files:
@@ -175,14 +178,14 @@ class Damage:
                 os.remove(path)
                 if make:
                     make()
-                self.judge(f"{name}, {what}", folder, self.files, False, None)
+                self.judge(f"{name}, {what}", folder, self.files, None)
         other = self.path("file")
         with open(other, "w") as out:
             out.write("no store\n")
-        self.judge("a file for the folder", other, ["file"], False, None)
-        self.judge("a folder in none", self.path("none/store"), ["none/store"], False, None)
+        self.judge("a file for the folder", other, ["file"], None)
+        self.judge("a folder in none", self.path("none/store"), ["none/store"], None)
         folder = self.store({"letters": b"not of a store\n"})
-        self.judge("a folder with a file of another", folder, ["store"], False, None)
+        self.judge("a folder with a file of another", folder, ["store"], None)
 
     def close(self):
         shutil.rmtree(self.folder)

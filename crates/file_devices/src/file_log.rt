@@ -101,7 +101,7 @@ impl LogDevice for FileLog {
         Ok(())
     }
 
-    // Where the sync is refused, the file may be cut already: from there on the next force writes it again.
+    // Where the system refuses it, the file may say already that the log is cut: the next force or cut takes that back.
     fn cut(&mut self, len: usize) -> Result<(), DeviceError> {
         self.faults.call()?;
         let Ok(()) = cut(&mut self.file, &mut self.written, len) else {

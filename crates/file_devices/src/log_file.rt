@@ -1,6 +1,7 @@
 //! The file of a log, and what holds it to one process.
 ghost use Rattle.std.specs.Prelude.{◌≤◌, OnOk};
 
+use crate::block;
 use std::fs::File;
 use std::io;
 use std::os::unix::fs::FileExt;
@@ -8,53 +9,75 @@ use std::os::unix::fs::FileExt;
 #[derive(Drop)]
 pub(crate) struct LogFile {
     log: File,
-    // Whether a call failed since the last sync that didn't. Then the file may have more than what was written of the
-    // log: bytes of a force that failed, which a crash may have taken from the log meanwhile.
+    // Where its whole blocks end, and the next one goes.
+    end: u64,
+    // Whether it may have more: a block that was torn, or that of a call which failed. What that has written, a crash
+    // may have taken from the log meanwhile.
     is_unsure: bool,
     // Locked as long as it is open.
     store: File,
 }
 
 impl LogFile {
-    /// The file of a log that has been read whole.
-    pub(crate) fn new(log: File, store: File) -> LogFile {
+    /// The file of a log that has been read whole: it has `len` bytes, and its whole blocks end at `end`.
+    pub(crate) fn new(log: File, store: File, end: usize, len: usize) -> LogFile {
         LogFile {
             log,
-            is_unsure: false,
+            end: end as u64,
+            is_unsure: end < len,
             store,
         }
     }
 
-    /// Puts the bytes behind the first `at` of the file, so that it ends with them, and syncs it.
+    /// Puts the bytes behind the first `at` of the log, which then ends with them, and syncs the file.
     pub(crate) fn extend(&mut self, at: usize, bytes: &[u8]) -> io::Result<()> {
-        if self.is_unsure {
-            // First, so that a kill leaves nothing of a force that failed behind these bytes.
-            self.log.set_len(at as u64)?;
-        } else if bytes.is_empty() {
+        self.make_sure()?;
+        if bytes.is_empty() {
             return Ok(());
         }
-        self.is_unsure = true;
-        self.log.write_all_at(bytes, at as u64)?;
-        self.log.sync_data()?;
-        self.is_unsure = false;
-        Ok(())
+        self.put(at, bytes)
     }
 
-    /// Keeps at most the first `len` bytes of those that were written, and syncs the file. Fewer are written where the
-    /// system cut it and didn't sync it.
+    /// Keeps at most the first `len` bytes of those that were written. No block is taken from the file for that, since
+    /// a kill between this and writing anew what was to stay of it would lose forced bytes: an empty one says where the
+    /// log ends.
     pub(crate) fn cut(&mut self, written: &mut usize, len: usize) -> io::Result<()>
         ensures fewer { written.new ≤ written.old }
         ensures cut { OnOk result (written.new ≤ len) }
     {
-        if *written <= len && !self.is_unsure {
-            return Ok(());
+        self.make_sure()?;
+        if len < *written {
+            self.put(len, &[])?;
+            *written = len;
         }
-        let kept = len.min(*written);
+        Ok(())
+    }
+
+    /// Cuts off what may stand behind the whole blocks. It is synced by itself, so that nothing of it is left behind or
+    /// within the next block.
+    fn make_sure(&mut self) -> io::Result<()> {
+        if self.is_unsure {
+            self.log.set_len(self.end)?;
+            self.log.sync_data()?;
+            self.is_unsure = false;
+        }
+        Ok(())
+    }
+
+    fn put(&mut self, start: usize, bytes: &[u8]) -> io::Result<()> {
+        let head = block::head(self.end, start, bytes);
+        let Some(place) = self.end.checked_add(block::HEAD as u64) else {
+            return Err(io::ErrorKind::FileTooLarge.into());
+        };
+        let Some(end) = place.checked_add(bytes.len() as u64) else {
+            return Err(io::ErrorKind::FileTooLarge.into());
+        };
         self.is_unsure = true;
-        self.log.set_len(kept as u64)?;
-        *written = kept;
+        self.log.write_all_at(&head, self.end)?;
+        self.log.write_all_at(bytes, place)?;
         self.log.sync_data()?;
         self.is_unsure = false;
+        self.end = end;
         Ok(())
     }
 }

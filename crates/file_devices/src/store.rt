@@ -6,7 +6,7 @@ use crate::file_log::FileLog;
 use crate::log_file::LogFile;
 use crate::mark::Mark;
 use crate::store_error::{StoreError, StoreFile, Tried};
-use crate::{folder, mark};
+use crate::{block, folder, mark};
 use std::alloc::Global;
 use std::fs::{File, Files};
 use std::io;
@@ -32,8 +32,10 @@ pub fn open_store<R: Files<File = File> + AllocGlobal + Clone + Drop>(
         Mark::Other => return Err(StoreError::Version),
     };
     mark::write(&mark)?;
-    let bytes = settle(rt.alloc(), &mut log)?;
-    Ok(FileLog::over(LogFile::new(log, mark), bytes))
+    let mut bytes = settle(rt.alloc(), &mut log)?;
+    let len = bytes.len();
+    let end = block::unpack(&mut bytes)?;
+    Ok(FileLog::over(LogFile::new(log, mark, end, len), bytes))
 }
 
 /// Makes the log of a store that is about to be one: the mark is written behind it. So a folder that has the whole mark

@@ -10,6 +10,10 @@ pub enum StoreError {
     NotAStore,
     #[error("the file `store` is of another format or version: it isn't `jakumshe store 1`")]
     Version,
+    #[error("the store's file `log`: the block at byte {place} isn't what was written there")]
+    Damaged {
+        place: u64,
+    },
     #[error("cannot {tried} {file}: {cause}")]
     Io {
         tried: Tried,
