@@ -1,0 +1,124 @@
+//! The store of the folder, or a log in memory, opened and closed again.
+use crate::files::FOLDER;
+use file_devices::{FileLog, NoPages, StoreError, open_store};
+use node_shell::{DONE, run_on};
+use node_store::{Unopened, open};
+use record_key::Refusal;
+use stable::{LogDevice, MemLog, MemPages};
+use std::fmt::Write;
+use test_lines::put_refusal;
+
+/// Why a store isn't opened, or no node made of it.
+#[derive(Clone, Copy)]
+pub enum Refused {
+    Store(StoreError),
+    Node(Unopened),
+}
+
+/// Opens the store, runs the script on it, appends the script's text and closes it. Gives the exit status.
+pub fn run_script(rt: &HostRuntime, script: &[u8], text: &mut Vec<u8>) -> Result<u8, Refused> {
+    let alloc = rt.alloc();
+    match open_store(rt, FOLDER) {
+        Ok(log) => match open(alloc, log, FileLog::volatile(alloc), NoPages::new()) {
+            Ok(world) => Ok(run_on(alloc, world, true, &mut { script }, text)),
+            Err(why) => Err(Refused::Node(why)),
+        },
+        Err(why) => Err(Refused::Store(why)),
+    }
+}
+
+/// Appends what the script comes to on the store: the lines of its text with `; ` between two, and the exit status if
+/// it isn't 0; or why it isn't run. Gives whether it is.
+pub fn put_run(rt: &HostRuntime, script: &[u8], answer: &mut String) -> Result<bool, Refusal> {
+    let mut text = Vec::new(rt.alloc());
+    match run_script(rt, script, &mut text) {
+        Ok(status) => {
+            put_text(&text, status, answer)?;
+            Ok(true)
+        }
+        Err(why) => {
+            put_why(why, answer)?;
+            Ok(false)
+        }
+    }
+}
+
+/// Appends the same of a log in memory that has these bytes.
+pub fn put_run_in_memory(
+    rt: &HostRuntime,
+    bytes: &[u8],
+    script: &[u8],
+    answer: &mut String,
+) -> Result<(), Refusal> {
+    let mut text = Vec::new(rt.alloc());
+    match run_in_memory(rt, bytes, script, &mut text) {
+        Ok(status) => put_text(&text, status, answer),
+        Err(why) => put_unopened(why, answer),
+    }
+}
+
+fn run_in_memory(
+    rt: &HostRuntime,
+    bytes: &[u8],
+    script: &[u8],
+    text: &mut Vec<u8>,
+) -> Result<u8, Unopened> {
+    let alloc = rt.alloc();
+    let mut log = MemLog::new(alloc);
+    if log.append(bytes).is_err() || log.force().is_err() {
+        return Err(Unopened::Refused(Refusal::NoMemory));
+    }
+    let world = open(alloc, log, MemLog::new(alloc), MemPages::new(alloc))?;
+    Ok(run_on(alloc, world, true, &mut { script }, text))
+}
+
+/// The lines of a text, and the exit status if it isn't 0.
+fn put_text(text: &[u8], status: u8, answer: &mut String) -> Result<(), Refusal> {
+    put_lines(text, answer)?;
+    if status != DONE {
+        write!(answer, "; status {status}")?;
+    }
+    Ok(())
+}
+
+fn put_why(why: Refused, answer: &mut String) -> Result<(), Refusal> {
+    match why {
+        Refused::Store(why) => put_store_error(why, answer),
+        Refused::Node(why) => put_unopened(why, answer),
+    }
+}
+
+fn put_lines(text: &[u8], answer: &mut String) -> Result<(), Refusal> {
+    let text = text.strip_suffix(b"\n").unwrap_or(text);
+    for byte in text {
+        if *byte == b'\n' {
+            answer.push_str("; ")?;
+        } else {
+            answer.push(char::from(*byte))?;
+        }
+    }
+    Ok(())
+}
+
+/// Appends the name of the error, and for Io what was tried of which file.
+pub fn put_store_error(why: StoreError, answer: &mut String) -> Result<(), Refusal> {
+    match why {
+        StoreError::Locked => answer.push_str("Locked")?,
+        StoreError::NotAStore => answer.push_str("NotAStore")?,
+        StoreError::Version => answer.push_str("Version")?,
+        StoreError::Damaged { place } => write!(answer, "Damaged {place}")?,
+        StoreError::Io { tried, file, .. } => write!(answer, "Io {tried} {file}")?,
+        StoreError::NoMemory => return Err(Refusal::NoMemory),
+    }
+    Ok(())
+}
+
+fn put_unopened(why: Unopened, answer: &mut String) -> Result<(), Refusal> {
+    match why {
+        Unopened::Refused(Refusal::NoMemory) => return Err(Refusal::NoMemory),
+        Unopened::Refused(refusal) => put_refusal(answer, refusal)?,
+        Unopened::Checkpoint(number) => write!(answer, "Checkpoint {number}")?,
+        Unopened::WrongAnswer(number) => write!(answer, "WrongAnswer {number}")?,
+    }
+    Ok(())
+}
