@@ -4,17 +4,16 @@ use Rattle.std.specs.Bool.{MatchBool}
 use Rattle.std.specs.List.{AllByRecursion}
 use Rattle.codec.specs.declared.request.Request.{Request}
 use Rattle.codec.specs.declared.reply.Reply.{Reply}
-use Rattle.dc_core.specs.Kept.{IsDc}
 use Rattle.world.specs.declared.event.Event.{Event}
 use Rattle.world.specs.declared.event.Event.TheVariants as event
 use Rattle.world.specs.Halves.{node_of, also, BringsReply, BringsRequest, IsSpelledIf}
 use Rattle.world.specs.Kept.{IsKept}
 use Rattle.world.specs.Node.{NodeView, StepsTo}
 use Rattle.world.specs.Stepping.{IsStep, Chain}
-use Rattle.world.proofs.Machine.Headline.{follows, kept_fresh}
+use Rattle.world.proofs.Machine.Headline.{follows}
 use Rattle.pool_journal.specs.declared.step.Step.{Step}
 use Rattle.pool_journal.specs.Kept.{is_dc, HandsReply, HandsRequest, EntersTc, EntersDc, IsInRun}
-use Rattle.pool_journal.specs.Steps.{is_tc, events, outs, asked_after, given_after, requests, replies, TcState, DcState, count, TcStep, DcStep, TcAlong, DcAlong, GivesTc, GivesDc, RunsTo, tc_start, dc_start}
+use Rattle.pool_journal.specs.Steps.{is_tc, events, outs, asked_after, given_after, requests, replies, TcState, DcState, count, TcStep, DcStep, TcAlong, DcAlong, GivesTc, GivesDc, RunsTo, Start, IsStart, tc_start, dc_start}
 use Rattle.pool_journal.specs.Views.{Sees}
 use Rattle.pool_journal.proofs.Lists.{map_match, also_length, request_on, reply_on}
 
@@ -72,13 +71,13 @@ dc_since qs s t (x ∷ es) more n a =
     map_match (is_tc x) (λ r. dc_since (also qs x.sent) s t es more n r)
     (λ r. (r.0, r.1, dc_since (also qs x.sent) r.0 t es more n r.2)) a
 
-pub tc_on : (before now : List Step) (s : TcState) → Sees is_tc before now → GivesTc before s → GivesTc now s
-tc_on before now s sees g =
-    subst (λ (es : List Step). GivesTc es s) (sym sees.all) (tc_since [] tc_start s before sees.since sees.none g)
+pub tc_on : (start : Start) (before now : List Step) (s : TcState) → Sees is_tc before now → GivesTc start before s → GivesTc start now s
+tc_on start before now s sees g =
+    subst (λ (es : List Step). GivesTc start es s) (sym sees.all) (tc_since [] (tc_start start) s before sees.since sees.none g)
 
-pub dc_on : (before now : List Step) (s : DcState) → Sees is_dc before now → GivesDc before s → GivesDc now s
-dc_on before now s sees g =
-    subst (λ (es : List Step). GivesDc es s) (sym sees.all) (dc_since [] dc_start s before sees.since sees.none g)
+pub dc_on : (start : Start) (before now : List Step) (s : DcState) → Sees is_dc before now → GivesDc start before s → GivesDc start now s
+dc_on start before now s sees g =
+    subst (λ (es : List Step). GivesDc start es s) (sym sees.all) (dc_since [] (dc_start start) s before sees.since sees.none g)
 
 -- ---- a step that goes on from what was seen goes on from what there is now
 
@@ -146,24 +145,24 @@ request_brought before since event.RestartDc request h b = b
 request_brought before since (event.FailTc call) request h b = b
 request_brought before since (event.FailDc device call) request h b = b
 
-pub tc_entered : (before now : List Step) (e : Step) (n : TcState) → is_tc e ≡ true → Sees is_tc before now
-    → EntersTc before e n → GivesTc (now ++ e ∷ []) n
-tc_entered before now e n is sees enters =
+pub tc_entered : (start : Start) (before now : List Step) (e : Step) (n : TcState) → is_tc e ≡ true → Sees is_tc before now
+    → EntersTc start before e n → GivesTc start (now ++ e ∷ []) n
+tc_entered start before now e n is sees enters =
     let m = enters.step in
     let brings : BringsReply (replies now) e.event m.reply =
     subst (λ (es : List Step). BringsReply (replies es) e.event m.reply) (sym sees.all)
     (reply_brought before sees.since e.event m.reply enters.handed m.brings) in
-    tc_along_snoc [] tc_start now enters.old e n is (tc_on before now enters.old sees enters.gives)
+    tc_along_snoc [] (tc_start start) now enters.old e n is (tc_on start before now enters.old sees enters.gives)
     (record { reply = m.reply; brings = brings; leads = m.leads; sent = m.sent; none = m.none })
 
-pub dc_entered : (before now : List Step) (e : Step) (n : DcState) → is_tc e ≡ false → Sees is_dc before now
-    → EntersDc before e n → GivesDc (now ++ e ∷ []) n
-dc_entered before now e n is sees enters =
+pub dc_entered : (start : Start) (before now : List Step) (e : Step) (n : DcState) → is_tc e ≡ false → Sees is_dc before now
+    → EntersDc start before e n → GivesDc start (now ++ e ∷ []) n
+dc_entered start before now e n is sees enters =
     let m = enters.step in
     let brings : BringsRequest (requests now) e.event m.request =
     subst (λ (es : List Step). BringsRequest (requests es) e.event m.request) (sym sees.all)
     (request_brought before sees.since e.event m.request enters.handed m.brings) in
-    dc_along_snoc [] dc_start now enters.old e n is (dc_on before now enters.old sees enters.gives)
+    dc_along_snoc [] (dc_start start) now enters.old e n is (dc_on start before now enters.old sees enters.gives)
     (record { request = m.request; brings = brings; leads = m.leads; given = m.given; none = m.none })
 
 -- ---- the whole
@@ -226,16 +225,16 @@ merge (e ∷ es) t u s d qs ps sent given k a b =
     merge_at e es t u (merge es t u) s d qs ps sent given k (is_tc e) a b
 
 -- what the entries give of both components is what some run of the node ends with
-pub runs : (es : List Step) (t : TcState) (u : DcState) → IsDc dc_start.side.dc → GivesTc es t → GivesDc es u
-    → RunsTo es (node_of t.side u.side (requests es) (replies es))
-runs es t u is a b =
-    let m = merge es t u tc_start dc_start [] [] refl refl (kept_fresh is) a b in
+pub runs : (start : Start) (es : List Step) (t : TcState) (u : DcState) → IsStart start → GivesTc start es t → GivesDc start es u
+    → RunsTo start es (node_of t.side u.side (requests es) (replies es))
+runs start es t u is a b =
+    let m = merge es t u (tc_start start) (dc_start start) [] [] refl refl is a b in
     record { chain = m.chain; kept = m.kept; requests = refl; replies = refl }
 
-pub in_run : (es : List Step) (t : TcState) (u : DcState) → IsDc dc_start.side.dc → GivesTc es t → GivesDc es u
-    → IsInRun es u.side
-in_run es t u is a b =
-    record { node = node_of t.side u.side (requests es) (replies es); runs = runs es t u is a b; dc_is = refl }
+pub in_run : (start : Start) (es : List Step) (t : TcState) (u : DcState) → IsStart start → GivesTc start es t → GivesDc start es u
+    → IsInRun start es u.side
+in_run start es t u is a b =
+    record { node = node_of t.side u.side (requests es) (replies es); runs = runs start es t u is a b; dc_is = refl }
 
 -- ---- what was sent has a spelling
 
@@ -268,6 +267,6 @@ spelled_all (e ∷ es) ps qs s t d u a b =
           (also qs e.sent) rest.0 t rest.1 u rest.2 rest.3,
     )
 
-pub spelled : (es : List Step) (t : TcState) (u : DcState) → GivesTc es t → GivesDc es u
+pub spelled : (start : Start) (es : List Step) (t : TcState) (u : DcState) → GivesTc start es t → GivesDc start es u
     → AllByRecursion (λ (e : Step). IsSpelledIf e.sent) es
-spelled es t u a b = spelled_all es [] [] tc_start t dc_start u a b
+spelled start es t u a b = spelled_all es [] [] (tc_start start) t (dc_start start) u a b

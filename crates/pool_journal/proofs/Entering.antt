@@ -6,7 +6,6 @@ use Rattle.std.specs.Option.{is_some}
 use Rattle.std.proofs.lemmas.List.{append-nil, map-append}
 use Rattle.std.proofs.Common.{append_assoc}
 use Rattle.boxcar.specs.Table.{Shelves}
-use Rattle.dc_core.specs.Kept.{IsDc}
 use Rattle.history.specs.ListMachine.{Line}
 use Rattle.world.specs.declared.event.Out.{Out}
 use Rattle.world.specs.declared.event.Out.TheVariants as out
@@ -23,7 +22,7 @@ use Rattle.pool_journal.specs.declared.news.News.TheVariants as news
 use Rattle.pool_journal.specs.Callers.{Awaits, HasLine, IsToldBy, IsUntold, IsNews}
 use Rattle.pool_journal.specs.Waiting.{IsNewsOf}
 use Rattle.pool_journal.specs.Slots.{Slot, step_at, steps, asks, gives, through, seen, Shown, IsShown, last_of}
-use Rattle.pool_journal.specs.Steps.{is_tc, requests, replies, TcState, DcState, GivesTc, GivesDc, IsRun, dc_start}
+use Rattle.pool_journal.specs.Steps.{is_tc, requests, replies, TcState, DcState, Start, IsStart, GivesTc, GivesDc, IsRun}
 use Rattle.pool_journal.specs.Views.{View, Sees}
 use Rattle.pool_journal.proofs.Lists.{all_snoc, all_map, kept_at, last_snoc, filter_snoc, request_of, reply_of}
 use Rattle.pool_journal.proofs.Along.{tc_on, dc_on, tc_entered, dc_entered, runs, in_run, spelled}
@@ -69,23 +68,23 @@ pub on_none : {A : Type 0} {P : Type 0} (o : Option A) → (o ≡ None → P) �
 on_none None f = f refl
 on_none (Some x) f = tt
 
-module _ (row : Shelves) (names : ℕ → ℕ) where
+module _ (start : Start) (row : Shelves) (names : ℕ → ℕ) where
   pub through_is : (tokens : List Slot) (p : Slot) (e : Step) → p.value.step.value ≡ e → p.value.before.steps ≡ steps tokens
       → through p.value ≡ steps tokens ++ e ∷ []
   through_is tokens p e step before = λ i. before i ++ step i ∷ []
 
   pub tc_enters : (tokens asked given tokens' asked' : List Slot) (tc dc tc' : View) (p : Slot) (e : Step)
-      → LinesKept row names tokens asked given tc dc → Shown row p → p.value.step.value ≡ e
-      → p.value.before.steps ≡ steps tokens → is_tc e ≡ true → (n : TcState) → EntersTc tc.steps e n
+      → LinesKept start row names tokens asked given tc dc → Shown row p → p.value.step.value ≡ e
+      → p.value.before.steps ≡ steps tokens → is_tc e ≡ true → (n : TcState) → EntersTc start tc.steps e n
       → tokens' ≡ tokens ++ p ∷ [] → asked' ≡ asked ++ cond (is_some e.sent) (p ∷ []) []
       → tc' ≡ record { name = tc.name; steps = through p.value } → e.given ≡ None
-      → LinesKept row names tokens' asked' given tc' dc
+      → LinesKept start row names tokens' asked' given tc' dc
   tc_enters tokens asked given tokens' asked' tc dc tc' p e k shown step before is n enters all sent view none =
       let es = steps tokens in
       let now : steps (tokens ++ p ∷ []) ≡ es ++ e ∷ [] = steps_snoc tokens p ∙ ap (λ (x : Step). es ++ x ∷ []) step in
       let thr : through p.value ≡ es ++ e ∷ [] = through_is tokens p e step before in
-      let dc_runs : GivesDc (es ++ e ∷ []) k.gives_dc.0 =
-      dc_on es (es ++ e ∷ []) k.gives_dc.0 (record {
+      let dc_runs : GivesDc start (es ++ e ∷ []) k.gives_dc.0 =
+      dc_on start es (es ++ e ∷ []) k.gives_dc.0 (record {
         since = e ∷ [];
         all = refl;
         none = (
@@ -94,7 +93,7 @@ module _ (row : Shelves) (names : ℕ → ℕ) where
           tt,
         );
       }) k.gives_dc.1 in
-      let done : LinesKept row names (tokens ++ p ∷ []) (asked ++ cond (is_some e.sent) (p ∷ []) []) given
+      let done : LinesKept start row names (tokens ++ p ∷ []) (asked ++ cond (is_some e.sent) (p ∷ []) []) given
       (record { name = tc.name; steps = through p.value }) dc = record {
         shown = all_snoc (Shown row) tokens p k.shown shown;
         last = ap seen (last_snoc tokens p) ∙ thr ∙ sym now;
@@ -106,36 +105,36 @@ module _ (row : Shelves) (names : ℕ → ℕ) where
             ∙ ap (λ (b : Bool). filter gives tokens ++ cond b (p ∷ []) []) (sym (ap (λ
             (x : Step). is_some x.given) step ∙ ap is_some none))
             ∙ sym (filter_snoc gives tokens p);
-        start = k.start;
+        starts = k.starts;
         gives_tc = (
           n,
-          subst (λ (xs : List Step). GivesTc xs n) (sym now)
-              (tc_entered tc.steps es e n is k.tc_sees enters),
+          subst (λ (xs : List Step). GivesTc start xs n) (sym now)
+              (tc_entered start tc.steps es e n is k.tc_sees enters),
         );
-        gives_dc = (k.gives_dc.0, subst (λ (xs : List Step). GivesDc xs k.gives_dc.0) (sym now) dc_runs);
+        gives_dc = (k.gives_dc.0, subst (λ (xs : List Step). GivesDc start xs k.gives_dc.0) (sym now) dc_runs);
         tc_name = k.tc_name;
         dc_name = k.dc_name;
         tc_sees = sees_all is_tc (through p.value) (steps (tokens ++ p ∷ [])) (now ∙ sym thr);
         dc_sees = subst (Sees is_dc dc.steps) (sym now) (sees_snoc is_dc dc.steps es e (not_false
             (is_tc e) is) k.dc_sees);
       } in
-      subst (λ (w : List Slot × List Slot × View). LinesKept row names w.0 w.1 given w.2 dc)
+      subst (λ (w : List Slot × List Slot × View). LinesKept start row names w.0 w.1 given w.2 dc)
       (λ i. (sym all i, sym sent i, sym view i)) done
 
   pub dc_enters : (tokens asked given tokens' given' : List Slot) (tc dc dc' : View) (p : Slot) (e : Step)
-      → LinesKept row names tokens asked given tc dc → Shown row p → p.value.step.value ≡ e
-      → p.value.before.steps ≡ steps tokens → is_dc e ≡ true → (n : DcState) → EntersDc dc.steps e n
+      → LinesKept start row names tokens asked given tc dc → Shown row p → p.value.step.value ≡ e
+      → p.value.before.steps ≡ steps tokens → is_dc e ≡ true → (n : DcState) → EntersDc start dc.steps e n
       → tokens' ≡ tokens ++ p ∷ [] → given' ≡ given ++ cond (is_some e.given) (p ∷ []) []
       → dc' ≡ record { name = dc.name; steps = through p.value } → e.sent ≡ None
-      → LinesKept row names tokens' asked given' tc dc'
+      → LinesKept start row names tokens' asked given' tc dc'
   dc_enters tokens asked given tokens' given' tc dc dc' p e k shown step before is n enters all gave view none =
       let es = steps tokens in
       let other : is_tc e ≡ false = not_true (is_tc e) is in
       let now : steps (tokens ++ p ∷ []) ≡ es ++ e ∷ [] = steps_snoc tokens p ∙ ap (λ (x : Step). es ++ x ∷ []) step in
       let thr : through p.value ≡ es ++ e ∷ [] = through_is tokens p e step before in
-      let tc_runs : GivesTc (es ++ e ∷ []) k.gives_tc.0 =
-      tc_on es (es ++ e ∷ []) k.gives_tc.0 (record { since = e ∷ []; all = refl; none = (other, tt) }) k.gives_tc.1 in
-      let done : LinesKept row names (tokens ++ p ∷ []) asked (given ++ cond (is_some e.given) (p ∷ []) []) tc
+      let tc_runs : GivesTc start (es ++ e ∷ []) k.gives_tc.0 =
+      tc_on start es (es ++ e ∷ []) k.gives_tc.0 (record { since = e ∷ []; all = refl; none = (other, tt) }) k.gives_tc.1 in
+      let done : LinesKept start row names (tokens ++ p ∷ []) asked (given ++ cond (is_some e.given) (p ∷ []) []) tc
       (record { name = dc.name; steps = through p.value }) = record {
         shown = all_snoc (Shown row) tokens p k.shown shown;
         last = ap seen (last_snoc tokens p) ∙ thr ∙ sym now;
@@ -147,29 +146,29 @@ module _ (row : Shelves) (names : ℕ → ℕ) where
             ap (λ (xs : List Slot). xs ++ cond (is_some e.given) (p ∷ []) []) k.given_are
             ∙ ap (λ (x : Step). filter gives tokens ++ cond (is_some x.given) (p ∷ []) []) (sym step)
             ∙ sym (filter_snoc gives tokens p);
-        start = k.start;
-        gives_tc = (k.gives_tc.0, subst (λ (xs : List Step). GivesTc xs k.gives_tc.0) (sym now) tc_runs);
+        starts = k.starts;
+        gives_tc = (k.gives_tc.0, subst (λ (xs : List Step). GivesTc start xs k.gives_tc.0) (sym now) tc_runs);
         gives_dc = (
           n,
-          subst (λ (xs : List Step). GivesDc xs n) (sym now)
-              (dc_entered dc.steps es e n other k.dc_sees enters),
+          subst (λ (xs : List Step). GivesDc start xs n) (sym now)
+              (dc_entered start dc.steps es e n other k.dc_sees enters),
         );
         tc_name = k.tc_name;
         dc_name = k.dc_name;
         tc_sees = subst (Sees is_tc tc.steps) (sym now) (sees_snoc is_tc tc.steps es e other k.tc_sees);
         dc_sees = sees_all is_dc (through p.value) (steps (tokens ++ p ∷ [])) (now ∙ sym thr);
       } in
-      subst (λ (w : List Slot × List Slot × View). LinesKept row names w.0 asked w.1 tc w.2)
+      subst (λ (w : List Slot × List Slot × View). LinesKept start row names w.0 asked w.1 tc w.2)
       (λ i. (sym all i, sym gave i, sym view i)) done
 
   pub lines_none : (tc dc : View) → tc ≡ record { name = names 0; steps = [] }
-      → dc ≡ record { name = names 1; steps = [] } → IsDc dc_start.side.dc → LinesKept row names [] [] [] tc dc
-  lines_none tc dc tc_is dc_is start = record {
+      → dc ≡ record { name = names 1; steps = [] } → IsStart start → LinesKept start row names [] [] [] tc dc
+  lines_none tc dc tc_is dc_is starts = record {
     shown = tt;
     last = refl;
     asked_are = refl;
     given_are = refl;
-    start = start;
+    starts = starts;
     gives_tc = (_, refl);
     gives_dc = (_, refl);
     tc_name = ap (λ (v : View). v.name) tc_is;
@@ -178,12 +177,12 @@ module _ (row : Shelves) (names : ℕ → ℕ) where
     dc_sees = sees_all is_dc dc.steps [] (ap (λ (v : View). v.steps) (sym dc_is));
   }
 
-  pub last_seen : (tokens asked given : List Slot) (tc dc : View) → LinesKept row names tokens asked given tc dc
+  pub last_seen : (tokens asked given : List Slot) (tc dc : View) → LinesKept start row names tokens asked given tc dc
       → (o : Option Slot) → o ≡ last_of tokens → seen o ≡ steps tokens
   last_seen tokens asked given tc dc k o is = ap seen is ∙ k.last
 
   pub request_found : (tokens asked given : List Slot) (tc dc : View) (n : ℕ) (p : Slot)
-      → LinesKept row names tokens asked given tc dc → message_at asked n ≡ Some p
+      → LinesKept start row names tokens asked given tc dc → message_at asked n ≡ Some p
       → Shown row p × IsSentBy (requests (steps tokens)) n p.value.step.value.sent × IsSpelledIf p.value.step.value.sent
   request_found tokens asked given tc dc n p k at =
       let at' : message_at (filter asks tokens) n ≡ Some p = ap (λ (ms : List Slot). message_at ms n)
@@ -192,26 +191,26 @@ module _ (row : Shelves) (names : ℕ → ℕ) where
         request_of tokens n p at',
         kept_at (λ (q : Slot). IsSpelledIf q.value.step.value.sent) asks tokens n p
             (all_map step_at (λ (e : Step). IsSpelledIf e.sent) tokens
-            (spelled (steps tokens) k.gives_tc.0 k.gives_dc.0 k.gives_tc.1 k.gives_dc.1)) at',
+            (spelled start (steps tokens) k.gives_tc.0 k.gives_dc.0 k.gives_tc.1 k.gives_dc.1)) at',
       )
 
   pub reply_found : (tokens asked given : List Slot) (tc dc : View) (n : ℕ) (p : Slot)
-      → LinesKept row names tokens asked given tc dc → message_at given n ≡ Some p
+      → LinesKept start row names tokens asked given tc dc → message_at given n ≡ Some p
       → Shown row p × IsSentBy (replies (steps tokens)) n p.value.step.value.given
   reply_found tokens asked given tc dc n p k at =
       let at' : message_at (filter gives tokens) n ≡ Some p = ap (λ (ms : List Slot). message_at ms n)
       (sym k.given_are) ∙ at in
       (kept_at (Shown row) gives tokens n p k.shown at', reply_of tokens n p at')
 
-  pub lines_run : (tokens asked given : List Slot) (tc dc : View) → LinesKept row names tokens asked given tc dc
-      → IsRun (steps tokens)
+  pub lines_run : (tokens asked given : List Slot) (tc dc : View) → LinesKept start row names tokens asked given tc dc
+      → IsRun start (steps tokens)
   lines_run tokens asked given tc dc k =
-      (_, runs (steps tokens) k.gives_tc.0 k.gives_dc.0 k.start k.gives_tc.1 k.gives_dc.1)
+      (_, runs start (steps tokens) k.gives_tc.0 k.gives_dc.0 k.starts k.gives_tc.1 k.gives_dc.1)
 
   pub lines_in_run : (tokens asked given : List Slot) (tc dc : View) (s : DcState)
-      → LinesKept row names tokens asked given tc dc → GivesDc dc.steps s → IsInRun (steps tokens) s.side
+      → LinesKept start row names tokens asked given tc dc → GivesDc start dc.steps s → IsInRun start (steps tokens) s.side
   lines_in_run tokens asked given tc dc s k gives =
-      in_run (steps tokens) k.gives_tc.0 s k.start k.gives_tc.1 (dc_on dc.steps (steps tokens) s k.dc_sees gives)
+      in_run start (steps tokens) k.gives_tc.0 s k.starts k.gives_tc.1 (dc_on start dc.steps (steps tokens) s k.dc_sees gives)
 
 calls_other : (o : Option ℕ) (n s : ℕ) → o ≡ Some n → (s ≡ n → ⊥) → calls_as o s ≡ false
 calls_other o n s is other =

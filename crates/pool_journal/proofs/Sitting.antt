@@ -12,7 +12,7 @@ use Rattle.world.specs.Messages.{message_at}
 use Rattle.pool_journal.specs.declared.step.Step.{Step}
 use Rattle.pool_journal.specs.Desks.{delivers, TcDeskKept, DcDeskKept}
 use Rattle.pool_journal.specs.Kept.{is_dc, HandsReply, HandsRequest, EntersTc, EntersDc, IsInRun, IsSentBy}
-use Rattle.pool_journal.specs.Steps.{is_tc, requests, replies, TcState, DcState, count, GivesTc, GivesDc}
+use Rattle.pool_journal.specs.Steps.{is_tc, requests, replies, TcState, DcState, Start, count, GivesTc, GivesDc}
 use Rattle.pool_journal.specs.Views.{View, Sees}
 use Rattle.pool_journal.proofs.Along.{tc_on, dc_on}
 use Rattle.pool_journal.proofs.Marking.{seat_on}
@@ -60,12 +60,12 @@ alone (event.FailDc device call) is = alone_so (event.FailDc device call) (λ ps
 
 -- ---- the transaction component
 
-pub tc_goes : (steps : List Step) (side next : TcSide) (sent after : ℕ) (e : Step) (event : Event)
-    (reply : Option Reply) → GivesTc steps (record { side = side; sent = sent }) → e.event ≡ event
+pub tc_goes : (start : Start) (steps : List Step) (side next : TcSide) (sent after : ℕ) (e : Step) (event : Event)
+    (reply : Option Reply) → GivesTc start steps (record { side = side; sent = sent }) → e.event ≡ event
     → TcLeads side (Some (sent + 1)) event reply e.out e.sent next → BringsReply (replies steps) event reply
     → HandsReply event reply → after ≡ sent + count e.sent → e.given ≡ None
-    → EntersTc steps e (record { side = next; sent = after })
-tc_goes steps side next sent after e event reply gives is leads brings handed number none = record {
+    → EntersTc start steps e (record { side = next; sent = after })
+tc_goes start steps side next sent after e event reply gives is leads brings handed number none = record {
   old = record { side = side; sent = sent };
   gives = gives;
   step = record {
@@ -78,42 +78,42 @@ tc_goes steps side next sent after e event reply gives is leads brings handed nu
   handed = subst (λ (x : Event). HandsReply x reply) (sym is) handed;
 }
 
-pub tc_goes_alone : (steps : List Step) (side next : TcSide) (sent after : ℕ) (e : Step) (event : Event)
-    → GivesTc steps (record { side = side; sent = sent }) → e.event ≡ event → delivers event ≡ false
+pub tc_goes_alone : (start : Start) (steps : List Step) (side next : TcSide) (sent after : ℕ) (e : Step) (event : Event)
+    → GivesTc start steps (record { side = side; sent = sent }) → e.event ≡ event → delivers event ≡ false
     → TcLeads side (Some (sent + 1)) event None e.out e.sent next → after ≡ sent + count e.sent → e.given ≡ None
-    → EntersTc steps e (record { side = next; sent = after })
-tc_goes_alone steps side next sent after e event gives is plain leads number none =
+    → EntersTc start steps e (record { side = next; sent = after })
+tc_goes_alone start steps side next sent after e event gives is plain leads number none =
     let a = alone event plain in
-    tc_goes steps side next sent after e event None gives is leads (a.reply (replies steps)) a.handed number none
+    tc_goes start steps side next sent after e event None gives is leads (a.reply (replies steps)) a.handed number none
 
 -- a reply that was given is the one that is handed over
-pub tc_goes_with : (before steps : List Step) (side next : TcSide) (sent after : ℕ) (e : Step) (number : ℕ)
+pub tc_goes_with : (start : Start) (before steps : List Step) (side next : TcSide) (sent after : ℕ) (e : Step) (number : ℕ)
     (given : Option Reply) (reply : Reply) → Sees is_tc before steps
-    → GivesTc before (record { side = side; sent = sent }) → e.event ≡ event.Reply number
+    → GivesTc start before (record { side = side; sent = sent }) → e.event ≡ event.Reply number
     → IsSentBy (replies steps) number given → given ≡ Some reply
     → TcLeads side (Some (sent + 1)) (event.Reply number) (Some reply) e.out e.sent next
-    → after ≡ sent + count e.sent → e.given ≡ None → EntersTc steps e (record { side = next; sent = after })
-tc_goes_with before steps side next sent after e number given reply sees gives is by has leads n none =
-    tc_goes steps side next sent after e (event.Reply number) (Some reply)
-    (tc_on before steps (record { side = side; sent = sent }) sees gives) is leads (by.found ∙ sym by.is ∙ has) tt n none
+    → after ≡ sent + count e.sent → e.given ≡ None → EntersTc start steps e (record { side = next; sent = after })
+tc_goes_with start before steps side next sent after e number given reply sees gives is by has leads n none =
+    tc_goes start steps side next sent after e (event.Reply number) (Some reply)
+    (tc_on start before steps (record { side = side; sent = sent }) sees gives) is leads (by.found ∙ sym by.is ∙ has) tt n none
 
-pub tc_kept_on : (names : ℕ → ℕ) (marks : TableId) (old new : View) (state : TcState) (seat : Seen)
-    → TcDeskKept names marks old state seat → new.name ≡ old.name → Sees is_tc old.steps new.steps
-    → TcDeskKept names marks new state seat
-tc_kept_on names marks old new state seat k name sees = record {
+pub tc_kept_on : (start : Start) (names : ℕ → ℕ) (marks : TableId) (old new : View) (state : TcState) (seat : Seen)
+    → TcDeskKept start names marks old state seat → new.name ≡ old.name → Sees is_tc old.steps new.steps
+    → TcDeskKept start names marks new state seat
+tc_kept_on start names marks old new state seat k name sees = record {
   name = name ∙ k.name;
-  gives = tc_on old.steps new.steps state sees k.gives;
+  gives = tc_on start old.steps new.steps state sees k.gives;
   seated = seat_on marks old.steps new.steps state.side.tc.stable seat k.seated sees;
 }
 
 -- ---- the data component
 
-pub dc_goes : (steps : List Step) (side next : DcSide) (given after : ℕ) (e : Step) (event : Event)
-    (request : Option Request) → GivesDc steps (record { side = side; given = given }) → e.event ≡ event
+pub dc_goes : (start : Start) (steps : List Step) (side next : DcSide) (given after : ℕ) (e : Step) (event : Event)
+    (request : Option Request) → GivesDc start steps (record { side = side; given = given }) → e.event ≡ event
     → DcLeads side (Some (given + 1)) event request e.out e.given next
     → BringsRequest (requests steps) event request → HandsRequest event request → after ≡ given + count e.given
-    → e.sent ≡ None → EntersDc steps e (record { side = next; given = after })
-dc_goes steps side next given after e event request gives is leads brings handed number none = record {
+    → e.sent ≡ None → EntersDc start steps e (record { side = next; given = after })
+dc_goes start steps side next given after e event request gives is leads brings handed number none = record {
   old = record { side = side; given = given };
   gives = gives;
   step = record {
@@ -126,47 +126,47 @@ dc_goes steps side next given after e event request gives is leads brings handed
   handed = subst (λ (x : Event). HandsRequest x request) (sym is) handed;
 }
 
-pub dc_goes_alone : (steps : List Step) (side next : DcSide) (given after : ℕ) (e : Step) (event : Event)
-    → GivesDc steps (record { side = side; given = given }) → e.event ≡ event → delivers event ≡ false
+pub dc_goes_alone : (start : Start) (steps : List Step) (side next : DcSide) (given after : ℕ) (e : Step) (event : Event)
+    → GivesDc start steps (record { side = side; given = given }) → e.event ≡ event → delivers event ≡ false
     → DcLeads side (Some (given + 1)) event None e.out e.given next → after ≡ given + count e.given → e.sent ≡ None
-    → EntersDc steps e (record { side = next; given = after })
-dc_goes_alone steps side next given after e event gives is plain leads number none =
+    → EntersDc start steps e (record { side = next; given = after })
+dc_goes_alone start steps side next given after e event gives is plain leads number none =
     let a = alone event plain in
-    dc_goes steps side next given after e event None gives is leads (a.request (requests steps)) a.given number none
+    dc_goes start steps side next given after e event None gives is leads (a.request (requests steps)) a.given number none
 
 has_some : (number : ℕ) (request : Option Request) (value : Request) → request ≡ Some value
     → HandsRequest (event.Request number) request
 has_some number None value is = absurd (cc (is))
 has_some number (Some q) value is = tt
 
-pub dc_goes_with : (before steps : List Step) (side next : DcSide) (given after : ℕ) (e : Step) (number : ℕ)
-    (request : Option Request) → Sees is_dc before steps → GivesDc before (record { side = side; given = given })
+pub dc_goes_with : (start : Start) (before steps : List Step) (side next : DcSide) (given after : ℕ) (e : Step) (number : ℕ)
+    (request : Option Request) → Sees is_dc before steps → GivesDc start before (record { side = side; given = given })
     → e.event ≡ event.Request number → IsSentBy (requests steps) number request
     → DcLeads side (Some (given + 1)) (event.Request number) request e.out e.given next
-    → after ≡ given + count e.given → e.sent ≡ None → EntersDc steps e (record { side = next; given = after })
-dc_goes_with before steps side next given after e number request sees gives is by leads n none =
-    dc_goes steps side next given after e (event.Request number) request
-    (dc_on before steps (record { side = side; given = given }) sees gives) is leads (by.found ∙ sym by.is)
+    → after ≡ given + count e.given → e.sent ≡ None → EntersDc start steps e (record { side = next; given = after })
+dc_goes_with start before steps side next given after e number request sees gives is by leads n none =
+    dc_goes start steps side next given after e (event.Request number) request
+    (dc_on start before steps (record { side = side; given = given }) sees gives) is leads (by.found ∙ sym by.is)
     (has_some number request by.value by.is) n none
 
-pub dc_kept_on : (names : ℕ → ℕ) (old new : View) (state : DcState) → DcDeskKept names old state
-    → new.name ≡ old.name → Sees is_dc old.steps new.steps → DcDeskKept names new state
-dc_kept_on names old new state k name sees =
-    record { name = name ∙ k.name; gives = dc_on old.steps new.steps state sees k.gives }
+pub dc_kept_on : (start : Start) (names : ℕ → ℕ) (old new : View) (state : DcState) → DcDeskKept start names old state
+    → new.name ≡ old.name → Sees is_dc old.steps new.steps → DcDeskKept start names new state
+dc_kept_on start names old new state k name sees =
+    record { name = name ∙ k.name; gives = dc_on start old.steps new.steps state sees k.gives }
 
 -- what a run says of the node around the component
-pub in_node : (es : List Step) (side : DcSide) (event : Event) → delivers event ≡ false → IsInRun es side
+pub in_node : (start : Start) (es : List Step) (side : DcSide) (event : Event) → delivers event ≡ false → IsInRun start es side
     → IsInNode side event None
-in_node es side event plain run = record {
+in_node start es side event plain run = record {
   node = run.node;
   kept = run.runs.kept;
   dc_is = run.dc_is;
   brings = (alone event plain).request run.node.requests;
 }
 
-pub in_node_with : (es : List Step) (side : DcSide) (number : ℕ) (request : Option Request) → IsInRun es side
+pub in_node_with : (start : Start) (es : List Step) (side : DcSide) (number : ℕ) (request : Option Request) → IsInRun start es side
     → IsSentBy (requests es) number request → IsInNode side (event.Request number) request
-in_node_with es side number request run by = record {
+in_node_with start es side number request run by = record {
   node = run.node;
   kept = run.runs.kept;
   dc_is = run.dc_is;

@@ -17,7 +17,7 @@ use Rattle.world.specs.Halves.{DcLeads, node_of}
 use Rattle.world.specs.Node.{NodeView, CallsDc, dc_side}
 use Rattle.pool_journal.specs.declared.step.Step.{Step}
 use Rattle.pool_journal.specs.Kept.{EntersDc}
-use Rattle.pool_journal.specs.Steps.{GivesDc, tc_start}
+use Rattle.pool_journal.specs.Steps.{Start, GivesDc, fresh_start}
 use Rattle.pool_journal.proofs.Sitting.{dc_goes_alone}
 
 rested : (known : ℕ) (old new : SystemView) (t : Tending) → TendsTo known old t tended.Nothing new → new ≡ old
@@ -40,8 +40,8 @@ pub nothing_tended : (old new : DcSide) (o : Out) → DcLeads old None event.Ten
     → new ≡ old
 nothing_tended old new o leads is =
     let l = subst (λ (x : Out). DcLeads old None event.Tend None x None new) is leads in
-    ap dc_side (same_node old.up (node_of tc_start.side old [] []) (node_of tc_start.side new [] [])
-    (l.gives tc_start.side [] [] tt refl))
+    ap dc_side (same_node old.up (node_of fresh_start.tc old [] []) (node_of fresh_start.tc new [] [])
+    (l.gives fresh_start.tc [] [] tt refl))
 
 -- an event that sends nothing, where there would have been room for it
 roomy : (old new : DcSide) (n : ℕ) (o : Out) → DcLeads old None event.Tend None o None new
@@ -53,11 +53,11 @@ roomy old new n o l = record {
   room = tt;
 }
 
-pub tending_enters : (steps : List Step) (old new : DcSide) (given : ℕ) (o : Out)
-    → GivesDc steps (record { side = old; given = given }) → DcLeads old None event.Tend None o None new
-    → EntersDc steps (record { caller = None; event = event.Tend; out = o; sent = None; given = None })
+pub tending_enters : (start : Start) (steps : List Step) (old new : DcSide) (given : ℕ) (o : Out)
+    → GivesDc start steps (record { side = old; given = given }) → DcLeads old None event.Tend None o None new
+    → EntersDc start steps (record { caller = None; event = event.Tend; out = o; sent = None; given = None })
     (record { side = new; given = given })
-tending_enters steps old new given o gives leads =
-    dc_goes_alone steps old new given given
+tending_enters start steps old new given o gives leads =
+    dc_goes_alone start steps old new given given
     (record { caller = None; event = event.Tend; out = o; sent = None; given = None }) event.Tend gives refl refl
     (roomy old new (given + 1) o leads) (omega (arith)) refl

@@ -9,7 +9,7 @@ use Rattle.world.specs.Component.{DcSide}
 use Rattle.world.specs.Halves.{DcLeads}
 use Rattle.pool_journal.specs.declared.step.Step.{Step}
 use Rattle.pool_journal.specs.Marking.{announced}
-use Rattle.pool_journal.specs.Steps.{TcState, DcState, GivesTc, GivesDc}
+use Rattle.pool_journal.specs.Steps.{Start, TcState, DcState, GivesTc, GivesDc}
 use Rattle.pool_journal.specs.Views.{View}
 
 -- the steps up to the last entry that it has seen, the component, and what its seat has seen of the marks
@@ -31,14 +31,15 @@ pub record SeatKept (marks : TableId) (steps : List Step) (stable : ℕ) (seat :
   pub low : seat.low ≡ announced steps
 
 -- it is what these steps give
-pub record TcDeskKept (names : ℕ → ℕ) (marks : TableId) (seen : View) (state : TcState) (seat : Seen) : Type 0 where
+pub record TcDeskKept (start : Start) (names : ℕ → ℕ) (marks : TableId) (seen : View) (state : TcState) (seat : Seen)
+    : Type 0 where
   pub name : seen.name ≡ names 0
-  pub gives : GivesTc seen.steps state
+  pub gives : GivesTc start seen.steps state
   pub seated : SeatKept marks seen.steps state.side.tc.stable seat
 
-pub record DcDeskKept (names : ℕ → ℕ) (seen : View) (state : DcState) : Type 0 where
+pub record DcDeskKept (start : Start) (names : ℕ → ℕ) (seen : View) (state : DcState) : Type 0 where
   pub name : seen.name ≡ names 1
-  pub gives : GivesDc seen.steps state
+  pub gives : GivesDc start seen.steps state
 
 -- it was asked to tend its leaves, and had nothing to do
 pub record Rests (old new : DcSide) : Type 0 where

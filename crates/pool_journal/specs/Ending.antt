@@ -8,6 +8,7 @@ use Rattle.dc_core.specs.DcView.{leaves}
 use Rattle.world.specs.Component.{DcSide}
 use Rattle.pool_journal.specs.declared.step.Step.{Step}
 use Rattle.pool_journal.specs.Kept.{IsInRun}
+use Rattle.pool_journal.specs.Steps.{Start}
 
 -- the records of the data component, where it runs
 abbrev pub IsRowsOf : DcSide → Option (Vec (Bytes × Bytes)) → Type 0
@@ -15,7 +16,7 @@ IsRowsOf dc None = dc.up ≡ false
 IsRowsOf dc (Some rows) = (dc.up ≡ true) × (rows.items ≡ entries (rows_of (leaves dc.dc)))
 
 -- some run of the node through these steps ends with these records
-pub record EndsWith (es : List Step) (rows : Option (Vec (Bytes × Bytes))) : Type 0 where
+pub record EndsWith (start : Start) (es : List Step) (rows : Option (Vec (Bytes × Bytes))) : Type 0 where
   pub dc : DcSide
-  pub run : IsInRun es dc
+  pub run : IsInRun start es dc
   pub rows_are : IsRowsOf dc rows

@@ -13,11 +13,10 @@ use Rattle.pool_journal.specs.declared.failure.Failure.{Failure}
 use Rattle.pool_journal.specs.declared.place.Place.{Place}
 use Rattle.pool_journal.specs.declared.place.Told.{Told}
 use Rattle.pool_journal.specs.declared.place.Told.TheVariants as is
-use Rattle.dc_core.specs.Kept.{IsDc}
 use Rattle.world.specs.Component.{DcSide}
 use Rattle.world.specs.Messages.{message_at}
 use Rattle.world.specs.Node.{NodeView, dc_side}
-use Rattle.pool_journal.specs.Steps.{is_tc, requests, replies, TcState, DcState, TcStep, DcStep, GivesTc, GivesDc, RunsTo, dc_start}
+use Rattle.pool_journal.specs.Steps.{is_tc, requests, replies, Start, IsStart, TcState, DcState, TcStep, DcStep, GivesTc, GivesDc, RunsTo}
 use Rattle.pool_journal.specs.Errands.{errand_after, fails, FailsSince}
 use Rattle.pool_journal.specs.Sessions.{part_of, calls_as, pending, line_of, line_to, line_for, ends, cuts_off}
 use Rattle.pool_journal.specs.Slots.{Slot, steps, asks, gives, seen, Shown, IsShown, last_of}
@@ -102,23 +101,24 @@ place_after token p =
     (place_heard token.value.step.value.event token.value.step.value.out token p)
 
 -- what the entries give, in order; the tokens of those that sent a message; and what the components have seen
-pub record LinesKept (row : Shelves) (names : ℕ → ℕ) (tokens asked given : List Slot) (tc dc : View) : Type 0 where
+pub record LinesKept (start : Start) (row : Shelves) (names : ℕ → ℕ) (tokens asked given : List Slot) (tc dc : View)
+    : Type 0 where
   pub shown : AllByRecursion (Shown row) tokens
   pub last : seen (last_of tokens) ≡ steps tokens
   pub asked_are : asked ≡ filter asks tokens
   pub given_are : given ≡ filter gives tokens
-  pub start : IsDc dc_start.side.dc
-  pub gives_tc : (s : TcState) × GivesTc (steps tokens) s
-  pub gives_dc : (s : DcState) × GivesDc (steps tokens) s
+  pub starts : IsStart start
+  pub gives_tc : (s : TcState) × GivesTc start (steps tokens) s
+  pub gives_dc : (s : DcState) × GivesDc start (steps tokens) s
   pub tc_name : tc.name ≡ names 0
   pub dc_name : dc.name ≡ names 1
   pub tc_sees : Sees is_tc tc.steps (steps tokens)
   pub dc_sees : Sees is_dc dc.steps (steps tokens)
 
 -- some run of the node through these steps ends with this component
-pub record IsInRun (es : List Step) (dc : DcSide) : Type 0 where
+pub record IsInRun (start : Start) (es : List Step) (dc : DcSide) : Type 0 where
   pub node : NodeView
-  pub runs : RunsTo es node
+  pub runs : RunsTo start es node
   pub dc_is : dc_side node ≡ dc
 
 -- a message of this number was sent, by this entry
@@ -137,14 +137,14 @@ HandsRequest (event.Request i) None = ⊥
 HandsRequest _ request = ⊤
 
 -- a step that goes on from what the component has seen, and leaves it so
-pub record EntersTc (before : List Step) (e : Step) (new : TcState) : Type 0 where
+pub record EntersTc (start : Start) (before : List Step) (e : Step) (new : TcState) : Type 0 where
   pub old : TcState
-  pub gives : GivesTc before old
+  pub gives : GivesTc start before old
   pub step : TcStep (replies before) old e new
   pub handed : HandsReply e.event step.reply
 
-pub record EntersDc (before : List Step) (e : Step) (new : DcState) : Type 0 where
+pub record EntersDc (start : Start) (before : List Step) (e : Step) (new : DcState) : Type 0 where
   pub old : DcState
-  pub gives : GivesDc before old
+  pub gives : GivesDc start before old
   pub step : DcStep (requests before) old e new
   pub handed : HandsRequest e.event step.request

@@ -9,9 +9,9 @@ use Rattle.dc_core.specs.DcView.{fresh as fresh_dc}
 use Rattle.world.specs.declared.event.Event.{Event}
 use Rattle.world.specs.declared.event.Out.{Out}
 use Rattle.world.specs.Component.{TcSide, DcSide}
-use Rattle.world.specs.Halves.{of_tc, also, BringsReply, BringsRequest, TcLeads, DcLeads}
+use Rattle.world.specs.Halves.{node_of, of_tc, also, BringsReply, BringsRequest, TcLeads, DcLeads}
 use Rattle.world.specs.Kept.{IsKept}
-use Rattle.world.specs.Node.{NodeView, fresh_node}
+use Rattle.world.specs.Node.{NodeView}
 use Rattle.world.specs.Stepping.{Chain}
 use Rattle.pool_journal.specs.declared.step.Step.{Step}
 
@@ -52,11 +52,27 @@ abbrev pub count : {A : Type 0} → Option A → ℕ
 count None = 0
 count (Some a) = 1
 
-abbrev pub tc_start : TcState
-tc_start = record { side = record { up = true; tc = fresh unused }; sent = 0 }
+-- the components of the node with which a journal begins; nothing was sent between them
+pub record Start : Type 0 where
+  pub tc : TcSide
+  pub dc : DcSide
 
-abbrev pub dc_start : DcState
-dc_start = record { side = record { up = true; dc = fresh_dc unused unused }; given = 0 }
+abbrev pub node_at : Start → NodeView
+node_at start = node_of start.tc start.dc [] []
+
+-- where a journal may begin: the node keeps what a node keeps at every moment
+abbrev pub IsStart : Start → Type 0
+IsStart start = IsKept (node_at start)
+
+-- both components run, and nothing is logged or stored
+abbrev pub fresh_start : Start
+fresh_start = record { tc = record { up = true; tc = fresh unused }; dc = record { up = true; dc = fresh_dc unused unused } }
+
+abbrev pub tc_start : Start → TcState
+tc_start start = record { side = start.tc; sent = 0 }
+
+abbrev pub dc_start : Start → DcState
+dc_start start = record { side = start.dc; given = 0 }
 
 -- a step of the transaction component, which is handed one of these replies if it takes one
 pub record TcStep (replies : List Reply) (old : TcState) (e : Step) (new : TcState) : Type 0 where
@@ -88,18 +104,18 @@ DcAlong requests s (e ∷ es) t =
     ((mid : DcState) × DcStep requests s e mid × DcAlong (also requests e.sent) mid es t)
 
 -- what the entries give of a component
-abbrev pub GivesTc : List Step → TcState → Type 0
-GivesTc es s = TcAlong [] tc_start es s
+abbrev pub GivesTc : Start → List Step → TcState → Type 0
+GivesTc start es s = TcAlong [] (tc_start start) es s
 
-abbrev pub GivesDc : List Step → DcState → Type 0
-GivesDc es s = DcAlong [] dc_start es s
+abbrev pub GivesDc : Start → List Step → DcState → Type 0
+GivesDc start es s = DcAlong [] (dc_start start) es s
 
 -- the steps are a run of the node, from its start on, which leaves it so
-pub record RunsTo (es : List Step) (w : NodeView) : Type 0 where
-  pub chain : Chain fresh_node (events es) (outs es) w
+pub record RunsTo (start : Start) (es : List Step) (w : NodeView) : Type 0 where
+  pub chain : Chain (node_at start) (events es) (outs es) w
   pub kept : IsKept w
   pub requests : w.requests ≡ requests es
   pub replies : w.replies ≡ replies es
 
-abbrev pub IsRun : List Step → Type 0
-IsRun es = (w : NodeView) × RunsTo es w
+abbrev pub IsRun : Start → List Step → Type 0
+IsRun start es = (w : NodeView) × RunsTo start es w

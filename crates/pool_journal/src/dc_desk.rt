@@ -52,15 +52,15 @@ impl<J: Naming, D: CrashLog, P: CrashPages> Model for DcDesk<J, D, P> {
 
     ghost view = { λ d. record { steps = d.visitor.steps; state = record { side = d.side; given = d.given } } };
 
-    ghost invariant = { λ d. DcDeskKept J.names d.visitor record { side = d.side; given = d.given } };
+    ghost invariant = { λ d. DcDeskKept J.start J.names d.visitor record { side = d.side; given = d.given } };
 }
 
 impl<J: Naming, D: CrashLog, P: CrashPages> DcDesk<J, D, P> {
     /// The component at its start.
     pub fn new(alloc: Global, side: DcSide<D, P>, mark: Mark) -> DcDesk<J, D, P>
-        requires start { side ≡ dc_start.side }
+        requires start { side ≡ J.start.dc }
         requires mark { (mark.name ≡ J.names 1) × (mark.number ≡ 0) }
-        ensures { result.state ≡ dc_start }
+        ensures { result.state ≡ dc_start J.start }
     {
         DcDesk {
             alloc,
@@ -72,7 +72,7 @@ impl<J: Naming, D: CrashLog, P: CrashPages> DcDesk<J, D, P> {
 
     /// What is found under the lock is what the entries give up to the last one that it has seen.
     pub fn kept(&self)
-        ensures { GivesDc self.now.steps self.now.state }
+        ensures { GivesDc J.start self.now.steps self.now.state }
     {
         let _ = &self.side;
     }
@@ -85,7 +85,7 @@ impl<J: Naming, D: CrashLog, P: CrashPages> DcDesk<J, D, P> {
     ) -> Result<Option<Vec<(Key, Value)>>, Refusal>
         requires row { row.now ≡ J.entries }
         ensures same { journal.new ≡ journal.old }
-        ensures rows { IfOk result (λ rows. EndsWith journal.old rows) }
+        ensures rows { IfOk result (λ rows. EndsWith J.start journal.old rows) }
         ensures memory { IfErr result (λ refusal. refusal ≡ Refusal.NoMemory) }
     {
         let DcDesk {

@@ -143,7 +143,7 @@ impl<J: Naming> Journal<J> {
 
     /// The entries are a run of the node, from its start on.
     pub fn is_run(&self)
-        ensures { IsRun self.now }
+        ensures { IsRun J.start self.now }
     {
         self.lines.is_run();
     }
@@ -193,11 +193,11 @@ impl<J: Naming> Journal<J> {
     ) -> Result<Pushed<Entry>, Unsent>
         requires row { row.now ≡ J.entries }
         requires name { visitor.old.name ≡ J.names 1 }
-        requires gives { GivesDc visitor.old.steps record { side = side.now; given = given } }
+        requires gives { GivesDc J.start visitor.old.steps record { side = side.now; given = given } }
         ensures same { self.new ≡ self.old }
         ensures visitor { visitor.new ≡ record { name = visitor.old.name; steps = self.old } }
         ensures sees { Sees is_dc visitor.old.steps self.old }
-        ensures run { IsInRun self.old side.now }
+        ensures run { IsInRun J.start self.old side.now }
         ensures shown { IfOk result (λ token. Shown J.entries token) }
         ensures sent { IfOk result (λ token. IsSentBy (requests self.old) number token.value.step.value.sent) }
         ensures spelled { IfOk result (λ token. IsSpelledIf token.value.step.value.sent) }
@@ -222,11 +222,11 @@ impl<J: Naming> Journal<J> {
     )
         requires row { row.now ≡ J.entries }
         requires name { visitor.old.name ≡ J.names 1 }
-        requires gives { GivesDc visitor.old.steps record { side = side.now; given = given } }
+        requires gives { GivesDc J.start visitor.old.steps record { side = side.now; given = given } }
         ensures same { self.new ≡ self.old }
         ensures visitor { visitor.new ≡ record { name = visitor.old.name; steps = self.old } }
         ensures sees { Sees is_dc visitor.old.steps self.old }
-        ensures run { IsInRun self.old side.now }
+        ensures run { IsInRun J.start self.old side.now }
     {
         let Journal {
             lines,
@@ -248,12 +248,12 @@ impl<J: Naming> Journal<J> {
         requires name { visitor.old.name ≡ J.names 1 }
         requires dc { is_dc step.value ≡ true }
         requires own { step.value.caller ≡ None }
-        requires enters { (n : DcState) × EntersDc visitor.old.steps step.value n }
+        requires enters { (n : DcState) × EntersDc J.start visitor.old.steps step.value n }
         ensures shown { Shown J.entries result }
         ensures value { result.value.step.value ≡ step.value }
         ensures entered { self.new ≡ self.old ++ step.value ∷ [] }
         ensures visitor { visitor.new ≡ record { name = visitor.old.name; steps = self.new } }
-        ensures gives { (n : DcState) → EntersDc visitor.old.steps step.value n → GivesDc visitor.new.steps n }
+        ensures gives { (n : DcState) → EntersDc J.start visitor.old.steps step.value n → GivesDc J.start visitor.new.steps n }
     {
         let Journal {
             lines,
@@ -277,13 +277,13 @@ impl<J: Naming> Journal<J> {
         requires name { visitor.old.name ≡ J.names 0 }
         requires tc { is_tc step.value ≡ true }
         requires own { step.value.caller ≡ None }
-        requires enters { (n : TcState) × EntersTc visitor.old.steps step.value n }
+        requires enters { (n : TcState) × EntersTc J.start visitor.old.steps step.value n }
         ensures shown { Shown J.entries result }
         ensures value { result.value.step.value ≡ step.value }
         ensures entered { self.new ≡ self.old ++ step.value ∷ [] }
         ensures visitor { visitor.new ≡ record { name = visitor.old.name; steps = self.new } }
         ensures sees { Sees is_tc visitor.old.steps self.old }
-        ensures gives { (n : TcState) → EntersTc visitor.old.steps step.value n → GivesTc visitor.new.steps n }
+        ensures gives { (n : TcState) → EntersTc J.start visitor.old.steps step.value n → GivesTc J.start visitor.new.steps n }
     {
         let Journal {
             lines,
@@ -308,14 +308,14 @@ impl<J: Naming> Journal<J> {
         requires name { visitor.old.name ≡ J.names 0 }
         requires tc { is_tc step.value ≡ true }
         requires own { step.value.caller ≡ Some caller.old.number }
-        requires enters { (n : TcState) × EntersTc visitor.old.steps step.value n }
+        requires enters { (n : TcState) × EntersTc J.start visitor.old.steps step.value n }
         requires closed { IsClosed caller.old.part }
         ensures shown { Shown J.entries result }
         ensures value { result.value.step.value ≡ step.value }
         ensures entered { self.new ≡ self.old ++ step.value ∷ [] }
         ensures visitor { visitor.new ≡ record { name = visitor.old.name; steps = self.new } }
         ensures sees { Sees is_tc visitor.old.steps self.old }
-        ensures gives { (n : TcState) → EntersTc visitor.old.steps step.value n → GivesTc visitor.new.steps n }
+        ensures gives { (n : TcState) → EntersTc J.start visitor.old.steps step.value n → GivesTc J.start visitor.new.steps n }
         ensures number { caller.new.number ≡ caller.old.number }
         ensures called { IsCalled caller.old.part step.value.event step.value.out caller.new.part }
     {

@@ -1,9 +1,8 @@
 //! The journal's entries, in order.
 ghost use Rattle.std.specs.Prelude.{◌≡◌, ◌<◌, [], ◌∷◌, ◌++◌, true, IfOk, IfSome, IfNone, OnErr, length, slice_get, cond, vec_len, vec_capacity};
-ghost use Rattle.dc_core.specs.Kept.{IsDc};
 ghost use Rattle.world.specs.Halves.{IsSpelledIf};
 ghost use Rattle.world.specs.Messages.{message_at};
-ghost use Rattle.pool_journal.specs.Steps.{is_tc, IsRun, requests, replies, TcState, DcState, GivesTc, GivesDc, dc_start};
+ghost use Rattle.pool_journal.specs.Steps.{is_tc, IsRun, requests, replies, TcState, DcState, GivesTc, GivesDc, IsStart};
 ghost use Rattle.pool_journal.specs.Slots.{Shown, IsShown, seen, through, last_of};
 ghost use Rattle.pool_journal.specs.Views.{Sees};
 ghost use Rattle.pool_journal.specs.Kept.{is_dc, IsInRun, IsSentBy, EntersTc, EntersDc};
@@ -46,7 +45,7 @@ impl<J: Naming> Model for Lines<J> {
 
     ghost view = { λ l. steps l.tokens.items };
 
-    ghost invariant = { λ l. LinesKept J.entries J.names l.tokens.items l.asked.items l.given.items l.tc l.dc };
+    ghost invariant = { λ l. LinesKept J.start J.entries J.names l.tokens.items l.asked.items l.given.items l.tc l.dc };
 }
 
 /// No message of that number stands in the journal.
@@ -108,7 +107,7 @@ impl<J: Naming> Lines<J> {
     pub fn new(alloc: Global, tc: Book, dc: Book) -> Lines<J>
         requires tc { (tc.name ≡ J.names 0) × (tc.number ≡ 0) }
         requires dc { (dc.name ≡ J.names 1) × (dc.number ≡ 0) }
-        requires start { IsDc dc_start.side.dc }
+        requires start { IsStart J.start }
         ensures { result ≡ [] }
     {
         Lines {
@@ -122,7 +121,7 @@ impl<J: Naming> Lines<J> {
 
     /// The entries are a run of the node, from its start on.
     pub fn is_run(&self)
-        ensures { IsRun self.now }
+        ensures { IsRun J.start self.now }
     {
         let _ = &self.tokens;
     }
@@ -173,11 +172,11 @@ impl<J: Naming> Lines<J> {
     )
         requires row { row.now ≡ J.entries }
         requires name { visitor.old.name ≡ J.names 1 }
-        requires gives { GivesDc visitor.old.steps record { side = side.now; given = given } }
+        requires gives { GivesDc J.start visitor.old.steps record { side = side.now; given = given } }
         ensures same { self.new ≡ self.old }
         ensures visitor { visitor.new ≡ record { name = visitor.old.name; steps = self.old } }
         ensures sees { Sees is_dc visitor.old.steps self.old }
-        ensures run { IsInRun self.old side.now }
+        ensures run { IsInRun J.start self.old side.now }
     {
         let last = last_of(&self.tokens);
         self.dc.meet(row, visitor, &last);
@@ -213,14 +212,14 @@ impl<J: Naming> Lines<J> {
         requires row { row.now ≡ J.entries }
         requires name { visitor.old.name ≡ J.names 0 }
         requires tc { is_tc step.value ≡ true }
-        requires enters { (n : TcState) × EntersTc visitor.old.steps step.value n }
+        requires enters { (n : TcState) × EntersTc J.start visitor.old.steps step.value n }
         ensures shown { Shown J.entries result }
         ensures value { result.value.step.value ≡ step.value }
         ensures through { through result.value ≡ self.old ++ step.value ∷ [] }
         ensures entered { self.new ≡ self.old ++ step.value ∷ [] }
         ensures visitor { visitor.new ≡ record { name = visitor.old.name; steps = self.new } }
         ensures sees { Sees is_tc visitor.old.steps self.old }
-        ensures gives { (n : TcState) → EntersTc visitor.old.steps step.value n → GivesTc visitor.new.steps n }
+        ensures gives { (n : TcState) → EntersTc J.start visitor.old.steps step.value n → GivesTc J.start visitor.new.steps n }
     {
         let Lines {
             tokens,
@@ -253,13 +252,13 @@ impl<J: Naming> Lines<J> {
         requires row { row.now ≡ J.entries }
         requires name { visitor.old.name ≡ J.names 1 }
         requires dc { is_dc step.value ≡ true }
-        requires enters { (n : DcState) × EntersDc visitor.old.steps step.value n }
+        requires enters { (n : DcState) × EntersDc J.start visitor.old.steps step.value n }
         ensures shown { Shown J.entries result }
         ensures value { result.value.step.value ≡ step.value }
         ensures through { through result.value ≡ self.old ++ step.value ∷ [] }
         ensures entered { self.new ≡ self.old ++ step.value ∷ [] }
         ensures visitor { visitor.new ≡ record { name = visitor.old.name; steps = self.new } }
-        ensures gives { (n : DcState) → EntersDc visitor.old.steps step.value n → GivesDc visitor.new.steps n }
+        ensures gives { (n : DcState) → EntersDc J.start visitor.old.steps step.value n → GivesDc J.start visitor.new.steps n }
     {
         let Lines {
             tokens,

@@ -6,6 +6,10 @@ pub trait Naming {
     ghost use Rattle.std.specs.Prelude.{ℕ};
     ghost use Rattle.boxcar.specs.Table.{Shelves};
     ghost use Rattle.atomic_table.specs.Seated.{TableId};
+    ghost use Rattle.pool_journal.specs.Steps.{Start};
+
+    /// The components with which it begins.
+    ghost start: { Start };
 
     /// The row in which the entries stand.
     ghost entries: { Shelves };
@@ -22,6 +26,9 @@ pub trait Naming {
 
 impl Naming for Brand {
     ghost use Rattle.std.specs.Prelude.{[]};
+    ghost use Rattle.pool_journal.specs.Steps.{fresh_start};
+
+    ghost start = { fresh_start };
 
     ghost entries = { record { tag = []; buckets = [] } };
 

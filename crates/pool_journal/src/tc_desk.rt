@@ -60,7 +60,7 @@ impl<J: Naming, D: CrashLog> Model for TcDesk<J, D> {
       seat = d.seat;
     } };
 
-    ghost invariant = { λ d. TcDeskKept J.names J.marks d.visitor record { side = d.side; sent = d.sent } d.seat };
+    ghost invariant = { λ d. TcDeskKept J.start J.names J.marks d.visitor record { side = d.side; sent = d.sent } d.seat };
 }
 
 /// The number of the next message. No component sends so many that there is none.
@@ -79,10 +79,10 @@ pub fn next_number<R: Wait>(rt: &R, sent: u64) -> u64
 impl<J: Naming, D: CrashLog> TcDesk<J, D> {
     /// The component at its start.
     pub fn new(alloc: Global, side: TcSide<D>, mark: Mark, seat: Seat) -> TcDesk<J, D>
-        requires start { side ≡ tc_start.side }
+        requires start { side ≡ J.start.tc }
         requires mark { (mark.name ≡ J.names 0) × (mark.number ≡ 0) }
         requires seat { seat ≡ raiser J.marks 0 0 }
-        ensures { result.state ≡ tc_start }
+        ensures { result.state ≡ tc_start J.start }
     {
         TcDesk {
             alloc,
@@ -96,7 +96,7 @@ impl<J: Naming, D: CrashLog> TcDesk<J, D> {
     /// What is found under the lock is what the entries give up to the last one that it has seen. The stable mark is no
     /// more than what is stable of the log, and the low mark is the greatest number that these entries have announced.
     pub fn kept(&self)
-        ensures gives { GivesTc self.now.steps self.now.state }
+        ensures gives { GivesTc J.start self.now.steps self.now.state }
         ensures stable { self.now.seat.stable ≤ self.now.state.side.tc.stable }
         ensures low { self.now.seat.low ≡ announced self.now.steps }
     {

@@ -62,8 +62,9 @@ name_there (x ∷ names) zero n at = let same : x ≡ n = cc (at) in sym same
 name_there (x ∷ names) (suc k) n at = name_there names k n at
 
 -- the names that it has are names that it goes by
-pub named_as : (o : OpenedView) → IsNamed o o.entries o.marks (name_of o) (length o.sessions)
+pub named_as : (o : OpenedView) → IsNamed o o.start o.entries o.marks (name_of o) (length o.sessions)
 named_as o = record {
+  start_is = refl;
   row = refl;
   marks_are = refl;
   tc = refl;

@@ -4,12 +4,13 @@ use Rattle.std.specs.List.{AllByRecursion}
 use Rattle.atomic_table.specs.Seated.{TableId}
 use Rattle.boxcar.specs.Table.{Shelves}
 use Rattle.marks.specs.Seen.{Seen, raiser, reader}
-use Rattle.world.specs.Component.{TcSide, DcSide}
 use Rattle.worker_pool.specs.declared.opened.Chair.{Chair}
-use Rattle.pool_journal.specs.Steps.{tc_start, dc_start}
+use Rattle.pool_journal.specs.Steps.{Start, IsStart}
 
--- its row, its marks, and the names of its ties: of each component, and of each session
+-- the components with which it begins, its row, its marks, and the names of its ties: of each component, and of each
+-- session
 pub record OpenedView : Type 0 where
+  pub start : Start
   pub entries : Shelves
   pub marks : TableId
   pub tc : ℕ
@@ -19,8 +20,9 @@ pub record OpenedView : Type 0 where
 abbrev pub ties_of : List Chair → List ℕ
 ties_of chairs = map (λ (c : Chair). c.ends) chairs
 
-abbrev pub opened_as : Shelves → TableId → ℕ → ℕ → List Chair → OpenedView
-opened_as row marks tc dc chairs = record {
+abbrev pub opened_as : Start → Shelves → TableId → ℕ → ℕ → List Chair → OpenedView
+opened_as start row marks tc dc chairs = record {
+  start = start;
   entries = row;
   marks = marks;
   tc = tc;
@@ -32,19 +34,20 @@ opened_as row marks tc dc chairs = record {
 abbrev pub IsReader : TableId → Chair → Type 0
 IsReader marks chair = chair.seat ≡ reader marks 0 0
 
--- nobody has raised the marks, and both components are at their start
-pub record IsOpened (marks : TableId) (seat : Seen) (chairs : List Chair) (tc : TcSide) (dc : DcSide) : Type 0 where
+-- nobody has raised the marks, and a journal may begin with the components
+pub record IsOpened (marks : TableId) (seat : Seen) (chairs : List Chair) (start : Start) : Type 0 where
   pub raises : seat ≡ raiser marks 0 0
   pub reads : AllByRecursion (IsReader marks) chairs
-  pub tc_starts : tc ≡ tc_start.side
-  pub dc_starts : dc ≡ dc_start.side
+  pub starts : IsStart start
 
 -- the ties of the sessions have these names
 abbrev pub AreTied : (ℕ → ℕ) → List ℕ → Type 0
 AreTied names sessions = (k n : ℕ) → slice_get sessions k ≡ Some n → n ≡ names (k + 2)
 
 -- it goes by these names
-pub record IsNamed (o : OpenedView) (entries : Shelves) (marks : TableId) (names : ℕ → ℕ) (sessions : ℕ) : Type 0 where
+pub record IsNamed (o : OpenedView) (start : Start) (entries : Shelves) (marks : TableId) (names : ℕ → ℕ) (sessions : ℕ)
+    : Type 0 where
+  pub start_is : o.start ≡ start
   pub row : o.entries ≡ entries
   pub marks_are : o.marks ≡ marks
   pub tc : o.tc ≡ names 0

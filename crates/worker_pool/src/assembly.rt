@@ -22,7 +22,7 @@ where
     G: Gate + Drop,
     D: CrashLog + Drop,
     P: CrashPages + Drop,
-    requires named { IsNamed opened J.entries J.marks J.names J.sessions }
+    requires named { IsNamed opened J.start J.entries J.marks J.names J.sessions }
     ensures sitters { IfOk result (λ made. AllByRecursion (IsSeated J.marks) made.1.items) }
     ensures numbers { IfOk result (λ made. numbers_in made.1.items ≡ below J.sessions) }
 {

@@ -35,7 +35,7 @@ impl<J: Naming> Model for Closed<J> {
 
     ghost view = { λ c. record { steps = c.left.value.journal; rows = c.left.value.rows } };
 
-    ghost invariant = { λ c. EndsWith c.left.value.journal c.left.value.rows };
+    ghost invariant = { λ c. EndsWith J.start c.left.value.journal c.left.value.rows };
 }
 
 impl<J: Naming> Closed<J> {
@@ -46,7 +46,7 @@ impl<J: Naming> Closed<J> {
         journal: Journal<J>,
         rows: Option<Vec<(Key, Value)>>,
     ) -> Result<Closed<J>, Refusal>
-        requires ends { EndsWith journal rows }
+        requires ends { EndsWith J.start journal rows }
         ensures closed { IfOk result (λ closed. closed ≡ record { steps = journal; rows = rows }) }
         ensures refused { IfErr result (λ refusal. refusal ≡ Refusal.NoMemory) }
     {
@@ -64,9 +64,9 @@ impl<J: Naming> Closed<J> {
     /// every moment holds at its end. So where it is settled, the records are those of a plain map after the operations
     /// that stand.
     pub fn kept(&self)
-        ensures run { IsRun self.now.steps }
-        ensures rows { EndsWith self.now.steps self.now.rows }
-        ensures promised { (w : NodeView) → RunsTo self.now.steps w → Promises w }
+        ensures run { IsRun J.start self.now.steps }
+        ensures rows { EndsWith J.start self.now.steps self.now.rows }
+        ensures promised { (w : NodeView) → RunsTo J.start self.now.steps w → Promises w }
     {
         self.left.journal.is_run();
     }

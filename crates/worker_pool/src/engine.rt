@@ -82,7 +82,7 @@ where
         workers: usize,
         gate: G,
     ) -> Result<(Engine<J, G, D, P>, Vec<Session<J, G, D, P>>), Refusal>
-        requires named { IsNamed opened J.entries J.marks J.names J.sessions }
+        requires named { IsNamed opened J.start J.entries J.marks J.names J.sessions }
         requires some { 0 < workers }
         ensures refused { IfErr result IsOutage }
         ensures fresh { IfOk result (λ made. AllByRecursion (IsFresh J.marks) made.1.items) }

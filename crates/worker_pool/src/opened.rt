@@ -1,7 +1,9 @@
 //! What an engine is made of before it has a name.
-ghost use Rattle.std.specs.Prelude.{◌≡◌, ◌≤◌, All, length, map, vec_len, IfOk, IfErr};
+ghost use Rattle.std.specs.Prelude.{◌≡◌, ◌≤◌, [], All, length, map, vec_len, IfOk, IfErr};
 ghost use Rattle.std.specs.List.{AllByRecursion};
 ghost use Rattle.marks.specs.Seen.{reader};
+ghost use Rattle.world.specs.Node.{fresh_node};
+ghost use Rattle.pool_journal.specs.Steps.{node_at};
 ghost use Rattle.worker_pool.specs.Opened.{IsReader};
 
 use boxcar::Vec as Row;
@@ -12,7 +14,7 @@ use stable::{CrashLog, CrashPages, MemLog, MemPages};
 use std::alloc::{AllocError, Global};
 use std::marker::Model;
 use tie::{Book, Mark};
-use world::{DcSide, TcSide};
+use world::{DcSide, TcSide, World};
 
 /// The most sessions that an engine has.
 const MOST: usize = 8;
@@ -84,22 +86,37 @@ impl<D: CrashLog, P: CrashPages> Model for Opened<D, P> {
     ghost use Rattle.std.specs.Coded.{codes};
     ghost use Rattle.atomic_table.specs.Seated.{table_id_coded};
     ghost use Rattle.boxcar.specs.Table.{shelves_coded};
+    ghost use Rattle.record_key.specs.Table.{table_code};
+    ghost use Rattle.system_txn.specs.SystemView.{pages_code};
     ghost use Rattle.worker_pool.specs.Opened.{OpenedView, opened_as, IsOpened};
 
     ghost Value = { OpenedView };
 
-    ghost coded = { Prim.hlevel (codes, shelves_coded, table_id_coded) };
+    ghost coded = { Prim.hlevel (codes, shelves_coded, table_id_coded, table_code, pages_code) };
 
-    ghost view = { λ o. opened_as o.start.value.row o.start.value.marks o.start.value.tc o.start.value.dc
-        o.start.value.chairs.items };
+    ghost view = { λ o. opened_as (record { tc = o.start.value.transactions; dc = o.start.value.data })
+        o.start.value.row o.start.value.marks o.start.value.tc o.start.value.dc o.start.value.chairs.items };
 
     ghost invariant = { λ o. IsOpened o.start.value.marks o.start.value.seat o.start.value.chairs.items
-        o.start.value.transactions o.start.value.data };
+        (record { tc = o.start.value.transactions; dc = o.start.value.data }) };
 }
 
 impl Opened<MemLog, MemPages> {
-    /// For so many sessions, at most 8, over devices in memory. Refused Full, NoMemory.
+    /// For so many sessions, at most 8, over a new node with devices in memory. Refused Full, NoMemory.
     pub fn new(alloc: Global, sessions: usize) -> Result<Opened, Refusal>
+        ensures start { IfOk result (λ opened. node_at opened.start ≡ fresh_node) }
+        ensures count { IfOk result (λ opened. length opened.sessions ≡ sessions) }
+        ensures within { IfOk result (λ opened. sessions ≤ 8) }
+    {
+        Opened::over(alloc, World::new(alloc)?, sessions)
+    }
+}
+
+impl<D: CrashLog + Drop, P: CrashPages + Drop> Opened<D, P> {
+    /// For so many sessions, at most 8, over a node in which nothing was sent yet. Refused Full, NoMemory.
+    pub fn over(alloc: Global, world: World<D, P>, sessions: usize) -> Result<Opened<D, P>, Refusal>
+        requires quiet { (world.requests ≡ []) × (world.replies ≡ []) }
+        ensures start { IfOk result (λ opened. node_at opened.start ≡ world) }
         ensures count { IfOk result (λ opened. length opened.sessions ≡ sessions) }
         ensures within { IfOk result (λ opened. sessions ≤ 8) }
     {
@@ -109,7 +126,7 @@ impl Opened<MemLog, MemPages> {
         let row = Row::new(alloc)?;
         let (marks, seat, readers) = Marks::new(alloc, sessions)?;
         let chairs = chairs(alloc, &marks, readers)?;
-        let data = DcSide::new(alloc)?;
+        let (transactions, data) = world.parted();
         let start = Start {
             alloc,
             row,
@@ -118,7 +135,7 @@ impl Opened<MemLog, MemPages> {
             tc: Ends::open(),
             dc: Ends::open(),
             chairs,
-            transactions: TcSide::new(alloc),
+            transactions,
             data,
         };
         Ok(Opened {

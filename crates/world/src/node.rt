@@ -50,9 +50,7 @@ impl<D: CrashLog, P: CrashPages> Node<D, P> {
             replies: Sent::new(alloc),
         }
     }
-}
 
-impl<D: CrashLog, P: CrashPages> Node<D, P> {
     /// One event.
     pub fn step(&mut self, event: &Event) -> Out
         requires { IsKept (seen self.old) }

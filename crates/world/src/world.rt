@@ -1,5 +1,5 @@
 //! The world: a node, one event at a time.
-ghost use Rattle.std.specs.Prelude.{◌≡◌, ◌<◌, ◌↔◌, true, false, IsTrue, length, get_or, MatchOption, Some, None, OnOk, OnErr, IfOk, IfErr, if◌then◌else◌};
+ghost use Rattle.std.specs.Prelude.{◌≡◌, ◌<◌, ◌↔◌, true, false, [], IsTrue, length, get_or, MatchOption, Some, None, OnOk, OnErr, IfOk, IfErr, if◌then◌else◌};
 ghost use Rattle.std.specs.FinMap.{entries};
 ghost use Rattle.history.specs.Log.{record_at};
 ghost use Rattle.history.specs.ListMachine.{fresh};
@@ -7,6 +7,7 @@ ghost use Rattle.page.specs.Leaf.{first};
 ghost use Rattle.btree.specs.Leaves.{rows_of};
 ghost use Rattle.dc_core.specs.DcView.{leaves};
 ghost use Rattle.tc_core.specs.Causes.{begin_refusal};
+ghost use Rattle.world.specs.Halves.{node_of};
 ghost use Rattle.world.specs.Node.{fresh_node, joined, if_up};
 ghost use Rattle.world.specs.Simulation.{Stands};
 ghost use Rattle.world.specs.Stepping.{IsStep};
@@ -80,6 +81,22 @@ impl<D: CrashLog, P: CrashPages> World<D, P> {
         World {
             node: Node::of(alloc, TcSide::of(alloc, tc), DcSide::of(alloc, dc)),
         }
+    }
+
+    /// The two components apart, where nothing was sent between them yet. What holds of the node is handed on with them.
+    pub fn parted(self) -> (TcSide<D>, DcSide<D, P>)
+        requires quiet { (self.requests ≡ []) × (self.replies ≡ []) }
+        ensures node { self ≡ node_of result.0 result.1 [] [] }
+        ensures kept { IsKept (node_of result.0 result.1 [] []) }
+    {
+        let World { node } = self;
+        let Node {
+            tc,
+            dc,
+            requests: _,
+            replies: _,
+        } = node;
+        (tc, dc)
     }
 
     /// One event. What it came to and what it left are what the components' contracts say. Whatever list machine the

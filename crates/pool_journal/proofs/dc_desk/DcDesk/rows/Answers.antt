@@ -7,21 +7,21 @@ use Rattle.pool_journal.proofs.dc_desk.DcDesk.rows.Goals as goal
 pub invariant_of-self : goal.invariant_of-self
 invariant_of-self g c =
     let s = c.self.inside in let look = c.look_dc.ensures in
-    dc_kept_on g.J.Naming.names s.visitor c.look_dc.new.visitor _ c.self.invariant
+    dc_kept_on g.J.Naming.start g.J.Naming.names s.visitor c.look_dc.new.visitor _ c.self.invariant
     (ap (λ (x : View). x.name) look.visitor)
     (subst (λ (x : View). Sees is_dc s.visitor.steps x.steps) (sym look.visitor) look.sees)
 
 pub invariant_of-self-in_err-rows : goal.invariant_of-self-in_err-rows
 invariant_of-self-in_err-rows g c =
     let s = c.self.inside in let look = c.look_dc.ensures in
-    dc_kept_on g.J.Naming.names s.visitor c.look_dc.new.visitor _ c.self.invariant
+    dc_kept_on g.J.Naming.start g.J.Naming.names s.visitor c.look_dc.new.visitor _ c.self.invariant
     (ap (λ (x : View). x.name) look.visitor)
     (subst (λ (x : View). Sees is_dc s.visitor.steps x.steps) (sym look.visitor) look.sees)
 
 pub invariant_of-self-2 : goal.invariant_of-self-2
 invariant_of-self-2 g c =
     let s = c.self.inside in let look = c.look_dc.ensures in
-    dc_kept_on g.J.Naming.names s.visitor c.look_dc.new.visitor _ c.self.invariant
+    dc_kept_on g.J.Naming.start g.J.Naming.names s.visitor c.look_dc.new.visitor _ c.self.invariant
     (ap (λ (x : View). x.name) look.visitor)
     (subst (λ (x : View). Sees is_dc s.visitor.steps x.steps) (sym look.visitor) look.sees)
 

@@ -12,7 +12,7 @@ use Rattle.pool_journal.proofs.dc_desk.DcDesk.serve.Goals as goal
 pub invariant_of-self : goal.invariant_of-self
 invariant_of-self g c =
     let s = c.self.inside in let look = c.look_request.ensures in
-    dc_kept_on g.J.Naming.names s.visitor c.look_request.new.visitor _ c.self.invariant
+    dc_kept_on g.J.Naming.start g.J.Naming.names s.visitor c.look_request.new.visitor _ c.self.invariant
     (ap (λ (x : View). x.name) look.visitor)
     (subst (λ (x : View). Sees is_dc s.visitor.steps x.steps) (sym look.visitor) look.sees)
 
@@ -22,7 +22,7 @@ stepped-step-requires-clause-may g c =
     let found : c.in_ok-sent.sent.value.step.value.sent ≡ option_copied c.sent-request.result =
     ap (λ (x : Entry). x.step.value.sent) (sym c.value.ensures) ∙ sym c.sent-request.ensures in (
       subst (IsInNode s.side (event.Request c.args.number)) found
-          (in_node_with _ s.side c.args.number _ c.look_request.ensures.run c.in_ok-sent.ensures.sent),
+          (in_node_with g.J.Naming.start _ s.side c.args.number _ c.look_request.ensures.run c.in_ok-sent.ensures.sent),
       subst IsSpelledIf found c.in_ok-sent.ensures.spelled,
     )
 
@@ -38,7 +38,7 @@ enter_dc-requires-clause-enters g c =
     (sym look.visitor)
     c.in_ok-sent.ensures.sent) in (
       _,
-      dc_goes_with s.visitor.steps v.steps s.side c.stepped-step.new.side s.given c.stepped-step.result.1
+      dc_goes_with g.J.Naming.start s.visitor.steps v.steps s.side c.stepped-step.new.side s.given c.stepped-step.result.1
           c.stepped-step.result.0.value c.args.number (option_copied c.sent-request.result)
           (subst (λ (x : View). Sees is_dc s.visitor.steps x.steps) (sym look.visitor) look.sees) c.self.invariant.gives
           e.event by e.leads e.given e.none,
@@ -55,7 +55,7 @@ invariant_of-self-2 g c =
     (subst (λ (x : View). IsSentBy (requests x.steps) c.args.number c.in_ok-sent.sent.value.step.value.sent)
     (sym look.visitor)
     c.in_ok-sent.ensures.sent) in
-    let enters = dc_goes_with s.visitor.steps v.steps s.side c.stepped-step.new.side s.given c.stepped-step.result.1
+    let enters = dc_goes_with g.J.Naming.start s.visitor.steps v.steps s.side c.stepped-step.new.side s.given c.stepped-step.result.1
     c.stepped-step.result.0.value c.args.number (option_copied c.sent-request.result)
     (subst (λ (x : View). Sees is_dc s.visitor.steps x.steps) (sym look.visitor) look.sees) c.self.invariant.gives
     e.event by e.leads e.given e.none in

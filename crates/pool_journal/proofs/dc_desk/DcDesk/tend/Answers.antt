@@ -10,16 +10,16 @@ pub enter_dc-requires-clause-enters : goal.enter_dc-requires-clause-enters
 enter_dc-requires-clause-enters g c =
     let s = c.self.inside in let n : DcState = record { side = c.tended-out.new.side; given = s.given } in (
       n,
-      subst (λ (x : Step). EntersDc s.visitor.steps x n) (sym (c.boxed-step.ensures ∙ c.new.ensures))
-          (tending_enters s.visitor.steps s.side c.tended-out.new.side s.given c.tended-out.result
+      subst (λ (x : Step). EntersDc g.J.Naming.start s.visitor.steps x n) (sym (c.boxed-step.ensures ∙ c.new.ensures))
+          (tending_enters g.J.Naming.start s.visitor.steps s.side c.tended-out.new.side s.given c.tended-out.result
           c.self.invariant.gives c.tended-out.ensures.leads),
     )
 
 pub invariant_of-self-2 : goal.invariant_of-self-2
 invariant_of-self-2 g c =
     let s = c.self.inside in let n : DcState = record { side = c.tended-out.new.side; given = s.given } in
-    let enters = subst (λ (x : Step). EntersDc s.visitor.steps x n) (sym (c.boxed-step.ensures ∙ c.new.ensures))
-    (tending_enters s.visitor.steps s.side c.tended-out.new.side s.given c.tended-out.result c.self.invariant.gives
+    let enters = subst (λ (x : Step). EntersDc g.J.Naming.start s.visitor.steps x n) (sym (c.boxed-step.ensures ∙ c.new.ensures))
+    (tending_enters g.J.Naming.start s.visitor.steps s.side c.tended-out.new.side s.given c.tended-out.result c.self.invariant.gives
     c.tended-out.ensures.leads) in
     record {
       name = ap (λ (v : View). v.name) c.enter_dc.ensures.visitor ∙ c.self.invariant.name;

@@ -7,7 +7,7 @@ use Rattle.pool_journal.proofs.dc_desk.DcDesk.turn.Goals as goal
 
 pub stepped-step-requires-clause-may : goal.stepped-step-requires-clause-may
 stepped-step-requires-clause-may g c =
-    c.requires.may c.self.inside.side (in_node _ c.self.inside.side c.args.event c.requires.alone c.look_dc.ensures.run)
+    c.requires.may c.self.inside.side (in_node g.J.Naming.start _ c.self.inside.side c.args.event c.requires.alone c.look_dc.ensures.run)
 
 pub enter_dc-requires-clause-enters : goal.enter_dc-requires-clause-enters
 enter_dc-requires-clause-enters g c =
@@ -15,8 +15,8 @@ enter_dc-requires-clause-enters g c =
     let sees : Sees is_dc s.visitor.steps v.steps =
     subst (λ (x : View). Sees is_dc s.visitor.steps x.steps) (sym c.look_dc.ensures.visitor) c.look_dc.ensures.sees in (
       _,
-      dc_goes_alone v.steps s.side c.stepped-step.new.side s.given c.stepped-step.result.1
-          c.stepped-step.result.0.value c.args.event (dc_on s.visitor.steps v.steps _ sees c.self.invariant.gives) e.event
+      dc_goes_alone g.J.Naming.start v.steps s.side c.stepped-step.new.side s.given c.stepped-step.result.1
+          c.stepped-step.result.0.value c.args.event (dc_on g.J.Naming.start s.visitor.steps v.steps _ sees c.self.invariant.gives) e.event
           c.requires.alone e.leads e.given e.none,
     )
 
@@ -25,8 +25,8 @@ invariant_of-self g c =
     let s = c.self.inside in let e = c.stepped-step.ensures in let v = c.look_dc.new.visitor in
     let sees : Sees is_dc s.visitor.steps v.steps =
     subst (λ (x : View). Sees is_dc s.visitor.steps x.steps) (sym c.look_dc.ensures.visitor) c.look_dc.ensures.sees in
-    let enters = dc_goes_alone v.steps s.side c.stepped-step.new.side s.given c.stepped-step.result.1
-    c.stepped-step.result.0.value c.args.event (dc_on s.visitor.steps v.steps _ sees c.self.invariant.gives) e.event
+    let enters = dc_goes_alone g.J.Naming.start v.steps s.side c.stepped-step.new.side s.given c.stepped-step.result.1
+    c.stepped-step.result.0.value c.args.event (dc_on g.J.Naming.start s.visitor.steps v.steps _ sees c.self.invariant.gives) e.event
     c.requires.alone e.leads e.given e.none in
     record {
       name = ap (λ (x : View). x.name) c.enter_dc.ensures.visitor ∙ ap (λ (x : View). x.name) c.look_dc.ensures.visitor

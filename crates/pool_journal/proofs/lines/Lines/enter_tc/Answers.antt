@@ -20,12 +20,12 @@ invariant_of-self g c =
     let e = c.args.step.value in
     let before : p.value.before.steps ≡ steps s.tokens.items =
     ap (λ (x : Entry). x.before.steps) c.pushed-token.ensures.value ∙ c.traced-before.ensures
-    ∙ last_seen J.entries J.names s.tokens.items s.asked.items s.given.items s.tc s.dc k c.last_of-last.result
+    ∙ last_seen J.start J.entries J.names s.tokens.items s.asked.items s.given.items s.tc s.dc k c.last_of-last.result
     (c.last_of-last.ensures ∙ ap (λ (xs : List Slot). last_of xs) (c.deref.ensures.value
     ∙ c.make_room.ensures.items)) in
-    let enters : EntersTc s.tc.steps e c.requires.enters.0 =
-    subst (λ (v : View). EntersTc v.steps e c.requires.enters.0) (sym c.meet.ensures.same) c.requires.enters.1 in
-    tc_enters J.entries J.names s.tokens.items s.asked.items s.given.items c.push_if-2.new.list.items
+    let enters : EntersTc g.J.Naming.start s.tc.steps e c.requires.enters.0 =
+    subst (λ (v : View). EntersTc g.J.Naming.start v.steps e c.requires.enters.0) (sym c.meet.ensures.same) c.requires.enters.1 in
+    tc_enters J.start J.entries J.names s.tokens.items s.asked.items s.given.items c.push_if-2.new.list.items
     c.push_if.new.list.items s.tc s.dc c.meet-2.new.self p e k
     (subst (λ (r : Shelves). Shown r p) c.requires.row c.pushed-token.ensures.shown)
     (ap (λ (x : Entry). x.step.value) c.pushed-token.ensures.value) before c.requires.tc c.requires.enters.0 enters
@@ -48,18 +48,18 @@ returns-clause-gives g c n enters =
     let e = c.args.step.value in
     let before : p.value.before.steps ≡ steps s.tokens.items =
     ap (λ (x : Entry). x.before.steps) c.pushed-token.ensures.value ∙ c.traced-before.ensures
-    ∙ last_seen J.entries J.names s.tokens.items s.asked.items s.given.items s.tc s.dc k c.last_of-last.result
+    ∙ last_seen J.start J.entries J.names s.tokens.items s.asked.items s.given.items s.tc s.dc k c.last_of-last.result
     (c.last_of-last.ensures ∙ ap (λ (xs : List Slot). last_of xs) (c.deref.ensures.value
     ∙ c.make_room.ensures.items)) in
     let all : through p.value ≡ steps s.tokens.items ++ e ∷ [] =
-    through_is J.entries J.names s.tokens.items p e (ap (λ (x : Entry). x.step.value) c.pushed-token.ensures.value) before in
-    let enters' : EntersTc s.tc.steps e n =
-    subst (λ (v : View). EntersTc v.steps e n) (sym c.meet.ensures.same) enters in
+    through_is J.start J.entries J.names s.tokens.items p e (ap (λ (x : Entry). x.step.value) c.pushed-token.ensures.value) before in
+    let enters' : EntersTc g.J.Naming.start s.tc.steps e n =
+    subst (λ (v : View). EntersTc g.J.Naming.start v.steps e n) (sym c.meet.ensures.same) enters in
     let now : c.meet-2.new.visitor.steps ≡ steps s.tokens.items ++ e ∷ [] =
     ap (λ (v : View). v.steps) (c.meet-2.ensures.visitor ∙ c.meet-2.ensures.party)
     ∙ ap (λ (x : Slot). through x.value) c.again.ensures ∙ all in
-    subst (λ (es : List Step). GivesTc es n) (sym now)
-    (tc_entered s.tc.steps (steps s.tokens.items) e n c.requires.tc k.tc_sees enters')
+    subst (λ (es : List Step). GivesTc g.J.Naming.start es n) (sym now)
+    (tc_entered g.J.Naming.start s.tc.steps (steps s.tokens.items) e n c.requires.tc k.tc_sees enters')
 
 pub returns-clause-sees : goal.returns-clause-sees
 returns-clause-sees g c =

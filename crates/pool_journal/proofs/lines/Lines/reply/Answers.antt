@@ -12,7 +12,7 @@ pub returns-clause-shown : goal.returns-clause-shown
 returns-clause-shown g c =
     let s = c.self.inside in
     on_ok c.numbered.result
-    (λ p at. (reply_found g.J.Naming.entries g.J.Naming.names s.tokens.items s.asked.items s.given.items s.tc s.dc
+    (λ p at. (reply_found g.J.Naming.start g.J.Naming.entries g.J.Naming.names s.tokens.items s.asked.items s.given.items s.tc s.dc
     c.args.number p c.self.invariant (ap (λ (ms : List Slot). message_at ms c.args.number)
     (sym c.deref.ensures.value) ∙ at)).0)
     c.numbered.ensures.found
@@ -22,7 +22,7 @@ returns-clause-given g c =
     let s = c.self.inside in
     on_ok c.numbered.result
     (λ p at. subst (λ (es : List Step). IsSentBy (replies es) c.args.number p.value.step.value.given) c.self.view_is
-    (reply_found g.J.Naming.entries g.J.Naming.names s.tokens.items s.asked.items s.given.items s.tc s.dc
+    (reply_found g.J.Naming.start g.J.Naming.entries g.J.Naming.names s.tokens.items s.asked.items s.given.items s.tc s.dc
     c.args.number p c.self.invariant (ap (λ (ms : List Slot). message_at ms c.args.number)
     (sym c.deref.ensures.value) ∙ at)).1)
     c.numbered.ensures.found

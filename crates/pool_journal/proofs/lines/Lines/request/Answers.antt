@@ -12,7 +12,7 @@ pub returns-clause-shown : goal.returns-clause-shown
 returns-clause-shown g c =
     let s = c.self.inside in
     on_ok c.numbered.result
-    (λ p at. (request_found g.J.Naming.entries g.J.Naming.names s.tokens.items s.asked.items s.given.items s.tc s.dc
+    (λ p at. (request_found g.J.Naming.start g.J.Naming.entries g.J.Naming.names s.tokens.items s.asked.items s.given.items s.tc s.dc
     c.args.number p c.self.invariant (ap (λ (ms : List Slot). message_at ms c.args.number)
     (sym c.deref.ensures.value) ∙ at)).0)
     c.numbered.ensures.found
@@ -22,7 +22,7 @@ returns-clause-sent g c =
     let s = c.self.inside in
     on_ok c.numbered.result
     (λ p at. subst (λ (es : List Step). IsSentBy (requests es) c.args.number p.value.step.value.sent) c.self.view_is
-    (request_found g.J.Naming.entries g.J.Naming.names s.tokens.items s.asked.items s.given.items s.tc s.dc
+    (request_found g.J.Naming.start g.J.Naming.entries g.J.Naming.names s.tokens.items s.asked.items s.given.items s.tc s.dc
     c.args.number p c.self.invariant (ap (λ (ms : List Slot). message_at ms c.args.number)
     (sym c.deref.ensures.value) ∙ at)).1)
     c.numbered.ensures.found
@@ -31,7 +31,7 @@ pub returns-clause-spelled : goal.returns-clause-spelled
 returns-clause-spelled g c =
     let s = c.self.inside in
     on_ok c.numbered.result
-    (λ p at. (request_found g.J.Naming.entries g.J.Naming.names s.tokens.items s.asked.items s.given.items s.tc s.dc
+    (λ p at. (request_found g.J.Naming.start g.J.Naming.entries g.J.Naming.names s.tokens.items s.asked.items s.given.items s.tc s.dc
     c.args.number p c.self.invariant (ap (λ (ms : List Slot). message_at ms c.args.number)
     (sym c.deref.ensures.value) ∙ at)).2)
     c.numbered.ensures.found

@@ -11,7 +11,7 @@ pub call-requires-clause-enters : goal.call-requires-clause-enters
 call-requires-clause-enters g c =
     let s = c.self.inside in let e = c.stepped-step.ensures in (
       _,
-      tc_goes_alone s.visitor.steps s.side c.stepped-step.new.side s.sent c.stepped-step.result.1
+      tc_goes_alone g.J.Naming.start s.visitor.steps s.side c.stepped-step.new.side s.sent c.stepped-step.result.1
           c.stepped-step.result.0.value c.args.event c.self.invariant.gives e.event c.requires.plain e.leads e.sent e.none,
     )
 
@@ -33,7 +33,7 @@ pub invariant_of-self : goal.invariant_of-self
 invariant_of-self g c =
     let s = c.self.inside in let e = c.stepped-step.ensures in
     let said = c.call.ensures in let marked = c.mark.ensures in
-    let enters = tc_goes_alone s.visitor.steps s.side c.stepped-step.new.side s.sent c.stepped-step.result.1
+    let enters = tc_goes_alone g.J.Naming.start s.visitor.steps s.side c.stepped-step.new.side s.sent c.stepped-step.result.1
     c.stepped-step.result.0.value c.args.event c.self.invariant.gives e.event c.requires.plain e.leads e.sent e.none in
     record {
       name = ap (λ (v : View). v.name) said.visitor ∙ c.self.invariant.name;

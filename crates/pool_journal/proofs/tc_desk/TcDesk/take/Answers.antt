@@ -16,7 +16,7 @@ use Rattle.pool_journal.proofs.tc_desk.TcDesk.take.Goals as goal
 pub invariant_of-self : goal.invariant_of-self
 invariant_of-self g c =
     let s = c.self.inside in let look = c.look_reply.ensures in
-    tc_kept_on g.J.Naming.names g.J.Naming.marks s.visitor c.look_reply.new.visitor _ s.seat c.self.invariant
+    tc_kept_on g.J.Naming.start g.J.Naming.names g.J.Naming.marks s.visitor c.look_reply.new.visitor _ s.seat c.self.invariant
     (ap (λ (x : View). x.name) look.visitor)
     (subst (λ (x : View). Sees is_tc s.visitor.steps x.steps) (sym look.visitor) look.sees)
 
@@ -30,7 +30,7 @@ enter_tc-requires-clause-enters g c =
     ap (λ (x : Entry). x.step.value.given) (sym c.value.ensures) ∙ sym c.given-2.ensures ∙ ap option_copied c.in-Some.is
     ∙ ap (λ (r : Reply). Some r) (sym c.copy-reply.ensures) in (
       _,
-      tc_goes_with s.visitor.steps v.steps s.side c.stepped-step.new.side s.sent c.stepped-step.result.1
+      tc_goes_with g.J.Naming.start s.visitor.steps v.steps s.side c.stepped-step.new.side s.sent c.stepped-step.result.1
           c.stepped-step.result.0.value c.args.number _ c.copy-reply.result
           (subst (λ (x : View). Sees is_tc s.visitor.steps x.steps) (sym look.visitor) look.sees) c.self.invariant.gives
           e.event by has e.leads e.sent e.none,
@@ -64,7 +64,7 @@ invariant_of-self-2 g c =
     let has : c.in_ok-given.given.value.step.value.given ≡ Some c.copy-reply.result =
     ap (λ (x : Entry). x.step.value.given) (sym c.value.ensures) ∙ sym c.given-2.ensures ∙ ap option_copied c.in-Some.is
     ∙ ap (λ (r : Reply). Some r) (sym c.copy-reply.ensures) in
-    let enters = tc_goes_with s.visitor.steps v.steps s.side c.stepped-step.new.side s.sent c.stepped-step.result.1
+    let enters = tc_goes_with g.J.Naming.start s.visitor.steps v.steps s.side c.stepped-step.new.side s.sent c.stepped-step.result.1
     c.stepped-step.result.0.value c.args.number _ c.copy-reply.result
     (subst (λ (x : View). Sees is_tc s.visitor.steps x.steps) (sym look.visitor) look.sees) c.self.invariant.gives
     e.event by has e.leads e.sent e.none in

@@ -8,11 +8,11 @@ use Rattle.worker_pool.proofs.closed.Closed.kept.Goals as goal
 
 pub returns-clause-run : goal.returns-clause-run
 returns-clause-run g c =
-    subst (λ (v : ClosedView). IsRun v.steps) c.self.view_is
-    (subst (λ (es : List Step). IsRun es) (λ i. (c.deref.ensures i).journal) c.is_run.ensures)
+    subst (λ (v : ClosedView). IsRun g.J.Naming.start v.steps) c.self.view_is
+    (subst (λ (es : List Step). IsRun g.J.Naming.start es) (λ i. (c.deref.ensures i).journal) c.is_run.ensures)
 
 pub returns-clause-rows : goal.returns-clause-rows
-returns-clause-rows g c = subst (λ (v : ClosedView). EndsWith v.steps v.rows) c.self.view_is c.self.invariant
+returns-clause-rows g c = subst (λ (v : ClosedView). EndsWith g.J.Naming.start v.steps v.rows) c.self.view_is c.self.invariant
 
 pub returns-clause-promised : goal.returns-clause-promised
 returns-clause-promised g c w runs = promised w runs.kept
