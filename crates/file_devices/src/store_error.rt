@@ -4,22 +4,28 @@ use thiserror::Error;
 
 #[derive(Clone, Copy, Debug, Error)]
 pub enum StoreError {
+    /// Another opening of the store lives, in this process or another.
     #[error("the store is in use: another opening holds the lock of its file `store`")]
     Locked,
+    /// The folder has other files and no file `store`, or one whose text is no more than begun.
     #[error("the folder is no store: it has other files, and no file `store` of one")]
     NotAStore,
+    /// The file `store` has another text, or is no more than begun beside a log that isn't empty.
     #[error("the file `store` is of another format or version: it isn't `jakumshe store 1`")]
     Version,
+    /// A block of the log's file isn't what was written. It begins at this byte of the file, the first one being 0.
     #[error("the store's file `log`: the block at byte {place} isn't what was written there")]
     Damaged {
         place: u64,
     },
+    /// The system refused a call: what was tried, of which file, and what the system answered.
     #[error("cannot {tried} {file}: {cause}")]
     Io {
         tried: Tried,
         file: StoreFile,
         cause: io::Error,
     },
+    /// The log doesn't fit into memory, or the system has none left.
     #[error("out of memory")]
     NoMemory,
 }

@@ -1,11 +1,13 @@
--- The oldest records of a log, so many.
-use Rattle.std.proofs.Common.{◌≡◌, ℕ, suc, ◌+◌, ◌-◌, ◌<◌, ◌≤◌, List, [], ◌∷◌, length, drop, Some, refl, sym, ap, ◌∙◌, arith, inl, inr}
+-- The oldest records of a log, so many, and what the next one finds.
+use Rattle.std.proofs.Common.{◌≡◌, ℕ, suc, ◌+◌, ◌-◌, ◌<◌, ◌≤◌, List, [], ◌∷◌, length, drop, Some, refl, sym, ap, ◌∙◌, subst, arith, inl, inr}
 use Rattle.std.proofs.lemmas.Bool.{cases_eq}
 use Rattle.history.specs.declared.record.Record.{Record}
 use Rattle.history.specs.declared.record.Record.TheVariants as is
 use Rattle.history.specs.Log.{record_at, before}
-use Rattle.log_laws.proofs.Records.{newest_at, older_at, before_old, before_new, within}
+use Rattle.history.specs.Values.{HasRightAnswers}
+use Rattle.log_laws.proofs.Records.{newest_at, older_at, before_old, before_new}
 use Rattle.logical_log.specs.Low.{stable_part}
+use Rattle.node_store.specs.Opening.{HasNoCheckpoint, IsFirst}
 
 -- of a longer log they are the same
 part_longer : (q : Record) (log : List Record) (n : ℕ) → n ≤ length log
@@ -52,10 +54,28 @@ before_is (q ∷ log) n lt =
           ∙ before_is log n (omega (arith, lt, e)) ∙ sym (part_longer q log n (omega (arith, lt, e)))
     ]
 
--- no checkpoint stands among them
-abbrev pub HasNoneTo : List Record → ℕ → Type 0
-HasNoneTo log n = (m low : ℕ) → m ≤ n → record_at log m ≡ Some (is.Checkpoint low) → ⊥
+-- ---- what is fit
 
-pub none_to_zero : (log : List Record) → HasNoneTo log 0
-none_to_zero log m low le at =
-    let number = within (λ r. r ≡ Some (is.Checkpoint low)) (λ none. cc) log m at in omega (arith, number.positive, le)
+pub none_checked : HasNoCheckpoint []
+none_checked n low at = cc
+
+-- with a record more that is of no checkpoint
+pub still_none : (r : Record) (log : List Record) → ((low : ℕ) → r ≡ is.Checkpoint low → ⊥) → HasNoCheckpoint log
+    → HasNoCheckpoint (r ∷ log)
+still_none r log plain none n low at =
+    elim (cases_eq n (length log + 1)) [
+      | inl e ↦
+          let both : Some r ≡ Some (is.Checkpoint low) = newest_at (λ x. x ≡ Some (is.Checkpoint low)) r log n e at in
+          plain low cc
+      | inr e ↦ none n low (older_at (λ x. x ≡ Some (is.Checkpoint low)) r log n e at)
+    ]
+
+-- the record after those that were read, which are fit
+pub first_at : (log read : List Record) (n : ℕ) (r : Record) → n < length log → read ≡ stable_part log n
+    → HasRightAnswers read → HasNoCheckpoint read → record_at log (n + 1) ≡ Some r → IsFirst log (n + 1) r
+first_at log read n r lt is_part right none at =
+    let same : read ≡ before log (n + 1) = is_part ∙ sym (before_is log n lt) in
+    record {
+      stands = at;
+      fit = record { right = subst HasRightAnswers same right; unchecked = subst HasNoCheckpoint same none };
+    }

@@ -1,4 +1,4 @@
--- Why a log isn't opened.
+-- Which logs a node is made of, and why one isn't opened.
 use Rattle.std.specs.Prelude.{◌≡◌, ℕ, List, ◌∷◌, Some}
 use Rattle.record_key.specs.declared.refusal.Refusal.TheVariants.{NoMemory}
 use Rattle.history.specs.declared.record.Record.{Record}
@@ -6,29 +6,48 @@ use Rattle.history.specs.declared.record.Record.TheVariants as is
 use Rattle.history.specs.Log.{record_at, before}
 use Rattle.history.specs.Values.{HasRightAnswers}
 use Rattle.logical_log.specs.Opening.{IsLogOf, RefusesOpen}
-use Rattle.node_store.specs.declared.unopened.Unopened.{Unopened}
-use Rattle.node_store.specs.declared.unopened.Unopened.TheVariants as no
+use Rattle.node_store.specs.declared.unopened.Cause.{Cause}
+use Rattle.node_store.specs.declared.unopened.Cause.TheVariants as no
 
--- the answers before the record of this number are right, and with it they aren't
-pub record IsFirstWrong (log : List Record) (n : ℕ) : Type 0 where
-  pub next : Record
+-- no record of it is of a checkpoint
+abbrev pub HasNoCheckpoint : List Record → Type 0
+HasNoCheckpoint log = (n low : ℕ) → record_at log n ≡ Some (is.Checkpoint low) → ⊥
+
+-- a node may be made of it: each answer is what its operation gets, and no checkpoint stands in it
+pub record IsFit (log : List Record) : Type 0 where
+  pub right : HasRightAnswers log
+  pub unchecked : HasNoCheckpoint log
+
+-- the record of this number is the next one after records that are fit
+pub record IsFirst (log : List Record) (n : ℕ) (next : Record) : Type 0 where
   pub stands : record_at log n ≡ Some next
-  pub right : HasRightAnswers (before log n)
+  pub fit : IsFit (before log n)
+
+-- it is the first that is wrong, for with it the answers aren't right
+pub record IsWrong (log : List Record) (n : ℕ) : Type 0 where
+  pub next : Record
+  pub first : IsFirst log n next
   pub wrong : HasRightAnswers (next ∷ before log n) → ⊥
 
 -- why a legal log isn't taken
-abbrev pub IsWrongIn : List Record → Unopened → Type 0
+abbrev pub IsWrongIn : List Record → Cause → Type 0
 IsWrongIn log (no.Refused r) = r ≡ NoMemory
-IsWrongIn log (no.Checkpoint n) = (low : ℕ) × (record_at log n ≡ Some (is.Checkpoint low))
-IsWrongIn log (no.WrongAnswer n) = IsFirstWrong log n
+IsWrongIn log (no.Checkpoint n) = (low : ℕ) × IsFirst log n (is.Checkpoint low)
+IsWrongIn log (no.WrongAnswer n) = IsWrong log n
 
--- the bytes spell a log of which that holds
-pub record IsWrongOn (bytes : List ℕ) (why : Unopened) : Type 0 where
+-- the bytes spell a log that is fit
+pub record IsFitToRebuild (bytes : List ℕ) : Type 0 where
+  pub log : List Record
+  pub spelled : IsLogOf bytes log
+  pub fit : IsFit log
+
+-- the bytes spell a log that isn't taken for this
+pub record IsWrongOn (bytes : List ℕ) (why : Cause) : Type 0 where
   pub log : List Record
   pub spelled : IsLogOf bytes log
   pub wrong : IsWrongIn log why
 
 -- why a device isn't opened
-abbrev pub IsRefusedFor : List ℕ → Unopened → Type 0
+abbrev pub IsRefusedFor : List ℕ → Cause → Type 0
 IsRefusedFor bytes (no.Refused r) = RefusesOpen bytes r
 IsRefusedFor bytes why = IsWrongOn bytes why

@@ -1,37 +1,33 @@
 //! Whether a log may be rebuilt from: each answer is right, and no checkpoint stands in it.
-ghost use Rattle.std.specs.Prelude.{◌≡◌, OnOk, IfErr};
-ghost use Rattle.history.specs.Values.{HasRightAnswers};
-ghost use Rattle.node_store.specs.Opening.{IsWrongIn};
+ghost use Rattle.std.specs.Prelude.{OnOk, IfErr};
+ghost use Rattle.node_store.specs.Opening.{IsFit, IsWrongIn};
 
-use crate::unopened::Unopened;
+use crate::unopened::Cause;
 use history::Record;
 use log_replay::Replay;
-use stable::LogDevice;
+use logical_log::Frames;
 use std::alloc::Global;
-use tc_core::Tc;
 
-/// Reads the log from its first record on. Refused NoMemory, or for the first record that is wrong.
-pub fn judge<D: LogDevice>(alloc: Global, tc: &Tc<D>) -> Result<(), Unopened>
-    ensures right { OnOk result (HasRightAnswers tc.now.log) }
-    ensures unchecked { OnOk result (tc.now.checkpointed ≡ 0) }
-    ensures refused { IfErr result (IsWrongIn tc.now.log) }
+/// Reads the records from the first on. Refused NoMemory, or for the first record that is wrong.
+pub fn judge(alloc: Global, frames: &Frames) -> Result<(), Cause>
+    ensures fit { OnOk result (IsFit frames.now.records) }
+    ensures refused { IfErr result (IsWrongIn frames.now.records) }
 {
     let mut replay = Replay::new(alloc);
     let mut end = 0;
-    while end < tc.records() {
-        let Some(record) = tc.record(end + 1) else {
+    while end < frames.len() {
+        let Some(record) = frames.record(end + 1) else {
             unreachable!();
         };
         if let Record::Checkpoint { .. } = &record {
-            return Err(Unopened::Checkpoint(end + 1));
+            return Err(Cause::Checkpoint(end + 1));
         }
         match replay.take(&record) {
             Ok(true) => end += 1,
-            Ok(false) => return Err(Unopened::WrongAnswer(end + 1)),
-            Err(refusal) => return Err(Unopened::Refused(refusal)),
+            Ok(false) => return Err(Cause::WrongAnswer(end + 1)),
+            Err(refusal) => return Err(Cause::Refused(refusal)),
         }
     }
     replay.kept();
-    tc.kept();
     Ok(())
 }

@@ -2,8 +2,9 @@
 use record_key::Refusal;
 use thiserror::Error;
 
+/// Of records that are wrong the first one is named.
 #[derive(Debug, Clone, Copy, PartialEq, Eq, Error)]
-pub enum Unopened {
+pub enum Cause {
     /// NoMemory, Device, or BadBytes with the offset of the first frame that is bad, doesn't fit or has no number.
     #[error("the log isn't opened: {0}")]
     Refused(Refusal),
@@ -13,4 +14,11 @@ pub enum Unopened {
     /// The Answer record of this number holds another answer than its operation gets.
     #[error("record {0} of the log holds another answer than its operation gets")]
     WrongAnswer(u64),
+}
+
+/// The device of a log that isn't opened, with the bytes that it had, and why.
+#[derive(Debug, Drop)]
+pub struct Unopened<D> {
+    pub cause: Cause,
+    pub log: D,
 }

@@ -2,7 +2,7 @@
 use crate::files::FOLDER;
 use file_devices::{FileLog, NoPages, StoreError, open_store};
 use node_shell::{DONE, run_on};
-use node_store::{Unopened, open};
+use node_store::{Cause, open};
 use record_key::Refusal;
 use stable::{LogDevice, MemLog, MemPages};
 use std::fmt::Write;
@@ -12,7 +12,7 @@ use test_lines::put_refusal;
 #[derive(Clone, Copy)]
 pub enum Refused {
     Store(StoreError),
-    Node(Unopened),
+    Node(Cause),
 }
 
 /// Opens the store, runs the script on it, appends the script's text and closes it. Gives the exit status.
@@ -21,7 +21,7 @@ pub fn run_script(rt: &HostRuntime, script: &[u8], text: &mut Vec<u8>) -> Result
     match open_store(rt, FOLDER) {
         Ok(log) => match open(alloc, log, FileLog::volatile(alloc), NoPages::new()) {
             Ok(world) => Ok(run_on(alloc, world, true, &mut { script }, text)),
-            Err(why) => Err(Refused::Node(why)),
+            Err(left) => Err(Refused::Node(left.cause)),
         },
         Err(why) => Err(Refused::Store(why)),
     }
@@ -53,7 +53,7 @@ pub fn put_run_in_memory(
     let mut text = Vec::new(rt.alloc());
     match run_in_memory(rt, bytes, script, &mut text) {
         Ok(status) => put_text(&text, status, answer),
-        Err(why) => put_unopened(why, answer),
+        Err(cause) => put_unopened(cause, answer),
     }
 }
 
@@ -62,14 +62,16 @@ fn run_in_memory(
     bytes: &[u8],
     script: &[u8],
     text: &mut Vec<u8>,
-) -> Result<u8, Unopened> {
+) -> Result<u8, Cause> {
     let alloc = rt.alloc();
     let mut log = MemLog::new(alloc);
     if log.append(bytes).is_err() || log.force().is_err() {
-        return Err(Unopened::Refused(Refusal::NoMemory));
+        return Err(Cause::Refused(Refusal::NoMemory));
     }
-    let world = open(alloc, log, MemLog::new(alloc), MemPages::new(alloc))?;
-    Ok(run_on(alloc, world, true, &mut { script }, text))
+    match open(alloc, log, MemLog::new(alloc), MemPages::new(alloc)) {
+        Ok(world) => Ok(run_on(alloc, world, true, &mut { script }, text)),
+        Err(left) => Err(left.cause),
+    }
 }
 
 /// The lines of a text, and the exit status if it isn't 0.
@@ -84,7 +86,7 @@ fn put_text(text: &[u8], status: u8, answer: &mut String) -> Result<(), Refusal>
 fn put_why(why: Refused, answer: &mut String) -> Result<(), Refusal> {
     match why {
         Refused::Store(why) => put_store_error(why, answer),
-        Refused::Node(why) => put_unopened(why, answer),
+        Refused::Node(cause) => put_unopened(cause, answer),
     }
 }
 
@@ -113,12 +115,12 @@ pub fn put_store_error(why: StoreError, answer: &mut String) -> Result<(), Refus
     Ok(())
 }
 
-fn put_unopened(why: Unopened, answer: &mut String) -> Result<(), Refusal> {
-    match why {
-        Unopened::Refused(Refusal::NoMemory) => return Err(Refusal::NoMemory),
-        Unopened::Refused(refusal) => put_refusal(answer, refusal)?,
-        Unopened::Checkpoint(number) => write!(answer, "Checkpoint {number}")?,
-        Unopened::WrongAnswer(number) => write!(answer, "WrongAnswer {number}")?,
+fn put_unopened(cause: Cause, answer: &mut String) -> Result<(), Refusal> {
+    match cause {
+        Cause::Refused(Refusal::NoMemory) => return Err(Refusal::NoMemory),
+        Cause::Refused(refusal) => put_refusal(answer, refusal)?,
+        Cause::Checkpoint(number) => write!(answer, "Checkpoint {number}")?,
+        Cause::WrongAnswer(number) => write!(answer, "WrongAnswer {number}")?,
     }
     Ok(())
 }

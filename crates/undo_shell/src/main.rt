@@ -12,7 +12,7 @@ use clap::error::ErrorKind;
 use file_devices::{FileLog, NoPages, StoreError, StoreFile, Tried, open_store};
 use node_pictures::{draw, explain};
 use node_shell::{DONE, FAILED, FAULT, Stopping, Task, choose, refusal_of, refuse, run, run_on};
-use node_store::{Unopened, open};
+use node_store::{Cause, open};
 use pool_shell::pool;
 use record_key::Refusal;
 use std::alloc::Global;
@@ -68,7 +68,7 @@ where
             NoPages::new(),
         ) {
             Ok(world) => run_world(rt, continues, world),
-            Err(error) => print_unread(rt, folder, &error),
+            Err(left) => print_unread(rt, folder, &left.cause),
         },
         Err(error) => print_unopened(rt, folder, &error),
     }
@@ -104,13 +104,13 @@ fn print_unopened<R: Eprint>(rt: &R, folder: &str, error: &StoreError) -> u8 {
 }
 
 /// Prints to standard error why no node is made of a store's log.
-fn print_unread<R: Eprint>(rt: &R, folder: &str, error: &Unopened) -> u8 {
-    let status = match error {
-        Unopened::Refused(Refusal::NoMemory | Refusal::Device) => FAILED,
+fn print_unread<R: Eprint>(rt: &R, folder: &str, cause: &Cause) -> u8 {
+    let status = match cause {
+        Cause::Refused(Refusal::NoMemory | Refusal::Device) => FAILED,
         _ => FAULT,
     };
     let file = StoreFile::Log;
-    match eprintln!(rt; "undo_shell: {folder}: {file}: {error}") {
+    match eprintln!(rt; "undo_shell: {folder}: {file}: {cause}") {
         Ok(()) => status,
         Err(_) => FAILED,
     }
