@@ -8,8 +8,12 @@ use crate::draws::Values;
 use crate::measure::{Outcome, done};
 use crate::player::Player;
 use crate::quiet::Quiet;
+use file_devices::{FileLog, NoPages, open_store};
+use node_store::open;
 use record_key::Refusal;
+use stable::{CrashLog, CrashPages};
 use std::alloc::Global;
+use std::fs::{File, Files};
 use std::marker::Brand;
 use std::sync::Wait;
 use std::thread::Threads;
@@ -20,23 +24,45 @@ use worker_pool::{Engine, Naming, Opened, Session};
 /// How many threads serve the clients' requests.
 const WORKERS: usize = 4;
 
-/// A crew's work, from an engine's opening to its end.
+/// A crew's work, from an engine's opening to its end, over devices in memory.
 pub fn measured<R>(rt: R, alloc: Global, crew: Crew) -> io::Result<Outcome>
 where
     R: Clock + Threads + Wait + Copy + Send + Sync + 'static,
 {
     let opened = done(Opened::new(alloc, usize::from(CLIENTS)))?;
-    measured_in::<Brand, R>(rt, alloc, opened, crew)
+    measured_in::<Brand, _, _, R>(rt, alloc, opened, crew)
+}
+
+/// The same over the store of a folder.
+pub fn measured_on<R>(rt: R, alloc: Global, folder: &str, crew: Crew) -> io::Result<Outcome>
+where
+    R: Files<File = File> + AllocGlobal + Clock + Threads + Wait + Copy + Send + Sync + 'static,
+{
+    let Ok(log) = open_store(&rt, folder) else {
+        return Err(io::Error::from(io::ErrorKind::Other));
+    };
+    let Ok(world) = open(alloc, log, FileLog::volatile(alloc), NoPages::new()) else {
+        return Err(io::Error::from(io::ErrorKind::Other));
+    };
+    let opened = done(Opened::over(alloc, world, usize::from(CLIENTS)))?;
+    measured_in::<Brand, _, _, R>(rt, alloc, opened, crew)
 }
 
 /// The same with what an engine is made of.
-fn measured_in<J, R>(rt: R, alloc: Global, opened: Opened, crew: Crew) -> io::Result<Outcome>
+fn measured_in<J, D, P, R>(
+    rt: R,
+    alloc: Global,
+    opened: Opened<D, P>,
+    crew: Crew,
+) -> io::Result<Outcome>
 where
     J: Naming + Drop + Send + Sync + 'static,
+    D: CrashLog + Drop + Send + 'static,
+    P: CrashPages + Drop + Send + 'static,
     R: Clock + Threads + Wait + Copy + Send + Sync + 'static,
-    requires named { IsNamed opened J.entries J.marks J.names J.sessions }
+    requires named { IsNamed opened J.start J.entries J.marks J.names J.sessions }
 {
-    let (engine, sessions) = done(Engine::<J, Quiet>::new(rt, opened, WORKERS, Quiet))?;
+    let (engine, sessions) = done(Engine::<J, Quiet, D, P>::new(rt, opened, WORKERS, Quiet))?;
     let took = timed(&rt, alloc, sessions, crew);
     let closed = done(engine.close(&rt, Vec::new(alloc)))?;
     Ok(Outcome {
@@ -48,14 +74,16 @@ where
 }
 
 /// How long the work takes, without the load before it. No session is left then.
-fn timed<J, R>(
+fn timed<J, D, P, R>(
     rt: &R,
     alloc: Global,
-    sessions: Vec<Session<J, Quiet>>,
+    sessions: Vec<Session<J, Quiet, D, P>>,
     crew: Crew,
 ) -> io::Result<Duration>
 where
     J: Naming + Drop + Send + Sync + 'static,
+    D: CrashLog + Drop + Send + 'static,
+    P: CrashPages + Drop + Send + 'static,
     R: Clock + Threads + Wait + Sync,
 {
     let mut players = done(players_of(alloc, sessions))?;
@@ -63,10 +91,10 @@ where
     timed_lent(rt, players.as_mut_slice(), &values, crew)
 }
 
-fn players_of<J: Naming>(
+fn players_of<J: Naming, D: CrashLog + Drop, P: CrashPages + Drop>(
     alloc: Global,
-    sessions: Vec<Session<J, Quiet>>,
-) -> Result<Vec<Player<J>>, Refusal> {
+    sessions: Vec<Session<J, Quiet, D, P>>,
+) -> Result<Vec<Player<J, D, P>>, Refusal> {
     let mut players = Vec::with_capacity(alloc, sessions.len())?;
     for session in sessions {
         players.push(Player::new(session))?;
@@ -74,14 +102,16 @@ fn players_of<J: Naming>(
     Ok(players)
 }
 
-fn timed_lent<J, R>(
+fn timed_lent<J, D, P, R>(
     rt: &R,
-    players: &mut [Player<J>],
+    players: &mut [Player<J, D, P>],
     values: &Values,
     crew: Crew,
 ) -> io::Result<Duration>
 where
     J: Naming + Drop + Send + Sync + 'static,
+    D: CrashLog + Drop + Send + 'static,
+    P: CrashPages + Drop + Send + 'static,
     R: Clock + Threads + Wait + Sync,
 {
     done(load(rt, players, values))?;
@@ -92,9 +122,9 @@ where
     Ok(end.duration_since(start))
 }
 
-fn load<J: Naming, R: Wait>(
+fn load<J: Naming, D: CrashLog + Drop, P: CrashPages + Drop, R: Wait>(
     rt: &R,
-    players: &mut [Player<J>],
+    players: &mut [Player<J, D, P>],
     values: &Values,
 ) -> Result<(), Refusal> {
     match players.first_mut() {
@@ -103,16 +133,18 @@ fn load<J: Naming, R: Wait>(
     }
 }
 
-fn go<J, R>(rt: &R, players: &mut [Player<J>], values: &Values, crew: Crew)
+fn go<J, D, P, R>(rt: &R, players: &mut [Player<J, D, P>], values: &Values, crew: Crew)
 where
     J: Naming + Drop + Send + Sync + 'static,
+    D: CrashLog + Drop + Send + 'static,
+    P: CrashPages + Drop + Send + 'static,
     R: Threads + Wait + Sync,
 {
     if crew.is_alone() {
         go_alone(rt, players, values, crew);
         return;
     }
-    let play = |place: usize, player: &mut Player<J>|
+    let play = |place: usize, player: &mut Player<J, D, P>|
         ensures { ⊤ }
     {
         player.play(rt, values, crew.share(u8::try_from(place).unwrap_or(0)));
@@ -121,7 +153,12 @@ where
 }
 
 /// The first client has the share of each.
-fn go_alone<J: Naming, R: Wait>(rt: &R, players: &mut [Player<J>], values: &Values, crew: Crew) {
+fn go_alone<J: Naming, D: CrashLog + Drop, P: CrashPages + Drop, R: Wait>(
+    rt: &R,
+    players: &mut [Player<J, D, P>],
+    values: &Values,
+    crew: Crew,
+) {
     if let Some(player) = players.first_mut() {
         for client in 0..CLIENTS {
             player.play(rt, values, crew.share(client));
@@ -129,7 +166,9 @@ fn go_alone<J: Naming, R: Wait>(rt: &R, players: &mut [Player<J>], values: &Valu
     }
 }
 
-fn all_done<J: Naming>(players: &[Player<J>]) -> Result<(), Refusal> {
+fn all_done<J: Naming, D: CrashLog + Drop, P: CrashPages + Drop>(
+    players: &[Player<J, D, P>],
+) -> Result<(), Refusal> {
     for player in players {
         player.done()?;
     }

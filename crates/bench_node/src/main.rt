@@ -1,6 +1,7 @@
 //! Measures a node over the world's public calls, and an engine over its sessions, with no script and no text.
 //!
-//! Usage: bench_node NAME WORKLOAD N. Prints one line: name, workload, n, operations, seconds, operations a second,
+//! Usage: bench_node NAME WORKLOAD N [FOLDER]. With a folder an engine's work is done over the store there, else, as a
+//! node's always, over devices in memory. Prints one line: name, workload, n, operations, seconds, operations a second,
 //! retries, store in KB, digest of the rows, server in KB, processor seconds; what isn't known is 0.
 #![tactic(auto)]
 
@@ -19,6 +20,7 @@ mod workload;
 use crew::Crew;
 use measure::{Outcome, measured};
 use std::alloc::Global;
+use std::fs::{File, Files};
 use std::process::ExitCode;
 use std::sync::Wait;
 use std::thread::Threads;
@@ -44,9 +46,18 @@ fn arguments(rt: &HostRuntime) -> io::Result<Vec<String>> {
 
 fn print_line<R>(rt: R, alloc: Global, words: &[String]) -> io::Result<()>
 where
-    R: Print + Clock + Threads + Wait + Copy + Send + Sync + 'static,
+    R: Files<File = File>
+        + Print
+        + AllocGlobal
+        + Clock
+        + Threads
+        + Wait
+        + Copy
+        + Send
+        + Sync
+        + 'static,
 {
-    let [_, name, workload, count, ..] = words else {
+    let [_, name, workload, count, folder @ ..] = words else {
         return usage(&rt);
     };
     let Ok(operations) = count.as_str().parse::<u64>() else {
@@ -54,7 +65,10 @@ where
     };
     let (name, workload) = (name.as_str(), workload.as_str());
     if let Some(crew) = Crew::named(workload, operations) {
-        let outcome = engine::measured(rt, alloc, crew)?;
+        let outcome = match folder {
+            [folder, ..] => engine::measured_on(rt, alloc, folder.as_str(), crew)?,
+            [] => engine::measured(rt, alloc, crew)?,
+        };
         return print_outcome(&rt, name, workload, (operations, operations), &outcome);
     }
     let Some(what) = Workload::named(workload) else {
@@ -95,6 +109,6 @@ fn micros_of(time: Duration) -> u64 {
 }
 
 fn usage<R: Print>(rt: &R) -> io::Result<()> {
-    println!(rt; "usage: bench_node NAME WORKLOAD N")?;
+    println!(rt; "usage: bench_node NAME WORKLOAD N [FOLDER]")?;
     Ok(())
 }

@@ -3,18 +3,19 @@ use crate::crew::{IN_TRANSACTION, Share};
 use crate::draws::{KEYS, Values, key_of, mix};
 use crate::quiet::Quiet;
 use record_key::{Op, Refusal};
+use stable::{CrashLog, CrashPages};
 use std::sync::Wait;
 use worker_pool::{Naming, Session};
 
 /// A session, and whether all that it was asked was done.
 #[derive(Drop)]
-pub struct Player<J: Naming> {
-    session: Session<J, Quiet>,
+pub struct Player<J: Naming, D: CrashLog, P: CrashPages> {
+    session: Session<J, Quiet, D, P>,
     done: Result<(), Refusal>,
 }
 
-impl<J: Naming> Player<J> {
-    pub fn new(session: Session<J, Quiet>) -> Player<J> {
+impl<J: Naming, D: CrashLog + Drop, P: CrashPages + Drop> Player<J, D, P> {
+    pub fn new(session: Session<J, Quiet, D, P>) -> Player<J, D, P> {
         Player {
             session,
             done: Ok(()),
@@ -42,9 +43,9 @@ impl<J: Naming> Player<J> {
     }
 }
 
-fn load_hundred<J: Naming, R: Wait>(
+fn load_hundred<J: Naming, D: CrashLog + Drop, P: CrashPages + Drop, R: Wait>(
     rt: &R,
-    session: &mut Session<J, Quiet>,
+    session: &mut Session<J, Quiet, D, P>,
     values: &Values,
     first: u64,
 ) -> Result<(), Refusal> {
@@ -57,9 +58,9 @@ fn load_hundred<J: Naming, R: Wait>(
     Ok(())
 }
 
-fn play<J: Naming, R: Wait>(
+fn play<J: Naming, D: CrashLog + Drop, P: CrashPages + Drop, R: Wait>(
     rt: &R,
-    session: &mut Session<J, Quiet>,
+    session: &mut Session<J, Quiet, D, P>,
     values: &Values,
     share: Share,
 ) -> Result<(), Refusal> {
@@ -69,9 +70,9 @@ fn play<J: Naming, R: Wait>(
     Ok(())
 }
 
-fn play_one<J: Naming, R: Wait>(
+fn play_one<J: Naming, D: CrashLog + Drop, P: CrashPages + Drop, R: Wait>(
     rt: &R,
-    session: &mut Session<J, Quiet>,
+    session: &mut Session<J, Quiet, D, P>,
     values: &Values,
     share: Share,
     transaction: u64,
@@ -88,9 +89,9 @@ fn play_one<J: Naming, R: Wait>(
     Ok(())
 }
 
-fn upsert<J: Naming, R: Wait>(
+fn upsert<J: Naming, D: CrashLog + Drop, P: CrashPages + Drop, R: Wait>(
     rt: &R,
-    session: &mut Session<J, Quiet>,
+    session: &mut Session<J, Quiet, D, P>,
     values: &Values,
     (key, draw): (u64, u64),
 ) -> Result<(), Refusal> {

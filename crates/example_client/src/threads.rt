@@ -1,12 +1,15 @@
-//! An engine: two clients, each on a thread of its own, add to one number.
+//! An engine over a store: two clients, each on a thread of its own, add to one number.
 //!
 //! Neither waits until the other commits, since increments go beside one another. Which engine it is (`J`) is known to
 //! the proof alone: who opens it says `Brand`. It has to be closed: who owns it lends what a function that may stop needs.
 ghost use Rattle.worker_pool.specs.Opened.{IsNamed};
 
 use codec::{Reply, Request};
+use file_devices::{FileLog, NoPages, open_store};
+use node_store::open;
 use record_key::{Key, Op, Refusal, Value};
 use std::alloc::{AllocError, Global};
+use std::fs::{File, Files};
 use std::marker::Brand;
 use std::sync::Wait;
 use std::thread::{JoinHandle, Threads, spawn};
@@ -22,34 +25,41 @@ impl Gate for Quiet {
     fn after(&self, _reply: &Reply) {}
 }
 
-type Client<J> = Session<J, Quiet>;
+type Client<J> = Session<J, Quiet, FileLog, NoPages>;
 
 /// A client's session again, or why the client stopped.
 type Left<J> = Result<Client<J>, Refusal>;
 
-/// How many apples two clients leave.
-pub fn run<R>(rt: R, alloc: Global) -> Result<u64, Refusal>
+/// How many apples two clients leave in the store of a folder, which is made where it isn't there. Refused Device where
+/// it can't be opened; `StoreError` and `Unopened` say more.
+pub fn run<R>(rt: R, alloc: Global, folder: &str) -> Result<u64, Refusal>
 where
-    R: Threads + Wait + Copy + Send + 'static,
+    R: Files<File = File> + AllocGlobal + Threads + Wait + Copy + Send + 'static,
 {
-    let opened = Opened::new(alloc, 2)?;
+    let Ok(log) = open_store(&rt, folder) else {
+        return Err(Refusal::Device);
+    };
+    let Ok(world) = open(alloc, log, FileLog::volatile(alloc), NoPages::new()) else {
+        return Err(Refusal::Device);
+    };
+    let opened = Opened::over(alloc, world, 2)?;
     count::<Brand, R>(rt, opened)
 }
 
 /// The same with what an engine is made of.
-fn count<J, R>(rt: R, opened: Opened) -> Result<u64, Refusal>
+fn count<J, R>(rt: R, opened: Opened<FileLog, NoPages>) -> Result<u64, Refusal>
 where
     J: Naming + Drop + Send + Sync + 'static,
     R: Threads + Wait + Copy + Send + 'static,
-    requires named { IsNamed opened J.entries J.marks J.names J.sessions }
+    requires named { IsNamed opened J.start J.entries J.marks J.names J.sessions }
 {
-    let (engine, mut clients) = Engine::<J, Quiet>::new(rt, opened, 2, Quiet)?;
+    let (engine, mut clients) = Engine::<J, Quiet, FileLog, NoPages>::new(rt, opened, 2, Quiet)?;
     let apples = work(rt, &mut clients);
     engine.close(&rt, clients)?;
     apples
 }
 
-/// From no apples on, the work of two clients. Sessions are lost where it is refused.
+/// The work of two clients. Sessions are lost where it is refused.
 fn work<J, R>(rt: R, clients: &mut Vec<Client<J>>) -> Result<u64, Refusal>
 where
     J: Naming + Drop + Send + Sync + 'static,
@@ -58,7 +68,7 @@ where
     let (Some(one), Some(mut two)) = (clients.pop(), clients.pop()) else {
         return Err(Refusal::Full);
     };
-    put_none(&rt, &mut two)?;
+    begin_to_count(&rt, &mut two)?;
     let (one, two) = (start(rt, one, 10), start(rt, two, 9));
     // Both, before either is looked at: a thread that isn't joined keeps its session.
     let (one, two) = (left(&rt, one), left(&rt, two));
@@ -104,7 +114,8 @@ fn add_twice<J: Naming, R: Wait>(rt: &R, client: &mut Client<J>, op: &Op) -> Res
     client.rollback(rt)
 }
 
-fn put_none<J: Naming, R: Wait>(rt: &R, client: &mut Client<J>) -> Result<(), Refusal> {
+/// No apples, where none were counted before: an insert is answered Exists where a record is there.
+fn begin_to_count<J: Naming, R: Wait>(rt: &R, client: &mut Client<J>) -> Result<(), Refusal> {
     client.begin(rt)?;
     client.act(rt, &Op::Insert(key()?, Value::new(&[0; 8])?))?;
     client.commit(rt)?;

@@ -41,7 +41,7 @@ where
     J: Naming + Drop + Send + Sync + 'static,
     R: Threads + Wait + Copy + Send + Sync + 'static,
     W: io::Write,
-    requires named { IsNamed opened J.entries J.marks J.names J.sessions }
+    requires named { IsNamed opened J.start J.entries J.marks J.names J.sessions }
     requires some { 0 < length opened.sessions }
     ensures { WritesPool (length opened.sessions) (W.contents writer.old) (W.contents writer.new) result }
 {
@@ -73,7 +73,7 @@ fn play_out<J, R>(
 where
     J: Naming + Drop + Send + Sync + 'static,
     R: Threads + Wait + Copy + Send + Sync + 'static,
-    requires named { IsNamed opened J.entries J.marks J.names J.sessions }
+    requires named { IsNamed opened J.start J.entries J.marks J.names J.sessions }
     ensures { IfOk result (λ left. vec_len left.0 ≡ length opened.sessions) }
 {
     let holding = Arc::new(alloc, Holding::new(rounds >= 2))?;

@@ -102,7 +102,7 @@ fn run_opened<J, R>(
 where
     J: Naming + Drop + Send + Sync + 'static,
     R: Threads + Wait + Copy + Send + 'static,
-    requires named { IsNamed opened J.entries J.marks J.names J.sessions }
+    requires named { IsNamed opened J.start J.entries J.marks J.names J.sessions }
     requires some { 0 < workers }
 {
     let (engine, sessions) = Engine::<J, Door>::new(rt, opened, workers, door)?;

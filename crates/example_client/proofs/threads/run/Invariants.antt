@@ -5,6 +5,7 @@ use Rattle.example_client.proofs.threads.run.Given as goal
 -- the engine's names are those of what was just opened
 abbrev pub ghosts-count : goal.ghosts-count
 ghosts-count g a = record {
+  start = a.opened.start;
   entries = a.opened.entries;
   marks = a.opened.marks;
   names = name_of a.opened;

@@ -5,6 +5,7 @@ use Rattle.pool_shell.proofs.pool_run.pool.Given as goal
 -- the engine's names are those of what was just opened
 abbrev pub ghosts-run_opened : goal.ghosts-run_opened
 ghosts-run_opened g a = record {
+  start = a.opened.start;
   entries = a.opened.entries;
   marks = a.opened.marks;
   names = name_of a.opened;
