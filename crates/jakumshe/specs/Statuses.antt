@@ -1,0 +1,20 @@
+-- The statuses that C is given.
+use Rattle.std.specs.Prelude.{◌≡◌, ℕ, ℤ, pos, Result, Ok, Err}
+use Rattle.record_key.specs.Refusals.{number_of}
+use Rattle.jakumshe.specs.declared.fault.Fault.{Fault}
+use Rattle.jakumshe.specs.declared.fault.Fault.TheVariants.{Refused, Closed, Open, Exists, NoRecord, NotNumber, Untold}
+
+-- the status of a call that ends so; 0 is that of one that is done, and 32 is left to the header
+abbrev pub status : Fault → ℕ
+status (Refused refusal) = number_of refusal
+status Closed = 33
+status Open = 34
+status Exists = 35
+status NoRecord = 36
+status NotNumber = 37
+status Untold = 38
+
+-- the status of a call that ends so
+abbrev pub Ends : {X : Type 0} → ℤ → Result X Fault → Type 0
+Ends given (Ok x) = given ≡ pos 0
+Ends given (Err fault) = given ≡ pos (status fault)
