@@ -65,19 +65,47 @@ where
     J: Naming + Drop + Send + Sync + 'static,
     R: Threads + Wait + Copy + Send + 'static,
 {
-    let (Some(one), Some(mut two)) = (clients.pop(), clients.pop()) else {
-        return Err(Refusal::Full);
-    };
-    begin_to_count(&rt, &mut two)?;
-    let (one, two) = (start(rt, one, 10), start(rt, two, 9));
+    begin_to_count(&rt, first(clients)?)?;
+    let (one, two) = (start_next(rt, clients, 10), start_next(rt, clients, 9));
     // Both, before either is looked at: a thread that isn't joined keeps its session.
-    let (one, two) = (left(&rt, one), left(&rt, two));
-    clients.push(one?)?;
-    clients.push(two?)?;
-    match clients.first_mut() {
-        Some(client) => read(&rt, client),
+    let (one, two) = (take_back(&rt, clients, one), take_back(&rt, clients, two));
+    one?;
+    two?;
+    read(&rt, first(clients)?)
+}
+
+fn first<J: Naming>(clients: &mut Vec<Client<J>>) -> Result<&mut Client<J>, Refusal> {
+    clients.first_mut().ok_or(Refusal::Full)
+}
+
+/// The thread of the next client.
+fn start_next<J, R>(
+    rt: R,
+    clients: &mut Vec<Client<J>>,
+    apples: u64,
+) -> Result<JoinHandle<Left<J>>, Refusal>
+where
+    J: Naming + Drop + Send + Sync + 'static,
+    R: Threads + Wait + Copy + Send + 'static,
+{
+    match clients.pop() {
+        Some(client) => Ok(start(rt, client, apples)?),
         None => Err(Refusal::Full),
     }
+}
+
+/// The session of a client whose thread was started, once that has ended.
+fn take_back<J, R>(
+    rt: &R,
+    clients: &mut Vec<Client<J>>,
+    started: Result<JoinHandle<Left<J>>, Refusal>,
+) -> Result<(), Refusal>
+where
+    J: Naming + Drop,
+    R: Threads,
+{
+    clients.push(started?.join(rt)?)?;
+    Ok(())
 }
 
 /// A client's thread.
@@ -87,15 +115,6 @@ where
     R: Threads + Wait + Copy + Send + 'static,
 {
     Ok(spawn(&rt, move || trade(&rt, client, apples))?)
-}
-
-/// What a client leaves whose thread was started, once that has ended.
-fn left<J, R>(rt: &R, started: Result<JoinHandle<Left<J>>, AllocError>) -> Left<J>
-where
-    J: Naming + Drop,
-    R: Threads,
-{
-    started?.join(rt)
 }
 
 fn trade<J: Naming, R: Wait>(rt: &R, client: Client<J>, apples: u64) -> Left<J> {

@@ -24,15 +24,6 @@ halted _ was mid new pends left same alive = at left
     at (inl is) = same ∙ is
     at (inr gone) = absurd (cc (sym (ap (λ (o : Option ℕ). is_some o) (same ∙ gone)) ∙ alive))
 
--- where none was alive, only a call that begins one leaves one
-pub left_of_none : (o : Out) (was : Option ℕ) (new : Part) → LeavesLive None o new → LeavesLive was o new
-left_of_none (out.Begun t) was new is = is
-left_of_none _ was new is = at is
-  where
-    at : IsLeft None new.live → IsLeft was new.live
-    at (inl none) = inr none
-    at (inr none) = inr none
-
 adds : (c : Call) (old new : Part) → new.before ≡ calls old → new.latest ≡ Some c → calls new ≡ calls old ++ c ∷ []
 adds c old new before latest i = with_latest (before i) (latest i)
 

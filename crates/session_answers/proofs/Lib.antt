@@ -1,4 +1,3 @@
-pub mod HalfDone
 pub mod Telling
 pub mod Ending
 pub mod Resuming

@@ -1,7 +1,7 @@
 //! What an engine is made of before it has a name.
 ghost use Rattle.std.specs.Prelude.{◌≡◌, ◌≤◌, [], All, length, map, vec_len, IfOk, IfErr};
 ghost use Rattle.std.specs.List.{AllByRecursion};
-ghost use Rattle.marks.specs.Seen.{reader};
+ghost use Rattle.marks.specs.Seen.{raiser, reader};
 ghost use Rattle.world.specs.Node.{fresh_node};
 ghost use Rattle.pool_journal.specs.Steps.{node_at};
 ghost use Rattle.worker_pool.specs.Opened.{IsReader};
@@ -58,6 +58,38 @@ impl Ends {
 pub(crate) struct Chair {
     pub(crate) ends: Ends,
     pub(crate) seat: Seat,
+}
+
+/// A row without entries, marks that nobody has raised, and a chair for each session.
+#[derive(Drop)]
+struct Seats {
+    row: Row<Entry>,
+    marks: Marks,
+    seat: Seat,
+    chairs: Vec<Chair>,
+}
+
+impl Seats {
+    /// For so many sessions, at most 8. Refused Full, NoMemory.
+    fn new(alloc: Global, sessions: usize) -> Result<Seats, Refusal>
+        ensures raises { IfOk result (λ seats. seats.seat ≡ raiser seats.marks 0 0) }
+        ensures reads { IfOk result (λ seats. AllByRecursion (IsReader seats.marks) seats.chairs.items) }
+        ensures count { IfOk result (λ seats. length seats.chairs.items ≡ sessions) }
+        ensures within { IfOk result (λ seats. sessions ≤ 8) }
+    {
+        if sessions > MOST {
+            return Err(Refusal::Full);
+        }
+        let row = Row::new(alloc)?;
+        let (marks, seat, readers) = Marks::new(alloc, sessions)?;
+        let chairs = chairs(alloc, &marks, readers)?;
+        Ok(Seats {
+            row,
+            marks,
+            seat,
+            chairs,
+        })
+    }
 }
 
 /// Both components at their start, a row without entries, marks that nobody has raised, and a tie for each component and
@@ -120,13 +152,28 @@ impl<D: CrashLog + Drop, P: CrashPages + Drop> Opened<D, P> {
         ensures count { IfOk result (λ opened. length opened.sessions ≡ sessions) }
         ensures within { IfOk result (λ opened. sessions ≤ 8) }
     {
-        if sessions > MOST {
-            return Err(Refusal::Full);
+        // (each way out on which a node is dropped is dear to check)
+        match Seats::new(alloc, sessions) {
+            Ok(seats) => Ok(Opened::of(alloc, world, seats)?),
+            Err(refusal) => Err(refusal),
         }
-        let row = Row::new(alloc)?;
-        let (marks, seat, readers) = Marks::new(alloc, sessions)?;
-        let chairs = chairs(alloc, &marks, readers)?;
+    }
+
+    /// Over the node, with these seats.
+    fn of(alloc: Global, world: World<D, P>, seats: Seats) -> Result<Opened<D, P>, AllocError>
+        requires quiet { (world.requests ≡ []) × (world.replies ≡ []) }
+        requires raises { seats.seat ≡ raiser seats.marks 0 0 }
+        requires reads { AllByRecursion (IsReader seats.marks) seats.chairs.items }
+        ensures start { IfOk result (λ opened. node_at opened.start ≡ world) }
+        ensures count { IfOk result (λ opened. length opened.sessions ≡ length seats.chairs.items) }
+    {
         let (transactions, data) = world.parted();
+        let Seats {
+            row,
+            marks,
+            seat,
+            chairs,
+        } = seats;
         let start = Start {
             alloc,
             row,
