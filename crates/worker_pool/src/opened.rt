@@ -1,5 +1,5 @@
 //! What an engine is made of before it has a name.
-ghost use Rattle.std.specs.Prelude.{◌≡◌, ◌≤◌, [], All, length, map, vec_len, IfOk, IfErr};
+ghost use Rattle.std.specs.Prelude.{◌≡◌, ◌<◌, ◌≤◌, [], All, length, map, vec_len, Err, IfOk, IfErr};
 ghost use Rattle.std.specs.List.{AllByRecursion};
 ghost use Rattle.marks.specs.Seen.{raiser, reader};
 ghost use Rattle.world.specs.Node.{fresh_node};
@@ -76,6 +76,8 @@ impl Seats {
         ensures reads { IfOk result (λ seats. AllByRecursion (IsReader seats.marks) seats.chairs.items) }
         ensures count { IfOk result (λ seats. length seats.chairs.items ≡ sessions) }
         ensures within { IfOk result (λ seats. sessions ≤ 8) }
+        ensures full { 8 < sessions → result ≡ Err Refusal.Full }
+        ensures memory { sessions ≤ 8 → IfErr result (λ refusal. refusal ≡ Refusal.NoMemory) }
     {
         if sessions > MOST {
             return Err(Refusal::Full);
@@ -139,7 +141,12 @@ impl Opened<MemLog, MemPages> {
         ensures start { IfOk result (λ opened. node_at opened.start ≡ fresh_node) }
         ensures count { IfOk result (λ opened. length opened.sessions ≡ sessions) }
         ensures within { IfOk result (λ opened. sessions ≤ 8) }
+        ensures full { 8 < sessions → result ≡ Err Refusal.Full }
+        ensures memory { sessions ≤ 8 → IfErr result (λ refusal. refusal ≡ Refusal.NoMemory) }
     {
+        if sessions > MOST {
+            return Err(Refusal::Full);
+        }
         Opened::over(alloc, World::new(alloc)?, sessions)
     }
 }
@@ -151,6 +158,8 @@ impl<D: CrashLog + Drop, P: CrashPages + Drop> Opened<D, P> {
         ensures start { IfOk result (λ opened. node_at opened.start ≡ world) }
         ensures count { IfOk result (λ opened. length opened.sessions ≡ sessions) }
         ensures within { IfOk result (λ opened. sessions ≤ 8) }
+        ensures full { 8 < sessions → result ≡ Err Refusal.Full }
+        ensures memory { sessions ≤ 8 → IfErr result (λ refusal. refusal ≡ Refusal.NoMemory) }
     {
         // (each way out on which a node is dropped is dear to check)
         match Seats::new(alloc, sessions) {
