@@ -1,3 +1,3 @@
 pub mod Acting
+pub mod BoxCalls
 pub mod HandleSteps
-pub mod LooseSteps

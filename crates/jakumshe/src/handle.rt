@@ -6,7 +6,6 @@ ghost use Rattle.jakumshe.specs.contracts.node.Node.{the_row};
 ghost use Rattle.jakumshe.specs.declared.node.Node.{Node};
 
 use crate::fault::Fault;
-use crate::loose::Loose;
 use crate::node::Node;
 use std::alloc::Global;
 use std::marker::Model;
@@ -37,8 +36,8 @@ impl Handle {
             (λ fault. (self.old.node ≡ None) × (fault ≡ Closed)) }
     {
         let held = replace(self, Handle::closed(alloc));
-        match held.into_loose() {
-            Some(loose) => Ok(loose.into_box()),
+        match held.into_box() {
+            Some(node) => Ok(node),
             None => Err(Fault::Closed),
         }
     }
@@ -47,7 +46,7 @@ impl Handle {
     pub(crate) fn put(&mut self, node: Box<Node>)
         ensures { self.new.node ≡ Some node.value }
     {
-        *self = Handle::holding(Loose::of(node));
+        *self = Handle::holding(node);
     }
 
     fn closed(alloc: Global) -> Handle
@@ -59,35 +58,30 @@ impl Handle {
         }
     }
 
-    fn holding(loose: Loose<Node, Global>) -> Handle
-        ensures { result.node ≡ Some loose.value }
+    fn holding(node: Box<Node>) -> Handle
+        ensures { result.node ≡ Some node.value }
     {
-        let Loose { at, alloc } = loose;
+        let (at, alloc) = Box::into_raw_with_allocator(node);
         Handle {
             at: at as *mut u8,
             alloc,
         }
     }
 
-    fn into_loose(self) -> Option<Loose<Node, Global>>
-        ensures { MatchOption result (self.node ≡ None) (λ loose. self.node ≡ Some loose.value) }
+    fn into_box(self) -> Option<Box<Node>>
+        ensures { MatchOption result (self.node ≡ None) (λ node. self.node ≡ Some node.value) }
     {
         let Handle { at, alloc } = self;
         if at.is_null() {
             None
         } else {
-            Some(Loose {
-                at: at as *mut Node,
-                alloc,
-            })
+            Some(unsafe { Box::from_raw(alloc, at as *mut Node) })
         }
     }
 }
 
 impl Drop for Handle {
     fn drop(self) {
-        if let Some(loose) = self.into_loose() {
-            drop(loose.into_box());
-        }
+        drop(self.into_box());
     }
 }

@@ -8,7 +8,6 @@
 mod exports;
 mod fault;
 mod handle;
-mod loose;
 mod node;
 mod ops;
 mod records;

@@ -22,8 +22,7 @@ use Rattle.std.specs.Prelude.{Option, None}
 use Rattle.std.proofs.cell.Inside.{one}
 use Rattle.std.proofs.alloc.Global.TheLaws as heap_laws
 use Rattle.std.proofs.raw_atomic.Walks.{proved_at, leaves}
-use Rattle.jakumshe.proofs.LooseSteps.{both}
-use Rattle.jakumshe.proofs.HandleSteps.{N, Z, handle_good, handle_in}
+use Rattle.jakumshe.proofs.HandleSteps.{N, Z, pair, handle_good, handle_in}
 use Rattle.jakumshe.specs.contracts.handle.Handle.closed.{ended, clauses}
 use Rattle.jakumshe.specs.contracts.handle.Handle.closed.Key.{name as #self}
 use Rattle.jakumshe.proofs.handle.Handle.closed.Statement.{statement}
@@ -35,7 +34,7 @@ closed_spec 𝓤 𝓛 𝓜 𝓡 wired =
     let hs : Stays ended.signature.params ended.kept = (stay_dropped (plain (λ _. Z)) yes, tt) in
     proved_at 𝓛 ended hs c 𝓜 𝓡 (Goes-dropped 𝓛 0 (plain (λ _. Z)) yes (λ κs x f. refl), tt) #self fn (code.unfolded 𝓤 H 𝓜 𝓡 wired) (λ z are.
     let κs = z.0.0 in let qs = z.0.1 in let a = z.0.3.0 in let Post : Val → SProp 𝓤 = (walk_of 𝓛 ended hs c).post z in let Run : List Val → SProp 𝓤 = λ ws. WpFn 𝓤 H 𝓣.C 𝓣.Λ fn ws Post in
-    let h = one (layout Z) z.0.4.0 ((heap_laws.the_row_laws.lawful 𝓛).typed a z.0.4.0 are.0) in let w : Val = both vnull h.0 in let none : Option N.Denot = None in let good = handle_good null_ptr h.0 h.2 in
+    let h = one (layout Z) z.0.4.0 ((heap_laws.the_row_laws.lawful 𝓛).typed a z.0.4.0 are.0) in let w : Val = pair vnull h.0 in let none : Option N.Denot = None in let good = handle_good null_ptr h.0 h.2 in
     qed 𝓛 ((raw (alive 𝓛 ended.signature κs qs) ⊛ ‵ (owns (types_at ended.signature.params κs) z.0.3 z.0.4)) ∷ raw ((c κs z.0.3).requires z.1) ∷ []) ∵ split ! $ move ! (1 ∷ []) $ fsplit ! $
     rewrite ! 0 (λ (us : List Val). ‵ (Z.own_val a us)) h.1 refl $
     suffices ! (Run (h.0 ∷ [])) (subst (λ (us : List Val). ent 𝓤 (Run (h.0 ∷ [])) (Run us)) (sym (λ i. h.1 i ++ [])) (id⊢ 𝓤 (Run (h.0 ∷ [])))) $
