@@ -116,6 +116,10 @@ impl LogDevice for FileLog {
         self.faults.call()?;
         Ok(&self.bytes)
     }
+
+    fn held(&self) -> &[u8] {
+        &self.bytes
+    }
 }
 
 impl CrashLog for FileLog {

@@ -114,4 +114,8 @@ impl LogDevice for ListedLog {
         self.faults.call()?;
         Ok(&self.bytes)
     }
+
+    fn held(&self) -> &[u8] {
+        &self.bytes
+    }
 }

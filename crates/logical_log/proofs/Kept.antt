@@ -1,12 +1,13 @@
 -- A log is kept by each of its calls.
-use Rattle.std.proofs.Common.{◌≡◌, ℕ, ◌+◌, Bool, List, [], ◌∷◌, ◌++◌, length, refl, sym, ap, ◌∙◌, subst, arith, append_assoc}
+use Rattle.std.proofs.Common.{◌≡◌, ℕ, ◌+◌, Bool, List, [], ◌++◌, length, refl, sym, ap, ◌∙◌, subst, arith, append_assoc}
 use Rattle.std.proofs.lemmas.List.{append-nil}
 use Rattle.codec.specs.Frames.{frame}
 use Rattle.codec.specs.Records.{record_bytes}
 use Rattle.stable.specs.Crash.{BeginsWith}
+use Rattle.stable.specs.LogState.{LogState}
 use Rattle.history.specs.declared.record.Record.{Record}
 use Rattle.history.specs.Legal.{FitsCheckpoint, IsLatest}
-use Rattle.logical_log.specs.Kept.{FramesView, IsKept}
+use Rattle.logical_log.specs.Kept.{FramesView, IsKept, with_record}
 use Rattle.logical_log.specs.LogView.{last_not_session}
 use Rattle.logical_log.specs.Low.{stable_part}
 use Rattle.logical_log.specs.Spelled.{spelled}
@@ -15,17 +16,17 @@ use Rattle.logical_log.proofs.Answered.{part_longer, part_whole}
 use Rattle.logical_log.proofs.NotSession.{last_longer}
 
 -- all records of a log are stable, and forced
-pub kept_all : (w : Bool) (frames : FramesView) (answered last : ℕ) (forced pending : List ℕ) → frames.left ≡ []
-    → forced ≡ spelled frames.records → pending ≡ []
+pub kept_all : (w : Bool) (frames : FramesView) (answered last : ℕ) → frames.left ≡ []
+    → frames.device.forced ≡ spelled frames.records → frames.device.pending ≡ []
     → IsLatest (FitsCheckpoint frames.records) answered → last ≡ last_not_session frames.records
-    → IsKept w frames (length frames.records) answered last forced pending
-kept_all w frames answered last forced pending read f p latest is_last = record {
+    → IsKept w frames (length frames.records) answered last
+kept_all w frames answered last read f p latest is_last = record {
   all_read = read;
   within = omega arith;
   greatest = let P : List Record → Type 0 = λ x. IsLatest (FitsCheckpoint x) answered in
       subst P (sym (part_whole frames.records)) latest;
   last_is = is_last;
-  stored = ap (λ (x : List ℕ). forced ++ x) p ∙ append-nil forced ∙ f;
+  stored = ap (λ (x : List ℕ). frames.device.forced ++ x) p ∙ append-nil frames.device.forced ∙ f;
   covered = (
     [],
     f ∙ ap spelled (sym (part_whole frames.records))
@@ -35,11 +36,12 @@ kept_all w frames answered last forced pending read f p latest is_last = record 
 }
 
 -- a log of no records
-pub kept_empty : (w : Bool) (forced pending : List ℕ) → forced ≡ [] → pending ≡ []
-    → IsKept w (record { records = []; left = [] }) 0 0 0 forced pending
+pub kept_empty : (w : Bool) (device : LogState) → device.forced ≡ [] → device.pending ≡ []
+    → IsKept w (record { records = []; left = device.forced ++ device.pending; device = device }) 0 0 0
 unfolding spelled
-kept_empty w forced pending f p =
-    kept_all w (record { records = []; left = [] }) 0 0 forced pending refl f p
+kept_empty w device f p =
+    kept_all w (record { records = []; left = device.forced ++ device.pending; device = device }) 0 0
+    (λ i. f i ++ p i) f p
     (record {
       is = record { within = omega arith; answered = λ n o below asks. absurd (cc) };
       greatest = λ m more.
@@ -48,20 +50,19 @@ kept_empty w forced pending f p =
     refl
 
 -- a record is appended
-pub kept_longer : (w : Bool) (frames : FramesView) (stable answered last : ℕ) (forced pending : List ℕ) (r : Record)
-    (n : ℕ) → IsKept w frames stable answered last forced pending → n ≡ length frames.records + 1
-    → IsKept w (record frames { records = r ∷ frames.records }) stable answered (last_with r n last) forced
-    (pending ++ frame (record_bytes r))
+pub kept_longer : (w : Bool) (frames : FramesView) (stable answered last : ℕ) (r : Record) (n : ℕ)
+    → IsKept w frames stable answered last → n ≡ length frames.records + 1
+    → IsKept w (with_record frames r) stable answered (last_with r n last)
 unfolding spelled
-kept_longer w frames stable answered last forced pending r n h is = record {
+kept_longer w frames stable answered last r n h is = record {
   all_read = h.all_read;
   within = omega (arith, h.within);
   greatest = let P : List Record → Type 0 = λ x. IsLatest (FitsCheckpoint x) answered in
       subst P (sym (part_longer r frames.records stable h.within)) h.greatest;
   last_is = last_longer r frames.records n last is h.last_is;
-  stored = sym (append_assoc forced pending (frame (record_bytes r)))
+  stored = sym (append_assoc frames.device.forced frames.device.pending (frame (record_bytes r)))
       ∙ ap (λ (b : List ℕ). b ++ frame (record_bytes r)) h.stored;
-  covered = let P : List Record → Type 0 = λ x. BeginsWith forced (spelled x) in
+  covered = let P : List Record → Type 0 = λ x. BeginsWith frames.device.forced (spelled x) in
       subst P (sym (part_longer r frames.records stable h.within)) h.covered;
   just = λ whole. h.just whole ∙ ap spelled (sym (part_longer r frames.records stable h.within));
 }

@@ -14,9 +14,9 @@ pub record FoundView : Type 0 where
   pub bytes : List ℕ
   pub usage : Usage
 
--- all bytes are forced, the frames are a copy of them, and no whole frame is left to read; the index is right
-pub record IsRead (frames : FramesView) (index : Index) (forced pending : List ℕ) : Type 0 where
-  pub none_pending : pending ≡ []
-  pub copied : forced ≡ spelled frames.records ++ frames.left
+-- all bytes are forced, they are the records' frames and no whole frame after these, and the index is right
+pub record IsRead (frames : FramesView) (index : Index) : Type 0 where
+  pub none_pending : frames.device.pending ≡ []
+  pub parts : frames.device.forced ≡ spelled frames.records ++ frames.left
   pub cut : IsCut 181 frames.left
   pub indexed : IsIndex frames.records index

@@ -10,9 +10,10 @@ use crate::replay::Index;
 use history::Record;
 use inverse::inverse;
 use record_key::Op;
+use stable::LogDevice;
 
 /// What a transaction has left to undo below an operation.
-fn undo_below(frames: &Frames, undone: &Option<Record>) -> u64
+fn undo_below<D: LogDevice>(frames: &Frames<D>, undone: &Option<Record>) -> u64
     ensures { result ≡ undo_from (record_at frames.now.records (prev_in undone.now)) (prev_in undone.now) }
 {
     match undone {
@@ -22,7 +23,12 @@ fn undo_below(frames: &Frames, undone: &Option<Record>) -> u64
 }
 
 /// What undoes the answered operation, the record of this number, is this.
-fn inverts(frames: &Frames, undoes: u64, undone: &Option<Record>, by: &Option<Op>) -> bool
+fn inverts<D: LogDevice>(
+    frames: &Frames<D>,
+    undoes: u64,
+    undone: &Option<Record>,
+    by: &Option<Op>,
+) -> bool
     requires { undone.now ≡ record_at frames.now.records undoes }
     ensures { IsTrue result ↔ Inverts frames.now.records undoes by.now }
 {
@@ -32,7 +38,7 @@ fn inverts(frames: &Frames, undoes: u64, undone: &Option<Record>, by: &Option<Op
     }
 }
 
-fn fits_op(index: &Index, frames: &Frames, txn: u64, prev: u64, op: &Op) -> bool
+fn fits_op<D: LogDevice>(index: &Index, frames: &Frames<D>, txn: u64, prev: u64, op: &Op) -> bool
     requires { IsIndex frames.now.records index.now }
     ensures { IsTrue result ↔ FitsOp frames.now.records txn prev op.now }
 {
@@ -42,15 +48,15 @@ fn fits_op(index: &Index, frames: &Frames, txn: u64, prev: u64, op: &Op) -> bool
     }
 }
 
-fn fits_answer(frames: &Frames, of: u64) -> bool
+fn fits_answer<D: LogDevice>(frames: &Frames<D>, of: u64) -> bool
     ensures { IsTrue result ↔ FitsAnswer frames.now.records of }
 {
     !frames.is_answered(of)
 }
 
-fn fits_comp(
+fn fits_comp<D: LogDevice>(
     index: &Index,
-    frames: &Frames,
+    frames: &Frames<D>,
     txn: u64,
     undoes: u64,
     next: u64,
@@ -75,7 +81,7 @@ fn fits_comp(
     inverts(frames, undoes, &undone, by)
 }
 
-fn fits_commit(index: &Index, frames: &Frames, txn: u64) -> bool
+fn fits_commit<D: LogDevice>(index: &Index, frames: &Frames<D>, txn: u64) -> bool
     requires { IsIndex frames.now.records index.now }
     ensures { IsTrue result ↔ FitsCommit frames.now.records txn }
 {
@@ -85,7 +91,7 @@ fn fits_commit(index: &Index, frames: &Frames, txn: u64) -> bool
     }
 }
 
-fn fits_end(index: &Index, frames: &Frames, txn: u64) -> bool
+fn fits_end<D: LogDevice>(index: &Index, frames: &Frames<D>, txn: u64) -> bool
     requires { IsIndex frames.now.records index.now }
     ensures { IsTrue result ↔ FitsEnd frames.now.records txn }
 {
@@ -95,7 +101,7 @@ fn fits_end(index: &Index, frames: &Frames, txn: u64) -> bool
     }
 }
 
-fn fits_checkpoint(index: &Index, frames: &Frames, low: u64) -> bool
+fn fits_checkpoint<D: LogDevice>(index: &Index, frames: &Frames<D>, low: u64) -> bool
     requires { IsIndex frames.now.records index.now }
     ensures { IsTrue result ↔ FitsCheckpoint frames.now.records low }
 {
@@ -103,7 +109,7 @@ fn fits_checkpoint(index: &Index, frames: &Frames, low: u64) -> bool
 }
 
 /// Whether the record may follow.
-pub(crate) fn fits(index: &Index, frames: &Frames, next: &Record) -> bool
+pub(crate) fn fits<D: LogDevice>(index: &Index, frames: &Frames<D>, next: &Record) -> bool
     requires { IsIndex frames.now.records index.now }
     ensures { IsTrue result ↔ Fits frames.now.records next.now }
 {

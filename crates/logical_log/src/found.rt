@@ -12,9 +12,7 @@ use std::marker::Model;
 /// The log of a device that was read and judged in one pass. The device is as it was: a cut last frame still stands.
 #[derive(Drop)]
 pub struct Found<D: LogDevice> {
-    pub(crate) device: D,
-    // What the device holds.
-    pub(crate) frames: Frames,
+    pub(crate) frames: Frames<D>,
     pub(crate) index: Index,
 }
 
@@ -25,16 +23,16 @@ impl<D: LogDevice> Model for Found<D> {
 
     ghost view = { λ f. record {
       records = f.frames.records;
-      bytes = D.forced f.device;
-      usage = D.usage f.device;
+      bytes = f.frames.device.forced;
+      usage = f.frames.device.usage;
     } };
 
-    ghost invariant = { λ f. IsRead f.frames f.index (D.forced f.device) (D.pending f.device) };
+    ghost invariant = { λ f. IsRead f.frames f.index };
 }
 
 impl<D: LogDevice> Found<D> {
     /// Its records.
-    pub fn frames(&self) -> &Frames
+    pub fn frames(&self) -> &Frames<D>
         ensures records { result.now.records ≡ self.now.records }
         ensures all { IsLogOf self.now.bytes self.now.records }
     {
@@ -56,11 +54,7 @@ impl<D: LogDevice> Found<D> {
         ensures none_pending { D.pending result ≡ [] }
         ensures usage { D.usage result ≡ self.usage }
     {
-        let Found {
-            device,
-            frames: _,
-            index: _,
-        } = self;
-        device
+        let Found { frames, index: _ } = self;
+        frames.stop()
     }
 }

@@ -1,5 +1,5 @@
 //! The frames of records, one after another, with an index of their places and of answers.
-ghost use Rattle.std.specs.Prelude.{◌≡◌, ◌+◌, ◌≤◌, ◌<◌, ◌^◌, ◌↔◌, ◌++◌, ◌∷◌, [], ℕ, List, length, ◌⊎◌, None, is_some, IsTrue, IfSome, IfNone, OnOk, OnErr, IfErr, IsErrOf};
+ghost use Rattle.std.specs.Prelude.{◌≡◌, ◌+◌, ◌≤◌, ◌<◌, ◌^◌, ◌↔◌, ◌++◌, ◌∷◌, [], ℕ, List, length, ◌⊎◌, None, is_some, true, IsTrue, IfSome, IfNone, OnOk, OnErr, IfErr, IsErrOf};
 ghost use Rattle.history.specs.Log.{record_at, answer_of, request_in, step_in};
 ghost use Rattle.history.specs.Legal.{Fits, IsLegal};
 ghost use Rattle.history.specs.Chains.{undo_from};
@@ -9,25 +9,28 @@ ghost use Rattle.codec.specs.Frames.{frame, IfTaken, IfBad, IsThere, IsCut};
 ghost use Rattle.codec.specs.Records.{record_bytes, HasNumbers, IsRecord};
 ghost use Rattle.logical_log.specs.Index.{is_answered};
 ghost use Rattle.record_key.specs.FirstCause.{MayRefuse};
-ghost use Rattle.stable.specs.Usage.{is_due};
-ghost use Rattle.logical_log.specs.LogView.{usage_after};
+ghost use Rattle.stable.specs.Device.{ForcesPart};
+ghost use Rattle.stable.specs.Usage.{is_due, called, failed, failing_in};
+ghost use Rattle.logical_log.specs.Kept.{with_record, with_usage};
+ghost use Rattle.logical_log.specs.LogView.{refused_use};
 ghost use Rattle.logical_log.specs.Low.{stable_part};
 ghost use Rattle.logical_log.specs.Spelled.{spelled, AreRecords, IsNext, IsPlaceOf};
 
 use crate::note::{ASKS_NOTHING, answer_held, answer_place, note};
-use crate::write::write;
+use crate::write::{refusal_of, write};
 use codec::{FrameIndex, Taken, asked_op, left_to_undo, step_txn, take_record};
 use history::Record;
 use record_key::{Answer, Op, Refusal};
-use stable::LogDevice;
+use stable::{CrashLog, LogDevice};
 use std::alloc::{AllocError, Global};
 use std::marker::Model;
 
-/// Records by their numbers, from 1, kept as bytes. A clause sees the records that were read and the bytes that are
-/// left after them. A reader takes no memory.
+/// Records by their numbers, from 1, kept as bytes on a device. A clause sees the records that were read, the bytes that
+/// are left after them, and the device. A reader looks at the bytes where the device holds them: it takes no memory and
+/// makes no device call.
 #[derive(Drop)]
-pub struct Frames {
-    bytes: Vec<u8>,
+pub struct Frames<D: LogDevice> {
+    device: D,
     // Where the frames that were read end.
     end: usize,
     // Where the frame of each record begins.
@@ -35,35 +38,68 @@ pub struct Frames {
     // For each record the number of its Answer record, 0 while there is none, and no record's number where it asks for
     // nothing: so whether it is answered is told without reading it.
     answers: Vec<u64>,
+    // Where the frame of the next record is spelled.
+    frame: Vec<u8>,
 }
 
-impl Model for Frames {
-    ghost use Rattle.std.specs.Prelude.{drop};
+impl<D: LogDevice> Model for Frames<D> {
+    ghost use Rattle.std.specs.Prelude.{◌++◌, drop};
     ghost use Rattle.logical_log.specs.Kept.{FramesView, AreIndexed};
     ghost use Rattle.logical_log.specs.Spelled.{records_of};
 
     ghost Value = { FramesView };
 
     ghost view = { λ f. record {
-      records = records_of f.bytes.items f.index.count;
-      left = drop f.end f.bytes.items;
+      records = records_of (D.forced f.device ++ D.pending f.device) f.index.count;
+      left = drop f.end (D.forced f.device ++ D.pending f.device);
+      device = record { forced = D.forced f.device; pending = D.pending f.device; usage = D.usage f.device };
     } };
 
-    ghost invariant = { λ f. AreIndexed (records_of f.bytes.items f.index.count) f.bytes.items
-        (drop f.end f.bytes.items) f.index.marks f.index.count f.answers.items f.end };
+    ghost invariant = { λ f.
+        AreIndexed (records_of (D.forced f.device ++ D.pending f.device) f.index.count)
+        (D.forced f.device ++ D.pending f.device) (drop f.end (D.forced f.device ++ D.pending f.device))
+        f.index.marks f.index.count f.answers.items f.end };
 }
 
-impl Frames {
-    /// Bytes of which nothing was read.
-    pub(crate) fn new(alloc: Global, bytes: Vec<u8>) -> Frames
-        ensures { result ≡ record { records = []; left = bytes.items } }
+impl<D: LogDevice> Frames<D> {
+    /// Those of a device of whose bytes none were read.
+    pub(crate) fn new(alloc: Global, device: D) -> Frames<D>
+        ensures { result ≡ record {
+          records = [];
+          left = D.forced device ++ D.pending device;
+          device = record { forced = D.forced device; pending = D.pending device; usage = D.usage device };
+        } }
     {
         Frames {
-            bytes,
+            device,
             end: 0,
             index: FrameIndex::new(alloc),
             answers: Vec::new(alloc),
+            frame: Vec::new(alloc),
         }
+    }
+
+    /// The device, as it is.
+    pub(crate) fn stop(self) -> D
+        ensures forced { D.forced result ≡ self.device.forced }
+        ensures pending { D.pending result ≡ self.device.pending }
+        ensures usage { D.usage result ≡ self.device.usage }
+    {
+        let Frames {
+            device,
+            end: _,
+            index: _,
+            answers: _,
+            frame: _,
+        } = self;
+        device
+    }
+
+    /// All bytes of the device.
+    pub(crate) fn bytes(&self) -> &[u8]
+        ensures { result.now ≡ self.now.device.forced ++ self.now.device.pending }
+    {
+        self.device.held()
     }
 
     /// How many records there are.
@@ -80,8 +116,8 @@ impl Frames {
     pub fn record(&self, number: u64) -> Option<Record>
         ensures { result ≡ record_at self.now.records number }
     {
-        let place = place_of(&self.index, &self.bytes, number)?;
-        match take_record(&self.bytes, place) {
+        let place = place_of(&self.index, self.device.held(), number)?;
+        match take_record(self.device.held(), place) {
             Taken::Record(found, _) => Some(found),
             _ => None,
         }
@@ -91,16 +127,16 @@ impl Frames {
     pub fn step_txn(&self, number: u64) -> Option<u64>
         ensures { result ≡ step_in (record_at self.now.records number) }
     {
-        let place = place_of(&self.index, &self.bytes, number)?;
-        step_txn(&self.bytes, place)
+        let place = place_of(&self.index, self.device.held(), number)?;
+        step_txn(self.device.held(), place)
     }
 
     /// The operation that the record of this number asks for, told without reading the whole record.
     pub(crate) fn asked_op(&self, number: u64) -> Option<Op>
         ensures { result ≡ request_in (record_at self.now.records number) }
     {
-        let place = place_of(&self.index, &self.bytes, number)?;
-        asked_op(&self.bytes, place)
+        let place = place_of(&self.index, self.device.held(), number)?;
+        asked_op(self.device.held(), place)
     }
 
     /// What is left to undo from the record of this number on, told without reading the whole record: the record where it
@@ -108,8 +144,8 @@ impl Frames {
     pub fn left_to_undo(&self, number: u64) -> u64
         ensures { result ≡ undo_from (record_at self.now.records number) number }
     {
-        match place_of(&self.index, &self.bytes, number) {
-            Some(place) => left_to_undo(&self.bytes, place, number),
+        match place_of(&self.index, self.device.held(), number) {
+            Some(place) => left_to_undo(self.device.held(), place, number),
             None => 0,
         }
     }
@@ -157,7 +193,7 @@ impl Frames {
         ensures { result ≡ length (spelled (stable_part self.now.records count)) }
     {
         if count < self.index.len() as u64 {
-            self.index.place(&self.bytes, count as usize)
+            self.index.place(self.device.held(), count as usize)
         } else {
             self.end
         }
@@ -167,7 +203,7 @@ impl Frames {
     pub(crate) fn is_read(&self) -> bool
         ensures { IsTrue result ↔ (self.now.left ≡ []) }
     {
-        self.bytes.len() <= self.end
+        self.device.held().len() <= self.end
     }
 
     /// What stands after the records that were read.
@@ -178,7 +214,7 @@ impl Frames {
         ensures short { (result ≡ Taken.Short) ↔ IsCut 181 self.now.left }
         ensures bad { IfBad result (λ place. place ≡ length (spelled self.now.records)) }
     {
-        take_record(&self.bytes, self.end)
+        take_record(self.device.held(), self.end)
     }
 
     /// Counts what stands next among the records that were read.
@@ -188,6 +224,7 @@ impl Frames {
         requires room { length self.old.records < 281474976710655 }
         ensures records { OnOk result (self.new.records ≡ accepted.now ∷ self.old.records) }
         ensures left { OnOk result (self.old.left ≡ frame (record_bytes accepted.now) ++ self.new.left) }
+        ensures device { self.new.device ≡ self.old.device }
         ensures unchanged { OnErr result (self.new ≡ self.old) }
     {
         self.index.reserve()?;
@@ -199,41 +236,81 @@ impl Frames {
         Ok(())
     }
 
-    /// Appends a record here and to the device, or to neither.
-    pub(crate) fn append<D: LogDevice>(
-        &mut self,
-        device: &mut D,
-        appended: &Record,
-    ) -> Result<(), Refusal>
+    /// Appends a record, in one device call. Refused NoMemory or Device, and unchanged then.
+    pub(crate) fn append(&mut self, appended: &Record) -> Result<(), Refusal>
         requires all_read { self.old.left ≡ [] }
         requires fits { Fits self.old.records appended.now }
         requires numbers { HasNumbers appended.now }
         requires room { length self.old.records < 281474976710655 }
-        ensures records { OnOk result (self.new ≡ record self.old { records = appended.now ∷ self.old.records }) }
-        ensures written { OnOk result (D.pending device.new
-            ≡ D.pending device.old ++ frame (record_bytes appended.now)) }
-        ensures unchanged { OnErr result (self.new ≡ self.old) }
-        ensures not_written { OnErr result (D.pending device.new ≡ D.pending device.old) }
-        ensures forced { D.forced device.new ≡ D.forced device.old }
+        ensures appended { OnOk result (self.new ≡ with_record self.old appended.now) }
+        ensures unchanged { IfErr result (λ refusal.
+            self.new ≡ with_usage self.old (refused_use self.old.device.usage refusal)) }
         ensures cause { IfErr result (MayRefuse None) }
-        ensures device { IsErrOf result Refusal.Device → IsTrue (is_due (D.usage device.old)) }
-        ensures used { D.usage device.new ≡ usage_after (D.usage device.old) result }
+        ensures device { IsErrOf result Refusal.Device → IsTrue (is_due self.old.device.usage) }
     {
         self.index.reserve()?;
         self.answers.reserve(1)?;
-        write(device, &mut self.bytes, appended)?;
+        write(&mut self.device, &mut self.frame, appended)?;
         let number = self.index.len() as u64 + 1;
         note(&mut self.answers, appended, number);
         self.index.push_reserved(self.end);
-        self.end = self.bytes.len();
+        self.end = self.device.held().len();
         Ok(())
     }
 
-    /// Drops what is left after the records.
-    pub(crate) fn cut(&mut self)
-        ensures { self.new ≡ record self.old { left = [] } }
+    /// Forces all bytes, in one device call. The one refusal is Device, and some bytes may be forced then.
+    pub(crate) fn force(&mut self) -> Result<(), Refusal>
+        ensures forced { OnOk result (self.new ≡ record self.old {
+          device = record {
+            forced = self.old.device.forced ++ self.old.device.pending;
+            pending = [];
+            usage = called self.old.device.usage;
+          };
+        }) }
+        ensures records { OnErr result (self.new.records ≡ self.old.records) }
+        ensures left { OnErr result (self.new.left ≡ self.old.left) }
+        ensures part { OnErr result (ForcesPart self.old.device.forced self.old.device.pending
+            self.new.device.forced self.new.device.pending) }
+        ensures whole { OnErr result (D.forces_whole ≡ true → self.new.device.forced ≡ self.old.device.forced) }
+        ensures cause { IfErr result (λ refusal. refusal ≡ Refusal.Device) }
+        ensures due { OnErr result (IsTrue (is_due self.old.device.usage)) }
+        ensures failed { OnErr result (self.new.device.usage ≡ failed self.old.device.usage) }
     {
-        self.bytes.truncate(self.end);
+        if let Err(error) = self.device.force() {
+            return Err(refusal_of(error));
+        }
+        Ok(())
+    }
+
+    /// Cuts off what is left after the records, in one device call. The one refusal is Device.
+    pub(crate) fn cut(&mut self) -> Result<(), Refusal>
+        requires none_pending { self.old.device.pending ≡ [] }
+        ensures cut { OnOk result (self.new ≡ record self.old {
+          left = [];
+          device = record {
+            forced = spelled self.old.records;
+            pending = [];
+            usage = called self.old.device.usage;
+          };
+        }) }
+        ensures uncut { OnErr result (self.new ≡ with_usage self.old (failed self.old.device.usage)) }
+        ensures cause { IfErr result (λ refusal. refusal ≡ Refusal.Device) }
+        ensures due { OnErr result (IsTrue (is_due self.old.device.usage)) }
+    {
+        if let Err(error) = self.device.cut(self.end) {
+            return Err(refusal_of(error));
+        }
+        Ok(())
+    }
+}
+
+impl<D: CrashLog> Frames<D> {
+    /// The `n`-th call of the device from now fails.
+    pub(crate) fn fail_at(&mut self, n: u64)
+        requires { 1 ≤ n }
+        ensures { self.new ≡ with_usage self.old (failing_in n self.old.device.usage) }
+    {
+        self.device.fail_at(n);
     }
 }
 

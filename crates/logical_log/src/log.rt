@@ -20,9 +20,7 @@ use std::marker::Model;
 /// Records by their numbers, from 1, kept as bytes on a device.
 #[derive(Drop)]
 pub struct Log<D: LogDevice> {
-    pub(crate) device: D,
-    // What the device holds, so that a reader needs no device call.
-    pub(crate) frames: Frames,
+    pub(crate) frames: Frames<D>,
     pub(crate) stable: u64,
     // Up to where every stable request has a stable answer.
     pub(crate) answered: u64,
@@ -39,11 +37,10 @@ impl<D: LogDevice> Model for Log<D> {
     ghost view = { λ l. record {
       records = l.frames.records;
       stable = l.stable;
-      usage = D.usage l.device;
+      usage = l.frames.device.usage;
     } };
 
-    ghost invariant = { λ l. IsKept D.forces_whole l.frames l.stable l.answered l.last_not_session
-        (D.forced l.device) (D.pending l.device) };
+    ghost invariant = { λ l. IsKept D.forces_whole l.frames l.stable l.answered l.last_not_session };
 }
 
 impl<D: LogDevice> Log<D> {
@@ -53,8 +50,7 @@ impl<D: LogDevice> Log<D> {
         ensures { result ≡ record { records = []; stable = 0; usage = D.usage device } }
     {
         Log {
-            device,
-            frames: Frames::new(alloc, Vec::new(alloc)),
+            frames: Frames::new(alloc, device),
             stable: 0,
             answered: 0,
             last_not_session: 0,
@@ -73,17 +69,16 @@ impl<D: LogDevice> Log<D> {
         // Called for what it tells of the records: each has a spelling.
         let _count = self.frames.len();
         let Log {
-            device,
-            frames: _,
+            frames,
             stable: _,
             answered: _,
             last_not_session: _,
         } = self;
-        device
+        frames.stop()
     }
 
     /// Its records.
-    pub fn frames(&self) -> &Frames
+    pub fn frames(&self) -> &Frames<D>
         ensures { result.now.records ≡ self.now.records }
     {
         &self.frames
@@ -103,6 +98,13 @@ impl<D: LogDevice> Log<D> {
         ensures { result ≡ self.now.stable }
     {
         self.stable
+    }
+
+    /// The bytes of the stable records. Takes no memory and makes no device call.
+    pub fn stable_bytes(&self) -> &[u8]
+        ensures { result.now ≡ spelled (stable_part self.now.records self.now.stable) }
+    {
+        &self.frames.bytes()[..self.frames.end_of(self.stable)]
     }
 
     /// Where in the device's bytes the first records end, so many. Takes no memory and makes no device call.
@@ -192,6 +194,6 @@ impl<D: CrashLog> Log<D> {
         requires { 1 ≤ n }
         ensures { self.new ≡ record self.old { usage = failing_in n self.old.usage } }
     {
-        self.device.fail_at(n);
+        self.frames.fail_at(n);
     }
 }

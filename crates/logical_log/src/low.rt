@@ -2,8 +2,9 @@
 ghost use Rattle.history.specs.Legal.{FitsCheckpoint, IsLatest};
 
 use crate::frames::Frames;
+use stable::LogDevice;
 
-impl Frames {
+impl<D: LogDevice> Frames<D> {
     /// The greatest number up to which every request has its answer, from a number on up to which it is so. Each
     /// record is passed once.
     pub(crate) fn answered_from(&self, known: u64) -> u64

@@ -7,7 +7,6 @@ ghost use Rattle.logical_log.specs.Spelled.{spelled};
 use crate::found::Found;
 use crate::frames::Frames;
 use crate::log::Log;
-use crate::write::refusal_of;
 use record_key::Refusal;
 use stable::LogDevice;
 use std::alloc::Global;
@@ -34,19 +33,17 @@ impl<D: LogDevice> Found<D> {
         ensures needed { IfErr result (λ _. cut_calls self.bytes self.records ≡ 1) }
         ensures failed { IfErr result (λ left. FailsDue self.usage (D.usage left.device)) }
     {
-        let Found {
-            device,
-            frames,
-            index,
-        } = self;
-        let (mut device, mut frames) = (device, frames);
-        if let Err(refusal) = cut_left(&mut device, &mut frames) {
-            return Err(Refused { refusal, device });
+        let Found { frames, index } = self;
+        let mut frames = frames;
+        if let Err(refusal) = cut_left(&mut frames) {
+            return Err(Refused {
+                refusal,
+                device: frames.stop(),
+            });
         }
         let stable = frames.len();
         let answered = frames.answered_from(index.answered);
         Ok(Log {
-            device,
             frames,
             stable,
             answered,
@@ -77,26 +74,23 @@ impl<D: LogDevice> Log<D> {
     }
 }
 
-/// Cuts a cut last frame off the device and its copy, in one device call, or none where no frame is cut.
-fn cut_left<D: LogDevice>(device: &mut D, frames: &mut Frames) -> Result<(), Refusal>
-    requires pending { D.pending device.old ≡ [] }
-    requires copy { D.forced device.old ≡ spelled frames.old.records ++ frames.old.left }
-    ensures forced { OnOk result (D.forced device.new ≡ spelled frames.old.records) }
-    ensures frames { OnOk result (frames.new ≡ record frames.old { left = [] }) }
-    ensures uncut { OnErr result (D.forced device.new ≡ D.forced device.old) }
-    ensures pending { D.pending device.new ≡ [] }
+/// Cuts a cut last frame off the device, in one device call, or none where no frame is cut.
+fn cut_left<D: LogDevice>(frames: &mut Frames<D>) -> Result<(), Refusal>
+    requires none_pending { frames.old.device.pending ≡ [] }
+    requires parts { frames.old.device.forced ≡ spelled frames.old.records ++ frames.old.left }
+    ensures records { OnOk result (frames.new.records ≡ frames.old.records) }
+    ensures read { OnOk result (frames.new.left ≡ []) }
+    ensures forced { OnOk result (frames.new.device.forced ≡ spelled frames.old.records) }
+    ensures uncut { OnErr result (frames.new.device.forced ≡ frames.old.device.forced) }
+    ensures pending { frames.new.device.pending ≡ [] }
     ensures cause { IfErr result (λ given. given ≡ Refusal.Device) }
-    ensures called { OnOk result (D.usage device.new
-        ≡ called_often (cut_calls (D.forced device.old) frames.old.records) (D.usage device.old)) }
-    ensures needed { OnErr result (cut_calls (D.forced device.old) frames.old.records ≡ 1) }
-    ensures failed { OnErr result (FailsDue (D.usage device.old) (D.usage device.new)) }
+    ensures called { OnOk result (frames.new.device.usage
+        ≡ called_often (cut_calls frames.old.device.forced frames.old.records) frames.old.device.usage) }
+    ensures needed { OnErr result (cut_calls frames.old.device.forced frames.old.records ≡ 1) }
+    ensures failed { OnErr result (FailsDue frames.old.device.usage frames.new.device.usage) }
 {
     if frames.is_read() {
         return Ok(());
     }
-    if let Err(error) = device.cut(frames.end()) {
-        return Err(refusal_of(error));
-    }
-    frames.cut();
-    Ok(())
+    frames.cut()
 }

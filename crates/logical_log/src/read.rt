@@ -1,10 +1,10 @@
 //! Reading what a crash left on a device.
-ghost use Rattle.std.specs.Prelude.{◌≡◌, ◌⊎◌, ◌+◌, ◌<◌, ◌∷◌, ◌++◌, [], length, OnOk, IfOk, IfErr};
+ghost use Rattle.std.specs.Prelude.{◌≡◌, ◌⊎◌, ◌+◌, ◌<◌, ◌∷◌, ◌++◌, [], length, OnOk, OnErr, IfOk, IfErr};
 ghost use Rattle.history.specs.Legal.{Fits};
 ghost use Rattle.codec.specs.Frames.{frame, IsCut};
 ghost use Rattle.codec.specs.Records.{record_bytes};
 ghost use Rattle.stable.specs.Usage.{called};
-ghost use Rattle.logical_log.specs.Opening.{BeginsAs, IsLogOf, RefusesBytes, RefusesOpen, UsedToRead};
+ghost use Rattle.logical_log.specs.Opening.{BeginsAs, IsLogOf, RefusesBytes, RefusesOpen, FailsDue, UsedToRead};
 ghost use Rattle.logical_log.specs.Replay.{IsIndex};
 ghost use Rattle.logical_log.specs.Spelled.{spelled, IsNext};
 
@@ -34,62 +34,67 @@ impl<D: LogDevice> Found<D> {
         ensures used { IfErr result (λ left. UsedToRead (D.usage device) left.refusal (D.usage left.device)) }
     {
         let mut device = device;
-        let bytes = match all_bytes(alloc, &mut device) {
-            Ok(bytes) => bytes,
-            Err(refusal) => return Err(Refused { refusal, device }),
-        };
-        match replay(alloc, bytes) {
-            Ok((frames, index)) => Ok(Found {
-                device,
-                frames,
-                index,
+        if let Err(refusal) = fetch(&mut device) {
+            return Err(Refused { refusal, device });
+        }
+        let mut frames = Frames::new(alloc, device);
+        match replay(alloc, &mut frames) {
+            Ok(index) => Ok(Found { frames, index }),
+            Err(refusal) => Err(Refused {
+                refusal,
+                device: frames.stop(),
             }),
-            Err(refusal) => Err(Refused { refusal, device }),
         }
     }
 }
 
-/// A copy of all bytes of a device.
-fn all_bytes<D: LogDevice>(alloc: Global, device: &mut D) -> Result<Vec<u8>, Refusal>
-    ensures bytes { IfOk result (λ bytes. bytes.items ≡ D.forced device.old ++ D.pending device.old) }
+/// The device call by which the bytes are read. They are looked at where the device holds them.
+fn fetch<D: LogDevice>(device: &mut D) -> Result<(), Refusal>
     ensures forced { D.forced device.new ≡ D.forced device.old }
     ensures pending { D.pending device.new ≡ D.pending device.old }
-    ensures cause { IfErr result (λ given. (given ≡ Refusal.Device) ⊎ (given ≡ Refusal.NoMemory)) }
+    ensures cause { IfErr result (λ given. given ≡ Refusal.Device) }
     ensures called { OnOk result (D.usage device.new ≡ called (D.usage device.old)) }
-    ensures used { IfErr result (λ given. UsedToRead (D.usage device.old) given (D.usage device.new)) }
+    ensures failed { OnErr result (FailsDue (D.usage device.old) (D.usage device.new)) }
 {
     match device.bytes() {
-        Ok(bytes) => Ok(Vec::from_slice(alloc, bytes)?),
+        Ok(_) => Ok(()),
         Err(error) => Err(refusal_of(error)),
     }
 }
 
-/// Reads one record after another, with an index of them.
-fn replay(alloc: Global, bytes: Vec<u8>) -> Result<(Frames, Index), Refusal>
-    ensures begins { IfOk result (λ read. BeginsAs bytes.items read.0.records read.0.left) }
-    ensures cut { IfOk result (λ read. IsCut 181 read.0.left) }
-    ensures indexed { IfOk result (λ read. IsIndex read.0.records read.1) }
-    ensures refused { IfErr result (RefusesBytes bytes.items) }
+/// Reads one record after another, and gives an index of them.
+fn replay<D: LogDevice>(alloc: Global, frames: &mut Frames<D>) -> Result<Index, Refusal>
+    requires unread { frames.old.records ≡ [] }
+    ensures begins { OnOk result (BeginsAs frames.old.left frames.new.records frames.new.left) }
+    ensures cut { OnOk result (IsCut 181 frames.new.left) }
+    ensures indexed { IfOk result (IsIndex frames.new.records) }
+    ensures refused { IfErr result (RefusesBytes frames.old.left) }
+    ensures device { frames.new.device ≡ frames.old.device }
 {
-    let mut frames = Frames::new(alloc, bytes);
     let mut index = Index::new(alloc);
     loop {
         // It is looked at where it stands: a record is large.
         let taken = frames.next();
         match &taken {
-            Taken::Record(found, next) => step(&mut frames, &mut index, found, *next)?,
-            Taken::Short => return Ok((frames, index)),
+            Taken::Record(found, next) => step(frames, &mut index, found, *next)?,
+            Taken::Short => return Ok(index),
             Taken::Bad(place) => return Err(Refusal::BadBytes(*place)),
         }
     }
 }
 
 /// Takes in the record that stands next, if it fits.
-fn step(frames: &mut Frames, index: &mut Index, found: &Record, next: usize) -> Result<(), Refusal>
+fn step<D: LogDevice>(
+    frames: &mut Frames<D>,
+    index: &mut Index,
+    found: &Record,
+    next: usize,
+) -> Result<(), Refusal>
     requires stands { IsNext frames.old.records frames.old.left found.now next }
     requires index { IsIndex frames.old.records index.old }
     ensures records { OnOk result (frames.new.records ≡ found.now ∷ frames.old.records) }
     ensures left { OnOk result (frames.old.left ≡ frame (record_bytes found.now) ++ frames.new.left) }
+    ensures device { frames.new.device ≡ frames.old.device }
     ensures room { OnOk result (length frames.old.records < 281474976710655) }
     ensures index { OnOk result (IsIndex frames.new.records index.new) }
     ensures refused { IfErr result (λ given. (given ≡ Refusal.NoMemory)

@@ -14,6 +14,7 @@ use crate::frames::Frames;
 use crate::not_session::last_with;
 use history::Record;
 use record_key::{Key, Op};
+use stable::LogDevice;
 use std::alloc::{AllocError, Global};
 use std::collections::BTreeMap;
 
@@ -55,7 +56,7 @@ impl Index {
     }
 
     /// The same of one that also has no unanswered request.
-    pub(crate) fn ready(&self, frames: &Frames, txn: u64) -> Option<u64>
+    pub(crate) fn ready<D: LogDevice>(&self, frames: &Frames<D>, txn: u64) -> Option<u64>
         requires { IsIndex frames.now.records self.now }
         ensures { ReadyOf frames.now.records txn result }
     {
@@ -95,7 +96,7 @@ impl Index {
     }
 
     /// No other open transaction has an operation on this one's key, unless both are Adds.
-    pub(crate) fn is_free(&self, frames: &Frames, txn: u64, op: &Op) -> bool
+    pub(crate) fn is_free<D: LogDevice>(&self, frames: &Frames<D>, txn: u64, op: &Op) -> bool
         requires { IsIndex frames.now.records self.now }
         ensures { IsTrue result ↔ IsKeyFree frames.now.records txn op.now }
     {

@@ -31,7 +31,7 @@ impl<D: LogDevice> Log<D> {
         if self.len() >= LAST_NUMBER {
             return Err(Refusal::NumbersSpent);
         }
-        self.frames.append(&mut self.device, appended)?;
+        self.frames.append(appended)?;
         let number = self.frames.len();
         self.last_not_session = last_with(appended, number, self.last_not_session);
         Ok(number)
@@ -50,26 +50,22 @@ impl<D: LogDevice> Log<D> {
     {
         let end = self.len();
         let answered = self.answered_of_all();
-        if let Err(error) = self.device.force() {
-            return Err(refusal_of(error));
-        }
+        self.frames.force()?;
         self.stable = end;
         self.answered = answered;
         Ok(end)
     }
 }
 
-/// Appends the record's frame to the device and to the copy of its bytes, to both or to neither.
+/// Spells the record's frame in the place of what stood in `out`, and appends it to the device.
 pub(crate) fn write<D: LogDevice>(
     device: &mut D,
-    bytes: &mut Vec<u8>,
+    out: &mut Vec<u8>,
     appended: &Record,
 ) -> Result<(), Refusal>
     requires { HasNumbers appended.now }
-    ensures copied { OnOk result (bytes.new.items ≡ bytes.old.items ++ frame (record_bytes appended.now)) }
     ensures written { OnOk result (D.pending device.new
         ≡ D.pending device.old ++ frame (record_bytes appended.now)) }
-    ensures not_copied { OnErr result (bytes.new.items ≡ bytes.old.items) }
     ensures not_written { OnErr result (D.pending device.new ≡ D.pending device.old) }
     ensures forced { D.forced device.new ≡ D.forced device.old }
     ensures cause { IfErr result (MayRefuse None) }
@@ -77,14 +73,11 @@ pub(crate) fn write<D: LogDevice>(
     ensures used { D.usage device.new ≡ usage_after (D.usage device.old) result }
     ensures has_spelling { IsRecord appended.now }
 {
-    let place = bytes.len();
-    put_record(bytes, appended)?;
-    match device.append(&bytes[place..]) {
+    out.clear();
+    put_record(out, appended)?;
+    match device.append(out) {
         Ok(()) => Ok(()),
-        Err(error) => {
-            bytes.truncate(place);
-            Err(refusal_of(error))
-        }
+        Err(error) => Err(refusal_of(error)),
     }
 }
 

@@ -6,10 +6,11 @@ use crate::unopened::Cause;
 use history::Record;
 use log_replay::Replay;
 use logical_log::Frames;
+use stable::LogDevice;
 use std::alloc::Global;
 
 /// Reads the records from the first on. Refused NoMemory, or for the first record that is wrong.
-pub fn judge(alloc: Global, frames: &Frames) -> Result<(), Cause>
+pub fn judge<D: LogDevice>(alloc: Global, frames: &Frames<D>) -> Result<(), Cause>
     ensures fit { OnOk result (IsFit frames.now.records) }
     ensures refused { IfErr result (IsWrongIn frames.now.records) }
 {

@@ -52,10 +52,6 @@ or_false : (x : Bool) → (x || false) ≡ x
 or_false true = refl
 or_false false = refl
 
-pub or_in : (x y z : Bool) → ((x || y) || z) ≡ (x || (y || z))
-or_in true y z = refl
-or_in false y z = refl
-
 own : (q : Entry) (e : ℕ × Vec Lock) → e.0 ≡ q.txn → is_listed q e ≡ list_any (is_lock_of q) e.1.items
 own q e same = any_same (is_entry_of e.0 q) (is_lock_of q) e.1.items (λ l. same_txn e.0 l q same)
 

@@ -36,9 +36,9 @@ pub fn find_work<D: LogDevice>(alloc: Global, found: &Found<D>) -> Result<Work, 
 }
 
 /// The same of records and what is known of them.
-pub(crate) fn work_of(
+pub(crate) fn work_of<D: LogDevice>(
     alloc: Global,
-    frames: &Frames,
+    frames: &Frames<D>,
     analysis: &Analysis,
 ) -> Result<Work, AllocError>
     requires known { IsAnalysis frames.now.records analysis.now }
@@ -56,9 +56,9 @@ pub(crate) fn work_of(
 }
 
 /// The open transactions with their latest steps as losers.
-fn losers_of(
+fn losers_of<D: LogDevice>(
     alloc: Global,
-    frames: &Frames,
+    frames: &Frames<D>,
     open_txns: &BTreeMap<u64, u64>,
 ) -> Result<Losers, AllocError>
     requires { (t : ℕ) → KeptOf frames.now.records t (get nat_cmp open_txns.now t) }

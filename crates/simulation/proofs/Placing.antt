@@ -13,7 +13,7 @@ use Rattle.history.specs.Log.{answer_of, is_crossed, op_of, IsOpBy, hist_in, his
 use Rattle.log_laws.proofs.Records.{AnOp, newest_at, had_at, which}
 use Rattle.log_laws.proofs.LegalLogs.{op_number}
 use Rattle.simulation.specs.View.{IsFalling, IsOverLost, IsFreeOf, HasEntry}
-use Rattle.simulation.proofs.Entries.{entry_of, hist_step, older_ops, newest_op, all_filtered}
+use Rattle.simulation.proofs.Entries.{entry_of, hist_step, older_ops, newest_op, all_filtered, is_lt, not_lt}
 
 lt_nat_lt : (m n : ℕ) → m < n → nat_lt m n ≡ true
 lt_nat_lt m n h = grind (arith, nat_tests)
@@ -166,12 +166,6 @@ below_all : (n m : ℕ) (h : List Entry) → n < m → AllByRecursion (λ e. e.n
     → AllByRecursion (λ e. e.number < m) h
 below_all n m [] lt all = tt
 below_all n m (e ∷ h) lt all = (omega (arith, lt, all.0), below_all n m h lt all.1)
-
-not_lt : (m n : ℕ) → nat_lt m n ≡ false → n ≤ m
-not_lt m n h = grind (arith, nat_tests)
-
-is_lt : (m n : ℕ) → nat_lt m n ≡ true → m < n
-is_lt m n h = grind (arith, nat_tests)
 
 -- a filter that keeps it, where all that is older than an entry without a number is below it
 pub filter_placed : (p : Entry → Bool) (e : Entry) (h : List Entry) → p e ≡ true → IsFalling h → IsOverLost e.number h

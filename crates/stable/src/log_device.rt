@@ -50,7 +50,7 @@ pub trait LogDevice {
         ensures device { IsErrOf result DeviceError.Device → IsTrue (is_due (usage self.old)) }
         ensures used { usage self.new ≡ used (usage self.old) result };
 
-    /// All bytes, the forced ones first. They are lent and not copied.
+    /// All bytes, the forced ones first: the call by which a log is read when it is opened. They are lent and not copied.
     fn bytes(&mut self) -> Result<&[u8], DeviceError>
         ensures device { IsErrOf result DeviceError.Device → IsTrue (is_due (usage self.old)) }
         ensures value { IfOk result (λ bytes. bytes.now ≡ forced self.old ++ pending self.old) }
@@ -59,4 +59,9 @@ pub trait LogDevice {
             (forced new ≡ forced self.old)
             × (pending new ≡ pending self.old)
             × (usage new ≡ used (usage self.old) result))) };
+
+    /// All bytes, the forced ones first, as the device holds them in memory. This is no device call: nothing is counted,
+    /// and nothing fails.
+    fn held(&self) -> &[u8]
+        ensures { result.now ≡ forced self.now ++ pending self.now };
 }

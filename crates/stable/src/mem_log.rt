@@ -124,6 +124,12 @@ impl LogDevice for MemLog {
         self.faults.call()?;
         Ok(&self.bytes)
     }
+
+    fn held(&self) -> &[u8]
+        ensures { result.now ≡ self.now.forced ++ self.now.pending }
+    {
+        &self.bytes
+    }
 }
 
 impl CrashLog for MemLog {

@@ -49,45 +49,6 @@ use Rattle.tc_core.proofs.Readings.{no_reading, reads_replaced, reads_begun, rea
 pub none_next : (log : List Record) → IsLegal log → answer_of log (length log + 1) ≡ None
 none_next log legal = nothing_answered (answer_of log (length log + 1)) (unanswered_next log legal)
 
--- nothing is open at first
-pub fresh_tc : (usage : Usage) → IsTc (fresh usage)
-fresh_tc usage = record {
-  legal = tt;
-  within = omega arith;
-  few = record { records = omega arith; reads = omega arith };
-  session = omega arith;
-  phase = refl;
-  asking = λ l is. absurd (cc);
-  low = record {
-    announced = may_none [];
-    asked = λ l is. absurd (cc);
-    checkpointed = inr (refl, λ l named. absurd (let none = named.1 in cc));
-    checked = may_none [];
-  };
-  open_txns = record {
-    each = λ t o at. absurd (cc);
-    late = λ t o at. absurd (cc);
-    all = λ t h late. absurd (let none = h.begun in cc);
-    order = tt;
-    few = omega arith;
-  };
-  committing = refl;
-  lost = record {
-    losers = record {
-      bound = omega arith;
-      listed = record { right = All-nil (IsLoser [] 0); once = λ t is. absurd (omega (arith, is.early)) };
-      undoing = All-nil (IsAt []);
-      done = All-nil (IsUndone []);
-    };
-    phase_of = tt;
-    lacking = λ n due. tt;
-    due = λ n e. absurd (cc);
-  };
-  locks = record { table = empty_table; changing = λ t. refl; others = λ t none. refl; apart = λ t u differ. tt };
-  early = λ t below. refl;
-  reading = record { each = λ t o r at. absurd (cc); apart = λ t u o p r q at. absurd (cc) };
-}
-
 -- the log has a number left
 pub one_more : (log : List Record) → is_spent log ≡ false → length log + 1 ≤ 281474976710655
 one_more log unspent = grind (arith, nat_tests, unspent)

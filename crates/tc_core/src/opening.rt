@@ -111,9 +111,9 @@ fn work_and_locks<D: LogDevice>(
 }
 
 /// The keys of these transactions' operations, compensated or not, each with its transaction.
-fn keys_of(
+fn keys_of<D: LogDevice>(
     alloc: Global,
-    frames: &Frames,
+    frames: &Frames<D>,
     open_txns: &BTreeMap<u64, u64>,
 ) -> Result<Vec<(u64, Key, Mode)>, AllocError>
     ensures { IfOk result (λ keys. (t : ℕ) → listed_spans keys.items t
@@ -141,10 +141,10 @@ fn first_open(open_txns: &BTreeMap<u64, u64>, last: u64) -> u64
 
 /// Notes the key of the record of this number, where it is an operation of one of these transactions. No other record
 /// is read whole.
-fn note_key(
+fn note_key<D: LogDevice>(
     keys: &mut Vec<(u64, Key, Mode)>,
     open_txns: &BTreeMap<u64, u64>,
-    frames: &Frames,
+    frames: &Frames<D>,
     number: u64,
 ) -> Result<(), AllocError>
     ensures { (r : Record) → record_at frames.now.records number ≡ Some r
@@ -163,9 +163,9 @@ fn note_key(
 }
 
 /// The locks of these transactions. Refused NoMemory alone.
-fn held(
+fn held<D: LogDevice>(
     alloc: Global,
-    frames: &Frames,
+    frames: &Frames<D>,
     open_txns: &BTreeMap<u64, u64>,
 ) -> Result<RangeLocks, Refusal>
     requires { (t : ℕ) → KeptOf frames.now.records t (get nat_cmp open_txns.now t) }

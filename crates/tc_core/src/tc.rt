@@ -345,6 +345,13 @@ impl<D: LogDevice> Tc<D> {
         self.parts.log.end_of(count)
     }
 
+    /// The bytes of the stable records. Takes no memory.
+    pub fn stable_bytes(&self) -> &[u8]
+        ensures { result.now ≡ spelled (stable_part self.now.log self.now.stable) }
+    {
+        self.parts.log.stable_bytes()
+    }
+
     /// The number up to which records are stable.
     pub fn stable_end(&self) -> u64
         ensures { result ≡ self.now.stable }

@@ -4,4 +4,4 @@ use Rattle.logical_log.proofs.Checks.{answer_test}
 use Rattle.logical_log.proofs.fits.fits_answer.Goals as goal
 
 pub returns : goal.returns
-returns c = answer_test _ c.args.of _ (ap not c.is_answered.ensures)
+returns g c = answer_test _ c.args.of _ (ap not c.is_answered.ensures)

@@ -22,7 +22,7 @@ index_now log log' r number old new grown is h fits txns keys adders answered la
     subst Of (sym grown) (followed log r number old new h fits n txns keys adders (subst At grown answered) last)
 
 pub returns-in-Checkpoint-clause-index : goal.returns-in-Checkpoint-clause-index
-returns-in-Checkpoint-clause-index c =
+returns-in-Checkpoint-clause-index g c =
     index_now c.args.frames.now.records c.accept.new.self.records c.args.found.now c.len-2.result c.args.index.now
     (record {
       analysis = c.follow.new.self.analysis;
@@ -36,9 +36,10 @@ returns-in-Checkpoint-clause-index c =
     c.answered_from-index.ensures.is c.in_ok-follow.ensures.last
 
 pub returns-in_default : goal.returns-in_default
-returns-in_default c = record {
+returns-in_default g c = record {
   records = c.in_ok-accept.ensures.records;
   left = c.in_ok-accept.ensures.left;
+  device = c.accept.ensures.device;
   room = omega (arith, c.len.ensures.count, c.if-len-ge-LAST_NUMBER.false);
   index =
       let r : Record = c.args.found.now in

@@ -11,14 +11,14 @@ use Rattle.node_store.proofs.Prefixes.{part_none, part_whole, part_next, before_
 use Rattle.node_store.proofs.judging.judge.Goals as goal
 
 pub loop-end-init : goal.loop-end-init
-loop-end-init c = (
+loop-end-init g c = (
   c.new-replay.ensures ∙ sym (part_none c.args.frames.now.records),
   subst HasNoCheckpoint (sym c.new-replay.ensures) none_checked,
   omega arith,
 )
 
 pub unreachable-requires : goal.unreachable-requires
-unreachable-requires c =
+unreachable-requires g c =
     let log = c.args.frames.now.records in
     let n : ℕ = c.loop-end.end + 1 in
     let has = has_record log n (omega arith) (omega (arith, c.loop-end-test.true, c.len.ensures.count)) in
@@ -27,7 +27,7 @@ unreachable-requires c =
     cc
 
 pub loop-end-preserved : goal.loop-end-preserved
-loop-end-preserved c =
+loop-end-preserved g c =
     let log = c.args.frames.now.records in
     let e : ℕ = c.loop-end.end in
     let r : Record = c.in-Some.record in
@@ -44,7 +44,7 @@ loop-end-preserved c =
     )
 
 pub returns-in-Checkpoint-clause-refused : goal.returns-in-Checkpoint-clause-refused
-returns-in-Checkpoint-clause-refused c =
+returns-in-Checkpoint-clause-refused g c =
     let log = c.args.frames.now.records in
     let e : ℕ = c.loop-end.end in
     let low : ℕ = c.in-Checkpoint.low in
@@ -56,7 +56,7 @@ returns-in-Checkpoint-clause-refused c =
     (low, first_at log read e (is.Checkpoint low) lt c.loop-end.invariant.0 right c.loop-end.invariant.1 at)
 
 pub returns-in-Ok-false : goal.returns-in-Ok-false
-returns-in-Ok-false c =
+returns-in-Ok-false g c =
     let log = c.args.frames.now.records in
     let e : ℕ = c.loop-end.end in
     let r : Record = c.in-Some.record in
@@ -78,7 +78,7 @@ returns-in-Ok-false c =
     }
 
 pub returns-clause-fit : goal.returns-clause-fit
-returns-clause-fit c =
+returns-clause-fit g c =
     let log = c.args.frames.now.records in
     let all : c.loop-end.end ≡ length log =
     omega (arith, c.loop-end-test.false, c.len.ensures.count, c.loop-end.invariant.2) in

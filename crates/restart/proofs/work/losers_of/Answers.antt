@@ -10,7 +10,7 @@ use Rattle.restart.proofs.Taking.{AreWith}
 use Rattle.restart.proofs.work.losers_of.Goals as goal
 
 pub loop-txn-init : goal.loop-txn-init
-loop-txn-init c =
+loop-txn-init g c =
     let log : List Record = c.args.frames.now.records in
     let gives = c.into_iter-txn-iterator.ensures.into_iter_gives in
     let entries : List (ℕ × ℕ) = c.args.open_txns.now.entries in
@@ -29,7 +29,7 @@ loop-txn-init c =
     }
 
 pub loop-txn-preserved : goal.loop-txn-preserved
-loop-txn-preserved c =
+loop-txn-preserved g c =
     let log : List Record = c.args.frames.now.records in
     let t : ℕ = c.in-Some.txn.now in
     let last : ℕ = c.in-Some.last.now in

@@ -7,7 +7,7 @@ use Rattle.restart.proofs.Taking.{AreWith}
 use Rattle.restart.proofs.work.losers_of.Given as goal
 
 abbrev pub invariant-loop-txn : goal.invariant-loop-txn
-invariant-loop-txn l = record {
+invariant-loop-txn g l = record {
   kept : IsHeaped l.heaps (length l.txn-iterator);
   below : l.heaps.below ≡ length l.frames.records + 1;
   so_far : AreWith l.frames.records (length l.frames.records + 1) (keys_of l.txn-iterator) (seen l.heaps);

@@ -3,7 +3,7 @@ use Rattle.restart.proofs.RedoStart.{latest_within}
 use Rattle.restart.proofs.work.work_of.Goals as goal
 
 pub overflow_add-result : goal.overflow_add-result
-overflow_add-result c =
+overflow_add-result g c =
     omega (
       arith,
       latest_within c.args.frames.now.records c.args.analysis.now.checkpointed c.requires.legal

@@ -11,7 +11,7 @@ use Rattle.tc_core.proofs.Rebuilt.{AreNoted, noted_none, noted_more, none_past}
 use Rattle.tc_core.proofs.opening.keys_of.Goals as goal
 
 pub loop-end-init : goal.loop-end-init
-loop-end-init c =
+loop-end-init g c =
     let noted = get nat_cmp c.args.open_txns.now in
     let start = c.first_open-end.result in
     let P : List Listed → Type 0 = λ keys. AreNoted c.args.frames.now.records start keys noted in
@@ -28,14 +28,14 @@ there log end within = by (record_at log (end + 1)) refl
     by (Some r) some = (r, some)
 
 pub loop-end-preserved : goal.loop-end-preserved
-loop-end-preserved c =
+loop-end-preserved g c =
     let log = c.args.frames.now.records in
     let at = there log c.loop-end.end (omega (arith, c.loop-end-test.true, c.len-records.ensures.count)) in
     noted_more log c.loop-end.end at.0 c.loop-end.keys.items c.note_key.new.keys.items
     (get nat_cmp c.args.open_txns.now) at.1 (c.in_ok-note_key.ensures at.0 at.1) c.loop-end.invariant
 
 pub returns : goal.returns
-returns c t =
+returns g c t =
     let log = c.args.frames.now.records in
     let noted = get nat_cmp c.args.open_txns.now in
     let e : c.loop-end.end ≡ length log =

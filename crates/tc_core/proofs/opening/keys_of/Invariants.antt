@@ -4,4 +4,4 @@ use Rattle.tc_core.proofs.Rebuilt.{AreNoted}
 use Rattle.tc_core.proofs.opening.keys_of.Given as goal
 
 abbrev pub invariant-loop-end : goal.invariant-loop-end
-invariant-loop-end l = AreNoted l.frames.records l.end l.keys.items (get nat_cmp l.open_txns)
+invariant-loop-end g l = AreNoted l.frames.records l.end l.keys.items (get nat_cmp l.open_txns)

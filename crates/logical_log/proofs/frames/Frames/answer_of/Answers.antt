@@ -3,11 +3,11 @@ use Rattle.logical_log.proofs.Index.{answer_found, answer_of-zero}
 use Rattle.logical_log.proofs.frames.Frames.answer_of.Goals as goal
 
 pub returns-then-number-eq0 : goal.returns-then-number-eq0
-returns-then-number-eq0 c =
+returns-then-number-eq0 g c =
     rw (← c.self.view_is, c.if-number-eq0.true) (sym (answer_of-zero _ c.self.invariant.frames.legal))
 
 pub returns : goal.returns
-returns c =
+returns g c =
     let some : 0 < c.args.number = omega arith in
     rw (
       c.answer_held.ensures,

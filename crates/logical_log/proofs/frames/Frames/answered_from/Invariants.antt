@@ -3,7 +3,7 @@ use Rattle.history.specs.Legal.{FitsCheckpoint}
 use Rattle.logical_log.proofs.frames.Frames.answered_from.Given as goal
 
 abbrev pub invariant-loop-end : goal.invariant-loop-end
-invariant-loop-end l = FitsCheckpoint l.self.records l.end
+invariant-loop-end g l = FitsCheckpoint l.self.records l.end
 
 abbrev pub decreases-loop-end : goal.decreases-loop-end
-decreases-loop-end l = length l.self.records - l.end
+decreases-loop-end g l = length l.self.records - l.end

@@ -4,14 +4,14 @@ use Rattle.logical_log.proofs.Framed.{none_kept, tells_kept}
 use Rattle.logical_log.proofs.frames.Frames.asked_op.Goals as goal
 
 pub returns-in_err-place : goal.returns-in_err-place
-returns-in_err-place c =
+returns-in_err-place g c =
     c.from_residual.ensures ∙ rw (← c.self.view_is) (ap request_in (sym (none_kept _ _ _ _ _ _ c.self.invariant.frames
-    c.args.number (rw c.deref.ensures.value at c.in_err-place.ensures.none))))
+    c.args.number (rw c.held.ensures at c.in_err-place.ensures.none))))
 
 pub returns : goal.returns
-returns c =
+returns g c =
     let t = tells_kept request_of _ _ _ _ _ _ c.self.invariant.frames c.args.number c.in_ok-place.place
-    c.deref-2.result.now c.asked_op.result c.deref-2.ensures.value
-    (rw c.deref.ensures.value at c.in_ok-place.ensures.some)
+    c.held-2.result.now c.asked_op.result c.held-2.ensures
+    (rw c.held.ensures at c.in_ok-place.ensures.some)
     c.asked_op.ensures in
     rw (← c.self.view_is) (t.told_is ∙ ap request_in (sym t.is))

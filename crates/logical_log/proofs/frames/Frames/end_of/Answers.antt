@@ -1,4 +1,4 @@
-use Rattle.std.proofs.Common.{◌≡◌, ℕ, ◌∙◌, ◌<◌, ◌≤◌, List, sym, ap, arith, length, get_or}
+use Rattle.std.proofs.Common.{◌≡◌, ℕ, ◌∙◌, ◌<◌, ◌≤◌, ◌++◌, List, sym, ap, arith, length, get_or}
 use Rattle.history.specs.declared.record.Record.{Record}
 use Rattle.codec.specs.FrameIndex.{place_at}
 use Rattle.codec.proofs.Indexed.{place_of}
@@ -25,15 +25,16 @@ at_end log n end all within is =
     is ∙ ap (λ (l : List Record). length (spelled l)) (sym (ap (stable_part log) last ∙ part_whole log))
 
 pub returns-then-count-len : goal.returns-then-count-len
-returns-then-count-len c =
+returns-then-count-len g c =
     rw (← c.self.view_is)
-    (c.place.ensures ∙ ap (λ (b : List ℕ). place_at b c.args.count) c.deref.ensures.value
+    (c.place.ensures ∙ ap (λ (b : List ℕ). place_at b c.args.count) c.held.ensures
     ∙ at_place _ _ _ _ _ _ _ c.args.count c.self.invariant (omega (arith, c.if-count-len.true, c.len.ensures)))
 
 pub returns-else-count-len : goal.returns-else-count-len
-returns-else-count-len c =
+returns-else-count-len g c =
     let m = c.self.inside in
-    let log : List Record = records_of m.bytes.items m.index.count in
+    let bytes : List ℕ = g.D.LogDevice.forced m.device ++ g.D.LogDevice.pending m.device in
+    let log : List Record = records_of bytes m.index.count in
     let within : c.args.count ≤ length log = rw (← c.self.view_is) at c.requires in
     let all : length log ≤ c.args.count =
     omega (arith, c.if-count-len.false, c.len.ensures, indexed_count _ _ _ _ _ _ _ c.self.invariant) in

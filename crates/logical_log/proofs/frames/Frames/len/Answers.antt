@@ -3,8 +3,8 @@ use Rattle.logical_log.proofs.Framed.{indexed_count}
 use Rattle.logical_log.proofs.frames.Frames.len.Goals as goal
 
 pub returns-clause-count : goal.returns-clause-count
-returns-clause-count c = rw (← c.self.view_is) (c.len.ensures ∙ indexed_count _ _ _ _ _ _ _ c.self.invariant)
+returns-clause-count g c = rw (← c.self.view_is) (c.len.ensures ∙ indexed_count _ _ _ _ _ _ _ c.self.invariant)
 
 pub returns-clause-numbered : goal.returns-clause-numbered
-returns-clause-numbered c =
+returns-clause-numbered g c =
     omega (arith, c.len.ensures ∙ indexed_count _ _ _ _ _ _ _ c.self.invariant, c.self.invariant.frames.numbered)

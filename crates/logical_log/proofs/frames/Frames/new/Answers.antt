@@ -1,4 +1,4 @@
-use Rattle.std.proofs.Common.{◌≡◌, List, ℕ, [], refl}
+use Rattle.std.proofs.Common.{◌≡◌, List, ℕ, [], ◌++◌, refl}
 use Rattle.codec.specs.FrameIndex.{places_of}
 use Rattle.logical_log.specs.Spelled.{records_at, records_of}
 use Rattle.logical_log.proofs.Framed.{indexed_unread}
@@ -9,9 +9,11 @@ unfolding records_at places_of
 none_read bytes = refl
 
 pub invariant_of-result : goal.invariant_of-result
-invariant_of-result c =
-    rw (c.new.ensures.marks, c.new.ensures.count, c.new-2.ensures.items, none_read c.args.bytes.items)
-    (indexed_unread c.args.bytes.items)
+invariant_of-result g c =
+    let bytes : List ℕ = g.D.LogDevice.forced c.args.device ++ g.D.LogDevice.pending c.args.device in
+    rw (c.new.ensures.marks, c.new.ensures.count, c.new-2.ensures.items, none_read bytes) (indexed_unread bytes)
 
 pub returns : goal.returns
-returns c = rw (c.new.ensures.count, none_read c.args.bytes.items) refl
+returns g c =
+    let bytes : List ℕ = g.D.LogDevice.forced c.args.device ++ g.D.LogDevice.pending c.args.device in
+    rw (c.new.ensures.count, none_read bytes) refl

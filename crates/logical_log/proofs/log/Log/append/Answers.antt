@@ -5,13 +5,8 @@ use Rattle.logical_log.proofs.log.Log.append.Goals as goal
 
 pub invariant_of-self-2 : goal.invariant_of-self-2
 invariant_of-self-2 g c =
-    rw (
-      c.in_ok-append.ensures.records,
-      c.in_ok-append.ensures.forced,
-      c.in_ok-append.ensures.written,
-      c.last_with-self-inside.ensures,
-    )
+    rw (c.in_ok-append.ensures.appended, c.last_with-self-inside.ensures)
     (kept_longer g.D.LogDevice.forces_whole c.self.inside.frames c.self.inside.stable c.self.inside.answered
-    c.self.inside.last_not_session _ _ c.args.appended.now c.len-number.result c.self.invariant
-    (c.len-number.ensures.count ∙ ap (λ (f : FramesView). length f.records) c.in_ok-append.ensures.records
+    c.self.inside.last_not_session c.args.appended.now c.len-number.result c.self.invariant
+    (c.len-number.ensures.count ∙ ap (λ (f : FramesView). length f.records) c.in_ok-append.ensures.appended
     ∙ omega arith))

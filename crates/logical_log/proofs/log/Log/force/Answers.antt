@@ -1,4 +1,4 @@
-use Rattle.std.proofs.Common.{◌≡◌, sym, ap, ◌∙◌, length}
+use Rattle.std.proofs.Common.{◌≡◌, sym, ap, ◌∙◌, length, refl}
 use Rattle.logical_log.specs.LogView.{LogView}
 use Rattle.logical_log.proofs.Kept.{kept_all}
 use Rattle.logical_log.proofs.log.Log.force.Goals as goal
@@ -7,9 +7,7 @@ pub invariant_of-self-2 : goal.invariant_of-self-2
 invariant_of-self-2 g c =
     let end : c.len-end.result ≡ length c.self.inside.frames.records = c.len-end.ensures.count
     ∙ ap (λ (v : LogView). length v.records) (sym c.self.view_is) in
-    rw end
-    (kept_all g.D.LogDevice.forces_whole c.self.inside.frames c.answered_of_all-answered.result
-    c.self.inside.last_not_session _ _
-    c.self.invariant.all_read (c.in_default.ensures.all_forced ∙ c.self.invariant.stored)
-    c.in_default.ensures.none_pending
+    rw (end, c.in_ok-force.ensures.forced)
+    (kept_all g.D.LogDevice.forces_whole _ c.answered_of_all-answered.result c.self.inside.last_not_session
+    c.self.invariant.all_read c.self.invariant.stored refl
     (rw (← c.self.view_is) at c.answered_of_all-answered.ensures) c.self.invariant.last_is)

@@ -8,7 +8,7 @@ use Rattle.logical_log.proofs.Checks.{free_test}
 use Rattle.logical_log.proofs.replay.Index.is_free.Goals as goal
 
 pub returns-else-is_add : goal.returns-else-is_add
-returns-else-is_add c =
+returns-else-is_add g c =
     let index = c.args.self.now in
     let t : ℕ = c.args.txn in
     let o = c.args.op.now in

@@ -4,7 +4,7 @@ use Rattle.logical_log.proofs.Checks.{ready_test}
 use Rattle.logical_log.proofs.replay.Index.ready.Goals as goal
 
 pub returns-then-is_answered : goal.returns-then-is_answered
-returns-then-is_answered c =
+returns-then-is_answered g c =
     let Of : Option ℕ → Type 0 = λ v. KeptOf c.args.frames.now.records c.args.txn v in
     let some : latest_in c.args.self.now c.args.txn ≡ Some c.in_ok-latest.latest = sym c.latest.ensures
     ∙ c.in_ok-latest.was in
