@@ -83,7 +83,7 @@ impl Client {
         let (txn, high) = (self.txn, Some(high));
         self.step(&Event::Scan { txn, low, high })?;
         match &self.exchange(&Event::Send { txn })? {
-            Out::Rows { rows, .. } => Ok(rows.as_slice().len()),
+            Out::Rows { rows, .. } => Ok(rows.len()),
             _ => Err(Refusal::Unanswered),
         }
     }

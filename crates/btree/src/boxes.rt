@@ -1,22 +1,19 @@
 //! Leaves in boxes, in key order: the leaf of a key, what is done there, and leaves that are put among them.
 ghost use Rattle.std.specs.Prelude.{◌≡◌, ◌+◌, ◌<◌, true, not, length, map, get_or, set, vec_len};
 ghost use Rattle.std.specs.Prelude.{OnErr, IfOk, IfErr, IsOk, IsOkUnless};
-ghost use Rattle.std.specs.Option.{option_copied};
 ghost use Rattle.std.specs.Vec.{vec_capacity};
 ghost use Rattle.record_key.specs.Table.{key_of};
 ghost use Rattle.record_key.specs.Order.{ends_above};
-ghost use Rattle.history.specs.Spans.{Shared, rows_in};
 ghost use Rattle.ab_lsn.specs.AbLsn.{captures};
 ghost use Rattle.page.specs.Leaf.{first, raised_to};
-ghost use Rattle.btree.specs.Leaves.{AreLeaves, leaf_at, place_at, rows_of};
-ghost use Rattle.btree.specs.Lists.{leaves_in, is_past};
+ghost use Rattle.btree.specs.Leaves.{AreLeaves, leaf_at, place_at};
+ghost use Rattle.btree.specs.Lists.{leaves_in};
 ghost use Rattle.btree.specs.Parting.{may_split_at, may_merge_at, split_at, merged_at, IsSplitOf, IsMergeOf};
 ghost use Rattle.btree.specs.Performs.{PerformsAt};
 
 use crate::parting::{Merge, Split};
-use page::{Done, Leaf, add_rows};
-use record_key::{Key, Op, Refusal, Value};
-use std::alloc::Global;
+use page::{Done, Leaf};
+use record_key::{Key, Op, Refusal};
 
 /// The place of the leaf that has the key.
 pub fn place_in(leaves: &[Box<Leaf>], key: &Key) -> usize
@@ -35,40 +32,6 @@ fn ends_at_most(leaf: &Leaf, key: &Key) -> bool
         Some(fence) => !key.cmp(fence).is_lt(),
         None => false,
     }
-}
-
-/// Whether no key of the leaf is below the end of a range, where it has one.
-pub fn begins_past(leaf: &Leaf, high: Option<&Key>) -> bool
-    ensures { result ≡ is_past leaf.now.low_fence (option_copied high.entry) }
-{
-    match (leaf.low_fence(), high) {
-        (Some(fence), Some(high)) => !fence.cmp(high).is_lt(),
-        _ => false,
-    }
-}
-
-/// Copies of the records from `low` on, below `high` where there is one. Refused NoMemory.
-pub fn scan_in(
-    alloc: Global,
-    leaves: &[Box<Leaf>],
-    low: &Key,
-    high: Option<&Key>,
-) -> Result<Vec<(Key, Value)>, Refusal>
-    requires { AreLeaves (leaves_in leaves.now) }
-    ensures rows { IfOk result (λ rows. rows.items
-        ≡ rows_in (record { lo = low.now; hi = option_copied high.entry; mode = Shared })
-        (rows_of (leaves_in leaves.now))) }
-    ensures refused { IfErr result (λ refusal. refusal ≡ Refusal.NoMemory) }
-{
-    let mut rows = Vec::new(alloc);
-    let rest = &leaves[place_in(leaves, low)..];
-    for leaf in rest {
-        if begins_past(leaf, high) {
-            return Ok(rows);
-        }
-        add_rows(&mut rows, leaf.scan(low, high))?;
-    }
-    Ok(rows)
 }
 
 /// Performs the operation at the leaf of its key.

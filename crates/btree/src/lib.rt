@@ -13,6 +13,7 @@ mod leaf_set;
 mod list;
 mod parting;
 mod planning;
+mod range_scan;
 mod tree;
 
 pub use laws::{tree_law, tree_undo_law};
@@ -20,4 +21,5 @@ pub use leaf_set::{LeafSet, one_leaf};
 pub use list::LeafList;
 pub use parting::{Merge, Split};
 pub use planning::{may_merge, may_split, merge_at, plan_merge, plan_split, split_at};
+pub use range_scan::scan;
 pub use tree::Tree;

@@ -1,7 +1,7 @@
 //! Leaves in a plain list.
 ghost use Rattle.std.specs.Prelude.{◌≡◌};
 
-use crate::boxes::{merge_in, perform_in, place_in, raise_in, replace_in, scan_in, split_in};
+use crate::boxes::{merge_in, perform_in, place_in, raise_in, replace_in, split_in};
 use crate::choosing::{large_in, pair_in};
 use crate::leaf_set::LeafSet;
 use crate::parting::{Merge, Split};
@@ -75,10 +75,6 @@ impl LeafSet for LeafList {
 
     fn get(&self, key: &Key) -> Option<&Value> {
         self.leaves[place_in(self.leaves.as_slice(), key)].get(key)
-    }
-
-    fn scan(&self, low: &Key, high: Option<&Key>) -> Result<Vec<(Key, Value)>, Refusal> {
-        scan_in(self.alloc, self.leaves.as_slice(), low, high)
     }
 
     fn first_large(&self, known: u64) -> Option<usize> {

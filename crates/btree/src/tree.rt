@@ -11,7 +11,6 @@ mod growing;
 mod node;
 mod shrinking;
 mod summary;
-mod walking;
 
 use crate::leaf_set::LeafSet;
 use crate::parting::{Merge, Split};
@@ -23,7 +22,6 @@ use record_key::{Key, Op, Refusal, Value};
 use shrinking::remove_in;
 use std::alloc::Global;
 use std::marker::Model;
-use walking::scan_under;
 
 /// Leaves in a tree. Inner nodes have two to eight children, and all leaves lie at one depth.
 #[derive(Drop)]
@@ -90,10 +88,6 @@ impl LeafSet for Tree {
 
     fn get(&self, key: &Key) -> Option<&Value> {
         self.root.leaf_of(key).get(key)
-    }
-
-    fn scan(&self, low: &Key, high: Option<&Key>) -> Result<Vec<(Key, Value)>, Refusal> {
-        scan_under(self.alloc, &self.root, low, high)
     }
 
     fn first_large(&self, known: u64) -> Option<usize> {

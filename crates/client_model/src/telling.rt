@@ -89,8 +89,11 @@ impl Model {
         let Some(Span::Range { .. }) = self.reads(txn) else {
             return Ok(Out::Nothing);
         };
-        let rows = Rows::new(self.told_rows(alloc, txn)?);
-        Ok(Out::Rows { txn, rows })
+        let mut rows = Rows::new(alloc);
+        match rows.add(&self.told_rows(alloc, txn)?) {
+            Ok(()) => Ok(Out::Rows { txn, rows }),
+            Err(_) => Err(AllocError),
+        }
     }
 
     /// The span that the transaction reads.

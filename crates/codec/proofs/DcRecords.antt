@@ -8,11 +8,11 @@ use Rattle.codec.specs.declared.dc_record.DcRecord.{DcRecord}
 use Rattle.codec.specs.declared.dc_record.DcRecord.TheVariants as is
 use Rattle.codec.specs.Fields.{number, IsNumber, text, IsKey}
 use Rattle.codec.specs.Images.{image_bytes, IsImage}
-use Rattle.codec.specs.DcRecords.{dc_record_bytes, IsOrderedDcRecord, IsDcRecord}
+use Rattle.codec.specs.DcRecords.{dc_record_bytes, IsDcRecord}
 use Rattle.codec.specs.Reading.{pair, mapped, number_at, key_at, image_at, merge_at, dc_record_at}
 use Rattle.codec.proofs.Readers.{IsReader, both, made_again, where_reads, choice, one_of_takes}
 use Rattle.codec.proofs.Fields.{length-number, numbers_length, number_reads, key_reads}
-use Rattle.codec.proofs.Images.{image_reads, image_is_ordered}
+use Rattle.codec.proofs.Images.{image_reads}
 
 split_reads : IsReader (ℕ × (Bytes × LeafImage)) (λ p. number p.0 ++ (text p.1.0 ++ image_bytes p.1.1))
     (λ p. IsNumber p.0 × (IsKey p.1.0 × IsImage p.1.1)) (pair number_at (pair key_at image_at))
@@ -66,10 +66,3 @@ unfolding dc_record_bytes
 dc_record_not_empty (is.Accept session) = omega arith
 dc_record_not_empty (is.Split left cut right) = omega arith
 dc_record_not_empty (is.Merge left right merged) = omega arith
-
--- a record that has a spelling may be written
-pub dc_record_is_ordered : (r : DcRecord) → IsDcRecord r → IsOrderedDcRecord r
-dc_record_is_ordered (is.Accept session) fits = fits
-dc_record_is_ordered (is.Split left cut right) fits = (fits.0, image_is_ordered right fits.1.1)
-dc_record_is_ordered (is.Merge left right merged) fits =
-    (fits.0.0, (fits.0.1.0, (image_is_ordered merged fits.0.1.1, fits.1)))

@@ -11,11 +11,11 @@ use Rattle.codec.specs.declared.image.LeafImage.{LeafImage}
 use Rattle.codec.specs.Fields.{number, IsNumber, text, IsKey, optional}
 use Rattle.codec.specs.Rows.{rows_bytes, AreRows}
 use Rattle.codec.specs.Entries.{entries_bytes, AreEntries}
-use Rattle.codec.specs.Images.{KeepsBounds, image_bytes, IsOrderedImage, IsImage}
+use Rattle.codec.specs.Images.{KeepsBounds, image_bytes, IsImage}
 use Rattle.codec.specs.Reading.{numbers_rise, keeps_bounds, mapped, ImageParts, image_of, image_parts_at, optional_at, key_at, image_at}
 use Rattle.codec.proofs.Readers.{IsReader, both, mapped_reads, fits_as, where_reads}
 use Rattle.codec.proofs.Fields.{length-number, numbers_length, number_reads, optional_reads, key_reads}
-use Rattle.codec.proofs.Lists.{rows_read, entries_read, entry_numbers}
+use Rattle.codec.proofs.Lists.{rows_read, entries_read}
 
 -- an image but for the bounds that its parts keep
 abbrev AreParts : LeafImage → Type 0
@@ -114,15 +114,3 @@ image_length image =
     let both_fences = length-append (optional text image.low_fence) (optional text image.high_fence) in
     let both_lists = length-append (rows_bytes image.rows) (entries_bytes image.entries) in
     omega arith
-
--- an image that has a spelling may be written
-pub image_is_ordered : (image : LeafImage) → IsImage image → IsOrderedImage image
-image_is_ordered image fits =
-    record {
-      id = fits.id;
-      last = fits.last;
-      low = fits.low;
-      rows = fits.rows.1;
-      numbers = entry_numbers image.entries fits.entries.1;
-      bounds = fits.bounds;
-    }

@@ -6,6 +6,7 @@ pub mod Items
 pub mod Rising
 pub mod ItemLoops
 pub mod Lists
+pub mod PackedRows
 pub mod Replies
 pub mod Images
 pub mod DcRecords

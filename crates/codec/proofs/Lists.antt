@@ -1,12 +1,12 @@
 -- Numbers, rows and entries: what is read is spelled so, and what has a spelling is read again.
-use Rattle.std.proofs.Common.{◌≡◌, ℕ, ◌<◌, ◌+◌, ◌^◌, List, [], ◌∷◌, ◌++◌, length, refl, arith}
+use Rattle.std.proofs.Common.{◌≡◌, ℕ, ◌<◌, ◌+◌, ◌^◌, List, ◌++◌, length, refl, arith}
 use Rattle.std.specs.List.{AllByRecursion}
 use Rattle.std.proofs.lemmas.List.{length-append}
 use Rattle.record_key.specs.Rows.{Row, rises}
 use Rattle.record_key.specs.declared.entry.Entry.{Entry}
 use Rattle.codec.specs.Fields.{number, IsNumber, text, answer_bytes, counted}
 use Rattle.codec.specs.Rows.{row_bytes, IsRow, rows_bytes, AreRows}
-use Rattle.codec.specs.Entries.{entry_bytes, HasEntryNumber, IsEntry, entries_bytes, AreEntries}
+use Rattle.codec.specs.Entries.{entry_bytes, IsEntry, entries_bytes, AreEntries}
 use Rattle.codec.specs.Reading.{pair, number_at, row_at, rows_at, counted_at, entry_at, entries_at}
 use Rattle.codec.proofs.Readers.{IsReader, both, mapped_reads, where_reads}
 use Rattle.codec.proofs.Fields.{numbers_length, number_reads, key_reads, answer_reads, row_reads}
@@ -30,10 +30,6 @@ entry_reads = mapped_reads _ Entry _ _ _ entry_bytes IsEntry (both number_reads 
 pub entries_read : IsReader (List Entry) entries_bytes AreEntries entries_at
 unfolding entries_bytes entries_at
 entries_read = counted_reads Entry entry_bytes IsEntry entry_at entry_reads
-
-pub entry_numbers : (entries : List Entry) → AllByRecursion IsEntry entries → AllByRecursion HasEntryNumber entries
-entry_numbers [] fits = tt
-entry_numbers (entry ∷ entries) fits = (fits.0.0, entry_numbers entries fits.1)
 
 pub entry_length : (entry : Entry)
     → length (entry_bytes entry) ≡ 8 + (length (text entry.key) + length (answer_bytes entry.answer))

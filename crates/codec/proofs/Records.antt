@@ -7,7 +7,7 @@ use Rattle.history.specs.declared.record.Record.TheVariants as is
 use Rattle.record_key.specs.declared.op.Op.{Op}
 use Rattle.record_key.specs.declared.op.Answer.{Answer}
 use Rattle.codec.specs.Fields.{number, IsNumber, optional, op_bytes, IsOp, answer_bytes, IsAnswer}
-use Rattle.codec.specs.Records.{record_bytes, HasNumbers, IsRecord}
+use Rattle.codec.specs.Records.{record_bytes, IsRecord}
 use Rattle.codec.specs.Reading.{Reader, fixed, pair, mapped, number_at, optional_at, op_at, answer_at, record_at}
 use Rattle.codec.proofs.Readers.{IsReader, pair_reads, mapped_again, IsChoice, fixed_choice, mapped_choice, one_of_takes}
 use Rattle.codec.proofs.Fields.{length-number, numbers_length, number_reads, optional_reads, op_reads, op_length, answer_reads, answer_length}
@@ -164,14 +164,3 @@ record_length (is.Comp txn undoes next inverse) fits =
 record_length (is.Commit txn) fits = let len = length-number txn in (omega arith, omega arith)
 record_length (is.End txn) fits = let len = length-number txn in (omega arith, omega arith)
 record_length (is.Checkpoint low) fits = let len = length-number low in (omega arith, omega arith)
-
--- a record that has a spelling may be written
-pub has_numbers : (r : Record) → IsRecord r → HasNumbers r
-has_numbers is.Session fits = tt
-has_numbers is.Begin fits = tt
-has_numbers (is.Op txn prev o) fits = (fits.0, fits.1.0)
-has_numbers (is.Answer of a) fits = fits.0
-has_numbers (is.Comp txn undoes next inverse) fits = (fits.0, fits.1.0, fits.1.1.0)
-has_numbers (is.Commit txn) fits = fits
-has_numbers (is.End txn) fits = fits
-has_numbers (is.Checkpoint low) fits = fits

@@ -9,7 +9,7 @@ use Rattle.codec.specs.declared.reply.Reply.TheVariants as is
 use Rattle.codec.specs.Fields.{number, IsNumber, text, IsValue, optional, answer_bytes, IsAnswer}
 use Rattle.codec.specs.Rows.{rows_bytes, AreRows}
 use Rattle.codec.specs.Frames.{frame, any_length, HasKind, IsFrameOf}
-use Rattle.codec.specs.Replies.{reply_bytes, has_rows, IsOrdered, IsReply}
+use Rattle.codec.specs.Replies.{reply_bytes, has_rows, IsReply}
 use Rattle.codec.specs.Reading.{pair, number_at, rows_at, optional_at, value_at, answer_at, reply_choices, reply_at, frame_at, within}
 use Rattle.codec.specs.declared.taken.Taken.TheVariants as took
 use Rattle.codec.proofs.Frames as frames
@@ -79,15 +79,6 @@ reply_not_empty (is.Row session read value) = omega arith
 reply_not_empty (is.Rows session read rows) = omega arith
 reply_not_empty (is.Checkpointed session low) = omega arith
 reply_not_empty (is.RedoEnded session) = omega arith
-
--- a reply that has a spelling may be written
-pub is_ordered : (r : Reply) → IsReply r → IsOrdered r
-is_ordered (is.Connected session) fits = fits
-is_ordered (is.Answered session n a) fits = (fits.0, fits.1.0)
-is_ordered (is.Row session read value) fits = (fits.0, fits.1.0)
-is_ordered (is.Rows session read rows) fits = (fits.0, fits.1.0, fits.1.1.1)
-is_ordered (is.Checkpointed session low) fits = fits
-is_ordered (is.RedoEnded session) fits = fits
 
 -- a reply's frame is taken, whatever follows it
 pub reply_taken : (place : ℕ) (left : List ℕ) (r : Reply) (rest : List ℕ) → IsReply r → length (reply_bytes r) < 2 ^ 64

@@ -2,6 +2,7 @@ pub mod Fields
 pub mod Records
 pub mod Requests
 pub mod Rows
+pub mod PackedRows
 pub mod Replies
 pub mod Entries
 pub mod Images

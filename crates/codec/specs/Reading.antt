@@ -13,7 +13,7 @@ use Rattle.codec.specs.declared.request.Request.TheVariants as asks
 use Rattle.codec.specs.declared.taken.Taken.{Taken}
 use Rattle.codec.specs.declared.taken.Taken.TheVariants as took
 use Rattle.record_key.specs.Rows.{Row, rises}
-use Rattle.record_key.specs.Order.{is_between}
+use Rattle.record_key.specs.Order.{is_below, is_between}
 use Rattle.codec.specs.declared.reply.Reply.{Reply}
 use Rattle.codec.specs.declared.reply.Reply.TheVariants as says
 use Rattle.codec.specs.declared.fault.Fault.{Fault}
@@ -183,6 +183,11 @@ request_at = one_of (
 
 unfoldable pub rows_at : Reader (List Row)
 rows_at = where_ rises (counted_at row_at)
+
+-- what follows so many rows whose keys rise from above this one
+unfoldable pub rows_end : Bytes → ℕ → List ℕ → Option (List ℕ)
+rows_end before zero bytes = Some bytes
+rows_end before (suc n) bytes = row_at bytes >>= λ x. if is_below before x.0.0 then rows_end x.0.0 n x.1 else None
 
 abbrev pub reply_choices : List (ℕ × Reader Reply)
 reply_choices =

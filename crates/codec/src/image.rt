@@ -14,7 +14,7 @@ use crate::fault::Fault;
 use crate::frame::HEADER_LEN;
 use crate::lengths::optional_key_len;
 use crate::reading::{take_number, take_optional_key};
-use crate::rows::{Rows, key_is_below, put_rows, rows_len, take_rows};
+use crate::row_list::{RowList, key_is_below, put_row_list, row_list_len, take_row_list};
 use crate::taken::Taken;
 use crate::writing::{put_number, put_optional_key};
 use record_key::{Entries, Key, Refusal, Value};
@@ -33,7 +33,7 @@ pub struct LeafImage {
     /// The first key above them that doesn't. None: there is no bound above.
     pub high_fence: Option<Key>,
     /// The records, with rising keys.
-    pub rows: Rows,
+    pub rows: RowList,
     /// The operations above `low` that are done, with rising numbers.
     pub entries: Entries,
 }
@@ -96,7 +96,7 @@ pub fn leaf_image_len(image: &LeafImageRef<'_>) -> Option<usize>
     ensures none { IfNone result (2 ^ 64 ≤ length (image_bytes (image_in image.now))) }
 {
     let fences = optional_key_len(image.low_fence) + optional_key_len(image.high_fence);
-    let Some(rows) = rows_len(image.rows) else {
+    let Some(rows) = row_list_len(image.rows) else {
         return None;
     };
     let Some(entries) = entries_len(image.entries) else {
@@ -187,7 +187,7 @@ pub(crate) fn put_image(out: &mut Vec<u8>, image: &LeafImageRef<'_>)
     put_number(out, image.low);
     put_optional_key(out, image.low_fence);
     put_optional_key(out, image.high_fence);
-    put_rows(out, image.rows);
+    put_row_list(out, image.rows);
     put_entries(out, image.entries);
 }
 
@@ -225,7 +225,7 @@ fn take_parts(alloc: Global, bytes: &[u8]) -> Result<(LeafImage, &[u8]), Fault>
     let Some(((low_fence, high_fence), rest)) = take_fences(rest) else {
         return Err(Fault::Outside);
     };
-    let (rows, rest) = take_rows(alloc, rest)?;
+    let (rows, rest) = take_row_list(alloc, rest)?;
     let (entries, rest) = take_entries(alloc, rest)?;
     let image = LeafImage {
         id: numbers.id,

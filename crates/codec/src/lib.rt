@@ -19,6 +19,8 @@ mod reading;
 mod record;
 mod reply;
 mod request;
+mod row_list;
+mod row_reader;
 mod rows;
 mod taken;
 mod writing;
@@ -33,5 +35,7 @@ pub use image::{
 pub use record::{asked_op, left_to_undo, put_record, record_spelling_law, step_txn, take_record};
 pub use reply::{Reply, put_reply, reply_session, reply_spelling_law, take_reply};
 pub use request::{Request, put_request, request_spelling_law, take_request};
+pub use row_list::RowList;
+pub use row_reader::RowReader;
 pub use rows::Rows;
 pub use taken::Taken;

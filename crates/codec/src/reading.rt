@@ -34,7 +34,7 @@ pub(crate) fn take_count(bytes: &[u8]) -> Option<(u64, &[u8])>
 }
 
 #[tactic(auto, unfolding(crate::specs::Reading::bytes_at))]
-fn take_bytes(bytes: &[u8]) -> Option<(&[u8], &[u8])>
+pub(crate) fn take_bytes(bytes: &[u8]) -> Option<(&[u8], &[u8])>
     ensures { Gives (λ x. (x.0.now, x.1.now)) result (bytes_at bytes.now) }
 {
     let (length, rest) = bytes.split_first()?;

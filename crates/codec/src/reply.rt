@@ -12,7 +12,7 @@ use crate::frame::{HEADER_LEN, left_at, take_framed};
 use crate::framed::Framed;
 use crate::lengths::{optional_answer_len, optional_value_len};
 use crate::reading::{take_number, take_optional_answer, take_optional_value};
-use crate::rows::{Rows, put_rows, rows_len, take_rows};
+use crate::rows::{Rows, take_rows};
 use crate::taken::Taken;
 use crate::writing::{
     put_head, put_long_head, put_number, put_optional_answer, put_optional_value,
@@ -134,7 +134,7 @@ fn frame_len(reply: &Reply) -> Option<usize>
         Reply::Answered { answer, .. } => Some(25 + optional_answer_len(answer)),
         Reply::Row { value, .. } => Some(25 + optional_value_len(value)),
         Reply::Rows { rows, .. } => {
-            let Some(len) = rows_len(rows.as_slice()) else {
+            let Some(len) = rows.spelled_len() else {
                 return None;
             };
             len.checked_add(25)
@@ -172,7 +172,7 @@ fn put_body(out: &mut Vec<u8>, reply: &Reply)
             rows,
         } => {
             put_long_head(out, ROWS, *session, *read);
-            put_rows(out, rows.as_slice());
+            rows.put(out);
         }
         Reply::Checkpointed { session, low } => put_long_head(out, 0x15, *session, *low),
         Reply::RedoEnded { session } => put_head(out, 0x16, *session),

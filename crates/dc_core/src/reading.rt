@@ -8,7 +8,7 @@ ghost use Rattle.dc_core.specs.Serves.{range};
 
 use crate::parts::Parts;
 use codec::{Reply, Rows};
-use page::add_rows;
+use page::{RowSink, add_rows};
 use record_key::{Key, Refusal, Value};
 use stable::{LogDevice, PageDevice};
 
@@ -39,7 +39,11 @@ impl<D: LogDevice, P: PageDevice> Parts<D, P> {
             (rows_in (range low.now (option_copied high.entry)) (rows_of self.now.system.leaves))) }
         ensures refused { IfErr result (λ refusal. refusal ≡ Refusal.NoMemory) }
     {
-        let rows = Rows::new(self.system.scan(low, high)?);
+        let mut found = ReplyRows {
+            rows: Rows::new(self.system.allocator()),
+        };
+        self.system.scan(low, high, &mut found)?;
+        let ReplyRows { rows } = found;
         Ok(Reply::Rows {
             session,
             read,
@@ -57,5 +61,19 @@ impl<D: LogDevice, P: PageDevice> Parts<D, P> {
             add_rows(&mut rows, self.system.leaf(place).rows())?;
         }
         Ok(rows)
+    }
+}
+
+/// The rows of a reply, as a scan finds them.
+#[derive(Drop)]
+struct ReplyRows {
+    rows: Rows,
+}
+
+impl RowSink for ReplyRows {
+    ghost rows = { λ found. found.rows };
+
+    fn add(&mut self, more: &[(Key, Value)]) -> Result<(), Refusal> {
+        self.rows.add(more)
     }
 }

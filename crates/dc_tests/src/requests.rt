@@ -60,7 +60,12 @@ pub fn put_reply(text: &mut Text, reply: &Reply) {
         }
         Reply::Rows { rows, .. } => {
             text.put("rows");
-            text.put_rows(rows.as_slice());
+            let mut reader = rows.reader();
+            for _ in 0..rows.len() {
+                if let Some((key, value)) = reader.next() {
+                    text.put_row(&key, &value);
+                }
+            }
         }
     }
 }

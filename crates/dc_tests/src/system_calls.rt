@@ -64,7 +64,8 @@ fn read(system: &System, name: &str, words: &mut Words, answer: &mut Text) -> Re
         "leaf" => put_leaf(answer, leaf_at(system, words.number()? as usize)?),
         "scan" => {
             let low = words.key()?;
-            let rows = system.scan(&low, words.end()?.as_ref())?;
+            let mut rows = Vec::new(system.allocator());
+            system.scan(&low, words.end()?.as_ref(), &mut rows)?;
             answer.put("rows");
             answer.put_rows(rows.as_slice());
         }

@@ -1,5 +1,5 @@
 //! Calls of leaves, each in a function that promises nothing, so that what calls it is checked soon.
-use btree::{LeafSet, merge_at, one_leaf, split_at};
+use btree::{LeafSet, merge_at, one_leaf, scan as range_scan, split_at};
 use call_lines::Tally;
 use page::Done;
 use record_key::{Key, Op, Refusal, Value};
@@ -13,12 +13,15 @@ pub fn get<'a, L: LeafSet>(leaves: &'a L, key: &Key) -> Option<&'a Value> {
     leaves.get(key)
 }
 
+/// Copies of the records from `low` on, below `high` where there is one.
 pub fn scan<L: LeafSet>(
     leaves: &L,
     low: &Key,
     high: Option<&Key>,
 ) -> Result<Vec<(Key, Value)>, Refusal> {
-    leaves.scan(low, high)
+    let mut rows = Vec::new(leaves.allocator());
+    range_scan(leaves, low, high, &mut rows)?;
+    Ok(rows)
 }
 
 pub fn split<L: LeafSet>(leaves: &mut L, key: &Key, id: u64, number: u64) -> Result<(), Refusal> {

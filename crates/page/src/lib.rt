@@ -11,10 +11,12 @@ mod laws;
 mod leaf;
 mod parting;
 mod requests;
+mod row_sink;
 mod rows;
 mod taking_back;
 mod tops;
 
 pub use laws::leaf_law;
 pub use leaf::{Done, Leaf};
+pub use row_sink::RowSink;
 pub use rows::add_rows;

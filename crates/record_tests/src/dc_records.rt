@@ -9,7 +9,7 @@ use record_key::Refusal;
 use std::fmt::Write;
 use test_lines::put_key;
 
-#[tactic(auto, using(codec::proofs::DcRecords::dc_record_is_ordered))]
+#[tactic(auto, using(crate::proofs::Ordered::dc_record_is_ordered))]
 pub fn read(reading: &Reading<'_>, answer: &mut String) -> Result<Found, Refusal> {
     let taken = take_dc_record(reading.alloc, reading.bytes, reading.at)?;
     match taken {

@@ -1,17 +1,17 @@
 //! Images of leaves.
 ghost use Rattle.codec.specs.Images.{IsOrderedImage};
 
-use crate::rows::put_rows;
+use crate::rows::put_listed;
 use crate::walking::{Found, Reading};
 use crate::written::{marked, told, unwritten};
-use codec::{LeafImage, Rows, Taken, put_leaf_image, take_leaf_image};
+use codec::{LeafImage, RowList, Taken, put_leaf_image, take_leaf_image};
 use record_key::{Entries, Entry, Key, Refusal};
 use std::alloc::Global;
 use std::fmt::Write;
 use test_lines::{OUTSIDE, put_answer, put_hex, put_key};
 
 /// Reads the image that all of the bytes are.
-#[tactic(auto, using(codec::proofs::Images::image_is_ordered))]
+#[tactic(auto, using(crate::proofs::Ordered::image_is_ordered))]
 pub fn read(reading: &Reading<'_>, answer: &mut String) -> Result<Found, Refusal> {
     let taken = take_leaf_image(reading.alloc, reading.bytes)?;
     match taken {
@@ -44,7 +44,7 @@ pub fn put_fields(answer: &mut String, image: &LeafImage) -> Result<(), Refusal>
     put_fence(answer, " from", &image.low_fence)?;
     put_fence(answer, " to", &image.high_fence)?;
     answer.push_str(" rows")?;
-    put_rows(answer, image.rows.as_slice())?;
+    put_listed(answer, image.rows.as_slice())?;
     answer.push_str(" entries")?;
     put_entries(answer, &image.entries)
 }
@@ -81,7 +81,7 @@ pub fn put_blank(alloc: Global, id: u64, answer: &mut String) -> Result<(), Refu
         low: 0,
         low_fence: None,
         high_fence: None,
-        rows: Rows::new(Vec::new(alloc)),
+        rows: RowList::new(Vec::new(alloc)),
         entries: Entries::new(alloc),
     };
     let mut out = Vec::new(alloc);

@@ -7,7 +7,7 @@ use codec::{Taken, put_record, take_record};
 use history::Record;
 use record_key::Refusal;
 
-#[tactic(auto, using(codec::proofs::Records::has_numbers))]
+#[tactic(auto, using(crate::proofs::Ordered::has_numbers))]
 pub fn read(reading: &Reading<'_>, answer: &mut String) -> Result<Found, Refusal> {
     match take_record(reading.bytes, reading.at) {
         Taken::Record(found, next) => {

@@ -9,7 +9,7 @@ use record_key::{Answer, Refusal, Value};
 use std::fmt::Write;
 use test_lines::{put_answer, put_text};
 
-#[tactic(auto, using(codec::proofs::Replies::is_ordered))]
+#[tactic(auto, using(crate::proofs::Ordered::is_ordered))]
 pub fn read(reading: &Reading<'_>, answer: &mut String) -> Result<Found, Refusal> {
     let taken = take_reply(reading.alloc, reading.bytes, reading.at)?;
     match taken {
@@ -70,7 +70,7 @@ fn put_fields(answer: &mut String, reply: &Reply) -> Result<(), Refusal> {
             rows,
         } => {
             write!(answer, "rows session {session} read {read}")?;
-            put_rows(answer, rows.as_slice())?;
+            put_rows(answer, rows)?;
         }
         Reply::Checkpointed { session, low } => {
             write!(answer, "checkpointed session {session} low {low}")?;

@@ -4,23 +4,38 @@ use record_key::{Key, Refusal, Value};
 use std::alloc::Global;
 use test_lines::{Words, put_key, put_text};
 
-/// Tells each row.
-pub fn put_rows(answer: &mut String, rows: &[(Key, Value)]) -> Result<(), Refusal> {
+/// Tells each row of a leaf.
+pub fn put_listed(answer: &mut String, rows: &[(Key, Value)]) -> Result<(), Refusal> {
     for (key, value) in rows {
-        put_key(answer, "", key)?;
-        answer.push('=')?;
-        put_text(answer, value.as_bytes())?;
+        put_row(answer, key, value)?;
     }
     Ok(())
 }
 
+/// Tells each row of a reply.
+pub fn put_rows(answer: &mut String, rows: &Rows) -> Result<(), Refusal> {
+    let mut reader = rows.reader();
+    for _ in 0..rows.len() {
+        if let Some((key, value)) = reader.next() {
+            put_row(answer, &key, &value)?;
+        }
+    }
+    Ok(())
+}
+
+fn put_row(answer: &mut String, key: &Key, value: &Value) -> Result<(), Refusal> {
+    put_key(answer, "", key)?;
+    answer.push('=')?;
+    put_text(answer, value.as_bytes())
+}
+
 /// So many rows, a key and a value each.
 fn rows_in(alloc: Global, words: &mut Words<'_>) -> Result<Rows, Refusal> {
-    let mut rows = Vec::new(alloc);
+    let mut rows = Rows::new(alloc);
     for _ in 0..words.number()? {
-        rows.push(row_in(words)?)?;
+        rows.add(&[row_in(words)?])?;
     }
-    Ok(Rows::new(rows))
+    Ok(rows)
 }
 
 fn row_in(words: &mut Words<'_>) -> Result<(Key, Value), Refusal> {

@@ -3,10 +3,10 @@ ghost use Rattle.std.specs.Prelude.{◌≡◌, ◌++◌, ◌<◌, ◌≤◌, ◌
 ghost use Rattle.std.specs.FinMap as map;
 ghost use Rattle.std.specs.Option.{option_copied};
 ghost use Rattle.record_key.specs.Table.{key_of};
-ghost use Rattle.history.specs.Spans.{Shared, rows_in};
 ghost use Rattle.ab_lsn.specs.AbLsn.{captures};
 ghost use Rattle.page.specs.Leaf.{first};
 ghost use Rattle.stable.specs.Crash.{BeginsWith};
+ghost use Rattle.history.specs.Spans.{Shared, rows_in};
 ghost use Rattle.btree.specs.Leaves.{leaf_at, place_at, rows_of};
 ghost use Rattle.btree.specs.Performs.{PerformsAt};
 ghost use Rattle.recovery_laws.specs.Shape.{beginning};
@@ -20,8 +20,8 @@ ghost use Rattle.system_txn.specs.Kept.{IsSystem};
 use crate::devices::{Device, Devices, Refused};
 use crate::parts::Parts;
 use crate::tended::{Neighbours, Tended};
-use btree::LeafSet;
-use page::{Done, Leaf};
+use btree::{LeafSet, scan};
+use page::{Done, Leaf, RowSink};
 use record_key::{Key, Op, Refusal, Value};
 use stable::{CrashLog, CrashPages, LogDevice, PageDevice};
 use std::alloc::Global;
@@ -179,14 +179,20 @@ impl<L: LeafSet, D: LogDevice, P: PageDevice> SystemTxns<L, D, P> {
         self.parts.leaves.get(key)
     }
 
-    /// Copies of the records from `low` on, below `high` where there is one. Refused NoMemory.
-    pub fn scan(&self, low: &Key, high: Option<&Key>) -> Result<Vec<(Key, Value)>, Refusal>
-        ensures rows { IfOk result (λ rows. rows.items
-            ≡ rows_in (record { lo = low.now; hi = option_copied high.entry; mode = Shared })
+    /// Puts copies of the records from `low` on, below `high` where there is one, at the end of `found`. Refused NoMemory;
+    /// some of them may stand there then.
+    pub fn scan<S: RowSink>(
+        &self,
+        low: &Key,
+        high: Option<&Key>,
+        found: &mut S,
+    ) -> Result<(), Refusal>
+        ensures found { OnOk result (S.rows found.new ≡ S.rows found.old
+            ++ rows_in (record { lo = low.now; hi = option_copied high.entry; mode = Shared })
             (rows_of self.now.leaves)) }
         ensures memory { IsOkUnless result Refusal.NoMemory }
     {
-        self.parts.leaves.scan(low, high)
+        scan(&self.parts.leaves, low, high, found)
     }
 
     /// How many records the log has.

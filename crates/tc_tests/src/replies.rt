@@ -49,12 +49,12 @@ fn answer_of(words: &mut Words) -> Result<Option<Answer>, Refusal> {
 
 /// `KEY VALUE ..`.
 fn rows_of(alloc: Global, words: &mut Words) -> Result<Rows, Refusal> {
-    let mut rows = Vec::new(alloc);
+    let mut rows = Rows::new(alloc);
     for _ in 0..9 {
         if words.are_read() {
             break;
         }
-        rows.push((words.key()?, words.value()?))?;
+        rows.add(&[(words.key()?, words.value()?)])?;
     }
-    Ok(Rows::new(rows))
+    Ok(rows)
 }

@@ -78,7 +78,12 @@ pub fn put_told(text: &mut Text, numbers: Numbers, told: &Told) {
         }
         Told::Rows { txn, rows } => {
             numbers.put(text, "rows", *txn);
-            text.put_rows(rows.as_slice());
+            let mut reader = rows.reader();
+            for _ in 0..rows.len() {
+                if let Some((key, value)) = reader.next() {
+                    text.put_row(&key, &value);
+                }
+            }
         }
         Told::Undone(number) => numbers.put(text, "undone", *number),
         Told::CheckpointLogged(number) => numbers.put(text, "checkpoint", *number),

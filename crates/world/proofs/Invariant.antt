@@ -3,6 +3,7 @@ pub mod Announced
 pub mod AtKeys
 pub mod ByNumber
 pub mod CallsKeep
+pub mod FreshTc
 pub mod Captured
 pub mod Carries
 pub mod Framed

@@ -183,7 +183,7 @@ impl<D: CrashLog> TcSide<D> {
         }
     }
 
-    /// How far the session has come. Refused NotConnected where the component is down; so are the next five.
+    /// How far the session has come. Refused NotConnected where the component is down; so are the next six.
     pub fn phase(&self) -> Result<Phase, Refusal>
         ensures phase { IfOk result (λ phase. phase ≡ self.now.tc.phase) }
         ensures up { OnOk result (self.now.up ≡ true) }
@@ -232,6 +232,16 @@ impl<D: CrashLog> TcSide<D> {
         ensures down { OnErr result (self.now.up ≡ false) }
     {
         Ok(self.running()?.end_of(count))
+    }
+
+    /// The bytes of the stable records.
+    pub fn stable_bytes(&self) -> Result<&[u8], Refusal>
+        ensures bytes { IfOk result (λ bytes. bytes.now ≡ spelled (stable_part self.now.tc.log self.now.tc.stable)) }
+        ensures up { OnOk result (self.now.up ≡ true) }
+        ensures refused { IfErr result (λ refusal. refusal ≡ Refusal.NotConnected) }
+        ensures down { OnErr result (self.now.up ≡ false) }
+    {
+        Ok(self.running()?.stable_bytes())
     }
 
     /// The greatest number that a LowWater may announce, 0 where clients aren't served.

@@ -3,6 +3,8 @@ ghost use Rattle.std.specs.Prelude.{◌≡◌, ◌<◌, ◌↔◌, true, false, 
 ghost use Rattle.std.specs.FinMap.{entries};
 ghost use Rattle.history.specs.Log.{record_at};
 ghost use Rattle.history.specs.ListMachine.{fresh};
+ghost use Rattle.logical_log.specs.Low.{stable_part};
+ghost use Rattle.logical_log.specs.Spelled.{spelled};
 ghost use Rattle.page.specs.Leaf.{first};
 ghost use Rattle.btree.specs.Leaves.{rows_of};
 ghost use Rattle.dc_core.specs.DcView.{leaves};
@@ -223,6 +225,18 @@ impl<D: CrashLog, P: CrashPages> World<D, P> {
         ensures down { OnErr result (self.now.tc_up ≡ false) }
     {
         self.node.tc.stable_end()
+    }
+
+    /// The bytes of the stable records, as docs/FORMATS.md spells them: what whoever keeps the log outside has to keep.
+    /// They only grow, but for a crash. Lent, without a device call. Refused NotConnected where the transaction component
+    /// is down.
+    pub fn stable_bytes(&self) -> Result<&[u8], Refusal>
+        ensures bytes { IfOk result (λ bytes. bytes.now ≡ spelled (stable_part self.now.tc.log self.now.tc.stable)) }
+        ensures up { OnOk result (self.now.tc_up ≡ true) }
+        ensures refused { IfErr result (λ refusal. refusal ≡ Refusal.NotConnected) }
+        ensures down { OnErr result (self.now.tc_up ≡ false) }
+    {
+        self.node.tc.stable_bytes()
     }
 
     /// The first round of settling that applies, if any is left: restart the data component, then the other; connect

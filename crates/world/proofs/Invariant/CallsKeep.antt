@@ -30,8 +30,8 @@ use Rattle.tc_core.specs.declared.told.UndoStep.{UndoStep}
 use Rattle.tc_core.specs.declared.told.UndoStep.TheVariants as undo
 use Rattle.tc_core.specs.declared.told.RecoverStep.TheVariants as step
 use Rattle.tc_core.specs.OpenTxns.{find}
-use Rattle.stable.specs.Usage.{unused, failed}
-use Rattle.tc_core.specs.TcView.{TcView, fresh}
+use Rattle.stable.specs.Usage.{failed}
+use Rattle.tc_core.specs.TcView.{TcView}
 use Rattle.tc_core.specs.Refusing.{Refuses}
 use Rattle.tc_core.specs.Causes.{begin_refusal, idle_refusal, is_full, answered_refusal, undo_refusal, undo_logs, logs_next, saves_of, has_savepoint, reads_spent, RefusesTaking, commit_refusal, serving_refusal}
 use Rattle.tc_core.specs.Changes.{shared, logged_session, committed, answered, was_told, checkpointed, next_of, inverse_at}
@@ -68,9 +68,6 @@ refused_keeps : (cause : Option Refusal) (memory device : Bool) (old new : TcVie
 refused_keeps (Some c) memory device old new r k h = subst IsTc (sym h.1) k
 refused_keeps None memory device old new r k (inl h) = subst IsTc (sym h.2) k
 refused_keeps None memory device old new r k (inr h) = subst IsTc (sym h.2) (keeps_used old (failed old.usage) k)
-
-pub fresh_tc : IsTc (fresh unused)
-fresh_tc = Rattle.tc_core.proofs.KeepsTc.fresh_tc unused
 
 pub session_keeps : (w : TcView) → IsTc w → spent_refusal w.log ≡ None → IsTc (logged_session w)
 session_keeps w k free = keeps_logged w k (unspent (is_spent w.log) free)

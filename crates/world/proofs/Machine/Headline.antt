@@ -33,7 +33,7 @@ use Rattle.world.specs.Node.{NodeView, with_dc, StepsTo, IfUp, IfTcUp, IfDcUp, d
 use Rattle.world.specs.Stepping.{IsStep, Chain}
 use Rattle.world.specs.Kept.{IsKept, IsSent}
 use Rattle.world.specs.Simulation.{StepsIf, lines_of, Happens, Run, Leads, LeadsAll, Stands}
-use Rattle.world.proofs.Invariant.CallsKeep.{fresh_tc}
+use Rattle.world.proofs.Invariant.FreshTc.{fresh_tc}
 use Rattle.simulation.proofs.Told.{fresh_stands}
 use Rattle.world.proofs.Invariant.ByNumber.{all_at}
 use Rattle.world.proofs.Invariant.Carries.{replied}

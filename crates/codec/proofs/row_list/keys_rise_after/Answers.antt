@@ -2,7 +2,7 @@ use Rattle.std.proofs.Common.{◌≡◌, ◌<◌, ℕ, ◌+◌, true, List, ◌�
 use Rattle.record_key.specs.Order.{is_below}
 use Rattle.record_key.specs.Rows.{Row, rises}
 use Rattle.record_key.proofs.Rows.{rises_next}
-use Rattle.codec.proofs.rows.keys_rise_after.Goals as goal
+use Rattle.codec.proofs.row_list.keys_rise_after.Goals as goal
 
 -- the row of this turn is the first of those that are left, and above the one before it
 turn : (rows : List Row) (i : ℕ) (before row : Row) → i < length rows → row ≡ get_or rows i row

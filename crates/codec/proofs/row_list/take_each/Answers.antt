@@ -1,6 +1,6 @@
 use Rattle.codec.specs.Reading.{items_at, row_at}
 use Rattle.codec.proofs.Items.{goes_on, ends, is_done}
-use Rattle.codec.proofs.rows.take_each.Goals as goal
+use Rattle.codec.proofs.row_list.take_each.Goals as goal
 
 pub returns-in_default : goal.returns-in_default
 returns-in_default c = ends row_at c.loop.rows.items c.args.count c.loop.counter c.loop.rest.now

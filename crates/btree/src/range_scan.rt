@@ -1,0 +1,44 @@
+//! A scan from leaf to leaf.
+ghost use Rattle.std.specs.Prelude.{◌≡◌, ◌++◌, OnOk, IsOkUnless};
+ghost use Rattle.std.specs.Option.{option_copied};
+ghost use Rattle.history.specs.Spans.{Shared, rows_in};
+ghost use Rattle.btree.specs.Leaves.{rows_of};
+ghost use Rattle.btree.specs.Lists.{is_past};
+
+use crate::leaf_set::LeafSet;
+use page::{Leaf, RowSink};
+use record_key::{Key, Refusal};
+
+/// Puts copies of the records from `low` on, below `high` where there is one, at the end of `found`. Refused NoMemory;
+/// some of them may stand there then.
+pub fn scan<L: LeafSet, S: RowSink>(
+    leaves: &L,
+    low: &Key,
+    high: Option<&Key>,
+    found: &mut S,
+) -> Result<(), Refusal>
+    ensures found { OnOk result (S.rows found.new ≡ S.rows found.old
+        ++ rows_in (record { lo = low.now; hi = option_copied high.entry; mode = Shared })
+        (rows_of (L.leaves leaves.now))) }
+    ensures memory { IsOkUnless result Refusal.NoMemory }
+{
+    leaves.kept();
+    for place in leaves.place_of(low)..leaves.len() {
+        let leaf = leaves.leaf(place);
+        if begins_past(leaf, high) {
+            return Ok(());
+        }
+        found.add(leaf.scan(low, high))?;
+    }
+    Ok(())
+}
+
+/// Whether no key of the leaf is below the end of a range, where it has one.
+fn begins_past(leaf: &Leaf, high: Option<&Key>) -> bool
+    ensures { result ≡ is_past leaf.now.low_fence (option_copied high.entry) }
+{
+    match (leaf.low_fence(), high) {
+        (Some(fence), Some(high)) => !fence.cmp(high).is_lt(),
+        _ => false,
+    }
+}
