@@ -1,9 +1,8 @@
 //! Crashes and restarts, as bars over the whole height.
 use crate::shapes::put_box;
 use crate::sheet::{At, HEAD, Sheet};
-use crate::step::Doing;
-use crate::story::Story;
 use crate::text::Text;
+use node_story::{Doing, Story};
 use std::io;
 use world::Out;
 

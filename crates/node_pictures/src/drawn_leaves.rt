@@ -1,10 +1,9 @@
 //! The lanes of the leaves.
 use crate::labels::{begin_label, end_label, put_clipped, put_numbered};
-use crate::leaf::{Birth, Change, What};
 use crate::shapes::{put_box, put_circle, put_cross, put_line};
 use crate::sheet::{At, LEAF, NAME, Sheet};
-use crate::story::Story;
 use crate::text::Text;
+use node_story::{Birth, Change, Story, What};
 use std::io;
 
 pub fn draw_leaves<W: io::Write>(text: &mut Text<'_, W>, story: &Story<'_>, sheet: Sheet) {

@@ -1,12 +1,10 @@
 //! The log: a row of records, each in the column of the step that logged it.
 use crate::labels::{put_label, put_numbered};
-use crate::log_seen::txn_of;
-use crate::logged::Logged;
 use crate::shapes::{put_arc, put_box, put_line};
 use crate::sheet::{ARCS, At, BOX, NAME, Sheet};
-use crate::story::Story;
 use crate::text::Text;
 use history::Record;
+use node_story::{Logged, Story, txn_of};
 use std::io;
 use world::Out;
 

@@ -1,10 +1,9 @@
 //! Messages, as arrows between the two components.
 use crate::labels::{put_label, put_numbered};
-use crate::message::{Delivery, Fate, Message};
 use crate::shapes::{put_cross, put_line};
 use crate::sheet::{At, NAME, Sheet};
-use crate::story::Story;
 use crate::text::Text;
+use node_story::{Delivery, Fate, Message, Story};
 use std::io;
 
 pub fn draw_messages<W: io::Write>(text: &mut Text<'_, W>, story: &Story<'_>, sheet: Sheet) {

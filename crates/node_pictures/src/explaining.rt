@@ -1,6 +1,4 @@
 //! The text that explains a script, line by line.
-use crate::playing::{play, play_line};
-use crate::story::{Story, begin};
 use crate::text::Text;
 use crate::told_leaves::tell_leaves;
 use crate::told_log::tell_log;
@@ -9,6 +7,7 @@ use crate::told_steps::tell_steps;
 use crate::told_txns::tell_txns;
 use crate::wrapped::put_wrapped;
 use node_shell::{DONE, FAILED, FAULT, first_fault, refusal_of, refuse};
+use node_story::{Story, begin, play, play_line};
 use record_key::Refusal;
 use std::alloc::Global;
 use std::io;

@@ -2,9 +2,8 @@
 use crate::labels::{begin_label, begin_upright, end_label, put_clipped, put_numbered};
 use crate::rounds::put_round;
 use crate::sheet::{At, HEAD, Sheet};
-use crate::step::Step;
-use crate::story::Story;
 use crate::text::Text;
+use node_story::{Step, Story};
 use std::io;
 use world::Out;
 

@@ -1,13 +1,10 @@
 //! What steps do in the lane of a transaction.
-use crate::actor::Actor;
 use crate::labels::put_numbered;
-use crate::log_seen::txn_of;
-use crate::logged::Logged;
 use crate::shapes::{put_box, put_circle, put_line};
 use crate::sheet::{At, Sheet};
-use crate::step::Step;
 use crate::text::Text;
 use history::Record;
+use node_story::{Actor, Logged, Step, txn_of};
 use std::io;
 use world::Out;
 

@@ -1,7 +1,6 @@
 //! The events of a line that settles.
-use crate::step::{Doing, Step};
-use crate::story::{Story, label_of};
 use crate::text::Text;
+use node_story::{Doing, Step, Story, label_of};
 use std::io;
 
 /// What such an event is, as a line of its own would name it.

@@ -1,6 +1,6 @@
 //! What a step has changed at leaves, in words.
-use crate::leaf::{Change, What};
 use crate::text::Text;
+use node_story::{Change, What};
 
 /// A line of each change that this step has made.
 pub fn tell_changes(text: &mut Text<'_, Vec<u8>>, changes: &[Change], at: usize) {

@@ -3,8 +3,8 @@ ghost use Rattle.std.specs.Prelude.{◌≡◌, true, length};
 ghost use Rattle.node_shell.specs.View.{leaves_of};
 
 use crate::numbers::Numbers;
-use crate::story::Story;
 use crate::text::Text;
+use node_story::Story;
 use page::Leaf;
 use record_key::Key;
 use world::World;

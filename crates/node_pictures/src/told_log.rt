@@ -1,9 +1,7 @@
 //! The log, in words: how long it is, what of it is stable, and what isn't answered.
-use crate::log_seen::is_asked;
-use crate::logged::Logged;
 use crate::numbers::Numbers;
-use crate::story::Story;
 use crate::text::Text;
+use node_story::{Logged, Story, is_asked};
 
 /// A line of the log as it is.
 pub fn tell_log(text: &mut Text<'_, Vec<u8>>, story: &Story<'_>) {

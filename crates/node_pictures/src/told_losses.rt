@@ -1,8 +1,6 @@
 //! What a crash has taken, in words. It shows at the restart: so it is read from the story of the whole script.
-use crate::leaf::{Change, What};
-use crate::step::{Doing, Step};
-use crate::story::Story;
 use crate::text::Text;
+use node_story::{Change, Doing, Step, Story, What};
 use world::Out;
 
 /// The lines of what the crash in this step has taken.

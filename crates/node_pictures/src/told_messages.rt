@@ -1,7 +1,6 @@
 //! Messages, in words: which haven't arrived.
-use crate::message::{About, Message};
-use crate::story::Story;
 use crate::text::Text;
+use node_story::{About, Message, Story};
 
 /// A line of the messages that were never delivered, if there are any.
 pub fn tell_messages(text: &mut Text<'_, Vec<u8>>, story: &Story<'_>) {

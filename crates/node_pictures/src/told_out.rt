@@ -1,10 +1,8 @@
 //! What a step came to, in words.
-use crate::log_seen::find;
-use crate::step::{Doing, Step};
-use crate::story::{Story, label_of};
 use crate::text::Text;
 use history::Record;
 use node_shell::request;
+use node_story::{Doing, Step, Story, find, label_of};
 use world::Out;
 
 /// What a step came to, and the end of its line.
@@ -32,7 +30,7 @@ pub fn tell_out(text: &mut Text<'_, Vec<u8>>, story: &Story<'_>, step: &Step<'_>
                 *txn,
                 " is given the rows that it asked for: ",
             );
-            numbered(text, "", rows.as_slice().len() as u64);
+            numbered(text, "", rows.len() as u64);
         }
         Out::Compensated(number) => tell_comp(text, story, *number),
         out => tell_plain(text, story, step, out),

@@ -1,14 +1,11 @@
 //! What each step of a line has done, in words.
-use crate::message::{Delivery, Fate};
-use crate::messages::message_of;
 use crate::rounds::put_round;
-use crate::step::Step;
-use crate::story::Story;
 use crate::text::Text;
 use crate::told_changes::tell_changes;
 use crate::told_losses::tell_losses;
 use crate::told_messages::put_message;
 use crate::told_out::tell_out;
+use node_story::{Delivery, Fate, Step, Story, message_of};
 use world::Out;
 
 /// Lines of the steps from this one on.

@@ -1,10 +1,9 @@
 //! How the transactions stand, in words: who is open, waits, rolls back or commits, who holds which keys and how, and
 //! what undo does next.
-use crate::actor::{Actor, End, Hold, Mode, State};
-use crate::story::Story;
 use crate::text::Text;
 use crate::told_out::put_name;
 use crate::undoing::tell_undo;
+use node_story::{Actor, End, Hold, Mode, State, Story};
 
 /// A line of each transaction that hasn't ended.
 pub fn tell_txns(text: &mut Text<'_, Vec<u8>>, story: &Story<'_>) {

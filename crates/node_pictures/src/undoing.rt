@@ -1,9 +1,7 @@
 //! What undo does next, and why it never begins again.
-use crate::actor::{Actor, State};
-use crate::logged::Logged;
-use crate::story::Story;
 use crate::text::Text;
 use history::Record;
+use node_story::{Actor, Logged, State, Story};
 
 /// Where a chain stands: its last record, and what that leaves to undo.
 #[derive(Clone, Copy)]

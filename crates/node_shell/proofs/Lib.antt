@@ -5,5 +5,3 @@ pub mod Bindings
 pub mod Running
 pub mod Numbers
 pub mod Telling
-pub mod Options
-pub mod Subcommands

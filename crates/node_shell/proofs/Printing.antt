@@ -99,3 +99,32 @@ pub cut_at_item : {X : Type 0} (f : X → List ℕ) (a b c : Option (List ℕ)) 
 cut_at_item {X} f a b c xs i x d lt at before cut =
     let P : X → Type 0 = λ v. IsCut b c (f v) in
     cut_in_list f a b c xs i d lt before (subst P at cut)
+
+-- the text of the first elements of a list, and those that are left
+pub record PrintsSoFar (X : Type 0) (f : X → List ℕ) (first now : Option (List ℕ)) (all left : List X) : Type 0 where
+  pub done : List X
+  pub parts : all ≡ done ++ left
+  pub printed : Appends first now (flat_map f done)
+
+-- the next element's text too
+pub one_more : {X : Type 0} (f : X → List ℕ) (a b c : Option (List ℕ)) (all left : List X) (x : X) (rest : List X)
+    → PrintsSoFar X f a b all left → left ≡ x ∷ rest → Appends b c (f x) → PrintsSoFar X f a c all rest
+one_more f a b c all left x rest h next item =
+    let longer : flat_map f h.done ++ f x ≡ flat_map f (h.done ++ x ∷ []) =
+    ap (λ v. flat_map f h.done ++ v) (sym (append-nil (f x))) ∙ sym (flat_map-append f h.done (x ∷ [])) in
+    record {
+      done = h.done ++ x ∷ [];
+      parts = h.parts ∙ ap (λ v. h.done ++ v) next ∙ sym (append_assoc h.done (x ∷ []) rest);
+      printed = subst (λ (v : List ℕ). Appends a c v) longer (appends_then a b c (flat_map f h.done) (f x) h.printed item);
+    }
+
+-- a beginning of the next element's text
+pub cut_at_next : {X : Type 0} (f : X → List ℕ) (a b c : Option (List ℕ)) (all left : List X) (x : X) (rest : List X)
+    → PrintsSoFar X f a b all left → left ≡ x ∷ rest → IsCut b c (f x) → IsCut a c (flat_map f all)
+cut_at_next f a b c all left x rest h next cut =
+    let whole : (flat_map f h.done ++ f x) ++ flat_map f rest ≡ flat_map f all =
+    append_assoc (flat_map f h.done) (f x) (flat_map f rest) ∙ sym (flat_map-append f h.done (x ∷ rest))
+    ∙ ap (flat_map f) (sym (h.parts ∙ ap (λ v. h.done ++ v) next)) in
+    subst (λ (v : List ℕ). IsCut a c v) whole
+    (cut_longer a c (flat_map f h.done ++ f x) (flat_map f rest)
+    (cut_later a b c (flat_map f h.done) (f x) h.printed cut))

@@ -1,6 +1,4 @@
 pub mod Words
-pub mod CommandLine
-pub mod Asked
 pub mod Script
 pub mod Labels
 pub mod Printed

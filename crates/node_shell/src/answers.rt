@@ -5,8 +5,9 @@ ghost use Rattle.node_shell.specs.Answers.{answer_text, answered_line, value_lin
 
 use crate::pieces::{Piece, print};
 use crate::printed::{print_numbered, print_valued};
-use crate::rows::print_rows;
-use record_key::{Answer, Key, Value};
+use crate::rows::print_packed;
+use codec::Rows;
+use record_key::{Answer, Value};
 use std::io;
 
 /// The answer to a number: a transaction's to its client, or a record's.
@@ -68,7 +69,7 @@ pub fn value_piece(value: &Option<Value>) -> Piece<'_>
 }
 
 /// How many rows a transaction's scan found, and a line of each.
-pub fn print_found<W: io::Write>(writer: &mut W, txn: u64, rows: &[(Key, Value)]) -> io::Result<()>
+pub fn print_found<W: io::Write>(writer: &mut W, txn: u64, rows: &Rows) -> io::Result<()>
     ensures { Prints (W.contents writer.old) (W.contents writer.new) result (found_text txn rows.now) }
 {
     print(
@@ -81,5 +82,5 @@ pub fn print_found<W: io::Write>(writer: &mut W, txn: u64, rows: &[(Key, Value)]
             Piece::Text("\n"),
         ],
     )?;
-    print_rows(writer, rows)
+    print_packed(writer, rows)
 }

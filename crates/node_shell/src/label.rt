@@ -14,7 +14,7 @@ use std::collections::BTreeMap;
 use std::marker::Model;
 
 /// A label: 1 to 8 lower case letters or digits, kept inline.
-#[derive(Debug, Clone, PartialEq, Eq, Drop)]
+#[derive(Clone, PartialEq, Eq, Drop)]
 pub struct Label {
     bytes: ArrayVec<u8, 8>,
 }

@@ -1,7 +1,8 @@
 //! A shell for the node: it reads a script and writes what its lines came to.
 //!
-//! Knows: the grammar of scripts, the text of every answer, record, row, leaf and refusal, and the command line.
-//! Must not know: how the node keeps its records, its log or its messages; what it reads from and writes to.
+//! Knows: the grammar of scripts, and the text of every answer, record, row, leaf and refusal.
+//! Must not know: how the node keeps its records, its log or its messages; what it reads from and writes to; the command
+//! line.
 //! Promises the programs above that what is written is the text of the script that was read: a line's text is that
 //! of the node's own answer to it, nothing else is written, and the exit status says how the script ended.
 #![tactic(auto)]
@@ -26,7 +27,6 @@ mod script_run;
 mod shell;
 mod shown;
 mod stopping;
-mod task;
 mod told;
 mod words;
 
@@ -42,5 +42,4 @@ pub use script::{first_fault, request};
 pub use script_run::{DONE, FAILED, FAULT, refusal_of, refuse, run, run_on};
 pub use shell::Shell;
 pub use stopping::Stopping;
-pub use task::{Task, choose};
 pub use told::print_told;

@@ -4,7 +4,7 @@ use record_key::Value;
 use world::Event;
 
 /// What a write does at its key.
-#[derive(Debug, Clone, Copy, PartialEq, Eq)]
+#[derive(Clone, Copy)]
 pub enum Kind {
     Insert,
     Update,
@@ -14,7 +14,7 @@ pub enum Kind {
 }
 
 /// What happens to a label's transaction.
-#[derive(Debug, Clone, Copy, PartialEq, Eq)]
+#[derive(Clone, Copy)]
 pub enum Call {
     Save,
     Back { savepoint: u64 },
@@ -26,7 +26,7 @@ pub enum Call {
 }
 
 /// What happens to the leaf that has a key.
-#[derive(Debug, Clone, Copy, PartialEq, Eq)]
+#[derive(Clone, Copy)]
 pub enum LeafCall {
     Split,
     /// It is joined with the leaf after it.
@@ -35,7 +35,7 @@ pub enum LeafCall {
 }
 
 /// What may crash and be restarted.
-#[derive(Debug, Clone, Copy, PartialEq, Eq)]
+#[derive(Clone, Copy)]
 pub enum Component {
     /// The transaction component.
     Tc,
@@ -44,7 +44,7 @@ pub enum Component {
 }
 
 /// What may be set to fail.
-#[derive(Debug, Clone, Copy, PartialEq, Eq)]
+#[derive(Clone, Copy)]
 pub enum Device {
     /// That of the transaction component's log.
     TcLog,
@@ -55,14 +55,14 @@ pub enum Device {
 }
 
 /// What is printed of the node as it is.
-#[derive(Debug, Clone, Copy, PartialEq, Eq)]
+#[derive(Clone, Copy)]
 pub enum Part {
     Log,
     Leaves,
 }
 
 /// A value as a line gives it.
-#[derive(Debug, Drop)]
+#[derive(Drop)]
 pub enum Written<'a> {
     /// The script's own bytes, of any length.
     Text(&'a [u8]),
@@ -86,7 +86,7 @@ impl Written<'_> {
 }
 
 /// A line that is run. Its keys are the script's own bytes, of any length.
-#[derive(Debug, Drop)]
+#[derive(Drop)]
 pub enum Line<'a> {
     Begin(Label),
     Write {

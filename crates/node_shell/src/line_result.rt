@@ -11,14 +11,14 @@ use crate::printed::print_refusal;
 use crate::rows::print_table;
 use crate::shown::print_part;
 use crate::told::print_told;
-use codec::Rows;
+use codec::RowList;
 use record_key::Refusal;
 use stable::{CrashLog, CrashPages};
 use std::io;
 use world::{Out, World};
 
 /// What a line came to.
-#[derive(Debug, Drop)]
+#[derive(Drop)]
 pub enum LineResult {
     /// One event, or a refusal before any.
     Event(Out),
@@ -28,7 +28,7 @@ pub enum LineResult {
         end: Result<bool, Refusal>,
     },
     /// The records as they are.
-    Table(Rows),
+    Table(RowList),
     /// A part of the node is to be printed.
     Shown(Part),
 }

@@ -10,7 +10,7 @@ use record_key::Value;
 use std::io;
 
 /// A part of a printed line.
-#[derive(Debug, Clone, Copy)]
+#[derive(Clone, Copy)]
 pub enum Piece<'a> {
     /// The text itself.
     Text(&'a str),

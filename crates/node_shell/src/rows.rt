@@ -5,6 +5,7 @@ ghost use Rattle.node_shell.specs.Stored.{row_line, table_text};
 
 use crate::pieces::{Piece, print};
 use crate::printed::print_numbered;
+use codec::Rows;
 use record_key::{Key, Value};
 use std::io;
 
@@ -16,8 +17,19 @@ pub fn print_table<W: io::Write>(writer: &mut W, rows: &[(Key, Value)]) -> io::R
     print_numbered(writer, "rows ", rows.len() as u64)
 }
 
+/// The lines of the rows that a transaction asked for.
+pub fn print_packed<W: io::Write>(writer: &mut W, rows: &Rows) -> io::Result<()>
+    ensures { Prints (W.contents writer.old) (W.contents writer.new) result (flat_map row_line rows.now) }
+{
+    let mut reader = rows.reader();
+    while let Some(row) = reader.next() {
+        print_row(writer, &row.0, &row.1)?;
+    }
+    Ok(())
+}
+
 /// The lines of the rows.
-pub fn print_rows<W: io::Write>(writer: &mut W, rows: &[(Key, Value)]) -> io::Result<()>
+fn print_rows<W: io::Write>(writer: &mut W, rows: &[(Key, Value)]) -> io::Result<()>
     ensures { Prints (W.contents writer.old) (W.contents writer.new) result (flat_map row_line rows.now) }
 {
     for row in rows {

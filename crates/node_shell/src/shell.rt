@@ -14,7 +14,7 @@ ghost use Rattle.node_shell.specs.Text.{ComesTo, Begins, Writes, Adds, Gets, Sca
 use crate::label::{Label, Labels};
 use crate::line::{Call, Kind, LeafCall, Line};
 use crate::line_result::LineResult;
-use codec::Rows;
+use codec::RowList;
 use record_key::{Key, Op, Refusal, Value};
 use stable::{CrashLog, CrashPages, MemLog, MemPages};
 use std::alloc::Global;
@@ -161,7 +161,7 @@ impl<D: CrashLog, P: CrashPages> Shell<D, P> {
         ensures { IsTable self.now.world result }
     {
         match self.world.rows() {
-            Ok(rows) => LineResult::Table(Rows::new(rows)),
+            Ok(rows) => LineResult::Table(RowList::new(rows)),
             Err(refusal) => LineResult::Event(Out::Refused(refusal)),
         }
     }

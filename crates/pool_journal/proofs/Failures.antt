@@ -26,11 +26,3 @@ failed_on old mid u None is = is
 failed_on old mid u (Some f) is =
     let n = forgotten old mid u is in
     (n.0, ap (λ (zs : List Failure). zs ++ f ∷ []) n.1)
-
-pub ends_on : (old mid new : List Failure) (f : Failure) → FailsSince old mid None → EndsWithFailure mid new f
-    → EndsWithFailure old new f
-ends_on old mid new f (xs, x) (ys, y) = (
-  xs ++ ys,
-  y ∙ ap (λ (zs : List Failure). zs ++ ys ++ f ∷ []) x
-      ∙ ap (λ (zs : List Failure). zs ++ f ∷ []) (append_assoc old xs ys),
-)

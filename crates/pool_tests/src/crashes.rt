@@ -1,41 +1,10 @@
 //! What the main thread does to the engine beside its clients: crashes, and failures of the log's device.
-use crate::plan::{Many, Trouble};
-use crate::stage::{Door, Stage};
-use crate::verdict::{TRIES, Verdict, both};
+use pool_cases::{
+    CRASHES, Crash, Door, FAILS, FAILURES, Many, Stage, TRIES, Trouble, Verdict, both, crash_at,
+};
 use record_key::Refusal;
 use std::sync::Wait;
 use worker_pool::{Engine, Naming};
-
-/// What crashes, and how many bytes are kept of what isn't stable of the transactions' log.
-#[derive(Debug, Clone, Copy)]
-enum Crash {
-    Data,
-    Transactions(u64),
-    Both,
-}
-
-/// How many crashes a case has.
-const CRASHES: u64 = 6;
-
-/// How often a component has crashed once all of these were made.
-pub const FALLS: usize = 7;
-
-// What crashes at each of them.
-fn crash_at(place: u64) -> Crash {
-    match place {
-        1 => Crash::Transactions(0),
-        2 => Crash::Transactions(1000),
-        3 => Crash::Both,
-        4 => Crash::Transactions(7),
-        _ => Crash::Data,
-    }
-}
-
-/// How many calls of the log's device after a restart one fails.
-const FAILS: u64 = 9;
-
-/// How often a call of the log's device fails where nothing crashes.
-const FAILURES: u64 = 60;
 
 /// Makes the trouble of a case. Whether each restart was done.
 pub fn trouble<J, R>(rt: &R, engine: &Engine<J, Door>, stage: &Stage, many: &Many) -> Verdict

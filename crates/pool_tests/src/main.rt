@@ -9,35 +9,21 @@
 //! to be answered like any other then.
 #![tactic(auto)]
 
-mod call;
-mod client;
 mod crashes;
-mod draws;
-mod judging;
-mod lines;
-mod machine;
-mod parts;
-mod plan;
-mod playing;
+mod engine_lines;
 mod running;
-mod served;
-mod stage;
-mod table;
+mod seats;
 mod tally;
 mod threads;
-mod told;
-mod verdict;
 
-use plan::Many;
+use pool_cases::{Many, Table, Verdict};
 use record_key::Refusal;
 use running::{Case, run_case};
 use std::alloc::Global;
 use std::sync::Wait;
 use std::thread::Threads;
 use std::{fs, io};
-use table::Table;
 use tally::Tally;
-use verdict::Verdict;
 use worker_pool::Opened;
 
 fn main(rt: HostRuntime) -> io::Result<()> {

@@ -2,14 +2,11 @@
 ghost use Rattle.std.specs.Prelude.{◌<◌};
 ghost use Rattle.worker_pool.specs.Opened.{IsNamed};
 
-use crate::judging::{is_journal, is_played, leaves};
-use crate::parts::Part;
-use crate::plan::Many;
-use crate::served::Leaves;
-use crate::stage::{Door, Hold, Stage};
-use crate::table::Table;
+use crate::seats::{Left, Seat};
 use crate::threads::{Client, play_many, play_table};
-use crate::verdict::{Verdict, both};
+use pool_cases::{
+    Door, Hold, Leaves, Many, Part, Stage, Table, Verdict, both, is_journal, is_played, leaves,
+};
 use record_key::Refusal;
 use std::alloc::{AllocError, Global};
 use std::marker::Brand;
@@ -18,7 +15,7 @@ use std::thread::Threads;
 use worker_pool::{Engine, Naming, Opened, Session};
 
 /// A case.
-#[derive(Debug, Clone, Copy)]
+#[derive(Clone, Copy)]
 pub enum Case<'a> {
     Table(Table<'a>),
     Many(Many),
@@ -59,8 +56,8 @@ impl<J: Naming + Drop> Played<J> {
     // Takes a client's session and notes.
     fn take(&mut self, client: Client<J>) -> Result<(), AllocError> {
         let session = client.number();
-        let (own, notes) = client.parted();
-        self.sessions.push(own)?;
+        let (seat, notes) = client.parted();
+        self.sessions.push(seat.into_session())?;
         self.parts.push(Part { session, notes })?;
         Ok(())
     }
@@ -130,7 +127,13 @@ where
     let closed = engine.close(&rt, sessions)?;
     both(
         agrees,
-        judge(alloc, &closed, &parts, case, is_whole(agrees)),
+        judge(
+            alloc,
+            &Left { closed: &closed },
+            &parts,
+            case,
+            is_whole(agrees),
+        ),
     )
 }
 
@@ -189,7 +192,10 @@ fn add_clients<J: Naming + Drop>(
     let mut all = true;
     let mut number = 0u64;
     for session in sessions {
-        if clients.push(Client::new(alloc, number, session)).is_err() {
+        if clients
+            .push(Client::new(alloc, number, Seat::new(session)))
+            .is_err()
+        {
             all = false;
         }
         number = number.saturating_add(1);

@@ -1,5 +1,5 @@
 //! How many cases agree, which differ, and how many gave up.
-use crate::verdict::Verdict;
+use pool_cases::Verdict;
 use record_key::Refusal;
 use std::alloc::Global;
 use std::io;

@@ -1,24 +1,20 @@
 //! Clients on threads, and what is done beside them.
 use crate::crashes::trouble;
-use crate::plan::{Many, Plan};
-use crate::playing::play;
-use crate::served::Serves;
-use crate::stage::{Door, Stage};
-use crate::table::Table;
-use crate::verdict::{Verdict, both};
-use crate::{client, lines};
+use crate::engine_lines::follow_all;
+use crate::seats::Seat;
+use pool_cases::{Door, Many, Plan, Serves, Stage, Table, Verdict, both, follow, play};
 use record_key::Refusal;
 use std::alloc::{AllocError, Global};
 use std::sync::{Arc, Wait};
 use std::thread;
 use std::thread::{JoinHandle, Threads};
-use worker_pool::{Engine, Naming, Session};
+use worker_pool::{Engine, Naming};
 
 /// A client of an engine.
-pub type Client<J> = client::Client<Session<J, Door>>;
+pub type Client<J> = pool_cases::Client<Seat<J>>;
 
 /// What a client does on its thread.
-#[derive(Debug, Drop)]
+#[derive(Drop)]
 enum Task {
     Lines(String),
     Drawn(Plan),
@@ -43,11 +39,11 @@ where
     J: Naming + Drop + Send + Sync + 'static,
     R: Threads + Wait + Copy + Send + 'static,
 {
-    Ok(thread::spawn(&rt, move || follow(&rt, alloc, client, &*stage, task))?)
+    Ok(thread::spawn(&rt, move || follow_task(&rt, alloc, client, &*stage, task))?)
 }
 
 // From a client's first call to its last.
-fn follow<J: Naming + Drop, R: Wait>(
+fn follow_task<J: Naming + Drop, R: Wait>(
     rt: &R,
     alloc: Global,
     client: Client<J>,
@@ -64,12 +60,12 @@ fn follow<J: Naming + Drop, R: Wait>(
 fn perform<S: Serves + Drop, R: Wait>(
     rt: &R,
     alloc: Global,
-    client: &mut client::Client<S>,
+    client: &mut pool_cases::Client<S>,
     stage: &Stage,
     task: &Task,
 ) -> Verdict {
     match task {
-        Task::Lines(text) => lines::follow(rt, alloc, client, text.as_str()),
+        Task::Lines(text) => follow(rt, alloc, client, text.as_str()),
         Task::Drawn(plan) => {
             play(rt, client, stage, *plan)?;
             Ok(true)
@@ -93,7 +89,7 @@ where
     if !table.there.is_empty() && !play_beside(rt, alloc, engine, clients, stage, table)? {
         return Ok(false);
     }
-    lines::follow_all(&rt, alloc, engine, clients, table.after)
+    follow_all(&rt, alloc, engine, clients, table.after)
 }
 
 // The last client makes its calls on a thread, and what is to be done beside it is done while its message is held.
@@ -117,7 +113,7 @@ where
     let thread = start(rt, alloc, client, own, task)?;
     let held = stage.wait_held();
     let beside = if held {
-        lines::follow_all(&rt, alloc, engine, clients, table.beside)
+        follow_all(&rt, alloc, engine, clients, table.beside)
     } else {
         Ok(true)
     };

@@ -16,7 +16,7 @@ const CRASHED: [&str; 3] = ["tc", "dc", "tc dc"];
 const KEPT: [u64; 3] = [0, 1, 1000];
 
 /// A script up to one of its lines, and what it writes.
-#[derive(Debug, Clone, Copy)]
+#[derive(Clone, Copy)]
 struct Beginning<'a> {
     name: &'a str,
     lines: u64,

@@ -17,7 +17,7 @@ const DEVICES: [&str; 3] = ["tclog", "dclog", "pages"];
 const MOST_CALLS: u64 = 1000;
 
 /// A script by its lines, and what it tells undisturbed.
-#[derive(Debug, Clone, Copy)]
+#[derive(Clone, Copy)]
 struct Undisturbed<'a> {
     name: &'a str,
     lines: &'a [&'a str],
@@ -27,7 +27,7 @@ struct Undisturbed<'a> {
 }
 
 /// What came of a failure.
-#[derive(Debug, Clone, Copy, PartialEq, Eq)]
+#[derive(Clone, Copy)]
 enum Came {
     /// The device isn't called so often.
     Never,

@@ -2,7 +2,7 @@
 use std::io;
 
 /// How many cases gave what they must, and how many gave something else.
-#[derive(Debug, Clone, Copy, PartialEq, Eq)]
+#[derive(Clone, Copy)]
 pub struct Tally {
     agree: u64,
     differ: u64,

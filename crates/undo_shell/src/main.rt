@@ -5,13 +5,14 @@
 //! Promises its user that a text is written whole, or a beginning of it with exit status 3.
 #![tactic(auto)]
 
-ghost use Rattle.node_shell.specs.Asked.{HasClient};
+ghost use Rattle.command_line.specs.Asked.{HasClient};
 
 use clap::Error;
 use clap::error::ErrorKind;
+use command_line::{Task, choose};
 use file_devices::{FileLog, NoPages, StoreError, StoreFile, Tried, open_store};
 use node_pictures::{draw, explain};
-use node_shell::{DONE, FAILED, FAULT, Stopping, Task, choose, refusal_of, refuse, run, run_on};
+use node_shell::{DONE, FAILED, FAULT, Stopping, refusal_of, refuse, run, run_on};
 use node_store::{Cause, open};
 use pool_shell::pool;
 use record_key::Refusal;

@@ -1,20 +1,8 @@
--- What the threads share may go from one to another, and so may a session: each type from what it holds, since a search
--- that goes down through them all runs out of steps. A type that holds no tree is shown by its own fields alone.
+-- A session may go from one thread to another, as what the threads share may: each type from what it holds, since a search
+-- that goes down through them all runs out of steps.
 use denote.RattleType.{RattleType}
 use denote.Param.Send.{IsSend, IsSync, sendable}
 use Rattle.std.proofs.Crossing.{crosses}
-use Rattle.std.proofs.sync.atomic.AtomicU64.TheSendSync as number
-use Rattle.btree.proofs.tree.node.Node.TheLaws.TheKnot as node
-use Rattle.btree.proofs.tree.summary.Summary.TheSendSync as summary
-use Rattle.btree.specs.contracts.tree.Tree as Tree
-use Rattle.btree.specs.contracts.tree.TreeLeafSet.TheImpl as tree
-use Rattle.dc_core.proofs.base.Base.TheSendSync as base
-use Rattle.dc_core.proofs.performances.Performances.TheSendSync as performances
-use Rattle.dc_core.specs.contracts.dc.Dc as Dc
-use Rattle.dc_core.specs.contracts.dc.Dc.TheInside as DcInside
-use Rattle.dc_core.specs.contracts.parts.Parts as Parts
-use Rattle.page.proofs.leaf.Leaf.TheSendSync as leaf
-use Rattle.record_key.proofs.key.Key.TheSendSync as key
 use Rattle.stable.specs.declared.log_device.LogDevice as log_device
 use Rattle.stable.specs.declared.page_device.PageDevice as page_device
 use Rattle.stable.proofs.mem_log.MemLog.TheSendSync as mem_log
@@ -23,8 +11,6 @@ use Rattle.stable.specs.contracts.mem_log.MemLog as MemLog
 use Rattle.stable.specs.contracts.mem_log.MemLogLogDevice.TheImpl as log
 use Rattle.stable.specs.contracts.mem_pages.MemPages as MemPages
 use Rattle.stable.specs.contracts.mem_pages.MemPagesPageDevice.TheImpl as pages
-use Rattle.system_txn.proofs.system.SystemTxns.TheSendSync as system
-use Rattle.system_txn.specs.contracts.system.SystemTxns as SystemTxns
 use Rattle.crossbeam_channel.proofs.channel.Receiver.TheSendSync as receiver
 use Rattle.crossbeam_channel.proofs.channel.Sender.TheSendSync as sender
 use Rattle.crossbeam_channel.specs.contracts.channel.Receiver as Receiver
@@ -33,29 +19,15 @@ use Rattle.marks.proofs.seat.Seat.TheSendSync as seat
 use Rattle.std.specs.contracts.alloc.Global as Global
 use Rattle.std.specs.contracts.impls.GlobalAllocator.TheImpl.{ghosts}
 use Rattle.std.specs.contracts.sync.Arc as Arc
-use Rattle.world.proofs.stopped_dc.StoppedDc.TheSendSync as stopped
-use Rattle.world.specs.contracts.dc_side.DcSide as DcSide
 use Rattle.pool_journal.proofs.caller.Caller.TheSendSync as caller
-use Rattle.pool_journal.proofs.hall.Hall.TheSendSync as hall
-use Rattle.pool_journal.proofs.journal.Journal.TheSendSync as journal
-use Rattle.worker_pool.proofs.board.Job.TheSendSync as job
+use Rattle.shared_node.proofs.board.Job.TheSendSync as job
 use Rattle.session_answers.proofs.ended.Unfinished.TheSendSync as unfinished
-use Rattle.pool_journal.proofs.tc_desk.TcDesk.TheSendSync as tc_desk
-use Rattle.pool_journal.proofs.view.Visitor.TheSendSync as visitor
 use Rattle.pool_journal.specs.declared.naming.Naming as naming
-use Rattle.pool_journal.specs.contracts.dc_desk.DcDesk as DcDesk
-use Rattle.pool_journal.specs.contracts.dc_desk.DcDesk.TheInside as DcDeskInside
-use Rattle.pool_journal.specs.contracts.journal.Journal as Journal
 use Rattle.worker_pool.specs.contracts.session.Session as Session
 use Rattle.worker_pool.specs.contracts.session.Session.TheInside as SessionInside
-use Rattle.worker_pool.specs.contracts.board.Board as Board
-use Rattle.worker_pool.specs.contracts.board.Job as Job
-use Rattle.worker_pool.specs.contracts.entrance.Entrance as Entrance
-use Rattle.worker_pool.specs.contracts.shared.Shared as Shared
-use Rattle.pool_journal.specs.contracts.tc_desk.TcDesk as TcDesk
-
-tree_send : IsSend Tree.the_row
-tree_send = search (leaf.the_send, key.the_send, summary.the_send, node.crosses, crosses, sendable) depth 40
+use Rattle.shared_node.specs.contracts.board.Job as Job
+use Rattle.shared_node.specs.contracts.shared.Shared as Shared
+use Rattle.shared_node.proofs.Sharing.{shared_send, shared_sync}
 
 pub jobs_send : IsSend (Receiver.the_row Job.the_row Global.the_row ghosts)
 jobs_send = search (receiver.the_send, job.the_send, crosses, sendable) depth 20
@@ -64,63 +36,17 @@ work_send : IsSend (Sender.the_row Job.the_row Global.the_row ghosts)
 work_send = search (sender.the_send, job.the_send, crosses, sendable) depth 20
 
 module _ (D : RattleType) (d : log_device.Ghosts D.Denot) (sd : IsSend D) (P : RattleType)
-    (p : page_device.Ghosts P.Denot) (sp : IsSend P) where
-  system_send : IsSend (SystemTxns.the_row Tree.the_row D P tree.ghosts d p)
-  system_send = search (tree_send, system.the_send) depth 20
+    (p : page_device.Ghosts P.Denot) (sp : IsSend P) (J : RattleType) (n : naming.Ghosts J.Denot) (s : IsSend J)
+    (y : IsSync J) (G : RattleType) (sg : IsSend G) (yg : IsSync G) where
+  pub arc_send : IsSend (Arc.the_row (Shared.the_row J G D P n d p) Global.the_row ghosts)
+  arc_send = search (shared_send, shared_sync, crosses, sendable) depth 8
 
-  parts_send : IsSend (Parts.the_field D P d p).row
-  parts_send = search (base.the_send, performances.the_send, system_send, sendable) depth 40
+  session_inside_send : IsSend (SessionInside.the_row J G D P n d p)
+  session_inside_send =
+      search (caller.the_send, unfinished.the_send, seat.the_send, arc_send, work_send, crosses, sendable) depth 20
 
-  dc_inside_send : IsSend (DcInside.the_row D P d p)
-  dc_inside_send = search (parts_send, sendable) depth 20
-
-  dc_send : IsSend (Dc.the_row D P d p)
-  dc_send = search (dc_inside_send, sendable) depth 20
-
-  pub dc_side_send : IsSend (DcSide.the_row D P d p)
-  dc_side_send = search (dc_send, stopped.the_send, sendable) depth 40
-
-  module _ (J : RattleType) (n : naming.Ghosts J.Denot) (s : IsSend J) (y : IsSync J) where
-    pub tc_desk_send : IsSend (TcDesk.the_row J D n d)
-    tc_desk_send = search (tc_desk.the_send) depth 12
-
-    pub journal_send : IsSend (Journal.the_row J n)
-    journal_send = search (journal.the_send) depth 12
-
-    dc_desk_inside_send : IsSend (DcDeskInside.the_row J D P n d p)
-    dc_desk_inside_send = search (dc_side_send, visitor.the_send, sendable) depth 20
-
-    pub dc_desk_send : IsSend (DcDesk.the_row J D P n d p)
-    dc_desk_send = search (dc_desk_inside_send, sendable) depth 20
-
-    board_send : IsSend (Board.the_field J n).row
-    board_send = search (journal_send, hall.the_send, number.the_send, crosses, sendable) depth 20
-
-    board_sync : IsSync (Board.the_field J n).row
-    board_sync = search (journal_send, hall.the_sync, number.the_sync, crosses, sendable) depth 20
-
-    entrance_send : IsSend (Entrance.the_field J D n d).row
-    entrance_send = search (board_send, tc_desk_send, crosses, sendable) depth 20
-
-    entrance_sync : IsSync (Entrance.the_field J D n d).row
-    entrance_sync = search (board_sync, tc_desk_send, crosses, sendable) depth 20
-
-    module _ (G : RattleType) (sg : IsSend G) (yg : IsSync G) where
-      pub shared_send : IsSend (Shared.the_row J G D P n d p)
-      shared_send = search (entrance_send, dc_desk_send, crosses, sendable) depth 20
-
-      pub shared_sync : IsSync (Shared.the_row J G D P n d p)
-      shared_sync = search (entrance_sync, dc_desk_send, crosses, sendable) depth 20
-
-      pub arc_send : IsSend (Arc.the_row (Shared.the_row J G D P n d p) Global.the_row ghosts)
-      arc_send = search (shared_send, shared_sync, crosses, sendable) depth 8
-
-      session_inside_send : IsSend (SessionInside.the_row J G D P n d p)
-      session_inside_send =
-          search (caller.the_send, unfinished.the_send, seat.the_send, arc_send, work_send, crosses, sendable) depth 20
-
-      pub any_session_send : IsSend (Session.the_row J G D P n d p)
-      any_session_send = search (session_inside_send, sendable) depth 20
+  pub any_session_send : IsSend (Session.the_row J G D P n d p)
+  any_session_send = search (session_inside_send, sendable) depth 20
 
 -- a session of an engine in memory
 module _ (J : RattleType) (n : naming.Ghosts J.Denot) (s : IsSend J) (y : IsSync J) (G : RattleType) (sg : IsSend G)

@@ -1,19 +1,13 @@
 -- What an engine begins with, and what it leaves.
-use Rattle.std.specs.Prelude.{◌≡◌, ◌⊎◌, ℕ, zero, suc, List, [], ◌∷◌, ◌++◌, Option, map}
+use Rattle.std.specs.Prelude.{◌≡◌, ℕ, zero, suc, List, [], ◌∷◌, ◌++◌, Option, map}
 use Rattle.std.specs.Global.{Vec}
 use Rattle.record_key.specs.Table.{Bytes}
-use Rattle.record_key.specs.declared.refusal.Refusal.{Refusal}
-use Rattle.record_key.specs.declared.refusal.Refusal.TheVariants.{NoMemory, Device, NumbersSpent}
 use Rattle.atomic_table.specs.Seated.{TableId}
 use Rattle.marks.specs.Seen.{reader}
 use Rattle.worker_pool.specs.declared.seated.Sitter.{Sitter}
 use Rattle.pool_journal.specs.declared.step.Step.{Step}
 use Rattle.pool_journal.specs.Callers.{CallerView, SessionView, IsGrown}
 use Rattle.pool_journal.specs.Sessions.{part_of, no_part}
-
--- the components can't be brought up now
-abbrev pub IsOutage : Refusal → Type 0
-IsOutage r = (r ≡ NoMemory) ⊎ ((r ≡ Device) ⊎ (r ≡ NumbersSpent))
 
 -- a session that has made no call, and has seen nothing of the marks
 abbrev pub IsFresh : TableId → SessionView → Type 0

@@ -6,8 +6,8 @@ ghost use Rattle.worker_pool.specs.Opened.{IsNamed};
 
 use crate::opened::{Opened, Start};
 use crate::seated::{Seated, Sitter, seat_all};
-use crate::shared::Shared;
 use pool_journal::{DcDesk, Gate, Hall, Journal, Lines, Naming, Stirs, TcDesk};
+use shared_node::Shared;
 use stable::{CrashLog, CrashPages};
 use std::alloc::AllocError;
 use std::sync::Arc;
@@ -26,8 +26,10 @@ where
     ensures sitters { IfOk result (λ made. AllByRecursion (IsSeated J.marks) made.1.items) }
     ensures numbers { IfOk result (λ made. numbers_in made.1.items ≡ below J.sessions) }
 {
-    let Opened { start } = opened;
-    let stirs = Stirs::new(start.alloc, start.chairs.len())?;
+    let Opened { start, chairs } = opened;
+    let stirs = Stirs::new(start.alloc, chairs.len())?;
+    let Seated { places, sitters } = seat_all::<J>(start.alloc, chairs)?;
+    // (the components are by value from here on, where just one way out is left on which they are dropped)
     let Start {
         alloc,
         row,
@@ -35,13 +37,11 @@ where
         seat,
         tc,
         dc,
-        chairs,
         transactions,
         data,
     } = Box::into_inner(start);
     let (tc_book, tc_mark) = tc.parted();
     let (dc_book, dc_mark) = dc.parted();
-    let Seated { places, sitters } = seat_all::<J>(alloc, chairs)?;
     let hall = Hall::new(row, marks);
     let tc = TcDesk::new(alloc, transactions, tc_mark, seat);
     let dc = DcDesk::new(alloc, data, dc_mark);

@@ -1,21 +1,19 @@
 //! An engine: the workers over what the threads share.
 ghost use Rattle.std.specs.Prelude.{◌≡◌, ◌<◌, IfOk, IfErr, length};
 ghost use Rattle.std.specs.List.{AllByRecursion};
-ghost use Rattle.worker_pool.specs.Closing.{IsFresh, IsKeptBy, IsOutage, below, numbers_of};
+ghost use Rattle.shared_node.specs.Outages.{IsOutage};
+ghost use Rattle.worker_pool.specs.Closing.{IsFresh, IsKeptBy, below, numbers_of};
 ghost use Rattle.worker_pool.specs.Opened.{IsNamed};
 
 use crate::assembly::share;
-use crate::board::{Board, Job};
 use crate::closed::Closed;
-use crate::entrance::Entrance;
 use crate::opened::Opened;
 use crate::seated::{callers_of, cover, sessions_of};
 use crate::session::Session;
-use crate::shared::Shared;
-use crate::worker::work;
 use crossbeam_channel::{Receiver, Sender};
 use pool_journal::{Gate, Naming};
 use record_key::Refusal;
+use shared_node::{Job, Shared, work};
 use stable::{CrashLog, CrashPages, MemLog, MemPages};
 use std::alloc::{AllocError, Global};
 use std::sync::{Arc, Wait};
@@ -144,12 +142,12 @@ where
     /// The transaction component crashes, and every session's transaction is cut off. Of what isn't stable of the log so
     /// many bytes are kept, or all of it where it has fewer.
     pub fn crash_tc<R: Wait>(&self, rt: &R, kept: u64) {
-        self.shared.entrance.crash(rt, kept);
+        self.shared.entrance().crash(rt, kept);
     }
 
     /// The call of this number, from now on, of the device of the transaction component's log fails.
     pub fn fail_tc<R: Wait>(&self, rt: &R, call: u64) {
-        self.shared.entrance.enter(rt, Event::FailTc { call });
+        self.shared.entrance().enter(rt, Event::FailTc { call });
     }
 
     /// Brings both components up, in one session, and undoes who was lost. Refused NoMemory, Device, NumbersSpent; what
@@ -180,12 +178,9 @@ where
         let callers = callers_of(alloc, sessions);
         join_all(rt, workers);
         let callers = callers?;
-        let Shared { entrance, dc, .. } = alone(rt, shared);
-        let Entrance { board, tc: _ } = entrance;
-        let Board { hall, journal, .. } = board;
-        let mut journal = journal.into_inner();
+        let (hall, mut journal, mut dc) = alone(rt, shared).into_parts();
         cover(&mut journal, hall.row(), callers);
-        match dc.into_inner().rows(hall.row(), &mut journal) {
+        match dc.rows(hall.row(), &mut journal) {
             Ok(rows) => Closed::new(alloc, hall, journal, rows),
             Err(refusal) => Err(refusal),
         }

@@ -1,27 +1,18 @@
-//! Clients of a node on threads, under three locks.
+//! Clients of a node on threads.
 //!
-//! Knows: the two halves of a node, who called what, and who was told what.
-//! Must not know: how either half keeps its state.
+//! Knows: what an engine is made of and what it leaves, its sessions and its threads.
+//! Must not know: how either half of the node keeps its state, or by which steps a call is carried on.
 //! Promises: what its threads write down is a run of the node, in which each session's part has just the calls that the
 //! session made, each with what it was answered.
 #![tactic(auto)]
 
-mod after;
 mod ahead;
 mod assembly;
-mod board;
-mod calls;
 mod closed;
 mod engine;
-mod entrance;
-mod freeing;
 mod opened;
-mod rounds;
 mod seated;
 mod session;
-mod shared;
-mod steps;
-mod worker;
 
 pub use closed::Closed;
 pub use engine::Engine;

@@ -94,8 +94,7 @@ impl Seats {
     }
 }
 
-/// Both components at their start, a row without entries, marks that nobody has raised, and a tie for each component and
-/// for each session.
+/// Both components at their start, a row without entries, marks that nobody has raised, and a tie for each component.
 #[derive(Drop)]
 pub(crate) struct Start<D: CrashLog, P: CrashPages> {
     pub(crate) alloc: Global,
@@ -104,16 +103,16 @@ pub(crate) struct Start<D: CrashLog, P: CrashPages> {
     pub(crate) seat: Seat,
     pub(crate) tc: Ends,
     pub(crate) dc: Ends,
-    pub(crate) chairs: Vec<Chair>,
     pub(crate) transactions: TcSide<D>,
     pub(crate) data: DcSide<D, P>,
 }
 
-/// What an engine is made of. Contracts see what it is known by. It stands behind a pointer, since whoever has something
-/// large by value is dear to check.
+/// What an engine is made of. Contracts see what it is known by. The components stand behind a pointer, since whoever has
+/// something large by value is dear to check; and the chairs beside it, since each is taken apart before those are.
 #[derive(Drop)]
 pub struct Opened<D: CrashLog = MemLog, P: CrashPages = MemPages> {
     pub(crate) start: Box<Start<D, P>>,
+    pub(crate) chairs: Vec<Chair>,
 }
 
 impl<D: CrashLog, P: CrashPages> Model for Opened<D, P> {
@@ -129,9 +128,9 @@ impl<D: CrashLog, P: CrashPages> Model for Opened<D, P> {
     ghost coded = { Prim.hlevel (codes, shelves_coded, table_id_coded, table_code, pages_code) };
 
     ghost view = { λ o. opened_as (record { tc = o.start.value.transactions; dc = o.start.value.data })
-        o.start.value.row o.start.value.marks o.start.value.tc o.start.value.dc o.start.value.chairs.items };
+        o.start.value.row o.start.value.marks o.start.value.tc o.start.value.dc o.chairs.items };
 
-    ghost invariant = { λ o. IsOpened o.start.value.marks o.start.value.seat o.start.value.chairs.items
+    ghost invariant = { λ o. IsOpened o.start.value.marks o.start.value.seat o.chairs.items
         (record { tc = o.start.value.transactions; dc = o.start.value.data }) };
 }
 
@@ -190,12 +189,12 @@ impl<D: CrashLog + Drop, P: CrashPages + Drop> Opened<D, P> {
             seat,
             tc: Ends::open(),
             dc: Ends::open(),
-            chairs,
             transactions,
             data,
         };
         Ok(Opened {
             start: Box::new(alloc, start)?,
+            chairs,
         })
     }
 }

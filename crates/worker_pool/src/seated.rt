@@ -6,14 +6,13 @@ ghost use Rattle.pool_journal.specs.Kept.{PlacesKept};
 ghost use Rattle.worker_pool.specs.Opened.{AreTied, IsReader, ties_of};
 
 use crate::ahead::Ahead;
-use crate::board::Job;
 use crate::opened::Chair;
 use crate::session::Session;
-use crate::shared::Shared;
 use boxcar::Vec as Row;
 use crossbeam_channel::Sender;
 use marks::Seat;
 use pool_journal::{Caller, Entry, Gate, Journal, Naming, Place};
+use shared_node::{Job, Shared};
 use stable::{CrashLog, CrashPages};
 use std::alloc::{AllocError, Global};
 use std::sync::Arc;

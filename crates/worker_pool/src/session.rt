@@ -10,8 +10,6 @@ ghost use Rattle.session_answers.specs.Asking.{event_of};
 ghost use Rattle.pool_journal.specs.Sessions.{IsClosed};
 
 use crate::ahead::Ahead;
-use crate::board::Job;
-use crate::shared::Shared;
 use codec::Rows;
 use crossbeam_channel::Sender;
 use marks::Seat;
@@ -21,6 +19,7 @@ use session_answers::{
     Ask, Ended, Told, Unfinished, answer_told, back_told, begun, carried_told, commit_told,
     rollback_told, row_told, rows_told, saved,
 };
+use shared_node::{Job, Shared};
 use stable::{CrashLog, CrashPages, MemLog, MemPages};
 use std::marker::Model;
 use std::sync::{Arc, Wait};
@@ -292,7 +291,7 @@ impl<J: Naming, G: Gate + Drop, D: CrashLog + Drop, P: CrashPages + Drop> Sessio
             work: _,
             ahead: _,
         } = self;
-        shared.entrance.learn(rt, seat, number);
+        shared.entrance().learn(rt, seat, number);
     }
 }
 

@@ -8,7 +8,7 @@ use Rattle.worker_pool.proofs.engine.Engine.close.Goals as goal
 
 pub returns-in-Ok-clause-kept : goal.returns-in-Ok-clause-kept
 returns-in-Ok-clause-kept g c =
-    let es = c.into_inner-journal.result in
+    let es = c.into_parts-hall.result.1 in
     let all = subst (AllByRecursion (IsCovered es)) c.in_ok-callers.ensures.callers c.cover.ensures.covered in
     let kept = subst (λ (es : List Step). AllByRecursion (IsKeptBy es) c.args.sessions.items)
     (sym (c.rows.ensures.same ∙ c.cover.ensures.same))

@@ -1,0 +1,17 @@
+use Rattle.std.proofs.Common.{rules, ap₂, ◌≡◌, ◌∙◌, false, codes}
+use Rattle.std.proofs.lemmas.Result.{IfOk-weaker}
+use Rattle.clap.specs.Simple.{app_of, new_app, with_rule}
+use Rattle.clap.specs.Walk.{rule_of}
+use Rattle.command_line.specs.CommandLine.{rounds, sessions}
+use Rattle.command_line.proofs.task.pool_command.Goals as goal
+
+pub returns-clause-app : goal.returns-clause-app
+returns-clause-app c =
+    let empty : app_of c.after_help.result ≡ new_app (codes "pool") = search rules in
+    let local : c.help.result.global ≡ false = search rules in
+    let rule : rule_of c.help.result ≡ sessions = search rules in
+    let one : app_of c.in_ok-arg.field-0 ≡ with_rule (new_app (codes "pool")) sessions =
+    c.in_ok-arg.ensures.shape local ∙ ap₂ with_rule empty rule in
+    let local_2 : c.help-2.result.global ≡ false = search rules in
+    let rule_2 : rule_of c.help-2.result ≡ rounds = search rules in
+    IfOk-weaker c.arg-2.result _ _ (λ made added. added.shape local_2 ∙ ap₂ with_rule one rule_2) c.arg-2.ensures

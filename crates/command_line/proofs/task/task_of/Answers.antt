@@ -1,0 +1,37 @@
+use Rattle.std.proofs.Common.{rules, ◌≡◌, ◌∙◌, Bool, List, Option, Some, None, codes, option_map, sym, subst}
+use Rattle.std.specs.Borrow.{Bor}
+use Rattle.clap.specs.declared.parser.matches.Found.{Found}
+use Rattle.clap.specs.Matches.{found_of, one_text}
+use Rattle.clap.specs.Simple.{subcommand_rows_of}
+use Rattle.clap.specs.Walk.{Row, Text, one_of, rows_of}
+use Rattle.clap.proofs.WalkLemmas.{first_value-rows, one_text-rows}
+use Rattle.command_line.specs.declared.task.Task.TheVariants as task
+use Rattle.command_line.specs.Asked.{Asks, IsNamed, IsSet}
+use Rattle.command_line.proofs.task.task_of.Goals as goal
+
+-- the words name `run` with these rows, in which the flag is set and the folder is named so
+asks_run : (s : Option (Text × List Row)) (rows : List Row) (set : Bool) (store : Option (Bor Text))
+    → option_map (λ p. p.0) s ≡ Some (codes "run") → option_map (λ p. p.1) s ≡ Some rows
+    → IsSet rows (codes "continue") set → IsNamed rows (codes "store") store → Asks s (task.Run set store)
+asks_run None rows set store name same is named = absurd (cc name)
+asks_run (Some s) rows set store name same is named =
+    let own : s.0 ≡ codes "run" = cc name in
+    let its : s.1 ≡ rows = cc same in (
+      own,
+      subst (λ (r : List Row). IsSet r (codes "continue") set) (sym its) is,
+      subst (λ (r : List Row). IsNamed r (codes "store") store) (sym its) named,
+    )
+
+pub returns-clause-asks : goal.returns-clause-asks
+returns-clause-asks c =
+    let found : Found = found_of c.in-Some-subcommand_matches-3.asked.now in
+    let text : one_text found (codes "continue") ≡ one_of (codes "continue") (rows_of found) =
+    one_text-rows found (codes "continue") in
+    asks_run (subcommand_rows_of c.args.matches.now) (rows_of found) c.get_flag.result c.get_str.result (search rules)
+    (search rules)
+    (record {
+      given = λ e. c.get_flag.ensures.value (text ∙ e);
+      otherwise = λ e. c.get_flag.ensures.other (text ∙ e);
+      absent = λ e. c.get_flag.ensures.none (text ∙ e);
+    })
+    (c.get_str.ensures ∙ first_value-rows found (codes "store"))

@@ -1,0 +1,71 @@
+-- What the words of a command line ask for, by the subcommand that they name and what its options are.
+use Rattle.std.specs.Prelude.{◌≡◌, ◌⊎◌, ◌<◌, ◌≤◌, ℕ, Bool, true, false, List, Option, Some, None, ⊤, codes, option_map}
+use Rattle.std.specs.Borrow.{Bor}
+use Rattle.std.specs.Str.Parse.{digits_value, without_leading_plus}
+use Rattle.clap.specs.Values.{IsUnsignedIn}
+use Rattle.clap.specs.Walk.{Row, Text, first_of, one_of}
+use Rattle.command_line.specs.declared.task.Task.{Task}
+use Rattle.command_line.specs.declared.task.Task.TheVariants as task
+
+-- an option is a number in its range, given or by default
+pub record NamesCount (rows : List Row) (option : Text) (most : ℕ) : Type 0 where
+  pub text : Text
+  pub given : one_of option rows ≡ Some text
+  pub within : IsUnsignedIn 1 most text
+
+-- the greatest number of a line or of events: those below 2 to the power of 48 may be asked for
+abbrev pub most_number : ℕ
+most_number = 281474976710655
+
+-- an option is left out, or a number in its range
+abbrev pub MayCount : List Row → Text → Type 0
+MayCount rows option = (one_of option rows ≡ None) ⊎ NamesCount rows option most_number
+
+-- the words may ask for a script, run, explained or drawn, or for clients
+abbrev pub MayAsk : Option (Text × List Row) → Type 0
+MayAsk None = ⊥
+MayAsk (Some s) = (s.0 ≡ codes "run")
+    ⊎ (((s.0 ≡ codes "pool") × NamesCount s.1 (codes "sessions") 8 × NamesCount s.1 (codes "rounds") 99)
+    ⊎ (((s.0 ≡ codes "explain") × MayCount s.1 (codes "at")) ⊎ ((s.0 ≡ codes "draw") × MayCount s.1 (codes "last"))))
+
+-- it is this number
+pub record IsNumber (rows : List Row) (option : Text) (n : ℕ) : Type 0 where
+  pub text : Text
+  pub given : one_of option rows ≡ Some text
+  pub number : n ≡ digits_value 10 (without_leading_plus text)
+
+-- and that lies in its range
+abbrev pub IsCount : List Row → Text → ℕ → ℕ → Type 0
+IsCount rows option most n = IsNumber rows option n × (1 ≤ n) × (n ≤ most)
+
+-- it is none where it is left out, else the number in its range that is given
+abbrev pub IsGiven : List Row → Text → Option ℕ → Type 0
+IsGiven rows option None = one_of option rows ≡ None
+IsGiven rows option (Some n) = IsCount rows option most_number n
+
+-- whether the flag is set: given, or not, as by default
+pub record IsSet (rows : List Row) (flag : Text) (set : Bool) : Type 0 where
+  pub given : one_of flag rows ≡ Some (codes "true") → set ≡ true
+  pub otherwise : one_of flag rows ≡ Some (codes "false") → set ≡ false
+  pub absent : one_of flag rows ≡ None → set ≡ false
+
+-- it is none where it is left out, else the text that is given
+abbrev pub IsNamed : List Row → Text → Option (Bor Text) → Type 0
+IsNamed rows option name = option_map (λ text. text.now) name ≡ first_of option rows
+
+-- the task is what they ask for
+abbrev pub Asks : Option (Text × List Row) → Task → Type 0
+Asks None t = ⊥
+Asks (Some s) (task.Run continues store) = (s.0 ≡ codes "run")
+    × IsSet s.1 (codes "continue") continues × IsNamed s.1 (codes "store") store
+Asks (Some s) (task.Pool sessions rounds) = (s.0 ≡ codes "pool")
+    × IsCount s.1 (codes "sessions") 8 sessions × IsCount s.1 (codes "rounds") 99 rounds
+Asks (Some s) (task.Explain at) = (s.0 ≡ codes "explain") × IsGiven s.1 (codes "at") at
+Asks (Some s) (task.Draw last) = (s.0 ≡ codes "draw") × IsGiven s.1 (codes "last") last
+
+-- it is a script, or there is a client
+abbrev pub HasClient : Task → Type 0
+HasClient (task.Run continues store) = ⊤
+HasClient (task.Pool sessions rounds) = 0 < sessions
+HasClient (task.Explain at) = ⊤
+HasClient (task.Draw last) = ⊤

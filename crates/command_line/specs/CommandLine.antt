@@ -1,0 +1,94 @@
+-- The command line, as the library of command lines reads it.
+use Rattle.std.specs.Prelude.{◌≡◌, ℕ, true, false, List, [], ◌∷◌, Some, codes}
+use Rattle.clap.specs.Walk.{Rule, Text}
+use Rattle.clap.specs.Simple.{App, Shape, new_app, new_rule, on_top, with_rule, with_subcommand}
+use Rattle.clap.specs.declared.builder.command.Command.{Command}
+use Rattle.clap.specs.declared.builder.command.Command.TheViews.{out-Command}
+use Rattle.clap.specs.declared.builder.action.ArgAction.TheVariants.{SetTrue}
+use Rattle.clap.specs.declared.builder.value_parser.ValueParser.TheVariants.{NonEmptyString, Unsigned}
+use Rattle.command_line.specs.Asked.{most_number}
+
+-- the program, which must be told what to do
+abbrev pub program : App
+program = on_top (λ s. record s { subcommand_required = true }) (new_app (codes "undo_shell"))
+
+-- an option that is a number from 1 to the most, this one where the words give none
+abbrev pub counting : Text → ℕ → Text → Rule
+counting name most default = record (new_rule name) {
+  long = Some name;
+  value_names = 1;
+  defaults = default ∷ [];
+  parser = Some (Unsigned 1 most);
+}
+
+-- how many clients there are, and how many rounds each of them plays
+abbrev pub sessions : Rule
+sessions = counting (codes "sessions") 8 (codes "4")
+
+abbrev pub rounds : Rule
+rounds = counting (codes "rounds") 99 (codes "3")
+
+-- a flag
+abbrev pub flag : Text → Rule
+flag name = record (new_rule name) { long = Some name; action = Some SetTrue }
+
+-- an option that is a text with something in it, and may be left out
+abbrev pub naming : Text → Rule
+naming name = record (new_rule name) {
+  long = Some name;
+  value_names = 1;
+  parser = Some NonEmptyString;
+}
+
+-- a script is run on behind a failure
+abbrev pub continuing : Rule
+continuing = flag (codes "continue")
+
+-- the folder of the store that a script is run on
+abbrev pub storing : Rule
+storing = naming (codes "store")
+
+-- to run a script
+abbrev pub run : App
+run = with_rule (with_rule (new_app (codes "run")) continuing) storing
+
+-- to let clients play on threads
+abbrev pub pool : App
+pool = with_rule (with_rule (new_app (codes "pool")) sessions) rounds
+
+-- an option that is a number from 1 on, below 2 to the power of 48, and may be left out
+abbrev pub numbering : Text → Rule
+numbering name = record (new_rule name) {
+  long = Some name;
+  value_names = 1;
+  parser = Some (Unsigned 1 most_number);
+}
+
+-- which line is explained alone
+abbrev pub at : Rule
+at = numbering (codes "at")
+
+-- to explain a script
+abbrev pub explain : App
+explain = with_rule (new_app (codes "explain")) at
+
+-- how many events are drawn
+abbrev pub last : Rule
+last = numbering (codes "last")
+
+-- to draw a script
+abbrev pub draw : App
+draw = with_rule (new_app (codes "draw")) last
+
+-- the program and all that it may be told: `run`, `pool`, `explain` or `draw`
+abbrev pub command_line : App
+command_line = with_subcommand
+    (with_subcommand (with_subcommand (with_subcommand program run.top) pool.top) explain.top) draw.top
+
+-- what it may be told to do
+abbrev pub subcommands : List Shape
+subcommands = run.top ∷ pool.top ∷ explain.top ∷ draw.top ∷ []
+
+-- it hands no argument down to subcommands
+abbrev pub IsLocal : Command → Type 0
+IsLocal command = (out-Command command).has_globals ≡ false

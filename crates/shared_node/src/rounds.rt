@@ -1,0 +1,138 @@
+//! How the components are brought up, and in one session.
+ghost use Rattle.std.specs.Prelude.{◌≡◌, true, false, IfErr};
+ghost use Rattle.world.specs.Halves.{of_tc};
+ghost use Rattle.shared_node.specs.Outages.{IsOutage};
+ghost use Rattle.pool_journal.specs.Desks.{delivers};
+
+use crate::shared::Shared;
+use codec::{Reply, Request};
+use pool_journal::{Gate, Naming, Next};
+use record_key::Refusal;
+use stable::{CrashLog, CrashPages};
+use std::sync::Wait;
+use world::{Event, Out};
+
+// Nobody looks on while the components are brought up.
+struct Nobody;
+
+impl Gate for Nobody {
+    fn before(&self, _request: &Request) {}
+
+    fn after(&self, _reply: &Reply) {}
+}
+
+// Whether a round goes on that came to this. Refused for want of memory or numbers, and where a device failed.
+fn passed(out: &Out) -> Result<bool, Refusal>
+    ensures { IfErr result IsOutage }
+{
+    match out {
+        Out::Refused(Refusal::NoMemory) => Err(Refusal::NoMemory),
+        Out::Refused(Refusal::Device) => Err(Refusal::Device),
+        Out::Refused(Refusal::NumbersSpent) => Err(Refusal::NumbersSpent),
+        _ => Ok(true),
+    }
+}
+
+impl<J: Naming, G, D: CrashLog, P: CrashPages> Shared<J, G, D, P> {
+    /// Brings both components up, in one session, and undoes who was lost. Refused NoMemory, Device, NumbersSpent; what
+    /// was done by then stands.
+    pub fn bring_up<R: Wait>(&self, rt: &R) -> Result<(), Refusal>
+        ensures { IfErr result IsOutage }
+    {
+        for _ in rt.forever() {
+            if !self.round(rt)? {
+                break;
+            }
+        }
+        self.entrance.board.brought_up(rt);
+        Ok(())
+    }
+
+    // One round, if one is left.
+    fn round<R: Wait>(&self, rt: &R) -> Result<bool, Refusal>
+        ensures { IfErr result IsOutage }
+    {
+        let Some(session) = self.session(rt) else {
+            return self.restart_dc(rt);
+        };
+        match self.entrance.next(rt, session) {
+            Next::Nothing => Ok(false),
+            Next::Restart => self.pass(rt, Event::RestartTc),
+            Next::Lose => self.pass(rt, Event::Recover),
+            Next::Force => self.pass(rt, Event::Force),
+            Next::Connect => self.exchange_up(rt, Event::Reconnect),
+            Next::Recover => self.exchange_up(rt, Event::Recover),
+        }
+    }
+
+    // The session that the data component runs, where it isn't down.
+    fn session<R: Wait>(&self, rt: &R) -> Option<u64> {
+        self.dc.lock(rt).session().ok()
+    }
+
+    // The data component is restarted.
+    fn restart_dc<R: Wait>(&self, rt: &R) -> Result<bool, Refusal>
+        ensures { IfErr result IsOutage }
+    {
+        let board = &self.entrance.board;
+        let token = self
+            .dc
+            .lock(rt)
+            .turn(rt, board.hall.row(), &board.journal, Event::RestartDc);
+        passed(board.out(&token))
+    }
+
+    // An event of the transaction component.
+    fn pass<R: Wait>(&self, rt: &R, event: Event) -> Result<bool, Refusal>
+        requires tc { of_tc event ≡ true }
+        requires plain { delivers event ≡ false }
+        ensures { IfErr result IsOutage }
+    {
+        let token = self.entrance.enter(rt, event);
+        passed(self.entrance.board.out(&token))
+    }
+
+    // An event that sends a request, which is served, and its reply taken.
+    fn exchange_up<R: Wait>(&self, rt: &R, event: Event) -> Result<bool, Refusal>
+        requires tc { of_tc event ≡ true }
+        requires plain { delivers event ≡ false }
+        ensures { IfErr result IsOutage }
+    {
+        let token = self.entrance.enter(rt, event);
+        let out = self.entrance.board.out(&token);
+        match number_sent(out) {
+            Some(number) => self.serve_up(rt, number),
+            None => passed(out),
+        }
+    }
+
+    // The request is served, and its reply taken.
+    fn serve_up<R: Wait>(&self, rt: &R, number: u64) -> Result<bool, Refusal>
+        ensures { IfErr result IsOutage }
+    {
+        let board = &self.entrance.board;
+        let served = self
+            .dc
+            .lock(rt)
+            .serve(rt, board.hall.row(), &board.journal, &Nobody, number);
+        let Ok(token) = served else {
+            return Ok(true);
+        };
+        let out = board.out(&token);
+        let Out::Replied(reply) = out else {
+            return passed(out);
+        };
+        match self.entrance.take(rt, *reply) {
+            Some(token) => passed(board.out(&token)),
+            None => Ok(true),
+        }
+    }
+}
+
+// The number of the request that was sent, if one was.
+fn number_sent(out: &Out) -> Option<u64> {
+    match out {
+        Out::Connects { request, .. } | Out::Sent(request) => Some(*request),
+        _ => None,
+    }
+}

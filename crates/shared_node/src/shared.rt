@@ -1,0 +1,66 @@
+//! What the threads share, and what they do under its locks.
+use crate::board::Board;
+use crate::entrance::Entrance;
+use pool_journal::{DcDesk, Hall, Journal, Naming, TcDesk};
+use stable::{CrashLog, CrashPages};
+use std::sync::{Mutex, Wait};
+use world::Event;
+
+/// What the threads share. A component's lock is taken first, and the journal's inside it; the two components' are
+/// never held together.
+#[derive(Drop)]
+pub struct Shared<J: Naming, G, D: CrashLog, P: CrashPages> {
+    pub(crate) entrance: Entrance<J, D>,
+    pub(crate) dc: Mutex<DcDesk<J, D, P>>,
+    pub(crate) gate: G,
+}
+
+impl<J: Naming, G, D: CrashLog, P: CrashPages> Shared<J, G, D, P> {
+    /// A node's halves, each as its desk has it, and a journal without entries.
+    pub fn new(
+        hall: Hall<J>,
+        tc: TcDesk<J, D>,
+        dc: DcDesk<J, D, P>,
+        journal: Journal<J>,
+        gate: G,
+    ) -> Shared<J, G, D, P> {
+        Shared {
+            entrance: Entrance::new(Board::new(hall, journal), tc),
+            dc: Mutex::new(dc),
+            gate,
+        }
+    }
+
+    /// What is read without a lock.
+    pub fn hall(&self) -> &Hall<J> {
+        &self.entrance.board.hall
+    }
+
+    /// Where calls are entered.
+    pub fn entrance(&self) -> &Entrance<J, D> {
+        &self.entrance
+    }
+
+    /// The data component crashes. Nothing is kept that isn't stable.
+    pub fn crash_dc<R: Wait>(&self, rt: &R) {
+        let board = &self.entrance.board;
+        let event = Event::CrashDc {
+            frames: 0,
+            bytes: 0,
+        };
+        self.dc
+            .lock(rt)
+            .turn(rt, board.hall.row(), &board.journal, event);
+        board.wake();
+    }
+}
+
+impl<J: Naming, G: Drop, D: CrashLog + Drop, P: CrashPages> Shared<J, G, D, P> {
+    /// What was written down, and the data component's desk, once nobody else shares the node.
+    pub fn into_parts(self) -> (Hall<J>, Journal<J>, DcDesk<J, D, P>) {
+        let Shared { entrance, dc, .. } = self;
+        let Entrance { board, tc: _ } = entrance;
+        let Board { hall, journal, .. } = board;
+        (hall, journal.into_inner(), dc.into_inner())
+    }
+}

@@ -1,0 +1,64 @@
+//! What the words of a command line ask for.
+use command_line::{Task, choose};
+use record_key::Refusal;
+use std::alloc::Global;
+use std::fmt::Write;
+use test_lines::Subject;
+
+/// The words of a line are those behind the program's name; its answer is what they ask for, `no` where they are refused.
+#[derive(Drop)]
+pub struct CommandLines {
+    alloc: Global,
+}
+
+impl CommandLines {
+    pub fn new(alloc: Global) -> CommandLines {
+        CommandLines { alloc }
+    }
+}
+
+impl Subject for CommandLines {
+    fn call(&mut self, call: &str, answer: &mut String) -> Result<(), Refusal> {
+        let mut words = Vec::new(self.alloc);
+        words.push("undo_shell")?;
+        for word in call.split_terminator(' ') {
+            words.push(word)?;
+        }
+        put_asked(answer, self.alloc, words.as_slice())
+    }
+}
+
+/// Appends what the words ask for.
+fn put_asked(text: &mut String, alloc: Global, words: &[&str]) -> Result<(), Refusal> {
+    match choose(alloc, words) {
+        Ok(task) => put_task(text, task),
+        Err(_) => Ok(text.push_str("no")?),
+    }
+}
+
+fn put_task(text: &mut String, task: Task<'_>) -> Result<(), Refusal> {
+    match task {
+        Task::Run { continues, store } => put_run(text, continues, store),
+        Task::Pool { sessions, rounds } => Ok(write!(text, "pool {sessions} {rounds}")?),
+        Task::Explain { at } => put_numbered(text, "explain", at),
+        Task::Draw { last } => put_numbered(text, "draw", last),
+    }
+}
+
+/// A run, which may go on behind failures and may be of a store.
+fn put_run(text: &mut String, continues: bool, store: Option<&str>) -> Result<(), Refusal> {
+    text.push_str(if continues { "run on" } else { "run" })?;
+    match store {
+        Some(folder) => Ok(write!(text, " of {folder}")?),
+        None => Ok(()),
+    }
+}
+
+/// A task that may have a number.
+fn put_numbered(text: &mut String, task: &str, number: Option<u64>) -> Result<(), Refusal> {
+    text.push_str(task)?;
+    match number {
+        Some(number) => Ok(write!(text, " {number}")?),
+        None => Ok(()),
+    }
+}
