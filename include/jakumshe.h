@@ -41,17 +41,19 @@ enum {
     JAKUMSHE_DONE = 0,
 
     /*
-     * The kernel's refusals. The others, 4 to 6, 8 to 10 and 15 to 19, tell of recovery, messages and devices: a node
-     * that has settled and is kept in memory has no reason for them.
+     * The kernel's refusals. The others, 4 to 6, 8, 9 and 15 to 18, tell of recovery and messages: a node that has
+     * settled has no reason for them.
      */
     JAKUMSHE_NO_MEMORY = 1,     /* out of memory */
     JAKUMSHE_BUSY = 2,          /* another transaction holds a lock */
     JAKUMSHE_NOT_OPEN = 3,      /* no open transaction has this number */
     JAKUMSHE_BAD_SAVEPOINT = 7, /* the transaction has no such savepoint */
+    JAKUMSHE_DEVICE = 10,       /* the system refused a call of a store */
     JAKUMSHE_EMPTY_KEY = 11,    /* a key has at least one byte */
     JAKUMSHE_TOO_LONG = 12,     /* a key has at most 32 bytes, a value at most 120 */
     JAKUMSHE_BAD_RANGE = 13,    /* the upper end of a range isn't above its lower end */
     JAKUMSHE_FULL = 14,         /* 64 transactions are open, or the transaction has 16 savepoints */
+    JAKUMSHE_BAD_BYTES = 19,    /* the bytes that a node is to be opened on are no log */
     JAKUMSHE_SPENT = 20,        /* the log has 2^48 records */
 
     /* The library's own. */
@@ -61,11 +63,20 @@ enum {
     JAKUMSHE_EXISTS = 35,     /* there is a record at the key */
     JAKUMSHE_NO_RECORD = 36,  /* there is no record at the key */
     JAKUMSHE_NOT_NUMBER = 37, /* the value at the key isn't of 8 bytes */
-    JAKUMSHE_UNTOLD = 38      /* the call was made and not answered: a fault of the library's */
+    JAKUMSHE_UNTOLD = 38,     /* the call was made and not answered: a fault of the library's */
+
+    /* Of a log that a node is to be opened on, and of a store. */
+    JAKUMSHE_WRONG_ANSWER = 39, /* an answer in the log isn't what its operation gets */
+    JAKUMSHE_CHECKPOINT = 40,   /* the log tells of pages that aren't there */
+    JAKUMSHE_DAMAGED = 41,      /* a block of the log's file isn't what was written */
+    JAKUMSHE_LOCKED = 42,       /* another has the store open */
+    JAKUMSHE_NOT_A_STORE = 43,  /* the folder has other files and is no store */
+    JAKUMSHE_VERSION = 44       /* the store is of another format or version */
 };
 
 #define JAKUMSHE_KEY_ROOM 32
 #define JAKUMSHE_VALUE_ROOM 120
+#define JAKUMSHE_HEAD_ROOM 40
 
 /* A place for one node. It starts as JAKUMSHE_CLOSED_NODE. */
 struct jakumshe_node {
@@ -91,6 +102,11 @@ struct jakumshe_name {
     char text[16];
 };
 
+/* The head of a block of a store's log. */
+struct jakumshe_head {
+    uint8_t bytes[JAKUMSHE_HEAD_ROOM];
+};
+
 /* What the library exports. These trust the caller in that no pointer is null. */
 int jakumshe_raw_open(struct jakumshe_node *node);
 int jakumshe_raw_close(struct jakumshe_node *node);
@@ -112,6 +128,10 @@ int jakumshe_raw_save(struct jakumshe_node *node, uint64_t txn, uint64_t *savepo
 int jakumshe_raw_go_back(struct jakumshe_node *node, uint64_t txn, uint64_t savepoint);
 int jakumshe_raw_roll_back(struct jakumshe_node *node, uint64_t txn);
 int jakumshe_raw_commit(struct jakumshe_node *node, uint64_t txn);
+int jakumshe_raw_unpack(uint8_t *file, size_t size, size_t *length, size_t *end);
+int jakumshe_raw_open_on(struct jakumshe_node *node, const uint8_t *log, size_t length, size_t *kept);
+int jakumshe_raw_log(struct jakumshe_node *node, size_t from, uint8_t *bytes, size_t room, size_t *length);
+void jakumshe_raw_head(uint64_t place, uint64_t start, const uint8_t *bytes, size_t length, struct jakumshe_head *head);
 void jakumshe_raw_name(int status, struct jakumshe_name *name);
 
 /* Whether there are bytes to read: a null pointer has none. */

@@ -9,8 +9,8 @@ folder=$(mktemp -d)
 trap 'rm -rf "$folder"' EXIT
 kit=$(dirname "$(rt doc)")
 compile() {
-    "${CC:-cc}" -std=c11 -Wall -Wextra -Wpedantic -Werror -O1 -g -Iinclude "$@" crates/jakumshe/out/libjakumshe.a \
-        "$kit/c/liblibc_c.a"
+    "${CC:-cc}" -std=c11 -Wall -Wextra -Wpedantic -Werror -O1 -g -Iinclude "$@" c/jakumshe_store.c \
+        crates/jakumshe/out/libjakumshe.a "$kit/c/liblibc_c.a"
 }
 status=0
 for checks in "" -fsanitize=address,undefined; do

@@ -5,7 +5,6 @@
 //! written since; a store is open once at a time; no page is ever said to be written.
 #![tactic(auto)]
 
-mod block;
 mod faults;
 mod file_log;
 mod folder;

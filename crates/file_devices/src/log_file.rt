@@ -1,7 +1,7 @@
 //! The file of a log, and what holds it to one process.
 ghost use Rattle.std.specs.Prelude.{◌≤◌, OnOk};
 
-use crate::block;
+use log_blocks::{HEAD_LEN, head};
 use std::fs::File;
 use std::io;
 use std::os::unix::fs::FileExt;
@@ -65,8 +65,8 @@ impl LogFile {
     }
 
     fn put(&mut self, start: usize, bytes: &[u8]) -> io::Result<()> {
-        let head = block::head(self.end, start, bytes);
-        let Some(place) = self.end.checked_add(block::HEAD as u64) else {
+        let head = head(self.end, start as u64, bytes);
+        let Some(place) = self.end.checked_add(HEAD_LEN as u64) else {
             return Err(io::ErrorKind::FileTooLarge.into());
         };
         let Some(end) = place.checked_add(bytes.len() as u64) else {

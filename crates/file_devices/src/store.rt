@@ -6,7 +6,8 @@ use crate::file_log::FileLog;
 use crate::log_file::LogFile;
 use crate::mark::Mark;
 use crate::store_error::{StoreError, StoreFile, Tried};
-use crate::{block, folder, mark};
+use crate::{folder, mark};
+use log_blocks::unpack;
 use std::alloc::Global;
 use std::fs::{File, Files};
 use std::io;
@@ -34,8 +35,9 @@ pub fn open_store<R: Files<File = File> + AllocGlobal + Clone + Drop>(
     mark::write(&mark)?;
     let mut bytes = settle(rt.alloc(), &mut log)?;
     let len = bytes.len();
-    let end = block::unpack(&mut bytes)?;
-    Ok(FileLog::over(LogFile::new(log, mark, end, len), bytes))
+    let unpacked = unpack(&mut bytes)?;
+    bytes.truncate(unpacked.len);
+    Ok(FileLog::over(LogFile::new(log, mark, unpacked.end, len), bytes))
 }
 
 /// Makes the log of a store that is about to be one: the mark is written behind it. So a folder that has the whole mark

@@ -1,4 +1,5 @@
 //! Why a store isn't opened.
+use log_blocks::Damaged;
 use std::{fmt, io};
 use thiserror::Error;
 
@@ -37,6 +38,14 @@ impl StoreError {
             return StoreError::NoMemory;
         }
         StoreError::Io { tried, file, cause }
+    }
+}
+
+impl From<Damaged> for StoreError {
+    fn from(damaged: Damaged) -> StoreError {
+        StoreError::Damaged {
+            place: damaged.place,
+        }
     }
 }
 

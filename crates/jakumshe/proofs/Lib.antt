@@ -1,3 +1,7 @@
-pub mod Acting
 pub mod BoxCalls
+pub mod Copying
+pub mod Ends
 pub mod HandleSteps
+pub mod OnNode
+pub mod Opening
+pub mod Paging

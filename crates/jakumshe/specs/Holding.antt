@@ -1,5 +1,5 @@
 -- What a handle owns: at null nothing, else the box at p, with its node n.
-use Rattle.std.specs.Prelude.{◌≡◌, ℕ, ℤ, pos, Option, None, Some, IsSome}
+use Rattle.std.specs.Prelude.{◌≡◌, ℕ, ℤ, pos, Option, None, Some}
 use base.Fml.{Fml, ftrue, fsep, fex}
 use denote.RattleType.{RattleType}
 use denote.RawPtr.{Ptr, block_ptr, null_ptr}
@@ -21,6 +21,6 @@ OnNode None new given P = (given ≡ pos 33) × (new ≡ None)
 OnNode (Some n) None given P = ⊥
 OnNode (Some n) (Some m) given P = P n m
 
--- where there is a node, the call has this status, and the node is as it was
+-- the node, where there is one, is as it was, and the call has this status
 abbrev pub RefusedAs : {N : Type 0} → ℕ → Option N → Option N → ℤ → Type 0
-RefusedAs number old new given = IsSome old → (given ≡ pos number) × (new ≡ old)
+RefusedAs number old new given = OnNode old new given (λ n m. (given ≡ pos number) × (m ≡ n))

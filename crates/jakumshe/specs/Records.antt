@@ -1,5 +1,7 @@
 -- What the room of C's holds.
-use Rattle.std.specs.Prelude.{◌≡◌, ℕ, List, length, take}
+use Rattle.std.specs.Prelude.{◌≡◌, ◌⊎◌, ℕ, List, [], ◌∷◌, ◌++◌, length, take, reverse, Result, Ok, Err}
+use Rattle.record_key.specs.Rows.{Row}
+use Rattle.jakumshe.specs.declared.fault.Fault.{Fault}
 use Rattle.jakumshe.specs.declared.records.ValueBytes.{ValueBytes}
 use Rattle.jakumshe.specs.declared.records.RowBytes.{RowBytes}
 
@@ -11,3 +13,25 @@ abbrev pub HoldsRow : RowBytes → List ℕ → List ℕ → Type 0
 HoldsRow b key value =
     (b.key_length ≡ length key) × (take (length key) b.key ≡ key)
     × (b.value_length ≡ length value) × (take (length value) b.value ≡ value)
+
+-- there is the value that was found, or what was there before
+abbrev pub PutsValue : Result (List ℕ) Fault → ValueBytes → ValueBytes → Type 0
+PutsValue (Ok value) before after = Holds after value
+PutsValue (Err fault) before after = after ≡ before
+
+-- the first ones hold these rows
+abbrev pub HoldRows : List RowBytes → List Row → Type 0
+HoldRows bs [] = Unit {0}
+HoldRows [] (row ∷ rows) = ⊥
+HoldRows (b ∷ bs) (row ∷ rows) = HoldsRow b row.0 row.1 × HoldRows bs rows
+
+-- of rows that are kept the last one first, so many next ones are given
+pub record IsGiven (before after : List Row) (room : List RowBytes) (count : ℕ) : Type 0 where
+  pub rows : List Row
+  pub next : reverse before ≡ rows ++ reverse after
+  pub held : HoldRows room rows
+  pub counted : count ≡ length rows
+
+-- as many as there is room for, or all
+abbrev pub IsPage : List Row → List Row → List RowBytes → ℕ → Type 0
+IsPage before after room count = IsGiven before after room count × ((count ≡ length room) ⊎ (after ≡ []))

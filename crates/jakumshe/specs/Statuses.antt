@@ -2,7 +2,9 @@
 use Rattle.std.specs.Prelude.{◌≡◌, ℕ, ℤ, pos, Result, Ok, Err}
 use Rattle.record_key.specs.Refusals.{number_of}
 use Rattle.jakumshe.specs.declared.fault.Fault.{Fault}
-use Rattle.jakumshe.specs.declared.fault.Fault.TheVariants.{Refused, Closed, Open, Exists, NoRecord, NotNumber, Untold}
+use Rattle.jakumshe.specs.declared.fault.Fault.TheVariants.{Refused, Closed, Open, Exists, NoRecord, NotNumber, Untold, WrongAnswer, Checkpoint, Damaged}
+use Rattle.node_store.specs.declared.unopened.Cause.{Cause}
+use Rattle.node_store.specs.declared.unopened.Cause.TheVariants as why
 
 -- the status of a call that ends so; 0 is that of one that is done, and 32 is left to the header
 abbrev pub status : Fault → ℕ
@@ -13,6 +15,15 @@ status Exists = 35
 status NoRecord = 36
 status NotNumber = 37
 status Untold = 38
+status WrongAnswer = 39
+status Checkpoint = 40
+status Damaged = 41
+
+-- why a node isn't opened on a log
+abbrev pub fault_of : Cause → Fault
+fault_of (why.Refused refusal) = Refused refusal
+fault_of (why.Checkpoint n) = Checkpoint
+fault_of (why.WrongAnswer n) = WrongAnswer
 
 -- the status of a call that ends so
 abbrev pub Ends : {X : Type 0} → ℤ → Result X Fault → Type 0

@@ -1,26 +1,27 @@
 //! The functions that C calls, as include/jakumshe.h declares them. Each gives a status. Each may also be refused NoMemory
 //! and NumbersSpent. A `Global` takes no bytes, so C passes none.
-ghost use Rattle.std.specs.Prelude.{◌≡◌, ◌<◌, length, pos, Err, None, Some, IsSome, IsSomeAnd, IfOk, OnOk};
+ghost use Rattle.std.specs.Prelude.{◌≡◌, ◌<◌, ◌≤◌, length, pos, None, IsSome, IsSomeAnd, IfOk, IfErr};
 ghost use Rattle.record_key.specs.declared.op.Op.TheVariants as op;
 ghost use Rattle.world.specs.declared.event.Event.TheVariants as event;
-ghost use Rattle.world.specs.declared.event.Out.{Out};
-ghost use Rattle.world.specs.declared.event.Out.TheVariants as out;
-ghost use Rattle.jakumshe.specs.declared.fault.Fault.TheVariants.{NoRecord};
-ghost use Rattle.jakumshe.specs.Calls.{IsNew, IsStepped, TellsThat, Acts, Reads, Commits, EndsSo, end_of};
+ghost use Rattle.jakumshe.specs.declared.fault.Fault.TheVariants.{Refused};
+ghost use Rattle.jakumshe.specs.Calls.{IsNew, Makes, Tells, Reads, EndsSo, Puts, begins, saves, finds, goes_back, rolls_back, commits, end_of};
+ghost use Rattle.jakumshe.specs.Handles.{Acted};
 ghost use Rattle.jakumshe.specs.Holding.{OnNode, RefusedAs};
-ghost use Rattle.jakumshe.specs.Records.{Holds};
+ghost use Rattle.jakumshe.specs.Records.{IsPage, PutsValue};
+ghost use Rattle.jakumshe.specs.Statuses.{status};
 
 use crate::fault::{DONE, Fault, name_of, status_of};
 use crate::handle::Handle;
 use crate::node::Node;
+use crate::ops;
 use crate::records::{NameText, RowBytes, ValueBytes};
-use record_key::Refusal;
+use record_key::{Op, Refusal};
 use std::alloc::Global;
 
 /// Makes a node in a handle that has none. Refused Open, NoMemory.
 #[unsafe(no_mangle)]
 pub extern "C" fn jakumshe_raw_open(handle: &mut Handle, alloc: Global) -> i32
-    ensures open { RefusedAs 34 handle.old.node handle.new.node result }
+    ensures open { IsSome handle.old.node → (result ≡ pos 34) × (handle.new.node ≡ handle.old.node) }
     ensures opened { result ≡ pos 0 → IsSomeAnd handle.new.node (λ node. IsNew node.world) }
     ensures refused { result ≡ pos 1 → handle.new.node ≡ None }
 {
@@ -57,8 +58,8 @@ pub extern "C" fn jakumshe_raw_close(handle: &mut Handle, alloc: Global) -> i32
 /// Begins a transaction and gives its number. Refused Full.
 #[unsafe(no_mangle)]
 pub extern "C" fn jakumshe_raw_begin(handle: &mut Handle, alloc: Global, txn: &mut u64) -> i32
-    ensures begun { OnNode handle.old.node handle.new.node result (λ old new. EndsSo result (λ r. IfOk r (λ t.
-        (txn.new ≡ t) × IsStepped old.world event.Begin (out.Begun t) new.world))) }
+    ensures begun { OnNode handle.old.node handle.new.node result (λ old new. EndsSo result (λ r.
+        Makes old.world event.Begin begins r new.world × Puts r txn.old txn.new × (new.rows ≡ old.rows))) }
 {
     let mut node = match handle.take(alloc) {
         Ok(node) => node,
@@ -84,20 +85,14 @@ pub extern "C" fn jakumshe_raw_insert(
     key: &[u8],
     value: &[u8],
 ) -> i32
-    ensures acted { OnNode handle.old.node handle.new.node result (λ old new.
-        EndsSo result (λ r. Acts old.world txn (op.Insert key.now value.now) r new.world)) }
+    ensures acted { 0 < length key.now → length key.now ≤ 32 → length value.now ≤ 120
+        → Acted (op.Insert key.now value.now) txn handle.old.node handle.new.node result }
     ensures empty_key { length key.now ≡ 0 → RefusedAs 11 handle.old.node handle.new.node result }
     ensures long_key { 32 < length key.now → RefusedAs 12 handle.old.node handle.new.node result }
     ensures long_value { 0 < length key.now → 120 < length value.now
         → RefusedAs 12 handle.old.node handle.new.node result }
 {
-    let mut node = match handle.take(alloc) {
-        Ok(node) => node,
-        Err(fault) => return fault.status(),
-    };
-    let ended = node.insert(txn, key, value);
-    handle.put(node);
-    status_of(ended)
+    perform(handle, alloc, txn, ops::insert(key, value))
 }
 
 /// Gives the record that is there another value. Refused EmptyKey, TooLong, NotOpen, Busy, NoRecord.
@@ -109,20 +104,14 @@ pub extern "C" fn jakumshe_raw_update(
     key: &[u8],
     value: &[u8],
 ) -> i32
-    ensures acted { OnNode handle.old.node handle.new.node result (λ old new.
-        EndsSo result (λ r. Acts old.world txn (op.Update key.now value.now) r new.world)) }
+    ensures acted { 0 < length key.now → length key.now ≤ 32 → length value.now ≤ 120
+        → Acted (op.Update key.now value.now) txn handle.old.node handle.new.node result }
     ensures empty_key { length key.now ≡ 0 → RefusedAs 11 handle.old.node handle.new.node result }
     ensures long_key { 32 < length key.now → RefusedAs 12 handle.old.node handle.new.node result }
     ensures long_value { 0 < length key.now → 120 < length value.now
         → RefusedAs 12 handle.old.node handle.new.node result }
 {
-    let mut node = match handle.take(alloc) {
-        Ok(node) => node,
-        Err(fault) => return fault.status(),
-    };
-    let ended = node.update(txn, key, value);
-    handle.put(node);
-    status_of(ended)
+    perform(handle, alloc, txn, ops::update(key, value))
 }
 
 /// Puts the record, whether there is one or not. Refused EmptyKey, TooLong, NotOpen, Busy.
@@ -134,20 +123,14 @@ pub extern "C" fn jakumshe_raw_upsert(
     key: &[u8],
     value: &[u8],
 ) -> i32
-    ensures acted { OnNode handle.old.node handle.new.node result (λ old new.
-        EndsSo result (λ r. Acts old.world txn (op.Upsert key.now value.now) r new.world)) }
+    ensures acted { 0 < length key.now → length key.now ≤ 32 → length value.now ≤ 120
+        → Acted (op.Upsert key.now value.now) txn handle.old.node handle.new.node result }
     ensures empty_key { length key.now ≡ 0 → RefusedAs 11 handle.old.node handle.new.node result }
     ensures long_key { 32 < length key.now → RefusedAs 12 handle.old.node handle.new.node result }
     ensures long_value { 0 < length key.now → 120 < length value.now
         → RefusedAs 12 handle.old.node handle.new.node result }
 {
-    let mut node = match handle.take(alloc) {
-        Ok(node) => node,
-        Err(fault) => return fault.status(),
-    };
-    let ended = node.upsert(txn, key, value);
-    handle.put(node);
-    status_of(ended)
+    perform(handle, alloc, txn, ops::upsert(key, value))
 }
 
 /// Removes the record that is there. Refused EmptyKey, TooLong, NotOpen, Busy, NoRecord.
@@ -158,18 +141,12 @@ pub extern "C" fn jakumshe_raw_delete(
     txn: u64,
     key: &[u8],
 ) -> i32
-    ensures acted { OnNode handle.old.node handle.new.node result (λ old new.
-        EndsSo result (λ r. Acts old.world txn (op.Delete key.now) r new.world)) }
+    ensures acted { 0 < length key.now → length key.now ≤ 32
+        → Acted (op.Delete key.now) txn handle.old.node handle.new.node result }
     ensures empty_key { length key.now ≡ 0 → RefusedAs 11 handle.old.node handle.new.node result }
     ensures long_key { 32 < length key.now → RefusedAs 12 handle.old.node handle.new.node result }
 {
-    let mut node = match handle.take(alloc) {
-        Ok(node) => node,
-        Err(fault) => return fault.status(),
-    };
-    let ended = node.delete(txn, key);
-    handle.put(node);
-    status_of(ended)
+    perform(handle, alloc, txn, ops::delete(key))
 }
 
 /// Adds to the number that is there. Refused EmptyKey, TooLong, NotOpen, Busy, NoRecord, NotNumber.
@@ -181,16 +158,28 @@ pub extern "C" fn jakumshe_raw_add(
     key: &[u8],
     amount: u64,
 ) -> i32
-    ensures acted { OnNode handle.old.node handle.new.node result (λ old new.
-        EndsSo result (λ r. Acts old.world txn (op.Add key.now amount) r new.world)) }
+    ensures acted { 0 < length key.now → length key.now ≤ 32
+        → Acted (op.Add key.now amount) txn handle.old.node handle.new.node result }
     ensures empty_key { length key.now ≡ 0 → RefusedAs 11 handle.old.node handle.new.node result }
     ensures long_key { 32 < length key.now → RefusedAs 12 handle.old.node handle.new.node result }
+{
+    perform(handle, alloc, txn, ops::add(key, amount))
+}
+
+/// Does the operation, or refuses it where none was made of what C gave.
+fn perform(handle: &mut Handle, alloc: Global, txn: u64, op: Result<Op, Refusal>) -> i32
+    ensures acted { IfOk op (λ op. Acted op txn handle.old.node handle.new.node result) }
+    ensures refused { IfErr op (λ refusal.
+        RefusedAs (status (Refused refusal)) handle.old.node handle.new.node result) }
 {
     let mut node = match handle.take(alloc) {
         Ok(node) => node,
         Err(fault) => return fault.status(),
     };
-    let ended = node.add(txn, key, amount);
+    let ended = match op {
+        Ok(op) => node.act(txn, op),
+        Err(refusal) => Err(Fault::Refused(refusal)),
+    };
     handle.put(node);
     status_of(ended)
 }
@@ -204,9 +193,10 @@ pub extern "C" fn jakumshe_raw_get(
     key: &[u8],
     value: &mut ValueBytes,
 ) -> i32
-    ensures read { OnNode handle.old.node handle.new.node result (λ old new. EndsSo result (λ r.
-        IfOk r (λ v. Holds value.new v × TellsThat old.world (event.Get txn key.now) (out.Row txn (Some v)) new.world)
-        × (r ≡ Err NoRecord → TellsThat old.world (event.Get txn key.now) (out.Row txn None) new.world))) }
+    ensures read { 0 < length key.now → length key.now ≤ 32
+        → OnNode handle.old.node handle.new.node result (λ old new. EndsSo result (λ r.
+        Tells old.world (event.Get txn key.now) (finds txn) r new.world × PutsValue r value.old value.new
+        × (new.rows ≡ old.rows))) }
     ensures empty_key { length key.now ≡ 0 → RefusedAs 11 handle.old.node handle.new.node result }
     ensures long_key { 32 < length key.now → RefusedAs 12 handle.old.node handle.new.node result }
 {
@@ -236,9 +226,10 @@ pub extern "C" fn jakumshe_raw_scan(
     high: &[u8],
     count: &mut usize,
 ) -> i32
-    ensures read { OnNode handle.old.node handle.new.node result (λ old new. EndsSo result (λ r. IfOk r (λ n.
-        (count.new ≡ n) × (n ≡ length new.rows.items)
-        × Reads old.world txn low.now (end_of high.now) new.rows.items new.world))) }
+    ensures read { 0 < length low.now → length low.now ≤ 32 → length high.now ≤ 32
+        → OnNode handle.old.node handle.new.node result (λ old new. EndsSo result (λ r.
+        Reads old.world txn low.now (end_of high.now) old.rows.items new.rows.items r new.world
+        × Puts r count.old count.new)) }
     ensures empty_key { length low.now ≡ 0 → RefusedAs 11 handle.old.node handle.new.node result }
     ensures long_key { 32 < length low.now → RefusedAs 12 handle.old.node handle.new.node result }
     ensures long_end { 0 < length low.now → 32 < length high.now
@@ -267,7 +258,8 @@ pub extern "C" fn jakumshe_raw_page(
     rows: &mut [RowBytes],
     count: &mut usize,
 ) -> i32
-    ensures done { OnNode handle.old.node handle.new.node result (λ old new. (result ≡ pos 0) × (new.world ≡ old.world)) }
+    ensures given { OnNode handle.old.node handle.new.node result (λ old new. (result ≡ pos 0)
+        × IsPage old.rows.items new.rows.items rows.new count.new × (new.world ≡ old.world)) }
 {
     let mut node = match handle.take(alloc) {
         Ok(node) => node,
@@ -286,8 +278,9 @@ pub extern "C" fn jakumshe_raw_save(
     txn: u64,
     savepoint: &mut u64,
 ) -> i32
-    ensures saved { OnNode handle.old.node handle.new.node result (λ old new. EndsSo result (λ r. IfOk r (λ s.
-        (savepoint.new ≡ s) × IsStepped old.world (event.Save txn) (out.Saved s) new.world))) }
+    ensures saved { OnNode handle.old.node handle.new.node result (λ old new. EndsSo result (λ r.
+        Makes old.world (event.Save txn) saves r new.world × Puts r savepoint.old savepoint.new
+        × (new.rows ≡ old.rows))) }
 {
     let mut node = match handle.take(alloc) {
         Ok(node) => node,
@@ -312,9 +305,8 @@ pub extern "C" fn jakumshe_raw_go_back(
     txn: u64,
     savepoint: u64,
 ) -> i32
-    ensures back { OnNode handle.old.node handle.new.node result (λ old new.
-        EndsSo {X = Unit {0}} result (λ r. OnOk r
-        (TellsThat old.world (event.GoBack txn savepoint) (out.Back txn savepoint) new.world))) }
+    ensures back { OnNode handle.old.node handle.new.node result (λ old new. EndsSo result (λ r.
+        Tells old.world (event.GoBack txn savepoint) (goes_back txn savepoint) r new.world × (new.rows ≡ old.rows))) }
 {
     let mut node = match handle.take(alloc) {
         Ok(node) => node,
@@ -328,9 +320,8 @@ pub extern "C" fn jakumshe_raw_go_back(
 /// Undoes all that the transaction did, and ends it. Refused NotOpen.
 #[unsafe(no_mangle)]
 pub extern "C" fn jakumshe_raw_roll_back(handle: &mut Handle, alloc: Global, txn: u64) -> i32
-    ensures rolled_back { OnNode handle.old.node handle.new.node result (λ old new.
-        EndsSo {X = Unit {0}} result (λ r. OnOk r
-        (TellsThat old.world (event.Rollback txn) (out.RolledBack txn) new.world))) }
+    ensures rolled_back { OnNode handle.old.node handle.new.node result (λ old new. EndsSo result (λ r.
+        Tells old.world (event.Rollback txn) (rolls_back txn) r new.world × (new.rows ≡ old.rows))) }
 {
     let mut node = match handle.take(alloc) {
         Ok(node) => node,
@@ -344,9 +335,8 @@ pub extern "C" fn jakumshe_raw_roll_back(handle: &mut Handle, alloc: Global, txn
 /// Ends the transaction; what it did stays. Refused NotOpen.
 #[unsafe(no_mangle)]
 pub extern "C" fn jakumshe_raw_commit(handle: &mut Handle, alloc: Global, txn: u64) -> i32
-    ensures committed { OnNode handle.old.node handle.new.node result (λ old new.
-        EndsSo {X = Unit {0}} result (λ r. OnOk r
-        ((o : Out) × TellsThat old.world (event.Commit txn) o new.world × Commits txn o))) }
+    ensures committed { OnNode handle.old.node handle.new.node result (λ old new. EndsSo result (λ r.
+        Tells old.world (event.Commit txn) (commits txn) r new.world × (new.rows ≡ old.rows))) }
 {
     let mut node = match handle.take(alloc) {
         Ok(node) => node,

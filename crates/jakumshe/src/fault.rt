@@ -1,8 +1,9 @@
 //! How a call ends.
 ghost use Rattle.std.specs.Prelude.{◌≡◌, pos, OnOk, IfErr};
-ghost use Rattle.jakumshe.specs.Statuses.{status, Ends};
+ghost use Rattle.jakumshe.specs.Statuses.{status, fault_of, Ends};
 ghost use Rattle.jakumshe.specs.declared.fault.Fault.TheVariants.{Refused};
 
+use node_store::Cause;
 use record_key::Refusal;
 
 /// The status of a call that was done.
@@ -25,11 +26,17 @@ pub enum Fault {
     NotNumber,
     /// The node settled and told nothing of the call.
     Untold,
+    /// An answer in a log isn't what its operation gets.
+    WrongAnswer,
+    /// A log tells of pages that aren't there.
+    Checkpoint,
+    /// A block of a log's file isn't what was written.
+    Damaged,
 }
 
 impl Fault {
-    /// The status of a call that ends so: 1 to 20 of a refusal, 33 to 38 of another fault. 32 tells of a null pointer, and
-    /// is given by the header alone.
+    /// The status of a call that ends so: 1 to 20 of a refusal, 33 to 41 of another fault. 32 tells of a null pointer, and
+    /// is given by the header alone; 42 to 44 are of a store's files, which C opens.
     pub fn status(self) -> i32
         ensures { result ≡ pos (status self) }
     {
@@ -41,6 +48,9 @@ impl Fault {
             Fault::NoRecord => 36,
             Fault::NotNumber => 37,
             Fault::Untold => 38,
+            Fault::WrongAnswer => 39,
+            Fault::Checkpoint => 40,
+            Fault::Damaged => 41,
         }
     }
 }
@@ -50,6 +60,17 @@ impl From<Refusal> for Fault {
 
     fn from(refusal: Refusal) -> Fault {
         Fault::Refused(refusal)
+    }
+}
+
+/// Why a node isn't opened on a log.
+pub fn fault_of(cause: Cause) -> Fault
+    ensures { result ≡ fault_of cause }
+{
+    match cause {
+        Cause::Refused(refusal) => Fault::Refused(refusal),
+        Cause::Checkpoint(_) => Fault::Checkpoint,
+        Cause::WrongAnswer(_) => Fault::WrongAnswer,
     }
 }
 
@@ -76,6 +97,12 @@ pub fn name_of(status: i32) -> &'static str {
         36 => "NoRecord",
         37 => "NotNumber",
         38 => "Untold",
+        39 => "WrongAnswer",
+        40 => "Checkpoint",
+        41 => "Damaged",
+        42 => "Locked",
+        43 => "NotAStore",
+        44 => "Version",
         _ => match refusal_of(status) {
             Some(refusal) => refusal.name(),
             None => "Unknown",

@@ -1,18 +1,20 @@
 //! A node that answers each call of a client before it takes the next.
-ghost use Rattle.std.specs.Prelude.{◌≡◌, ◌<◌, length, Err, Some, None, IfOk, OnOk, IfErr};
-ghost use Rattle.record_key.specs.declared.op.Op.TheVariants as op;
+ghost use Rattle.std.specs.Prelude.{◌≡◌, ◌<◌, ◌≤◌, [], false, length, Ok, Err, IfOk, IfErr, OnErr};
 ghost use Rattle.record_key.specs.declared.refusal.Refusal.TheVariants.{EmptyKey, TooLong};
 ghost use Rattle.world.specs.declared.event.Event.TheVariants as event;
-ghost use Rattle.world.specs.declared.event.Out.{Out};
-ghost use Rattle.world.specs.declared.event.Out.TheVariants as out;
-ghost use Rattle.world.specs.Stepping.{TellsOn};
-ghost use Rattle.jakumshe.specs.declared.fault.Fault.TheVariants.{Refused, NoRecord};
-ghost use Rattle.jakumshe.specs.Calls.{IsStepped, IsTold, IsNew, TellsThat, Acts, Reads, Commits, IsRefused, end_of};
+ghost use Rattle.world.specs.Rounds.{IsDone};
+ghost use Rattle.jakumshe.specs.declared.fault.Fault.TheVariants.{Refused};
+ghost use Rattle.jakumshe.specs.Calls.{Rests, Stops, IsStepped, IsTold, IsNew, Refuses, Fails, Makes, Tells, Acts, Reads, begins, saves, finds, goes_back, rolls_back, commits, end_of};
+ghost use Rattle.jakumshe.specs.Logs.{IsMadeOn, IsOpenedOn, NotOpened, Copies, stable_bytes};
+ghost use Rattle.jakumshe.specs.Records.{IsPage};
+ghost use Rattle.node_store.specs.Opening.{IsRefusedFor};
 
-use crate::fault::Fault;
+use crate::fault::{Fault, fault_of};
 use crate::records::RowBytes;
 use crate::{ops, told};
+use node_store::{Cause, open};
 use record_key::{Key, Op, Refusal, Value};
+use stable::{LogDevice, MemLog, MemPages};
 use std::alloc::Global;
 use world::{Event, Out, World, settle};
 
@@ -38,77 +40,66 @@ impl Node {
         Ok(node)
     }
 
-    /// A new transaction's number.
-    pub fn begin(&mut self) -> Result<u64, Fault>
-        ensures begun { IfOk result (λ txn. IsStepped self.old.world event.Begin (out.Begun txn) self.new.world) }
+    /// A node on the log that these bytes spell, and how many of them it keeps: a cut last frame is left out. Whoever has
+    /// a Commit there has committed, and whoever was open is rolled back.
+    pub fn open_on(alloc: Global, log: &[u8]) -> Result<(Node, usize), Fault>
+        ensures opened { IfOk result (λ opened. IsOpenedOn log.now opened.1 opened.0.world) }
+        ensures refused { IfErr result (NotOpened log.now) }
     {
-        match self.step(&Event::Begin)? {
-            Out::Begun(txn) => Ok(txn),
-            _ => Err(Fault::Untold),
+        let device = match device_of(alloc, log) {
+            Ok(device) => device,
+            Err(refusal) => return Err(Fault::Refused(refusal)),
+        };
+        let mut node = match node_on(alloc, device) {
+            Ok(node) => node,
+            Err(cause) => return Err(fault_of(cause)),
+        };
+        let kept = match node.world.stable_bytes() {
+            Ok(bytes) => bytes.len(),
+            Err(_) => unreachable!(),
+        };
+        match node.settled() {
+            Ok(_) => Ok((node, kept)),
+            Err(refusal) => Err(Fault::Refused(refusal)),
         }
     }
 
-    /// Puts a record where there is none.
-    pub fn insert(&mut self, txn: u64, key: &[u8], value: &[u8]) -> Result<(), Fault>
-        ensures acted { Acts self.old.world txn (op.Insert key.now value.now) result self.new.world }
-        ensures empty { length key.now ≡ 0 → (result ≡ Err (Refused EmptyKey)) × (self.new ≡ self.old) }
-        ensures long_key { 32 < length key.now → (result ≡ Err (Refused TooLong)) × (self.new ≡ self.old) }
-        ensures long_value { 0 < length key.now → 120 < length value.now
-            → (result ≡ Err (Refused TooLong)) × (self.new ≡ self.old) }
+    /// Copies the stable bytes of the log, from one of them on, as many as there is room for. Gives how many there are in
+    /// all. Refused NotConnected.
+    pub fn copy_log(&self, from: usize, room: &mut [u8]) -> Result<usize, Refusal>
+        ensures copied { IfOk result (Copies (stable_bytes self.now.world) from room.new) }
+        ensures refused { IfErr result (λ refusal. refusal ≡ Refusal.NotConnected) }
+        ensures down { OnErr result (self.now.world.tc_up ≡ false) }
     {
-        let op = ops::insert(key, value)?;
-        self.act(txn, op)
+        match self.world.stable_bytes() {
+            Ok(bytes) => {
+                copy(bytes, from, room);
+                Ok(bytes.len())
+            }
+            Err(refusal) => Err(refusal),
+        }
     }
 
-    /// Gives the record that is there another value.
-    pub fn update(&mut self, txn: u64, key: &[u8], value: &[u8]) -> Result<(), Fault>
-        ensures acted { Acts self.old.world txn (op.Update key.now value.now) result self.new.world }
-        ensures empty { length key.now ≡ 0 → (result ≡ Err (Refused EmptyKey)) × (self.new ≡ self.old) }
-        ensures long_key { 32 < length key.now → (result ≡ Err (Refused TooLong)) × (self.new ≡ self.old) }
-        ensures long_value { 0 < length key.now → 120 < length value.now
-            → (result ≡ Err (Refused TooLong)) × (self.new ≡ self.old) }
+    /// A new transaction's number.
+    pub fn begin(&mut self) -> Result<u64, Fault>
+        ensures begun { Makes self.old.world event.Begin begins result self.new.world }
+        ensures rows { self.new.rows ≡ self.old.rows }
     {
-        let op = ops::update(key, value)?;
-        self.act(txn, op)
+        match self.step(&Event::Begin) {
+            Ok(out) => told::begun(&out),
+            Err(refusal) => Err(Fault::Refused(refusal)),
+        }
     }
 
-    /// Puts the record, whether there is one or not.
-    pub fn upsert(&mut self, txn: u64, key: &[u8], value: &[u8]) -> Result<(), Fault>
-        ensures acted { Acts self.old.world txn (op.Upsert key.now value.now) result self.new.world }
-        ensures empty { length key.now ≡ 0 → (result ≡ Err (Refused EmptyKey)) × (self.new ≡ self.old) }
-        ensures long_key { 32 < length key.now → (result ≡ Err (Refused TooLong)) × (self.new ≡ self.old) }
-        ensures long_value { 0 < length key.now → 120 < length value.now
-            → (result ≡ Err (Refused TooLong)) × (self.new ≡ self.old) }
+    /// Does the operation, and tends a leaf after it.
+    pub fn act(&mut self, txn: u64, op: Op) -> Result<(), Fault>
+        ensures acted { Acts self.old.world txn op result self.new.world }
+        ensures rows { self.new.rows ≡ self.old.rows }
     {
-        let op = ops::upsert(key, value)?;
-        self.act(txn, op)
-    }
-
-    /// Removes the record that is there.
-    pub fn delete(&mut self, txn: u64, key: &[u8]) -> Result<(), Fault>
-        ensures acted { Acts self.old.world txn (op.Delete key.now) result self.new.world }
-        ensures empty { length key.now ≡ 0 → (result ≡ Err (Refused EmptyKey)) × (self.new ≡ self.old) }
-        ensures long_key { 32 < length key.now → (result ≡ Err (Refused TooLong)) × (self.new ≡ self.old) }
-    {
-        let op = ops::delete(key)?;
-        self.act(txn, op)
-    }
-
-    /// Adds to the number that is there.
-    pub fn add(&mut self, txn: u64, key: &[u8], amount: u64) -> Result<(), Fault>
-        ensures acted { Acts self.old.world txn (op.Add key.now amount) result self.new.world }
-        ensures empty { length key.now ≡ 0 → (result ≡ Err (Refused EmptyKey)) × (self.new ≡ self.old) }
-        ensures long_key { 32 < length key.now → (result ≡ Err (Refused TooLong)) × (self.new ≡ self.old) }
-    {
-        let op = ops::add(key, amount)?;
-        self.act(txn, op)
-    }
-
-    #[tactic(auto, using(crate::proofs::Acting::acts_refused))]
-    fn act(&mut self, txn: u64, op: Op) -> Result<(), Fault>
-        ensures { Acts self.old.world txn op result self.new.world }
-    {
-        let told = self.call(&Event::Act { txn, op })?;
+        let told = match self.call(&Event::Act { txn, op }) {
+            Ok(told) => told,
+            Err(refusal) => return Err(Fault::Refused(refusal)),
+        };
         // A leaf that is large now is split. Where that is refused, a later call does it.
         let _ = self.world.step(&Event::Tend);
         told::answer(&told, txn)
@@ -116,24 +107,25 @@ impl Node {
 
     /// The value at the key.
     pub fn get(&mut self, txn: u64, key: &[u8]) -> Result<Value, Fault>
-        ensures found { IfOk result (λ value.
-            TellsThat self.old.world (event.Get txn key.now) (out.Row txn (Some value)) self.new.world) }
-        ensures none { result ≡ Err NoRecord
-            → TellsThat self.old.world (event.Get txn key.now) (out.Row txn None) self.new.world }
+        ensures read { 0 < length key.now → length key.now ≤ 32
+            → Tells self.old.world (event.Get txn key.now) (finds txn) result self.new.world }
+        ensures rows { self.new.rows ≡ self.old.rows }
         ensures empty { length key.now ≡ 0 → (result ≡ Err (Refused EmptyKey)) × (self.new ≡ self.old) }
         ensures long_key { 32 < length key.now → (result ≡ Err (Refused TooLong)) × (self.new ≡ self.old) }
     {
         let key = Key::new(key)?;
-        let told = self.call(&Event::Get { txn, key })?;
-        told::value(&told, txn)
+        match self.call(&Event::Get { txn, key }) {
+            Ok(told) => told::value(&told, txn),
+            Err(refusal) => Err(Fault::Refused(refusal)),
+        }
     }
 
     /// Reads the rows from `low` on, below `high` or, where that is empty, to the end, and keeps them for `page` in place
     /// of earlier ones. Gives how many there are.
     pub fn scan(&mut self, txn: u64, low: &[u8], high: &[u8]) -> Result<usize, Fault>
-        ensures count { IfOk result (λ count. count ≡ length self.new.rows.items) }
-        ensures read { OnOk result
-            (Reads self.old.world txn low.now (end_of high.now) self.new.rows.items self.new.world) }
+        ensures read { 0 < length low.now → length low.now ≤ 32 → length high.now ≤ 32
+            → Reads self.old.world txn low.now (end_of high.now) self.old.rows.items self.new.rows.items result
+            self.new.world }
         ensures empty { length low.now ≡ 0 → (result ≡ Err (Refused EmptyKey)) × (self.new ≡ self.old) }
         ensures long_key { 32 < length low.now → (result ≡ Err (Refused TooLong)) × (self.new ≡ self.old) }
         ensures long_end { 0 < length low.now → 32 < length high.now → (result ≡ Err (Refused TooLong))
@@ -144,94 +136,177 @@ impl Node {
     }
 
     fn read(&mut self, txn: u64, low: Key, high: Option<Key>) -> Result<usize, Fault>
-        ensures count { IfOk result (λ count. count ≡ length self.new.rows.items) }
-        ensures read { OnOk result (Reads self.old.world txn low high self.new.rows.items self.new.world) }
+        ensures { Reads self.old.world txn low high self.old.rows.items self.new.rows.items result self.new.world }
     {
-        let told = self.call(&Event::Scan { txn, low, high })?;
-        self.rows = told::rows(told, txn)?;
-        self.rows.reverse();
-        Ok(self.rows.len())
+        let told = match self.call(&Event::Scan { txn, low, high }) {
+            Ok(told) => told,
+            Err(refusal) => return Err(Fault::Refused(refusal)),
+        };
+        let found = match told::rows(&told, txn) {
+            Ok(found) => found,
+            Err(fault) => return Err(fault),
+        };
+        match found.to_rows(self.alloc) {
+            Ok(rows) => {
+                self.rows = rows;
+                self.rows.reverse();
+                Ok(self.rows.len())
+            }
+            Err(_) => Err(Fault::Refused(Refusal::NoMemory)),
+        }
     }
 
     /// Puts the next rows of those that were read last, as many as there is room for. Gives how many.
     pub fn page(&mut self, room: &mut [RowBytes]) -> usize
         ensures world { self.new.world ≡ self.old.world }
+        ensures page { IsPage self.old.rows.items self.new.rows.items room.new result }
     {
-        let before = self.rows.len();
-        for row in room {
+        let mut count = 0;
+        while count < room.len() {
             let Some((key, value)) = self.rows.pop() else {
                 break;
             };
-            row.put(&key, &value);
+            room[count].put(&key, &value);
+            count += 1;
         }
-        before.saturating_sub(self.rows.len())
+        count
     }
 
     /// A savepoint's number, from 1 in each transaction.
     pub fn save(&mut self, txn: u64) -> Result<u64, Fault>
-        ensures saved { IfOk result (λ savepoint.
-            IsStepped self.old.world (event.Save txn) (out.Saved savepoint) self.new.world) }
+        ensures saved { Makes self.old.world (event.Save txn) saves result self.new.world }
+        ensures rows { self.new.rows ≡ self.old.rows }
     {
-        match self.step(&Event::Save { txn })? {
-            Out::Saved(savepoint) => Ok(savepoint),
-            _ => Err(Fault::Untold),
+        match self.step(&Event::Save { txn }) {
+            Ok(out) => told::saved(&out),
+            Err(refusal) => Err(Fault::Refused(refusal)),
         }
     }
 
     /// Undoes what the transaction did since the savepoint, which stays.
     pub fn go_back(&mut self, txn: u64, savepoint: u64) -> Result<(), Fault>
-        ensures back { OnOk result
-            (TellsThat self.old.world (event.GoBack txn savepoint) (out.Back txn savepoint) self.new.world) }
+        ensures back { Tells self.old.world (event.GoBack txn savepoint) (goes_back txn savepoint) result self.new.world }
+        ensures rows { self.new.rows ≡ self.old.rows }
     {
-        let told = self.call(&Event::GoBack { txn, savepoint })?;
-        told::back(&told, txn, savepoint)
+        match self.call(&Event::GoBack { txn, savepoint }) {
+            Ok(told) => told::back(&told, txn, savepoint),
+            Err(refusal) => Err(Fault::Refused(refusal)),
+        }
     }
 
     /// Undoes all that the transaction did, and ends it.
     pub fn roll_back(&mut self, txn: u64) -> Result<(), Fault>
-        ensures rolled_back { OnOk result
-            (TellsThat self.old.world (event.Rollback txn) (out.RolledBack txn) self.new.world) }
+        ensures rolled_back { Tells self.old.world (event.Rollback txn) (rolls_back txn) result self.new.world }
+        ensures rows { self.new.rows ≡ self.old.rows }
     {
-        let told = self.call(&Event::Rollback { txn })?;
-        told::rolled_back(&told, txn)
+        match self.call(&Event::Rollback { txn }) {
+            Ok(told) => told::rolled_back(&told, txn),
+            Err(refusal) => Err(Fault::Refused(refusal)),
+        }
     }
 
     /// Ends the transaction; what it did stays.
     pub fn commit(&mut self, txn: u64) -> Result<(), Fault>
-        ensures committed { OnOk result
-            ((out : Out) × TellsThat self.old.world (event.Commit txn) out self.new.world × Commits txn out) }
+        ensures committed { Tells self.old.world (event.Commit txn) (commits txn) result self.new.world }
+        ensures rows { self.new.rows ≡ self.old.rows }
     {
-        let told = self.call(&Event::Commit { txn })?;
-        told::committed(&told, txn)
+        match self.call(&Event::Commit { txn }) {
+            Ok(told) => told::committed(&told, txn),
+            Err(refusal) => Err(Fault::Refused(refusal)),
+        }
     }
 
     /// What clients are told after the event, until the node is settled.
-    fn call(&mut self, event: &Event) -> Result<Vec<Out>, Fault>
+    fn call(&mut self, event: &Event) -> Result<Vec<Out>, Refusal>
         ensures told { IfOk result (λ told. IsTold self.old.world event.now told.items self.new.world) }
-        ensures refused { IfErr result IsRefused }
+        ensures refused { IfErr result (λ refusal. Fails self.old.world event.now refusal self.new.world) }
+        ensures rows { self.new.rows ≡ self.old.rows }
     {
-        self.step(event)?;
-        Ok(self.settled()?)
+        match self.step(event) {
+            Ok(_) => {}
+            Err(refusal) => return Err(refusal),
+        }
+        self.settled()
     }
 
     /// What the event comes to at once. What an earlier call has left half done, where memory ran out, is done before.
-    fn step(&mut self, event: &Event) -> Result<Out, Fault>
+    fn step(&mut self, event: &Event) -> Result<Out, Refusal>
         ensures stepped { IfOk result (λ out. IsStepped self.old.world event.now out self.new.world) }
-        ensures refused { IfErr result IsRefused }
+        ensures done { IfOk result IsDone }
+        ensures refused { IfErr result (λ refusal. Refuses self.old.world event.now refusal self.new.world) }
+        ensures rows { self.new.rows ≡ self.old.rows }
     {
-        self.settled()?;
+        match self.settled() {
+            Ok(_) => {}
+            Err(refusal) => return Err(refusal),
+        }
         match self.world.step(event) {
-            Out::Refused(refusal) => Err(Fault::Refused(refusal)),
+            Out::Refused(refusal) => Err(refusal),
             out => Ok(out),
         }
     }
 
     /// All that the node tells until it is settled.
     fn settled(&mut self) -> Result<Vec<Out>, Refusal>
-        ensures { IfOk result (λ told. TellsOn self.old.world told.items self.new.world) }
+        ensures rests { IfOk result (λ told. Rests self.old.world told.items self.new.world) }
+        ensures stops { IfErr result (λ refusal. Stops self.old.world refusal self.new.world) }
+        ensures rows { self.new.rows ≡ self.old.rows }
     {
         let mut told = Vec::new(self.alloc);
-        settle(&mut self.world, None, &mut told)?;
-        Ok(told)
+        match settle(&mut self.world, None, &mut told) {
+            Ok(true) => Ok(told),
+            // As many rounds as it takes are allowed.
+            Ok(false) => unreachable!(),
+            Err(refusal) => Err(refusal),
+        }
+    }
+}
+
+/// A device that has these bytes, all of them forced.
+fn device_of(alloc: Global, log: &[u8]) -> Result<MemLog, Refusal>
+    ensures forced { IfOk result (λ device. device.forced ≡ log.now) }
+    ensures pending { IfOk result (λ device. device.pending ≡ []) }
+    ensures memory { IfErr result (λ refusal. refusal ≡ Refusal.NoMemory) }
+{
+    let mut device = MemLog::new(alloc);
+    match device.append(log) {
+        Ok(()) => {}
+        Err(_) => return Err(Refusal::NoMemory),
+    }
+    match device.force() {
+        Ok(()) => Ok(device),
+        // It was set to fail by nobody.
+        Err(_) => unreachable!(),
+    }
+}
+
+/// A node on the device's log, as it is opened.
+fn node_on(alloc: Global, log: MemLog) -> Result<Node, Cause>
+    requires { log.pending ≡ [] }
+    ensures made { IfOk result (λ node. IsMadeOn log.forced node.world) }
+    ensures refused { IfErr result (IsRefusedFor log.forced) }
+{
+    match open(alloc, log, MemLog::new(alloc), MemPages::new(alloc)) {
+        Ok(world) => Ok(Node {
+            alloc,
+            world,
+            rows: Vec::new(alloc),
+        }),
+        Err(left) => Err(left.cause),
+    }
+}
+
+/// Copies the bytes from one of them on, as many as there is room for.
+fn copy(bytes: &[u8], from: usize, room: &mut [u8])
+    ensures { Copies bytes.now from room.new (length bytes.now) }
+{
+    if bytes.len() <= from {
+        return;
+    }
+    let next = &bytes[from..];
+    if next.len() <= room.len() {
+        room[..next.len()].copy_from_slice(next);
+    } else {
+        room.copy_from_slice(&next[..room.len()]);
     }
 }

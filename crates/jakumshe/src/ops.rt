@@ -1,6 +1,6 @@
 //! Operations of keys and values that C gives. Each refuses an empty key before one that is too long, and that before a
 //! value that is.
-ghost use Rattle.std.specs.Prelude.{◌≡◌, ◌<◌, length, Err, IfOk};
+ghost use Rattle.std.specs.Prelude.{◌≡◌, ◌<◌, ◌≤◌, length, Ok, Err};
 ghost use Rattle.record_key.specs.declared.op.Op.TheVariants as op;
 ghost use Rattle.record_key.specs.declared.refusal.Refusal.TheVariants.{EmptyKey, TooLong};
 ghost use Rattle.jakumshe.specs.Calls.{end_of};
@@ -8,7 +8,8 @@ ghost use Rattle.jakumshe.specs.Calls.{end_of};
 use record_key::{Key, Op, Refusal, Value};
 
 pub fn insert(key: &[u8], value: &[u8]) -> Result<Op, Refusal>
-    ensures op { IfOk result (λ made. made ≡ op.Insert key.now value.now) }
+    ensures op { 0 < length key.now → length key.now ≤ 32 → length value.now ≤ 120
+        → result ≡ Ok (op.Insert key.now value.now) }
     ensures empty { length key.now ≡ 0 → result ≡ Err EmptyKey }
     ensures long_key { 32 < length key.now → result ≡ Err TooLong }
     ensures long_value { 0 < length key.now → 120 < length value.now → result ≡ Err TooLong }
@@ -17,7 +18,8 @@ pub fn insert(key: &[u8], value: &[u8]) -> Result<Op, Refusal>
 }
 
 pub fn update(key: &[u8], value: &[u8]) -> Result<Op, Refusal>
-    ensures op { IfOk result (λ made. made ≡ op.Update key.now value.now) }
+    ensures op { 0 < length key.now → length key.now ≤ 32 → length value.now ≤ 120
+        → result ≡ Ok (op.Update key.now value.now) }
     ensures empty { length key.now ≡ 0 → result ≡ Err EmptyKey }
     ensures long_key { 32 < length key.now → result ≡ Err TooLong }
     ensures long_value { 0 < length key.now → 120 < length value.now → result ≡ Err TooLong }
@@ -26,7 +28,8 @@ pub fn update(key: &[u8], value: &[u8]) -> Result<Op, Refusal>
 }
 
 pub fn upsert(key: &[u8], value: &[u8]) -> Result<Op, Refusal>
-    ensures op { IfOk result (λ made. made ≡ op.Upsert key.now value.now) }
+    ensures op { 0 < length key.now → length key.now ≤ 32 → length value.now ≤ 120
+        → result ≡ Ok (op.Upsert key.now value.now) }
     ensures empty { length key.now ≡ 0 → result ≡ Err EmptyKey }
     ensures long_key { 32 < length key.now → result ≡ Err TooLong }
     ensures long_value { 0 < length key.now → 120 < length value.now → result ≡ Err TooLong }
@@ -35,7 +38,7 @@ pub fn upsert(key: &[u8], value: &[u8]) -> Result<Op, Refusal>
 }
 
 pub fn delete(key: &[u8]) -> Result<Op, Refusal>
-    ensures op { IfOk result (λ made. made ≡ op.Delete key.now) }
+    ensures op { 0 < length key.now → length key.now ≤ 32 → result ≡ Ok (op.Delete key.now) }
     ensures empty { length key.now ≡ 0 → result ≡ Err EmptyKey }
     ensures long_key { 32 < length key.now → result ≡ Err TooLong }
 {
@@ -43,7 +46,7 @@ pub fn delete(key: &[u8]) -> Result<Op, Refusal>
 }
 
 pub fn add(key: &[u8], amount: u64) -> Result<Op, Refusal>
-    ensures op { IfOk result (λ made. made ≡ op.Add key.now amount) }
+    ensures op { 0 < length key.now → length key.now ≤ 32 → result ≡ Ok (op.Add key.now amount) }
     ensures empty { length key.now ≡ 0 → result ≡ Err EmptyKey }
     ensures long_key { 32 < length key.now → result ≡ Err TooLong }
 {
@@ -52,7 +55,8 @@ pub fn add(key: &[u8], amount: u64) -> Result<Op, Refusal>
 
 /// The ends of a range; no upper end where there are no bytes.
 pub fn range(low: &[u8], high: &[u8]) -> Result<(Key, Option<Key>), Refusal>
-    ensures ends { IfOk result (λ ends. (ends.0 ≡ low.now) × (ends.1 ≡ end_of high.now)) }
+    ensures ends { 0 < length low.now → length low.now ≤ 32 → length high.now ≤ 32
+        → result ≡ Ok (low.now, end_of high.now) }
     ensures empty { length low.now ≡ 0 → result ≡ Err EmptyKey }
     ensures long_low { 32 < length low.now → result ≡ Err TooLong }
     ensures long_high { 0 < length low.now → 32 < length high.now → result ≡ Err TooLong }

@@ -1,6 +1,7 @@
 //! What C is given of keys, values and names: bytes of a fixed room, each with how many of them there are.
 ghost use Rattle.jakumshe.specs.Records.{Holds, HoldsRow};
 
+use log_blocks::HEAD_LEN;
 use record_key::{Key, Value};
 
 const NAME_ROOM: usize = 16;
@@ -43,6 +44,19 @@ impl RowBytes {
         self.key[..key.len()].copy_from_slice(key);
         self.value_length = value.len() as u8;
         self.value[..value.len()].copy_from_slice(value);
+    }
+}
+
+/// The head of a block of a store's log.
+#[repr(C)]
+#[derive(Drop)]
+pub struct HeadBytes {
+    bytes: [u8; HEAD_LEN],
+}
+
+impl HeadBytes {
+    pub(crate) fn put(&mut self, head: [u8; HEAD_LEN]) {
+        self.bytes = head;
     }
 }
 

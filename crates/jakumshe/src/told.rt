@@ -1,20 +1,35 @@
-//! What a client was told, among all that a node tells while it settles.
-ghost use Rattle.std.specs.Prelude.{◌≡◌, ◌⊎◌, Err, Some, None, IfOk, OnOk};
-ghost use Rattle.std.specs.List.{Contains};
-ghost use Rattle.record_key.specs.declared.op.Answer.{Answer};
-ghost use Rattle.world.specs.declared.event.Out.{Out};
-ghost use Rattle.world.specs.declared.event.Out.TheVariants as out;
-ghost use Rattle.jakumshe.specs.declared.fault.Fault.TheVariants.{NoRecord, Untold};
-ghost use Rattle.jakumshe.specs.Calls.{ended, Commits};
+//! How a call ends, by the first line that tells of it among all that a node tells while it settles.
+ghost use Rattle.std.specs.Prelude.{◌≡◌, ◌∷◌, [], true, false, Some, None, Ok, Err, IfOk, IfErr};
+ghost use Rattle.jakumshe.specs.Calls.{first_of, ended, begins, saves, answers, finds, lists, goes_back, rolls_back, commits};
 
 use crate::fault::Fault;
-use record_key::{Answer, Key, Value};
+use codec::Rows;
+use record_key::{Answer, Value};
 use world::Out;
+
+/// The number of a transaction that has begun.
+pub fn begun(out: &Out) -> Result<u64, Fault>
+    ensures { result ≡ first_of begins (out.now ∷ []) }
+{
+    match out {
+        Out::Begun(txn) => Ok(*txn),
+        _ => Err(Fault::Untold),
+    }
+}
+
+/// The number of a savepoint that was set.
+pub fn saved(out: &Out) -> Result<u64, Fault>
+    ensures { result ≡ first_of saves (out.now ∷ []) }
+{
+    match out {
+        Out::Saved(savepoint) => Ok(*savepoint),
+        _ => Err(Fault::Untold),
+    }
+}
 
 /// How the transaction's operation was answered.
 pub fn answer(told: &[Out], txn: u64) -> Result<(), Fault>
-    ensures { (result ≡ Err Untold)
-        ⊎ ((a : Answer) × Contains told.now (out.Answered txn a) × (result ≡ ended a)) }
+    ensures { result ≡ first_of (answers txn) told.now }
 {
     for out in told {
         if let Out::Answered { txn: whose, answer } = out {
@@ -39,8 +54,7 @@ fn ended(answer: &Answer) -> Result<(), Fault>
 
 /// The value that the transaction has read, if there is a record.
 pub fn value(told: &[Out], txn: u64) -> Result<Value, Fault>
-    ensures found { IfOk result (λ value. Contains told.now (out.Row txn (Some value))) }
-    ensures none { result ≡ Err NoRecord → Contains told.now (out.Row txn None) }
+    ensures { result ≡ first_of (finds txn) told.now }
 {
     for out in told {
         if let Out::Row { txn: whose, value } = out {
@@ -56,13 +70,14 @@ pub fn value(told: &[Out], txn: u64) -> Result<Value, Fault>
 }
 
 /// The rows that the transaction has read.
-pub fn rows(told: Vec<Out>, txn: u64) -> Result<Vec<(Key, Value)>, Fault>
-    ensures { IfOk result (λ rows. Contains told.items (out.Rows txn rows.items)) }
+pub fn rows(told: &[Out], txn: u64) -> Result<&Rows, Fault>
+    ensures found { IfOk result (λ rows. first_of (lists txn) told.now ≡ Ok rows.now) }
+    ensures none { IfErr result (λ fault. first_of (lists txn) told.now ≡ Err fault) }
 {
     for out in told {
         if let Out::Rows { txn: whose, rows } = out {
-            if whose == txn {
-                return Ok(rows.into_rows());
+            if *whose == txn {
+                return Ok(rows);
             }
         }
     }
@@ -71,7 +86,7 @@ pub fn rows(told: Vec<Out>, txn: u64) -> Result<Vec<(Key, Value)>, Fault>
 
 /// The transaction is back at its savepoint.
 pub fn back(told: &[Out], txn: u64, savepoint: u64) -> Result<(), Fault>
-    ensures { OnOk result (Contains told.now (out.Back txn savepoint)) }
+    ensures { result ≡ first_of (goes_back txn savepoint) told.now }
 {
     for out in told {
         if let Out::Back {
@@ -89,7 +104,7 @@ pub fn back(told: &[Out], txn: u64, savepoint: u64) -> Result<(), Fault>
 
 /// The transaction is rolled back.
 pub fn rolled_back(told: &[Out], txn: u64) -> Result<(), Fault>
-    ensures { OnOk result (Contains told.now (out.RolledBack txn)) }
+    ensures { result ≡ first_of (rolls_back txn) told.now }
 {
     for out in told {
         if let Out::RolledBack(whose) = out {
@@ -103,14 +118,22 @@ pub fn rolled_back(told: &[Out], txn: u64) -> Result<(), Fault>
 
 /// The transaction has committed.
 pub fn committed(told: &[Out], txn: u64) -> Result<(), Fault>
-    ensures { OnOk result ((out : Out) × Contains told.now out × Commits txn out) }
+    ensures { result ≡ first_of (commits txn) told.now }
 {
     for out in told {
-        if let Out::Stable { committed, .. } = out {
-            if committed.as_slice().contains(&txn) {
-                return Ok(());
-            }
+        if has_committed(out, txn) {
+            return Ok(());
         }
     }
     Err(Fault::Untold)
+}
+
+fn has_committed(out: &Out, txn: u64) -> bool
+    ensures yes { result ≡ true → commits txn out.now ≡ Some (Ok tt) }
+    ensures no { result ≡ false → commits txn out.now ≡ None }
+{
+    match out {
+        Out::Stable { committed, .. } => committed.as_slice().contains(&txn),
+        _ => false,
+    }
 }

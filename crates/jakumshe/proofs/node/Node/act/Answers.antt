@@ -1,8 +1,13 @@
-use Rattle.jakumshe.proofs.Acting.{acts_told}
+use Rattle.std.proofs.Common.{inr, ap, ◌∙◌}
+use Rattle.jakumshe.specs.Calls.{first_of, answers}
 use Rattle.jakumshe.proofs.node.Node.act.Goals as goal
 
-pub returns : goal.returns
-returns c =
-    acts_told c.args.self.now.world c.call.new.self.world c.step.new.self c.args.txn c.args.op c.in_ok-told.told.items
-    c.deref.result.now c.step.result c.answer.result c.in_ok-told.ensures.told c.step.ensures c.deref.ensures.value
-    c.answer.ensures
+pub returns-clause-acted : goal.returns-clause-acted
+returns-clause-acted c = inr (record {
+  told = c.in-Ok.told.items;
+  acted = c.call.new.self.world;
+  tells = c.in-Ok.ensures.told;
+  ends = c.answer.ensures ∙ ap (first_of (answers c.args.txn)) c.deref.ensures.value;
+  tended = c.step.result;
+  tends = c.step.ensures;
+})

@@ -1,5 +1,11 @@
-use Rattle.std.proofs.Common.{◌≡◌}
+use Rattle.std.proofs.Common.{◌≡◌, ◌≤◌, ◌-◌, length}
+use Rattle.jakumshe.specs.Records.{IsGiven}
 use Rattle.jakumshe.proofs.node.Node.page.Given as goal
 
-abbrev pub invariant-loop-row : goal.invariant-loop-row
-invariant-loop-row l = l.self.world ≡ l.initial.self.world
+abbrev pub invariant-loop-count : goal.invariant-loop-count
+invariant-loop-count l =
+    IsGiven l.initial.self.rows.items l.self.rows.items l.room l.count × (l.count ≤ length l.room)
+    × (l.self.world ≡ l.initial.self.world) × (length l.room ≡ length l.initial.room)
+
+abbrev pub decreases-loop-count : goal.decreases-loop-count
+decreases-loop-count l = length l.room - l.count

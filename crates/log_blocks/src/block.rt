@@ -1,17 +1,31 @@
-//! The blocks of a log's file, as docs/STORE.md has them: each a head, then bytes of the log.
-ghost use Rattle.std.specs.Prelude.{◌≤◌, ◌+◌, length, vec_len, IfOk, IfSome};
+//! One block after another.
+ghost use Rattle.std.specs.Prelude.{◌≤◌, ◌+◌, ◌≡◌, length, IfOk, IfSome};
 
-use crate::store_error::StoreError;
 use byteorder::{BigEndian, ByteOrder};
 use md5::{Digest, Md5};
 
-/// How long a head is.
-pub(crate) const HEAD: usize = 40;
+/// How long a block's head is, in bytes.
+pub const HEAD_LEN: usize = 40;
 
 // Where the checksum of what stands before it in a head begins, and that of the whole block.
 const SEAL: usize = 16;
 
 const SUM: usize = 24;
+
+/// A block isn't what was written. It begins at this byte of the file, the first one being 0.
+#[derive(Clone, Copy, Debug, PartialEq, Eq, Drop)]
+pub struct Damaged {
+    pub place: u64,
+}
+
+/// What a file's bytes are taken apart into.
+#[derive(Clone, Copy, Debug, PartialEq, Eq, Drop)]
+pub struct Unpacked {
+    /// How many of the bytes are the log's now, from the first on.
+    pub len: usize,
+    /// Where the last whole block ended. Behind it there may be a torn one.
+    pub end: usize,
+}
 
 /// The bytes of a block in the log: they go behind its first `start`, and the log has no others behind these.
 #[derive(Clone, Copy)]
@@ -20,10 +34,10 @@ struct Block {
     len: usize,
 }
 
-/// The head of the block at a place of the file.
-pub(crate) fn head(place: u64, start: usize, bytes: &[u8]) -> [u8; HEAD] {
-    let mut head = [0; HEAD];
-    BigEndian::write_u64(&mut head, start as u64);
+/// The head of a block that goes to a place of the file: these bytes stand behind the first `start` of the log.
+pub fn head(place: u64, start: u64, bytes: &[u8]) -> [u8; HEAD_LEN] {
+    let mut head = [0; HEAD_LEN];
+    BigEndian::write_u64(&mut head, start);
     BigEndian::write_u64(&mut head[8..], bytes.len() as u64);
     let seal = seal_of(place, &head[..SEAL]);
     head[SEAL..SUM].copy_from_slice(&seal[..SUM - SEAL]);
@@ -32,39 +46,40 @@ pub(crate) fn head(place: u64, start: usize, bytes: &[u8]) -> [u8; HEAD] {
     head
 }
 
-/// Makes of a file's bytes those of its log, and gives where its last whole block ends. Behind it there may be a torn
-/// one. Refused Damaged at the first block that isn't what was written.
-pub(crate) fn unpack(file: &mut Vec<u8>) -> Result<usize, StoreError>
-    ensures { IfOk result (λ place. place ≤ vec_len file.old) }
+/// Makes of a file's bytes those of its log, which take the place of the first ones. Refused at the first block that isn't
+/// what was written.
+pub fn unpack(file: &mut [u8]) -> Result<Unpacked, Damaged>
+    ensures len { IfOk result (λ unpacked. unpacked.len ≤ unpacked.end) }
+    ensures end { IfOk result (λ unpacked. unpacked.end ≤ length file.new) }
+    ensures room { length file.new ≡ length file.old }
 {
-    let mut place = 0;
+    let mut end = 0;
     let mut len = 0;
-    while let Some(block) = block_at(file, place, len)? {
-        let from = place + HEAD;
+    while let Some(block) = block_at(file, end, len)? {
+        let from = end + HEAD_LEN;
         file.copy_within(from..from + block.len, block.start);
         len = block.start + block.len;
-        place = from + block.len;
+        end = from + block.len;
     }
-    file.truncate(len);
-    Ok(place)
+    Ok(Unpacked { len, end })
 }
 
 /// The block at a place of the file, where the log has so many bytes before it; none where the file ends within it.
 /// Only a head whose own checksum is right says where that is: so a length that is damaged isn't taken for a torn block.
-fn block_at(file: &[u8], place: usize, before: usize) -> Result<Option<Block>, StoreError>
+fn block_at(file: &[u8], place: usize, before: usize) -> Result<Option<Block>, Damaged>
     requires { place ≤ length file.now }
     ensures start { IfOk result (λ found. IfSome found (λ block. block.start ≤ before)) }
-    ensures end { IfOk result (λ found. IfSome found (λ block. place + HEAD + block.len ≤ length file.now)) }
+    ensures end { IfOk result (λ found. IfSome found (λ block. place + HEAD_LEN + block.len ≤ length file.now)) }
 {
     let left = &file[place..];
-    if left.len() < HEAD {
+    if left.len() < HEAD_LEN {
         return Ok(None);
     }
-    let (head, bytes) = left.split_at(HEAD);
+    let (head, bytes) = left.split_at(HEAD_LEN);
     let place = place as u64;
     let seal = seal_of(place, &head[..SEAL]);
     if !seal.starts_with(&head[SEAL..SUM]) {
-        return Err(StoreError::Damaged { place });
+        return Err(Damaged { place });
     }
     let start = BigEndian::read_u64(head);
     let len = BigEndian::read_u64(&head[8..]);
@@ -74,7 +89,7 @@ fn block_at(file: &[u8], place: usize, before: usize) -> Result<Option<Block>, S
     let (start, len) = (start as usize, len as usize);
     let sum = digest(&head[..SUM], &bytes[..len]);
     if before < start || sum.as_slice() != &head[SUM..] {
-        return Err(StoreError::Damaged { place });
+        return Err(Damaged { place });
     }
     Ok(Some(Block { start, len }))
 }

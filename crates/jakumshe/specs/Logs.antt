@@ -1,0 +1,59 @@
+-- A node that is opened on a log, and the bytes of its log.
+use Rattle.std.specs.Prelude.{◌≡◌, ◌⊎◌, ℕ, List, ◌++◌, length, take, drop}
+use Rattle.stable.specs.Usage.{Usage}
+use Rattle.logical_log.specs.Low.{stable_part}
+use Rattle.logical_log.specs.Spelled.{spelled}
+use Rattle.simulation.specs.Reading.{machine_read}
+use Rattle.dc_core.specs.DcView.{fresh}
+use Rattle.tc_core.specs.Opening.{IsOpened}
+use Rattle.world.specs.declared.event.Out.{Out}
+use Rattle.world.specs.Node.{NodeView, joined}
+use Rattle.world.specs.Simulation.{Stands}
+use Rattle.node_store.specs.declared.unopened.Cause.{Cause}
+use Rattle.node_store.specs.Opening.{IsRefusedFor}
+use Rattle.record_key.specs.declared.refusal.Refusal.{Refusal}
+use Rattle.jakumshe.specs.declared.fault.Fault.{Fault}
+use Rattle.jakumshe.specs.declared.fault.Fault.TheVariants.{Refused}
+use Rattle.jakumshe.specs.Calls.{Rests, Stops}
+use Rattle.jakumshe.specs.Statuses.{fault_of}
+
+-- the bytes of the log that are stable
+abbrev pub stable_bytes : NodeView → List ℕ
+stable_bytes w = spelled (stable_part w.tc.log w.tc.stable)
+
+-- a node on the log that these bytes spell, and a data component of no records; it stands for the list machine that the
+-- log tells of
+pub record IsMadeOn (bytes : List ℕ) (w : NodeView) : Type 0 where
+  pub log : Usage
+  pub tree : Usage
+  pub pages : Usage
+  pub opened : IsOpened bytes log w.tc
+  pub joins : w ≡ joined w.tc (fresh tree pages)
+  pub stands : Stands w (machine_read w.tc.log)
+
+-- one that has settled since, and how many bytes its log had before
+pub record IsOpenedOn (bytes : List ℕ) (kept : ℕ) (new : NodeView) : Type 0 where
+  pub made : NodeView
+  pub is_made : IsMadeOn bytes made
+  pub counted : kept ≡ length (stable_bytes made)
+  pub told : List Out
+  pub rests : Rests made told new
+
+-- one that couldn't
+pub record IsStoppedOn (bytes : List ℕ) (r : Refusal) : Type 0 where
+  pub made : NodeView
+  pub is_made : IsMadeOn bytes made
+  pub new : NodeView
+  pub stops : Stops made r new
+
+-- why none is opened on these bytes
+abbrev pub NotOpened : List ℕ → Fault → Type 0
+NotOpened bytes fault =
+    ((why : Cause) × IsRefusedFor bytes why × (fault ≡ fault_of why))
+    ⊎ ((r : Refusal) × IsStoppedOn bytes r × (fault ≡ Refused r))
+
+-- there stand those from this one on, as many as there is room for; and they are so many in all
+pub record Copies (all : List ℕ) (from : ℕ) (room : List ℕ) (count : ℕ) : Type 0 where
+  pub counted : count ≡ length all
+  pub rest : List ℕ
+  pub copied : room ≡ take (length room) (drop from all) ++ rest

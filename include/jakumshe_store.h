@@ -1,0 +1,63 @@
+/*
+ * A node for C whose log a folder keeps: what is committed is found by the next opening, whatever ends the process or
+ * the machine. For POSIX; compile c/jakumshe_store.c along. The folder is the one that the shell opens by --store, and
+ * docs/STORE.md has its files byte by byte.
+ *
+ * All calls of jakumshe.h are made on the store's node, but for two: jakumshe_store_commit takes the place of
+ * jakumshe_commit, and jakumshe_store_close that of jakumshe_close.
+ *
+ *     struct jakumshe_store store = JAKUMSHE_CLOSED_STORE;
+ *     jakumshe_store_open(&store, "bank");
+ *     jakumshe_begin(&store.node, &txn);
+ *     jakumshe_upsert(&store.node, txn, "alice", 5, "100", 3);
+ *     jakumshe_store_commit(&store, txn);
+ *     jakumshe_store_close(&store);
+ */
+#ifndef JAKUMSHE_STORE_H
+#define JAKUMSHE_STORE_H
+
+#include "jakumshe.h"
+
+#ifdef __cplusplus
+extern "C" {
+#endif
+
+/* A store, which starts as JAKUMSHE_CLOSED_STORE. Of its fields only `node` and `error` are the caller's. */
+struct jakumshe_store {
+    struct jakumshe_node node;
+    int error;      /* errno of the system's call that was refused last */
+    int mark;       /* the file `store`, which is locked as long as it is open */
+    int log;        /* the file `log` */
+    int is_unsure;  /* whether `log` may have bytes behind its whole blocks */
+    uint64_t place; /* where the whole blocks of `log` end */
+    size_t kept;    /* how many bytes of the node's log they have */
+};
+
+#define JAKUMSHE_CLOSED_STORE { JAKUMSHE_CLOSED_NODE, 0, -1, -1, 0, 0, 0 }
+
+/*
+ * Opens the store of a folder, which is made where it isn't there, and a node on it with all that was committed; who was
+ * open is rolled back. No byte of the log is taken on trust: it is refused BAD_BYTES, WRONG_ANSWER or CHECKPOINT where it
+ * is no log that a store can have, DAMAGED where a block of its file isn't what was written. Refused OPEN; LOCKED where
+ * another has it open; NOT_A_STORE, VERSION; DEVICE where the system refused a call, `error` says why; NO_MEMORY.
+ */
+int jakumshe_store_open(struct jakumshe_store *store, const char *folder);
+
+/*
+ * Ends the transaction; what it did stays, and is on the disk. Refused as jakumshe_commit is. Where it is refused DEVICE,
+ * or NO_MEMORY and the transaction is no longer open, it has committed in the node, and whether the folder has it is
+ * told by jakumshe_store_sync alone: where that is done it does.
+ */
+int jakumshe_store_commit(struct jakumshe_store *store, uint64_t txn);
+
+/* Brings the folder up to the node: whatever was committed is on the disk then. Refused CLOSED, DEVICE, NO_MEMORY. */
+int jakumshe_store_sync(struct jakumshe_store *store);
+
+/* Closes the node and gives the folder free. What isn't committed is gone. Refused CLOSED. */
+int jakumshe_store_close(struct jakumshe_store *store);
+
+#ifdef __cplusplus
+}
+#endif
+
+#endif

@@ -1,0 +1,238 @@
+/* Stores of the face for C. `c_store faces FOLDER` makes stores below the folder, and prints each line whose call has
+ * another status than that which the line says, and then how many had the right one. `c_store pay FOLDER N` adds 1 to a
+ * counter N times, each time in a transaction of its own, and prints the sum once that is committed; `c_store read FOLDER`
+ * prints it alone. */
+#define _DEFAULT_SOURCE
+#include "jakumshe_store.h"
+
+#include <fcntl.h>
+#include <inttypes.h>
+#include <signal.h>
+#include <stdio.h>
+#include <stdlib.h>
+#include <string.h>
+#include <sys/resource.h>
+#include <sys/stat.h>
+#include <unistd.h>
+
+static int right, wrong;
+
+#define EXPECT(want, call) expect((want), (call), __LINE__)
+
+static void expect(int want, int status, int line)
+{
+    if (status == want) {
+        right++;
+    } else {
+        wrong++;
+        printf("line %d: %s for %s\n", line, jakumshe_name(status).text, jakumshe_name(want).text);
+    }
+}
+
+static char *below(const char *folder, const char *name)
+{
+    static char paths[4][4096];
+    static int next;
+    char *path = paths[next++ % 4];
+    snprintf(path, sizeof paths[0], "%s/%s", folder, name);
+    return path;
+}
+
+static void write_file(const char *path, const char *text)
+{
+    FILE *file = fopen(path, "w");
+    if (file == NULL || fputs(text, file) < 0 || fclose(file) != 0)
+        abort();
+}
+
+/* Adds 1 to the counter, and gives the sum. */
+static int count_up(struct jakumshe_store *store, uint64_t *sum)
+{
+    uint64_t txn;
+    struct jakumshe_value value;
+    uint8_t none[8] = { 0 };
+    int status = jakumshe_begin(&store->node, &txn);
+    if (status != JAKUMSHE_DONE)
+        return status;
+    status = jakumshe_insert(&store->node, txn, "n", 1, none, sizeof none);
+    if (status == JAKUMSHE_DONE || status == JAKUMSHE_EXISTS)
+        status = jakumshe_add(&store->node, txn, "n", 1, 1);
+    if (status == JAKUMSHE_DONE)
+        status = jakumshe_get(&store->node, txn, "n", 1, &value);
+    if (status != JAKUMSHE_DONE)
+        return status;
+    *sum = jakumshe_number(value.bytes);
+    return jakumshe_store_commit(store, txn);
+}
+
+static void refuse_calls(const char *folder)
+{
+    struct jakumshe_store store = JAKUMSHE_CLOSED_STORE, other = JAKUMSHE_CLOSED_STORE;
+    uint64_t sum = 0;
+    EXPECT(JAKUMSHE_NULL, jakumshe_store_open(NULL, folder));
+    EXPECT(JAKUMSHE_NULL, jakumshe_store_open(&store, NULL));
+    EXPECT(JAKUMSHE_NULL, jakumshe_store_commit(NULL, 1));
+    EXPECT(JAKUMSHE_NULL, jakumshe_store_sync(NULL));
+    EXPECT(JAKUMSHE_NULL, jakumshe_store_close(NULL));
+    EXPECT(JAKUMSHE_CLOSED, jakumshe_store_commit(&store, 1));
+    EXPECT(JAKUMSHE_CLOSED, jakumshe_store_sync(&store));
+    EXPECT(JAKUMSHE_CLOSED, jakumshe_store_close(&store));
+    EXPECT(JAKUMSHE_DONE, jakumshe_store_open(&store, below(folder, "calls")));
+    EXPECT(JAKUMSHE_OPEN, jakumshe_store_open(&store, below(folder, "calls")));
+    EXPECT(JAKUMSHE_LOCKED, jakumshe_store_open(&other, below(folder, "calls")));
+    EXPECT(JAKUMSHE_NOT_OPEN, jakumshe_store_commit(&store, 77));
+    EXPECT(JAKUMSHE_DONE, count_up(&store, &sum));
+    EXPECT(JAKUMSHE_DONE, jakumshe_store_sync(&store));
+    EXPECT(JAKUMSHE_DONE, jakumshe_store_close(&store));
+    EXPECT(JAKUMSHE_DONE, jakumshe_store_open(&other, below(folder, "calls")));
+    EXPECT(JAKUMSHE_DONE, count_up(&other, &sum));
+    EXPECT(2, (int)sum);
+    EXPECT(JAKUMSHE_DONE, jakumshe_store_close(&other));
+}
+
+static void refuse_folders(const char *folder)
+{
+    struct jakumshe_store store = JAKUMSHE_CLOSED_STORE;
+    EXPECT(0, mkdir(below(folder, "other"), 0777));
+    write_file(below(folder, "other/file"), "text");
+    EXPECT(JAKUMSHE_NOT_A_STORE, jakumshe_store_open(&store, below(folder, "other")));
+    EXPECT(JAKUMSHE_DEVICE, jakumshe_store_open(&store, below(folder, "other/file")));
+    EXPECT(JAKUMSHE_DEVICE, jakumshe_store_open(&store, below(folder, "none/store")));
+    EXPECT(0, mkdir(below(folder, "later"), 0777));
+    write_file(below(folder, "later/store"), "jakumshe store 2\n");
+    EXPECT(JAKUMSHE_VERSION, jakumshe_store_open(&store, below(folder, "later")));
+    write_file(below(folder, "later/store"), "jakumshe store 1\nx");
+    EXPECT(JAKUMSHE_VERSION, jakumshe_store_open(&store, below(folder, "later")));
+    write_file(below(folder, "later/store"), "jakumshe");
+    write_file(below(folder, "later/log"), "x");
+    EXPECT(JAKUMSHE_VERSION, jakumshe_store_open(&store, below(folder, "later")));
+    EXPECT(0, unlink(below(folder, "later/log")));
+    EXPECT(JAKUMSHE_DONE, jakumshe_store_open(&store, below(folder, "later")));
+    EXPECT(JAKUMSHE_DONE, jakumshe_store_close(&store));
+    EXPECT(0, unlink(below(folder, "later/log")));
+    EXPECT(JAKUMSHE_DEVICE, jakumshe_store_open(&store, below(folder, "later")));
+}
+
+/* A disk that is full for a while. */
+static void fail_to_write(const char *folder)
+{
+    struct jakumshe_store store = JAKUMSHE_CLOSED_STORE;
+    struct rlimit before, none;
+    struct stat found;
+    uint64_t sum = 0;
+    signal(SIGXFSZ, SIG_IGN);
+    EXPECT(0, getrlimit(RLIMIT_FSIZE, &before));
+    EXPECT(JAKUMSHE_DONE, jakumshe_store_open(&store, below(folder, "full")));
+    EXPECT(JAKUMSHE_DONE, count_up(&store, &sum));
+    EXPECT(0, stat(below(folder, "full/log"), &found));
+    none = before;
+    none.rlim_cur = (rlim_t)found.st_size + 50;
+    EXPECT(0, setrlimit(RLIMIT_FSIZE, &none));
+    EXPECT(JAKUMSHE_DEVICE, count_up(&store, &sum));
+    EXPECT(JAKUMSHE_DEVICE, count_up(&store, &sum));
+    EXPECT(JAKUMSHE_DEVICE, jakumshe_store_sync(&store));
+    EXPECT(0, setrlimit(RLIMIT_FSIZE, &before));
+    EXPECT(JAKUMSHE_DONE, jakumshe_store_sync(&store));
+    EXPECT(JAKUMSHE_DONE, jakumshe_store_close(&store));
+    EXPECT(JAKUMSHE_DONE, jakumshe_store_open(&store, below(folder, "full")));
+    EXPECT(JAKUMSHE_DONE, count_up(&store, &sum));
+    EXPECT(4, (int)sum);
+    EXPECT(JAKUMSHE_DONE, jakumshe_store_close(&store));
+}
+
+/* Each byte of a log's file is changed in turn, and the file is cut short to each length. */
+static void damage(const char *folder)
+{
+    struct jakumshe_store store = JAKUMSHE_CLOSED_STORE;
+    uint64_t sum = 0;
+    struct stat found;
+    char *path = below(folder, "damaged/log");
+    EXPECT(JAKUMSHE_DONE, jakumshe_store_open(&store, below(folder, "damaged")));
+    EXPECT(JAKUMSHE_DONE, count_up(&store, &sum));
+    EXPECT(JAKUMSHE_DONE, count_up(&store, &sum));
+    EXPECT(JAKUMSHE_DONE, jakumshe_store_close(&store));
+    int log = open(path, O_RDWR);
+    if (log < 0 || fstat(log, &found) != 0)
+        abort();
+    for (off_t place = 0; place < found.st_size; place++) {
+        uint8_t byte, other;
+        if (pread(log, &byte, 1, place) != 1)
+            abort();
+        other = byte ^ 4;
+        if (pwrite(log, &other, 1, place) != 1)
+            abort();
+        EXPECT(JAKUMSHE_DAMAGED, jakumshe_store_open(&store, below(folder, "damaged")));
+        if (pwrite(log, &byte, 1, place) != 1)
+            abort();
+    }
+    for (off_t length = found.st_size; length >= 0; length--) {
+        if (ftruncate(log, length) != 0)
+            abort();
+        EXPECT(JAKUMSHE_DONE, jakumshe_store_open(&store, below(folder, "damaged")));
+        EXPECT(JAKUMSHE_DONE, jakumshe_store_close(&store));
+    }
+    close(log);
+}
+
+static int faces(const char *folder)
+{
+    refuse_calls(folder);
+    refuse_folders(folder);
+    fail_to_write(folder);
+    damage(folder);
+    printf("%d right, %d wrong\n", right, wrong);
+    return wrong == 0 ? EXIT_SUCCESS : EXIT_FAILURE;
+}
+
+static int fail(const char *what, int status)
+{
+    fprintf(stderr, "%s: %s\n", what, jakumshe_name(status).text);
+    return EXIT_FAILURE;
+}
+
+static int pay(const char *folder, long count)
+{
+    struct jakumshe_store store = JAKUMSHE_CLOSED_STORE;
+    uint64_t sum = 0;
+    int status = jakumshe_store_open(&store, folder);
+    if (status != JAKUMSHE_DONE)
+        return fail("open", status);
+    for (long n = 0; n < count; n++) {
+        status = count_up(&store, &sum);
+        if (status != JAKUMSHE_DONE)
+            return fail("count", status);
+        printf("%" PRIu64 "\n", sum);
+        fflush(stdout);
+    }
+    jakumshe_store_close(&store);
+    return EXIT_SUCCESS;
+}
+
+static int read_counter(const char *folder)
+{
+    struct jakumshe_store store = JAKUMSHE_CLOSED_STORE;
+    struct jakumshe_value value;
+    uint64_t txn;
+    int status = jakumshe_store_open(&store, folder);
+    if (status == JAKUMSHE_DONE)
+        status = jakumshe_begin(&store.node, &txn);
+    if (status == JAKUMSHE_DONE)
+        status = jakumshe_get(&store.node, txn, "n", 1, &value);
+    if (status != JAKUMSHE_DONE && status != JAKUMSHE_NO_RECORD)
+        return fail("read", status);
+    printf("%" PRIu64 "\n", status == JAKUMSHE_DONE ? jakumshe_number(value.bytes) : 0);
+    jakumshe_store_close(&store);
+    return EXIT_SUCCESS;
+}
+
+int main(int count, char **words)
+{
+    if (count == 3 && strcmp(words[1], "faces") == 0)
+        return faces(words[2]);
+    if (count == 4 && strcmp(words[1], "pay") == 0)
+        return pay(words[2], atol(words[3]));
+    if (count == 3 && strcmp(words[1], "read") == 0)
+        return read_counter(words[2]);
+    fprintf(stderr, "usage: c_store faces|read FOLDER, c_store pay FOLDER N\n");
+    return 2;
+}
