@@ -10,12 +10,12 @@ mod command_lines;
 mod rounds;
 
 use command_lines::CommandLines;
-use rounds::Runs;
+use rounds::compare_runs;
 use std::{fs, io};
 use test_lines::compare;
 
 fn main(rt: HostRuntime) -> io::Result<()> {
     compare(&rt, "command_lines", &mut CommandLines::new(rt.alloc()))?;
     let text = fs::read(&rt, "eight_clients")?;
-    compare(&rt, "runs", &mut Runs::new(rt, rt.alloc(), text.as_slice()))
+    compare_runs(rt, rt.alloc(), text.as_slice())?.print(&rt)
 }

@@ -4,74 +4,72 @@ ghost use Rattle.std.specs.Prelude.{◌<◌};
 
 use node_shell::DONE;
 use pool_shell::pool;
-use record_key::Refusal;
 use std::alloc::{AllocError, Global};
 use std::collections::BTreeMap;
-use std::fmt::Write;
+use std::io;
 use std::sync::Wait;
 use std::thread::Threads;
-use test_lines::{OUTSIDE, Subject, Words};
 
-/// A line has how many clients there are and how many rounds they play, behind `text` where the run is to write the text
-/// that was written out. Its answer is nothing where the run writes what it must.
-#[derive(Drop)]
-pub struct Runs<'a, R> {
-    rt: R,
-    alloc: Global,
-    text: &'a [u8],
+/// The most clients of a run.
+const MOST: usize = 8;
+
+/// How many rounds they play.
+const ROUNDS: [u64; 6] = [1, 2, 3, 4, 5, 12];
+
+/// How many runs write what they are to, and how many write something else.
+#[derive(Clone, Copy)]
+pub struct Runs {
+    agree: u64,
+    differ: u64,
 }
 
-impl<'a, R> Runs<'a, R> {
-    /// The text is what the run writes that is compared with it.
-    pub fn new(rt: R, alloc: Global, text: &'a [u8]) -> Runs<'a, R> {
-        Runs { rt, alloc, text }
-    }
-}
-
-impl<R: Threads + Wait + Copy + Send + Sync + 'static> Subject for Runs<'_, R> {
-    fn call(&mut self, call: &str, answer: &mut String) -> Result<(), Refusal> {
-        let Runs { rt, alloc, text } = self;
-        match call.strip_prefix("text ") {
-            Some(numbers) => {
-                let (clients, rounds) = read(*alloc, numbers)?;
-                put_run(answer, *rt, *alloc, clients, rounds, text)
-            }
-            None => {
-                let (clients, rounds) = read(*alloc, call)?;
-                let wanted = expected(*alloc, clients, rounds)?;
-                put_run(answer, *rt, *alloc, clients, rounds, wanted.as_bytes())
-            }
+impl Runs {
+    fn count(&mut self, agrees: bool) {
+        if agrees {
+            self.agree = self.agree.saturating_add(1);
+        } else {
+            self.differ = self.differ.saturating_add(1);
         }
     }
-}
 
-/// How many clients there are, and how many rounds they play.
-fn read(alloc: Global, numbers: &str) -> Result<(usize, u64), Refusal> {
-    let mut words = Words::new(alloc, numbers);
-    Ok((words.number()? as usize, words.number()?))
-}
-
-/// Appends what is wrong with a run that is to write this: nothing where it does, and ends well.
-fn put_run<R>(
-    answer: &mut String,
-    rt: R,
-    alloc: Global,
-    clients: usize,
-    rounds: u64,
-    wanted: &[u8],
-) -> Result<(), Refusal>
-where
-    R: Threads + Wait + Copy + Send + Sync + 'static,
-{
-    if clients == 0 {
-        return Err(OUTSIDE);
+    pub fn print(&self, rt: &HostRuntime) -> io::Result<()> {
+        println!(rt; "runs: {} agree, {} differ", self.agree, self.differ)
     }
+}
+
+/// Plays each of these runs, and prints a line for each that writes something else than it is to write. The text is that
+/// of eight clients over five rounds.
+pub fn compare_runs<R>(rt: R, alloc: Global, text: &[u8]) -> io::Result<Runs>
+where
+    R: Print + Threads + Wait + Copy + Send + Sync + 'static,
+{
+    let mut runs = Runs {
+        agree: 0,
+        differ: 0,
+    };
+    runs.count(writes(rt, alloc, MOST, 5, text)?);
+    for clients in 1..=MOST {
+        for rounds in ROUNDS {
+            let wanted = expected(alloc, clients, rounds)?;
+            runs.count(writes(rt, alloc, clients, rounds, wanted.as_bytes())?);
+        }
+    }
+    Ok(runs)
+}
+
+/// Whether the run writes this, and ends well. Prints its size where it doesn't.
+fn writes<R>(rt: R, alloc: Global, clients: usize, rounds: u64, wanted: &[u8]) -> io::Result<bool>
+where
+    R: Print + Threads + Wait + Copy + Send + Sync + 'static,
+    requires { 0 < clients }
+{
     let mut text = Vec::new(alloc);
     let status = pool(rt, alloc, clients, rounds, &mut text);
-    if status != DONE || text.as_slice() != wanted {
-        write!(answer, "another text, exit status {status}")?;
+    let agrees = status == DONE && text.as_slice() == wanted;
+    if !agrees {
+        println!(&rt; "{clients} clients over {rounds} rounds: exit status {status}")?;
     }
-    Ok(())
+    Ok(agrees)
 }
 
 /// What a run is to write, by the rule: a round that is even is rolled back, and each other leaves its number in the
