@@ -1,6 +1,6 @@
 //! The functions that C calls, as include/jakumshe.h declares them. Each gives a status. Each may also be refused NoMemory
 //! and NumbersSpent. A `Global` takes no bytes, so C passes none.
-ghost use Rattle.std.specs.Prelude.{◌≡◌, ◌<◌, ◌≤◌, length, pos, None, IsSome, IsSomeAnd, IfOk, IfErr};
+ghost use Rattle.std.specs.Prelude.{◌≡◌, ◌≢◌, ◌<◌, ◌≤◌, length, pos, None, IsSome, IsSomeAnd, IfOk, IfErr};
 ghost use Rattle.record_key.specs.declared.op.Op.TheVariants as op;
 ghost use Rattle.world.specs.declared.event.Event.TheVariants as event;
 ghost use Rattle.jakumshe.specs.declared.fault.Fault.TheVariants.{Refused};
@@ -23,7 +23,7 @@ use std::alloc::Global;
 pub extern "C" fn jakumshe_raw_open(handle: &mut Handle, alloc: Global) -> i32
     ensures open { IsSome handle.old.node → (result ≡ pos 34) × (handle.new.node ≡ handle.old.node) }
     ensures opened { result ≡ pos 0 → IsSomeAnd handle.new.node (λ node. IsNew node.world) }
-    ensures refused { result ≡ pos 1 → handle.new.node ≡ None }
+    ensures refused { handle.old.node ≡ None → result ≢ pos 0 → handle.new.node ≡ None }
 {
     if let Ok(node) = handle.take(alloc) {
         handle.put(node);

@@ -79,7 +79,7 @@ pub extern "C" fn jakumshe_raw_log(
     ensures given { OnNode handle.old.node handle.new.node result (λ old new. result ≡ pos 0
         → Copies (stable_bytes old.world) from room.new len.new) }
     ensures refused { OnNode handle.old.node handle.new.node result (λ old new. result ≢ pos 0
-        → (result ≡ pos 9) × (old.world.tc_up ≡ false)) }
+        → (result ≡ pos 9) × (old.world.tc_up ≡ false) × (len.new ≡ len.old)) }
 {
     let node = match handle.take(alloc) {
         Ok(node) => node,
