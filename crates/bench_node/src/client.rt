@@ -8,6 +8,8 @@ use world::{Event, Out, World, settle};
 pub struct Client {
     /// Behind a pointer, since a node is large: each step of a function that has one by value is dear to check.
     world: Box<World>,
+    /// What the last event came to.
+    out: Out,
     outs: Vec<Out>,
     txn: u64,
     /// Whether operations are sent before they are stable.
@@ -19,6 +21,7 @@ impl Client {
     pub fn new(alloc: Global) -> Result<Client, Refusal> {
         let mut client = Client {
             world: Box::new(alloc, World::new(alloc)?)?,
+            out: Out::Nothing,
             outs: Vec::new(alloc),
             txn: 0,
             is_early: false,
@@ -33,8 +36,9 @@ impl Client {
     }
 
     pub fn begin(&mut self) -> Result<(), Refusal> {
-        if let Out::Begun(txn) = self.step(&Event::Begin)? {
-            self.txn = txn;
+        self.step(&Event::Begin)?;
+        if let Out::Begun(txn) = &self.out {
+            self.txn = *txn;
         }
         Ok(())
     }
@@ -58,10 +62,10 @@ impl Client {
     /// Does the operation, unless another transaction is in its way.
     pub fn try_op(&mut self, op: Op) -> Result<bool, Refusal> {
         let txn = self.txn;
-        match self.world.step(&Event::Act { txn, op }) {
-            Out::Refused(Refusal::Busy(_)) => Ok(false),
-            Out::Refused(refusal) => Err(refusal),
-            _ => {
+        match self.step(&Event::Act { txn, op }) {
+            Err(Refusal::Busy(_)) => Ok(false),
+            Err(refusal) => Err(refusal),
+            Ok(()) => {
                 self.perform()?;
                 Ok(true)
             }
@@ -72,7 +76,8 @@ impl Client {
     pub fn get(&mut self, key: Key) -> Result<bool, Refusal> {
         let txn = self.txn;
         self.step(&Event::Get { txn, key })?;
-        match &self.exchange(&Event::Send { txn })? {
+        self.exchange(&Event::Send { txn })?;
+        match &self.out {
             Out::Row { value, .. } => Ok(value.is_some()),
             _ => Err(Refusal::Unanswered),
         }
@@ -82,15 +87,15 @@ impl Client {
     pub fn scan(&mut self, low: Key, high: Key) -> Result<usize, Refusal> {
         let (txn, high) = (self.txn, Some(high));
         self.step(&Event::Scan { txn, low, high })?;
-        match &self.exchange(&Event::Send { txn })? {
+        self.exchange(&Event::Send { txn })?;
+        match &self.out {
             Out::Rows { rows, .. } => Ok(rows.len()),
             _ => Err(Refusal::Unanswered),
         }
     }
 
     pub fn save(&mut self) -> Result<(), Refusal> {
-        self.step(&Event::Save { txn: self.txn })?;
-        Ok(())
+        self.step(&Event::Save { txn: self.txn })
     }
 
     pub fn go_back(&mut self, savepoint: u64) -> Result<(), Refusal> {
@@ -131,7 +136,8 @@ impl Client {
 
     fn tend_all(&mut self) -> Result<(), Refusal> {
         for _ in 0..u64::MAX {
-            if self.step(&Event::Tend)? == Out::Nothing {
+            self.step(&Event::Tend)?;
+            if self.out == Out::Nothing {
                 break;
             }
         }
@@ -142,7 +148,8 @@ impl Client {
     fn undo(&mut self) -> Result<(), Refusal> {
         let txn = self.txn;
         for _ in 0..u64::MAX {
-            let Out::Compensated(_) = self.step(&Event::Undo { txn })? else {
+            self.step(&Event::Undo { txn })?;
+            let Out::Compensated(_) = &self.out else {
                 break;
             };
             self.perform()?;
@@ -156,8 +163,7 @@ impl Client {
         if !self.is_early {
             self.step(&Event::Force)?;
         }
-        self.exchange(&Event::Send { txn: self.txn })?;
-        Ok(())
+        self.exchange(&Event::Send { txn: self.txn })
     }
 
     /// The data component may forget the answers up to the stable end: nothing is sent again.
@@ -180,16 +186,14 @@ impl Client {
         self.step(&Event::CrashTc {
             frames: 0,
             bytes: 0,
-        })?;
-        Ok(())
+        })
     }
 
     /// Both components are lost. All that they have logged is found.
     pub fn crash(&mut self) -> Result<(), Refusal> {
         let (frames, bytes) = (u64::MAX, u64::MAX);
         self.step(&Event::CrashTc { frames, bytes })?;
-        self.step(&Event::CrashDc { frames, bytes })?;
-        Ok(())
+        self.step(&Event::CrashDc { frames, bytes })
     }
 
     /// Rounds until nobody is left whom a crash found open, and all is stable.
@@ -215,7 +219,7 @@ impl Client {
     }
 
     /// An event that sends a request, the request's delivery, and that of its reply, which says what came of it.
-    fn exchange(&mut self, event: &Event) -> Result<Out, Refusal> {
+    fn exchange(&mut self, event: &Event) -> Result<(), Refusal> {
         self.step(event)?;
         self.deliver()?;
         let number = self.world.replies();
@@ -225,14 +229,15 @@ impl Client {
     /// The last request is delivered.
     fn deliver(&mut self) -> Result<(), Refusal> {
         let number = self.world.requests();
-        self.step(&Event::Request { number })?;
-        Ok(())
+        self.step(&Event::Request { number })
     }
 
-    fn step(&mut self, event: &Event) -> Result<Out, Refusal> {
-        match self.world.step(event) {
-            Out::Refused(refusal) => Err(refusal),
-            out => Ok(out),
+    /// One event, which leaves what it came to.
+    fn step(&mut self, event: &Event) -> Result<(), Refusal> {
+        self.world.step_into(event, &mut self.out);
+        match &self.out {
+            Out::Refused(refusal) => Err(*refusal),
+            _ => Ok(()),
         }
     }
 }

@@ -1,12 +1,16 @@
 //! How an event ends that is refused.
 
-/// The value of a call, or the end of the event, which is refused as the call is. So an event's output is built once,
-/// where it is given: a `Result` of it would be a copy of 150 bytes for each level that hands it up.
+/// The value of a call, or the end of the event, which is refused as the call is: that is written to the output, the
+/// first argument. So an event's output is built once, in its place: given from level to level it would be a copy of
+/// 150 bytes for each.
 macro_rules! attempt {
-    ($call:expr) => {
+    ($out:ident, $call:expr) => {
         match $call {
             Ok(value) => value,
-            Err(refusal) => return Out::Refused(refusal),
+            Err(refusal) => {
+                *$out = Out::Refused(refusal);
+                return;
+            }
         }
     };
 }

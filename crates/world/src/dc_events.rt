@@ -19,111 +19,120 @@ use std::alloc::Global;
 
 impl<D: CrashLog, P: CrashPages> DataComponent<D, P> {
     /// One of its events that is neither a crash nor a restart; a Request event finds no request of its number.
-    pub fn happen(&mut self, event: &Event) -> Out
+    pub fn happen(&mut self, event: &Event, out: &mut Out)
         requires own { of_tc event.now ≡ false }
         requires stays { moves event.now ≡ false }
-        ensures { DcGives (dc_of self.old) None event.now None result None (dc_of self.new) }
+        ensures { DcGives (dc_of self.old) None event.now None out.new None (dc_of self.new) }
     {
         match event {
-            Event::Split { key } => self.split(key),
-            Event::Merge { key } => self.merge(key),
-            Event::Tend => self.tend(),
-            Event::Flush { key } => self.flush(key),
-            Event::Request { .. } => self.unsent(),
-            Event::FailDc { device, call } => self.fail(*device, *call),
+            Event::Split { key } => self.split(key, out),
+            Event::Merge { key } => self.merge(key, out),
+            Event::Tend => self.tend(out),
+            Event::Flush { key } => self.flush(key, out),
+            Event::Request { .. } => self.unsent(out),
+            Event::FailDc { device, call } => self.fail(*device, *call, out),
             _ => unreachable!(),
         }
     }
 
     #[inline(never)]
-    fn split(&mut self, key: &Key) -> Out
-        ensures { DcCalls (dc_of self.old) (Event.Split key.now) result (dc_of self.new) }
+    fn split(&mut self, key: &Key, out: &mut Out)
+        ensures { DcCalls (dc_of self.old) (Event.Split key.now) out.new (dc_of self.new) }
     {
         match self {
-            DataComponent::Up(dc) => Out::Split(attempt!(dc.split(key))),
-            DataComponent::Down(_) => Out::Refused(Refusal::NotConnected),
+            DataComponent::Up(dc) => *out = Out::Split(attempt!(out, dc.split(key))),
+            DataComponent::Down(_) => *out = Out::Refused(Refusal::NotConnected),
         }
     }
 
     #[inline(never)]
-    fn merge(&mut self, key: &Key) -> Out
-        ensures { DcCalls (dc_of self.old) (Event.Merge key.now) result (dc_of self.new) }
+    fn merge(&mut self, key: &Key, out: &mut Out)
+        ensures { DcCalls (dc_of self.old) (Event.Merge key.now) out.new (dc_of self.new) }
     {
         match self {
-            DataComponent::Up(dc) => Out::Merged(attempt!(dc.merge(key))),
-            DataComponent::Down(_) => Out::Refused(Refusal::NotConnected),
+            DataComponent::Up(dc) => *out = Out::Merged(attempt!(out, dc.merge(key))),
+            DataComponent::Down(_) => *out = Out::Refused(Refusal::NotConnected),
         }
     }
 
     #[inline(never)]
-    fn tend(&mut self) -> Out
-        ensures { DcCalls (dc_of self.old) Event.Tend result (dc_of self.new) }
+    fn tend(&mut self, out: &mut Out)
+        ensures { DcCalls (dc_of self.old) Event.Tend out.new (dc_of self.new) }
     {
         let DataComponent::Up(dc) = self else {
-            return Out::Refused(Refusal::NotConnected);
+            *out = Out::Refused(Refusal::NotConnected);
+            return;
         };
-        match attempt!(dc.tend()) {
-            Tended::Split(pair) => Out::Split(pair),
-            Tended::Merged(pair) => Out::Merged(pair),
-            Tended::Nothing => Out::Nothing,
+        match attempt!(out, dc.tend()) {
+            Tended::Split(pair) => *out = Out::Split(pair),
+            Tended::Merged(pair) => *out = Out::Merged(pair),
+            Tended::Nothing => *out = Out::Nothing,
         }
     }
 
     #[inline(never)]
-    fn flush(&mut self, key: &Key) -> Out
-        ensures { DcCalls (dc_of self.old) (Event.Flush key.now) result (dc_of self.new) }
+    fn flush(&mut self, key: &Key, out: &mut Out)
+        ensures { DcCalls (dc_of self.old) (Event.Flush key.now) out.new (dc_of self.new) }
     {
         match self {
-            DataComponent::Up(dc) => Out::Flushed(attempt!(dc.flush(key))),
-            DataComponent::Down(_) => Out::Refused(Refusal::NotConnected),
+            DataComponent::Up(dc) => *out = Out::Flushed(attempt!(out, dc.flush(key))),
+            DataComponent::Down(_) => *out = Out::Refused(Refusal::NotConnected),
         }
     }
 
     /// Serves a request that was sent. What is replied has the number `next`; where that is None there is no room for
     /// it.
-    pub fn serve(&mut self, request: &Request, next: Option<u64>, reply: &mut Option<Reply>) -> Out
+    pub fn serve(
+        &mut self,
+        request: &Request,
+        next: Option<u64>,
+        reply: &mut Option<Reply>,
+        out: &mut Out,
+    )
         requires numbers { HasRequestNumbers request.now }
         requires owed { MayAsk (dc_of self.old).dc request.now }
         requires none { reply.old ≡ None }
-        ensures { DcServes (dc_of self.old) next (Some request.now) result reply.new (dc_of self.new) }
+        ensures { DcServes (dc_of self.old) next (Some request.now) out.new reply.new (dc_of self.new) }
     {
         let DataComponent::Up(dc) = self else {
-            return Out::Refused(Refusal::NotConnected);
+            *out = Out::Refused(Refusal::NotConnected);
+            return;
         };
-        attempt!(dc.allows(request));
-        let number = attempt!(number_if(has_reply(request), next));
-        match attempt!(dc.serve_allowed(request)) {
-            None => Out::Noted,
+        attempt!(out, dc.allows(request));
+        let number = attempt!(out, number_if(has_reply(request), next));
+        match attempt!(out, dc.serve_allowed(request)) {
+            None => *out = Out::Noted,
             Some(given) => {
                 *reply = Some(given);
-                Out::Replied(number)
+                *out = Out::Replied(number);
             }
         }
     }
 
     /// No request of the number was sent.
-    fn unsent(&self) -> Out
-        ensures { DcServes (dc_of self.now) None None result None (dc_of self.now) }
+    fn unsent(&self, out: &mut Out)
+        ensures { DcServes (dc_of self.now) None None out.new None (dc_of self.now) }
     {
         match self {
-            DataComponent::Up(_) => Out::Refused(Refusal::Unsent),
-            DataComponent::Down(_) => Out::Refused(Refusal::NotConnected),
+            DataComponent::Up(_) => *out = Out::Refused(Refusal::Unsent),
+            DataComponent::Down(_) => *out = Out::Refused(Refusal::NotConnected),
         }
     }
 
     /// A failure of one of its devices is set.
     #[inline(never)]
-    fn fail(&mut self, device: Device, call: u64) -> Out
-        ensures { DcCalls (dc_of self.old) (Event.FailDc device call) result (dc_of self.new) }
+    fn fail(&mut self, device: Device, call: u64, out: &mut Out)
+        ensures { DcCalls (dc_of self.old) (Event.FailDc device call) out.new (dc_of self.new) }
     {
         if call == 0 {
-            return Out::Nothing;
+            *out = Out::Nothing;
+            return;
         }
         match self {
             DataComponent::Up(dc) => dc.fail_at(device, call),
             DataComponent::Down(stopped) => stopped.fail_at(device, call),
         }
-        Out::Set
+        *out = Out::Set;
     }
 
     /// Its crash, as an event.

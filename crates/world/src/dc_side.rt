@@ -87,40 +87,57 @@ impl<D: CrashLog, P: CrashPages> DcSide<D, P> {
         requires none { reply.old ≡ None }
         ensures { DcLeads self.old next event.now (option_copied request.entry) result reply.new self.new }
     {
+        let mut out = Out::Nothing;
+        self.step_into(event, request, next, reply, &mut out);
+        out
+    }
+
+    fn step_into(
+        &mut self,
+        event: &Event,
+        request: Option<&Request>,
+        next: Option<u64>,
+        reply: &mut Option<Reply>,
+        out: &mut Out,
+    )
+        requires own { of_tc event.now ≡ false }
+        requires may { MayDc self.old event.now (option_copied request) }
+        requires none { reply.old ≡ None }
+        ensures { DcLeads self.old next event.now (option_copied request.entry) out.new reply.new self.new }
+    {
         match event {
             Event::Request { .. } => match request {
-                Some(request) => self.serve(request, next, reply),
-                None => self.call(event),
+                Some(request) => self.serve(request, next, reply, out),
+                None => self.call(event, out),
             },
-            _ => self.call(event),
+            _ => self.call(event, out),
         }
     }
 
     /// One event; a Request event finds no request of its number.
-    pub(crate) fn call(&mut self, event: &Event) -> Out
+    pub(crate) fn call(&mut self, event: &Event, out: &mut Out)
         requires own { of_tc event.now ≡ false }
         requires may { MayDc self.old event.now None }
-        ensures { DcLeads self.old None event.now None result None self.new }
+        ensures { DcLeads self.old None event.now None out.new None self.new }
     {
         match event {
-            Event::CrashDc { frames, bytes } => self.fall(*frames, *bytes),
-            Event::RestartDc => self.rise(),
-            _ => self.happen(event),
+            Event::CrashDc { frames, bytes } => *out = self.fall(*frames, *bytes),
+            Event::RestartDc => *out = self.rise(),
+            _ => self.happen(event, out),
         }
     }
 
-    fn happen(&mut self, event: &Event) -> Out
+    fn happen(&mut self, event: &Event, out: &mut Out)
         requires own { of_tc event.now ≡ false }
         requires stays { moves event.now ≡ false }
-        ensures gives { DcGives self.old None event.now None result None self.new }
+        ensures gives { DcGives self.old None event.now None out.new None self.new }
         ensures kept { IsDc self.new.dc }
     {
         let Some(component) = &mut self.component else {
             unreachable!();
         };
-        let out = component.happen(event);
+        component.happen(event, out);
         component.kept();
-        out
     }
 
     fn fall(&mut self, frames: u64, bytes: u64) -> Out
@@ -157,19 +174,19 @@ impl<D: CrashLog, P: CrashPages> DcSide<D, P> {
         request: &Request,
         next: Option<u64>,
         reply: &mut Option<Reply>,
-    ) -> Out
+        out: &mut Out,
+    )
         requires numbers { HasRequestNumbers request.now }
         requires owed { MayAsk self.old.dc request.now }
         requires none { reply.old ≡ None }
-        ensures serves { DcServes self.old next (Some request.now) result reply.new self.new }
+        ensures serves { DcServes self.old next (Some request.now) out.new reply.new self.new }
         ensures kept { IsDc self.new.dc }
     {
         let Some(component) = &mut self.component else {
             unreachable!();
         };
-        let out = component.serve(request, next, reply);
+        component.serve(request, next, reply, out);
         component.kept();
-        out
     }
 
     /// What holds at every moment.

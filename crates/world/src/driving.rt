@@ -32,7 +32,8 @@ pub fn drive<D: CrashLog, P: CrashPages>(
     world.kept();
     let mut outs = Vec::with_capacity(alloc, events.len())?;
     for event in events {
-        let out = world.step(event);
+        let mut out = Out::Nothing;
+        world.step_into(event, &mut out);
         match outs.push(out) {
             Ok(()) => {}
             Err(_) => unreachable!(),

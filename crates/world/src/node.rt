@@ -52,76 +52,73 @@ impl<D: CrashLog, P: CrashPages> Node<D, P> {
     }
 
     /// One event.
-    pub fn step(&mut self, event: &Event) -> Out
+    pub fn step(&mut self, event: &Event, out: &mut Out)
         requires { IsKept (seen self.old) }
-        ensures step { StepsTo (seen self.old) event.now result (seen self.new) }
+        ensures step { StepsTo (seen self.old) event.now out.new (seen self.new) }
         ensures tc { IsTc (seen self.new).tc }
         ensures dc { IsDc (seen self.new).dc }
     {
-        let out = self.happen(event);
+        self.happen(event, out);
         self.tc.kept();
         self.dc.kept();
-        out
     }
 
-    fn happen(&mut self, event: &Event) -> Out
+    fn happen(&mut self, event: &Event, out: &mut Out)
         requires { IsKept (seen self.old) }
-        ensures { StepsTo (seen self.old) event.now result (seen self.new) }
+        ensures { StepsTo (seen self.old) event.now out.new (seen self.new) }
     {
         match event {
-            Event::Reply { number } => self.take(*number),
-            Event::Request { number } => self.serve(*number),
-            _ if event.is_of_tc() => self.call(event),
-            _ => self.dc.call(event),
+            Event::Reply { number } => self.take(*number, out),
+            Event::Request { number } => self.serve(*number, out),
+            _ if event.is_of_tc() => self.call(event, out),
+            _ => self.dc.call(event, out),
         }
     }
 
     /// An event of the transaction component that takes no reply.
     #[inline(never)]
-    fn call(&mut self, event: &Event) -> Out
+    fn call(&mut self, event: &Event, out: &mut Out)
         requires own { of_tc event.now ≡ true }
         requires alone { BringsReply (seen self.old).replies event.now None }
-        ensures { StepsTo (seen self.old) event.now result (seen self.new) }
+        ensures { StepsTo (seen self.old) event.now out.new (seen self.new) }
     {
         let next = next_of(&mut self.requests, event);
         let mut request = None;
-        let out = self.tc.call(event, next, &mut request);
-        let Some(request) = &request else {
-            return out;
-        };
-        self.requests.push_reserved(request);
-        out
+        self.tc.call(event, next, &mut request, out);
+        if let Some(request) = &request {
+            self.requests.push_reserved(request);
+        }
     }
 
     /// The reply of this number reaches the transaction component.
     #[inline(never)]
-    fn take(&mut self, number: u64) -> Out
-        ensures { StepsTo (seen self.old) (Event.Reply number) result (seen self.new) }
+    fn take(&mut self, number: u64, out: &mut Out)
+        ensures { StepsTo (seen self.old) (Event.Reply number) out.new (seen self.new) }
     {
-        let session = attempt!(self.tc.session());
-        self.tc
-            .take(attempt!(self.replies.of_session(number, session)))
+        let session = attempt!(out, self.tc.session());
+        let reply = attempt!(out, self.replies.of_session(number, session));
+        self.tc.take(reply, out);
     }
 
     /// The request of this number reaches the data component.
     #[inline(never)]
-    fn serve(&mut self, number: u64) -> Out
+    fn serve(&mut self, number: u64, out: &mut Out)
         requires { IsKept (seen self.old) }
-        ensures { StepsTo (seen self.old) (Event.Request number) result (seen self.new) }
+        ensures { StepsTo (seen self.old) (Event.Request number) out.new (seen self.new) }
     {
         if !self.dc.is_up() {
-            return Out::Refused(Refusal::NotConnected);
+            *out = Out::Refused(Refusal::NotConnected);
+            return;
         }
-        let request = attempt!(self.requests.message(number));
+        let request = attempt!(out, self.requests.message(number));
         let next = self.replies.next();
         let mut reply = None;
-        let out = self.dc.serve(&request, next, &mut reply);
+        self.dc.serve(&request, next, &mut reply, out);
         let Some(reply) = &reply else {
-            return out;
+            return;
         };
         // Only rows may lack room, and whoever reads them changes nothing.
-        attempt!(self.replies.push(reply));
-        out
+        attempt!(out, self.replies.push(reply));
     }
 }
 

@@ -91,7 +91,9 @@ fn perform<D: CrashLog, P: CrashPages>(
     if out.reserve(1).is_err() {
         return Err(Refusal::NoMemory);
     }
-    match world.step(event) {
+    let mut output = Out::Nothing;
+    world.step_into(event, &mut output);
+    match output {
         Out::Refused(refusal) => Err(refusal),
         output => {
             out.push_reserved(output);

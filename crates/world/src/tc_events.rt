@@ -17,277 +17,308 @@ use tc_core::{Forced, Phase, RecoverStep, Told, UndoStep};
 impl<D: CrashLog> TransactionComponent<D> {
     /// One of its events that is neither a crash nor a restart; a Reply event finds no reply of its number. What is sent
     /// has the number `next`; where that is None there is no room for it.
-    pub fn happen(&mut self, event: &Event, next: Option<u64>, request: &mut Option<Request>) -> Out
+    pub fn happen(
+        &mut self,
+        event: &Event,
+        next: Option<u64>,
+        request: &mut Option<Request>,
+        out: &mut Out,
+    )
         requires own { of_tc event.now ≡ true }
         requires stays { moves event.now ≡ false }
         requires none { request.old ≡ None }
-        ensures gives { TcGives (tc_of self.old) next event.now None result request.new (tc_of self.new) }
+        ensures gives { TcGives (tc_of self.old) next event.now None out.new request.new (tc_of self.new) }
         ensures spelled { IsSpelledIf request.new }
         ensures room { HasRoom next request.new }
     {
         match event {
-            Event::Reconnect => self.reconnect(next, request),
-            Event::Recover => self.recover(next, request),
-            Event::Begin => self.begin(),
-            Event::Act { txn, op } => self.act(*txn, op),
-            Event::Get { txn, key } => self.get(*txn, key),
-            Event::Scan { txn, low, high } => self.scan(*txn, low, high),
-            Event::Save { txn } => self.save(*txn),
-            Event::GoBack { txn, savepoint } => self.go_back(*txn, *savepoint),
-            Event::Rollback { txn } => self.rollback(*txn),
-            Event::Commit { txn } => self.commit(*txn),
-            Event::Undo { txn } => self.undo(*txn),
-            Event::Force => self.force(),
-            Event::Send { txn } => self.send(*txn, next, request),
-            Event::LowWater { low } => self.low_water(*low, next, request),
-            Event::Checkpoint => self.checkpoint(next, request),
-            Event::Tell => self.tell(next, request),
-            Event::Reply { .. } => self.unsent(),
-            Event::FailTc { call } => self.fail(*call),
+            Event::Reconnect => self.reconnect(next, request, out),
+            Event::Recover => self.recover(next, request, out),
+            Event::Begin => self.begin(out),
+            Event::Act { txn, op } => self.act(*txn, op, out),
+            Event::Get { txn, key } => self.get(*txn, key, out),
+            Event::Scan { txn, low, high } => self.scan(*txn, low, high, out),
+            Event::Save { txn } => self.save(*txn, out),
+            Event::GoBack { txn, savepoint } => self.go_back(*txn, *savepoint, out),
+            Event::Rollback { txn } => self.rollback(*txn, out),
+            Event::Commit { txn } => self.commit(*txn, out),
+            Event::Undo { txn } => self.undo(*txn, out),
+            Event::Force => self.force(out),
+            Event::Send { txn } => self.send(*txn, next, request, out),
+            Event::LowWater { low } => self.low_water(*low, next, request, out),
+            Event::Checkpoint => self.checkpoint(next, request, out),
+            Event::Tell => self.tell(next, request, out),
+            Event::Reply { .. } => self.unsent(out),
+            Event::FailTc { call } => self.fail(*call, out),
             _ => unreachable!(),
         }
     }
 
     #[inline(never)]
-    fn reconnect(&mut self, next: Option<u64>, request: &mut Option<Request>) -> Out
+    fn reconnect(&mut self, next: Option<u64>, request: &mut Option<Request>, out: &mut Out)
         requires { request.old ≡ None }
-        ensures { TcSends (tc_of self.old) next Event.Reconnect result request.new (tc_of self.new) }
+        ensures { TcSends (tc_of self.old) next Event.Reconnect out.new request.new (tc_of self.new) }
     {
         let TransactionComponent::Up(tc) = self else {
-            return Out::Refused(Refusal::NotConnected);
+            *out = Out::Refused(Refusal::NotConnected);
+            return;
         };
-        attempt!(tc.can_log());
-        let number = attempt!(next.ok_or(Refusal::NoMemory));
-        let connecting = attempt!(tc.reconnect());
+        attempt!(out, tc.can_log());
+        let number = attempt!(out, next.ok_or(Refusal::NoMemory));
+        let connecting = attempt!(out, tc.reconnect());
         *request = Some(connecting.request);
-        Out::Connects {
+        *out = Out::Connects {
             request: number,
             committed: connecting.committed,
-        }
+        };
     }
 
     #[inline(never)]
-    fn recover(&mut self, next: Option<u64>, request: &mut Option<Request>) -> Out
+    fn recover(&mut self, next: Option<u64>, request: &mut Option<Request>, out: &mut Out)
         requires { request.old ≡ None }
-        ensures { TcSends (tc_of self.old) next Event.Recover result request.new (tc_of self.new) }
+        ensures { TcSends (tc_of self.old) next Event.Recover out.new request.new (tc_of self.new) }
     {
         let TransactionComponent::Up(tc) = self else {
-            return Out::Refused(Refusal::NotConnected);
+            *out = Out::Refused(Refusal::NotConnected);
+            return;
         };
         tc.kept();
-        let number = attempt!(number_if(sends(tc.phase()), next));
-        match attempt!(tc.recover_step()) {
-            RecoverStep::Nothing => Out::Nothing,
+        let number = attempt!(out, number_if(sends(tc.phase()), next));
+        match attempt!(out, tc.recover_step()) {
+            RecoverStep::Nothing => *out = Out::Nothing,
             RecoverStep::Sends(sent) => {
                 *request = Some(sent);
-                Out::Sent(number)
+                *out = Out::Sent(number);
             }
-            RecoverStep::Compensated(number) => Out::Compensated(number),
-            RecoverStep::Lost(txn) => Out::Lost(txn),
+            RecoverStep::Compensated(number) => *out = Out::Compensated(number),
+            RecoverStep::Lost(txn) => *out = Out::Lost(txn),
         }
     }
 
     #[inline(never)]
-    fn begin(&mut self) -> Out
-        ensures { TcCalls (tc_of self.old) Event.Begin result (tc_of self.new) }
+    fn begin(&mut self, out: &mut Out)
+        ensures { TcCalls (tc_of self.old) Event.Begin out.new (tc_of self.new) }
     {
         let TransactionComponent::Up(tc) = self else {
-            return Out::Refused(Refusal::NotConnected);
+            *out = Out::Refused(Refusal::NotConnected);
+            return;
         };
-        Out::Begun(attempt!(tc.begin()))
+        *out = Out::Begun(attempt!(out, tc.begin()));
     }
 
     #[inline(never)]
-    fn act(&mut self, txn: u64, op: &Op) -> Out
-        ensures { TcCalls (tc_of self.old) (Event.Act txn op.now) result (tc_of self.new) }
+    fn act(&mut self, txn: u64, op: &Op, out: &mut Out)
+        ensures { TcCalls (tc_of self.old) (Event.Act txn op.now) out.new (tc_of self.new) }
     {
         let TransactionComponent::Up(tc) = self else {
-            return Out::Refused(Refusal::NotConnected);
+            *out = Out::Refused(Refusal::NotConnected);
+            return;
         };
-        Out::Logged(attempt!(tc.act(txn, op)))
+        *out = Out::Logged(attempt!(out, tc.act(txn, op)));
     }
 
     #[inline(never)]
-    fn get(&mut self, txn: u64, key: &Key) -> Out
-        ensures { TcCalls (tc_of self.old) (Event.Get txn key.now) result (tc_of self.new) }
+    fn get(&mut self, txn: u64, key: &Key, out: &mut Out)
+        ensures { TcCalls (tc_of self.old) (Event.Get txn key.now) out.new (tc_of self.new) }
     {
         let TransactionComponent::Up(tc) = self else {
-            return Out::Refused(Refusal::NotConnected);
+            *out = Out::Refused(Refusal::NotConnected);
+            return;
         };
-        Out::Asked(attempt!(tc.get(txn, key)))
+        *out = Out::Asked(attempt!(out, tc.get(txn, key)));
     }
 
     #[inline(never)]
-    fn scan(&mut self, txn: u64, low: &Key, high: &Option<Key>) -> Out
-        ensures { TcCalls (tc_of self.old) (Event.Scan txn low.now high.now) result (tc_of self.new) }
+    fn scan(&mut self, txn: u64, low: &Key, high: &Option<Key>, out: &mut Out)
+        ensures { TcCalls (tc_of self.old) (Event.Scan txn low.now high.now) out.new (tc_of self.new) }
     {
         let TransactionComponent::Up(tc) = self else {
-            return Out::Refused(refused_down(low, high));
+            *out = Out::Refused(refused_down(low, high));
+            return;
         };
-        Out::Asked(attempt!(tc.scan(txn, low, high)))
+        *out = Out::Asked(attempt!(out, tc.scan(txn, low, high)));
     }
 
     #[inline(never)]
-    fn save(&mut self, txn: u64) -> Out
-        ensures { TcCalls (tc_of self.old) (Event.Save txn) result (tc_of self.new) }
+    fn save(&mut self, txn: u64, out: &mut Out)
+        ensures { TcCalls (tc_of self.old) (Event.Save txn) out.new (tc_of self.new) }
     {
         let TransactionComponent::Up(tc) = self else {
-            return Out::Refused(Refusal::NotConnected);
+            *out = Out::Refused(Refusal::NotConnected);
+            return;
         };
-        Out::Saved(attempt!(tc.save(txn)))
+        *out = Out::Saved(attempt!(out, tc.save(txn)));
     }
 
     #[inline(never)]
-    fn go_back(&mut self, txn: u64, savepoint: u64) -> Out
-        ensures { TcCalls (tc_of self.old) (Event.GoBack txn savepoint) result (tc_of self.new) }
+    fn go_back(&mut self, txn: u64, savepoint: u64, out: &mut Out)
+        ensures { TcCalls (tc_of self.old) (Event.GoBack txn savepoint) out.new (tc_of self.new) }
     {
         let TransactionComponent::Up(tc) = self else {
-            return Out::Refused(Refusal::NotConnected);
+            *out = Out::Refused(Refusal::NotConnected);
+            return;
         };
-        attempt!(tc.back_to(txn, savepoint));
-        Out::RollingBack
+        attempt!(out, tc.back_to(txn, savepoint));
+        *out = Out::RollingBack;
     }
 
     #[inline(never)]
-    fn rollback(&mut self, txn: u64) -> Out
-        ensures { TcCalls (tc_of self.old) (Event.Rollback txn) result (tc_of self.new) }
+    fn rollback(&mut self, txn: u64, out: &mut Out)
+        ensures { TcCalls (tc_of self.old) (Event.Rollback txn) out.new (tc_of self.new) }
     {
         let TransactionComponent::Up(tc) = self else {
-            return Out::Refused(Refusal::NotConnected);
+            *out = Out::Refused(Refusal::NotConnected);
+            return;
         };
-        attempt!(tc.rollback(txn));
-        Out::RollingBack
+        attempt!(out, tc.rollback(txn));
+        *out = Out::RollingBack;
     }
 
     #[inline(never)]
-    fn commit(&mut self, txn: u64) -> Out
-        ensures { TcCalls (tc_of self.old) (Event.Commit txn) result (tc_of self.new) }
+    fn commit(&mut self, txn: u64, out: &mut Out)
+        ensures { TcCalls (tc_of self.old) (Event.Commit txn) out.new (tc_of self.new) }
     {
         let TransactionComponent::Up(tc) = self else {
-            return Out::Refused(Refusal::NotConnected);
+            *out = Out::Refused(Refusal::NotConnected);
+            return;
         };
-        Out::CommitLogged(attempt!(tc.commit(txn)))
+        *out = Out::CommitLogged(attempt!(out, tc.commit(txn)));
     }
 
     #[inline(never)]
-    fn undo(&mut self, txn: u64) -> Out
-        ensures { TcCalls (tc_of self.old) (Event.Undo txn) result (tc_of self.new) }
+    fn undo(&mut self, txn: u64, out: &mut Out)
+        ensures { TcCalls (tc_of self.old) (Event.Undo txn) out.new (tc_of self.new) }
     {
         let TransactionComponent::Up(tc) = self else {
-            return Out::Refused(Refusal::NotConnected);
+            *out = Out::Refused(Refusal::NotConnected);
+            return;
         };
-        match attempt!(tc.undo_step(txn)) {
-            UndoStep::Idle => Out::Nothing,
-            UndoStep::Compensated(number) => Out::Compensated(number),
-            UndoStep::RolledBack(txn) => Out::RolledBack(txn),
-            UndoStep::Back { txn, savepoint } => Out::Back { txn, savepoint },
+        match attempt!(out, tc.undo_step(txn)) {
+            UndoStep::Idle => *out = Out::Nothing,
+            UndoStep::Compensated(number) => *out = Out::Compensated(number),
+            UndoStep::RolledBack(txn) => *out = Out::RolledBack(txn),
+            UndoStep::Back { txn, savepoint } => *out = Out::Back { txn, savepoint },
         }
     }
 
     #[inline(never)]
-    fn force(&mut self) -> Out
-        ensures { TcCalls (tc_of self.old) Event.Force result (tc_of self.new) }
+    fn force(&mut self, out: &mut Out)
+        ensures { TcCalls (tc_of self.old) Event.Force out.new (tc_of self.new) }
     {
         let TransactionComponent::Up(tc) = self else {
-            return Out::Refused(Refusal::NotConnected);
+            *out = Out::Refused(Refusal::NotConnected);
+            return;
         };
-        let Forced { end, committed } = attempt!(tc.force());
-        Out::Stable { end, committed }
+        let Forced { end, committed } = attempt!(out, tc.force());
+        *out = Out::Stable { end, committed };
     }
 
     #[inline(never)]
-    fn send(&mut self, txn: u64, next: Option<u64>, request: &mut Option<Request>) -> Out
+    fn send(&mut self, txn: u64, next: Option<u64>, request: &mut Option<Request>, out: &mut Out)
         requires { request.old ≡ None }
-        ensures { TcSends (tc_of self.old) next (Event.Send txn) result request.new (tc_of self.new) }
+        ensures { TcSends (tc_of self.old) next (Event.Send txn) out.new request.new (tc_of self.new) }
     {
         let TransactionComponent::Up(tc) = self else {
-            return Out::Refused(Refusal::NotConnected);
+            *out = Out::Refused(Refusal::NotConnected);
+            return;
         };
         tc.kept();
-        let sent = attempt!(tc.resend(txn));
-        let number = attempt!(next.ok_or(Refusal::NoMemory));
+        let sent = attempt!(out, tc.resend(txn));
+        let number = attempt!(out, next.ok_or(Refusal::NoMemory));
         *request = Some(sent);
-        Out::Sent(number)
+        *out = Out::Sent(number);
     }
 
     #[inline(never)]
-    fn low_water(&mut self, low: u64, next: Option<u64>, request: &mut Option<Request>) -> Out
+    fn low_water(
+        &mut self,
+        low: u64,
+        next: Option<u64>,
+        request: &mut Option<Request>,
+        out: &mut Out,
+    )
         requires { request.old ≡ None }
-        ensures { TcSends (tc_of self.old) next (Event.LowWater low) result request.new (tc_of self.new) }
+        ensures { TcSends (tc_of self.old) next (Event.LowWater low) out.new request.new (tc_of self.new) }
     {
         let TransactionComponent::Up(tc) = self else {
-            return Out::Refused(Refusal::NotConnected);
+            *out = Out::Refused(Refusal::NotConnected);
+            return;
         };
         tc.kept();
-        attempt!(tc.can_announce(low));
-        let number = attempt!(next.ok_or(Refusal::NoMemory));
-        *request = Some(attempt!(tc.low_water(low)));
-        Out::Sent(number)
+        attempt!(out, tc.can_announce(low));
+        let number = attempt!(out, next.ok_or(Refusal::NoMemory));
+        *request = Some(attempt!(out, tc.low_water(low)));
+        *out = Out::Sent(number);
     }
 
     #[inline(never)]
-    fn checkpoint(&mut self, next: Option<u64>, request: &mut Option<Request>) -> Out
+    fn checkpoint(&mut self, next: Option<u64>, request: &mut Option<Request>, out: &mut Out)
         requires { request.old ≡ None }
-        ensures { TcSends (tc_of self.old) next Event.Checkpoint result request.new (tc_of self.new) }
+        ensures { TcSends (tc_of self.old) next Event.Checkpoint out.new request.new (tc_of self.new) }
     {
         let TransactionComponent::Up(tc) = self else {
-            return Out::Refused(Refusal::NotConnected);
+            *out = Out::Refused(Refusal::NotConnected);
+            return;
         };
         tc.kept();
-        attempt!(tc.can_checkpoint());
-        let number = attempt!(next.ok_or(Refusal::NoMemory));
-        *request = Some(attempt!(tc.checkpoint()));
-        Out::Sent(number)
+        attempt!(out, tc.can_checkpoint());
+        let number = attempt!(out, next.ok_or(Refusal::NoMemory));
+        *request = Some(attempt!(out, tc.checkpoint()));
+        *out = Out::Sent(number);
     }
 
     #[inline(never)]
-    fn tell(&mut self, next: Option<u64>, request: &mut Option<Request>) -> Out
+    fn tell(&mut self, next: Option<u64>, request: &mut Option<Request>, out: &mut Out)
         requires { request.old ≡ None }
-        ensures { TcSends (tc_of self.old) next Event.Tell result request.new (tc_of self.new) }
+        ensures { TcSends (tc_of self.old) next Event.Tell out.new request.new (tc_of self.new) }
     {
         let TransactionComponent::Up(tc) = self else {
-            return Out::Refused(Refusal::NotConnected);
+            *out = Out::Refused(Refusal::NotConnected);
+            return;
         };
         tc.kept();
-        let sent = attempt!(tc.tell_stable());
-        let number = attempt!(next.ok_or(Refusal::NoMemory));
+        let sent = attempt!(out, tc.tell_stable());
+        let number = attempt!(out, next.ok_or(Refusal::NoMemory));
         *request = Some(sent);
-        Out::Sent(number)
+        *out = Out::Sent(number);
     }
 
     /// Takes a reply that was sent.
-    pub fn take(&mut self, reply: Reply) -> Out
-        ensures { TcTakes (tc_of self.old) (Some reply) result (tc_of self.new) }
+    pub fn take(&mut self, reply: Reply, out: &mut Out)
+        ensures { TcTakes (tc_of self.old) (Some reply) out.new (tc_of self.new) }
     {
         let TransactionComponent::Up(tc) = self else {
-            return Out::Refused(Refusal::NotConnected);
+            *out = Out::Refused(Refusal::NotConnected);
+            return;
         };
-        out_of_told(attempt!(tc.on_reply(reply)))
+        let told = attempt!(out, tc.on_reply(reply));
+        tell_of(told, out);
     }
 
     /// No reply of the number was sent.
-    fn unsent(&self) -> Out
-        ensures { TcTakes (tc_of self.now) None result (tc_of self.now) }
+    fn unsent(&self, out: &mut Out)
+        ensures { TcTakes (tc_of self.now) None out.new (tc_of self.now) }
     {
         match self {
-            TransactionComponent::Up(_) => Out::Refused(Refusal::Unsent),
-            TransactionComponent::Down(_) => Out::Refused(Refusal::NotConnected),
+            TransactionComponent::Up(_) => *out = Out::Refused(Refusal::Unsent),
+            TransactionComponent::Down(_) => *out = Out::Refused(Refusal::NotConnected),
         }
     }
 
     /// A failure of its device is set.
     #[inline(never)]
-    fn fail(&mut self, call: u64) -> Out
-        ensures { TcCalls (tc_of self.old) (Event.FailTc call) result (tc_of self.new) }
+    fn fail(&mut self, call: u64, out: &mut Out)
+        ensures { TcCalls (tc_of self.old) (Event.FailTc call) out.new (tc_of self.new) }
     {
         if call == 0 {
-            return Out::Nothing;
+            *out = Out::Nothing;
+            return;
         }
         match self {
             TransactionComponent::Up(tc) => tc.fail_at(call),
             TransactionComponent::Down(stopped) => stopped.fail_at(call),
         }
-        Out::Set
+        *out = Out::Set;
     }
 
     /// Its crash, as an event.
@@ -351,17 +382,17 @@ fn sends(phase: Phase) -> bool
     }
 }
 
-fn out_of_told(told: Told) -> Out
-    ensures { result ≡ as_out told }
+fn tell_of(told: Told, out: &mut Out)
+    ensures { out.new ≡ as_out told }
 {
     match told {
-        Told::Nothing => Out::Nothing,
-        Told::Connected(session) => Out::Connected(session),
-        Told::RedoEnded(session) => Out::RedoEnded(session),
-        Told::Answered { txn, answer } => Out::Answered { txn, answer },
-        Told::Row { txn, value } => Out::Row { txn, value },
-        Told::Rows { txn, rows } => Out::Rows { txn, rows },
-        Told::Undone(number) => Out::Undone(number),
-        Told::CheckpointLogged(number) => Out::CheckpointLogged(number),
+        Told::Nothing => *out = Out::Nothing,
+        Told::Connected(session) => *out = Out::Connected(session),
+        Told::RedoEnded(session) => *out = Out::RedoEnded(session),
+        Told::Answered { txn, answer } => *out = Out::Answered { txn, answer },
+        Told::Row { txn, value } => *out = Out::Row { txn, value },
+        Told::Rows { txn, rows } => *out = Out::Rows { txn, rows },
+        Told::Undone(number) => *out = Out::Undone(number),
+        Told::CheckpointLogged(number) => *out = Out::CheckpointLogged(number),
     }
 }

@@ -76,12 +76,29 @@ impl<D: CrashLog> TcSide<D> {
         requires none { request.old ≡ None }
         ensures { TcLeads self.old next event.now reply result request.new self.new }
     {
+        let mut out = Out::Nothing;
+        self.step_into(event, reply, next, request, &mut out);
+        out
+    }
+
+    fn step_into(
+        &mut self,
+        event: &Event,
+        reply: Option<Reply>,
+        next: Option<u64>,
+        request: &mut Option<Request>,
+        out: &mut Out,
+    )
+        requires own { of_tc event.now ≡ true }
+        requires none { request.old ≡ None }
+        ensures { TcLeads self.old next event.now reply out.new request.new self.new }
+    {
         match event {
             Event::Reply { .. } => match reply {
-                Some(reply) => self.take(reply),
-                None => self.call(event, next, request),
+                Some(reply) => self.take(reply, out),
+                None => self.call(event, next, request, out),
             },
-            _ => self.call(event, next, request),
+            _ => self.call(event, next, request, out),
         }
     }
 
@@ -91,30 +108,36 @@ impl<D: CrashLog> TcSide<D> {
         event: &Event,
         next: Option<u64>,
         request: &mut Option<Request>,
-    ) -> Out
+        out: &mut Out,
+    )
         requires own { of_tc event.now ≡ true }
         requires none { request.old ≡ None }
-        ensures { TcLeads self.old next event.now None result request.new self.new }
+        ensures { TcLeads self.old next event.now None out.new request.new self.new }
     {
         match event {
-            Event::CrashTc { frames, bytes } => self.fall(*frames, *bytes),
-            Event::RestartTc => self.rise(),
-            _ => self.happen(event, next, request),
+            Event::CrashTc { frames, bytes } => *out = self.fall(*frames, *bytes),
+            Event::RestartTc => *out = self.rise(),
+            _ => self.happen(event, next, request, out),
         }
     }
 
-    fn happen(&mut self, event: &Event, next: Option<u64>, request: &mut Option<Request>) -> Out
+    fn happen(
+        &mut self,
+        event: &Event,
+        next: Option<u64>,
+        request: &mut Option<Request>,
+        out: &mut Out,
+    )
         requires own { of_tc event.now ≡ true }
         requires stays { moves event.now ≡ false }
         requires none { request.old ≡ None }
-        ensures { TcLeads self.old next event.now None result request.new self.new }
+        ensures { TcLeads self.old next event.now None out.new request.new self.new }
     {
         let Some(component) = &mut self.component else {
             unreachable!();
         };
-        let out = component.happen(event, next, request);
+        component.happen(event, next, request, out);
         component.kept();
-        out
     }
 
     fn fall(&mut self, frames: u64, bytes: u64) -> Out
@@ -144,16 +167,15 @@ impl<D: CrashLog> TcSide<D> {
     }
 
     /// A Reply event that finds this one.
-    pub(crate) fn take(&mut self, reply: Reply) -> Out
-        ensures takes { TcTakes self.old (Some reply) result self.new }
+    pub(crate) fn take(&mut self, reply: Reply, out: &mut Out)
+        ensures takes { TcTakes self.old (Some reply) out.new self.new }
         ensures kept { IsTc self.new.tc }
     {
         let Some(component) = &mut self.component else {
             unreachable!();
         };
-        let out = component.take(reply);
+        component.take(reply, out);
         component.kept();
-        out
     }
 
     /// What holds at every moment.

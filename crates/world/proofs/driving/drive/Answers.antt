@@ -14,12 +14,12 @@ pub loop-event-preserved : goal.loop-event-preserved
 loop-event-preserved g c = record {
   chain = rw c.in-Ok.ensures.items
       (chain_more c.args.world.now c.args.events.now c.loop-event.event-index c.loop-event.outs.items c.loop-event.world
-      c.event-item.result c.step-out.result c.step-out.new.self
-      (omega arith) c.event-item.is c.loop-event.invariant.chain c.step-out.ensures);
+      c.event-item.result c.step_into.new.out c.step_into.new.self
+      (omega arith) c.event-item.is c.loop-event.invariant.chain c.step_into.ensures);
   run = rw c.in-Ok.ensures.items
       (leads_more c.args.world.now c.args.events.now c.loop-event.event-index c.loop-event.outs.items c.loop-event.world
-      c.event-item.result c.step-out.result c.step-out.new.self
-      (omega arith) c.event-item.is c.loop-event.invariant.run c.step-out.ensures.leads);
+      c.event-item.result c.step_into.new.out c.step_into.new.self
+      (omega arith) c.event-item.is c.loop-event.invariant.run c.step_into.ensures.leads);
   count = omega (arith, c.in-Ok.ensures.len);
   room = omega (arith, c.in-Ok.ensures.capacity);
 }

@@ -5,7 +5,7 @@ use Rattle.world.proofs.settling.perform.Goals as goal
 
 pub returns-in_default : goal.returns-in_default
 returns-in_default g c =
-    one_done c.args.world.now c.step.new.self c.args.event.now c.step.result c.args.out.now.items
-    c.push_reserved.new.self.items c.step.ensures
-    (done_if c.step.result c.in_default.not-Refused)
-    (c.push_reserved.ensures.items ∙ ap (λ (xs : List Out). xs ++ c.step.result ∷ []) c.reserve.ensures.items)
+    one_done c.args.world.now c.step_into.new.self c.args.event.now c.step_into.new.out c.args.out.now.items
+    c.push_reserved.new.self.items c.step_into.ensures
+    (done_if c.step_into.new.out c.in_default.not-Refused)
+    (c.push_reserved.ensures.items ∙ ap (λ (xs : List Out). xs ++ c.step_into.new.out ∷ []) c.reserve.ensures.items)

@@ -7,11 +7,11 @@ use Rattle.world.proofs.Halves.{DoesDc, owed, roomy, unroomed}
 use Rattle.world.proofs.Invariant.Spellable.{numbers_spelled}
 use Rattle.world.proofs.node.Node.serve.Goals as goal
 
-pub serve-out-requires-clause-numbers : goal.serve-out-requires-clause-numbers
-serve-out-requires-clause-numbers g c = numbers_spelled c.in-Ok.value c.in-Ok.ensures.spelled
+pub serve-requires-clause-numbers : goal.serve-requires-clause-numbers
+serve-requires-clause-numbers g c = numbers_spelled c.in-Ok.value c.in-Ok.ensures.spelled
 
-pub serve-out-requires-clause-owed : goal.serve-out-requires-clause-owed
-serve-out-requires-clause-owed g c =
+pub serve-requires-clause-owed : goal.serve-requires-clause-owed
+serve-requires-clause-owed g c =
     let n = c.args.self.now in
     owed n.dc c.args.number c.in-Ok.value (record {
       node = seen n;
@@ -24,8 +24,8 @@ pub returns-in_default : goal.returns-in_default
 returns-in_default g c =
     let n = c.args.self.now in
     rw c.next-next.ensures.same
-    (subst (DoesDc n (event.Request c.args.number) c.serve-out.result c.serve-out.new.self) c.in_default.is
-    (c.serve-out.ensures.serves.gives c.args.number n.tc n.requests.messages n.replies.messages
+    (subst (DoesDc n (event.Request c.args.number) c.serve.new.out c.serve.new.self) c.in_default.is
+    (c.serve.ensures.serves.gives c.args.number n.tc n.requests.messages n.replies.messages
     c.next-next.ensures.number c.in-Ok.ensures.found))
 
 pub returns-in-Err-push : goal.returns-in-Err-push
@@ -36,18 +36,18 @@ returns-in-Err-push g c =
     let rows : has_rows reply ≡ true =
     c.in-Err-push.ensures.long
     (roomy next reply (c.next-next.new.self.has_room ≡ true)
-    (subst (HasRoom next) c.in-Some.is c.serve-out.ensures.serves.room) c.next-next.ensures.room) in
+    (subst (HasRoom next) c.in-Some.is c.serve.ensures.serves.room) c.next-next.ensures.room) in
     rw (c.in-Err-push.ensures.cause, c.in-Err-push.ensures.unchanged, c.next-next.ensures.same)
-    (unroomed n.tc n.dc c.serve-out.new.self n.requests.messages n.replies.messages c.args.number reply rows
-    c.serve-out.result
-    (subst (DoesDc n (event.Request c.args.number) c.serve-out.result c.serve-out.new.self) c.in-Some.is
-    (c.serve-out.ensures.serves.gives c.args.number n.tc n.requests.messages n.replies.messages
+    (unroomed n.tc n.dc c.serve.new.self n.requests.messages n.replies.messages c.args.number reply rows
+    c.serve.new.out
+    (subst (DoesDc n (event.Request c.args.number) c.serve.new.out c.serve.new.self) c.in-Some.is
+    (c.serve.ensures.serves.gives c.args.number n.tc n.requests.messages n.replies.messages
     c.next-next.ensures.number c.in-Ok.ensures.found)))
 
 pub returns : goal.returns
 returns g c =
     let n = c.args.self.now in
     rw (c.in-Ok-push.ensures.appended, c.next-next.ensures.same)
-    (subst (DoesDc n (event.Request c.args.number) c.serve-out.result c.serve-out.new.self) c.in-Some.is
-    (c.serve-out.ensures.serves.gives c.args.number n.tc n.requests.messages n.replies.messages
+    (subst (DoesDc n (event.Request c.args.number) c.serve.new.out c.serve.new.self) c.in-Some.is
+    (c.serve.ensures.serves.gives c.args.number n.tc n.requests.messages n.replies.messages
     c.next-next.ensures.number c.in-Ok.ensures.found))

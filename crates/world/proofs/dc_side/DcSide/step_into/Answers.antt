@@ -4,7 +4,7 @@ use Rattle.world.specs.Halves.{MayDc}
 use Rattle.world.specs.declared.event.Event.{Event}
 use Rattle.world.specs.declared.event.Event.TheVariants as event
 use Rattle.world.proofs.Halves.{owed}
-use Rattle.world.proofs.dc_side.DcSide.step.Goals as goal
+use Rattle.world.proofs.dc_side.DcSide.step_into.Goals as goal
 
 pub serve-requires-clause-owed : goal.serve-requires-clause-owed
 serve-requires-clause-owed g c =

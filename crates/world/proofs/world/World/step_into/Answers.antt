@@ -1,15 +1,15 @@
 use Rattle.world.proofs.Machine.Headline.{follows}
 use Rattle.world.specs.Seen.{seen}
-use Rattle.world.proofs.world.World.step.Goals as goal
+use Rattle.world.proofs.world.World.step_into.Goals as goal
 
 pub invariant_of-self : goal.invariant_of-self
 invariant_of-self g c =
-    (follows (seen c.self.inside.node) (seen c.step.new.self) c.args.event.now c.step.result c.self.invariant
+    (follows (seen c.self.inside.node) (seen c.step.new.self) c.args.event.now c.step.new.out c.self.invariant
     c.step.ensures.tc c.step.ensures.dc c.step.ensures.step).kept
 
 pub returns : goal.returns
 returns g c =
     let all =
-    follows (seen c.self.inside.node) (seen c.step.new.self) c.args.event.now c.step.result c.self.invariant
+    follows (seen c.self.inside.node) (seen c.step.new.self) c.args.event.now c.step.new.out c.self.invariant
     c.step.ensures.tc c.step.ensures.dc c.step.ensures.step in
     rw (← c.self.view_is) (record { step = c.step.ensures.step; leads = all.leads; kept = all.kept })
