@@ -156,13 +156,10 @@ body_there body left rest short e =
     ∙ drop_at (number (length body)) (body ++ rest) 8 (length-number (length body)) in
     rw (length_there body left rest short e, after) (take_at body rest (length body) refl)
 
-pub only : (X : Type 0) (spell : X → List ℕ) (Fits : X → Type 0) (read : Reader X) → IsReader X spell Fits read →
-    (limit place : ℕ) (left : List ℕ) (x : X) (rest : List ℕ) → Fits x → 0 < length (spell x) → length (spell x) ≤ limit
-    → limit < 2 ^ 64
-    → left ≡ frame (spell x) ++ rest
-    → within place read (frame_at limit place left) ≡ took.Record x (place + length (frame (spell x)))
-only X spell Fits read law limit place left x rest fits some low small e =
-    let body = spell x in
+-- so it is found
+pub framed : (limit place : ℕ) (body left rest : List ℕ) → 0 < length body → length body ≤ limit → limit < 2 ^ 64
+    → left ≡ frame body ++ rest → frame_at limit place left ≡ took.Record body (place + length (frame body))
+framed limit place body left rest some low small e =
     let len : length left ≡ 8 + length body + length rest =
     ap length e ∙ omega (arith, length-append (frame body) rest, length-frame body) in
     let fits_word : length body < 2 ^ 64 = omega arith in
@@ -176,8 +173,17 @@ only X spell Fits read law limit place left x rest fits some low small e =
       | cut long one low lt is ↦ absurd (omega arith)
       | whole long one low there is ↦
           let last : place + (8 + first_number left) ≡ place + length (frame body) = omega arith in
-          ap (within place read) is ∙ rw (text, last, all_again X spell Fits read law x fits) refl
+          is ∙ rw (text, last) refl
     ]
+
+pub only : (X : Type 0) (spell : X → List ℕ) (Fits : X → Type 0) (read : Reader X) → IsReader X spell Fits read →
+    (limit place : ℕ) (left : List ℕ) (x : X) (rest : List ℕ) → Fits x → 0 < length (spell x) → length (spell x) ≤ limit
+    → limit < 2 ^ 64
+    → left ≡ frame (spell x) ++ rest
+    → within place read (frame_at limit place left) ≡ took.Record x (place + length (frame (spell x)))
+only X spell Fits read law limit place left x rest fits some low small e =
+    ap (within place read) (framed limit place (spell x) left rest some low small e)
+    ∙ rw (all_again X spell Fits read law x fits) refl
 
 -- the same where only the bytes that are there bound a body
 pub only_any : (X : Type 0) (spell : X → List ℕ) (Fits : X → Type 0) (read : Reader X) → IsReader X spell Fits read →

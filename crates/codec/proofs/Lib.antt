@@ -16,6 +16,7 @@ pub mod Indexed
 pub mod Ends
 pub mod Results
 pub mod Numbered
+pub mod Asked
 pub mod Cuts
 pub mod ReadOnce
 mod Told

@@ -9,7 +9,7 @@ use Rattle.history.specs.Chains.{undo_from}
 use Rattle.record_key.specs.declared.op.Op.{Op}
 use Rattle.codec.specs.Fields.{number, optional, op_bytes, answer_bytes}
 use Rattle.codec.specs.Frames.{frame}
-use Rattle.codec.specs.Reading.{byte_at, number_at, op_at, optional_at}
+use Rattle.codec.specs.Reading.{◌>>=◌, byte_at, number_at, op_at, optional_at}
 use Rattle.codec.specs.Records.{record_bytes, IsRecord}
 use Rattle.codec.proofs.Fields.{length-number, numbers_length, number_reads, op_reads, optional_reads}
 
@@ -22,7 +22,12 @@ abbrev pub inner : {X : Type 0} → Option (Option X × List ℕ) → Option X
 inner None = None
 inner (Some x) = x.0
 
-abbrev kind : Record → ℕ
+pub inner_first : {X : Type 0} → (found : Option (X × List ℕ))
+    → inner (found >>= λ x. Some (Some x.0, x.1)) ≡ first found
+inner_first None = refl
+inner_first (Some x) = refl
+
+abbrev pub kind : Record → ℕ
 kind is.Session = 1
 kind is.Begin = 2
 kind (is.Op txn prev o) = 3
@@ -32,7 +37,7 @@ kind (is.Commit txn) = 6
 kind (is.End txn) = 7
 kind (is.Checkpoint low) = 8
 
-abbrev fields : Record → List ℕ
+abbrev pub fields : Record → List ℕ
 fields is.Session = []
 fields is.Begin = []
 fields (is.Op txn prev o) = number txn ++ (number prev ++ op_bytes o)
@@ -42,7 +47,7 @@ fields (is.Commit txn) = number txn
 fields (is.End txn) = number txn
 fields (is.Checkpoint low) = number low
 
-spelled : (r : Record) → record_bytes r ≡ kind r ∷ fields r
+pub spelled : (r : Record) → record_bytes r ≡ kind r ∷ fields r
 unfolding record_bytes
 spelled is.Session = refl
 spelled is.Begin = refl
@@ -191,7 +196,7 @@ inverse_read (is.End txn) rest fits comp = absurd (cc)
 inverse_read (is.Checkpoint low) rest fits comp = absurd (cc)
 
 -- and no other record asks for anything
-asks_nothing : (r : Record) → kind r ≢ 3 → kind r ≢ 5 → request_of r ≡ None
+pub asks_nothing : (r : Record) → kind r ≢ 3 → kind r ≢ 5 → request_of r ≡ None
 asks_nothing (is.Op txn prev o) op comp = absurd (op refl)
 asks_nothing (is.Comp txn undoes next inverse) op comp = absurd (comp refl)
 asks_nothing is.Session op comp = refl

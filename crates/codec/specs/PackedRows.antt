@@ -1,5 +1,5 @@
 -- Rows as their bytes, one row after another.
-use Rattle.std.specs.Prelude.{◌≡◌, ℕ, zero, suc, ◌+◌, List, [], ◌∷◌, get_or, take, drop}
+use Rattle.std.specs.Prelude.{◌≡◌, ℕ, zero, suc, List, [], ◌∷◌, get_or, take, drop}
 use Rattle.std.specs.List.{flat_map, AllByRecursion}
 use Rattle.record_key.specs.Table.{Bytes}
 use Rattle.record_key.specs.Rows.{Row}

@@ -123,6 +123,11 @@ flag_at = one_of ((0, fixed false) ∷ (1, fixed true) ∷ [])
 abbrev pub optional_at : {X : Type 0} → Reader X → Reader (Option X)
 optional_at part bytes = flag_at bytes >>= λ f. if f.0 then mapped (λ x. Some x) part f.1 else Some (None, f.1)
 
+-- the bytes after a flag, where it is set
+abbrev pub bytes_if : List ℕ → Option (List ℕ)
+bytes_if [] = None
+bytes_if (flag ∷ bytes) = if flag == 1 then Some bytes else None
+
 unfoldable pub op_at : Reader Op
 op_at = one_of (
     (1, mapped (λ p. Insert p.0 p.1) row_at)

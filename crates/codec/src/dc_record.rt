@@ -187,15 +187,16 @@ fn put_body(out: &mut Vec<u8>, record: &DcRecordRef<'_>)
     }
 }
 
-fn take_accept(bytes: &[u8]) -> Option<(DcRecord, &[u8])>
-    ensures { Gives (λ x. (x.0, x.1.now)) result (mapped (λ session. DcRecord.Accept session) number_at bytes.now) }
+fn take_accept<'a>(bytes: &'a [u8], record: &mut DcRecord) -> Option<&'a [u8]>
+    ensures { Gives (λ rest. («record».new, rest.now)) result (mapped (λ session. DcRecord.Accept session) number_at bytes.now) }
 {
     let (session, rest) = take_number(bytes)?;
-    Some((DcRecord::Accept { session }, rest))
+    *record = DcRecord::Accept { session };
+    Some(rest)
 }
 
-fn take_split(alloc: Global, bytes: &[u8]) -> Result<(DcRecord, &[u8]), Fault>
-    ensures { Finds (λ x. (x.0, x.1.now)) result
+fn take_split<'a>(alloc: Global, bytes: &'a [u8], record: &mut DcRecord) -> Result<&'a [u8], Fault>
+    ensures { Finds (λ rest. («record».new, rest.now)) result
         (mapped (λ p. DcRecord.Split p.0 p.1.0 p.1.1) (pair number_at (pair key_at image_at)) bytes.now) }
 {
     let Some((left, rest)) = take_number(bytes) else {
@@ -205,11 +206,12 @@ fn take_split(alloc: Global, bytes: &[u8]) -> Result<(DcRecord, &[u8]), Fault>
         return Err(Fault::Outside);
     };
     let (right, rest) = take_image(alloc, rest)?;
-    Ok((DcRecord::Split { left, cut, right }, rest))
+    *record = DcRecord::Split { left, cut, right };
+    Ok(rest)
 }
 
-fn take_merge(alloc: Global, bytes: &[u8]) -> Result<(DcRecord, &[u8]), Fault>
-    ensures { Finds (λ x. (x.0, x.1.now)) result (mapped (λ p. DcRecord.Merge p.0 p.1.0 p.1.1) merge_at bytes.now) }
+fn take_merge<'a>(alloc: Global, bytes: &'a [u8], record: &mut DcRecord) -> Result<&'a [u8], Fault>
+    ensures { Finds (λ rest. («record».new, rest.now)) result (mapped (λ p. DcRecord.Merge p.0 p.1.0 p.1.1) merge_at bytes.now) }
 {
     let Some((left, rest)) = take_number(bytes) else {
         return Err(Fault::Outside);
@@ -219,32 +221,32 @@ fn take_merge(alloc: Global, bytes: &[u8]) -> Result<(DcRecord, &[u8]), Fault>
     };
     let (merged, rest) = take_image(alloc, rest)?;
     if merged.id == left {
-        let merge = DcRecord::Merge {
+        *record = DcRecord::Merge {
             left,
             right,
             merged,
         };
-        Ok((merge, rest))
+        Ok(rest)
     } else {
         Err(Fault::Outside)
     }
 }
 
 #[tactic(auto, unfolding(crate::specs::Reading::dc_record_at))]
-fn take_fields(alloc: Global, bytes: &[u8]) -> Result<(DcRecord, &[u8]), Fault>
-    ensures found { Finds (λ x. (x.0, x.1.now)) result (dc_record_at bytes.now) }
+fn take_fields<'a>(alloc: Global, bytes: &'a [u8], record: &mut DcRecord) -> Result<&'a [u8], Fault>
+    ensures found { Finds (λ rest. («record».new, rest.now)) result (dc_record_at bytes.now) }
     ensures memory { IfRefused result (HasKind 2 bytes.now ⊎ HasKind 3 bytes.now) }
 {
     let Some((kind, rest)) = bytes.split_first() else {
         return Err(Fault::Outside);
     };
     match *kind {
-        1 => match take_accept(rest) {
-            Some(part) => Ok(part),
+        1 => match take_accept(rest, record) {
+            Some(rest) => Ok(rest),
             None => Err(Fault::Outside),
         },
-        2 => take_split(alloc, rest),
-        3 => take_merge(alloc, rest),
+        2 => take_split(alloc, rest, record),
+        3 => take_merge(alloc, rest, record),
         _ => Err(Fault::Outside),
     }
 }
@@ -262,11 +264,14 @@ impl Framed for DcRecord {
 
     type Refused = AllocError;
 
-    fn take_all(memory: Global, body: &[u8]) -> Result<Option<DcRecord>, AllocError> {
-        match take_fields(memory, body) {
-            Ok((record, rest)) if rest.is_empty() => Ok(Some(record)),
-            Ok(_) => Ok(None),
-            Err(Fault::Outside) => Ok(None),
+    fn blank() -> DcRecord {
+        DcRecord::Accept { session: 0 }
+    }
+
+    fn take_all(memory: Global, body: &[u8], record: &mut DcRecord) -> Result<bool, AllocError> {
+        match take_fields(memory, body, record) {
+            Ok(rest) => Ok(rest.is_empty()),
+            Err(Fault::Outside) => Ok(false),
             Err(Fault::Memory) => Err(AllocError),
         }
     }

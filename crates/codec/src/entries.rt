@@ -34,7 +34,9 @@ fn take_entry(bytes: &[u8]) -> Option<(Entry, &[u8])>
 {
     let (number, rest) = take_number(bytes)?;
     let (key, rest) = take_key(rest)?;
-    let (answer, rest) = take_answer(rest)?;
+    let mut answer = None;
+    let rest = take_answer(rest, &mut answer)?;
+    let answer = answer?;
     Some((
         Entry {
             number,

@@ -46,7 +46,7 @@ pub(crate) fn left_at(bytes: &[u8], at: usize) -> &[u8]
 
 /// The body of the frame at a place, where a body has 1 to `limit` bytes.
 #[tactic(auto, unfolding(crate::specs::Reading::frame_at, crate::specs::Fields::first_number))]
-fn take_body(bytes: &[u8], at: usize, limit: u64) -> Taken<&[u8]>
+pub(crate) fn take_body(bytes: &[u8], at: usize, limit: u64) -> Taken<&[u8]>
     ensures { seen (λ body. body.now) result ≡ frame_at limit at (drop at bytes.now) }
 {
     let left = left_at(bytes, at);
@@ -77,11 +77,14 @@ pub(crate) fn take_framed<T: Framed>(
     ensures cause { IfErr result (λ _. IsFrameOf limit T.takes_memory (drop at bytes.now)) }
 {
     match take_body(bytes, at, limit) {
-        Taken::Record(body, next) => match T::take_all(memory, body) {
-            Ok(Some(value)) => Ok(Taken::Record(value, next)),
-            Ok(None) => Ok(Taken::Bad(at as u64)),
-            Err(refused) => Err(refused),
-        },
+        Taken::Record(body, next) => {
+            let mut value = T::blank();
+            match T::take_all(memory, body, &mut value) {
+                Ok(true) => Ok(Taken::Record(value, next)),
+                Ok(false) => Ok(Taken::Bad(at as u64)),
+                Err(refused) => Err(refused),
+            }
+        }
         Taken::Short => Ok(Taken::Short),
         Taken::Bad(place) => Ok(Taken::Bad(place)),
     }

@@ -1,5 +1,5 @@
 //! What the values of frames have in common.
-ghost use Rattle.std.specs.Prelude.{◌≡◌, ℕ, List, IfOk, IfErr};
+ghost use Rattle.std.specs.Prelude.{◌≡◌, ℕ, List, IfOk, IfErr, Some, None, if◌then◌else◌};
 ghost use Rattle.codec.specs.Reading.{Reader, all_of};
 
 /// A value that a frame's body spells.
@@ -16,8 +16,12 @@ pub(crate) trait Framed: Drop {
     /// Why it wasn't read: memory was refused. `Infallible` where none is taken.
     type Refused: Drop;
 
-    /// The value that all of a body spells.
-    fn take_all(memory: Self::Memory, body: &[u8]) -> Result<Option<Self>, Self::Refused>
-        ensures value { IfOk result (λ read. read ≡ all_of read_at body.now) }
+    /// Some value, for the one that is read to be put in its place.
+    fn blank() -> Self;
+
+    /// Puts the value that all of a body spells in place of another and tells whether there is one. Where there is none,
+    /// what stands there is not said. A value is put in its place, since each hand-over of a large one is a copy.
+    fn take_all(memory: Self::Memory, body: &[u8], value: &mut Self) -> Result<bool, Self::Refused>
+        ensures value { IfOk result (λ is_there. all_of read_at body.now ≡ (if is_there then Some value.new else None)) }
         ensures cause { IfErr result (λ _. takes_memory body.now) };
 }

@@ -22,6 +22,7 @@ mod request;
 mod row_list;
 mod row_reader;
 mod rows;
+mod spelled_op;
 mod taken;
 mod writing;
 
@@ -38,4 +39,5 @@ pub use request::{Request, put_request, request_spelling_law, take_request};
 pub use row_list::RowList;
 pub use row_reader::RowReader;
 pub use rows::Rows;
+pub use spelled_op::{asked_bytes, put_perform};
 pub use taken::Taken;

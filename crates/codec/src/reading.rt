@@ -1,5 +1,6 @@
-//! The readers of a frame's parts. Each gives the value at the front and the bytes after it.
-ghost use Rattle.codec.specs.Reading.{Gives, number_at, count_at, bytes_at, key_at, value_at, row_at, flag_at, optional_at, op_at, answer_at};
+//! The readers of a frame's parts. Each gives the value at the front and the bytes after it. A large value is put in its
+//! place instead, since each hand-over of one is a copy.
+ghost use Rattle.codec.specs.Reading.{Gives, mapped, number_at, count_at, bytes_at, key_at, value_at, row_at, flag_at, optional_at, op_at, answer_at};
 
 use byteorder::{BigEndian, ByteOrder};
 use record_key::{Answer, Key, Op, Value};
@@ -71,31 +72,36 @@ pub(crate) fn take_row(bytes: &[u8]) -> Option<((Key, Value), &[u8])>
 }
 
 #[tactic(auto, unfolding(crate::specs::Reading::op_at))]
-pub(crate) fn take_op(bytes: &[u8]) -> Option<(Op, &[u8])>
-    ensures { Gives (λ x. (x.0, x.1.now)) result (op_at bytes.now) }
+pub(crate) fn take_op<'a>(bytes: &'a [u8], op: &mut Option<Op>) -> Option<&'a [u8]>
+    ensures { Gives (λ rest. (op.new, rest.now)) result (mapped (λ op. Some op) op_at bytes.now) }
 {
     let (kind, rest) = bytes.split_first()?;
     match *kind {
         1 => {
             let ((key, value), rest) = take_row(rest)?;
-            Some((Op::Insert(key, value), rest))
+            *op = Some(Op::Insert(key, value));
+            Some(rest)
         }
         2 => {
             let ((key, value), rest) = take_row(rest)?;
-            Some((Op::Update(key, value), rest))
+            *op = Some(Op::Update(key, value));
+            Some(rest)
         }
         3 => {
             let ((key, value), rest) = take_row(rest)?;
-            Some((Op::Upsert(key, value), rest))
+            *op = Some(Op::Upsert(key, value));
+            Some(rest)
         }
         4 => {
             let (key, rest) = take_key(rest)?;
-            Some((Op::Delete(key), rest))
+            *op = Some(Op::Delete(key));
+            Some(rest)
         }
         5 => {
             let (key, rest) = take_key(rest)?;
             let (amount, rest) = take_count(rest)?;
-            Some((Op::Add(key, amount), rest))
+            *op = Some(Op::Add(key, amount));
+            Some(rest)
         }
         _ => None,
     }
@@ -124,57 +130,79 @@ pub(crate) fn take_optional_key(bytes: &[u8]) -> Option<(Option<Key>, &[u8])>
     Some((Some(key), rest))
 }
 
-pub(crate) fn take_optional_op(bytes: &[u8]) -> Option<(Option<Op>, &[u8])>
-    ensures { Gives (λ x. (x.0, x.1.now)) result (optional_at op_at bytes.now) }
+pub(crate) fn take_optional_op<'a>(bytes: &'a [u8], op: &mut Option<Op>) -> Option<&'a [u8]>
+    ensures { Gives (λ rest. (op.new, rest.now)) result (optional_at op_at bytes.now) }
 {
     let (is_there, rest) = take_flag(bytes)?;
     if !is_there {
-        return Some((None, rest));
+        *op = None;
+        return Some(rest);
     }
-    let (op, rest) = take_op(rest)?;
-    Some((Some(op), rest))
+    take_op(rest, op)
 }
 
 #[tactic(auto, unfolding(crate::specs::Reading::answer_at))]
-pub(crate) fn take_answer(bytes: &[u8]) -> Option<(Answer, &[u8])>
-    ensures { Gives (λ x. (x.0, x.1.now)) result (answer_at bytes.now) }
+pub(crate) fn take_answer<'a>(bytes: &'a [u8], answer: &mut Option<Answer>) -> Option<&'a [u8]>
+    ensures { Gives (λ rest. (answer.new, rest.now)) result (mapped (λ answer. Some answer) answer_at bytes.now) }
 {
     let (kind, rest) = bytes.split_first()?;
     match *kind {
-        1 => Some((Answer::Inserted, rest)),
+        1 => {
+            *answer = Some(Answer::Inserted);
+            Some(rest)
+        }
         2 => {
             let (value, rest) = take_value(rest)?;
-            Some((Answer::Updated(value), rest))
+            *answer = Some(Answer::Updated(value));
+            Some(rest)
         }
-        3 => Some((Answer::Was(None), rest)),
+        3 => {
+            *answer = Some(Answer::Was(None));
+            Some(rest)
+        }
         4 => {
             let (value, rest) = take_value(rest)?;
-            Some((Answer::Was(Some(value)), rest))
+            *answer = Some(Answer::Was(Some(value)));
+            Some(rest)
         }
         5 => {
             let (value, rest) = take_value(rest)?;
-            Some((Answer::Deleted(value), rest))
+            *answer = Some(Answer::Deleted(value));
+            Some(rest)
         }
-        6 => Some((Answer::Exists, rest)),
-        7 => Some((Answer::NoRecord, rest)),
-        8 => Some((Answer::NotNumber, rest)),
+        6 => {
+            *answer = Some(Answer::Exists);
+            Some(rest)
+        }
+        7 => {
+            *answer = Some(Answer::NoRecord);
+            Some(rest)
+        }
+        8 => {
+            *answer = Some(Answer::NotNumber);
+            Some(rest)
+        }
         9 => {
             let (amount, rest) = take_count(rest)?;
-            Some((Answer::Added(amount), rest))
+            *answer = Some(Answer::Added(amount));
+            Some(rest)
         }
         _ => None,
     }
 }
 
-pub(crate) fn take_optional_answer(bytes: &[u8]) -> Option<(Option<Answer>, &[u8])>
-    ensures { Gives (λ x. (x.0, x.1.now)) result (optional_at answer_at bytes.now) }
+pub(crate) fn take_optional_answer<'a>(
+    bytes: &'a [u8],
+    answer: &mut Option<Answer>,
+) -> Option<&'a [u8]>
+    ensures { Gives (λ rest. (answer.new, rest.now)) result (optional_at answer_at bytes.now) }
 {
     let (is_there, rest) = take_flag(bytes)?;
     if !is_there {
-        return Some((None, rest));
+        *answer = None;
+        return Some(rest);
     }
-    let (answer, rest) = take_answer(rest)?;
-    Some((Some(answer), rest))
+    take_answer(rest, answer)
 }
 
 pub(crate) fn take_optional_value(bytes: &[u8]) -> Option<(Option<Value>, &[u8])>

@@ -71,12 +71,18 @@ pub fn asked_op(bytes: &[u8], at: usize) -> Option<Op>
         → result ≡ request_of r }
 {
     let (kind, rest) = kind_at(bytes, at)?;
+    let mut op = None;
     // Two numbers stand before an Op's operation, three before a Comp's inverse.
     match kind {
-        3 => Some(take_op(left_at(rest, 16))?.0),
-        5 => take_optional_op(left_at(rest, 24))?.0,
-        _ => None,
+        3 => {
+            take_op(left_at(rest, 16), &mut op)?;
+        }
+        5 => {
+            take_optional_op(left_at(rest, 24), &mut op)?;
+        }
+        _ => {}
     }
+    op
 }
 
 /// What is left to undo from the record whose frame begins at a place, where it has this number: the number of an Op,
@@ -165,56 +171,72 @@ fn put_body(out: &mut Vec<u8>, record: &Record)
 }
 
 /// The longest body of a record, in bytes: a Comp whose inverse has a key and a value of the greatest lengths.
-const RECORD_LIMIT: u64 = 181;
+pub(crate) const RECORD_LIMIT: u64 = 181;
 
-fn take_comp(bytes: &[u8]) -> Option<(Record, &[u8])>
-    ensures { Gives (λ x. (x.0, x.1.now)) result (mapped (λ p. Record.Comp p.0 p.1.0 p.1.1.0 p.1.1.1)
+fn take_comp<'a>(bytes: &'a [u8], record: &mut Record) -> Option<&'a [u8]>
+    ensures { Gives (λ rest. («record».new, rest.now)) result (mapped (λ p. Record.Comp p.0 p.1.0 p.1.1.0 p.1.1.1)
         (pair number_at (pair number_at (pair number_at (optional_at op_at)))) bytes.now) }
 {
     let (txn, rest) = take_number(bytes)?;
     let (undoes, rest) = take_number(rest)?;
     let (next, rest) = take_number(rest)?;
-    let (inverse, rest) = take_optional_op(rest)?;
-    let comp = Record::Comp {
+    let mut inverse = None;
+    let rest = take_optional_op(rest, &mut inverse)?;
+    *record = Record::Comp {
         txn,
         undoes,
         next,
         inverse,
     };
-    Some((comp, rest))
+    Some(rest)
 }
 
 #[tactic(auto, unfolding(crate::specs::Reading::record_at))]
-fn take_fields(bytes: &[u8]) -> Option<(Record, &[u8])>
-    ensures { Gives (λ x. (x.0, x.1.now)) result (record_at bytes.now) }
+fn take_fields<'a>(bytes: &'a [u8], record: &mut Record) -> Option<&'a [u8]>
+    ensures { Gives (λ rest. («record».new, rest.now)) result (record_at bytes.now) }
 {
     let (kind, rest) = bytes.split_first()?;
     match *kind {
-        1 => Some((Record::Session, rest)),
-        2 => Some((Record::Begin, rest)),
+        1 => {
+            *record = Record::Session;
+            Some(rest)
+        }
+        2 => {
+            *record = Record::Begin;
+            Some(rest)
+        }
         3 => {
             let (txn, rest) = take_number(rest)?;
             let (prev, rest) = take_number(rest)?;
-            let (op, rest) = take_op(rest)?;
-            Some((Record::Op { txn, prev, op }, rest))
+            let mut op = None;
+            let rest = take_op(rest, &mut op)?;
+            let op = op?;
+            *record = Record::Op { txn, prev, op };
+            Some(rest)
         }
         4 => {
             let (of, rest) = take_number(rest)?;
-            let (answer, rest) = take_answer(rest)?;
-            Some((Record::Answer { of, answer }, rest))
+            let mut answer = None;
+            let rest = take_answer(rest, &mut answer)?;
+            let answer = answer?;
+            *record = Record::Answer { of, answer };
+            Some(rest)
         }
-        5 => take_comp(rest),
+        5 => take_comp(rest, record),
         6 => {
             let (txn, rest) = take_number(rest)?;
-            Some((Record::Commit { txn }, rest))
+            *record = Record::Commit { txn };
+            Some(rest)
         }
         7 => {
             let (txn, rest) = take_number(rest)?;
-            Some((Record::End { txn }, rest))
+            *record = Record::End { txn };
+            Some(rest)
         }
         8 => {
             let (low, rest) = take_number(rest)?;
-            Some((Record::Checkpoint { low }, rest))
+            *record = Record::Checkpoint { low };
+            Some(rest)
         }
         _ => None,
     }
@@ -231,10 +253,14 @@ impl Framed for Record {
 
     type Refused = Infallible;
 
-    fn take_all(_memory: (), body: &[u8]) -> Result<Option<Record>, Infallible> {
-        match take_fields(body) {
-            Some((record, rest)) if rest.is_empty() => Ok(Some(record)),
-            _ => Ok(None),
+    fn blank() -> Record {
+        Record::Session
+    }
+
+    fn take_all(_memory: (), body: &[u8], record: &mut Record) -> Result<bool, Infallible> {
+        match take_fields(body, record) {
+            Some(rest) => Ok(rest.is_empty()),
+            None => Ok(false),
         }
     }
 }

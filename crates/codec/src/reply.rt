@@ -182,53 +182,55 @@ fn put_body(out: &mut Vec<u8>, reply: &Reply)
 /// The kind of a reply that has rows.
 const ROWS: u8 = 0x14;
 
-fn take_answered(bytes: &[u8]) -> Option<(Reply, &[u8])>
-    ensures { Gives (λ x. (x.0, x.1.now)) result (mapped (λ p. Reply.Answered p.0 p.1.0 p.1.1)
+fn take_answered<'a>(bytes: &'a [u8], reply: &mut Reply) -> Option<&'a [u8]>
+    ensures { Gives (λ rest. (reply.new, rest.now)) result (mapped (λ p. Reply.Answered p.0 p.1.0 p.1.1)
         (pair number_at (pair number_at (optional_at answer_at))) bytes.now) }
 {
     let (session, rest) = take_number(bytes)?;
     let (number, rest) = take_number(rest)?;
-    let (answer, rest) = take_optional_answer(rest)?;
-    let answered = Reply::Answered {
+    let mut answer = None;
+    let rest = take_optional_answer(rest, &mut answer)?;
+    *reply = Reply::Answered {
         session,
         number,
         answer,
     };
-    Some((answered, rest))
+    Some(rest)
 }
 
 /// The fields of a kind that takes no memory.
-fn take_plain(kind: u8, bytes: &[u8]) -> Option<(Reply, &[u8])>
+fn take_plain<'a>(kind: u8, bytes: &'a [u8], reply: &mut Reply) -> Option<&'a [u8]>
     requires { kind ≢ 20 }
-    ensures { Gives (λ x. (x.0, x.1.now)) result (choose reply_choices kind bytes.now) }
+    ensures { Gives (λ rest. (reply.new, rest.now)) result (choose reply_choices kind bytes.now) }
 {
     match kind {
         0x11 => {
             let (session, rest) = take_number(bytes)?;
-            Some((Reply::Connected { session }, rest))
+            *reply = Reply::Connected { session };
+            Some(rest)
         }
-        0x12 => take_answered(bytes),
+        0x12 => take_answered(bytes, reply),
         0x13 => {
             let (session, rest) = take_number(bytes)?;
             let (read, rest) = take_number(rest)?;
             let (value, rest) = take_optional_value(rest)?;
-            Some((
-                Reply::Row {
-                    session,
-                    read,
-                    value,
-                },
-                rest,
-            ))
+            *reply = Reply::Row {
+                session,
+                read,
+                value,
+            };
+            Some(rest)
         }
         0x15 => {
             let (session, rest) = take_number(bytes)?;
             let (low, rest) = take_number(rest)?;
-            Some((Reply::Checkpointed { session, low }, rest))
+            *reply = Reply::Checkpointed { session, low };
+            Some(rest)
         }
         0x16 => {
             let (session, rest) = take_number(bytes)?;
-            Some((Reply::RedoEnded { session }, rest))
+            *reply = Reply::RedoEnded { session };
+            Some(rest)
         }
         _ => None,
     }
@@ -251,16 +253,16 @@ pub fn reply_spelling_law()
 {}
 
 #[tactic(auto, unfolding(crate::specs::Reading::reply_at))]
-fn take_fields(alloc: Global, bytes: &[u8]) -> Result<(Reply, &[u8]), Fault>
-    ensures found { Finds (λ x. (x.0, x.1.now)) result (reply_at bytes.now) }
+fn take_fields<'a>(alloc: Global, bytes: &'a [u8], reply: &mut Reply) -> Result<&'a [u8], Fault>
+    ensures found { Finds (λ rest. (reply.new, rest.now)) result (reply_at bytes.now) }
     ensures memory { IfRefused result (HasKind 20 bytes.now) }
 {
     let Some((kind, rest)) = bytes.split_first() else {
         return Err(Fault::Outside);
     };
     if *kind != ROWS {
-        return match take_plain(*kind, rest) {
-            Some(part) => Ok(part),
+        return match take_plain(*kind, rest, reply) {
+            Some(rest) => Ok(rest),
             None => Err(Fault::Outside),
         };
     }
@@ -268,14 +270,12 @@ fn take_fields(alloc: Global, bytes: &[u8]) -> Result<(Reply, &[u8]), Fault>
         return Err(Fault::Outside);
     };
     let (rows, rest) = take_rows(alloc, rest)?;
-    Ok((
-        Reply::Rows {
-            session,
-            read,
-            rows,
-        },
-        rest,
-    ))
+    *reply = Reply::Rows {
+        session,
+        read,
+        rows,
+    };
+    Ok(rest)
 }
 
 impl Framed for Reply {
@@ -290,11 +290,14 @@ impl Framed for Reply {
 
     type Refused = AllocError;
 
-    fn take_all(memory: Global, body: &[u8]) -> Result<Option<Reply>, AllocError> {
-        match take_fields(memory, body) {
-            Ok((reply, rest)) if rest.is_empty() => Ok(Some(reply)),
-            Ok(_) => Ok(None),
-            Err(Fault::Outside) => Ok(None),
+    fn blank() -> Reply {
+        Reply::RedoEnded { session: 0 }
+    }
+
+    fn take_all(memory: Global, body: &[u8], reply: &mut Reply) -> Result<bool, AllocError> {
+        match take_fields(memory, body, reply) {
+            Ok(rest) => Ok(rest.is_empty()),
+            Err(Fault::Outside) => Ok(false),
             Err(Fault::Memory) => Err(AllocError),
         }
     }

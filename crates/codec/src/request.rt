@@ -159,78 +159,86 @@ fn put_body(out: &mut Vec<u8>, request: &Request)
     }
 }
 
-fn take_perform(bytes: &[u8]) -> Option<(Request, &[u8])>
-    ensures { Gives (λ x. (x.0, x.1.now)) result
+fn take_perform<'a>(bytes: &'a [u8], request: &mut Request) -> Option<&'a [u8]>
+    ensures { Gives (λ rest. (request.new, rest.now)) result
         (mapped (λ p. Request.Perform p.0 p.1.0 p.1.1.0 p.1.1.1)
         (pair number_at (pair number_at (pair number_at op_at))) bytes.now) }
 {
     let (session, rest) = take_number(bytes)?;
     let (number, rest) = take_number(rest)?;
     let (stable, rest) = take_number(rest)?;
-    let (op, rest) = take_op(rest)?;
-    let perform = Request::Perform {
+    let mut op = None;
+    let rest = take_op(rest, &mut op)?;
+    let op = op?;
+    *request = Request::Perform {
         session,
         number,
         stable,
         op,
     };
-    Some((perform, rest))
+    Some(rest)
 }
 
-fn take_scan(bytes: &[u8]) -> Option<(Request, &[u8])>
-    ensures { Gives (λ x. (x.0, x.1.now)) result (mapped (λ p. Request.Scan p.0 p.1.0 p.1.1.0 p.1.1.1)
+fn take_scan<'a>(bytes: &'a [u8], request: &mut Request) -> Option<&'a [u8]>
+    ensures { Gives (λ rest. (request.new, rest.now)) result (mapped (λ p. Request.Scan p.0 p.1.0 p.1.1.0 p.1.1.1)
         (pair number_at (pair number_at (pair key_at (optional_at key_at)))) bytes.now) }
 {
     let (session, rest) = take_number(bytes)?;
     let (read, rest) = take_number(rest)?;
     let (low, rest) = take_key(rest)?;
     let (high, rest) = take_optional_key(rest)?;
-    let scan = Request::Scan {
+    *request = Request::Scan {
         session,
         read,
         low,
         high,
     };
-    Some((scan, rest))
+    Some(rest)
 }
 
 #[tactic(auto, unfolding(crate::specs::Reading::request_at))]
-fn take_fields(bytes: &[u8]) -> Option<(Request, &[u8])>
-    ensures { Gives (λ x. (x.0, x.1.now)) result (request_at bytes.now) }
+fn take_fields<'a>(bytes: &'a [u8], request: &mut Request) -> Option<&'a [u8]>
+    ensures { Gives (λ rest. (request.new, rest.now)) result (request_at bytes.now) }
 {
     let (kind, rest) = bytes.split_first()?;
     match *kind {
         1 => {
             let (session, rest) = take_number(rest)?;
             let (end, rest) = take_number(rest)?;
-            Some((Request::Connect { session, end }, rest))
+            *request = Request::Connect { session, end };
+            Some(rest)
         }
-        2 => take_perform(rest),
+        2 => take_perform(rest, request),
         3 => {
             let (session, rest) = take_number(rest)?;
             let (read, rest) = take_number(rest)?;
             let (key, rest) = take_key(rest)?;
-            Some((Request::Get { session, read, key }, rest))
+            *request = Request::Get { session, read, key };
+            Some(rest)
         }
-        4 => take_scan(rest),
+        4 => take_scan(rest, request),
         5 => {
             let (session, rest) = take_number(rest)?;
             let (low, rest) = take_number(rest)?;
-            Some((Request::LowWater { session, low }, rest))
+            *request = Request::LowWater { session, low };
+            Some(rest)
         }
         6 => {
             let (session, rest) = take_number(rest)?;
             let (low, rest) = take_number(rest)?;
-            Some((Request::Checkpoint { session, low }, rest))
+            *request = Request::Checkpoint { session, low };
+            Some(rest)
         }
         7 => {
             let (session, rest) = take_number(rest)?;
-            Some((Request::RedoEnd { session }, rest))
+            *request = Request::RedoEnd { session };
+            Some(rest)
         }
         8 => {
             let (session, rest) = take_number(rest)?;
             let (stable, rest) = take_number(rest)?;
-            Some((Request::StableEnd { session, stable }, rest))
+            *request = Request::StableEnd { session, stable };
+            Some(rest)
         }
         _ => None,
     }
@@ -247,10 +255,14 @@ impl Framed for Request {
 
     type Refused = Infallible;
 
-    fn take_all(_memory: (), body: &[u8]) -> Result<Option<Request>, Infallible> {
-        match take_fields(body) {
-            Some((request, rest)) if rest.is_empty() => Ok(Some(request)),
-            _ => Ok(None),
+    fn blank() -> Request {
+        Request::RedoEnd { session: 0 }
+    }
+
+    fn take_all(_memory: (), body: &[u8], request: &mut Request) -> Result<bool, Infallible> {
+        match take_fields(body, request) {
+            Some(rest) => Ok(rest.is_empty()),
+            None => Ok(false),
         }
     }
 }

@@ -1,5 +1,6 @@
 pub mod Analysing
 pub mod Answered
+pub mod Asked
 pub mod Checkpointed
 pub mod Checks
 pub mod Crashed

@@ -1,12 +1,15 @@
 -- A log as bytes: the frames of its records one after another.
-use Rattle.std.specs.Prelude.{◌≡◌, ℕ, ◌-◌, ◌<◌, ◌≤◌, get_or, List, [], ◌∷◌, ◌++◌, length, map, reverse, drop}
+use Rattle.std.specs.Prelude.{◌≡◌, ℕ, ◌-◌, ◌<◌, ◌≤◌, get_or, List, [], ◌∷◌, ◌++◌, length, map, reverse, drop, Some}
 use Rattle.std.specs.List.{AllByRecursion}
+use Rattle.record_key.specs.declared.op.Op.{Op}
+use Rattle.codec.specs.Fields.{op_bytes, IsOp}
 use Rattle.codec.specs.FrameIndex.{places_of}
 use Rattle.codec.specs.Frames.{frame, IsThere}
 use Rattle.codec.specs.Records.{record_bytes, IsRecord}
 use Rattle.codec.specs.Reading.{record_at, frame_at, within}
 use Rattle.codec.specs.declared.taken.Taken.{Taken}
 use Rattle.codec.specs.declared.taken.Taken.TheVariants as took
+use Rattle.history.specs.Log.{record_at as record_numbered, request_in}
 use Rattle.history.specs.declared.record.Record.{Record}
 use Rattle.history.specs.declared.record.Record.TheVariants as is
 
@@ -25,6 +28,14 @@ pub record IsPlaceOf (begins : List ℕ) (n place : ℕ) : Type 0 where
   pub positive : 0 < n
   pub bounded : n ≤ length begins
   pub at : place ≡ get_or begins (n - 1) place
+
+-- what the record of this number asks for has a spelling, and these bytes are it
+pub record IsAskedBy (log : List Record) (n : ℕ) (bytes : List ℕ) : Type 0 where
+  pub op : Op
+  pub asked : request_in (record_numbered log n) ≡ Some op
+  pub fits : IsOp op
+  pub spelled : bytes ≡ op_bytes op
+  pub short : length bytes ≤ 164
 
 -- each record has a spelling
 abbrev pub AreRecords : List Record → Type 0

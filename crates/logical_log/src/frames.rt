@@ -14,11 +14,11 @@ ghost use Rattle.stable.specs.Usage.{is_due, called, failed, failing_in};
 ghost use Rattle.logical_log.specs.Kept.{with_record, with_usage};
 ghost use Rattle.logical_log.specs.LogView.{refused_use};
 ghost use Rattle.logical_log.specs.Low.{stable_part};
-ghost use Rattle.logical_log.specs.Spelled.{spelled, AreRecords, IsNext, IsPlaceOf};
+ghost use Rattle.logical_log.specs.Spelled.{spelled, AreRecords, IsAskedBy, IsNext, IsPlaceOf};
 
 use crate::note::{ASKS_NOTHING, answer_held, answer_place, note};
 use crate::write::{refusal_of, write};
-use codec::{FrameIndex, Taken, asked_op, left_to_undo, step_txn, take_record};
+use codec::{FrameIndex, Taken, asked_bytes, asked_op, left_to_undo, step_txn, take_record};
 use history::Record;
 use record_key::{Answer, Op, Refusal};
 use stable::{CrashLog, LogDevice};
@@ -137,6 +137,15 @@ impl<D: LogDevice> Frames<D> {
     {
         let place = place_of(&self.index, self.device.held(), number)?;
         asked_op(self.device.held(), place)
+    }
+
+    /// The bytes that spell it.
+    pub(crate) fn asked_bytes(&self, number: u64) -> Option<&[u8]>
+        ensures asked { IfSome result (λ asked. IsAskedBy self.now.records number asked.now) }
+        ensures none { IfNone result (request_in (record_at self.now.records number) ≡ None) }
+    {
+        let place = place_of(&self.index, self.device.held(), number)?;
+        asked_bytes(self.device.held(), place)
     }
 
     /// What is left to undo from the record of this number on, told without reading the whole record: the record where it

@@ -1,5 +1,5 @@
 //! The log and what is read of it.
-ghost use Rattle.std.specs.Prelude.{true, ◌≡◌, ◌≤◌, ◌<◌, ◌^◌, ◌++◌, [], length, is_some};
+ghost use Rattle.std.specs.Prelude.{true, ◌≡◌, ◌≤◌, ◌<◌, ◌^◌, ◌++◌, [], length, is_some, None, IfSome, IfNone};
 ghost use Rattle.history.specs.Log.{record_at, answer_of, request_in, step_in};
 ghost use Rattle.history.specs.Legal.{IsLegal, FitsCheckpoint, IsLatest};
 ghost use Rattle.history.specs.Chains.{undo_from};
@@ -8,7 +8,7 @@ ghost use Rattle.stable.specs.Usage.{failing_in};
 ghost use Rattle.logical_log.specs.Index.{lacks_answer};
 ghost use Rattle.logical_log.specs.LogView.{last_not_session};
 ghost use Rattle.logical_log.specs.Low.{stable_part, IsGreatestLow};
-ghost use Rattle.logical_log.specs.Spelled.{spelled, AreRecords};
+ghost use Rattle.logical_log.specs.Spelled.{spelled, AreRecords, IsAskedBy};
 
 use crate::frames::Frames;
 use history::Record;
@@ -134,6 +134,14 @@ impl<D: LogDevice> Log<D> {
         ensures { result ≡ request_in (record_at self.now.records number) }
     {
         self.frames.asked_op(number)
+    }
+
+    /// The bytes that spell it, where they stand. Takes no memory and makes no device call.
+    pub fn asked_bytes(&self, number: u64) -> Option<&[u8]>
+        ensures asked { IfSome result (λ asked. IsAskedBy self.now.records number asked.now) }
+        ensures none { IfNone result (request_in (record_at self.now.records number) ≡ None) }
+    {
+        self.frames.asked_bytes(number)
     }
 
     /// The record of this number asks for something. Takes no memory, reads no record and makes no device call.

@@ -35,12 +35,6 @@ IsWrongIn log (no.Refused r) = r ≡ NoMemory
 IsWrongIn log (no.Checkpoint n) = (low : ℕ) × IsFirst log n (is.Checkpoint low)
 IsWrongIn log (no.WrongAnswer n) = IsWrong log n
 
--- the bytes spell a log that is fit
-pub record IsFitToRebuild (bytes : List ℕ) : Type 0 where
-  pub log : List Record
-  pub spelled : IsLogOf bytes log
-  pub fit : IsFit log
-
 -- the bytes spell a log that isn't taken for this
 pub record IsWrongOn (bytes : List ℕ) (why : Cause) : Type 0 where
   pub log : List Record

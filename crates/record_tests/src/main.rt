@@ -8,6 +8,7 @@
 #![tactic(auto)]
 
 mod abstract_lsns;
+mod asked;
 mod calls;
 mod dc_records;
 mod images;

@@ -1,6 +1,7 @@
 //! Records of the transaction log.
 ghost use Rattle.codec.specs.Records.{HasNumbers};
 
+use crate::asked::compare_asked;
 use crate::walking::{Found, Reading};
 use crate::written::{marked, told, unwritten};
 use codec::{Taken, put_record, take_record};
@@ -14,6 +15,7 @@ pub fn read(reading: &Reading<'_>, answer: &mut String) -> Result<Found, Refusal
             let out = written(reading, &found)?;
             if reading.tells {
                 test_lines::put_record(answer, &found)?;
+                compare_asked(reading, &found, answer)?;
             }
             told(reading, next, &out, answer)
         }

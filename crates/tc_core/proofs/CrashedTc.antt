@@ -6,7 +6,7 @@ use Rattle.std.proofs.lemmas.List.{length-drop}
 use Rattle.history.specs.declared.record.Record.{Record}
 use Rattle.history.specs.declared.record.Record.TheVariants as is
 use Rattle.log_laws.proofs.Checking.{latest_unique}
-use Rattle.stable.specs.Usage.{Usage, called_often}
+use Rattle.stable.specs.Usage.{Usage, called, called_often}
 use Rattle.logical_log.specs.Low.{stable_part}
 use Rattle.logical_log.specs.Spelled.{spelled}
 use Rattle.logical_log.proofs.Crashed.{opens_once}
@@ -18,7 +18,7 @@ use Rattle.tc_core.specs.Opening.{opened}
 use Rattle.tc_core.specs.Opened.{checkpointed_in, UsedByOpening, CrashedIsKept, OpensAgain, SameAreLost}
 use Rattle.tc_core.specs.TcView.{TcView}
 use Rattle.tc_core.proofs.Losers.{same_listed}
-use Rattle.tc_core.proofs.OpenedLog.{checkpoints_found, opened_kept}
+use Rattle.tc_core.proofs.OpenedLog.{checkpoints_found, opened_kept, called_more}
 
 -- what is checkpointed is what the log says
 is_checkpointed : (w : TcView) → IsTc w → w.checkpointed ≡ checkpointed_in w.log
@@ -52,9 +52,9 @@ crashed_kept w n k within = (
 
 -- ---- what bytes are opened as
 
-used_to_open : (cut : Bool) (old new : Usage) → new ≡ called_often (1 + (if cut then 1 else 0)) old → UsedByOpening old new
-used_to_open true old new h = inr h
-used_to_open false old new h = inl h
+used_to_open : (cut : Bool) (old new : Usage) → new ≡ called_often (if cut then 1 else 0) (called old) → UsedByOpening old new
+used_to_open true old new h = inr (h ∙ called_more 1 old)
+used_to_open false old new h = inl (h ∙ called_more 0 old)
 
 pub opens_again : OpensAgain
 opens_again bytes log usage w is o k =

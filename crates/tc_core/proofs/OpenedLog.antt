@@ -1,8 +1,10 @@
 -- What a log opens as is a transaction component, and one that may be opened on the log's bytes.
-use Rattle.std.proofs.Common.{◌≡◌, ℕ, ◌+◌, ◌-◌, List, [], ◌∷◌, refl, subst, arith, inr}
+use Rattle.std.proofs.Common.{◌≡◌, ℕ, ◌+◌, ◌-◌, List, [], ◌∷◌, refl, sym, ap, subst, arith, inr}
 use Rattle.history.specs.declared.record.Record.{Record}
 use Rattle.history.specs.Legal.{IsLatestOrNone}
+use Rattle.stable.specs.Usage.{Usage, called, called_often}
 use Rattle.logical_log.specs.Checkpointed.{IsCheckpointed}
+use Rattle.logical_log.specs.Opening.{cut_calls}
 use Rattle.logical_log.proofs.Checkpointed.{raised_more}
 use Rattle.tc_core.specs.Kept.{IsTc}
 use Rattle.tc_core.specs.Opening.{opened}
@@ -24,5 +26,16 @@ opened_kept log usage legal few =
     refl
     (record { low = checkpointed_in log; greatest = checkpoints_found log; start_is = refl }) (locks_open log))
 
+-- one call, and then so many more
+pub called_more : (n : ℕ) (u : Usage) → called_often n (called u) ≡ called_often (1 + n) u
+called_more n u =
+    let same : (u.calls + 1) + n ≡ u.calls + (1 + n) = omega arith in
+    ap (λ (calls : ℕ). record u { calls = calls }) same
+
 pub opened_opened : OpenedIsOpened
-opened_opened bytes log usage is = record { log = is; losers = refl; used = refl; is = refl }
+opened_opened bytes log usage is = record {
+  log = is;
+  losers = refl;
+  used = sym (called_more (cut_calls bytes log) usage);
+  is = refl;
+}

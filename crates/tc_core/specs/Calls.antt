@@ -1,5 +1,5 @@
 -- What each call gives, and what it leaves: one definition for each, the contract of the call.
-use Rattle.std.specs.Prelude.{◌≡◌, ◌⊎◌, ℕ, ◌+◌, ◌-◌, ◌<◌, ◌≤◌, false, true, IsTrue, Option, Some, None, Result, Ok, Err, length, slice_get}
+use Rattle.std.specs.Prelude.{◌≡◌, ◌⊎◌, ℕ, ◌+◌, ◌-◌, ◌<◌, ◌≤◌, false, true, IsTrue, List, Option, Some, None, Result, Ok, Err, length, slice_get}
 use Rattle.record_key.specs.declared.op.Op.{Op}
 use Rattle.record_key.specs.declared.refusal.Refusal.{Refusal}
 use Rattle.record_key.specs.declared.refusal.Refusal.TheVariants.{Device}
@@ -19,6 +19,7 @@ use Rattle.tc_core.specs.declared.told.Forced.{Forced}
 use Rattle.tc_core.specs.declared.told.UndoStep.{UndoStep}
 use Rattle.tc_core.specs.declared.told.UndoStep.TheVariants as step
 use Rattle.logical_log.specs.LogView.{spent_refusal, last_not_session}
+use Rattle.logical_log.specs.Spelled.{IsAskedBy}
 use Rattle.tc_core.specs.OpenTxns.{find}
 use Rattle.tc_core.specs.TcView.{TcView, is_serving, failed}
 use Rattle.tc_core.specs.Refusing.{Refuses}
@@ -173,6 +174,11 @@ IsRequestOf w t request = IsOpRequest w t request ⊎ IsReadRequest w t request
 abbrev pub ResendGives : TcView → ℕ → Result Request Refusal → Type 0
 ResendGives w t (Ok request) = (resend_refusal w t ≡ None) × IsRequestOf w t request
 ResendGives w t (Err r) = resend_refusal w t ≡ Some r
+
+-- what it sends is the operation of this number, which these bytes spell
+pub record IsAwaitedOp (w : TcView) (t n : ℕ) (bytes : List ℕ) : Type 0 where
+  pub asked : IsAskedBy w.log n bytes
+  pub gives : ResendGives w t (Ok (asks.Perform w.session n w.stable asked.op))
 
 -- how much of the log is stable
 abbrev pub TellStableGives : TcView → Result Request Refusal → Type 0

@@ -1,13 +1,16 @@
 -- What a component is that was opened on what a crash left.
-use Rattle.std.specs.Prelude.{◌≡◌, ℕ, ◌+◌, List, [], ◌∷◌, Option, Some, None, is_some, length, if◌then◌else◌}
+use Rattle.std.specs.Prelude.{◌≡◌, ◌⊎◌, ℕ, ◌+◌, List, [], ◌∷◌, Option, Some, None, is_some, length, if◌then◌else◌}
 use Rattle.record_key.specs.Table.{key_of}
+use Rattle.record_key.specs.declared.refusal.Refusal.{Refusal}
+use Rattle.record_key.specs.declared.refusal.Refusal.TheVariants.{NoMemory, Device}
 use Rattle.history.specs.declared.record.Record.{Record}
 use Rattle.history.specs.declared.record.Record.TheVariants as is
 use Rattle.history.specs.Log.{IsOpen}
 use Rattle.history.specs.Spans.{Span}
 use Rattle.range_locks.specs.Locks.{LocksView, spans_of, IsTable}
-use Rattle.stable.specs.Usage.{Usage, called_often}
-use Rattle.logical_log.specs.Opening.{IsLogOf, cut_calls}
+use Rattle.stable.specs.Usage.{Usage, called, called_often}
+use Rattle.logical_log.specs.Found.{FoundView}
+use Rattle.logical_log.specs.Opening.{IsLogOf, cut_calls, FailsDue}
 use Rattle.restart.specs.Losers.{LosersView}
 use Rattle.tc_core.specs.declared.phase.Phase.TheVariants.{Unconnected}
 use Rattle.range_locks.specs.Rebuilt.{Listed}
@@ -48,10 +51,21 @@ opened log usage checkpointed losers locks = record {
   locks = locks;
 }
 
--- its log is that of the whole frames, and whoever is open in the log is a loser; the device was read, and a cut last
--- frame was cut off it
-pub record IsOpened (bytes : List ℕ) (usage : Usage) (w : TcView) : Type 0 where
+-- its log is that of the whole frames, and whoever is open in the log is a loser; the device had been used so before a
+-- cut last frame was cut off it
+pub record IsMadeOf (bytes : List ℕ) (usage : Usage) (w : TcView) : Type 0 where
   pub log : IsLogOf bytes w.log
   pub losers : w.losers.below ≡ length w.log + 1
-  pub used : w.usage ≡ called_often (1 + cut_calls bytes w.log) usage
+  pub used : w.usage ≡ called_often (cut_calls bytes w.log) usage
   pub is : w ≡ opened w.log w.usage w.checkpointed w.losers w.locks
+
+-- and before that the device was read, in one call
+abbrev pub IsOpened : List ℕ → Usage → TcView → Type 0
+IsOpened bytes usage w = IsMadeOf bytes (called usage) w
+
+-- why none is made of what was read, and how its device was used by then: memory lacked and no call was made, or a last
+-- frame is cut and the call failed that cuts it off
+abbrev pub RefusesMaking : FoundView → Refusal → Usage → Type 0
+RefusesMaking found given usage =
+    ((given ≡ NoMemory) × (usage ≡ found.usage))
+    ⊎ ((given ≡ Device) × (cut_calls found.bytes found.records ≡ 1) × FailsDue found.usage usage)

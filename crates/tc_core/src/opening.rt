@@ -1,4 +1,4 @@
-//! Opening what a crash left.
+//! Making a component of what a crash left.
 ghost use Rattle.std.specs.Prelude.{true, ◌≡◌, ◌++◌, ◌+◌, ◌-◌, ◌≤◌, ℕ, Some, [], length, IfOk, IfErr, OnOk};
 ghost use Rattle.std.specs.BTreeMap.{get};
 ghost use Rattle.std.specs.Ordering.{nat_cmp};
@@ -6,14 +6,14 @@ ghost use Rattle.stable.specs.Crash.{BeginsWith};
 ghost use Rattle.history.specs.declared.record.Record.{Record};
 ghost use Rattle.history.specs.Log.{record_at};
 ghost use Rattle.logical_log.specs.Low.{stable_part};
-ghost use Rattle.logical_log.specs.Opening.{RefusesOpen, UsedToOpen};
+ghost use Rattle.logical_log.specs.Opening.{IsLogOf};
 ghost use Rattle.logical_log.specs.Replay.{KeptOf, IsAnalysis};
 ghost use Rattle.logical_log.specs.Spelled.{spelled, AreRecords};
 ghost use Rattle.range_locks.specs.Rebuilt.{listed_spans};
 ghost use Rattle.restart.specs.Losers.{AreLosers};
 ghost use Rattle.restart.specs.Plan.{IsRedoStart};
 ghost use Rattle.tc_core.specs.Locking.{op_spans};
-ghost use Rattle.tc_core.specs.Opening.{key_noted, spans_if, HoldsOpen, IsOpened, opened};
+ghost use Rattle.tc_core.specs.Opening.{key_noted, spans_if, HoldsOpen, IsMadeOf, RefusesMaking, opened};
 ghost use Rattle.tc_core.specs.Kept.{IsTc};
 ghost use Rattle.tc_core.specs.Seen.{seen};
 
@@ -32,19 +32,14 @@ use std::alloc::{AllocError, Global};
 use std::collections::BTreeMap;
 
 impl<D: LogDevice> Parts<D> {
-    pub fn open(alloc: Global, device: D) -> Result<Parts<D>, Refused<D>>
-        requires all_forced { D.pending device ≡ [] }
+    pub fn over(alloc: Global, found: Found<D>) -> Result<Parts<D>, Refused<D>>
         ensures kept { IfOk result (λ parts. IsTc (seen parts)) }
-        ensures opened { IfOk result (λ parts. IsOpened (D.forced device) (D.usage device) (seen parts)) }
-        ensures refused { IfErr result (λ left. RefusesOpen (D.forced device) left.refusal) }
-        ensures forced { IfErr result (λ left. D.forced left.device ≡ D.forced device) }
+        ensures made { IfOk result (λ parts. IsMadeOf found.bytes found.usage (seen parts)) }
+        ensures log { IfOk result (λ parts. parts.log.records ≡ found.records) }
+        ensures refused { IfErr result (λ left. RefusesMaking found left.refusal (D.usage left.device)) }
+        ensures forced { IfErr result (λ left. D.forced left.device ≡ found.bytes) }
         ensures none_pending { IfErr result (λ left. D.pending left.device ≡ []) }
-        ensures used { IfErr result (λ left. UsedToOpen (D.usage device) left.refusal (D.usage left.device)) }
     {
-        let found = match Found::read(alloc, device) {
-            Ok(found) => found,
-            Err(refused) => return Err(refused),
-        };
         let (work, locks) = match work_and_locks(alloc, &found) {
             Ok(outcome) => outcome,
             Err(refusal) => {
@@ -94,11 +89,12 @@ impl<D: LogDevice> Parts<D> {
     }
 }
 
-/// What the log leaves to do, and the locks of its losers. Refused NoMemory alone.
+/// What the log leaves to do, and the locks of its losers; the bytes spell that log. Refused NoMemory alone.
 fn work_and_locks<D: LogDevice>(
     alloc: Global,
     found: &Found<D>,
 ) -> Result<(Work, RangeLocks), Refusal>
+    ensures log { OnOk result (IsLogOf found.now.bytes found.now.records) }
     ensures losers { IfOk result (λ outcome. AreLosers found.now.records outcome.0.losers) }
     ensures all { IfOk result (λ outcome. outcome.0.losers.below ≡ length found.now.records + 1) }
     ensures redo { IfOk result (λ outcome. IsRedoStart found.now.records outcome.0.redo_start) }

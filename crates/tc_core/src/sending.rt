@@ -1,5 +1,6 @@
 //! What a transaction sends.
-ghost use Rattle.tc_core.specs.Calls.{ResendGives};
+ghost use Rattle.std.specs.Prelude.{IfSome};
+ghost use Rattle.tc_core.specs.Calls.{ResendGives, IsAwaitedOp};
 ghost use Rattle.tc_core.specs.Kept.{IsTc};
 ghost use Rattle.tc_core.specs.Seen.{seen};
 
@@ -27,5 +28,16 @@ impl<D: LogDevice> Parts<D> {
             stable: self.log.stable_end(),
             op: request(&self.log, number),
         })
+    }
+
+    pub fn awaited_op(&self, txn: u64) -> Option<(u64, &[u8])>
+        requires { IsTc (seen self.now) }
+        ensures { IfSome result (λ sent. IsAwaitedOp (seen self.now) txn sent.0 sent.1.now) }
+    {
+        let Ok(opened) = self.open_at(txn) else {
+            return None;
+        };
+        let number = opened.waiting?;
+        Some((number, self.log.asked_bytes(number)?))
     }
 }

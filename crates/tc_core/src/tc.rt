@@ -1,5 +1,5 @@
 //! The transaction component.
-ghost use Rattle.std.specs.Prelude.{◌≡◌, ◌≤◌, ◌++◌, ◌+◌, [], true, false, length, Some, None, IfOk, IfErr, OnOk, OnErr};
+ghost use Rattle.std.specs.Prelude.{◌≡◌, ◌≤◌, ◌++◌, ◌+◌, [], true, false, length, Some, None, IfSome, IfOk, IfErr, OnOk, OnErr};
 ghost use Rattle.std.specs.Option.{option_copied};
 ghost use Rattle.stable.specs.Crash.{BeginsWith};
 ghost use Rattle.stable.specs.Usage.{failing_in};
@@ -10,14 +10,14 @@ ghost use Rattle.logical_log.specs.Spelled.{spelled, AreRecords};
 ghost use Rattle.logical_log.specs.LogView.{spent_refusal};
 ghost use Rattle.tc_core.specs.TcView.{TcView, fresh, used_so};
 ghost use Rattle.tc_core.specs.OpenTxns.{find, oldest, wants};
-ghost use Rattle.tc_core.specs.Calls.{ReconnectGives, BeginGives, ActGives, ReadGives, SaveGives, BackGives, RollbackGives, CommitGives, UndoGives, ForceGives, ResendGives, TellStableGives};
+ghost use Rattle.tc_core.specs.Calls.{ReconnectGives, BeginGives, ActGives, ReadGives, SaveGives, BackGives, RollbackGives, CommitGives, UndoGives, ForceGives, ResendGives, IsAwaitedOp, TellStableGives};
 ghost use Rattle.codec.specs.Replies.{session_of};
 ghost use Rattle.tc_core.specs.Replies.{is_stale, ReplyGives};
 ghost use Rattle.tc_core.specs.Recovery.{RecoverGives};
 ghost use Rattle.tc_core.specs.LowWater.{Announces, RefusesLow, LowWaterGives, IsGreatestAnnounced};
 ghost use Rattle.tc_core.specs.Checkpoint.{CheckpointGives};
 ghost use Rattle.tc_core.specs.Causes.{running_refusal, begin_refusal};
-ghost use Rattle.tc_core.specs.Opening.{IsOpened};
+ghost use Rattle.tc_core.specs.Opening.{IsMadeOf, IsOpened, RefusesMaking};
 ghost use Rattle.tc_core.specs.Kept.{IsTc};
 
 use crate::open_txn::OpenTxn;
@@ -28,7 +28,7 @@ use crate::requests::copied;
 use crate::told::{Connecting, Forced, RecoverStep, Told, UndoStep};
 use codec::{Reply, Request};
 use history::Record;
-use logical_log::Refused;
+use logical_log::{Found, Refused};
 use range_locks::Span;
 use record_key::{Key, Op, Refusal};
 use stable::{CrashLog, LogDevice};
@@ -75,7 +75,23 @@ impl<D: LogDevice> Tc<D> {
         ensures none_pending { IfErr result (λ left. D.pending left.device ≡ []) }
         ensures used { IfErr result (λ left. UsedToOpen (D.usage device) left.refusal (D.usage left.device)) }
     {
-        match Parts::open(alloc, device) {
+        match Found::read(alloc, device) {
+            Ok(found) => Tc::over(alloc, found),
+            Err(refused) => Err(refused),
+        }
+    }
+
+    /// The component of the log that was found on the device, as `open` makes it: who has judged that log needn't have it
+    /// read again. Refused NoMemory, before any call of the device, and Device where the cut fails; the device is handed
+    /// back as it was.
+    pub fn over(alloc: Global, found: Found<D>) -> Result<Tc<D>, Refused<D>>
+        ensures made { IfOk result (IsMadeOf found.bytes found.usage) }
+        ensures log { IfOk result (λ tc. tc.log ≡ found.records) }
+        ensures refused { IfErr result (λ left. RefusesMaking found left.refusal (D.usage left.device)) }
+        ensures forced { IfErr result (λ left. D.forced left.device ≡ found.bytes) }
+        ensures none_pending { IfErr result (λ left. D.pending left.device ≡ []) }
+    {
+        match Parts::over(alloc, found) {
             Ok(parts) => Ok(Tc { parts }),
             Err(refused) => Err(refused),
         }
@@ -206,6 +222,14 @@ impl<D: LogDevice> Tc<D> {
         ensures gives { ResendGives self.now txn result }
     {
         self.parts.resend(txn)
+    }
+
+    /// What `resend` would send, where that is an operation: its number, and the bytes of the log that spell it. None
+    /// where it is refused or sends a read.
+    pub fn awaited_op(&self, txn: u64) -> Option<(u64, &[u8])>
+        ensures { IfSome result (λ sent. IsAwaitedOp self.now txn sent.0 sent.1.now) }
+    {
+        self.parts.awaited_op(txn)
     }
 
     /// Tells the data component how much of the log is stable. Refused NotConnected, Redoing.

@@ -13,6 +13,7 @@ use Rattle.dc_core.specs.Serves.{MayAsk, Serves}
 use Rattle.tc_core.specs.declared.phase.Phase.{Phase}
 use Rattle.tc_core.specs.declared.phase.Phase.TheVariants as phase
 use Rattle.tc_core.specs.declared.told.RecoverStep.TheVariants as step
+use Rattle.tc_core.specs.Calls.{ResendGives}
 use Rattle.tc_core.specs.Recovery.{SendsAt, RecoverGives}
 use Rattle.tc_core.specs.TcView.{TcView}
 use Rattle.world.specs.declared.event.Event.{Event}
@@ -51,6 +52,13 @@ sends_then old new request h = by old.phase h.1
     by (phase.Undoing None) h = absurd h
     by (phase.Undoing (Some n)) h = refl
     by phase.Running h = absurd h
+
+-- a transaction's request is sent
+pub sends_op : (tc : TcSide) (dc : DcSide) (requests : List Request) (replies : List Reply) (t i : ℕ) (q : Request)
+    → tc.up ≡ true → ResendGives tc.tc t (Ok q) → i ≡ length requests + 1
+    → StepsTo (node_of tc dc requests replies) (event.Send t) (out.Sent i)
+    (node_of tc dc (requests ++ q ∷ []) replies)
+sends_op tc dc requests replies t i q up gives is = rw up (q, gives, record { number_is = is; left = refl })
 
 -- where the data component gives a reply, the request is one that has it
 pub replies_then : (q : Request) (reply : Reply) (old new : DcView) → Serves old q (Some reply) new

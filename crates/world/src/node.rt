@@ -1,5 +1,5 @@
 //! The two components, and the messages between them.
-ghost use Rattle.std.specs.Prelude.{◌≡◌, true, [], None, IfOk, IfErr, OnSome};
+ghost use Rattle.std.specs.Prelude.{◌≡◌, true, [], None, IfOk, IfErr, IfSome, IfNone, OnSome};
 ghost use Rattle.world.specs.Node.{fresh_node, StepsTo};
 ghost use Rattle.dc_core.specs.Kept.{IsDc};
 ghost use Rattle.tc_core.specs.Kept.{IsTc};
@@ -70,6 +70,7 @@ impl<D: CrashLog, P: CrashPages> Node<D, P> {
         match event {
             Event::Reply { number } => self.take(*number, out),
             Event::Request { number } => self.serve(*number, out),
+            Event::Send { txn } => self.send(*txn, event, out),
             _ if event.is_of_tc() => self.call(event, out),
             _ => self.dc.call(event, out),
         }
@@ -88,6 +89,34 @@ impl<D: CrashLog, P: CrashPages> Node<D, P> {
         if let Some(request) = &request {
             self.requests.push_reserved(request);
         }
+    }
+
+    /// The transaction's request is sent, as the event says.
+    fn send(&mut self, txn: u64, event: &Event, out: &mut Out)
+        requires { event.now ≡ Event.Send txn }
+        ensures { StepsTo (seen self.old) event.now out.new (seen self.new) }
+    {
+        match self.send_op(txn) {
+            Some(number) => *out = Out::Sent(number),
+            None => self.call(event, out),
+        }
+    }
+
+    /// The operation that the transaction waits for is sent, as the bytes that stand in the log; the request's number.
+    /// None where it waits for none or there is no room, and nothing is sent then.
+    fn send_op(&mut self, txn: u64) -> Option<u64>
+        ensures sent { IfSome result (λ number. StepsTo (seen self.old) (Event.Send txn) (Out.Sent number) (seen self.new)) }
+        ensures unsent { IfNone result (seen self.new ≡ seen self.old) }
+    {
+        let Ok(tc) = self.tc.running() else {
+            return None;
+        };
+        tc.kept();
+        let (number, op) = tc.awaited_op(txn)?;
+        let next = self.requests.next()?;
+        self.requests
+            .push_perform(tc.session(), number, tc.stable_end(), op);
+        Some(next)
     }
 
     /// The reply of this number reaches the transaction component.

@@ -1,7 +1,11 @@
 //! Messages as they were sent: their frames one after another in one buffer, and an index of places. What was sent
 //! stays: a message may be delivered any number of times, late, or never.
-ghost use Rattle.std.specs.Prelude.{◌≡◌, ◌<◌, ◌++◌, ◌∷◌, ◌⊎◌, [], true, false, length, None, Some, IfOk, IfErr, OnOk, OnErr, OnSome};
+ghost use Rattle.std.specs.Prelude.{◌≡◌, ◌<◌, ◌≤◌, ◌++◌, ◌∷◌, ◌⊎◌, [], true, false, length, None, Some, IfOk, IfErr, OnOk, OnErr, OnSome};
+ghost use Rattle.record_key.specs.declared.op.Op.{Op};
+ghost use Rattle.codec.specs.declared.request.Request.TheVariants as asks;
+ghost use Rattle.codec.specs.Fields.{op_bytes};
 ghost use Rattle.codec.specs.FrameIndex.{places_of, Indexes};
+ghost use Rattle.codec.specs.Requests.{IsRequest};
 ghost use Rattle.codec.specs.Replies.{session_of};
 ghost use Rattle.world.specs.Halves.{IsNextNumber};
 ghost use Rattle.world.specs.Messages.{message_at};
@@ -10,7 +14,7 @@ ghost use Rattle.tc_core.specs.Replies.{is_of_another};
 ghost use Rattle.world.specs.Sent.{IsUnread, IsStale, IsUnreadOf, IsFramedReply};
 
 use crate::message::{Message, session_at};
-use codec::{FrameIndex, Reply};
+use codec::{FrameIndex, Reply, Request, put_perform};
 use record_key::Refusal;
 use std::alloc::Global;
 use std::marker::{Model, PhantomData};
@@ -119,6 +123,42 @@ impl<M: Message> Sent<M> {
     {
         let place = place_of(&self.index, &self.bytes, number)?;
         M::take(*self.bytes.allocator(), &self.bytes, place)
+    }
+}
+
+impl Sent<Request> {
+    /// Appends a request to perform the operation that these bytes spell, for which there is room.
+    pub(crate) fn push_perform(&mut self, session: u64, number: u64, stable: u64, op: &[u8])
+        requires spelled { (o : Op) × ((op.now ≡ op_bytes o) × IsRequest (asks.Perform session number stable o)) }
+        requires short { length op.now ≤ 164 }
+        requires room { self.old.has_room ≡ true }
+        ensures { (o : Op) → op.now ≡ op_bytes o → IsRequest (asks.Perform session number stable o)
+            → self.new.messages ≡ self.old.messages ++ asks.Perform session number stable o ∷ [] }
+    {
+        match self.add_perform(session, number, stable, op) {
+            Ok(()) => {}
+            Err(_) => unreachable!(),
+        }
+    }
+
+    fn add_perform(
+        &mut self,
+        session: u64,
+        number: u64,
+        stable: u64,
+        op: &[u8],
+    ) -> Result<(), Refusal>
+        requires spelled { (o : Op) × ((op.now ≡ op_bytes o) × IsRequest (asks.Perform session number stable o)) }
+        requires short { length op.now ≤ 164 }
+        ensures appended { (o : Op) → op.now ≡ op_bytes o → IsRequest (asks.Perform session number stable o)
+            → OnOk result (self.new.messages ≡ self.old.messages ++ asks.Perform session number stable o ∷ []) }
+        ensures room { OnErr result (self.old.has_room ≡ true → ⊥) }
+    {
+        self.index.reserve()?;
+        let place = self.bytes.len();
+        put_perform(&mut self.bytes, session, number, stable, op)?;
+        self.index.push_reserved(place);
+        Ok(())
     }
 }
 

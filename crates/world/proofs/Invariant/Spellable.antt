@@ -33,7 +33,7 @@ use Rattle.tc_core.specs.declared.phase.Phase.{Phase}
 use Rattle.tc_core.specs.declared.phase.Phase.TheVariants as phase
 use Rattle.tc_core.specs.declared.told.Connecting.{Connecting}
 use Rattle.tc_core.specs.declared.told.RecoverStep.TheVariants as step
-use Rattle.tc_core.specs.Calls.{read_request, IsRequestOf, ResendGives, ReconnectGives}
+use Rattle.tc_core.specs.Calls.{read_request, IsRequestOf, ResendGives, IsAwaitedOp, ReconnectGives}
 use Rattle.tc_core.specs.Recovery.{SendsAt, RecoverGives, redo_request}
 use Rattle.tc_core.specs.Undo.{FindsRequest}
 use Rattle.world.proofs.Invariant.LastRecord.{last_within}
@@ -63,6 +63,13 @@ request_numbers w t request k (inr r) =
 pub resend_numbers : (w : TcView) (t : ℕ) (request : Request) → IsTc w → ResendGives w t (Ok request)
     → HasRequestNumbers request
 resend_numbers w t request k h = request_numbers w t request k h.1
+
+-- what is sent as the bytes of the log has a spelling
+pub awaited_spelled : (w : TcView) (t n : ℕ) (bytes : List ℕ) → IsTc w → (h : IsAwaitedOp w t n bytes)
+    → IsRequest (asks.Perform w.session n w.stable h.asked.op)
+awaited_spelled w t n bytes k h =
+    let numbers = resend_numbers w t (asks.Perform w.session n w.stable h.asked.op) k h.gives in
+    (numbers.0, (numbers.1.0, (numbers.1.1, h.asked.fits)))
 
 -- the next record has a number
 unspent_few : (log : List Record) → spent_refusal log ≡ None → length log + 1 < 2 ^ 48

@@ -1,5 +1,5 @@
 use Rattle.std.proofs.Common.{rules, ◌∙◌, drop, sym, ap}
-use Rattle.codec.proofs.Told.{first, inner, op_told, inverse_told, asks_nothing_told, kind_stands}
+use Rattle.codec.proofs.Told.{inner, inner_first, op_told, inverse_told, asks_nothing_told, kind_stands}
 use Rattle.codec.proofs.record.asked_op.Goals as goal
 
 pub returns-in_err-kind : goal.returns-in_err-kind
@@ -8,12 +8,13 @@ returns-in_err-kind c = λ r rest fits e. absurd
 
 pub returns-in_err-take_op-in-3 : goal.returns-in_err-take_op-in-3
 returns-in_err-take_op-in-3 c = λ r rest fits e.
-    c.from_residual-in_err-take_op-in-3.ensures ∙ ap first (sym (rw c.left_at.ensures at c.in_err-take_op-in-3.ensures))
+    c.from_residual-in_err-take_op-in-3.ensures ∙ ap inner (sym (rw c.left_at.ensures at c.in_err-take_op-in-3.ensures))
+    ∙ inner_first _
     ∙ op_told r (drop c.args.at c.args.bytes.now) rest _ _ fits e c.in_ok-kind.ensures c.in-3.is
 
 pub returns-in_ok-take_op-in-3 : goal.returns-in_ok-take_op-in-3
 returns-in_ok-take_op-in-3 c = λ r rest fits e.
-    ap first (sym (rw c.left_at.ensures at c.in_ok-take_op-in-3.ensures))
+    ap inner (sym (rw c.left_at.ensures at c.in_ok-take_op-in-3.ensures)) ∙ inner_first _
     ∙ op_told r (drop c.args.at c.args.bytes.now) rest _ _ fits e c.in_ok-kind.ensures c.in-3.is
 
 pub returns-in_err-take_optional_op-in-5 : goal.returns-in_err-take_optional_op-in-5

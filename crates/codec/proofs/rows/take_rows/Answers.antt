@@ -1,5 +1,4 @@
-use Rattle.std.proofs.Common.{◌≡◌, ◌<◌, ℕ, get_or, arith}
-use Rattle.codec.proofs.Readers.{IsBytes}
+use Rattle.std.proofs.Common.{arith}
 use Rattle.codec.proofs.PackedRows.{none_found, within, packed_there, found}
 use Rattle.codec.proofs.rows.take_rows.Goals as goal
 

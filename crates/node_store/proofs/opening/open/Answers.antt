@@ -1,24 +1,23 @@
-use Rattle.std.proofs.Common.{◌≡◌, ℕ, List, subst, inl, inr}
+use Rattle.std.proofs.Common.{sym, subst, inl, inr}
 use Rattle.history.specs.Values.{HasRightAnswers}
-use Rattle.logical_log.proofs.Crashed.{opens_once}
-use Rattle.node_store.specs.Opening.{HasNoCheckpoint}
+use Rattle.stable.specs.Usage.{Usage}
+use Rattle.tc_core.specs.Opening.{IsMadeOf}
+use Rattle.node_store.specs.Opening.{IsFit}
 use Rattle.node_store.proofs.opening.open.Goals as goal
 
 pub over-requires-clause-log : goal.over-requires-clause-log
 over-requires-clause-log g c =
-    let tc = c.in-Ok-open.tc in
-    let judged = c.in_ok-log.ensures.fit in
-    let bytes : List ℕ = g.D.LogDevice.forced c.in_ok-log.log in
-    let opened = c.in-Ok-open.ensures.opened in
-    let same : judged.log ≡ tc.log = opens_once bytes judged.log tc.log judged.spelled opened.log in
-    let none : HasNoCheckpoint tc.log = subst HasNoCheckpoint same judged.fit.unchecked in
+    let tc = c.in-Ok-over.tc in
+    let found = c.in_ok-found.found in
+    let made = c.in-Ok-over.ensures in
+    let fit : IsFit tc.log = subst IsFit (sym made.log) c.in_ok-found.ensures.fit in
     record {
-      bytes = bytes;
-      usage = g.D.LogDevice.usage c.in_ok-log.log;
-      opened = opened;
-      right = subst HasRightAnswers same judged.fit.right;
+      bytes = found.bytes;
+      usage = g.D.LogDevice.usage c.args.log;
+      opened = subst (λ (u : Usage). IsMadeOf found.bytes u tc) c.in_ok-found.ensures.called made.made;
+      right = fit.right;
       unchecked = elim c.kept.ensures.low.checkpointed [
-        | inl latest ↦ absurd (none latest.is.0 tc.checkpointed latest.is.1)
+        | inl latest ↦ absurd (fit.unchecked latest.is.0 tc.checkpointed latest.is.1)
         | inr none ↦ none.0
       ];
     }

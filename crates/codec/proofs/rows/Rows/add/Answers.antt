@@ -1,9 +1,8 @@
-use Rattle.std.proofs.Common.{◌≡◌, ◌∙◌, ◌++◌, List, ℕ, ap, subst, sym, length, arith}
+use Rattle.std.proofs.Common.{◌∙◌, ◌++◌, List, ap, length, arith}
 use Rattle.std.proofs.lemmas.List.{length-append}
 use Rattle.std.specs.List.{flat_map}
 use Rattle.record_key.specs.Rows.{Row}
 use Rattle.codec.specs.Rows.{row_bytes}
-use Rattle.codec.specs.PackedRows.{rows_spelled, ArePacked}
 use Rattle.codec.proofs.PackedRows.{spells_more, packs_more, few_packed, rows_few}
 use Rattle.codec.proofs.rows.Rows.add.Goals as goal
 

@@ -1,4 +1,4 @@
-use Rattle.std.proofs.Common.{◌≡◌, ◌∙◌, List, ℕ, ◌++◌, ap, subst, append_assoc}
+use Rattle.std.proofs.Common.{◌≡◌, ◌∙◌, List, ℕ, ◌++◌, ap, subst}
 use Rattle.codec.specs.Fields.{number}
 use Rattle.codec.specs.Rows.{rows_bytes}
 use Rattle.codec.specs.Writing.{Puts}
