@@ -5,8 +5,8 @@ use Rattle.tc_core.specs.Opening.{IsMadeOf}
 use Rattle.node_store.specs.Opening.{IsFit}
 use Rattle.node_store.proofs.opening.open.Goals as goal
 
-pub over-requires-clause-log : goal.over-requires-clause-log
-over-requires-clause-log g c =
+pub over-requires-2-clause-log : goal.over-requires-2-clause-log
+over-requires-2-clause-log g c =
     let tc = c.in-Ok-over.tc in
     let found = c.in_ok-found.found in
     let made = c.in-Ok-over.ensures in
