@@ -31,6 +31,13 @@ pub record Stops (old : NodeView) (r : Refusal) (new : NodeView) : Type 0 where
 abbrev pub IsNew : NodeView → Type 0
 IsNew new = (told : List Out) × Rests fresh_node told new
 
+-- why none is made: memory is refused, or something stops it from settling
+abbrev pub NotNew : Refusal → Type 0
+NotNew r = (r ≡ NoMemory) ⊎ ((new : NodeView) × Stops fresh_node r new)
+
+abbrev pub NotMade : Fault → Type 0
+NotMade fault = (r : Refusal) × (fault ≡ Refused r) × NotNew r
+
 -- the node settles, and then the event happens and comes to this
 pub record IsStepped (old : NodeView) (e : Event) (o : Out) (new : NodeView) : Type 0 where
   pub before : List Out

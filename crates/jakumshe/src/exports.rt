@@ -4,7 +4,7 @@ ghost use Rattle.std.specs.Prelude.{◌≡◌, ◌≢◌, ◌<◌, ◌≤◌, le
 ghost use Rattle.record_key.specs.declared.op.Op.TheVariants as op;
 ghost use Rattle.world.specs.declared.event.Event.TheVariants as event;
 ghost use Rattle.jakumshe.specs.declared.fault.Fault.TheVariants.{Refused};
-ghost use Rattle.jakumshe.specs.Calls.{IsNew, Makes, Tells, Reads, EndsSo, Puts, begins, saves, finds, goes_back, rolls_back, commits, end_of};
+ghost use Rattle.jakumshe.specs.Calls.{IsNew, NotMade, Makes, Tells, Reads, EndsSo, Puts, begins, saves, finds, goes_back, rolls_back, commits, end_of};
 ghost use Rattle.jakumshe.specs.Handles.{Acted};
 ghost use Rattle.jakumshe.specs.Holding.{OnNode, RefusedAs};
 ghost use Rattle.jakumshe.specs.Records.{IsPage, PutsValue};
@@ -18,12 +18,13 @@ use crate::records::{NameText, RowBytes, ValueBytes};
 use record_key::{Op, Refusal};
 use std::alloc::Global;
 
-/// Makes a node in a handle that has none. Refused Open, NoMemory.
+/// Makes a node in a handle that has none. Refused Open, NoMemory, or as the first settle of a node is.
 #[unsafe(no_mangle)]
 pub extern "C" fn jakumshe_raw_open(handle: &mut Handle, alloc: Global) -> i32
     ensures open { IsSome handle.old.node → (result ≡ pos 34) × (handle.new.node ≡ handle.old.node) }
     ensures opened { result ≡ pos 0 → IsSomeAnd handle.new.node (λ node. IsNew node.world) }
     ensures refused { handle.old.node ≡ None → result ≢ pos 0 → handle.new.node ≡ None }
+    ensures cause { handle.old.node ≡ None → result ≢ pos 0 → EndsSo {X = Unit {0}} result (λ r. IfErr r NotMade) }
 {
     if let Ok(node) = handle.take(alloc) {
         handle.put(node);
@@ -60,6 +61,7 @@ pub extern "C" fn jakumshe_raw_close(handle: &mut Handle, alloc: Global) -> i32
 pub extern "C" fn jakumshe_raw_begin(handle: &mut Handle, alloc: Global, txn: &mut u64) -> i32
     ensures begun { OnNode handle.old.node handle.new.node result (λ old new. EndsSo result (λ r.
         Makes old.world event.Begin begins r new.world × Puts r txn.old txn.new × (new.rows ≡ old.rows))) }
+    ensures closed { handle.old.node ≡ None → txn.new ≡ txn.old }
 {
     let mut node = match handle.take(alloc) {
         Ok(node) => node,
@@ -199,6 +201,7 @@ pub extern "C" fn jakumshe_raw_get(
         × (new.rows ≡ old.rows))) }
     ensures empty_key { length key.now ≡ 0 → RefusedAs 11 handle.old.node handle.new.node result }
     ensures long_key { 32 < length key.now → RefusedAs 12 handle.old.node handle.new.node result }
+    ensures closed { handle.old.node ≡ None → value.new ≡ value.old }
 {
     let mut node = match handle.take(alloc) {
         Ok(node) => node,
@@ -234,6 +237,7 @@ pub extern "C" fn jakumshe_raw_scan(
     ensures long_key { 32 < length low.now → RefusedAs 12 handle.old.node handle.new.node result }
     ensures long_end { 0 < length low.now → 32 < length high.now
         → RefusedAs 12 handle.old.node handle.new.node result }
+    ensures closed { handle.old.node ≡ None → count.new ≡ count.old }
 {
     let mut node = match handle.take(alloc) {
         Ok(node) => node,
@@ -260,6 +264,7 @@ pub extern "C" fn jakumshe_raw_page(
 ) -> i32
     ensures given { OnNode handle.old.node handle.new.node result (λ old new. (result ≡ pos 0)
         × IsPage old.rows.items new.rows.items rows.new count.new × (new.world ≡ old.world)) }
+    ensures closed { handle.old.node ≡ None → (rows.new ≡ rows.old) × (count.new ≡ count.old) }
 {
     let mut node = match handle.take(alloc) {
         Ok(node) => node,
@@ -281,6 +286,7 @@ pub extern "C" fn jakumshe_raw_save(
     ensures saved { OnNode handle.old.node handle.new.node result (λ old new. EndsSo result (λ r.
         Makes old.world (event.Save txn) saves r new.world × Puts r savepoint.old savepoint.new
         × (new.rows ≡ old.rows))) }
+    ensures closed { handle.old.node ≡ None → savepoint.new ≡ savepoint.old }
 {
     let mut node = match handle.take(alloc) {
         Ok(node) => node,

@@ -80,6 +80,7 @@ pub extern "C" fn jakumshe_raw_log(
         → Copies (stable_bytes old.world) from room.new len.new) }
     ensures refused { OnNode handle.old.node handle.new.node result (λ old new. result ≢ pos 0
         → (result ≡ pos 9) × (old.world.tc_up ≡ false) × (len.new ≡ len.old)) }
+    ensures closed { handle.old.node ≡ None → (room.new ≡ room.old) × (len.new ≡ len.old) }
 {
     let node = match handle.take(alloc) {
         Ok(node) => node,

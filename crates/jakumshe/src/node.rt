@@ -4,7 +4,7 @@ ghost use Rattle.record_key.specs.declared.refusal.Refusal.TheVariants.{EmptyKey
 ghost use Rattle.world.specs.declared.event.Event.TheVariants as event;
 ghost use Rattle.world.specs.Rounds.{IsDone};
 ghost use Rattle.jakumshe.specs.declared.fault.Fault.TheVariants.{Refused};
-ghost use Rattle.jakumshe.specs.Calls.{Rests, Stops, IsStepped, IsTold, IsNew, Refuses, Fails, Makes, Tells, Acts, Reads, begins, saves, finds, goes_back, rolls_back, commits, end_of};
+ghost use Rattle.jakumshe.specs.Calls.{Rests, Stops, IsStepped, IsTold, IsNew, NotNew, Refuses, Fails, Makes, Tells, Acts, Reads, begins, saves, finds, goes_back, rolls_back, commits, end_of};
 ghost use Rattle.jakumshe.specs.Logs.{IsMadeOn, IsOpenedOn, NotOpened, Copies, stable_bytes};
 ghost use Rattle.jakumshe.specs.Records.{IsPage};
 ghost use Rattle.node_store.specs.Opening.{IsRefusedFor};
@@ -27,17 +27,20 @@ pub struct Node {
 }
 
 impl Node {
-    /// A new node in memory, without records. Refused NoMemory.
+    /// A new node in memory, without records. Refused NoMemory, or as its first settle is.
     pub fn new(alloc: Global) -> Result<Node, Refusal>
-        ensures { IfOk result (λ node. IsNew node.world) }
+        ensures made { IfOk result (λ node. IsNew node.world) }
+        ensures refused { IfErr result NotNew }
     {
         let mut node = Node {
             alloc,
             world: World::new(alloc)?,
             rows: Vec::new(alloc),
         };
-        node.settled()?;
-        Ok(node)
+        match node.settled() {
+            Ok(_) => Ok(node),
+            Err(refusal) => Err(refusal),
+        }
     }
 
     /// A node on the log that these bytes spell, and how many of them it keeps: a cut last frame is left out. Whoever has
