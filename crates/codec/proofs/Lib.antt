@@ -21,3 +21,5 @@ pub mod Cuts
 pub mod ReadOnce
 mod Told
 mod Sessions
+mod Apart
+pub mod UndoBytes

@@ -16,7 +16,7 @@ use Rattle.codec.proofs.Readers.{IsReader, both, made_again, choice, one_of_take
 use Rattle.codec.proofs.Lists.{numbers_read}
 use Rattle.codec.proofs.Fields.{length-number, numbers_length, number_reads, optional_reads, key_reads, op_reads, op_length}
 
-perform_reads : IsReader (ℕ × (ℕ × (ℕ × Op)))
+pub perform_reads : IsReader (ℕ × (ℕ × (ℕ × Op)))
     (λ p. number p.0 ++ (number p.1.0 ++ (number p.1.1.0 ++ op_bytes p.1.1.1)))
     (λ p. IsNumber p.0 × (IsNumber p.1.0 × (IsNumber p.1.1.0 × IsOp p.1.1.1)))
     (pair number_at (pair number_at (pair number_at op_at)))

@@ -5,7 +5,7 @@ use Rattle.std.proofs.lemmas.Option.{none-some, same_Some}
 use Rattle.history.specs.declared.record.Record.{Record}
 use Rattle.history.specs.declared.record.Record.TheVariants as is
 use Rattle.history.specs.Log.{request_of, step_of}
-use Rattle.history.specs.Chains.{undo_from}
+use Rattle.history.specs.Chains.{undo_from, prev_in}
 use Rattle.record_key.specs.declared.op.Op.{Op}
 use Rattle.codec.specs.Fields.{number, optional, op_bytes, answer_bytes}
 use Rattle.codec.specs.Frames.{frame}
@@ -152,6 +152,35 @@ nothing_left (is.Commit txn) n op comp = refl
 nothing_left (is.End txn) n op comp = refl
 nothing_left (is.Checkpoint low) n op comp = refl
 
+-- behind an Op record's first number stands the step before it, and no other record has one
+prev_read : (r : Record) (rest : List ℕ) → IsRecord r → kind r ≡ 3
+    → first (number_at (drop 8 (fields r ++ rest))) ≡ Some (prev_in (Some r))
+prev_read (is.Op txn prev o) rest fits op =
+    let more : List ℕ = op_bytes o in
+    let parts : fields (is.Op txn prev o) ++ rest ≡ number txn ++ (number prev ++ (more ++ rest)) =
+    append_assoc (number txn) (number prev ++ more) rest
+    ∙ ap (λ (b : List ℕ). number txn ++ b) (append_assoc (number prev) more rest) in
+    ap (λ (b : List ℕ). first (number_at b))
+    (ap (drop 8) parts ∙ drop_at (number txn) (number prev ++ (more ++ rest)) 8 (length-number txn))
+    ∙ ap first (number_reads.again prev (more ++ rest) fits.1.0)
+prev_read is.Session rest fits op = absurd (cc)
+prev_read is.Begin rest fits op = absurd (cc)
+prev_read (is.Answer of a) rest fits op = absurd (cc)
+prev_read (is.Comp txn undoes next inverse) rest fits op = absurd (cc)
+prev_read (is.Commit txn) rest fits op = absurd (cc)
+prev_read (is.End txn) rest fits op = absurd (cc)
+prev_read (is.Checkpoint low) rest fits op = absurd (cc)
+
+no_prev : (r : Record) → kind r ≢ 3 → 0 ≡ prev_in (Some r)
+no_prev (is.Op txn prev o) op = absurd (op refl)
+no_prev is.Session op = refl
+no_prev is.Begin op = refl
+no_prev (is.Answer of a) op = refl
+no_prev (is.Comp txn undoes next inverse) op = refl
+no_prev (is.Commit txn) op = refl
+no_prev (is.End txn) op = refl
+no_prev (is.Checkpoint low) op = refl
+
 -- behind an Op record's two numbers stands what it asks for
 op_read : (r : Record) (rest : List ℕ) → IsRecord r → kind r ≡ 3
     → first (op_at (drop 16 (fields r ++ rest))) ≡ request_of r
@@ -232,6 +261,17 @@ module _ (r : Record) (left rest : List ℕ) (k : ℕ) (tail : List ℕ) where
       let own = stands r left rest k tail e read in
       ap (λ (b : List ℕ). first (number_at (drop 16 b))) own.tail_is
       ∙ next_read r rest n fits (sym own.kind_is ∙ comp)
+
+  pub prev_told : IsRecord r → left ≡ frame (record_bytes r) ++ rest → byte_at (drop 8 left) ≡ Some (k, tail)
+      → k ≡ 3 → first (number_at (drop 8 tail)) ≡ Some (prev_in (Some r))
+  prev_told fits e read op =
+      let own = stands r left rest k tail e read in
+      ap (λ (b : List ℕ). first (number_at (drop 8 b))) own.tail_is
+      ∙ prev_read r rest fits (sym own.kind_is ∙ op)
+
+  pub no_prev_told : left ≡ frame (record_bytes r) ++ rest → byte_at (drop 8 left) ≡ Some (k, tail)
+      → k ≢ 3 → 0 ≡ prev_in (Some r)
+  no_prev_told e read op = no_prev r (λ is. op ((stands r left rest k tail e read).kind_is ∙ is))
 
   pub nothing_left_told : left ≡ frame (record_bytes r) ++ rest → byte_at (drop 8 left) ≡ Some (k, tail)
       → k ≢ 3 → k ≢ 5 → (n : ℕ) → 0 ≡ undo_from (Some r) n

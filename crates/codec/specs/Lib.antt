@@ -12,3 +12,5 @@ pub mod Marks
 pub mod FrameIndex
 pub mod Reading
 pub mod Writing
+pub mod Parted
+pub mod Undoing

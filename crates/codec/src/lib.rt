@@ -1,6 +1,7 @@
 //! Records of both logs, images of leaves, requests and replies as bytes.
 //!
-//! Knows: the one spelling of each value as bytes, and the grammar that tells spellings from other bytes.
+//! Knows: the one spelling of each value as bytes, the grammar that tells spellings from other bytes, and which bytes of
+//! an answered operation spell what undoes it.
 //! Must not know: where bytes are kept, whether a record fits those before it, what a message or a split does.
 //! Promises the next crates: what is written is the one spelling, what is read is what stands there, no
 //! spelling begins another, and bytes that end within a frame are told apart from bytes outside the grammar.
@@ -15,6 +16,7 @@ mod frame_index;
 mod framed;
 mod image;
 mod lengths;
+mod parted;
 mod reading;
 mod record;
 mod reply;
@@ -24,6 +26,7 @@ mod row_reader;
 mod rows;
 mod spelled_op;
 mod taken;
+mod undoing;
 mod writing;
 
 pub use dc_record::{DcRecord, DcRecordRef, dc_record_spelling_law, put_dc_record, take_dc_record};
@@ -33,7 +36,10 @@ pub use image::{
     LeafImage, LeafImageRef, leaf_image_len, leaf_image_spelling_law, put_leaf_image,
     take_leaf_image,
 };
-pub use record::{asked_op, left_to_undo, put_record, record_spelling_law, step_txn, take_record};
+pub use parted::{Asking, answered_at, asking_at, put_answered};
+pub use record::{
+    asked_op, left_to_undo, put_record, record_spelling_law, step_prev, step_txn, take_record,
+};
 pub use reply::{Reply, put_reply, reply_session, reply_spelling_law, take_reply};
 pub use request::{Request, put_request, request_spelling_law, take_request};
 pub use row_list::RowList;
@@ -41,3 +47,4 @@ pub use row_reader::RowReader;
 pub use rows::Rows;
 pub use spelled_op::{asked_bytes, put_perform};
 pub use taken::Taken;
+pub use undoing::{CompNumbers, put_undo};

@@ -6,7 +6,7 @@ ghost use Rattle.codec.specs.Frames.{frame, IfTaken, IfBad, IsThere, IsCut};
 ghost use Rattle.std.specs.List.{flat_map, AllByRecursion};
 ghost use Rattle.codec.specs.Writing.{HasRoom, Puts};
 ghost use Rattle.history.specs.Log.{request_of, step_of};
-ghost use Rattle.history.specs.Chains.{undo_from};
+ghost use Rattle.history.specs.Chains.{undo_from, prev_in};
 ghost use Rattle.codec.specs.Reading.{Gives, pair, mapped, optional_at, byte_at, number_at, op_at, record_at};
 
 use crate::frame::{HEADER_LEN, left_at, take_framed};
@@ -102,6 +102,25 @@ pub fn left_to_undo(bytes: &[u8], at: usize, number: u64) -> u64
             None => 0,
         },
         _ => 0,
+    }
+}
+
+/// The transaction's step before the Op record whose frame begins at a place: its number, 0 if none. 0 for another record
+/// too. Reads no more than the kind and one number, and takes no memory.
+pub fn step_prev(bytes: &[u8], at: usize) -> u64
+    ensures { (r : Record) (rest : List ℕ) → IsRecord r → drop at bytes.now ≡ frame (record_bytes r) ++ rest
+        → result ≡ prev_in (Some r) }
+{
+    let Some((kind, rest)) = kind_at(bytes, at) else {
+        return 0;
+    };
+    if kind != 3 {
+        return 0;
+    }
+    // The transaction's number stands before it.
+    match take_number(left_at(rest, 8)) {
+        Some((prev, _)) => prev,
+        None => 0,
     }
 }
 

@@ -18,7 +18,7 @@ pub(crate) fn put_bytes(out: &mut Vec<u8>, bytes: &[u8])
 }
 
 /// The same for a few bytes, one by one: a call that copies them costs more.
-fn put_few(out: &mut Vec<u8>, bytes: &[u8])
+pub(crate) fn put_few(out: &mut Vec<u8>, bytes: &[u8])
     requires { HasRoom out.old bytes.now }
     ensures { Puts out.old out.new bytes.now }
 {

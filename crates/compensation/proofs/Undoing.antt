@@ -9,7 +9,9 @@ use Rattle.history.specs.Chains.{undo_from, prev_in}
 use Rattle.log_laws.proofs.LegalLogs.{stands_step}
 use Rattle.log_laws.proofs.Undo.{latest_found, earlier_found, op_record}
 use Rattle.compensation.specs.declared.undo_chain.Chain.{Chain}
-use Rattle.compensation.specs.NextUndo.{MayUndo, IsUndone, IsUndoable}
+use Rattle.logical_log.specs.Undoing.{comp_at, inverse_at, next_at}
+use Rattle.logical_log.proofs.Undoing.{inverts}
+use Rattle.compensation.specs.NextUndo.{Compensates, MayUndo, IsUndone, IsUndoable}
 
 an_answer : (o : Option Answer) → IsSome o → (a : Answer) × (o ≡ Some a)
 an_answer None h = absurd (cc)
@@ -61,3 +63,20 @@ module _ (log : List Record) (c : Chain) (may : MayUndo log c) (u : ℕ)
         next = subst P (sym is_next) (earlier_found log c.txn u may.legal (latest some).is);
         inverse = inverts;
       }
+
+  -- so does the one of all whose parts the log tells
+  pub fits_at : 0 < u → FitsComp log c.txn u (next_at log u) (inverse_at log u)
+  fits_at some =
+      let at = undoable some in
+      fits_comp (next_at log u) (inverse_at log u) some refl
+      (inverts log u at.txn at.op at.answer (rw at.is refl) at.answered)
+
+  pub compensated : (above : ℕ) → above < u → Compensates log c.txn above (comp_at log c.txn u)
+  compensated above more = record {
+    undoes = u;
+    next = next_at log u;
+    inverse = inverse_at log u;
+    is = refl;
+    above_bound = more;
+    fits = fits_at (omega (arith, more));
+  }

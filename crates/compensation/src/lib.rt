@@ -10,5 +10,6 @@
 mod saves;
 mod undo_chain;
 
+pub use logical_log::Compensated;
 pub use saves::Saves;
-pub use undo_chain::{Chain, Next, next_undo};
+pub use undo_chain::{Chain, Next, append_undo, next_undo};

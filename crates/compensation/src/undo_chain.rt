@@ -1,14 +1,17 @@
 //! What is left to undo, found by the links of the records and never by a scan.
-ghost use Rattle.std.specs.Prelude.{◌≡◌};
+ghost use Rattle.std.specs.Prelude.{◌≡◌, IsTrue, IfOk, IfErr, OnErr, IsErrOf};
 ghost use Rattle.history.specs.Log.{record_at};
 ghost use Rattle.history.specs.Legal.{Inverts};
 ghost use Rattle.history.specs.Chains.{undo_from, prev_in};
-ghost use Rattle.compensation.specs.NextUndo.{MayUndo, IsNextUndo, IsUndoable};
+ghost use Rattle.record_key.specs.FirstCause.{MayRefuse};
+ghost use Rattle.stable.specs.Usage.{is_due};
+ghost use Rattle.logical_log.specs.LogView.{spent_refusal, after_refusal};
+ghost use Rattle.compensation.specs.NextUndo.{MayUndo, IsLeft, IsNextUndo, IsUndoable, UndoesNext};
 
 use history::Record;
 use inverse::inverse;
-use logical_log::Log;
-use record_key::Op;
+use logical_log::{Compensated, Log};
+use record_key::{Op, Refusal};
 use stable::LogDevice;
 
 /// The steps of a transaction, by the latest one.
@@ -46,6 +49,32 @@ pub fn next_undo<D: LogDevice>(log: &Log<D>, chain: Chain, above: u64) -> Next
         next,
         inverse,
     })
+}
+
+/// Appends the record that `next_undo` gives, from the bytes that stand in the log, and tells of it. None where none is
+/// left, and nothing is appended. Refused NumbersSpent, NoMemory or Device, in this order.
+pub fn append_undo<D: LogDevice>(
+    log: &mut Log<D>,
+    chain: Chain,
+    above: u64,
+) -> Result<Option<Compensated>, Refusal>
+    requires { MayUndo log.old.records chain }
+    ensures undoes { IfOk result (λ told. UndoesNext log.old chain.txn above told log.new) }
+    ensures found { OnErr result (IsLeft log.old.records chain.txn above) }
+    ensures refused { IfErr result (MayRefuse (spent_refusal log.old.records)) }
+    ensures device { IsErrOf result Refusal.Device → IsTrue (is_due log.old.usage) }
+    ensures left { IfErr result (λ refusal. log.new ≡ after_refusal log.old refusal) }
+{
+    // Called for what it tells of the records: their numbers can be spelled.
+    let _count = log.len();
+    let undoes = log.left_to_undo(chain.last);
+    if undoes <= above {
+        return Ok(None);
+    }
+    match log.append_comp(chain.txn, undoes) {
+        Ok(told) => Ok(Some(told)),
+        Err(refusal) => Err(refusal),
+    }
 }
 
 /// What undoes an answered operation, and what is left to undo after it.

@@ -5,3 +5,4 @@ pub mod Kept
 pub mod Shows
 pub mod Seen
 pub mod Restarting
+pub mod Performing

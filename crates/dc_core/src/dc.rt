@@ -9,19 +9,21 @@ ghost use Rattle.system_txn.specs.SystemView.{failing_at};
 ghost use Rattle.system_txn.specs.Recovering.{Recovers, RefusesRecovery};
 ghost use Rattle.system_txn.specs.Uses.{StopsOpening, log_calls, page_calls};
 ghost use Rattle.dc_core.specs.Restarting.{restarted};
+ghost use Rattle.codec.specs.Parted.{request_to};
 ghost use Rattle.codec.specs.Requests.{HasRequestNumbers};
 ghost use Rattle.page.specs.Leaf.{first};
 ghost use Rattle.btree.specs.Leaves.{all_rows};
 ghost use Rattle.dc_core.specs.DcView.{fresh, leaves};
-ghost use Rattle.dc_core.specs.Serves.{serve_refusal, MayAsk, ServeGives, with_system};
+ghost use Rattle.dc_core.specs.Performing.{replied};
+ghost use Rattle.dc_core.specs.Serves.{serve_refusal, session_refusal, MayAsk, ServeGives, with_system};
 ghost use Rattle.dc_core.specs.Shows.{Shows};
 ghost use Rattle.dc_core.specs.Tends.{SplitsTo, MergesTo, TendsTo, FlushesTo};
 ghost use Rattle.dc_core.specs.Kept.{IsDc};
 
 use crate::parts::Parts;
-use codec::{Reply, Request};
-use page::Leaf;
-use record_key::{Key, Refusal, Value};
+use codec::{Asking, Reply, Request};
+use page::{Done, Leaf};
+use record_key::{Key, Op, Refusal, Value};
 use stable::{CrashLog, CrashPages, LogDevice, MemLog, MemPages, PageDevice};
 use std::alloc::Global;
 use std::marker::Model;
@@ -148,6 +150,25 @@ impl<D: LogDevice, P: PageDevice> Dc<D, P> {
         ensures gives { ServeGives self.old request.now result self.new }
     {
         self.parts.reply_to(request)
+    }
+
+    /// Whether requests of this session to perform are taken, as `allows` says.
+    pub fn allows_session(&self, session: u64) -> Result<(), Refusal>
+        ensures allowed { OnOk result (session_refusal self.now session ≡ None) }
+        ensures refused { IfErr result (λ refusal. session_refusal self.now session ≡ Some refusal) }
+    {
+        self.parts.in_session(session)
+    }
+
+    /// What `serve_allowed` does of a request to perform, for a caller that has its operation apart. What came of it is
+    /// left in `done`.
+    pub fn perform(&mut self, asking: Asking, op: &Op, done: &mut Result<Done, Refusal>)
+        requires allowed { session_refusal self.old asking.session ≡ None }
+        requires numbers { HasRequestNumbers (request_to asking op.now) }
+        requires owed { MayAsk self.old (request_to asking op.now) }
+        ensures gives { ServeGives self.old (request_to asking op.now) (replied asking done.new) self.new }
+    {
+        self.parts.perform_asked(asking, op, done);
     }
 
     /// Splits the leaf of the key, where it has two records at least and no entry above the known end; else refused

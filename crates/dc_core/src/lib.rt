@@ -23,4 +23,5 @@ mod tending;
 
 pub use dc::Dc;
 pub use performance::Performance;
+pub use performing::answer_of;
 pub use system_txn::{Device, Devices, Neighbours, Refused, Tended};

@@ -1,14 +1,18 @@
 //! What each kind of request does to the parts.
-ghost use Rattle.std.specs.Prelude.{◌≡◌, None, IfOk, IfErr};
+ghost use Rattle.std.specs.Prelude.{◌≡◌, Some, None, IfOk, IfErr};
+ghost use Rattle.codec.specs.Parted.{request_to};
 ghost use Rattle.codec.specs.Requests.{HasRequestNumbers};
 ghost use Rattle.dc_core.specs.DcView.{leaves};
-ghost use Rattle.dc_core.specs.Serves.{serve_refusal, MayAsk, lowers, ServeGives, Serves, Stops};
+ghost use Rattle.dc_core.specs.Performing.{reply_with};
+ghost use Rattle.dc_core.specs.Serves.{serve_refusal, session_refusal, MayAsk, lowers, ServeGives, Serves, Stops};
 ghost use Rattle.dc_core.specs.Kept.{IsDc};
 ghost use Rattle.dc_core.specs.Seen.{seen};
 
 use crate::parts::Parts;
-use codec::{Reply, Request};
-use record_key::Refusal;
+use crate::performing::into_answer;
+use codec::{Asking, Reply, Request};
+use page::Done;
+use record_key::{Op, Refusal};
 use stable::{LogDevice, PageDevice};
 
 impl<D: LogDevice, P: PageDevice> Parts<D, P> {
@@ -41,13 +45,21 @@ impl<D: LogDevice, P: PageDevice> Parts<D, P> {
                 stable,
                 op,
             } => {
-                let answer = self.perform(*number, op)?;
-                self.learn(*stable);
-                Ok(Some(Reply::Answered {
+                let asking = Asking {
                     session: *session,
                     number: *number,
-                    answer,
-                }))
+                    stable: *stable,
+                };
+                let mut done = Err(Refusal::NoMemory);
+                self.perform_asked(asking, op, &mut done);
+                match done {
+                    Ok(done) => Ok(Some(Reply::Answered {
+                        session: *session,
+                        number: *number,
+                        answer: into_answer(done),
+                    })),
+                    Err(refusal) => Err(refusal),
+                }
             }
             Request::Get { session, read, key } => Ok(Some(self.get(*session, *read, key))),
             Request::Scan {
@@ -66,6 +78,24 @@ impl<D: LogDevice, P: PageDevice> Parts<D, P> {
                 self.learn(*stable);
                 Ok(None)
             }
+        }
+    }
+
+    /// Performs what an allowed request asks, whose operation is handed apart. What came of it is left in `done`.
+    pub fn perform_asked(&mut self, asking: Asking, op: &Op, done: &mut Result<Done, Refusal>)
+        requires kept { IsDc (seen self.old) }
+        requires allowed { session_refusal (seen self.old) asking.session ≡ None }
+        requires numbers { HasRequestNumbers (request_to asking op.now) }
+        requires owed { MayAsk (seen self.old) (request_to asking op.now) }
+        ensures kept { IsDc (seen self.new) }
+        ensures served { IfOk done.new (λ done. Serves (seen self.old) (request_to asking op.now)
+            (Some (reply_with asking done)) (seen self.new)) }
+        ensures stopped { IfErr done.new (λ refusal. Stops (seen self.old) (request_to asking op.now) refusal
+            (seen self.new)) }
+    {
+        self.perform(asking.number, op, done);
+        if done.is_ok() {
+            self.learn(asking.stable);
         }
     }
 }

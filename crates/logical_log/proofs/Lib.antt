@@ -12,3 +12,4 @@ pub mod NotSession
 pub mod Opening
 pub mod Puts
 pub mod Spelled
+pub mod Undoing

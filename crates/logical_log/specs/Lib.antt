@@ -10,3 +10,4 @@ pub mod NotSession
 pub mod Opening
 pub mod Replay
 pub mod Spelled
+pub mod Undoing

@@ -1,24 +1,32 @@
 //! The frames of records, one after another, with an index of their places and of answers.
-ghost use Rattle.std.specs.Prelude.{◌≡◌, ◌+◌, ◌≤◌, ◌<◌, ◌^◌, ◌↔◌, ◌++◌, ◌∷◌, [], ℕ, List, length, ◌⊎◌, None, is_some, true, IsTrue, IfSome, IfNone, OnOk, OnErr, IfErr, IsErrOf};
-ghost use Rattle.history.specs.Log.{record_at, answer_of, request_in, step_in};
-ghost use Rattle.history.specs.Legal.{Fits, IsLegal};
+ghost use Rattle.std.specs.Prelude.{◌≡◌, ◌+◌, ◌≤◌, ◌<◌, ◌^◌, ◌↔◌, ◌++◌, ◌∷◌, [], ℕ, List, length, ◌⊎◌, Some, None, is_some, true, IsTrue, IfSome, IfNone, OnOk, OnErr, IfOk, IfErr, IsErrOf};
+ghost use Rattle.history.specs.Log.{record_at, answer_of, request_in, step_in, IsOpBy};
+ghost use Rattle.history.specs.Legal.{Fits, IsLegal, Inverts};
 ghost use Rattle.history.specs.Chains.{undo_from};
 ghost use Rattle.history.specs.declared.record.Record.{Record};
 ghost use Rattle.codec.specs.FrameIndex.{places_of, Indexes};
 ghost use Rattle.codec.specs.Frames.{frame, IfTaken, IfBad, IsThere, IsCut};
 ghost use Rattle.codec.specs.Records.{record_bytes, HasNumbers, IsRecord};
+ghost use Rattle.codec.specs.Undoing.{AreAnsweredAt};
 ghost use Rattle.logical_log.specs.Index.{is_answered};
 ghost use Rattle.record_key.specs.FirstCause.{MayRefuse};
+ghost use Rattle.record_key.specs.declared.op.Op.{Op};
+ghost use Rattle.record_key.specs.declared.op.Answer.{Answer};
 ghost use Rattle.stable.specs.Device.{ForcesPart};
 ghost use Rattle.stable.specs.Usage.{is_due, called, failed, failing_in};
 ghost use Rattle.logical_log.specs.Kept.{with_record, with_usage};
 ghost use Rattle.logical_log.specs.LogView.{refused_use};
 ghost use Rattle.logical_log.specs.Low.{stable_part};
 ghost use Rattle.logical_log.specs.Spelled.{spelled, AreRecords, IsAskedBy, IsNext, IsPlaceOf};
+ghost use Rattle.logical_log.specs.Undoing.{comp_at, inverse_at, next_at, IsToldOf};
 
-use crate::note::{ASKS_NOTHING, answer_held, answer_place, note};
-use crate::write::{refusal_of, write};
-use codec::{FrameIndex, Taken, asked_bytes, asked_op, left_to_undo, step_txn, take_record};
+use crate::compensated::Compensated;
+use crate::note::{ASKS_NOTHING, answer_held, answer_place, note, note_comp};
+use crate::write::{refusal_of, write, write_comp};
+use codec::{
+    CompNumbers, FrameIndex, Taken, asked_bytes, asked_op, left_to_undo, step_prev, step_txn,
+    take_record,
+};
 use history::Record;
 use record_key::{Answer, Op, Refusal};
 use stable::{CrashLog, LogDevice};
@@ -159,6 +167,29 @@ impl<D: LogDevice> Frames<D> {
         }
     }
 
+    /// What the record that undoes an answered operation is made from: where the frames of the operation of this number
+    /// and of its Answer record begin, and the number of the operation that is left to undo after it, 0 if none.
+    fn undo_sources(&self, number: u64) -> (usize, usize, u64)
+        requires { Inverts self.now.records number (inverse_at self.now.records number) }
+        ensures places { (t : ℕ) (o : Op) (a : Answer) → IsOpBy self.now.records number t o
+            → answer_of self.now.records number ≡ Some a
+            → AreAnsweredAt (self.now.device.forced ++ self.now.device.pending) result.0 result.1 o a }
+        ensures next { result.2 ≡ next_at self.now.records number }
+    {
+        let answer = answer_place(self.answers.as_slice(), number);
+        let held = self.device.held();
+        match (
+            place_of(&self.index, held, number),
+            place_of(&self.index, held, answer),
+        ) {
+            (Some(op_at), Some(answer_at)) => {
+                let next = self.left_to_undo(step_prev(held, op_at));
+                (op_at, answer_at, next)
+            }
+            _ => unreachable!(),
+        }
+    }
+
     pub(crate) fn answer_of(&self, number: u64) -> Option<Answer>
         ensures { result ≡ answer_of self.now.records number }
     {
@@ -265,6 +296,32 @@ impl<D: LogDevice> Frames<D> {
         self.index.push_reserved(self.end);
         self.end = self.device.held().len();
         Ok(())
+    }
+
+    /// Appends the Comp record by which the transaction undoes the answered operation of number `undoes`, in one device
+    /// call, spelled from the bytes of both records. Refused NoMemory or Device, and unchanged then.
+    pub(crate) fn append_comp(&mut self, txn: u64, undoes: u64) -> Result<Compensated, Refusal>
+        requires all_read { self.old.left ≡ [] }
+        requires fits { Fits self.old.records (comp_at self.old.records txn undoes) }
+        requires numbers { HasNumbers (comp_at self.old.records txn undoes) }
+        requires room { length self.old.records < 281474976710655 }
+        ensures appended { OnOk result (self.new ≡ with_record self.old (comp_at self.old.records txn undoes)) }
+        ensures told { IfOk result (IsToldOf self.old.records undoes) }
+        ensures unchanged { IfErr result (λ refusal.
+            self.new ≡ with_usage self.old (refused_use self.old.device.usage refusal)) }
+        ensures cause { IfErr result (MayRefuse None) }
+        ensures device { IsErrOf result Refusal.Device → IsTrue (is_due self.old.device.usage) }
+    {
+        let (op_at, answer_at, next) = self.undo_sources(undoes);
+        let numbers = CompNumbers { txn, undoes, next };
+        self.index.reserve()?;
+        self.answers.reserve(1)?;
+        let asks = write_comp(&mut self.device, &mut self.frame, numbers, op_at, answer_at)?;
+        let number = self.index.len() as u64 + 1;
+        note_comp(&mut self.answers, asks);
+        self.index.push_reserved(self.end);
+        self.end = self.device.held().len();
+        Ok(Compensated { number, next, asks })
     }
 
     /// Forces all bytes, in one device call. The one refusal is Device, and some bytes may be forced then.

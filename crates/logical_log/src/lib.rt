@@ -10,6 +10,7 @@
 
 mod adders;
 mod analysis;
+mod compensated;
 mod fits;
 mod found;
 mod frames;
@@ -24,6 +25,7 @@ mod replay;
 mod write;
 
 pub use analysis::Analysis;
+pub use compensated::Compensated;
 pub use found::Found;
 pub use frames::Frames;
 pub use laws::crash_law;

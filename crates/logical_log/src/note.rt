@@ -1,8 +1,9 @@
 //! The index of Answer records.
-ghost use Rattle.std.specs.Prelude.{◌≡◌, ◌-◌, ◌<◌, vec_len, get_or};
+ghost use Rattle.std.specs.Prelude.{◌≡◌, ◌-◌, ◌<◌, ◌++◌, ◌∷◌, [], Option, vec_len, get_or};
 ghost use Rattle.std.specs.Vec.{vec_capacity};
 ghost use Rattle.std.specs.Prelude.{is_some};
 ghost use Rattle.history.specs.Log.{request_of};
+ghost use Rattle.record_key.specs.declared.op.Op.{Op};
 ghost use Rattle.logical_log.specs.Index.{noted, NamesWithin, answer_in, asks_nothing, first_place as place_first};
 
 use history::Record;
@@ -43,11 +44,11 @@ pub(crate) fn answer_place(answers: &[u64], number: u64) -> u64
     }
 }
 
-/// What the index holds for a record that is appended.
-fn first_place(appended: &Record) -> u64
-    ensures { result ≡ place_first (request_of appended.now) }
+/// What the index holds for a record that is appended, which asks for something or not.
+fn first_place(asks: bool) -> u64
+    ensures { (asked : Option Op) → asks ≡ is_some asked → result ≡ place_first asked }
 {
-    if asks(appended) { 0 } else { ASKS_NOTHING }
+    if asks { 0 } else { ASKS_NOTHING }
 }
 
 /// Notes that a record of this number is appended.
@@ -59,5 +60,14 @@ pub(crate) fn note(answers: &mut Vec<u64>, appended: &Record, number: u64)
     if let Record::Answer { of, .. } = appended {
         answers[*of as usize - 1] = number;
     }
-    answers.push_reserved(first_place(appended));
+    answers.push_reserved(first_place(asks(appended)));
+}
+
+/// The same of a Comp record, which asks for something or not.
+pub(crate) fn note_comp(answers: &mut Vec<u64>, asks: bool)
+    requires room { vec_len answers.old < vec_capacity answers.old }
+    ensures { (asked : Option Op) → asks ≡ is_some asked
+        → answers.new.items ≡ answers.old.items ++ place_first asked ∷ [] }
+{
+    answers.push_reserved(first_place(asks));
 }

@@ -1,15 +1,21 @@
 //! What changes the log.
-ghost use Rattle.std.specs.Prelude.{◌≡◌, ◌++◌, None, length, IsTrue, OnOk, OnErr, IfOk, IfErr, IsErrOf};
+ghost use Rattle.std.specs.Prelude.{◌≡◌, ◌++◌, None, length, is_some, IsTrue, OnOk, OnErr, IfOk, IfErr, IsErrOf};
 ghost use Rattle.history.specs.Legal.{Fits};
 ghost use Rattle.codec.specs.Frames.{frame};
 ghost use Rattle.codec.specs.Records.{record_bytes, HasNumbers, IsRecord};
+ghost use Rattle.codec.specs.Undoing.{AreAnsweredAt, comp_of};
+ghost use Rattle.inverse.specs.Inverse.{inverse_of};
+ghost use Rattle.record_key.specs.declared.op.Op.{Op};
+ghost use Rattle.record_key.specs.declared.op.Answer.{Answer};
 ghost use Rattle.record_key.specs.FirstCause.{MayRefuse};
 ghost use Rattle.stable.specs.Usage.{is_due, called};
 ghost use Rattle.logical_log.specs.LogView.{Appends, spent_refusal, after_refusal, usage_after, refusal_from};
+ghost use Rattle.logical_log.specs.Undoing.{comp_at, IsToldOf};
 
+use crate::compensated::Compensated;
 use crate::log::Log;
 use crate::not_session::last_with;
-use codec::put_record;
+use codec::{CompNumbers, put_record, put_undo};
 use history::Record;
 use record_key::Refusal;
 use stable::{DeviceError, LogDevice};
@@ -35,6 +41,27 @@ impl<D: LogDevice> Log<D> {
         let number = self.frames.len();
         self.last_not_session = last_with(appended, number, self.last_not_session);
         Ok(number)
+    }
+
+    /// Appends the Comp record by which the transaction undoes the answered operation of number `undoes`, in one device
+    /// call. It is spelled from the bytes of the operation's record and of its Answer record, and neither is read into a
+    /// value. Refused NumbersSpent, NoMemory or Device, in this order.
+    pub fn append_comp(&mut self, txn: u64, undoes: u64) -> Result<Compensated, Refusal>
+        requires fits { Fits self.old.records (comp_at self.old.records txn undoes) }
+        requires numbers { HasNumbers (comp_at self.old.records txn undoes) }
+        ensures appended { IfOk result (λ done.
+            Appends self.old (comp_at self.old.records txn undoes) done.number self.new) }
+        ensures told { IfOk result (IsToldOf self.old.records undoes) }
+        ensures refused { IfErr result (MayRefuse (spent_refusal self.old.records)) }
+        ensures device { IsErrOf result Refusal.Device → IsTrue (is_due self.old.usage) }
+        ensures left { IfErr result (λ refusal. self.new ≡ after_refusal self.old refusal) }
+    {
+        if self.len() >= LAST_NUMBER {
+            return Err(Refusal::NumbersSpent);
+        }
+        let done = self.frames.append_comp(txn, undoes)?;
+        self.last_not_session = done.number;
+        Ok(done)
     }
 
     /// Makes every record stable, in one device call, and answers the number of the last. The one refusal is Device.
@@ -77,6 +104,35 @@ pub(crate) fn write<D: LogDevice>(
     put_record(out, appended)?;
     match device.append(out) {
         Ok(()) => Ok(()),
+        Err(error) => Err(refusal_of(error)),
+    }
+}
+
+/// The same of the Comp record with these numbers that undoes an answered operation, whose record and Answer record stand
+/// on the device at these places. Answers whether it has an inverse.
+pub(crate) fn write_comp<D: LogDevice>(
+    device: &mut D,
+    out: &mut Vec<u8>,
+    numbers: CompNumbers,
+    op_at: usize,
+    answer_at: usize,
+) -> Result<bool, Refusal>
+    ensures written { (o : Op) (a : Answer)
+        → AreAnsweredAt (D.forced device.old ++ D.pending device.old) op_at answer_at o a
+        → OnOk result (D.pending device.new ≡ D.pending device.old ++ frame (record_bytes (comp_of numbers o a))) }
+    ensures asks { (o : Op) (a : Answer)
+        → AreAnsweredAt (D.forced device.old ++ D.pending device.old) op_at answer_at o a
+        → IfOk result (λ asks. asks ≡ is_some (inverse_of o a)) }
+    ensures not_written { OnErr result (D.pending device.new ≡ D.pending device.old) }
+    ensures forced { D.forced device.new ≡ D.forced device.old }
+    ensures cause { IfErr result (MayRefuse None) }
+    ensures device { IsErrOf result Refusal.Device → IsTrue (is_due (D.usage device.old)) }
+    ensures used { D.usage device.new ≡ usage_after (D.usage device.old) result }
+{
+    out.clear();
+    let asks = put_undo(out, numbers, device.held(), op_at, answer_at)?;
+    match device.append(out) {
+        Ok(()) => Ok(asks),
         Err(error) => Err(refusal_of(error)),
     }
 }

@@ -4,7 +4,7 @@ ghost use Rattle.codec.specs.Replies.{IsOrdered};
 use crate::rows::put_rows;
 use crate::walking::{Found, Reading};
 use crate::written::{marked, told, unwritten};
-use codec::{Reply, Taken, put_reply, reply_session, take_reply};
+use codec::{Reply, Taken, answered_at, put_answered, put_reply, reply_session, take_reply};
 use record_key::{Answer, Refusal, Value};
 use std::fmt::Write;
 use test_lines::{put_answer, put_text};
@@ -16,6 +16,7 @@ pub fn read(reading: &Reading<'_>, answer: &mut String) -> Result<Found, Refusal
         Taken::Record(found, next) => {
             let out = written(reading, &found)?;
             put_told(reading, answer, &found)?;
+            compare_apart(reading, &found, &out, answer)?;
             told(reading, next, &out, answer)
         }
         Taken::Short => Ok(Found::Short),
@@ -32,6 +33,36 @@ fn written(reading: &Reading<'_>, found: &Reply) -> Result<Vec<u8>, Refusal>
         Ok(()) => Ok(out),
         Err(refusal) => Err(unwritten(refusal, &out)),
     }
+}
+
+/// Tells where a reply that answers is read or written otherwise with its answer apart.
+fn compare_apart(
+    reading: &Reading<'_>,
+    found: &Reply,
+    written: &[u8],
+    answer: &mut String,
+) -> Result<(), Refusal>
+    requires { IsOrdered found.now }
+{
+    let mut held = None;
+    let answered = answered_at(reading.bytes, reading.at, &mut held);
+    let mut is_same = answered.is_none();
+    if let Reply::Answered {
+        session,
+        number,
+        answer: given,
+    } = found
+    {
+        let mut out = marked(reading)?;
+        if let Err(refusal) = put_answered(&mut out, *session, *number, given.as_ref()) {
+            return Err(unwritten(refusal, &out));
+        }
+        is_same = answered == Some(*number) && held == *given && out.as_slice() == written;
+    }
+    if !is_same {
+        answer.push_str(" but apart otherwise")?;
+    }
+    Ok(())
 }
 
 /// Tells the reply, and where its session is found to be another one without its rows.

@@ -3,8 +3,8 @@ ghost use Rattle.codec.specs.Requests.{HasRequestNumbers};
 
 use crate::walking::{Found, Reading};
 use crate::written::{marked, told, unwritten};
-use codec::{Request, Taken, put_request, take_request};
-use record_key::{Key, Refusal};
+use codec::{Asking, Request, Taken, asking_at, put_request, take_request};
+use record_key::{Key, Op, Refusal};
 use std::fmt::Write;
 use test_lines::{put_key, put_op};
 
@@ -16,6 +16,7 @@ pub fn read(reading: &Reading<'_>, answer: &mut String) -> Result<Found, Refusal
             if reading.tells {
                 put_fields(answer, &found)?;
             }
+            compare_apart(reading, &found, answer)?;
             told(reading, next, &out, answer)
         }
         Taken::Short => Ok(Found::Short),
@@ -31,6 +32,39 @@ fn written(reading: &Reading<'_>, found: &Request) -> Result<Vec<u8>, Refusal>
     match put_request(&mut out, found) {
         Ok(()) => Ok(out),
         Err(refusal) => Err(unwritten(refusal, &out)),
+    }
+}
+
+/// Tells where it is read otherwise with its operation apart.
+fn compare_apart(
+    reading: &Reading<'_>,
+    found: &Request,
+    answer: &mut String,
+) -> Result<(), Refusal> {
+    let mut op = None;
+    let asking = asking_at(reading.bytes, reading.at, &mut op);
+    let is_same = match (asking, op) {
+        (Some(asking), Some(op)) => *found == perform(asking, op),
+        (Some(_), None) => false,
+        (None, _) => !matches!(found, Request::Perform { .. }),
+    };
+    if !is_same {
+        answer.push_str(" but apart otherwise")?;
+    }
+    Ok(())
+}
+
+fn perform(asking: Asking, op: Op) -> Request {
+    let Asking {
+        session,
+        number,
+        stable,
+    } = asking;
+    Request::Perform {
+        session,
+        number,
+        stable,
+        op,
     }
 }
 

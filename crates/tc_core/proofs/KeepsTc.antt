@@ -3,7 +3,6 @@ use Rattle.std.proofs.Common.{◌≡◌, ℕ, ◌+◌, ◌-◌, ◌<◌, ◌≤�
 use Rattle.std.specs.Prelude.{take, slice_get, ◌==◌, ◌||◌, if◌then◌else◌}
 use Rattle.std.proofs.Math.Bool.{or-true}
 use Rattle.std.proofs.lemmas.List.Folds.{list_any-append}
-use Rattle.std.proofs.lemmas.List.Elements.{All-nil}
 use Rattle.std.specs.List.{AllByRecursion}
 use Rattle.std.proofs.lemmas.Bool.Decides.{nat_tests}
 use Rattle.std.proofs.lemmas.Bool.{cases_eq, cases_Bool, cases_lt}
@@ -20,11 +19,11 @@ use Rattle.tc_core.specs.declared.open_txn.Read.{Read}
 use Rattle.tc_core.specs.declared.open_txn.Rollback.{Rollback}
 use Rattle.tc_core.specs.OpenTxns.{find, replace, AreBelow}
 use Rattle.range_locks.specs.Locks.{spans_of, IsFree}
-use Rattle.range_locks.proofs.Tables.{empty_table, set_other}
-use Rattle.tc_core.specs.TcView.{TcView, fresh, used_so}
+use Rattle.range_locks.proofs.Tables.{set_other}
+use Rattle.tc_core.specs.TcView.{TcView, used_so}
 use Rattle.stable.specs.Usage.{Usage}
 use Rattle.logical_log.specs.LogView.{is_spent}
-use Rattle.restart.specs.Losers.{IsLoser, IsAt, IsUndone, txns}
+use Rattle.restart.specs.Losers.{txns}
 use Rattle.tc_core.specs.Locking.{is_listed, is_holder}
 use Rattle.tc_core.specs.Changes.{let_go, logged_session, reconnected, begun_txn, begun, acted_txn, acted, forced, answered_txn, answered, rolling_txn, rolled, saved_txn, saved, going_back_txn, going_back, back_txn, is_back}
 use Rattle.tc_core.specs.Replies.{takes, is_number, if_awaits, asker, awaiting, next_phase, passed}
@@ -37,7 +36,7 @@ use Rattle.tc_core.proofs.LettingGo.{let_go_held, let_go_other, early_taken, ear
 use Rattle.logical_log.proofs.Index.{nothing_answered}
 use Rattle.tc_core.proofs.Keeps.{open_had, open_was, unended_next, IsBounded}
 use Rattle.tc_core.proofs.Losers.{listed_loser, loser_listed, unlisted_late, lost_spared, lost_started, lost_passed, lost_more, late_at}
-use Rattle.tc_core.proofs.Low.{may_none, low_within, low_longer, low_forced, low_started}
+use Rattle.tc_core.proofs.Low.{low_within, low_longer, low_forced, low_started}
 use Rattle.tc_core.proofs.KeepsIdle.{own_request}
 use Rattle.tc_core.proofs.KeepsOpen.{open_below, same_open, replaced_open, added_open}
 use Rattle.tc_core.proofs.KeepsSteps.{session_leaves, begin_leaves, step_leaves, answer_leaves, opens, acts, answer_comes}

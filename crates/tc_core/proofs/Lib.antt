@@ -1,6 +1,5 @@
 mod Asking
 pub mod Finding
-pub mod Numbers
 pub mod Low
 pub mod Losers
 pub mod Slots

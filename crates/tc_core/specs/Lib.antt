@@ -21,3 +21,4 @@ pub mod Kept
 pub mod Undoing
 pub mod Undo
 pub mod Seen
+pub mod Heard

@@ -33,4 +33,4 @@ pub use laws::{crashed_law, opened_again_law, opened_law};
 pub use open_txn::{OpenTxn, Read, Rollback};
 pub use phase::Phase;
 pub use tc::Tc;
-pub use told::{Committed, Connecting, Forced, RecoverStep, Told, UndoStep};
+pub use told::{Committed, Connecting, Forced, Heard, RecoverStep, Told, UndoStep};

@@ -11,9 +11,8 @@ use crate::parts::Parts;
 use crate::phase::Phase;
 use crate::requests::request;
 use crate::told::RecoverStep;
-use crate::undoing::left_by;
 use codec::Request;
-use compensation::{Next, next_undo};
+use compensation::append_undo;
 use history::Record;
 use record_key::Refusal;
 use restart::Loser;
@@ -72,13 +71,14 @@ impl<D: LogDevice> Parts<D> {
         ensures kept { IsTc (seen self.new) }
         ensures gives { RecoverGives (seen self.old) result (seen self.new) }
     {
-        let Next::Write(compensation) = next_undo(&self.log, loser.chain(), 0) else {
-            unreachable!()
+        let told = match append_undo(&mut self.log, loser.chain(), 0) {
+            Ok(Some(told)) => told,
+            Ok(None) => unreachable!(),
+            Err(refusal) => return Err(refusal),
         };
-        let number = self.log.append(&compensation)?;
-        let (next, asks) = left_by(&compensation);
-        self.losers.compensated(number, next);
-        let waiting = if asks { Some(number) } else { None };
+        let number = told.number;
+        self.losers.compensated(number, told.next);
+        let waiting = if told.asks { Some(number) } else { None };
         self.phase = Phase::Undoing { waiting };
         Ok(RecoverStep::Compensated(number))
     }

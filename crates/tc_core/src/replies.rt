@@ -1,13 +1,14 @@
 //! What a reply is to a session and to a transaction.
-ghost use Rattle.std.specs.Prelude.{◌≡◌};
-ghost use Rattle.tc_core.specs.Replies.{takes as is_taken, told_of as tells, told_lost as tells_lost, left_awaited, span_read, is_key, is_range};
+ghost use Rattle.std.specs.Prelude.{◌≡◌, Option, Some};
+ghost use Rattle.record_key.specs.declared.op.Answer.{Answer};
+ghost use Rattle.tc_core.specs.Heard.{told_with};
+ghost use Rattle.tc_core.specs.Replies.{takes as is_taken, told_of, told_lost, left_awaited, span_read, is_key, is_range};
 
 use crate::open_txn::OpenTxn;
 use crate::phase::Phase;
-use crate::told::Told;
+use crate::told::Heard;
 use history::Record;
 use range_locks::Span;
-use record_key::Answer;
 
 /// Whether the answer of this number is taken: clients are served, or redo waits for it.
 pub fn takes(session: u64, phase: Phase, number: u64) -> bool
@@ -34,27 +35,24 @@ pub fn reads_range(asker: &OpenTxn) -> bool
     matches!(&asker.reading, Some(read) if matches!(&read.span, Span::Range { .. }))
 }
 
-/// What a client is told of an answer: nothing where it is a compensation's.
-pub fn told_of(asker: &OpenTxn, number: u64, answer: &Answer) -> Told
-    ensures { result ≡ tells asker.now number answer.now }
+/// What is heard of an answer: nothing where it is a compensation's.
+pub fn heard_of(asker: &OpenTxn, number: u64) -> Heard
+    ensures { (a : Answer) → told_with (Some a) result ≡ told_of asker.now number a }
 {
     if asker.rolling.is_some() {
-        Told::Undone(number)
+        Heard::Undone(number)
     } else {
-        Told::Answered {
-            txn: asker.txn,
-            answer: answer.copied(),
-        }
+        Heard::Answered(asker.txn)
     }
 }
 
-/// What is told of a loser's answer: that its compensation was performed.
-pub fn told_lost(item: Option<Record>, number: u64) -> Told
-    ensures { result ≡ tells_lost item number }
+/// What is heard of a loser's answer: that its compensation was performed.
+pub fn heard_lost(item: Option<Record>, number: u64) -> Heard
+    ensures { (a : Option Answer) → told_with a result ≡ told_lost item number }
 {
     match item {
-        Some(Record::Comp { .. }) => Told::Undone(number),
-        _ => Told::Nothing,
+        Some(Record::Comp { .. }) => Heard::Undone(number),
+        _ => Heard::Nothing,
     }
 }
 

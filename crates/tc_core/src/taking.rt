@@ -4,6 +4,7 @@ ghost use Rattle.std.specs.Option.{option_copied};
 ghost use Rattle.codec.specs.Replies.{session_of};
 ghost use Rattle.tc_core.specs.Replies.{is_stale, ReplyGives, awaiting, lacks, reader, passed, on_row as reads_row, on_rows as reads_rows, takes as takes_number, on_connected as connects, on_redo_ended as ends_redo};
 ghost use Rattle.tc_core.specs.Answering.{AnsweredGives};
+ghost use Rattle.tc_core.specs.Heard.{all_told};
 ghost use Rattle.tc_core.specs.Kept.{IsTc};
 ghost use Rattle.tc_core.specs.Seen.{seen};
 
@@ -12,8 +13,8 @@ use crate::open_txn::OpenTxn;
 use crate::open_txns::Wanted;
 use crate::parts::Parts;
 use crate::phase::Phase;
-use crate::replies::{left_waiting, reads_key, reads_range, takes, told_lost, told_of};
-use crate::told::Told;
+use crate::replies::{heard_lost, heard_of, left_waiting, reads_key, reads_range, takes};
+use crate::told::{Heard, Told};
 use codec::{Reply, Rows};
 use history::Record;
 use record_key::{Answer, Refusal, Value};
@@ -38,7 +39,10 @@ impl<D: LogDevice> Parts<D> {
     {
         match reply {
             Reply::Connected { .. } => Ok(self.on_connected()),
-            Reply::Answered { number, answer, .. } => self.on_answered(number, answer),
+            Reply::Answered { number, answer, .. } => match self.on_answered(number, &answer) {
+                Ok(heard) => Ok(heard.told(answer)),
+                Err(refusal) => Err(refusal),
+            },
             Reply::RedoEnded { .. } => Ok(self.on_redo_ended()),
             Reply::Row { read, value, .. } => Ok(self.on_row(read, value)),
             Reply::Rows { read, rows, .. } => Ok(self.on_rows(read, rows)),
@@ -90,47 +94,48 @@ impl<D: LogDevice> Parts<D> {
         Told::RedoEnded(self.session)
     }
 
-    fn on_answered(&mut self, number: u64, answer: Option<Answer>) -> Result<Told, Refusal>
+    /// What comes of the answer of this number, which is logged where it is awaited.
+    pub fn on_answered(&mut self, number: u64, answer: &Option<Answer>) -> Result<Heard, Refusal>
         requires { IsTc (seen self.old) }
         ensures kept { IsTc (seen self.new) }
-        ensures gives { AnsweredGives (seen self.old) number answer result (seen self.new) }
+        ensures gives { AnsweredGives (seen self.old) number answer.now (all_told answer.now result) (seen self.new) }
     {
         if !takes(self.session, self.phase, number) {
-            return Ok(Told::Nothing);
+            return Ok(Heard::Nothing);
         }
         let Some(opened) = self.awaiting(number) else {
             return self.on_unawaited(number, answer);
         };
         let Some(answer) = answer else {
-            return Ok(Told::Nothing);
+            return Ok(Heard::Nothing);
         };
         let txn = opened.txn;
-        let told = told_of(opened, number, &answer);
-        self.log.append(&Record::Answer { of: number, answer })?;
+        let heard = heard_of(opened, number);
+        self.log.append(&answered(number, answer))?;
         self.open_txns.change(txn, Change::Answered);
         self.pass(number);
-        Ok(told)
+        Ok(heard)
     }
 
     /// No client waits for it: a loser's answer is logged where there was none.
-    fn on_unawaited(&mut self, number: u64, answer: Option<Answer>) -> Result<Told, Refusal>
+    fn on_unawaited(&mut self, number: u64, answer: &Option<Answer>) -> Result<Heard, Refusal>
         requires kept { IsTc (seen self.old) }
         requires taken { takes_number self.old.session self.old.phase number ≡ true }
         requires unawaited { awaiting (seen self.old) number ≡ None }
         ensures kept { IsTc (seen self.new) }
-        ensures gives { AnsweredGives (seen self.old) number answer result (seen self.new) }
+        ensures gives { AnsweredGives (seen self.old) number answer.now (all_told answer.now result) (seen self.new) }
     {
         if !self.lacks(number) {
             self.pass(number);
-            return Ok(Told::Nothing);
+            return Ok(Heard::Nothing);
         }
         let Some(answer) = answer else {
-            return Ok(Told::Nothing);
+            return Ok(Heard::Nothing);
         };
-        let told = told_lost(self.log.record(number), number);
-        self.log.append(&Record::Answer { of: number, answer })?;
+        let heard = heard_lost(self.log.record(number), number);
+        self.log.append(&answered(number, answer))?;
         self.pass(number);
-        Ok(told)
+        Ok(heard)
     }
 
     /// Whether the record of this number asks for something and has no answer.
@@ -210,5 +215,15 @@ impl<D: LogDevice> Parts<D> {
             }
             _ => {}
         }
+    }
+}
+
+/// The record of an answer.
+fn answered(number: u64, answer: &Answer) -> Record
+    ensures { result ≡ Record.Answer number answer.now }
+{
+    Record::Answer {
+        of: number,
+        answer: answer.copied(),
     }
 }

@@ -1,5 +1,5 @@
 //! The transaction component.
-ghost use Rattle.std.specs.Prelude.{◌≡◌, ◌≤◌, ◌++◌, ◌+◌, [], true, false, length, Some, None, IfSome, IfOk, IfErr, OnOk, OnErr};
+ghost use Rattle.std.specs.Prelude.{◌≡◌, ◌≤◌, ◌++◌, ◌+◌, ℕ, [], true, false, length, Some, None, IfSome, IfOk, IfErr, OnOk, OnErr};
 ghost use Rattle.std.specs.Option.{option_copied};
 ghost use Rattle.stable.specs.Crash.{BeginsWith};
 ghost use Rattle.stable.specs.Usage.{failing_in};
@@ -11,7 +11,9 @@ ghost use Rattle.logical_log.specs.LogView.{spent_refusal};
 ghost use Rattle.tc_core.specs.TcView.{TcView, fresh, used_so};
 ghost use Rattle.tc_core.specs.OpenTxns.{find, oldest, wants};
 ghost use Rattle.tc_core.specs.Calls.{ReconnectGives, BeginGives, ActGives, ReadGives, SaveGives, BackGives, RollbackGives, CommitGives, UndoGives, ForceGives, ResendGives, IsAwaitedOp, TellStableGives};
+ghost use Rattle.codec.specs.declared.reply.Reply.TheVariants as says;
 ghost use Rattle.codec.specs.Replies.{session_of};
+ghost use Rattle.tc_core.specs.Heard.{all_told};
 ghost use Rattle.tc_core.specs.Replies.{is_stale, ReplyGives};
 ghost use Rattle.tc_core.specs.Recovery.{RecoverGives};
 ghost use Rattle.tc_core.specs.LowWater.{Announces, RefusesLow, LowWaterGives, IsGreatestAnnounced};
@@ -25,12 +27,12 @@ use crate::open_txns::{Wanted, copied as copied_txn};
 use crate::parts::Parts;
 use crate::phase::Phase;
 use crate::requests::copied;
-use crate::told::{Connecting, Forced, RecoverStep, Told, UndoStep};
+use crate::told::{Connecting, Forced, Heard, RecoverStep, Told, UndoStep};
 use codec::{Reply, Request};
 use history::Record;
 use logical_log::{Found, Refused};
 use range_locks::Span;
-use record_key::{Key, Op, Refusal};
+use record_key::{Answer, Key, Op, Refusal};
 use stable::{CrashLog, LogDevice};
 use std::alloc::Global;
 use std::marker::Model;
@@ -293,6 +295,15 @@ impl<D: LogDevice> Tc<D> {
         ensures gives { ReplyGives self.old reply result self.new }
     {
         self.parts.take_reply(reply)
+    }
+
+    /// What `take_reply` does of a reply that answers the operation of this number, for a caller that has the answer apart:
+    /// what is told of it, without the answer.
+    pub fn take_answer(&mut self, number: u64, answer: &Option<Answer>) -> Result<Heard, Refusal>
+        ensures gives { (session : ℕ) → is_stale self.old session ≡ false → ReplyGives self.old
+            (says.Answered session number answer.now) (all_told answer.now result) self.new }
+    {
+        self.parts.on_answered(number, answer)
     }
 
     /// The request that recovery sends next, or again while its reply is awaited; then one record of the losers' undo

@@ -24,6 +24,33 @@ pub enum Told {
     CheckpointLogged(u64),
 }
 
+/// What came of an answer, apart from the answer.
+#[derive(Debug, Clone, Copy, PartialEq, Eq)]
+pub enum Heard {
+    /// The reply wasn't awaited, or nobody is told of it.
+    Nothing,
+    /// The operation of this transaction was answered.
+    Answered(u64),
+    /// The compensation of this number was performed; no client is told.
+    Undone(u64),
+}
+
+impl Heard {
+    ghost use Rattle.std.specs.Prelude.{◌≡◌};
+    ghost use Rattle.tc_core.specs.Heard.{told_with};
+
+    /// The same, with the answer.
+    pub fn told(self, answer: Option<Answer>) -> Told
+        ensures { result ≡ told_with answer self }
+    {
+        match (self, answer) {
+            (Heard::Answered(txn), Some(answer)) => Told::Answered { txn, answer },
+            (Heard::Answered(_), None) | (Heard::Nothing, _) => Told::Nothing,
+            (Heard::Undone(number), _) => Told::Undone(number),
+        }
+    }
+}
+
 /// What one step of a rollback did.
 #[derive(Debug, Clone, Copy, PartialEq, Eq)]
 pub enum UndoStep {

@@ -3,3 +3,4 @@ pub mod Restarts
 pub mod Machine
 pub mod Settles
 pub mod Halves
+pub mod Apart

@@ -1,5 +1,10 @@
 -- Messages kept as their frames, one after another in a buffer, with an index of the places of these.
-use Rattle.std.specs.Prelude.{◌≡◌, ℕ, ◌<◌, ◌^◌, Bool, true, false, List, Some, ◌++◌, length, drop}
+use Rattle.std.specs.Prelude.{◌≡◌, ℕ, ◌<◌, ◌^◌, Bool, true, false, List, Option, Some, None, ◌++◌, length, drop}
+use Rattle.record_key.specs.declared.op.Op.{Op}
+use Rattle.record_key.specs.declared.op.Answer.{Answer}
+use Rattle.codec.specs.declared.parted.Asking.{Asking}
+use Rattle.codec.specs.Parted.{request_to}
+use Rattle.codec.specs.Requests.{IsRequest}
 use Rattle.record_key.specs.declared.refusal.Refusal.{Refusal}
 use Rattle.record_key.specs.declared.refusal.Refusal.TheVariants.{NoMemory, Stale}
 use Rattle.std.specs.List.{AllByRecursion}
@@ -69,9 +74,23 @@ pub record IsUnreadOf (running : ℕ) (messages : List Reply) (i : ℕ) (r : Ref
   pub long : has_rows reply ≡ true
   pub memory : r ≡ NoMemory
 
--- the message of this number has rows, and memory for these was refused
-pub record IsUnread (X : Type 0) (has_rows : X → Bool) (messages : List X) (i : ℕ) (r : Refusal) : Type 0 where
-  pub message : X
-  pub found : message_at messages i ≡ Some message
-  pub long : has_rows message ≡ true
-  pub memory : r ≡ NoMemory
+-- the request of this number, which has a spelling
+abbrev pub WasSent : List Request → ℕ → Request → Type 0
+WasSent messages i q = (message_at messages i ≡ Some q) × IsRequest q
+
+-- the request of this number: its operation apart, where it is to perform; else the whole
+abbrev pub IsReadApart : List Request → ℕ → Option Asking → Option Op → Option Request → Type 0
+IsReadApart messages i (Some q) (Some o) other = WasSent messages i (request_to q o)
+IsReadApart messages i None o (Some q) = WasSent messages i q
+IsReadApart messages i _ o other = ⊥
+
+-- the reply of this number is of the session that runs
+abbrev pub IsOfSession : ℕ → List Reply → ℕ → Reply → Type 0
+IsOfSession running messages i r = (message_at messages i ≡ Some r) × (is_of_another running (session_of r) ≡ false)
+
+-- it is: its answer apart, where it answers; else the whole
+abbrev pub IsHeardApart : ℕ → List Reply → ℕ → Option ℕ → Option Answer → Option Reply → Type 0
+IsHeardApart running messages i (Some n) a other =
+    (s : ℕ) × IsOfSession running messages i (says.Answered s n a)
+IsHeardApart running messages i None a (Some r) = IsOfSession running messages i r
+IsHeardApart running messages i None a None = ⊥

@@ -1,6 +1,8 @@
 //! The calls of the data component, and the requests that reach it.
-ghost use Rattle.std.specs.Prelude.{◌≡◌, false, None, Some};
+ghost use Rattle.std.specs.Prelude.{◌≡◌, false, None, Some, Err};
+ghost use Rattle.codec.specs.Parted.{request_to};
 ghost use Rattle.codec.specs.Requests.{HasRequestNumbers};
+ghost use Rattle.dc_core.specs.Performing.{reply_if};
 ghost use Rattle.dc_core.specs.Serves.{MayAsk};
 ghost use Rattle.system_txn.specs.Kept.{IsRecoverable};
 ghost use Rattle.world.specs.Halves.{of_tc, moves, DcGives, DcCalls, DcServes};
@@ -11,9 +13,10 @@ use crate::attempt::attempt;
 use crate::data_component::DataComponent;
 use crate::event::{Event, Out};
 use crate::tc_events::number_if;
-use codec::{Reply, Request};
+use codec::{Asking, Reply, Request};
 use dc_core::{Device, Tended};
-use record_key::{Key, Refusal};
+use page::Done;
+use record_key::{Key, Op, Refusal};
 use stable::{CrashLog, CrashPages};
 use std::alloc::Global;
 
@@ -109,6 +112,39 @@ impl<D: CrashLog, P: CrashPages> DataComponent<D, P> {
         }
     }
 
+    /// The same of a request to perform, whose operation is apart. What came of it is left in `done`.
+    pub fn perform(
+        &mut self,
+        asking: Asking,
+        op: &Op,
+        next: Option<u64>,
+        done: &mut Result<Done, Refusal>,
+        out: &mut Out,
+    )
+        requires numbers { HasRequestNumbers (request_to asking op.now) }
+        requires owed { MayAsk (dc_of self.old).dc (request_to asking op.now) }
+        ensures { DcServes (dc_of self.old) next (Some (request_to asking op.now)) out.new
+            (reply_if asking done.new) (dc_of self.new) }
+    {
+        let DataComponent::Up(dc) = self else {
+            refuse(Refusal::NotConnected, done, out);
+            return;
+        };
+        if let Err(refusal) = dc.allows_session(asking.session) {
+            refuse(refusal, done, out);
+            return;
+        }
+        let Some(number) = next else {
+            refuse(Refusal::NoMemory, done, out);
+            return;
+        };
+        dc.perform(asking, op, done);
+        match done {
+            Ok(_) => *out = Out::Replied(number),
+            Err(refusal) => *out = Out::Refused(*refusal),
+        }
+    }
+
     /// No request of the number was sent.
     fn unsent(&self, out: &mut Out)
         ensures { DcServes (dc_of self.now) None None out.new None (dc_of self.now) }
@@ -169,4 +205,13 @@ fn has_reply(request: &Request) -> bool
         request,
         Request::LowWater { .. } | Request::StableEnd { .. }
     )
+}
+
+/// Nothing is performed, for this cause.
+fn refuse(refusal: Refusal, done: &mut Result<Done, Refusal>, out: &mut Out)
+    ensures done { done.new ≡ Err refusal }
+    ensures out { out.new ≡ Out.Refused refusal }
+{
+    *done = Err(refusal);
+    *out = Out::Refused(refusal);
 }

@@ -6,18 +6,21 @@ ghost use Rattle.std.specs.Option.{option_copied};
 ghost use Rattle.stable.specs.Usage.{unused};
 ghost use Rattle.btree.specs.Leaves.{rows_of};
 ghost use Rattle.system_txn.specs.Kept.{IsRecoverable};
+ghost use Rattle.codec.specs.Parted.{request_to};
 ghost use Rattle.codec.specs.Requests.{HasRequestNumbers};
 ghost use Rattle.dc_core.specs.DcView.{fresh, leaves};
 ghost use Rattle.dc_core.specs.Kept.{IsDc};
+ghost use Rattle.dc_core.specs.Performing.{reply_if};
 ghost use Rattle.dc_core.specs.Serves.{MayAsk};
 ghost use Rattle.world.specs.Halves.{of_tc, moves, MayDc, DcLeads, DcGives, DcCalls, DcServes};
 
 use crate::data_component::DataComponent;
 use crate::event::{Event, Out};
 use crate::put::put;
-use codec::{Reply, Request};
+use codec::{Asking, Reply, Request};
 use dc_core::Dc;
-use record_key::{Key, Refusal, Value};
+use page::Done;
+use record_key::{Key, Op, Refusal, Value};
 use stable::{CrashLog, CrashPages, MemLog, MemPages};
 use std::alloc::Global;
 use std::marker::Model;
@@ -186,6 +189,28 @@ impl<D: CrashLog, P: CrashPages> DcSide<D, P> {
             unreachable!();
         };
         component.serve(request, next, reply, out);
+        component.kept();
+    }
+
+    /// A Request event that finds a request to perform, whose operation is apart.
+    pub(crate) fn perform(
+        &mut self,
+        asking: Asking,
+        op: &Op,
+        next: Option<u64>,
+        done: &mut Result<Done, Refusal>,
+        out: &mut Out,
+    )
+        requires numbers { HasRequestNumbers (request_to asking op.now) }
+        requires owed { MayAsk self.old.dc (request_to asking op.now) }
+        ensures serves { DcServes self.old next (Some (request_to asking op.now)) out.new (reply_if asking done.new)
+            self.new }
+        ensures kept { IsDc self.new.dc }
+    {
+        let Some(component) = &mut self.component else {
+            unreachable!();
+        };
+        component.perform(asking, op, next, done, out);
         component.kept();
     }
 

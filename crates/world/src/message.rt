@@ -38,14 +38,6 @@ pub(crate) trait Message: Drop {
         ensures room { OnErr result (vec_capacity out.old < vec_len out.old + length (frame (spell message.now))) }
         ensures short { is_long message.now ≡ false → length (frame (spell message.now)) ≤ 264 };
 
-    /// The message whose frame stands at a place. Only rows take memory.
-    fn take(alloc: Global, bytes: &[u8], place: usize) -> Result<Self, Refusal>
-        requires { StandsAt Self spell is_spelled bytes.now place }
-        ensures found { IfOk result (λ message. message ≡ read_at bytes.now place) }
-        ensures spelled { IfOk result (λ message. is_spelled message) }
-        ensures refused { IfErr result
-            (λ refusal. (refusal ≡ Refusal.NoMemory) × (is_long (read_at bytes.now place) ≡ true)) };
-
     /// What stands at a place is read there.
     ghost reads: { (bytes : List ℕ) (place : ℕ) (there : StandsAt Self spell is_spelled bytes place)
         → read_at bytes place ≡ there.message };
@@ -71,10 +63,6 @@ impl Message for Request {
         put_request(out, message)
     }
 
-    fn take(_alloc: Global, bytes: &[u8], place: usize) -> Result<Request, Refusal> {
-        Ok(request_at(bytes, place))
-    }
-
     ghost reads = { request_reads };
 }
 
@@ -97,15 +85,11 @@ impl Message for Reply {
         put_reply(out, message)
     }
 
-    fn take(alloc: Global, bytes: &[u8], place: usize) -> Result<Reply, Refusal> {
-        reply_at(alloc, bytes, place)
-    }
-
     ghost reads = { reply_reads };
 }
 
 /// The request whose frame stands there.
-fn request_at(bytes: &[u8], place: usize) -> Request
+pub(crate) fn request_at(bytes: &[u8], place: usize) -> Request
     requires { StandsAt Request request_bytes IsRequest bytes.now place }
     ensures found { result ≡ request_there bytes.now place }
     ensures spelled { IsRequest result }
@@ -117,7 +101,7 @@ fn request_at(bytes: &[u8], place: usize) -> Request
 }
 
 /// The reply whose frame stands there. Only rows take memory.
-fn reply_at(alloc: Global, bytes: &[u8], place: usize) -> Result<Reply, Refusal>
+pub(crate) fn reply_at(alloc: Global, bytes: &[u8], place: usize) -> Result<Reply, Refusal>
     requires { StandsAt Reply reply_bytes IsFramedReply bytes.now place }
     ensures found { IfOk result (λ reply. reply ≡ reply_there bytes.now place) }
     ensures spelled { IfOk result IsFramedReply }

@@ -6,14 +6,17 @@ ghost use Rattle.tc_core.specs.Kept.{IsTc};
 ghost use Rattle.world.specs.Halves.{node_of, of_tc, IsNextNumber, BringsReply};
 ghost use Rattle.world.specs.Kept.{IsKept};
 ghost use Rattle.world.specs.Seen.{seen};
+ghost use Rattle.world.specs.Sent.{WasSent};
+ghost use Rattle.codec.specs.Parted.{request_to};
 
 use crate::attempt::attempt;
 use crate::dc_side::DcSide;
 use crate::event::{Event, Out};
 use crate::sent::Sent;
 use crate::tc_side::TcSide;
-use codec::{Reply, Request};
-use record_key::Refusal;
+use codec::{Asking, Reply, Request};
+use dc_core::answer_of;
+use record_key::{Op, Refusal};
 use stable::{CrashLog, CrashPages, MemLog, MemPages};
 use std::alloc::Global;
 
@@ -125,8 +128,16 @@ impl<D: CrashLog, P: CrashPages> Node<D, P> {
         ensures { StepsTo (seen self.old) (Event.Reply number) out.new (seen self.new) }
     {
         let session = attempt!(out, self.tc.session());
-        let reply = attempt!(out, self.replies.of_session(number, session));
-        self.tc.take(reply, out);
+        let (mut answer, mut other) = (None, None);
+        let answered = attempt!(
+            out,
+            self.replies.read(number, session, &mut answer, &mut other)
+        );
+        match (answered, other) {
+            (Some(of), _) => self.tc.hear(of, &mut answer, out),
+            (None, Some(reply)) => self.tc.take(reply, out),
+            (None, None) => unreachable!(),
+        }
     }
 
     /// The request of this number reaches the data component.
@@ -139,10 +150,39 @@ impl<D: CrashLog, P: CrashPages> Node<D, P> {
             *out = Out::Refused(Refusal::NotConnected);
             return;
         }
-        let request = attempt!(out, self.requests.message(number));
+        let (mut op, mut other) = (None, None);
+        let asking = attempt!(out, self.requests.read(number, &mut op, &mut other));
+        match (asking, &op, &other) {
+            (Some(asking), Some(op), _) => self.serve_op(number, asking, op, out),
+            (None, _, Some(request)) => self.serve_other(number, request, out),
+            _ => unreachable!(),
+        }
+    }
+
+    /// It is to perform this operation.
+    fn serve_op(&mut self, number: u64, asking: Asking, op: &Op, out: &mut Out)
+        requires kept { IsKept (seen self.old) }
+        requires sent { WasSent (seen self.old).requests number (request_to asking op.now) }
+        ensures { StepsTo (seen self.old) (Event.Request number) out.new (seen self.new) }
+    {
+        let next = self.replies.next();
+        let mut done = Err(Refusal::NoMemory);
+        self.dc.perform(asking, op, next, &mut done, out);
+        if let Ok(done) = &done {
+            self.replies
+                .push_answered(asking.session, asking.number, answer_of(done));
+        }
+    }
+
+    /// It is this one.
+    fn serve_other(&mut self, number: u64, request: &Request, out: &mut Out)
+        requires kept { IsKept (seen self.old) }
+        requires sent { WasSent (seen self.old).requests number request.now }
+        ensures { StepsTo (seen self.old) (Event.Request number) out.new (seen self.new) }
+    {
         let next = self.replies.next();
         let mut reply = None;
-        self.dc.serve(&request, next, &mut reply, out);
+        self.dc.serve(request, next, &mut reply, out);
         let Some(reply) = &reply else {
             return;
         };

@@ -1,21 +1,23 @@
 //! Messages as they were sent: their frames one after another in one buffer, and an index of places. What was sent
 //! stays: a message may be delivered any number of times, late, or never.
+ghost use Rattle.std.specs.Option.{option_copied};
 ghost use Rattle.std.specs.Prelude.{◌≡◌, ◌<◌, ◌≤◌, ◌++◌, ◌∷◌, ◌⊎◌, [], true, false, length, None, Some, IfOk, IfErr, OnOk, OnErr, OnSome};
 ghost use Rattle.record_key.specs.declared.op.Op.{Op};
 ghost use Rattle.codec.specs.declared.request.Request.TheVariants as asks;
-ghost use Rattle.codec.specs.Fields.{op_bytes};
+ghost use Rattle.codec.specs.declared.reply.Reply.TheVariants as says;
+ghost use Rattle.codec.specs.Fields.{IsNumber, op_bytes};
 ghost use Rattle.codec.specs.FrameIndex.{places_of, Indexes};
 ghost use Rattle.codec.specs.Requests.{IsRequest};
-ghost use Rattle.codec.specs.Replies.{session_of};
 ghost use Rattle.world.specs.Halves.{IsNextNumber};
 ghost use Rattle.world.specs.Messages.{message_at};
 ghost use Rattle.world.specs.Node.{IsUnsent};
-ghost use Rattle.tc_core.specs.Replies.{is_of_another};
-ghost use Rattle.world.specs.Sent.{IsUnread, IsStale, IsUnreadOf, IsFramedReply};
+ghost use Rattle.world.specs.Sent.{IsReadApart, IsHeardApart, IsStale, IsUnreadOf};
 
-use crate::message::{Message, session_at};
-use codec::{FrameIndex, Reply, Request, put_perform};
-use record_key::Refusal;
+use crate::message::{Message, reply_at, request_at, session_at};
+use codec::{
+    Asking, FrameIndex, Reply, Request, answered_at, asking_at, put_answered, put_perform,
+};
+use record_key::{Answer, Op, Refusal};
 use std::alloc::Global;
 use std::marker::{Model, PhantomData};
 
@@ -113,20 +115,28 @@ impl<M: Message> Sent<M> {
             Err(_) => unreachable!(),
         }
     }
-
-    /// The message of this number, from 1. Refused Unsent where there is none, and NoMemory for rows alone.
-    pub(crate) fn message(&self, number: u64) -> Result<M, Refusal>
-        ensures found { IfOk result (λ found. message_at self.now.messages number ≡ Some found) }
-        ensures spelled { IfOk result (λ found. M.is_spelled found) }
-        ensures refused { IfErr result (λ refusal. IsUnsent self.now.messages number refusal
-            ⊎ IsUnread M M.is_long self.now.messages number refusal) }
-    {
-        let place = place_of(&self.index, &self.bytes, number)?;
-        M::take(*self.bytes.allocator(), &self.bytes, place)
-    }
 }
 
 impl Sent<Request> {
+    /// The request of this number, from 1. Where it is to perform, its numbers are told and its operation is put in `op`;
+    /// else it is put in `other`. Refused Unsent where there is none. Takes no memory.
+    pub(crate) fn read(
+        &self,
+        number: u64,
+        op: &mut Option<Op>,
+        other: &mut Option<Request>,
+    ) -> Result<Option<Asking>, Refusal>
+        ensures read { IfOk result (λ asking. IsReadApart self.now.messages number asking op.new other.new) }
+        ensures refused { IfErr result (IsUnsent self.now.messages number) }
+    {
+        let place = place_of(&self.index, &self.bytes, number)?;
+        let asking = asking_at(&self.bytes, place, op);
+        if asking.is_none() {
+            *other = Some(request_at(&self.bytes, place));
+        }
+        Ok(asking)
+    }
+
     /// Appends a request to perform the operation that these bytes spell, for which there is room.
     pub(crate) fn push_perform(&mut self, session: u64, number: u64, stable: u64, op: &[u8])
         requires spelled { (o : Op) × ((op.now ≡ op_bytes o) × IsRequest (asks.Perform session number stable o)) }
@@ -163,12 +173,18 @@ impl Sent<Request> {
 }
 
 impl Sent<Reply> {
-    /// The reply of this number, from 1, if it is of the session that runs. Refused Unsent where there is none, Stale
-    /// where it isn't, and NoMemory for rows alone.
-    pub(crate) fn of_session(&self, number: u64, running: u64) -> Result<Reply, Refusal>
-        ensures found { IfOk result (λ found. message_at self.now.messages number ≡ Some found) }
-        ensures spelled { IfOk result IsFramedReply }
-        ensures current { IfOk result (λ found. is_of_another running (session_of found) ≡ false) }
+    /// The reply of this number, from 1, if it is of the session that runs. Where it answers an operation, the operation's
+    /// number is told and the answer is put in `answer`; else it is put in `other`. Refused Unsent where there is none,
+    /// Stale where it isn't, and NoMemory for rows alone.
+    pub(crate) fn read(
+        &self,
+        number: u64,
+        running: u64,
+        answer: &mut Option<Answer>,
+        other: &mut Option<Reply>,
+    ) -> Result<Option<u64>, Refusal>
+        ensures read { IfOk result (λ answered.
+            IsHeardApart running self.now.messages number answered answer.new other.new) }
         ensures refused { IfErr result (λ refusal. IsUnsent self.now.messages number refusal
             ⊎ (IsStale running self.now.messages number refusal
             ⊎ IsUnreadOf running self.now.messages number refusal)) }
@@ -177,7 +193,42 @@ impl Sent<Reply> {
         if running == 0 || session_at(&self.bytes, place) != running {
             return Err(Refusal::Stale);
         }
-        Reply::take(*self.bytes.allocator(), &self.bytes, place)
+        let answered = answered_at(&self.bytes, place, answer);
+        if answered.is_none() {
+            *other = Some(reply_at(*self.bytes.allocator(), &self.bytes, place)?);
+        }
+        Ok(answered)
+    }
+
+    /// Appends the reply that answers an operation so, for which there is room.
+    pub(crate) fn push_answered(&mut self, session: u64, number: u64, answer: Option<&Answer>)
+        requires numbers { IsNumber session × IsNumber number }
+        requires room { self.old.has_room ≡ true }
+        ensures { self.new.messages
+            ≡ self.old.messages ++ says.Answered session number (option_copied answer.entry) ∷ [] }
+    {
+        match self.add_answered(session, number, answer) {
+            Ok(()) => {}
+            Err(_) => unreachable!(),
+        }
+    }
+
+    fn add_answered(
+        &mut self,
+        session: u64,
+        number: u64,
+        answer: Option<&Answer>,
+    ) -> Result<(), Refusal>
+        requires numbers { IsNumber session × IsNumber number }
+        ensures appended { OnOk result (self.new.messages
+            ≡ self.old.messages ++ says.Answered session number (option_copied answer.entry) ∷ []) }
+        ensures room { OnErr result (self.old.has_room ≡ true → ⊥) }
+    {
+        self.index.reserve()?;
+        let place = self.bytes.len();
+        put_answered(&mut self.bytes, session, number, answer)?;
+        self.index.push_reserved(place);
+        Ok(())
     }
 }
 

@@ -1,5 +1,8 @@
 //! The calls of the transaction component, and the messages that they send and take.
-ghost use Rattle.std.specs.Prelude.{◌≡◌, true, false, Some, None, IfOk, IfErr};
+ghost use Rattle.std.specs.Prelude.{◌≡◌, ℕ, true, false, Some, None, IfOk, IfErr};
+ghost use Rattle.codec.specs.declared.reply.Reply.TheVariants as says;
+ghost use Rattle.tc_core.specs.Heard.{told_with};
+ghost use Rattle.tc_core.specs.Replies.{is_of_another};
 ghost use Rattle.world.specs.Halves.{of_tc, moves, HasRoom, IsSpelledIf, TcGives, TcCalls, TcSends, TcTakes};
 ghost use Rattle.world.specs.Node.{down_refusal, as_out, sends_at};
 ghost use Rattle.world.specs.Seen.{tc_of};
@@ -9,10 +12,10 @@ use crate::event::{Event, Out};
 use crate::transaction_component::TransactionComponent;
 use codec::{Reply, Request};
 use range_locks::Span;
-use record_key::{Key, Op, Refusal};
+use record_key::{Answer, Key, Op, Refusal};
 use stable::CrashLog;
 use std::alloc::Global;
-use tc_core::{Forced, Phase, RecoverStep, Told, UndoStep};
+use tc_core::{Forced, Heard, Phase, RecoverStep, Told, UndoStep};
 
 impl<D: CrashLog> TransactionComponent<D> {
     /// One of its events that is neither a crash nor a restart; a Reply event finds no reply of its number. What is sent
@@ -295,6 +298,19 @@ impl<D: CrashLog> TransactionComponent<D> {
         tell_of(told, out);
     }
 
+    /// The same of a reply that answers the operation of this number, whose answer is apart.
+    pub fn hear(&mut self, number: u64, answer: &mut Option<Answer>, out: &mut Out)
+        ensures { (session : ℕ) → is_of_another (tc_of self.old).tc.session session ≡ false
+            → TcTakes (tc_of self.old) (Some (says.Answered session number answer.old)) out.new (tc_of self.new) }
+    {
+        let TransactionComponent::Up(tc) = self else {
+            *out = Out::Refused(Refusal::NotConnected);
+            return;
+        };
+        let heard = attempt!(out, tc.take_answer(number, answer));
+        tell_heard(heard, answer, out);
+    }
+
     /// No reply of the number was sent.
     fn unsent(&self, out: &mut Out)
         ensures { TcTakes (tc_of self.now) None out.new (tc_of self.now) }
@@ -394,5 +410,19 @@ fn tell_of(told: Told, out: &mut Out)
         Told::Rows { txn, rows } => *out = Out::Rows { txn, rows },
         Told::Undone(number) => *out = Out::Undone(number),
         Told::CheckpointLogged(number) => *out = Out::CheckpointLogged(number),
+    }
+}
+
+/// What is told of an answer, which is handed over where a client is.
+fn tell_heard(heard: Heard, answer: &mut Option<Answer>, out: &mut Out)
+    ensures { out.new ≡ as_out (told_with answer.old heard) }
+{
+    match heard {
+        Heard::Nothing => *out = Out::Nothing,
+        Heard::Undone(number) => *out = Out::Undone(number),
+        Heard::Answered(txn) => match answer.take() {
+            Some(answer) => *out = Out::Answered { txn, answer },
+            None => *out = Out::Nothing,
+        },
     }
 }

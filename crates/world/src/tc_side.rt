@@ -1,10 +1,12 @@
 //! The transaction component as half of a node, which may also step alone: it is handed the replies that it takes, and
 //! hands out the requests that it sends.
-ghost use Rattle.std.specs.Prelude.{◌≡◌, ◌≤◌, true, false, length, Some, None, OnOk, OnErr, IfOk, IfErr};
+ghost use Rattle.std.specs.Prelude.{◌≡◌, ◌≤◌, ℕ, true, false, length, Some, None, OnOk, OnErr, IfOk, IfErr};
 ghost use Rattle.stable.specs.Usage.{unused};
 ghost use Rattle.logical_log.specs.Low.{stable_part};
 ghost use Rattle.logical_log.specs.Spelled.{spelled};
+ghost use Rattle.codec.specs.declared.reply.Reply.TheVariants as says;
 ghost use Rattle.tc_core.specs.Kept.{IsTc};
+ghost use Rattle.tc_core.specs.Replies.{is_of_another};
 ghost use Rattle.tc_core.specs.LowWater.{IsGreatestAnnounced};
 ghost use Rattle.tc_core.specs.TcView.{fresh};
 ghost use Rattle.world.specs.Halves.{of_tc, moves, TcLeads, TcCalls, TcTakes};
@@ -13,7 +15,7 @@ use crate::event::{Event, Out};
 use crate::put::put;
 use crate::transaction_component::TransactionComponent;
 use codec::{Reply, Request};
-use record_key::Refusal;
+use record_key::{Answer, Refusal};
 use stable::{CrashLog, MemLog};
 use std::alloc::Global;
 use std::marker::Model;
@@ -175,6 +177,19 @@ impl<D: CrashLog> TcSide<D> {
             unreachable!();
         };
         component.take(reply, out);
+        component.kept();
+    }
+
+    /// A Reply event that finds one which answers the operation of this number, and whose answer is apart.
+    pub(crate) fn hear(&mut self, number: u64, answer: &mut Option<Answer>, out: &mut Out)
+        ensures takes { (session : ℕ) → is_of_another self.old.tc.session session ≡ false
+            → TcTakes self.old (Some (says.Answered session number answer.old)) out.new self.new }
+        ensures kept { IsTc self.new.tc }
+    {
+        let Some(component) = &mut self.component else {
+            unreachable!();
+        };
+        component.hear(number, answer, out);
         component.kept();
     }
 

@@ -1,11 +1,9 @@
 use Rattle.std.proofs.Common.{◌≡◌, ◌∙◌, ℕ, Bor, List, ◌+◌, length, drop, refl, ap, sym, arith, inl, inr}
 use Rattle.std.proofs.lemmas.List.{length-take}
-use Rattle.history.specs.declared.record.Record.{Record}
-use Rattle.codec.specs.declared.taken.Taken.{Taken}
 use Rattle.codec.specs.declared.taken.Taken.TheVariants as took
 use Rattle.codec.specs.Fields.{first_number}
 use Rattle.codec.specs.Frames.{frame}
-use Rattle.codec.specs.Reading.{frame_at, seen}
+use Rattle.codec.specs.Reading.{seen}
 use Rattle.codec.specs.Records.{record_bytes}
 use Rattle.codec.proofs.Ends.{body_taken}
 use Rattle.codec.proofs.Frames.{framed}

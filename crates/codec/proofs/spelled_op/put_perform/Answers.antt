@@ -1,10 +1,10 @@
-use Rattle.std.proofs.Common.{◌≡◌, ◌∙◌, ℕ, ◌+◌, List, ◌∷◌, ◌++◌, length, refl, sym, ap, append_assoc, arith}
+use Rattle.std.proofs.Common.{◌≡◌, ◌∙◌, ℕ, ◌+◌, List, ◌∷◌, ◌++◌, length, sym, ap, append_assoc, arith}
 use Rattle.record_key.specs.declared.op.Op.{Op}
 use Rattle.codec.specs.declared.request.Request.TheVariants as asks
 use Rattle.codec.specs.Fields.{number, op_bytes}
 use Rattle.codec.specs.Frames.{frame}
 use Rattle.codec.specs.Requests.{request_bytes}
-use Rattle.codec.proofs.Fields.{length-number, numbers_length}
+use Rattle.codec.proofs.Fields.{numbers_length}
 use Rattle.codec.proofs.spelled_op.put_perform.Goals as goal
 
 -- a request to perform is spelled by its kind, two numbers, a third one, and the operation

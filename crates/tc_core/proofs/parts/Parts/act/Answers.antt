@@ -9,7 +9,7 @@ use Rattle.tc_core.specs.Seen.{seen}
 use Rattle.tc_core.proofs.LockCauses.{key_range}
 use Rattle.tc_core.proofs.KeepsTc.{fits_op, keeps_act}
 use Rattle.tc_core.proofs.Rebuilt.{taken_span}
-use Rattle.tc_core.proofs.Numbers.{fits_numbers}
+use Rattle.compensation.proofs.Numbers.{fits_numbers}
 use Rattle.tc_core.proofs.Refused.{keeps_refused, refuses, happened}
 use Rattle.tc_core.proofs.Untaken.{holds_some, untaken}
 use Rattle.tc_core.proofs.parts.Parts.act.Goals as goal

@@ -6,7 +6,7 @@ use Rattle.tc_core.specs.Replies.{awaiting, takes}
 use Rattle.tc_core.specs.Seen.{seen}
 use Rattle.tc_core.proofs.KeepsTc.{fits_answer, keeps_answer, keeps_passed, newly_answered, awaited_is}
 use Rattle.history.specs.declared.record.Record.TheVariants.{Answer}
-use Rattle.tc_core.proofs.Numbers.{fits_numbers}
+use Rattle.compensation.proofs.Numbers.{fits_numbers}
 use Rattle.tc_core.proofs.Refused.{happened}
 use Rattle.tc_core.proofs.parts.Parts.on_answered.Goals as goal
 
@@ -16,11 +16,11 @@ append-requires g c =
     let o = c.in-Some.opened.now in
     let at = awaited_is w c.args.number o (sym c.awaiting.ensures ∙ ap option_copied c.in-Some.is) in
     let fits = fits_answer w o c.args.number c.in-Some-answer.answer c.requires at.0 at.1 in
-    record {
+    rw c.answered.ensures
+    (record {
       fits = fits;
-      numbers = fits_numbers w.log (Answer c.args.number c.in-Some-answer.answer) c.requires.few.records
-          fits;
-    }
+      numbers = fits_numbers w.log (Answer c.args.number c.in-Some-answer.answer) c.requires.few.records fits;
+    })
 
 pub pass-requires-clause-kept : goal.pass-requires-clause-kept
 pass-requires-clause-kept g c =
@@ -31,6 +31,7 @@ pass-requires-clause-kept g c =
     rw (
       happened w o.txn o Answered c.change.new.self (record { is = at.0; number = refl }) c.change.ensures,
       appended.log,
+      c.answered.ensures,
     )
     (keeps_passed (answered w o c.args.number c.in-Some-answer.answer) c.args.number
     (sym c.takes.ensures ∙ c.if-not-takes.false)
@@ -53,6 +54,7 @@ returns-clause-gives g c =
       c.pass.ensures.passed,
       appended.log,
       happened w o.txn o Answered c.change.new.self (record { is = at.0; number = refl }) c.change.ensures,
-      c.told_of-told.ensures,
+      c.answered.ensures,
+      c.heard_of-heard.ensures c.in-Some-answer.answer,
     )
     (refl, record { told = refl; left = refl })

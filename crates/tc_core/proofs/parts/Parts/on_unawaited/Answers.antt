@@ -3,7 +3,7 @@ use Rattle.history.specs.declared.record.Record.TheVariants.{Answer}
 use Rattle.tc_core.specs.Seen.{seen}
 use Rattle.tc_core.proofs.KeepsTc.{keeps_passed}
 use Rattle.tc_core.proofs.KeepsLost.{not_lacking, fits_lacking, keeps_lost_answer}
-use Rattle.tc_core.proofs.Numbers.{fits_numbers}
+use Rattle.compensation.proofs.Numbers.{fits_numbers}
 use Rattle.tc_core.proofs.parts.Parts.on_unawaited.Goals as goal
 
 pub pass-requires-clause-kept : goal.pass-requires-clause-kept
@@ -16,16 +16,16 @@ pub append-requires : goal.append-requires
 append-requires g c =
     let w = seen c.args.self.now in
     let fits = fits_lacking w c.args.number (sym c.lacks.ensures ∙ c.if-not-lacks.false) in
-    record {
+    rw c.answered.ensures
+    (record {
       fits = fits;
-      numbers = fits_numbers w.log (Answer c.args.number c.in-Some.answer)
-          c.requires.kept.few.records fits;
-    }
+      numbers = fits_numbers w.log (Answer c.args.number c.in-Some.answer) c.requires.kept.few.records fits;
+    })
 
 pub pass-requires-2-clause-kept : goal.pass-requires-2-clause-kept
 pass-requires-2-clause-kept g c =
     let w = seen c.args.self.now in
     let appended = c.in_ok-append.ensures.appended in
-    rw appended.log
+    rw (appended.log, c.answered.ensures)
     (keeps_lost_answer w c.requires.kept c.args.number c.in-Some.answer (sym c.lacks.ensures ∙ c.if-not-lacks.false)
     c.requires.unawaited c.requires.taken appended.unspent)

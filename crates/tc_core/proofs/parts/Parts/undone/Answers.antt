@@ -14,7 +14,7 @@ use Rattle.tc_core.specs.Undoing.{MayStep}
 use Rattle.tc_core.specs.Seen.{seen}
 use Rattle.tc_core.proofs.KeepsTc.{open_at, keeps_is_back}
 use Rattle.tc_core.proofs.KeepsUndo.{fits_end, keeps_end, none_left}
-use Rattle.tc_core.proofs.Numbers.{fits_numbers}
+use Rattle.compensation.proofs.Numbers.{fits_numbers}
 use Rattle.tc_core.proofs.Refused.{happened}
 use Rattle.tc_core.proofs.UndoCauses.{makes, logs_none, unspent_and}
 use Rattle.tc_core.proofs.parts.Parts.undone.Goals as goal

@@ -1,0 +1,46 @@
+use Rattle.std.proofs.Common.{◌≡◌, ◌∙◌, ℕ, Bor, List, ◌+◌, length, drop, refl, ap, sym, arith, inl, inr}
+use Rattle.std.proofs.lemmas.List.{length-take}
+use Rattle.codec.specs.declared.taken.Taken.TheVariants as took
+use Rattle.codec.specs.Fields.{first_number}
+use Rattle.codec.specs.Frames.{frame}
+use Rattle.codec.specs.Reading.{seen}
+use Rattle.codec.specs.Records.{record_bytes}
+use Rattle.codec.proofs.Ends.{body_taken}
+use Rattle.codec.proofs.Frames.{framed}
+use Rattle.codec.proofs.Records.{record_length}
+use Rattle.codec.proofs.undoing.answer_bytes_at.Goals as goal
+
+pub answer_in-requires : goal.answer_in-requires
+answer_in-requires c =
+    let left = drop c.args.at c.args.bytes.now in
+    let body = c.in-Record.body.now in
+    let there = body_taken 181 c.args.at left (λ b. b ≡ body) body c.in-Record.field-1 c.in-Record.ensures refl in
+    omega (arith, ap length there.body, length-take (first_number left) (drop 8 left), there.whole.allowed)
+
+pub returns-in-Record-clause-held : goal.returns-in-Record-clause-held
+returns-in-Record-clause-held c = λ r rest fits e.
+    let at = c.args.at in
+    let left = drop at c.args.bytes.now in
+    let length_is = record_length r fits in
+    let same : took.Record c.in-Record.body.now c.in-Record.field-1
+    ≡ took.Record (record_bytes r) (at + length (frame (record_bytes r))) =
+    c.in-Record.ensures ∙ framed 181 at (record_bytes r) left rest length_is.0 length_is.1 (omega arith) e in
+    c.answer_in.ensures.held r (cc same)
+
+pub returns-in-Short : goal.returns-in-Short
+returns-in-Short c = record {
+  held = λ r rest fits e.
+      let at = c.args.at in
+      let left = drop at c.args.bytes.now in
+      let length_is = record_length r fits in
+      let found : seen (λ (b : Bor (List ℕ)). b.now) c.take_body.result
+      ≡ took.Record (record_bytes r) (at + length (frame (record_bytes r))) =
+      c.take_body.ensures ∙ framed 181 at (record_bytes r) left rest length_is.0 length_is.1 (omega arith) e in
+      absurd (elim c.in-Short.is [
+        | inl is ↦ let h : took.Short ≡ took.Record (record_bytes r) (at + length (frame (record_bytes r))) =
+            ap (seen (λ (b : Bor (List ℕ)). b.now)) (sym is) ∙ found in cc
+        | inr is ↦ let h : took.Bad is.0 ≡ took.Record (record_bytes r) (at + length (frame (record_bytes r))) =
+            ap (seen (λ (b : Bor (List ℕ)). b.now)) (sym is.1) ∙ found in cc
+      ]);
+  short = tt;
+}

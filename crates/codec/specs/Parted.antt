@@ -1,0 +1,32 @@
+-- Requests to perform and replies that answer, apart from the messages around them.
+use Rattle.std.specs.Prelude.{ℕ, Option, Some, None}
+use Rattle.record_key.specs.declared.op.Op.{Op}
+use Rattle.record_key.specs.declared.op.Answer.{Answer}
+use Rattle.codec.specs.declared.parted.Asking.{Asking}
+use Rattle.codec.specs.declared.request.Request.{Request}
+use Rattle.codec.specs.declared.request.Request.TheVariants as asks
+use Rattle.codec.specs.declared.reply.Reply.{Reply}
+use Rattle.codec.specs.declared.reply.Reply.TheVariants as says
+
+-- both, where both are there
+abbrev pub both : {A B : Type 0} → Option A → Option B → Option (A × B)
+both (Some a) (Some b) = Some (a, b)
+both _ _ = None
+
+-- the numbers and the operation of a request to perform
+abbrev pub asking_of : Request → Option (Asking × Op)
+asking_of (asks.Perform session n stable o) = Some (record { session = session; number = n; stable = stable }, o)
+asking_of _ = None
+
+-- the request that they make
+abbrev pub request_to : Asking → Op → Request
+request_to q o = asks.Perform q.session q.number q.stable o
+
+-- the number and the answer of a reply that answers
+abbrev pub answered_of : Reply → Option (ℕ × Option Answer)
+answered_of (says.Answered session n a) = Some (n, a)
+answered_of _ = None
+
+-- the fields of a request to perform, of which the operation is kept apart
+abbrev pub asked : ℕ × (ℕ × (ℕ × Op)) → Asking × Option Op
+asked p = (record { session = p.0; number = p.1.0; stable = p.1.1.0 }, Some p.1.1.1)

@@ -1,0 +1,133 @@
+//! Requests to perform and replies that answer, apart from the messages around them: a large value that is handed on in
+//! a message is copied at each hand-over.
+ghost use Rattle.std.specs.Prelude.{◌≡◌, ◌+◌, ◌<◌, ◌≤◌, ◌++◌, ℕ, List, length, drop, Some, vec_len, vec_capacity, IsSome, OnOk, OnErr, OnSome, IfErr};
+ghost use Rattle.std.specs.Option.{option_copied, option_map};
+ghost use Rattle.codec.specs.declared.request.Request.{Request};
+ghost use Rattle.codec.specs.declared.reply.Reply.{Reply};
+ghost use Rattle.codec.specs.declared.reply.Reply.TheVariants as says;
+ghost use Rattle.codec.specs.Fields.{IsNumber};
+ghost use Rattle.codec.specs.Frames.{frame, any_length};
+ghost use Rattle.codec.specs.Parted.{asking_of, answered_of, both, asked};
+ghost use Rattle.codec.specs.Reading.{Gives, pair, mapped, number_at, op_at};
+ghost use Rattle.codec.specs.Replies.{reply_bytes, IsReply};
+ghost use Rattle.codec.specs.Requests.{request_bytes, IsRequest};
+
+use crate::frame::{HEADER_LEN, left_at, take_body};
+use crate::lengths::answer_len;
+use crate::reading::{take_number, take_op, take_optional_answer};
+use crate::taken::Taken;
+use crate::writing::{put_answer, put_byte, put_long_head, put_number};
+use record_key::{Answer, Op, Refusal};
+
+/// A request to perform an operation, without the operation.
+#[derive(Debug, Clone, Copy, PartialEq, Eq)]
+pub struct Asking {
+    pub session: u64,
+    pub number: u64,
+    /// No record up to this number can be lost.
+    pub stable: u64,
+}
+
+/// The request to perform whose frame begins at a place; its operation is put in `op`. None where another request's frame
+/// begins there; what `op` has then is not said. Takes no memory.
+pub fn asking_at(bytes: &[u8], at: usize, op: &mut Option<Op>) -> Option<Asking>
+    ensures asked { (r : Request) (rest : List ℕ) → IsRequest r → drop at bytes.now ≡ frame (request_bytes r) ++ rest
+        → both result op.new ≡ asking_of r }
+    ensures op { OnSome result (IsSome op.new) }
+{
+    match take_body(bytes, at, u64::MAX) {
+        Taken::Record(body, _) => asking_in(body, op),
+        Taken::Short | Taken::Bad(_) => None,
+    }
+}
+
+/// The same of a request's body.
+fn asking_in(body: &[u8], op: &mut Option<Op>) -> Option<Asking>
+    ensures asked { (r : Request) → IsRequest r → body.now ≡ request_bytes r → both result op.new ≡ asking_of r }
+    ensures op { OnSome result (IsSome op.new) }
+{
+    let (kind, rest) = body.split_first()?;
+    if *kind != 2 {
+        return None;
+    }
+    let (asking, _) = take_asked(rest, op)?;
+    Some(asking)
+}
+
+/// A request's numbers and its operation, and the bytes after them.
+pub(crate) fn take_asked<'a>(bytes: &'a [u8], op: &mut Option<Op>) -> Option<(Asking, &'a [u8])>
+    ensures { Gives (λ x. ((x.0, op.new), x.1.now)) result (mapped asked
+        (pair number_at (pair number_at (pair number_at op_at))) bytes.now) }
+{
+    let (session, rest) = take_number(bytes)?;
+    let (number, rest) = take_number(rest)?;
+    let (stable, rest) = take_number(rest)?;
+    let rest = take_op(rest, op)?;
+    let asking = Asking {
+        session,
+        number,
+        stable,
+    };
+    Some((asking, rest))
+}
+
+/// The number of the operation that is answered by the reply whose frame begins at a place; its answer is put in
+/// `answer`. None where another reply's frame begins there; what `answer` has then is not said. Takes no memory.
+pub fn answered_at(bytes: &[u8], at: usize, answer: &mut Option<Answer>) -> Option<u64>
+    ensures { (r : Reply) (rest : List ℕ) → IsReply r → drop at bytes.now ≡ frame (reply_bytes r) ++ rest
+        → option_map (λ number. (number, answer.new)) result ≡ answered_of r }
+{
+    match take_body(bytes, at, u64::MAX) {
+        Taken::Record(body, _) => answered_in(body, answer),
+        Taken::Short | Taken::Bad(_) => None,
+    }
+}
+
+/// The same of a reply's body.
+fn answered_in(body: &[u8], answer: &mut Option<Answer>) -> Option<u64>
+    ensures { (r : Reply) → IsReply r → body.now ≡ reply_bytes r
+        → option_map (λ number. (number, answer.new)) result ≡ answered_of r }
+{
+    let (kind, rest) = body.split_first()?;
+    if *kind != 0x12 {
+        return None;
+    }
+    // The session's number stands before it.
+    let (number, rest) = take_number(left_at(rest, 8))?;
+    take_optional_answer(rest, answer)?;
+    Some(number)
+}
+
+/// Appends the frame of the reply that answers an operation so. Where memory for it is refused nothing is appended.
+#[tactic(auto, using(crate::proofs::Numbered::number_lengths))]
+pub fn put_answered(
+    out: &mut Vec<u8>,
+    session: u64,
+    number: u64,
+    answer: Option<&Answer>,
+) -> Result<(), Refusal>
+    requires numbers { IsNumber session × IsNumber number }
+    ensures spelling { OnOk result (out.new.items ≡ out.old.items
+        ++ frame (reply_bytes (says.Answered session number (option_copied answer.entry)))) }
+    ensures has_spelling { IsReply (says.Answered session number (option_copied answer.entry)) }
+    ensures refused { OnErr result (out.new.items ≡ out.old.items) }
+    ensures cause { IfErr result (λ refusal. refusal ≡ Refusal.NoMemory) }
+    ensures room { OnErr result (vec_capacity out.old < vec_len out.old + 264) }
+    ensures short { length (reply_bytes (says.Answered session number (option_copied answer.entry))) ≤ 256 }
+{
+    let length = match answer {
+        None => 18,
+        Some(answer) => 18 + answer_len(answer),
+    };
+    out.reserve(HEADER_LEN + length)?;
+    put_number(out, length as u64);
+    put_long_head(out, 0x12, session, number);
+    match answer {
+        None => put_byte(out, 0),
+        Some(answer) => {
+            put_byte(out, 1);
+            put_answer(out, answer);
+        }
+    }
+    Ok(())
+}
