@@ -1,5 +1,7 @@
 //! One block after another.
-ghost use Rattle.std.specs.Prelude.{◌≤◌, ◌+◌, ◌≡◌, length, IfOk, IfSome};
+ghost use Rattle.std.specs.Prelude.{◌≤◌, ◌+◌, ◌≡◌, ◌++◌, [], ℕ, List, length, take, drop, Ok, Some, None, IfOk, IfErr, IfSome};
+ghost use Rattle.md5.specs.Md5.{md5};
+ghost use Rattle.log_blocks.specs.Blocks.{Write, number, head_at, block_of, packed, written, IsTorn, Keeps, EndsWithin, IsUnpacked, IsDamaged};
 
 use byteorder::{BigEndian, ByteOrder};
 use md5::{Digest, Md5};
@@ -35,7 +37,9 @@ struct Block {
 }
 
 /// The head of a block that goes to a place of the file: these bytes stand behind the first `start` of the log.
-pub fn head(place: u64, start: u64, bytes: &[u8]) -> [u8; HEAD_LEN] {
+pub fn head(place: u64, start: u64, bytes: &[u8]) -> [u8; HEAD_LEN]
+    ensures { result ≡ head_at place (record { start = start; bytes = bytes.now }) }
+{
     let mut head = [0; HEAD_LEN];
     BigEndian::write_u64(&mut head, start);
     BigEndian::write_u64(&mut head[8..], bytes.len() as u64);
@@ -46,12 +50,18 @@ pub fn head(place: u64, start: u64, bytes: &[u8]) -> [u8; HEAD_LEN] {
     head
 }
 
-/// Makes of a file's bytes those of its log, which take the place of the first ones. Refused at the first block that isn't
-/// what was written.
+/// Makes of a file's bytes those of its log, which take the place of the first ones. Refused at the first place where neither
+/// a block stands nor the file ends within one. What was written is read back, also where the last block is torn.
 pub fn unpack(file: &mut [u8]) -> Result<Unpacked, Damaged>
     ensures len { IfOk result (λ unpacked. unpacked.len ≤ unpacked.end) }
     ensures end { IfOk result (λ unpacked. unpacked.end ≤ length file.new) }
     ensures room { length file.new ≡ length file.old }
+    ensures read { (ws : List Write) → Keeps file.old ws
+        → result ≡ Ok (record { len = length (written [] ws); end = length (packed 0 ws) }) }
+    ensures log { (ws : List Write) → Keeps file.old ws
+        → take (length (written [] ws)) file.new ≡ written [] ws }
+    ensures unpacked { IfOk result (λ unpacked. IsUnpacked file.old file.new unpacked.len unpacked.end) }
+    ensures refused { IfErr result (λ damaged. IsDamaged file.old damaged.place) }
 {
     let mut end = 0;
     let mut len = 0;
@@ -70,6 +80,14 @@ fn block_at(file: &[u8], place: usize, before: usize) -> Result<Option<Block>, D
     requires { place ≤ length file.now }
     ensures start { IfOk result (λ found. IfSome found (λ block. block.start ≤ before)) }
     ensures end { IfOk result (λ found. IfSome found (λ block. place + HEAD_LEN + block.len ≤ length file.now)) }
+    ensures whole { (w : Write) (rest : List ℕ) → drop place file.now ≡ block_of place w ++ rest → w.start ≤ before
+        → result ≡ Ok (Some (record { start = w.start; len = length w.bytes })) }
+    ensures torn { IsTorn place (drop place file.now) → result ≡ Ok None }
+    ensures right { IfOk result (λ found. IfSome found (λ block. take (HEAD_LEN + block.len) (drop place file.now)
+        ≡ block_of place (record { start = block.start; bytes = take block.len (drop HEAD_LEN (drop place file.now)) }))) }
+    ensures ends { EndsWithin place (drop place file.now) → result ≡ Ok None }
+    ensures none { result ≡ Ok None → EndsWithin place (drop place file.now) }
+    ensures refused { IfErr result (λ damaged. damaged.place ≡ place) }
 {
     let left = &file[place..];
     if left.len() < HEAD_LEN {
@@ -94,11 +112,17 @@ fn block_at(file: &[u8], place: usize, before: usize) -> Result<Option<Block>, D
     Ok(Some(Block { start, len }))
 }
 
-fn seal_of(place: u64, fields: &[u8]) -> [u8; 16] {
+/// The checksum of a block's place in the file and of its two numbers.
+fn seal_of(place: u64, fields: &[u8]) -> [u8; 16]
+    ensures { result ≡ md5 (number place ++ fields.now) }
+{
     digest(&place.to_be_bytes(), fields)
 }
 
-fn digest(first: &[u8], second: &[u8]) -> [u8; 16] {
+/// The MD5 of one after the other.
+fn digest(first: &[u8], second: &[u8]) -> [u8; 16]
+    ensures { result ≡ md5 (first.now ++ second.now) }
+{
     let mut hasher = Md5::new();
     hasher.update(first);
     hasher.update(second);

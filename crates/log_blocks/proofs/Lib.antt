@@ -1,0 +1,3 @@
+mod Accepts
+mod Heads
+mod Reading
