@@ -9,7 +9,7 @@ use Rattle.codec.specs.Fields.{number, optional, op_bytes}
 use Rattle.codec.specs.Reading.{bytes_if}
 use Rattle.codec.specs.Records.{record_bytes}
 use Rattle.codec.proofs.Fields.{length-number, numbers_length}
-use Rattle.codec.proofs.Told.{kind, fields, spelled, asks_nothing}
+use Rattle.codec.proofs.Told.{kind, fields, spelled, IsSplit, split, asks_nothing}
 
 -- behind an Op record's two numbers
 op_behind : (r : Record) → kind r ≡ 3 → Some (drop 16 (fields r)) ≡ option_map op_bytes (request_of r)
@@ -51,24 +51,18 @@ inverse_behind (is.Checkpoint low) comp = absurd (cc)
 
 -- of a body that begins with this kind
 module _ (r : Record) (body : List ℕ) (k : ℕ) (tail : List ℕ) (parts : body ≡ k ∷ tail) (stands : body ≡ record_bytes r) where
-  both : k ∷ tail ≡ kind r ∷ fields r
-  both = sym parts ∙ stands ∙ spelled r
-
-  kind_is : k ≡ kind r
-  kind_is = cc both
-
-  tail_is : tail ≡ fields r
-  tail_is = cc both
+  whole : IsSplit r k tail
+  whole = split r body k tail parts stands
 
   pub op_asked : k ≡ 3 → Some (drop 16 tail) ≡ option_map op_bytes (request_of r)
-  op_asked op = ap (λ (b : List ℕ). Some (drop 16 b)) tail_is ∙ op_behind r (sym kind_is ∙ op)
+  op_asked op = ap (λ (b : List ℕ). Some (drop 16 b)) whole.tail_is ∙ op_behind r (sym whole.kind_is ∙ op)
 
   pub inverse_asked : k ≡ 5 → bytes_if (drop 24 tail) ≡ option_map op_bytes (request_of r)
-  inverse_asked comp = ap (λ (b : List ℕ). bytes_if (drop 24 b)) tail_is ∙ inverse_behind r (sym kind_is ∙ comp)
+  inverse_asked comp = ap (λ (b : List ℕ). bytes_if (drop 24 b)) whole.tail_is ∙ inverse_behind r (sym whole.kind_is ∙ comp)
 
   pub nothing_asked : k ≢ 3 → k ≢ 5 → None ≡ option_map op_bytes (request_of r)
   nothing_asked op comp =
-      sym (ap (option_map op_bytes) (asks_nothing r (λ is. op (kind_is ∙ is)) (λ is. comp (kind_is ∙ is))))
+      sym (ap (option_map op_bytes) (asks_nothing r (λ is. op (whole.kind_is ∙ is)) (λ is. comp (whole.kind_is ∙ is))))
 
 -- a body is never empty
 pub some_body : (r : Record) (body : List ℕ) → body ≡ record_bytes r → length body ≡ 0 → ⊥

@@ -58,6 +58,17 @@ spelled (is.Commit txn) = refl
 spelled (is.End txn) = refl
 spelled (is.Checkpoint low) = refl
 
+-- a body is split into the kind and the fields
+pub record IsSplit (r : Record) (k : ℕ) (tail : List ℕ) : Type 0 where
+  pub kind_is : k ≡ kind r
+  pub tail_is : tail ≡ fields r
+
+pub split : (r : Record) (body : List ℕ) (k : ℕ) (tail : List ℕ) → body ≡ k ∷ tail → body ≡ record_bytes r
+    → IsSplit r k tail
+split r body k tail parts stands =
+    let both : k ∷ tail ≡ kind r ∷ fields r = sym parts ∙ stands ∙ spelled r in
+    record { kind_is = cc both; tail_is = cc both }
+
 -- they stand behind the length
 behind : (r : Record) (left rest : List ℕ) → left ≡ frame (record_bytes r) ++ rest
     → byte_at (drop 8 left) ≡ Some (kind r, fields r ++ rest)

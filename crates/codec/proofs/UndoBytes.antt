@@ -19,7 +19,7 @@ use Rattle.codec.specs.Undoing.{answer_held, comp_bytes}
 use Rattle.codec.specs.Frames.{frame}
 use Rattle.codec.specs.Reading.{count_at}
 use Rattle.codec.proofs.Fields.{length-number, numbers_length, count_reads}
-use Rattle.codec.proofs.Told.{first, kind, fields, spelled}
+use Rattle.codec.proofs.Told.{first, kind, fields, IsSplit, split}
 
 -- ---- an operation's key
 
@@ -281,20 +281,14 @@ none_held (is.Checkpoint low) other = refl
 
 -- of a body that begins with this kind
 module _ (r : Record) (body : List ℕ) (n : ℕ) (tail : List ℕ) (begins : body ≡ n ∷ tail) (stands : body ≡ record_bytes r) where
-  whole : n ∷ tail ≡ kind r ∷ fields r
-  whole = sym begins ∙ stands ∙ spelled r
-
-  record_kind : n ≡ kind r
-  record_kind = cc whole
-
-  tail_is : tail ≡ fields r
-  tail_is = cc whole
+  whole : IsSplit r n tail
+  whole = split r body n tail begins stands
 
   pub answer_told : n ≡ 4 → Some (drop 8 tail) ≡ option_map answer_bytes (answer_held r)
-  answer_told answer = ap (λ (b : List ℕ). Some (drop 8 b)) tail_is ∙ answer_behind r (sym record_kind ∙ answer)
+  answer_told answer = ap (λ (b : List ℕ). Some (drop 8 b)) whole.tail_is ∙ answer_behind r (sym whole.kind_is ∙ answer)
 
   pub no_answer_told : n ≢ 4 → None ≡ option_map answer_bytes (answer_held r)
-  no_answer_told other = none_held r (λ is. other (record_kind ∙ is))
+  no_answer_told other = none_held r (λ is. other (whole.kind_is ∙ is))
 
 -- ---- the frame of a Comp record
 

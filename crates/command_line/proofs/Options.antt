@@ -1,5 +1,6 @@
 -- Where the words are taken an option has a value that passed its parser, or none if it has no default.
 use Rattle.std.proofs.Common.{zero, suc, ◌≡◌, ◌⊎◌, ℕ, Bool, true, false, List, [], ◌∷◌, ◌++◌, Option, Some, None, is_some, length, ap, sym, subst, refl, inl, inr}
+use Rattle.std.proofs.lemmas.Bool.{or_right}
 use Rattle.std.specs.Prelude.{⊤, find, fold, ◌||◌, cond, drop, option_and_then, option_map, slice_get, encode_utf8}
 use Rattle.std.specs.List.{AllByRecursion}
 use Rattle.std.specs.Option.{option_map_or}
@@ -334,10 +335,6 @@ defaults_fit a (b ∷ d) rows is known f =
     defaults_fit a d (with_default rows b) is known.1 (default_fits a b rows is known.0 f)
 
 -- ---- the option has a row
-
-or_right : (x y : Bool) → y ≡ true → (x || y) ≡ true
-or_right true y e = refl
-or_right false y e = e
 
 or_keeps : (x y z : Bool) → (x || y) ≡ true → (y ≡ true → z ≡ true) → (x || z) ≡ true
 or_keeps true y z e keeps = refl

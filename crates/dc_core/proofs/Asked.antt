@@ -35,13 +35,3 @@ module _ (w : DcView) (n : ℕ) (o : Op) (v : SystemView) (kept : IsDc w) where
             subst IsDc (sym (is_performed w n o a v ps list answer system))
             (keeps_performed w n o kept may out (subst IsSystem system is))
       ]
-
-  pub keeps_repeated : (a : Option Answer) → IsAsked w n o (Repeated a) v → IsDc (with_system w v)
-  keeps_repeated a asked =
-      elim (cases_Bool (captures_at w (key_of o) n)) [
-        | inl captured ↦
-            let same = rw captured at asked.done in
-            let system : v ≡ w.system = asked.rest ∙ ap (λ ls. record w.system { leaves = ls }) same.1 in
-            subst IsDc (λ i. with_system w (sym system i)) kept
-        | inr out ↦ let now = rw out at asked.done in absurd (cc now.0)
-      ]

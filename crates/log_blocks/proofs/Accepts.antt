@@ -4,7 +4,7 @@ use Rattle.std.specs.Int.{w64, from_be_bytes}
 use Rattle.std.specs.List.{starts_with}
 use Rattle.std.specs.Cmp.Lexicographic.{pointwise}
 use Rattle.std.proofs.Math.Seq.{take-add}
-use Rattle.std.proofs.lemmas.Bool.{cases_lt}
+use Rattle.std.proofs.lemmas.Bool.{cases_lt, not-false}
 use Rattle.std.proofs.lemmas.Bool.Decides.{Decides-eqb}
 use Rattle.std.proofs.lemmas.Nat.{be_bytes_8}
 use Rattle.std.proofs.lemmas.List.{get_or-take, get_or-drop, get_or_past, length-replicate, length-take, length-drop, take_at, take-append-drop, take_rest, take-take}
@@ -80,11 +80,6 @@ sealed_again file place head behind seal w is =
     let front : take 8 seal ≡ compared = ap (take 8) begins ∙ take_at compared (drop (length compared) seal) 8 eight in
     take-add 16 8 head ∙ rw (sym front, is.seal_is, numbers) refl
 
--- a truth that denies another
-denied : (b : Bool) → not b ≡ false → b ≡ true
-denied true no_more = refl
-denied false wrong = sym wrong
-
 -- the write whose block is accepted
 abbrev pub accepted : List ℕ → ℕ → ℕ → Write
 accepted left start len = record { start = start; bytes = take len (drop 40 left) }
@@ -103,7 +98,7 @@ block_again file place head behind seal sum start len different is room made com
     let size : length w.bytes ≡ len = omega (arith, room, ap length behind_is, length-take len (drop 40 left)) in
     let sealed_is : take 24 head ≡ sealed place w =
     sealed_again file place head behind seal w (subst (IsSealed file place head behind seal start) (sym size) is) in
-    let same : pointwise eqb sum (from_place head 24) ≡ true = denied _ (sym compared ∙ equal) in
+    let same : pointwise eqb sum (from_place head 24) ≡ true = not-false _ (sym compared ∙ equal) in
     let sum_is : sum ≡ drop 24 head =
     (slice_eq-Decides Decides-eqb sum (from_place head 24) _ refl).0 same ∙ take_rest head 24 in
     let whole : head ≡ head_at place w =

@@ -1,7 +1,7 @@
 -- What holds of every legal log: its beginnings, what its records fit, and what its numbers name.
 use Rattle.std.proofs.Common.{◌≡◌, ℕ, ◌+◌, Bool, true, false, cond, List, [], ◌∷◌, ◌++◌, length, Option, Some, IsSome, is_some, refl, sym, ap, ◌∙◌, subst, inl, inr, ◌⊎◌, eqb-true, true≢false, ne_eqb}
 use Rattle.std.specs.Prelude.{◌||◌, ◌==◌}
-use Rattle.std.proofs.lemmas.Bool.{cases_eq, cases_Bool, or_cases}
+use Rattle.std.proofs.lemmas.Bool.{cases_eq, cases_Bool, or_cases, or_right}
 use Rattle.record_key.specs.declared.op.Op.{Op}
 use Rattle.record_key.specs.declared.op.Answer.{Answer}
 use Rattle.history.specs.declared.record.Record.{Record}
@@ -44,11 +44,6 @@ fits_at (q ∷ log) n r h is =
           before_newest (λ x. Fits x r) q log n e (subst (Fits log) equal h.0)
       | inr e ↦ before_older (λ x. Fits x r) q log n e (fits_at log n r h.1 (older_at (λ x. x ≡ Some r) q log n e is))
     ]
-
--- the second of two is enough
-pub or_right : (a b : Bool) → b ≡ true → (a || b) ≡ true
-or_right true b h = refl
-or_right false b h = h
 
 -- either of two answers is one
 some_either : (b : Bool) (a : Answer) (o : Option Answer) → IsSome o → IsSome (cond b (Some a) o)

@@ -147,8 +147,3 @@ inverts log u t o a by answered = record {
   answered = answered;
   inverse = ap (λ (b : Option (ℕ × Op)). inverse_by b (answer_of log u)) by ∙ ap (inverse_by (Some (t, o))) answered;
 }
-
--- and no other
-pub inverse_is : (log : List Record) (u : ℕ) (i : Option Op) → Inverts log u i → i ≡ inverse_at log u
-unfolding inverts
-inverse_is log u i h = h.inverse ∙ sym (inverts log u h.txn h.op h.answer h.is h.answered).inverse

@@ -13,15 +13,6 @@ use Rattle.node_shell.specs.Text.{ComesTo, Runs, goes_on, fails, is_cut, done, h
 use Rattle.node_shell.proofs.Printing.{appends_then}
 use Rattle.node_shell.proofs.Telling.{led_run, told_run}
 
--- no line
-pub no_line : {E : Type 0} (view : NodeView) (labels : Bindings) (old new : Option (List ℕ)) → Appends old new []
-    → WritesLine {E = E} (Ok false) None view labels view labels old new
-no_line view labels old new same = record {
-  said = [];
-  appended = same;
-  runs = λ continues. record { goes_on = λ may cs text status k. k; ends = λ failed over cs. absurd (cc failed) };
-}
-
 -- a line whose text was written
 pub written_line : {E : Type 0} (o : Option Command) (c : Command) (view : NodeView) (labels : Bindings) (r : LineResult)
     (after : NodeView) (next : Bindings) (old new : Option (List ℕ))

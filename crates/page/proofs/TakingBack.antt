@@ -1,5 +1,5 @@
 -- An honest leaf whose entries above an end are taken back is honest for the log up to the end.
-use Rattle.std.proofs.Common.{◌≡◌, ◌≢◌, ℕ, ◌+◌, ◌<◌, ◌≤◌, ◌==◌, ◌⊎◌, Bool, true, false, List, [], ◌∷◌, ◌++◌, length, Option, Some, refl, sym, ap, ◌∙◌, subst, arith, inl, inr, eq-eqb, true≢false, lt-ltb, le-ltb}
+use Rattle.std.proofs.Common.{length-append, ◌≡◌, ◌≢◌, ℕ, ◌+◌, ◌<◌, ◌≤◌, ◌==◌, ◌⊎◌, Bool, true, false, List, [], ◌∷◌, ◌++◌, length, Option, Some, refl, sym, ap, ◌∙◌, subst, arith, inl, inr, eq-eqb, true≢false, lt-ltb, le-ltb}
 use Rattle.std.specs.Prelude.{nat_le}
 use Rattle.std.specs.List.{AllByRecursion}
 use Rattle.std.specs.FinMap.{get}
@@ -224,10 +224,6 @@ idle_rest : (r : Record) (log : List Record) (e low : ℕ) → AreIdle (r ∷ lo
 idle_rest r log e low idle n o over le asks =
     idle n o over le (kept_at (ARequest o) r log n (request_number log n o asks) asks)
 
-longer : (newer older : List Record) → length older ≤ length (newer ++ older)
-longer [] older = omega arith
-longer (r ∷ newer) older = let le : length older ≤ length (newer ++ older) = longer newer older in omega (arith, le)
-
 twice : (leaf : LeafView) (a b : ℕ) → a ≤ b → RiseAbove leaf.ab.low leaf.ab.entries
     → taken_back (taken_back leaf b) a ≡ taken_back leaf a
 twice leaf a b le rising =
@@ -258,7 +254,7 @@ taken_honest : (newer older : List Record) (leaf : LeafView) → RiseAbove leaf.
 taken_honest [] older leaf rising honest idle =
     subst (IsHonestLeaf older) (sym (nothing_back older leaf honest)) honest
 taken_honest (r ∷ newer) older leaf rising honest idle =
-    let le : length older ≤ length (newer ++ older) = longer newer older in
+    let le : length older ≤ length (newer ++ older) = omega (arith, length-append newer older) in
     let over : (o : Op) → request_of r ≡ Some o → leaf.ab.low < length (newer ++ older) + 1 = λ o asks.
     elim (cases_lt leaf.ab.low (length (newer ++ older) + 1)) [
       | inl less ↦ less

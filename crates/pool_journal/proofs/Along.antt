@@ -1,5 +1,6 @@
 -- What the entries give of each component, one step on, and how both together are a run of the node.
 use Rattle.std.proofs.Common.{◌≡◌, ℕ, ◌+◌, Bool, true, false, not, List, [], ◌∷◌, ◌++◌, Option, Some, None, length, refl, ap, sym, ◌∙◌, subst}
+use Rattle.std.proofs.lemmas.Bool.{not-false}
 use Rattle.std.specs.Bool.{MatchBool}
 use Rattle.std.specs.List.{AllByRecursion}
 use Rattle.codec.specs.declared.request.Request.{Request}
@@ -44,16 +45,12 @@ tc_still ps s t (e ∷ es) n a =
     subst (λ (b : Bool). MatchBool b ((mid : TcState) × TcStep ps s e mid × TcAlong (also ps e.given) mid es t)
     (TcAlong (also ps e.given) s es t)) (sym n.0) (tc_still (also ps e.given) s t es n.1 a)
 
-is_not : (b : Bool) → not b ≡ false → b ≡ true
-is_not true n = refl
-is_not false n = absurd (cc (n))
-
 dc_still : (qs : List Request) (s t : DcState) (es : List Step) → AllByRecursion (λ e. is_dc e ≡ false) es → s ≡ t
     → DcAlong qs s es t
 dc_still qs s t [] n a = a
 dc_still qs s t (e ∷ es) n a =
     subst (λ (b : Bool). MatchBool b (DcAlong (also qs e.sent) s es t)
-    ((mid : DcState) × DcStep qs s e mid × DcAlong (also qs e.sent) mid es t)) (sym (is_not (is_tc e) n.0))
+    ((mid : DcState) × DcStep qs s e mid × DcAlong (also qs e.sent) mid es t)) (sym (not-false (is_tc e) n.0))
     (dc_still (also qs e.sent) s t es n.1 a)
 
 -- steps of the other component change nothing

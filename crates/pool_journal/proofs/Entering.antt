@@ -1,5 +1,6 @@
 -- The journal, one entry on.
 use Rattle.std.proofs.Common.{◌≡◌, ℕ, zero, suc, ◌==◌, Bool, true, false, not, cond, List, [], ◌∷◌, ◌++◌, Option, Some, None, refl, ap, sym, ◌∙◌, subst, arith, slice_get, map, set, eq-eqb, eqb→eq, inl, inr}
+use Rattle.std.proofs.lemmas.Bool.{not-true}
 use lib.Dec.{T}
 use Rattle.std.specs.Prelude.{filter, Result, Ok, Err, IfOk, OnErr, IfSome, IfNone}
 use Rattle.std.specs.Option.{is_some}
@@ -47,10 +48,6 @@ steps_snoc tokens p = map-append step_at tokens (p ∷ [])
 
 not_false : (b : Bool) → b ≡ true → not b ≡ false
 not_false b is = ap not is
-
-pub not_true : (b : Bool) → not b ≡ true → b ≡ false
-not_true true is = absurd (cc (is))
-not_true false is = refl
 
 pub on_ok : {A E : Type 0} {P Q : A → Type 0} (r : Result A E) → ((x : A) → P x → Q x) → IfOk r P → IfOk r Q
 on_ok (Ok x) f p = f x p
@@ -129,7 +126,7 @@ module _ (start : Start) (row : Shelves) (names : ℕ → ℕ) where
       → LinesKept start row names tokens' asked given' tc dc'
   dc_enters tokens asked given tokens' given' tc dc dc' p e k shown step before is n enters all gave view none =
       let es = steps tokens in
-      let other : is_tc e ≡ false = not_true (is_tc e) is in
+      let other : is_tc e ≡ false = not-true (is_tc e) is in
       let now : steps (tokens ++ p ∷ []) ≡ es ++ e ∷ [] = steps_snoc tokens p ∙ ap (λ (x : Step). es ++ x ∷ []) step in
       let thr : through p.value ≡ es ++ e ∷ [] = through_is tokens p e step before in
       let tc_runs : GivesTc start (es ++ e ∷ []) k.gives_tc.0 =

@@ -1,5 +1,6 @@
 -- The derived order is the index's.
 use Rattle.std.proofs.Common.{◌≡◌, ℕ, Bool, true, false, cond, Some, None, refl, sym, ◌∙◌, subst, true≢false}
+use Rattle.std.proofs.lemmas.Bool.{not-true}
 use Rattle.std.specs.Prelude.{not}
 use Rattle.std.specs.BTreeSet.{BTreeSet, contains}
 use Rattle.std.specs.Ordering.{is_eq}
@@ -98,12 +99,8 @@ changed b s z d e h same q =
     (subst (λ (x : Entry). contains derived.cmp-value.it z q
     ≡ cond (is_eq (derived.cmp-value.it x q)) b (contains derived.cmp-value.it s q)) same (h q))
 
-not_true : (b : Bool) → not b ≡ true → b ≡ false
-not_true true h = absurd (true≢false (sym h))
-not_true false h = refl
-
 pub absent : (s : BTreeSet Entry) (d e : Entry) (b : Bool) → b ≡ not (contains derived.cmp-value.it s d) → b ≡ true
     → d ≡ e → contains entry_cmp s e ≡ false
 absent s d e b is true_b same =
     by_order (λ R. contains R s e ≡ false)
-    (subst (λ (x : Entry). contains derived.cmp-value.it s x ≡ false) same (not_true _ (sym is ∙ true_b)))
+    (subst (λ (x : Entry). contains derived.cmp-value.it s x ≡ false) same (not-true _ (sym is ∙ true_b)))

@@ -1,5 +1,5 @@
 -- What a beginning of a log has of the whole.
-use Rattle.std.proofs.Common.{◌≡◌, ℕ, ◌+◌, ◌<◌, ◌≤◌, Bool, true, false, cond, List, [], ◌∷◌, ◌++◌, length, Option, Some, None, IsSome, is_some, refl, sym, ap, ◌∙◌, subst, arith, inl, inr, ◌⊎◌, true≢false, ne_eqb}
+use Rattle.std.proofs.Common.{◌≡◌, ℕ, ◌+◌, ◌<◌, ◌≤◌, Bool, true, false, cond, List, [], ◌∷◌, ◌++◌, length, length-append, Option, Some, None, IsSome, is_some, refl, sym, ap, ◌∙◌, subst, arith, inl, inr, ◌⊎◌, true≢false, ne_eqb}
 use Rattle.std.specs.Prelude.{◌&&◌, not}
 use Rattle.std.proofs.lemmas.Bool.{cases_eq, cases_lt, cases_Bool}
 use Rattle.record_key.specs.declared.op.Op.{Op}
@@ -14,17 +14,12 @@ use Rattle.log_laws.proofs.Strict.{AnEnd, end_ends, end_number, ended_answered}
 use Rattle.log_laws.proofs.Compensations.{ended_crosses_none}
 use Rattle.simulation.specs.View.{IsOver, is_begin, is_left_open}
 
--- a longer log is no shorter
-pub longer_length : (newer older : List Record) → length older ≤ length (newer ++ older)
-longer_length [] older = omega arith
-longer_length (r ∷ newer) older = omega (arith, longer_length newer older)
-
 -- a number of the beginning has there the record that it has in the whole
 pub record_same : (newer older : List Record) (n : ℕ) → n ≤ length older
     → record_at (newer ++ older) n ≡ record_at older n
 record_same [] older n h = refl
 record_same (r ∷ newer) older n h =
-    record_old r (newer ++ older) n (λ e. omega (arith, e, h, longer_length newer older)) ∙ record_same newer older n h
+    record_old r (newer ++ older) n (λ e. omega (arith, e, h, length-append newer older)) ∙ record_same newer older n h
 
 -- who has ended in the beginning has in the whole
 pub ended_longer : (newer older : List Record) (t : ℕ) → has_ended older t ≡ true → has_ended (newer ++ older) t ≡ true

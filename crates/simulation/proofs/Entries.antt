@@ -1,5 +1,5 @@
 -- Histories of logs, filtered: what a crash leaves of them.
-use Rattle.std.proofs.Common.{◌≡◌, ℕ, ◌+◌, ◌<◌, ◌≤◌, Bool, true, false, cond, List, [], ◌∷◌, ◌++◌, length, Option, Some, None, refl, sym, ap, ◌∙◌, subst, arith, inl, inr}
+use Rattle.std.proofs.Common.{◌≡◌, ℕ, ◌+◌, ◌<◌, ◌≤◌, Bool, true, false, cond, List, [], ◌∷◌, ◌++◌, length, length-append, Option, Some, None, refl, sym, ap, ◌∙◌, subst, arith, inl, inr}
 use Rattle.std.specs.Prelude.{map, filter, nat_lt, not, ◌&&◌, ◌||◌, if◌then◌else◌}
 use Rattle.std.proofs.lemmas.Bool.{cases_lt, lt-ltb, le-ltb}
 use Rattle.std.specs.List.{AllByRecursion}
@@ -13,7 +13,6 @@ use Rattle.history.specs.ListMachine.{fallen}
 use Rattle.log_laws.proofs.Records.{AnOp, at_newest, kept_at}
 use Rattle.log_laws.proofs.LegalLogs.{op_number}
 use Rattle.simulation.specs.View.{standing, IsFalling, IsOverLost, HasEntry}
-use Rattle.simulation.proofs.Beginnings.{longer_length}
 
 pub is_lt : (m n : ℕ) → nat_lt m n ≡ true → m < n
 is_lt m n h = elim (cases_lt m n) [ inl lt ↦ lt | inr ge ↦ let no : true ≡ false = sym h ∙ le-ltb m n ge in cc ]
@@ -121,7 +120,7 @@ drop_over x p k [] older within out = refl
 drop_over x p k (r ∷ newer) older within out =
     ap (filter p) (hist_step x r (newer ++ older))
     ∙ over_step x p k (length (newer ++ older) + 1) (op_of r) (hist_in x (newer ++ older))
-    (omega (arith, within, longer_length newer older)) out
+    (omega (arith, within, length-append newer older)) out
     ∙ drop_over x p k newer older within out
 
 -- two filters are one

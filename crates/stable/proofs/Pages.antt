@@ -37,7 +37,7 @@ image-cond : (b : Bool) (p : Page) (o : Option Page)
 image-cond true p o = refl
 image-cond false p o = refl
 
-is_equal : (o : Ordering) → is_eq o ≡ true → o ≡ Equal
+pub is_equal : (o : Ordering) → is_eq o ≡ true → o ≡ Equal
 is_equal Less h = absurd (false≢true h)
 is_equal Equal h = refl
 is_equal Greater h = absurd (false≢true h)

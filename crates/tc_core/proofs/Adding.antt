@@ -9,15 +9,12 @@ use Rattle.tc_core.specs.declared.open_txn.OpenTxn.{OpenTxn}
 use Rattle.tc_core.specs.OpenTxns.{AreBelow}
 use Rattle.tc_core.specs.Slots.{listed, in_slots, AreSlots}
 use Rattle.record_key.proofs.Lists.{all_appended}
+use Rattle.codec.proofs.ReadOnce.{all_older}
 use Rattle.tc_core.proofs.Slots.{Holds, same_slots}
 
 all_front : {X : Type 0} (P : X → Type 0) (xs ys : List X) → AllByRecursion P (xs ++ ys) → AllByRecursion P xs
 all_front P [] ys all = tt
 all_front P (x ∷ xs) ys all = (all.0, all_front P xs ys all.1)
-
-all_back : {X : Type 0} (P : X → Type 0) (xs ys : List X) → AllByRecursion P (xs ++ ys) → AllByRecursion P ys
-all_back P [] ys all = all
-all_back P (x ∷ xs) ys all = all_back P xs ys all.1
 
 -- the new number's entry comes last
 comes_last : (t s : ℕ) (es : List (ℕ × ℕ)) → AllByRecursion (λ (e : ℕ × ℕ). e.0 < t) es
@@ -32,7 +29,7 @@ entries_below : (t : ℕ) (slab : Slab OpenTxn) (es : List (ℕ × ℕ)) → Are
 entries_below t slab [] are below = tt
 entries_below t slab (e ∷ es) are below =
     let own : AreBelow t (are.0.open_txn ∷ []) =
-    rw are.0.held at (all_back _ (in_slots slab es) (listed (get slab e.1)) below) in (
+    rw are.0.held at (all_older _ (in_slots slab es) (listed (get slab e.1)) below) in (
       rw (← are.0.number) own.0,
       entries_below t slab es are.1 (all_front _ (in_slots slab es) (listed (get slab e.1)) below),
     )

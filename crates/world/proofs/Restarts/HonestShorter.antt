@@ -10,7 +10,7 @@ use Rattle.history.specs.declared.record.Record.{Record}
 use Rattle.history.specs.Log.{request_of}
 use Rattle.history.specs.Values.{is_on}
 use Rattle.history.specs.Honest.{Numbered, numbered_with, numbered_on, LeavesOutAdds, value_of}
-use Rattle.log_laws.proofs.LegalLogs.{or_right}
+use Rattle.std.proofs.lemmas.Bool.{or_right}
 use Rattle.ab_lsn.specs.AbLsn.{captures, stands_in}
 use Rattle.page.specs.Leaf.{LeafView}
 use Rattle.page.specs.Honest.{IsSavedRight}

@@ -1,5 +1,5 @@
 use Rattle.dc_core.specs.Seen.{seen}
-use Rattle.dc_core.proofs.Asked.{keeps_asked, keeps_repeated}
+use Rattle.dc_core.proofs.Asked.{keeps_asked}
 use Rattle.dc_core.proofs.parts.Parts.perform.Goals as goal
 
 pub returns-in-Ok-Performed-clause-kept : goal.returns-in-Ok-Performed-clause-kept

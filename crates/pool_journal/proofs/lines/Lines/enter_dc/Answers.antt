@@ -1,4 +1,5 @@
 use Rattle.std.proofs.Common.{◌≡◌, ◌++◌, cond, List, [], ◌∷◌, Some, ap, sym, ◌∙◌, subst}
+use Rattle.std.proofs.lemmas.Bool.{not-true}
 use Rattle.std.specs.Option.{is_some}
 use Rattle.boxcar.specs.Table.{Shelves}
 use Rattle.pool_journal.specs.declared.entry.Entry.{Entry}
@@ -8,7 +9,7 @@ use Rattle.pool_journal.specs.Slots.{Slot, Shown, through, steps, seen, last_of}
 use Rattle.pool_journal.specs.Steps.{is_tc, GivesDc}
 use Rattle.pool_journal.specs.Views.{View}
 use Rattle.pool_journal.proofs.Along.{dc_entered}
-use Rattle.pool_journal.proofs.Entering.{dc_enters, last_seen, through_is, not_true}
+use Rattle.pool_journal.proofs.Entering.{dc_enters, last_seen, through_is}
 use Rattle.pool_journal.proofs.lines.Lines.enter_dc.Goals as goal
 
 pub invariant_of-self : goal.invariant_of-self
@@ -59,4 +60,4 @@ returns-clause-gives g c n enters =
     ap (λ (v : View). v.steps) (c.meet-2.ensures.visitor ∙ c.meet-2.ensures.party)
     ∙ ap (λ (x : Slot). through x.value) c.again.ensures ∙ all in
     subst (λ (es : List Step). GivesDc g.J.Naming.start es n) (sym now)
-    (dc_entered g.J.Naming.start s.dc.steps (steps s.tokens.items) e n (not_true (is_tc e) c.requires.dc) k.dc_sees enters')
+    (dc_entered g.J.Naming.start s.dc.steps (steps s.tokens.items) e n (not-true (is_tc e) c.requires.dc) k.dc_sees enters')
