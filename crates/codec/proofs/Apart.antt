@@ -4,13 +4,12 @@ use Rattle.std.specs.Prelude.{IfSome}
 use Rattle.std.proofs.lemmas.Bool.{eqb-false}
 use Rattle.std.proofs.lemmas.List.{drop_at}
 use Rattle.record_key.specs.declared.op.Op.{Op}
-use Rattle.record_key.specs.declared.op.Answer.{Answer}
 use Rattle.codec.specs.declared.parted.Asking.{Asking}
 use Rattle.codec.specs.declared.request.Request.{Request}
 use Rattle.codec.specs.declared.request.Request.TheVariants as asks
 use Rattle.codec.specs.declared.reply.Reply.{Reply}
 use Rattle.codec.specs.declared.reply.Reply.TheVariants as says
-use Rattle.codec.specs.Fields.{number, IsNumber, optional, op_bytes, answer_bytes, IsAnswer}
+use Rattle.codec.specs.Fields.{number, IsNumber, optional, op_bytes}
 use Rattle.codec.specs.Parted.{both, asking_of, answered_of, asked}
 use Rattle.codec.specs.Reading.{Reader, pair, mapped, number_at, op_at, optional_at, answer_at}
 use Rattle.codec.specs.Replies.{reply_bytes, IsReply}
@@ -22,7 +21,7 @@ use Rattle.codec.proofs.Requests.{perform_reads}
 use Rattle.codec.proofs.Told.{first}
 
 -- a body of another kind
-other_kind : {k kind wanted : ℕ} {tail fields : List ℕ} → eqb kind wanted ≡ false → k ∷ tail ≡ kind ∷ fields
+pub other_kind : {k kind wanted : ℕ} {tail fields : List ℕ} → eqb kind wanted ≡ false → k ∷ tail ≡ kind ∷ fields
     → k ≡ wanted → ⊥
 other_kind {kind = kind} {wanted = wanted} other stands same = eqb-false kind wanted other (cc (stands, same))
 
@@ -68,30 +67,40 @@ nothing_asked (asks.StableEnd session stable) k tail stands other = refl
 
 -- ---- replies
 
--- a number and the answer, if it is kept
-abbrev pub numbered_at : Reader (ℕ × Option Answer)
-numbered_at = pair number_at (optional_at answer_at)
-
-numbered_reads : IsReader (ℕ × Option Answer) (λ p. number p.0 ++ optional answer_bytes p.1)
-    (λ p. IsNumber p.0 × IfSome p.1 IsAnswer) numbered_at
-numbered_reads = readers.both number_reads (optional_reads Answer answer_bytes IsAnswer answer_at answer_reads)
+-- a number and what is told of it, if anything is
+abbrev pub numbered_at : {X : Type 0} → Reader X → Reader (ℕ × Option X)
+numbered_at part = pair number_at (optional_at part)
 
 -- they stand behind the session's number
-answer_behind : (session n : ℕ) (a : Option Answer) (tail : List ℕ) → IsNumber n → IfSome a IsAnswer
-    → tail ≡ number session ++ (number n ++ optional answer_bytes a) → first (numbered_at (drop 8 tail)) ≡ Some (n, a)
-answer_behind session n a tail small fits same =
-    let fields : List ℕ = number n ++ optional answer_bytes a in
+pub told_behind : {X : Type 0} {spell : X → List ℕ} {Fits : X → Type 0} {part : Reader X} → IsReader X spell Fits part →
+    (session n : ℕ) (o : Option X) (tail : List ℕ) → IsNumber n → IfSome o Fits
+    → tail ≡ number session ++ (number n ++ optional spell o) → first (numbered_at part (drop 8 tail)) ≡ Some (n, o)
+told_behind {X = X} {spell = spell} {Fits = Fits} {part = part} law session n o tail small fits same =
+    let fields : List ℕ = number n ++ optional spell o in
     let behind : drop 8 tail ≡ fields =
     ap (drop 8) same ∙ drop_at (number session) fields 8 (length-number session) in
-    ap (λ (b : List ℕ). first (numbered_at b)) (behind ∙ sym (append-nil fields))
-    ∙ ap first (numbered_reads.again (n, a) [] (small, fits))
+    ap (λ (b : List ℕ). first (numbered_at part b)) (behind ∙ sym (append-nil fields))
+    ∙ ap first ((readers.both number_reads (optional_reads X spell Fits part law)).again (n, o) [] (small, fits))
+
+-- what they give by what each of their readers gave
+module _ {X : Type 0} (part : Reader X) (bytes : List ℕ) where
+  pub no_number : number_at bytes ≡ None → numbered_at part bytes ≡ None
+  no_number none = rw none refl
+
+  pub nothing_told : (rest : List ℕ) (n : ℕ) → number_at bytes ≡ Some (n, rest) → optional_at part rest ≡ None
+      → numbered_at part bytes ≡ None
+  nothing_told rest n some none = rw some (rw none refl)
+
+  pub both_told : (rest left : List ℕ) (n : ℕ) (o : Option X) → number_at bytes ≡ Some (n, rest)
+      → optional_at part rest ≡ Some (o, left) → numbered_at part bytes ≡ Some ((n, o), left)
+  both_told rest left n o some told = rw some (rw told refl)
 
 -- behind its kind, a reply that answers is read so
 pub answer_told : (r : Reply) (k : ℕ) (tail : List ℕ) → IsReply r → k ∷ tail ≡ reply_bytes r → k ≡ 18
-    → first (numbered_at (drop 8 tail)) ≡ answered_of r
+    → first (numbered_at answer_at (drop 8 tail)) ≡ answered_of r
 unfolding reply_bytes
 answer_told (says.Answered session n a) k tail fits stands answer =
-    answer_behind session n a tail fits.1.0 fits.1.1 (cc stands)
+    told_behind answer_reads session n a tail fits.1.0 fits.1.1 (cc stands)
 answer_told (says.Connected session) k tail fits stands answer = absurd (other_kind refl stands answer)
 answer_told (says.Row session read value) k tail fits stands answer = absurd (other_kind refl stands answer)
 answer_told (says.Rows session read rows) k tail fits stands answer = absurd (other_kind refl stands answer)

@@ -309,6 +309,12 @@ answer_reads = record {
 
 -- ---- lengths
 
+pub optional_length : {X : Type 0} (spell : X → List ℕ) (Fits : X → Type 0) (most : ℕ)
+    → ((x : X) → Fits x → length (spell x) ≤ most) →
+    (o : Option X) → IfSome o Fits → length (optional spell o) ≤ 1 + most
+optional_length spell Fits most bound None fits = omega arith
+optional_length spell Fits most bound (Some x) fits = omega (arith, bound x fits)
+
 pub op_length : (o : Op) → IsOp o → length (op_bytes o) ≤ 155
 unfolding op_bytes
 op_length (Insert key value) fits = omega (arith, length-append (text key) (text value), fits.0.1, fits.1.1)

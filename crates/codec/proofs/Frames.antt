@@ -1,5 +1,5 @@
 -- Frames: what is taken stands there, what stands there is taken, and Short and Bad are told apart by the length.
-use Rattle.std.proofs.Common.{◌≡◌, ℕ, zero, suc, ◌^◌, ◌<◌, ◌≤◌, ◌+◌, false, cond, ltb, eqb, List, [], ◌∷◌, ◌++◌, length, take, drop, Option, Some, None, refl, sym, ap, subst, ◌∙◌, append_assoc, arith, inl, inr}
+use Rattle.std.proofs.Common.{◌≡◌, ◌⊎◌, ℕ, zero, suc, ◌^◌, ◌<◌, ◌≤◌, ◌+◌, false, cond, ltb, eqb, List, [], ◌∷◌, ◌++◌, length, take, drop, Option, Some, None, refl, sym, ap, subst, ◌∙◌, append_assoc, arith, inl, inr}
 use Rattle.std.specs.Prelude.{◌↔◌}
 use Rattle.std.specs.List.{flat_map, AllByRecursion}
 use Rattle.std.proofs.lemmas.List.Concat.{flat_map-cons}
@@ -11,7 +11,7 @@ use Rattle.codec.specs.declared.taken.Taken.{Taken}
 use Rattle.codec.specs.declared.taken.Taken.TheVariants as took
 use Rattle.codec.specs.Fields.{number, first_number}
 use Rattle.codec.specs.Frames.{frame, any_length, IsCut, IfTaken, IfBad, IsThere, IsWhole}
-use Rattle.codec.specs.Reading.{Reader, all_of, frame_at, value_or_bad, within}
+use Rattle.codec.specs.Reading.{Reader, all_of, frame_at, value_or_bad, within, seen}
 use Rattle.codec.proofs.Readers.{IsBytes, IsBytes-drop, IsBytes-take, IsReader, bind_some}
 use Rattle.codec.proofs.Fields.{length-number, number_in_front, first_number-number}
 
@@ -266,6 +266,15 @@ pub bad : (X : Type 0) (read : Reader X) (limit place : ℕ) (left : List ℕ) (
 bad X read limit place left (took.Record x next) e = tt
 bad X read limit place left took.Short e = tt
 bad X read limit place left (took.Bad at) e = bad_place X read limit place left at (sym e)
+
+-- what was no frame was not the body of one
+pub not_taken : {X : Type 0} (view : X → Bytes) (taken : Taken X) (body : Bytes) (next : ℕ)
+    → (taken ≡ took.Short) ⊎ ((place : ℕ) × (taken ≡ took.Bad place)) → seen view taken ≡ took.Record body next → ⊥
+not_taken view taken body next none e =
+    elim none [
+      | inl is ↦ let h : took.Short ≡ took.Record body next = ap (seen view) (sym is) ∙ e in cc
+      | inr is ↦ let h : took.Bad is.0 ≡ took.Record body next = ap (seen view) (sym is.1) ∙ e in cc
+    ]
 
 -- ---- a whole page
 

@@ -22,4 +22,6 @@ pub mod ReadOnce
 mod Told
 mod Sessions
 mod Apart
+mod ApartReads
+mod LongHeads
 pub mod UndoBytes

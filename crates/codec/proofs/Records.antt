@@ -1,6 +1,6 @@
 -- Records of the transaction log: what is read is spelled so, what has a spelling is read again, and how long a body
 -- is.
-use Rattle.std.proofs.Common.{◌≡◌, ℕ, ◌<◌, ◌≤◌, List, [], ◌∷◌, ◌++◌, length, Option, Some, None, refl, arith}
+use Rattle.std.proofs.Common.{◌≡◌, ℕ, ◌<◌, ◌≤◌, List, [], ◌∷◌, ◌++◌, length, Option, Some, refl, arith}
 use Rattle.std.specs.Prelude.{IfSome}
 use Rattle.history.specs.declared.record.Record.{Record}
 use Rattle.history.specs.declared.record.Record.TheVariants as is
@@ -10,7 +10,7 @@ use Rattle.codec.specs.Fields.{number, IsNumber, optional, op_bytes, IsOp, answe
 use Rattle.codec.specs.Records.{record_bytes, IsRecord}
 use Rattle.codec.specs.Reading.{Reader, fixed, pair, mapped, number_at, optional_at, op_at, answer_at, record_at}
 use Rattle.codec.proofs.Readers.{IsReader, pair_reads, mapped_again, IsChoice, fixed_choice, mapped_choice, one_of_takes}
-use Rattle.codec.proofs.Fields.{length-number, numbers_length, number_reads, optional_reads, op_reads, op_length, answer_reads, answer_length}
+use Rattle.codec.proofs.Fields.{length-number, numbers_length, number_reads, optional_reads, op_reads, optional_length, op_length, answer_reads, answer_length}
 
 -- ---- what follows each kind
 
@@ -135,10 +135,6 @@ record_reads = record {
 
 -- ---- the length of a body
 
-inverse_length : (o : Option Op) → IfSome o IsOp → length (optional op_bytes o) ≤ 156
-inverse_length None fits = omega arith
-inverse_length (Some o) fits = omega (arith, op_length o fits)
-
 abbrev FitsFrame : List ℕ → Type 0
 FitsFrame body = (0 < length body) × (length body ≤ 181)
 
@@ -159,7 +155,7 @@ record_length (is.Comp txn undoes next inverse) fits =
     let len = numbers_length txn (number undoes ++ (number next ++ optional op_bytes inverse)) in
     let len2 = numbers_length undoes (number next ++ optional op_bytes inverse) in
     let len3 = numbers_length next (optional op_bytes inverse) in
-    let most = inverse_length inverse fits.1.1.1 in
+    let most = optional_length op_bytes IsOp 155 op_length inverse fits.1.1.1 in
     (omega arith, omega arith)
 record_length (is.Commit txn) fits = let len = length-number txn in (omega arith, omega arith)
 record_length (is.End txn) fits = let len = length-number txn in (omega arith, omega arith)

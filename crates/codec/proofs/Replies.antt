@@ -1,5 +1,5 @@
 -- Replies: what is read is spelled so, and what has a spelling is read again.
-use Rattle.std.proofs.Common.{◌≡◌, ℕ, ◌+◌, ◌<◌, ◌^◌, true, List, ◌++◌, length, Option, Some, refl, subst, arith}
+use Rattle.std.proofs.Common.{◌≡◌, ℕ, ◌+◌, ◌<◌, ◌^◌, true, List, ◌++◌, length, drop, length-drop, length-append, Option, Some, refl, ap, subst, arith}
 use Rattle.std.specs.Prelude.{IfSome}
 use Rattle.record_key.specs.Table.{Bytes}
 use Rattle.record_key.specs.Rows.{Row}
@@ -87,6 +87,22 @@ pub reply_taken : (place : ℕ) (left : List ℕ) (r : Reply) (rest : List ℕ) 
 reply_taken place left r rest fits short e =
     frames.only Reply reply_bytes IsReply reply_at reply_reads any_length place left r rest fits (reply_not_empty r)
     (omega (arith, short)) (omega arith) e
+
+-- and so is its body: a slice has less than 2 to the power of 64 bytes, and so has what stands in it
+pub reply_framed : (r : Reply) (at : ℕ) (bytes rest : List ℕ) → length bytes < 2 ^ 64
+    → drop at bytes ≡ frame (reply_bytes r) ++ rest
+    → frame_at any_length at (drop at bytes) ≡ took.Record (reply_bytes r) (at + length (frame (reply_bytes r)))
+reply_framed r at bytes rest there e =
+    frames.framed any_length at (reply_bytes r) (drop at bytes) rest (reply_not_empty r)
+    (omega (
+      arith,
+      there,
+      length-drop at bytes,
+      ap length e,
+      length-append (frame (reply_bytes r)) rest,
+      frames.length-frame (reply_bytes r),
+    ))
+    (omega arith) e
 
 -- only rows have their kind
 kind_of_rows : (r : Reply) → HasKind 20 (reply_bytes r) → has_rows r ≡ true

@@ -1,5 +1,5 @@
 -- Requests: what is read is spelled so, what has a spelling is read again, and how long a body is.
-use Rattle.std.proofs.Common.{◌≡◌, ℕ, ◌+◌, ◌<◌, ◌≤◌, List, [], ◌∷◌, ◌++◌, length, Option, Some, None, refl, arith}
+use Rattle.std.proofs.Common.{◌≡◌, ℕ, ◌+◌, ◌<◌, ◌≤◌, List, [], ◌∷◌, ◌++◌, length, Option, Some, refl, arith}
 use Rattle.std.specs.Prelude.{IfSome}
 use Rattle.std.proofs.lemmas.List.{length-append}
 use Rattle.record_key.specs.Table.{Bytes}
@@ -14,7 +14,7 @@ use Rattle.codec.specs.declared.taken.Taken.TheVariants as took
 use Rattle.codec.proofs.Frames as frames
 use Rattle.codec.proofs.Readers.{IsReader, both, made_again, choice, one_of_takes}
 use Rattle.codec.proofs.Lists.{numbers_read}
-use Rattle.codec.proofs.Fields.{length-number, numbers_length, number_reads, optional_reads, key_reads, op_reads, op_length}
+use Rattle.codec.proofs.Fields.{length-number, numbers_length, number_reads, optional_reads, key_reads, op_reads, optional_length, op_length}
 
 pub perform_reads : IsReader (ℕ × (ℕ × (ℕ × Op)))
     (λ p. number p.0 ++ (number p.1.0 ++ (number p.1.1.0 ++ op_bytes p.1.1.1)))
@@ -22,7 +22,7 @@ pub perform_reads : IsReader (ℕ × (ℕ × (ℕ × Op)))
     (pair number_at (pair number_at (pair number_at op_at)))
 perform_reads = both number_reads (both number_reads (both number_reads op_reads))
 
-get_reads : IsReader (ℕ × (ℕ × Bytes)) (λ p. number p.0 ++ (number p.1.0 ++ text p.1.1))
+pub get_reads : IsReader (ℕ × (ℕ × Bytes)) (λ p. number p.0 ++ (number p.1.0 ++ text p.1.1))
     (λ p. IsNumber p.0 × (IsNumber p.1.0 × IsKey p.1.1)) (pair number_at (pair number_at key_at))
 get_reads = both number_reads (both number_reads key_reads)
 
@@ -105,10 +105,6 @@ request_reads = record {
 abbrev IsBody : List ℕ → Type 0
 IsBody body = (0 < length body) × (length body ≤ 256)
 
-optional_key_length : (o : Option Bytes) → IfSome o IsKey → length (optional text o) ≤ 34
-optional_key_length None fits = omega arith
-optional_key_length (Some key) fits = omega (arith, fits.1)
-
 request_length : (r : Request) → IsRequest r → IsBody (request_bytes r)
 unfolding request_bytes
 request_length (is.Connect session end) fits = let len = numbers_length session (number end) in let len2 =
@@ -129,7 +125,7 @@ request_length (is.Scan session read low high) fits =
     let len2 = numbers_length read (text low ++ optional text high) in
     let len3 = length-append (text low) (optional text high) in
     let most = fits.1.1.0.1 in
-    let most2 = optional_key_length high fits.1.1.1 in
+    let most2 = optional_length text IsKey 33 (λ key few. omega (arith, few.1)) high fits.1.1.1 in
     (omega arith, omega arith)
 request_length (is.LowWater session low) fits = let len = numbers_length session (number low) in let len2 =
     length-number low in (omega arith, omega arith)
@@ -152,3 +148,10 @@ request_taken place left r rest fits e =
     let bounds = request_fits r fits in
     frames.only Request request_bytes IsRequest request_at request_reads any_length place left r rest fits bounds.0
     bounds.1 (omega arith) e
+
+-- and so is its body
+pub request_framed : (r : Request) (place : ℕ) (left rest : List ℕ) → IsRequest r → left ≡ frame (request_bytes r) ++ rest
+    → frame_at any_length place left ≡ took.Record (request_bytes r) (place + length (frame (request_bytes r)))
+request_framed r place left rest fits e =
+    let bounds = request_fits r fits in
+    frames.framed any_length place (request_bytes r) left rest bounds.0 bounds.1 (omega arith) e

@@ -1,8 +1,10 @@
--- Requests to perform and replies that answer, apart from the messages around them.
+-- What a request asks and a reply tells, apart from the message around it.
 use Rattle.std.specs.Prelude.{ℕ, Option, Some, None}
 use Rattle.record_key.specs.declared.op.Op.{Op}
 use Rattle.record_key.specs.declared.op.Answer.{Answer}
+use Rattle.record_key.specs.Table.{Bytes}
 use Rattle.codec.specs.declared.parted.Asking.{Asking}
+use Rattle.codec.specs.declared.parted_reads.Reading.{Reading}
 use Rattle.codec.specs.declared.request.Request.{Request}
 use Rattle.codec.specs.declared.request.Request.TheVariants as asks
 use Rattle.codec.specs.declared.reply.Reply.{Reply}
@@ -26,6 +28,20 @@ request_to q o = asks.Perform q.session q.number q.stable o
 abbrev pub answered_of : Reply → Option (ℕ × Option Answer)
 answered_of (says.Answered session n a) = Some (n, a)
 answered_of _ = None
+
+-- the numbers and the key of a request to read one
+abbrev pub reading_of : Request → Option (Reading × Bytes)
+reading_of (asks.Get session read key) = Some (record { session = session; read = read }, key)
+reading_of _ = None
+
+-- the request that they make
+abbrev pub get_of : Reading → Bytes → Request
+get_of q key = asks.Get q.session q.read key
+
+-- the number and the value of a reply to it
+abbrev pub found_of : Reply → Option (ℕ × Option Bytes)
+found_of (says.Row session read value) = Some (read, value)
+found_of _ = None
 
 -- the fields of a request to perform, of which the operation is kept apart
 abbrev pub asked : ℕ × (ℕ × (ℕ × Op)) → Asking × Option Op

@@ -17,6 +17,7 @@ mod framed;
 mod image;
 mod lengths;
 mod parted;
+mod parted_reads;
 mod reading;
 mod record;
 mod reply;
@@ -37,6 +38,7 @@ pub use image::{
     take_leaf_image,
 };
 pub use parted::{Asking, answered_at, asking_at, put_answered};
+pub use parted_reads::{Reading, found_at, reading_at};
 pub use record::{
     asked_op, left_to_undo, put_record, record_spelling_law, step_prev, step_txn, take_record,
 };

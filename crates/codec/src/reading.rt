@@ -205,13 +205,18 @@ pub(crate) fn take_optional_answer<'a>(
     take_answer(rest, answer)
 }
 
-pub(crate) fn take_optional_value(bytes: &[u8]) -> Option<(Option<Value>, &[u8])>
-    ensures { Gives (λ x. (x.0, x.1.now)) result (optional_at value_at bytes.now) }
+pub(crate) fn take_optional_value<'a>(
+    bytes: &'a [u8],
+    value: &mut Option<Value>,
+) -> Option<&'a [u8]>
+    ensures { Gives (λ rest. (value.new, rest.now)) result (optional_at value_at bytes.now) }
 {
     let (is_there, rest) = take_flag(bytes)?;
     if !is_there {
-        return Some((None, rest));
+        *value = None;
+        return Some(rest);
     }
-    let (value, rest) = take_value(rest)?;
-    Some((Some(value), rest))
+    let (found, rest) = take_value(rest)?;
+    *value = Some(found);
+    Some(rest)
 }

@@ -213,7 +213,8 @@ fn take_plain<'a>(kind: u8, bytes: &'a [u8], reply: &mut Reply) -> Option<&'a [u
         0x13 => {
             let (session, rest) = take_number(bytes)?;
             let (read, rest) = take_number(rest)?;
-            let (value, rest) = take_optional_value(rest)?;
+            let mut value = None;
+            let rest = take_optional_value(rest, &mut value)?;
             *reply = Reply::Row {
                 session,
                 read,

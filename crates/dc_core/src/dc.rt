@@ -13,9 +13,10 @@ ghost use Rattle.codec.specs.Parted.{request_to};
 ghost use Rattle.codec.specs.Requests.{HasRequestNumbers};
 ghost use Rattle.page.specs.Leaf.{first};
 ghost use Rattle.btree.specs.Leaves.{all_rows};
-ghost use Rattle.dc_core.specs.DcView.{fresh, leaves};
+ghost use Rattle.std.specs.Option.{option_copied};
+ghost use Rattle.dc_core.specs.DcView.{fresh, leaves, value_at};
 ghost use Rattle.dc_core.specs.Performing.{replied};
-ghost use Rattle.dc_core.specs.Serves.{serve_refusal, session_refusal, MayAsk, ServeGives, with_system};
+ghost use Rattle.dc_core.specs.Serves.{serve_refusal, session_refusal, after_redo_refusal, MayAsk, ServeGives, with_system};
 ghost use Rattle.dc_core.specs.Shows.{Shows};
 ghost use Rattle.dc_core.specs.Tends.{SplitsTo, MergesTo, TendsTo, FlushesTo};
 ghost use Rattle.dc_core.specs.Kept.{IsDc};
@@ -169,6 +170,15 @@ impl<D: LogDevice, P: PageDevice> Dc<D, P> {
         ensures gives { ServeGives self.old (request_to asking op.now) (replied asking done.new) self.new }
     {
         self.parts.perform_asked(asking, op, done);
+    }
+
+    /// What a read of this key by this session finds, apart from the reply. Refused as `allows` says of a Get.
+    pub fn get(&self, session: u64, key: &Key) -> Result<Option<&Value>, Refusal>
+        ensures found { IfOk result (λ value. option_copied value ≡ value_at self.now key.now) }
+        ensures allowed { OnOk result (after_redo_refusal self.now session ≡ None) }
+        ensures refused { IfErr result (λ refusal. after_redo_refusal self.now session ≡ Some refusal) }
+    {
+        self.parts.found(session, key)
     }
 
     /// Splits the leaf of the key, where it has two records at least and no entry above the known end; else refused

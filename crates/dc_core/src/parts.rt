@@ -189,7 +189,7 @@ impl<D: LogDevice, P: PageDevice> Parts<D, P> {
         Ok(())
     }
 
-    fn after_redo(&self, session: u64) -> Result<(), Refusal>
+    pub fn after_redo(&self, session: u64) -> Result<(), Refusal>
         ensures ok { OnOk result (after_redo_refusal (seen self.now) session ≡ None) }
         ensures refused { IfErr result (λ refusal. after_redo_refusal (seen self.now) session ≡ Some refusal) }
     {

@@ -1,10 +1,12 @@
 //! What reads find.
-ghost use Rattle.std.specs.Prelude.{◌≡◌, IfOk, IfErr};
+ghost use Rattle.std.specs.Prelude.{◌≡◌, Some, None, IfOk, IfErr, OnOk};
 ghost use Rattle.std.specs.FinMap as map;
 ghost use Rattle.std.specs.Option.{option_copied};
 ghost use Rattle.history.specs.Spans.{rows_in};
 ghost use Rattle.btree.specs.Leaves.{leaf_at, all_rows, rows_of};
-ghost use Rattle.dc_core.specs.Serves.{range};
+ghost use Rattle.dc_core.specs.DcView.{value_at};
+ghost use Rattle.dc_core.specs.Seen.{seen};
+ghost use Rattle.dc_core.specs.Serves.{range, after_redo_refusal};
 
 use crate::parts::Parts;
 use codec::{Reply, Rows};
@@ -25,6 +27,16 @@ impl<D: LogDevice, P: PageDevice> Parts<D, P> {
             read,
             value,
         }
+    }
+
+    /// What a read of this session finds, where it is allowed.
+    pub fn found(&self, session: u64, key: &Key) -> Result<Option<&Value>, Refusal>
+        ensures found { IfOk result (λ value. option_copied value ≡ value_at (seen self.now) key.now) }
+        ensures allowed { OnOk result (after_redo_refusal (seen self.now) session ≡ None) }
+        ensures refused { IfErr result (λ refusal. after_redo_refusal (seen self.now) session ≡ Some refusal) }
+    {
+        self.after_redo(session)?;
+        Ok(self.system.get(key))
     }
 
     pub fn scan(

@@ -50,16 +50,7 @@ impl<D: LogDevice, P: PageDevice> Parts<D, P> {
                     number: *number,
                     stable: *stable,
                 };
-                let mut done = Err(Refusal::NoMemory);
-                self.perform_asked(asking, op, &mut done);
-                match done {
-                    Ok(done) => Ok(Some(Reply::Answered {
-                        session: *session,
-                        number: *number,
-                        answer: into_answer(done),
-                    })),
-                    Err(refusal) => Err(refusal),
-                }
+                Ok(Some(self.answer_to(asking, op)?))
             }
             Request::Get { session, read, key } => Ok(Some(self.get(*session, *read, key))),
             Request::Scan {
@@ -78,6 +69,29 @@ impl<D: LogDevice, P: PageDevice> Parts<D, P> {
                 self.learn(*stable);
                 Ok(None)
             }
+        }
+    }
+
+    fn answer_to(&mut self, asking: Asking, op: &Op) -> Result<Reply, Refusal>
+        requires kept { IsDc (seen self.old) }
+        requires allowed { session_refusal (seen self.old) asking.session ≡ None }
+        requires numbers { HasRequestNumbers (request_to asking op.now) }
+        requires owed { MayAsk (seen self.old) (request_to asking op.now) }
+        ensures kept { IsDc (seen self.new) }
+        ensures served { IfOk result (λ reply. Serves (seen self.old) (request_to asking op.now) (Some reply)
+            (seen self.new)) }
+        ensures stopped { IfErr result (λ refusal. Stops (seen self.old) (request_to asking op.now) refusal
+            (seen self.new)) }
+    {
+        let mut done = Err(Refusal::NoMemory);
+        self.perform_asked(asking, op, &mut done);
+        match done {
+            Ok(done) => Ok(Reply::Answered {
+                session: asking.session,
+                number: asking.number,
+                answer: into_answer(done),
+            }),
+            Err(refusal) => Err(refusal),
         }
     }
 

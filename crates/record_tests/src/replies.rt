@@ -4,7 +4,9 @@ ghost use Rattle.codec.specs.Replies.{IsOrdered};
 use crate::rows::put_rows;
 use crate::walking::{Found, Reading};
 use crate::written::{marked, told, unwritten};
-use codec::{Reply, Taken, answered_at, put_answered, put_reply, reply_session, take_reply};
+use codec::{
+    Reply, Taken, answered_at, found_at, put_answered, put_reply, reply_session, take_reply,
+};
 use record_key::{Answer, Refusal, Value};
 use std::fmt::Write;
 use test_lines::{put_answer, put_text};
@@ -35,7 +37,7 @@ fn written(reading: &Reading<'_>, found: &Reply) -> Result<Vec<u8>, Refusal>
     }
 }
 
-/// Tells where a reply that answers is read or written otherwise with its answer apart.
+/// Tells where a reply that answers is read or written otherwise with its answer apart, or one to a read with its value.
 fn compare_apart(
     reading: &Reading<'_>,
     found: &Reply,
@@ -59,10 +61,23 @@ fn compare_apart(
         }
         is_same = answered == Some(*number) && held == *given && out.as_slice() == written;
     }
-    if !is_same {
+    if !is_same || !is_found(reading, found) {
         answer.push_str(" but apart otherwise")?;
     }
     Ok(())
+}
+
+fn is_found(reading: &Reading<'_>, found: &Reply) -> bool {
+    let mut value = None;
+    let of = found_at(reading.bytes, reading.at, &mut value);
+    match found {
+        Reply::Row {
+            read,
+            value: given,
+            ..
+        } => of == Some(*read) && value == *given,
+        _ => of.is_none(),
+    }
 }
 
 /// Tells the reply, and where its session is found to be another one without its rows.

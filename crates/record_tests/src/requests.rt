@@ -3,7 +3,7 @@ ghost use Rattle.codec.specs.Requests.{HasRequestNumbers};
 
 use crate::walking::{Found, Reading};
 use crate::written::{marked, told, unwritten};
-use codec::{Asking, Request, Taken, asking_at, put_request, take_request};
+use codec::{Asking, Request, Taken, asking_at, put_request, reading_at, take_request};
 use record_key::{Key, Op, Refusal};
 use std::fmt::Write;
 use test_lines::{put_key, put_op};
@@ -35,23 +35,39 @@ fn written(reading: &Reading<'_>, found: &Request) -> Result<Vec<u8>, Refusal>
     }
 }
 
-/// Tells where it is read otherwise with its operation apart.
+/// Tells where it is read otherwise with its operation or its key apart.
 fn compare_apart(
     reading: &Reading<'_>,
     found: &Request,
     answer: &mut String,
 ) -> Result<(), Refusal> {
-    let mut op = None;
-    let asking = asking_at(reading.bytes, reading.at, &mut op);
-    let is_same = match (asking, op) {
-        (Some(asking), Some(op)) => *found == perform(asking, op),
-        (Some(_), None) => false,
-        (None, _) => !matches!(found, Request::Perform { .. }),
-    };
-    if !is_same {
+    if !is_asked(reading, found) || !is_read(reading, found) {
         answer.push_str(" but apart otherwise")?;
     }
     Ok(())
+}
+
+fn is_asked(reading: &Reading<'_>, found: &Request) -> bool {
+    let mut op = None;
+    let asking = asking_at(reading.bytes, reading.at, &mut op);
+    match (asking, op) {
+        (Some(asking), Some(op)) => *found == perform(asking, op),
+        (Some(_), None) => false,
+        (None, _) => !matches!(found, Request::Perform { .. }),
+    }
+}
+
+fn is_read(reading: &Reading<'_>, found: &Request) -> bool {
+    let mut key = None;
+    let numbers = reading_at(reading.bytes, reading.at, &mut key);
+    match (numbers, key) {
+        (Some(numbers), Some(key)) => {
+            let (session, read) = (numbers.session, numbers.read);
+            *found == Request::Get { session, read, key }
+        }
+        (Some(_), None) => false,
+        (None, _) => !matches!(found, Request::Get { .. }),
+    }
 }
 
 fn perform(asking: Asking, op: Op) -> Request {

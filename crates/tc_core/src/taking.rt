@@ -1,10 +1,11 @@
 //! What becomes of a reply.
-ghost use Rattle.std.specs.Prelude.{◌≡◌, true, false, None, OnOk, OnErr, IfErr};
+ghost use Rattle.std.specs.Prelude.{◌≡◌, Option, true, false, None, OnOk, OnErr, IfErr};
 ghost use Rattle.std.specs.Option.{option_copied};
 ghost use Rattle.codec.specs.Replies.{session_of};
 ghost use Rattle.tc_core.specs.Replies.{is_stale, ReplyGives, awaiting, lacks, reader, passed, on_row as reads_row, on_rows as reads_rows, takes as takes_number, on_connected as connects, on_redo_ended as ends_redo};
-ghost use Rattle.tc_core.specs.Answering.{AnsweredGives};
-ghost use Rattle.tc_core.specs.Heard.{all_told};
+ghost use Rattle.record_key.specs.Table.{Bytes};
+ghost use Rattle.tc_core.specs.Answering.{AnsweredGives, Becomes};
+ghost use Rattle.tc_core.specs.Heard.{all_told, told_row};
 ghost use Rattle.tc_core.specs.Kept.{IsTc};
 ghost use Rattle.tc_core.specs.Seen.{seen};
 
@@ -152,15 +153,28 @@ impl<D: LogDevice> Parts<D> {
         ensures told { result ≡ (reads_row (seen self.old) value (reader (seen self.old) read)).0 }
         ensures left { seen self.new ≡ (reads_row (seen self.old) value (reader (seen self.old) read)).1 }
     {
+        match self.on_found(read) {
+            Some(txn) => Told::Row { txn, value },
+            None => Told::Nothing,
+        }
+    }
+
+    /// Which transaction is told of the value that this read has found, whatever it is.
+    pub fn on_found(&mut self, read: u64) -> Option<u64>
+        requires { IsTc (seen self.old) }
+        ensures kept { IsTc (seen self.new) }
+        ensures gives { (value : Option Bytes)
+            → Becomes (reads_row (seen self.old) value (reader (seen self.old) read)) (told_row value result) (seen self.new) }
+    {
         let Some(opened) = self.open_txns.oldest(Wanted::Reader(read)) else {
-            return Told::Nothing;
+            return None;
         };
         if !reads_key(opened) {
-            return Told::Nothing;
+            return None;
         }
         let txn = opened.txn;
         self.open_txns.change(txn, Change::Told);
-        Told::Row { txn, value }
+        Some(txn)
     }
 
     /// The same for the rows of a range.

@@ -1,5 +1,5 @@
 //! The transaction component.
-ghost use Rattle.std.specs.Prelude.{◌≡◌, ◌≤◌, ◌++◌, ◌+◌, ℕ, [], true, false, length, Some, None, IfSome, IfOk, IfErr, OnOk, OnErr};
+ghost use Rattle.std.specs.Prelude.{◌≡◌, ◌≤◌, ◌++◌, ◌+◌, ℕ, Option, [], true, false, length, Some, None, Ok, IfSome, IfNone, IfOk, IfErr, OnOk, OnErr};
 ghost use Rattle.std.specs.Option.{option_copied};
 ghost use Rattle.stable.specs.Crash.{BeginsWith};
 ghost use Rattle.stable.specs.Usage.{failing_in};
@@ -10,11 +10,14 @@ ghost use Rattle.logical_log.specs.Spelled.{spelled, AreRecords};
 ghost use Rattle.logical_log.specs.LogView.{spent_refusal};
 ghost use Rattle.tc_core.specs.TcView.{TcView, fresh, used_so};
 ghost use Rattle.tc_core.specs.OpenTxns.{find, oldest, wants};
-ghost use Rattle.tc_core.specs.Calls.{ReconnectGives, BeginGives, ActGives, ReadGives, SaveGives, BackGives, RollbackGives, CommitGives, UndoGives, ForceGives, ResendGives, IsAwaitedOp, TellStableGives};
+ghost use Rattle.tc_core.specs.Calls.{ReconnectGives, BeginGives, ActGives, ReadGives, SaveGives, BackGives, RollbackGives, CommitGives, UndoGives, ForceGives, ResendGives, IsOpRequest, IsReadRequest, IsAwaitedOp, TellStableGives};
+ghost use Rattle.record_key.specs.Table.{Bytes};
+ghost use Rattle.codec.specs.declared.request.Request.TheVariants as asks;
 ghost use Rattle.codec.specs.declared.reply.Reply.TheVariants as says;
 ghost use Rattle.codec.specs.Replies.{session_of};
-ghost use Rattle.tc_core.specs.Heard.{all_told};
-ghost use Rattle.tc_core.specs.Replies.{is_stale, ReplyGives};
+ghost use Rattle.tc_core.specs.Heard.{all_told, told_row};
+ghost use Rattle.tc_core.specs.Answering.{AnsweredGives, Becomes};
+ghost use Rattle.tc_core.specs.Replies.{is_stale, on_row, reader, ReplyGives};
 ghost use Rattle.tc_core.specs.Recovery.{RecoverGives};
 ghost use Rattle.tc_core.specs.LowWater.{Announces, RefusesLow, LowWaterGives, IsGreatestAnnounced};
 ghost use Rattle.tc_core.specs.Checkpoint.{CheckpointGives};
@@ -229,9 +232,20 @@ impl<D: LogDevice> Tc<D> {
     /// What `resend` would send, where that is an operation: its number, and the bytes of the log that spell it. None
     /// where it is refused or sends a read.
     pub fn awaited_op(&self, txn: u64) -> Option<(u64, &[u8])>
-        ensures { IfSome result (λ sent. IsAwaitedOp self.now txn sent.0 sent.1.now) }
+        ensures sent { IfSome result (λ sent. IsAwaitedOp self.now txn sent.0 sent.1.now) }
+        ensures none { IfNone result ((request : Request) → IsOpRequest self.now txn request → ⊥) }
     {
         self.parts.awaited_op(txn)
+    }
+
+    /// The same where that is a read of one key: its number and the key.
+    pub fn awaited_key(&self, txn: u64) -> Option<(u64, &Key)>
+        ensures asked { IfSome result (λ asked.
+            ResendGives self.now txn (Ok (asks.Get self.now.session asked.0 asked.1.now))) }
+        ensures none { IfNone result ((read : ℕ) (key : Bytes)
+            → IsReadRequest self.now txn (asks.Get self.now.session read key) → ⊥) }
+    {
+        self.parts.awaited_key(txn)
     }
 
     /// Tells the data component how much of the log is stable. Refused NotConnected, Redoing.
@@ -300,10 +314,22 @@ impl<D: LogDevice> Tc<D> {
     /// What `take_reply` does of a reply that answers the operation of this number, for a caller that has the answer apart:
     /// what is told of it, without the answer.
     pub fn take_answer(&mut self, number: u64, answer: &Option<Answer>) -> Result<Heard, Refusal>
+        ensures answered { AnsweredGives self.old number answer.now (all_told answer.now result) self.new }
         ensures gives { (session : ℕ) → is_stale self.old session ≡ false → ReplyGives self.old
             (says.Answered session number answer.now) (all_told answer.now result) self.new }
     {
         self.parts.on_answered(number, answer)
+    }
+
+    /// What `take_reply` does of a reply to the read of a key of this number, for a caller that has the value apart: the
+    /// transaction that is told of it, if any.
+    pub fn take_found(&mut self, read: u64) -> Option<u64>
+        ensures found { (value : Option Bytes)
+            → Becomes (on_row self.old value (reader self.old read)) (told_row value result) self.new }
+        ensures gives { (session : ℕ) (value : Option Bytes) → is_stale self.old session ≡ false
+            → ReplyGives self.old (says.Row session read value) (Ok (told_row value result)) self.new }
+    {
+        self.parts.on_found(read)
     }
 
     /// The request that recovery sends next, or again while its reply is awaited; then one record of the losers' undo

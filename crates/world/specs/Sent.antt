@@ -2,8 +2,8 @@
 use Rattle.std.specs.Prelude.{◌≡◌, ℕ, ◌<◌, ◌^◌, Bool, true, false, List, Option, Some, None, ◌++◌, length, drop}
 use Rattle.record_key.specs.declared.op.Op.{Op}
 use Rattle.record_key.specs.declared.op.Answer.{Answer}
-use Rattle.codec.specs.declared.parted.Asking.{Asking}
-use Rattle.codec.specs.Parted.{request_to}
+use Rattle.record_key.specs.Table.{Bytes}
+use Rattle.codec.specs.Parted.{request_to, get_of}
 use Rattle.codec.specs.Requests.{IsRequest}
 use Rattle.record_key.specs.declared.refusal.Refusal.{Refusal}
 use Rattle.record_key.specs.declared.refusal.Refusal.TheVariants.{NoMemory, Stale}
@@ -17,6 +17,10 @@ use Rattle.codec.specs.declared.request.Request.{Request}
 use Rattle.codec.specs.declared.request.Request.TheVariants as asks
 use Rattle.codec.specs.declared.reply.Reply.{Reply}
 use Rattle.codec.specs.declared.reply.Reply.TheVariants as says
+use Rattle.world.specs.declared.sent.Asked.{Asked}
+use Rattle.world.specs.declared.sent.Asked.TheVariants as asked
+use Rattle.world.specs.declared.sent.Said.{Said}
+use Rattle.world.specs.declared.sent.Said.TheVariants as said
 use Rattle.world.specs.Messages.{message_at}
 use Rattle.codec.specs.declared.taken.Taken.{Taken}
 use Rattle.codec.specs.declared.taken.Taken.TheVariants as took
@@ -78,19 +82,22 @@ pub record IsUnreadOf (running : ℕ) (messages : List Reply) (i : ℕ) (r : Ref
 abbrev pub WasSent : List Request → ℕ → Request → Type 0
 WasSent messages i q = (message_at messages i ≡ Some q) × IsRequest q
 
--- the request of this number: its operation apart, where it is to perform; else the whole
-abbrev pub IsReadApart : List Request → ℕ → Option Asking → Option Op → Option Request → Type 0
-IsReadApart messages i (Some q) (Some o) other = WasSent messages i (request_to q o)
-IsReadApart messages i None o (Some q) = WasSent messages i q
-IsReadApart messages i _ o other = ⊥
+-- the request of this number: its operation apart, where it is to perform, its key, where it is to read one; else the
+-- whole
+abbrev pub IsReadApart : List Request → ℕ → Asked → Option Op → Option Bytes → Option Request → Type 0
+IsReadApart messages i (asked.Perform q) (Some o) key other = WasSent messages i (request_to q o)
+IsReadApart messages i (asked.Get q) o (Some key) other = WasSent messages i (get_of q key)
+IsReadApart messages i asked.Other o key (Some q) = WasSent messages i q
+IsReadApart messages i _ o key other = ⊥
 
 -- the reply of this number is of the session that runs
 abbrev pub IsOfSession : ℕ → List Reply → ℕ → Reply → Type 0
 IsOfSession running messages i r = (message_at messages i ≡ Some r) × (is_of_another running (session_of r) ≡ false)
 
--- it is: its answer apart, where it answers; else the whole
-abbrev pub IsHeardApart : ℕ → List Reply → ℕ → Option ℕ → Option Answer → Option Reply → Type 0
-IsHeardApart running messages i (Some n) a other =
+-- it is: its answer apart, where it answers, its value, where it is of a read; else the whole
+abbrev pub IsHeardApart : ℕ → List Reply → ℕ → Said → Option Answer → Option Bytes → Option Reply → Type 0
+IsHeardApart running messages i (said.Answered n) a v other =
     (s : ℕ) × IsOfSession running messages i (says.Answered s n a)
-IsHeardApart running messages i None a (Some r) = IsOfSession running messages i r
-IsHeardApart running messages i None a None = ⊥
+IsHeardApart running messages i (said.Found n) a v other = (s : ℕ) × IsOfSession running messages i (says.Row s n v)
+IsHeardApart running messages i said.Other a v (Some r) = IsOfSession running messages i r
+IsHeardApart running messages i said.Other a v None = ⊥

@@ -1,6 +1,6 @@
 //! The data component as half of a node, which may also step alone: it is handed the requests that it serves, and hands
 //! out its replies.
-ghost use Rattle.std.specs.Prelude.{◌≡◌, true, false, Some, None, OnOk, OnErr, IfOk, IfErr, if◌then◌else◌};
+ghost use Rattle.std.specs.Prelude.{◌≡◌, true, false, Some, None, OnOk, OnErr, IfOk, IfErr, MatchBool, if◌then◌else◌};
 ghost use Rattle.std.specs.FinMap.{entries};
 ghost use Rattle.std.specs.Option.{option_copied};
 ghost use Rattle.stable.specs.Usage.{unused};
@@ -8,10 +8,10 @@ ghost use Rattle.btree.specs.Leaves.{rows_of};
 ghost use Rattle.system_txn.specs.Kept.{IsRecoverable};
 ghost use Rattle.codec.specs.Parted.{request_to};
 ghost use Rattle.codec.specs.Requests.{HasRequestNumbers};
-ghost use Rattle.dc_core.specs.DcView.{fresh, leaves};
+ghost use Rattle.dc_core.specs.DcView.{fresh, leaves, value_at};
 ghost use Rattle.dc_core.specs.Kept.{IsDc};
 ghost use Rattle.dc_core.specs.Performing.{reply_if};
-ghost use Rattle.dc_core.specs.Serves.{MayAsk};
+ghost use Rattle.dc_core.specs.Serves.{MayAsk, after_redo_refusal};
 ghost use Rattle.world.specs.Halves.{of_tc, moves, MayDc, DcLeads, DcGives, DcCalls, DcServes};
 
 use crate::data_component::DataComponent;
@@ -212,6 +212,17 @@ impl<D: CrashLog, P: CrashPages> DcSide<D, P> {
         };
         component.perform(asking, op, next, done, out);
         component.kept();
+    }
+
+    /// What a read of this key by this session finds. Refused NotConnected where the component is down, else as it says.
+    pub(crate) fn get(&self, session: u64, key: &Key) -> Result<Option<&Value>, Refusal>
+        ensures found { IfOk result (λ value. option_copied value ≡ value_at self.now.dc key.now) }
+        ensures up { OnOk result (self.now.up ≡ true) }
+        ensures allowed { OnOk result (after_redo_refusal self.now.dc session ≡ None) }
+        ensures refused { IfErr result (λ refusal. MatchBool self.now.up
+            (after_redo_refusal self.now.dc session ≡ Some refusal) (refusal ≡ Refusal.NotConnected)) }
+    {
+        Ok(self.running()?.get(session, key)?)
     }
 
     /// What holds at every moment.

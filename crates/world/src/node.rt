@@ -7,16 +7,16 @@ ghost use Rattle.world.specs.Halves.{node_of, of_tc, IsNextNumber, BringsReply};
 ghost use Rattle.world.specs.Kept.{IsKept};
 ghost use Rattle.world.specs.Seen.{seen};
 ghost use Rattle.world.specs.Sent.{WasSent};
-ghost use Rattle.codec.specs.Parted.{request_to};
+ghost use Rattle.codec.specs.Parted.{get_of, request_to};
 
 use crate::attempt::attempt;
 use crate::dc_side::DcSide;
 use crate::event::{Event, Out};
-use crate::sent::Sent;
+use crate::sent::{Asked, Said, Sent};
 use crate::tc_side::TcSide;
-use codec::{Asking, Reply, Request};
+use codec::{Asking, Reading, Reply, Request};
 use dc_core::answer_of;
-use record_key::{Op, Refusal};
+use record_key::{Key, Op, Refusal};
 use stable::{CrashLog, CrashPages, MemLog, MemPages};
 use std::alloc::Global;
 
@@ -99,10 +99,33 @@ impl<D: CrashLog, P: CrashPages> Node<D, P> {
         requires { event.now ≡ Event.Send txn }
         ensures { StepsTo (seen self.old) event.now out.new (seen self.new) }
     {
-        match self.send_op(txn) {
+        let sent = match self.send_op(txn) {
+            Some(number) => Some(number),
+            None => self.send_get(txn),
+        };
+        match sent {
             Some(number) => *out = Out::Sent(number),
             None => self.call(event, out),
         }
+    }
+
+    /// The same of a read of one key.
+    fn send_get(&mut self, txn: u64) -> Option<u64>
+        ensures sent { IfSome result (λ number. StepsTo (seen self.old) (Event.Send txn) (Out.Sent number) (seen self.new)) }
+        ensures unsent { IfNone result (seen self.new ≡ seen self.old) }
+    {
+        let Ok(tc) = self.tc.running() else {
+            return None;
+        };
+        tc.kept();
+        let (read, key) = tc.awaited_key(txn)?;
+        let next = self.requests.next()?;
+        self.requests.push_reserved(&Request::Get {
+            session: tc.session(),
+            read,
+            key: key.copied(),
+        });
+        Some(next)
     }
 
     /// The operation that the transaction waits for is sent, as the bytes that stand in the log; the request's number.
@@ -128,15 +151,17 @@ impl<D: CrashLog, P: CrashPages> Node<D, P> {
         ensures { StepsTo (seen self.old) (Event.Reply number) out.new (seen self.new) }
     {
         let session = attempt!(out, self.tc.session());
-        let (mut answer, mut other) = (None, None);
-        let answered = attempt!(
+        let (mut answer, mut value, mut other) = (None, None, None);
+        let said = attempt!(
             out,
-            self.replies.read(number, session, &mut answer, &mut other)
+            self.replies
+                .read(number, session, &mut answer, &mut value, &mut other)
         );
-        match (answered, other) {
-            (Some(of), _) => self.tc.hear(of, &mut answer, out),
-            (None, Some(reply)) => self.tc.take(reply, out),
-            (None, None) => unreachable!(),
+        match (said, other) {
+            (Said::Answered(of), _) => self.tc.hear(of, &mut answer, out),
+            (Said::Found(read), _) => self.tc.find(read, &mut value, out),
+            (Said::Other, Some(reply)) => self.tc.take(reply, out),
+            (Said::Other, None) => unreachable!(),
         }
     }
 
@@ -150,13 +175,37 @@ impl<D: CrashLog, P: CrashPages> Node<D, P> {
             *out = Out::Refused(Refusal::NotConnected);
             return;
         }
-        let (mut op, mut other) = (None, None);
-        let asking = attempt!(out, self.requests.read(number, &mut op, &mut other));
-        match (asking, &op, &other) {
-            (Some(asking), Some(op), _) => self.serve_op(number, asking, op, out),
-            (None, _, Some(request)) => self.serve_other(number, request, out),
+        let (mut op, mut key, mut other) = (None, None, None);
+        let asked = attempt!(
+            out,
+            self.requests.read(number, &mut op, &mut key, &mut other)
+        );
+        match (asked, &op, &key, &other) {
+            (Asked::Perform(asking), Some(op), _, _) => self.serve_op(number, asking, op, out),
+            (Asked::Get(reading), _, Some(key), _) => self.serve_get(number, reading, key, out),
+            (Asked::Other, _, _, Some(request)) => self.serve_other(number, request, out),
             _ => unreachable!(),
         }
+    }
+
+    /// It is to read this key.
+    fn serve_get(&mut self, number: u64, reading: Reading, key: &Key, out: &mut Out)
+        requires sent { WasSent (seen self.old).requests number (get_of reading key.now) }
+        ensures { StepsTo (seen self.old) (Event.Request number) out.new (seen self.new) }
+    {
+        let next = self.replies.next();
+        let found = attempt!(out, self.dc.get(reading.session, key));
+        let reply = attempt!(out, next.ok_or(Refusal::NoMemory));
+        let value = match found {
+            Some(value) => Some(value.copied()),
+            None => None,
+        };
+        self.replies.push_reserved(&Reply::Row {
+            session: reading.session,
+            read: reading.read,
+            value,
+        });
+        *out = Out::Replied(reply);
     }
 
     /// It is to perform this operation.

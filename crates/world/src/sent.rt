@@ -15,9 +15,10 @@ ghost use Rattle.world.specs.Sent.{IsReadApart, IsHeardApart, IsStale, IsUnreadO
 
 use crate::message::{Message, reply_at, request_at, session_at};
 use codec::{
-    Asking, FrameIndex, Reply, Request, answered_at, asking_at, put_answered, put_perform,
+    Asking, FrameIndex, Reading, Reply, Request, answered_at, asking_at, found_at, put_answered,
+    put_perform, reading_at,
 };
-use record_key::{Answer, Op, Refusal};
+use record_key::{Answer, Key, Op, Refusal, Value};
 use std::alloc::Global;
 use std::marker::{Model, PhantomData};
 
@@ -117,24 +118,35 @@ impl<M: Message> Sent<M> {
     }
 }
 
+/// What a request asks, of which what is large is kept apart.
+pub(crate) enum Asked {
+    Perform(Asking),
+    Get(Reading),
+    Other,
+}
+
 impl Sent<Request> {
-    /// The request of this number, from 1. Where it is to perform, its numbers are told and its operation is put in `op`;
-    /// else it is put in `other`. Refused Unsent where there is none. Takes no memory.
+    /// The request of this number, from 1: the operation of one to perform is put in `op`, the key of one to read in `key`,
+    /// any other in `other`. Refused Unsent where there is none. Takes no memory.
     pub(crate) fn read(
         &self,
         number: u64,
         op: &mut Option<Op>,
+        key: &mut Option<Key>,
         other: &mut Option<Request>,
-    ) -> Result<Option<Asking>, Refusal>
-        ensures read { IfOk result (λ asking. IsReadApart self.now.messages number asking op.new other.new) }
+    ) -> Result<Asked, Refusal>
+        ensures read { IfOk result (λ asked. IsReadApart self.now.messages number asked op.new key.new other.new) }
         ensures refused { IfErr result (IsUnsent self.now.messages number) }
     {
         let place = place_of(&self.index, &self.bytes, number)?;
-        let asking = asking_at(&self.bytes, place, op);
-        if asking.is_none() {
-            *other = Some(request_at(&self.bytes, place));
+        if let Some(asking) = asking_at(&self.bytes, place, op) {
+            return Ok(Asked::Perform(asking));
         }
-        Ok(asking)
+        if let Some(reading) = reading_at(&self.bytes, place, key) {
+            return Ok(Asked::Get(reading));
+        }
+        *other = Some(request_at(&self.bytes, place));
+        Ok(Asked::Other)
     }
 
     /// Appends a request to perform the operation that these bytes spell, for which there is room.
@@ -172,19 +184,27 @@ impl Sent<Request> {
     }
 }
 
+/// What a reply says, of which what is large is kept apart: the number of the operation or of the read.
+pub(crate) enum Said {
+    Answered(u64),
+    Found(u64),
+    Other,
+}
+
 impl Sent<Reply> {
-    /// The reply of this number, from 1, if it is of the session that runs. Where it answers an operation, the operation's
-    /// number is told and the answer is put in `answer`; else it is put in `other`. Refused Unsent where there is none,
-    /// Stale where it isn't, and NoMemory for rows alone.
+    /// The reply of this number, from 1, if it is of the session that runs: the answer of one that answers is put in
+    /// `answer`, the value of one to a read in `value`, any other in `other`. Refused Unsent where there is none, Stale where
+    /// it isn't, and NoMemory for rows alone.
     pub(crate) fn read(
         &self,
         number: u64,
         running: u64,
         answer: &mut Option<Answer>,
+        value: &mut Option<Value>,
         other: &mut Option<Reply>,
-    ) -> Result<Option<u64>, Refusal>
-        ensures read { IfOk result (λ answered.
-            IsHeardApart running self.now.messages number answered answer.new other.new) }
+    ) -> Result<Said, Refusal>
+        ensures read { IfOk result (λ said.
+            IsHeardApart running self.now.messages number said answer.new value.new other.new) }
         ensures refused { IfErr result (λ refusal. IsUnsent self.now.messages number refusal
             ⊎ (IsStale running self.now.messages number refusal
             ⊎ IsUnreadOf running self.now.messages number refusal)) }
@@ -193,11 +213,19 @@ impl Sent<Reply> {
         if running == 0 || session_at(&self.bytes, place) != running {
             return Err(Refusal::Stale);
         }
-        let answered = answered_at(&self.bytes, place, answer);
-        if answered.is_none() {
-            *other = Some(reply_at(*self.bytes.allocator(), &self.bytes, place)?);
+        if let Some(of) = answered_at(&self.bytes, place, answer) {
+            return Ok(Said::Answered(of));
         }
-        Ok(answered)
+        if let Some(read) = found_at(&self.bytes, place, value) {
+            return Ok(Said::Found(read));
+        }
+        match reply_at(*self.bytes.allocator(), &self.bytes, place) {
+            Ok(reply) => {
+                *other = Some(reply);
+                Ok(Said::Other)
+            }
+            Err(refusal) => Err(refusal),
+        }
     }
 
     /// Appends the reply that answers an operation so, for which there is room.

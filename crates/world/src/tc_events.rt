@@ -12,7 +12,7 @@ use crate::event::{Event, Out};
 use crate::transaction_component::TransactionComponent;
 use codec::{Reply, Request};
 use range_locks::Span;
-use record_key::{Answer, Key, Op, Refusal};
+use record_key::{Answer, Key, Op, Refusal, Value};
 use stable::CrashLog;
 use std::alloc::Global;
 use tc_core::{Forced, Heard, Phase, RecoverStep, Told, UndoStep};
@@ -309,6 +309,26 @@ impl<D: CrashLog> TransactionComponent<D> {
         };
         let heard = attempt!(out, tc.take_answer(number, answer));
         tell_heard(heard, answer, out);
+    }
+
+    /// The same of a reply to the read of this number, whose value is apart.
+    pub fn find(&mut self, read: u64, value: &mut Option<Value>, out: &mut Out)
+        ensures { (session : ℕ) → is_of_another (tc_of self.old).tc.session session ≡ false
+            → TcTakes (tc_of self.old) (Some (says.Row session read value.old)) out.new (tc_of self.new) }
+    {
+        let TransactionComponent::Up(tc) = self else {
+            *out = Out::Refused(Refusal::NotConnected);
+            return;
+        };
+        match tc.take_found(read) {
+            Some(txn) => {
+                *out = Out::Row {
+                    txn,
+                    value: value.take(),
+                };
+            }
+            None => *out = Out::Nothing,
+        }
     }
 
     /// No reply of the number was sent.

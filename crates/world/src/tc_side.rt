@@ -15,7 +15,7 @@ use crate::event::{Event, Out};
 use crate::put::put;
 use crate::transaction_component::TransactionComponent;
 use codec::{Reply, Request};
-use record_key::{Answer, Refusal};
+use record_key::{Answer, Refusal, Value};
 use stable::{CrashLog, MemLog};
 use std::alloc::Global;
 use std::marker::Model;
@@ -190,6 +190,19 @@ impl<D: CrashLog> TcSide<D> {
             unreachable!();
         };
         component.hear(number, answer, out);
+        component.kept();
+    }
+
+    /// The same of one that replies to the read of this number, and whose value is apart.
+    pub(crate) fn find(&mut self, read: u64, value: &mut Option<Value>, out: &mut Out)
+        ensures takes { (session : ℕ) → is_of_another self.old.tc.session session ≡ false
+            → TcTakes self.old (Some (says.Row session read value.old)) out.new self.new }
+        ensures kept { IsTc self.new.tc }
+    {
+        let Some(component) = &mut self.component else {
+            unreachable!();
+        };
+        component.find(read, value, out);
         component.kept();
     }
 

@@ -1,12 +1,11 @@
-use Rattle.std.proofs.Common.{◌≡◌, ◌∙◌, ℕ, Bor, List, ◌+◌, length, drop, refl, ap, sym, arith, inl, inr}
+use Rattle.std.proofs.Common.{◌≡◌, ◌∙◌, ◌+◌, length, drop, refl, ap, arith}
 use Rattle.std.proofs.lemmas.List.{length-take}
 use Rattle.codec.specs.declared.taken.Taken.TheVariants as took
 use Rattle.codec.specs.Fields.{first_number}
 use Rattle.codec.specs.Frames.{frame}
-use Rattle.codec.specs.Reading.{seen}
 use Rattle.codec.specs.Records.{record_bytes}
 use Rattle.codec.proofs.Ends.{body_taken}
-use Rattle.codec.proofs.Frames.{framed}
+use Rattle.codec.proofs.Frames.{framed, not_taken}
 use Rattle.codec.proofs.Records.{record_length}
 use Rattle.codec.proofs.undoing.answer_bytes_at.Goals as goal
 
@@ -31,16 +30,9 @@ pub returns-in-Short : goal.returns-in-Short
 returns-in-Short c = record {
   held = λ r rest fits e.
       let at = c.args.at in
-      let left = drop at c.args.bytes.now in
       let length_is = record_length r fits in
-      let found : seen (λ (b : Bor (List ℕ)). b.now) c.take_body.result
-      ≡ took.Record (record_bytes r) (at + length (frame (record_bytes r))) =
-      c.take_body.ensures ∙ framed 181 at (record_bytes r) left rest length_is.0 length_is.1 (omega arith) e in
-      absurd (elim c.in-Short.is [
-        | inl is ↦ let h : took.Short ≡ took.Record (record_bytes r) (at + length (frame (record_bytes r))) =
-            ap (seen (λ (b : Bor (List ℕ)). b.now)) (sym is) ∙ found in cc
-        | inr is ↦ let h : took.Bad is.0 ≡ took.Record (record_bytes r) (at + length (frame (record_bytes r))) =
-            ap (seen (λ (b : Bor (List ℕ)). b.now)) (sym is.1) ∙ found in cc
-      ]);
+      absurd (not_taken _ _ _ _ c.in-Short.is
+      (c.take_body.ensures
+      ∙ framed 181 at (record_bytes r) (drop at c.args.bytes.now) rest length_is.0 length_is.1 (omega arith) e));
   short = tt;
 }

@@ -11,8 +11,8 @@ allowed : (w : TcView) (t : ℕ) (o : OpenTxn) (n : ℕ) → open_refusal w t �
     → o.waiting ≡ Some n → resend_refusal w t ≡ None
 allowed w t o n is_open at waits = rw (is_open, at, waits) refl
 
-pub returns : goal.returns
-returns g c =
+pub returns-clause-sent : goal.returns-clause-sent
+returns-clause-sent g c =
     let w : TcView = seen c.args.self.now in
     let o : OpenTxn = c.in-Ok.opened.now in
     let n : ℕ = c.in_ok-number.number in

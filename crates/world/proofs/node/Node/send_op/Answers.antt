@@ -11,7 +11,7 @@ use Rattle.world.proofs.node.Node.send_op.Goals as goal
 
 pub push_perform-requires-clause-spelled : goal.push_perform-requires-clause-spelled
 push_perform-requires-clause-spelled g c =
-    let awaited = c.in_ok-number.ensures in
+    let awaited = c.in_ok-number.ensures.sent in
     let asked = awaited.asked in
     rw (c.session.ensures, c.stable_end.ensures) (
       asked.op,
@@ -28,7 +28,7 @@ returns-clause-sent g c =
     let w = c.in-Ok.tc.now in
     let t = c.args.txn in
     let number = c.in_ok-number.number in
-    let awaited = c.in_ok-number.ensures in
+    let awaited = c.in_ok-number.ensures.sent in
     let asked = awaited.asked in
     let q : Request = asks.Perform c.session.result number c.stable_end.result asked.op in
     let given : ResendGives w t (Ok q) = rw (c.session.ensures, c.stable_end.ensures) awaited.gives in
