@@ -3,6 +3,9 @@ use record_key::{Key, Op, Refusal, Value};
 use std::alloc::Global;
 use world::{Event, Out, World, settle};
 
+/// How many rounds are settled at a time.
+const ROUNDS: u64 = 100;
+
 /// A node and the transaction of its one client, who hands on the messages. After each call nothing waits.
 #[derive(Drop)]
 pub struct Client {
@@ -196,10 +199,15 @@ impl Client {
         self.step(&Event::CrashDc { frames, bytes })
     }
 
-    /// Rounds until nobody is left whom a crash found open, and all is stable.
+    /// Rounds until nobody is left whom a crash found open, and all is stable; some at a time, so that what they come to
+    /// isn't kept for all of them.
     pub fn settle(&mut self) -> Result<(), Refusal> {
-        self.outs.clear();
-        settle(&mut self.world, None, &mut self.outs)?;
+        for _ in 0..u64::MAX {
+            self.outs.clear();
+            if settle(&mut self.world, Some(ROUNDS), &mut self.outs)? {
+                break;
+            }
+        }
         Ok(())
     }
 

@@ -28,6 +28,11 @@ summary_more height ns i some within are =
     length_some zero (n ∷ ns) some within = absurd (omega (arith, some))
     length_some (suc i) (n ∷ ns) some within = omega arith
 
+-- the first of leaves with others after them
+pub begins : (xs ys : List LeafView) → 0 < length xs → extent_first (xs ++ ys) ≡ extent_first xs
+begins [] ys some = absurd (omega (arith, some))
+begins (x ∷ xs) ys some = refl
+
 -- a node that was read stands there
 pub stands : (ns : List NodeView) (i : ℕ) (n : NodeView) → i < length ns → n ≡ get_or ns i n → n ≡ get_or ns i nothing
 stands ns i n within is = is ∙ get_or_default ns i n nothing within
@@ -118,15 +123,11 @@ module _ (known : ℕ) (ns : List NodeView) (i before : ℕ) (within : i < lengt
         mapped None = refl
         mapped (Some q) = refl
 
-    first_rest : suc i < length ns → extent_first rest ≡ extent_first (get_or ns (suc i) nothing).leaves
+    pub first_rest : suc i < length ns → extent_first rest ≡ extent_first (get_or ns (suc i) nothing).leaves
     first_rest less =
         ap (λ (ms : List NodeView). extent_first (under ms)) (drop-cons ns (suc i) nothing less)
         ∙ begins (get_or ns (suc i) nothing).leaves (under (drop (suc (suc i)) ns))
         (all_get _ ns (suc i) nothing less are).whole.some
-      where
-        begins : (xs ys : List LeafView) → 0 < length xs → extent_first (xs ++ ys) ≡ extent_first xs
-        begins [] ys some = absurd (omega (arith, some))
-        begins (x ∷ xs) ys some = refl
 
     pub pair_next : PairFrom known ns i before → suc i < length ns → is_some (first_pair known here) ≡ false
         → is_reached known (pair_top (extent_last here) (extent_first (get_or ns (suc i) nothing).leaves)) ≡ false

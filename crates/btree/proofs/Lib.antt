@@ -13,11 +13,14 @@ pub mod Merging
 pub mod Owning
 pub mod PlaceOf
 pub mod Places
+pub mod Quiet
 pub mod Raised
 pub mod Raising
+pub mod Ranging
 pub mod Removed
 pub mod Replaced
 pub mod Resummed
+pub mod Scanned
 pub mod Scanning
 pub mod Searching
 pub mod Splitting
@@ -28,5 +31,4 @@ pub mod Taking
 pub mod Tiling
 pub mod Together
 pub mod Under
-pub mod Walking
 pub mod Whole

@@ -39,7 +39,7 @@ found_all s leaves kept =
 
 -- ---- leaves that end at most where the range begins
 
-none_before : (s : Span) (from : Option Bytes) (leaf : LeafView) (rest : List LeafView) → IsLeaf leaf
+pub none_before : (s : Span) (from : Option Bytes) (leaf : LeafView) (rest : List LeafView) → IsLeaf leaf
     → LiesLater from leaf rest s.lo → rows_in s leaf.rows ≡ []
 none_before s from leaf rest kept later =
     none_pass (is_within s) (map.entries leaf.rows)
@@ -75,7 +75,7 @@ past_end (Some low) (Some high) x past starts =
     true≢false (sym (below_free x high low under (not-true (is_below low high) past))
     ∙ not-true (is_below x low) starts))
 
-found_after : (s : Span) (from : Option Bytes) (leaf : LeafView) (rest : List LeafView)
+pub found_after : (s : Span) (from : Option Bytes) (leaf : LeafView) (rest : List LeafView)
     → TileFrom from (parts_of (leaf ∷ rest)) → AllByRecursion IsLeaf (leaf ∷ rest)
     → is_past leaf.low_fence s.hi ≡ true → found_in s (leaf ∷ rest) ≡ []
 found_after s from leaf rest tile each past =
@@ -139,8 +139,8 @@ module _ {X : Type 0} (leaf_of : X → LeafView) (s : Span) where
   -- those from the range's first leaf on have all of it
   module _ (xs ys : List X) (p : ℕ) (kept : AreLeaves (map leaf_of xs)) (at : p ≡ place_at (map leaf_of xs) s.lo)
       (are : ys ≡ drop p xs) where
-    found_from : rows_in s (rows_of (map leaf_of xs)) ≡ found_in s (map leaf_of ys)
-    found_from =
+    found_there : rows_in s (rows_of (map leaf_of xs)) ≡ found_in s (map leaf_of ys)
+    found_there =
         found_all s (map leaf_of xs) kept
         ∙ found_before s None (map leaf_of xs) kept.tile kept.each refl
         ∙ ap (λ (leaves : List LeafView). found_in s leaves)
@@ -156,8 +156,8 @@ module _ {X : Type 0} (leaf_of : X → LeafView) (s : Span) where
         subst (λ (zs : List X). FromPlace zs) (sym are) (from_place None xs p kept.tile kept.each within) in
         let there : is_past (leaf_of (get_or ys i x)).low_fence s.hi ≡ true =
         ap (λ (y : X). is_past (leaf_of y).low_fence s.hi) (sym is) ∙ past in
-        sym (found_from ∙ found_past suffix.from ys i x suffix.tile suffix.each less there)
+        sym (found_there ∙ found_past suffix.from ys i x suffix.tile suffix.each less there)
 
     pub found_ended : (i : ℕ) → length ys ≤ i
         → found_in s (map leaf_of (take i ys)) ≡ rows_in s (rows_of (map leaf_of xs))
-    found_ended i le = sym (found_from ∙ ap (λ (zs : List X). found_in s (map leaf_of zs)) (sym (take_all i ys le)))
+    found_ended i le = sym (found_there ∙ ap (λ (zs : List X). found_in s (map leaf_of zs)) (sym (take_all i ys le)))

@@ -107,7 +107,7 @@ pair_both x (z ∷ xs) (y ∷ ys) some =
     ∙ sym (least_both (pair_top (extent_of x) (extent_of z)) (least_pair (z ∷ xs))
     (least (pair_top (extent_last (z ∷ xs)) (extent_of y)) (least_pair (y ∷ ys))))
 
-last_both : (x : LeafView) (xs ys : List LeafView) → 0 < length ys → extent_last ((x ∷ xs) ++ ys) ≡ extent_last ys
+pub last_both : (x : LeafView) (xs ys : List LeafView) → 0 < length ys → extent_last ((x ∷ xs) ++ ys) ≡ extent_last ys
 last_both x xs [] some = absurd (omega (arith, some))
 last_both x [] (y ∷ ys) some = refl
 last_both x (z ∷ xs) (y ∷ ys) some = last_both z xs (y ∷ ys) some

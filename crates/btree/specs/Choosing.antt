@@ -1,7 +1,7 @@
 -- Which leaves are tended first, where those with an entry above a known end are passed over, and what of leaves is
 -- kept to find these.
-use Rattle.std.specs.Prelude.{ℕ, ◌+◌, ◌&&◌, min, max, nat_le, Bool, false, List, [], ◌∷◌, Option, Some, None, if◌then◌else◌}
-use Rattle.std.specs.Option.{option_map}
+use Rattle.std.specs.Prelude.{ℕ, ◌+◌, ◌&&◌, min, max, nat_le, not, Bool, false, List, [], ◌∷◌, Option, Some, None, if◌then◌else◌}
+use Rattle.std.specs.Option.{option_map, is_some}
 use Rattle.page.specs.Leaf.{LeafView}
 use Rattle.page.specs.Tops.{top, is_within, are_within}
 use Rattle.btree.specs.Parting.{count, is_large, is_many, may_join, are_few}
@@ -89,3 +89,7 @@ both_of left right = record {
   first = left.first;
   last = right.last;
 }
+
+-- no leaf is large and no two may be joined
+abbrev pub is_quiet : Summary → Bool
+is_quiet s = not (is_some s.large) && not (is_some s.pair)

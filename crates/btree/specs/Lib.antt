@@ -1,6 +1,7 @@
 pub mod Leaves
 pub mod Parting
 pub mod Choosing
+pub mod Quiet
 pub mod Performs
 pub mod TreeLaw
 pub mod Lists
@@ -9,3 +10,4 @@ pub mod Nodes
 pub mod Below
 pub mod Falls
 pub mod Finding
+pub mod Scanned

@@ -1,18 +1,19 @@
 //! What holds the leaves, seen as their list in key order.
-ghost use Rattle.std.specs.Prelude.{◌≡◌, ℕ, ◌+◌, ◌<◌, true, List, [], ◌∷◌, length, map, get_or, set};
+ghost use Rattle.std.specs.Prelude.{◌≡◌, ℕ, ◌+◌, ◌<◌, true, List, [], ◌∷◌, ◌++◌, length, map, get_or, set};
 ghost use Rattle.std.specs.Prelude.{OnOk, OnErr, IfOk, IsOk, IsOkUnless};
 ghost use Rattle.std.specs.Option.{option_copied};
 ghost use Rattle.std.specs.FinMap as table;
 ghost use Rattle.record_key.specs.Table.{key_of};
 ghost use Rattle.ab_lsn.specs.AbLsn.{captures};
+ghost use Rattle.history.specs.Spans.{Shared, rows_in};
 ghost use Rattle.page.specs.Leaf.{LeafView, first, raised_to};
 ghost use Rattle.btree.specs.Choosing.{first_large, first_pair};
-ghost use Rattle.btree.specs.Leaves.{AreLeaves, leaf_at, place_at};
+ghost use Rattle.btree.specs.Leaves.{AreLeaves, leaf_at, place_at, rows_of};
 ghost use Rattle.btree.specs.Parting.{may_split_at, may_merge_at, split_at, merged_at, IsSplitOf, IsMergeOf};
 ghost use Rattle.btree.specs.Performs.{PerformsAt};
 
 use crate::parting::{Merge, Split};
-use page::{Done, Leaf};
+use page::{Done, Leaf, RowSink};
 use record_key::{Key, Op, Refusal, Value};
 use std::alloc::Global;
 
@@ -63,6 +64,14 @@ pub trait LeafSet {
     /// The value at the key. Takes no memory.
     fn get(&self, key: &Key) -> Option<&Value>
         ensures { option_copied result ≡ table.get (leaf_at (leaves self.now) key.now).rows key.now };
+
+    /// Puts copies of the records from `low` on, below `high` where there is one, at the end of `found`. Refused NoMemory;
+    /// some of them may stand there then.
+    fn scan<S: RowSink>(&self, low: &Key, high: Option<&Key>, found: &mut S) -> Result<(), Refusal>
+        ensures found { OnOk result (S.rows found.new ≡ S.rows found.old
+            ++ rows_in (record { lo = low.now; hi = option_copied high.entry; mode = Shared })
+            (rows_of (leaves self.now))) }
+        ensures memory { IsOkUnless result Refusal.NoMemory };
 
     /// The place of the first large leaf without an entry above the known end. Takes no memory.
     fn first_large(&self, known: u64) -> Option<usize>

@@ -21,5 +21,4 @@ pub use leaf_set::{LeafSet, one_leaf};
 pub use list::LeafList;
 pub use parting::{Merge, Split};
 pub use planning::{may_merge, may_split, merge_at, plan_merge, plan_split, split_at};
-pub use range_scan::scan;
 pub use tree::Tree;

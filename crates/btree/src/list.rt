@@ -5,7 +5,8 @@ use crate::boxes::{merge_in, perform_in, place_in, raise_in, replace_in, split_i
 use crate::choosing::{large_in, pair_in};
 use crate::leaf_set::LeafSet;
 use crate::parting::{Merge, Split};
-use page::{Done, Leaf};
+use crate::range_scan::scan_in;
+use page::{Done, Leaf, RowSink};
 use record_key::{Key, Op, Refusal, Value};
 use std::alloc::Global;
 use std::marker::Model;
@@ -75,6 +76,15 @@ impl LeafSet for LeafList {
 
     fn get(&self, key: &Key) -> Option<&Value> {
         self.leaves[place_in(self.leaves.as_slice(), key)].get(key)
+    }
+
+    fn scan<S: RowSink>(
+        &self,
+        low: &Key,
+        high: Option<&Key>,
+        found: &mut S,
+    ) -> Result<(), Refusal> {
+        scan_in(self.leaves.as_slice(), low, high, found)
     }
 
     fn first_large(&self, known: u64) -> Option<usize> {

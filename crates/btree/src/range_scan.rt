@@ -1,30 +1,29 @@
-//! A scan from leaf to leaf.
+//! A scan of leaves in boxes.
 ghost use Rattle.std.specs.Prelude.{◌≡◌, ◌++◌, OnOk, IsOkUnless};
 ghost use Rattle.std.specs.Option.{option_copied};
 ghost use Rattle.history.specs.Spans.{Shared, rows_in};
-ghost use Rattle.btree.specs.Leaves.{rows_of};
-ghost use Rattle.btree.specs.Lists.{is_past};
+ghost use Rattle.btree.specs.Leaves.{AreLeaves, rows_of};
+ghost use Rattle.btree.specs.Lists.{is_past, leaves_in};
 
-use crate::leaf_set::LeafSet;
+use crate::boxes::place_in;
 use page::{Leaf, RowSink};
 use record_key::{Key, Refusal};
 
 /// Puts copies of the records from `low` on, below `high` where there is one, at the end of `found`. Refused NoMemory;
 /// some of them may stand there then.
-pub fn scan<L: LeafSet, S: RowSink>(
-    leaves: &L,
+pub fn scan_in<S: RowSink>(
+    leaves: &[Box<Leaf>],
     low: &Key,
     high: Option<&Key>,
     found: &mut S,
 ) -> Result<(), Refusal>
+    requires { AreLeaves (leaves_in leaves.now) }
     ensures found { OnOk result (S.rows found.new ≡ S.rows found.old
         ++ rows_in (record { lo = low.now; hi = option_copied high.entry; mode = Shared })
-        (rows_of (L.leaves leaves.now))) }
+        (rows_of (leaves_in leaves.now))) }
     ensures memory { IsOkUnless result Refusal.NoMemory }
 {
-    leaves.kept();
-    for place in leaves.place_of(low)..leaves.len() {
-        let leaf = leaves.leaf(place);
+    for leaf in &leaves[place_in(leaves, low)..] {
         if begins_past(leaf, high) {
             return Ok(());
         }

@@ -9,6 +9,7 @@ mod choosing;
 mod finding;
 mod growing;
 mod node;
+mod scanning;
 mod shrinking;
 mod summary;
 
@@ -17,7 +18,7 @@ use crate::parting::{Merge, Split};
 use building::{build, make_blocks};
 use growing::insert_in;
 use node::Node;
-use page::{Done, Leaf};
+use page::{Done, Leaf, RowSink};
 use record_key::{Key, Op, Refusal, Value};
 use shrinking::remove_in;
 use std::alloc::Global;
@@ -88,6 +89,16 @@ impl LeafSet for Tree {
 
     fn get(&self, key: &Key) -> Option<&Value> {
         self.root.leaf_of(key).get(key)
+    }
+
+    fn scan<S: RowSink>(
+        &self,
+        low: &Key,
+        high: Option<&Key>,
+        found: &mut S,
+    ) -> Result<(), Refusal> {
+        self.root.scan_from(low, high, found)?;
+        Ok(())
     }
 
     fn first_large(&self, known: u64) -> Option<usize> {

@@ -1,6 +1,7 @@
 //! Records of the transaction log.
 ghost use Rattle.std.specs.Prelude.{◌≡◌, ◌↔◌, ◌+◌, ◌<◌, ◌≤◌, ◌++◌, ℕ, List, length, drop, Some, vec_len, vec_capacity, OnOk, OnErr, IfErr};
 ghost use Rattle.history.specs.declared.record.Record.{Record};
+ghost use Rattle.history.specs.declared.record.Record.TheVariants as is;
 ghost use Rattle.codec.specs.Records.{record_bytes, HasNumbers, IsRecord};
 ghost use Rattle.codec.specs.Frames.{frame, IfTaken, IfBad, IsThere, IsCut};
 ghost use Rattle.std.specs.List.{flat_map, AllByRecursion};
@@ -18,7 +19,7 @@ use crate::writing::{
     put_answer, put_byte, put_head, put_long_head, put_number, put_op, put_optional_op,
 };
 use history::Record;
-use record_key::{Op, Refusal};
+use record_key::{Answer, Op, Refusal};
 use std::convert::Infallible;
 
 /// Appends the record's frame, its one spelling. Where memory for it is refused nothing is appended.
@@ -35,6 +36,44 @@ pub fn put_record(out: &mut Vec<u8>, record: &Record) -> Result<(), Refusal>
     out.reserve(HEADER_LEN + length)?;
     put_number(out, length as u64);
     put_body(out, record);
+    Ok(())
+}
+
+/// The same of an Op record, whose operation is lent.
+#[tactic(auto, unfolding(crate::specs::Records::record_bytes), using(crate::proofs::Numbered::number_lengths))]
+pub fn put_op_record(out: &mut Vec<u8>, txn: u64, prev: u64, op: &Op) -> Result<(), Refusal>
+    requires { HasNumbers (is.Op txn prev op.now) }
+    ensures spelling { OnOk result (out.new.items ≡ out.old.items ++ frame (record_bytes (is.Op txn prev op.now))) }
+    ensures refused { OnErr result (out.new.items ≡ out.old.items) }
+    ensures cause { IfErr result (λ refusal. refusal ≡ Refusal.NoMemory) }
+    ensures room { OnErr result (vec_capacity out.old
+        < vec_len out.old + length (frame (record_bytes (is.Op txn prev op.now)))) }
+    ensures has_spelling { IsRecord (is.Op txn prev op.now) }
+{
+    let length = 17 + op_len(op);
+    out.reserve(HEADER_LEN + length)?;
+    put_number(out, length as u64);
+    put_long_head(out, 3, txn, prev);
+    put_op(out, op);
+    Ok(())
+}
+
+/// The same of an Answer record, whose answer is lent.
+#[tactic(auto, unfolding(crate::specs::Records::record_bytes), using(crate::proofs::Numbered::number_lengths))]
+pub fn put_answer_record(out: &mut Vec<u8>, of: u64, answer: &Answer) -> Result<(), Refusal>
+    requires { HasNumbers (is.Answer of answer.now) }
+    ensures spelling { OnOk result (out.new.items ≡ out.old.items ++ frame (record_bytes (is.Answer of answer.now))) }
+    ensures refused { OnErr result (out.new.items ≡ out.old.items) }
+    ensures cause { IfErr result (λ refusal. refusal ≡ Refusal.NoMemory) }
+    ensures room { OnErr result (vec_capacity out.old
+        < vec_len out.old + length (frame (record_bytes (is.Answer of answer.now)))) }
+    ensures has_spelling { IsRecord (is.Answer of answer.now) }
+{
+    let length = 9 + answer_len(answer);
+    out.reserve(HEADER_LEN + length)?;
+    put_number(out, length as u64);
+    put_head(out, 4, of);
+    put_answer(out, answer);
     Ok(())
 }
 

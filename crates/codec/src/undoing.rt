@@ -1,6 +1,6 @@
 //! The record that undoes an answered operation, spelled from the bytes of the operation's record and of its answer's:
 //! neither is read into values.
-ghost use Rattle.std.specs.Prelude.{◌≡◌, ◌+◌, ◌≤◌, ◌++◌, ℕ, List, length, drop, is_some, OnOk, OnErr, IfOk, IfErr, IfSome};
+ghost use Rattle.std.specs.Prelude.{◌≡◌, ◌+◌, ◌<◌, ◌≤◌, ◌++◌, ℕ, List, length, drop, is_some, vec_len, vec_capacity, OnOk, OnErr, IfOk, IfErr, IfSome};
 ghost use Rattle.std.specs.Option.{option_copied, option_map};
 ghost use Rattle.history.specs.declared.record.Record.{Record};
 ghost use Rattle.history.specs.declared.record.Record.TheVariants as is;
@@ -50,6 +50,7 @@ pub fn put_undo(
         → IfOk result (λ asks. asks ≡ is_some (inverse_of o a)) }
     ensures refused { OnErr result (out.new.items ≡ out.old.items) }
     ensures cause { IfErr result (λ refusal. refusal ≡ Refusal.NoMemory) }
+    ensures room { OnErr result (vec_capacity out.old < vec_len out.old + 397) }
 {
     let Some(op) = asked_bytes(bytes, op_at) else {
         return Ok(false);
@@ -143,6 +144,7 @@ fn put_inverse(
         ≡ out.old.items ++ frame (record_bytes (is.Comp numbers.txn numbers.undoes numbers.next (undo_of k a)))) }
     ensures refused { OnErr result (out.new.items ≡ out.old.items) }
     ensures cause { IfErr result (λ refusal. refusal ≡ Refusal.NoMemory) }
+    ensures room { OnErr result (vec_capacity out.old < vec_len out.old + 397) }
 {
     let Some((kind, old)) = answer.split_first() else {
         return Ok(());
@@ -172,6 +174,7 @@ fn put_comp(
         ≡ out.old.items ++ frame (comp_bytes numbers (head.now ++ (key.now ++ rest.now)))) }
     ensures refused { OnErr result (out.new.items ≡ out.old.items) }
     ensures cause { IfErr result (λ refusal. refusal ≡ Refusal.NoMemory) }
+    ensures room { OnErr result (vec_capacity out.old < vec_len out.old + 397) }
 {
     let length = 25 + head.len() + key.len() + rest.len();
     out.reserve(HEADER_LEN + length)?;

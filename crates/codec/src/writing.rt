@@ -17,7 +17,7 @@ pub(crate) fn put_bytes(out: &mut Vec<u8>, bytes: &[u8])
     }
 }
 
-/// The same for a few bytes, one by one: a call that copies them costs more.
+/// The same byte by byte, for the one or two of a head: a call that copies them costs more.
 pub(crate) fn put_few(out: &mut Vec<u8>, bytes: &[u8])
     requires { HasRoom out.old bytes.now }
     ensures { Puts out.old out.new bytes.now }
@@ -35,6 +35,7 @@ pub(crate) fn put_byte(out: &mut Vec<u8>, byte: u8)
     out.push_reserved(byte);
 }
 
+/// Its eight bytes are copied at once: that is one store, where each byte by itself takes three instructions.
 #[tactic(auto, unfolding(crate::specs::Fields::number))]
 pub(crate) fn put_number(out: &mut Vec<u8>, n: u64)
     requires { HasRoom out.old (number n) }
@@ -42,7 +43,7 @@ pub(crate) fn put_number(out: &mut Vec<u8>, n: u64)
 {
     let mut bytes = [0; 8];
     BigEndian::write_u64(&mut bytes, n);
-    put_few(out, &bytes);
+    put_bytes(out, &bytes);
 }
 
 /// A kind, then a number.

@@ -1,5 +1,5 @@
 //! Calls of leaves, each in a function that promises nothing, so that what calls it is checked soon.
-use btree::{LeafSet, merge_at, one_leaf, scan as range_scan, split_at};
+use btree::{LeafSet, merge_at, one_leaf, split_at};
 use call_lines::Tally;
 use page::Done;
 use record_key::{Key, Op, Refusal, Value};
@@ -20,7 +20,7 @@ pub fn scan<L: LeafSet>(
     high: Option<&Key>,
 ) -> Result<Vec<(Key, Value)>, Refusal> {
     let mut rows = Vec::new(leaves.allocator());
-    range_scan(leaves, low, high, &mut rows)?;
+    leaves.scan(low, high, &mut rows)?;
     Ok(rows)
 }
 

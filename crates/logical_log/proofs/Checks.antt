@@ -83,7 +83,7 @@ module _ (log : List Record) (index : Index) (t : ℕ) (o : Op) (h : IsIndex log
   holder_so is n u q op key opened plain = by (holder_in index k) (h.held_keys k) is
     where
       by : (v : Option ℕ) → KeptOn log k v → agrees_if index t v ≡ true → u ≡ t
-      by None none e = absurd (none n u q op key plain)
+      by None none e = absurd (none n u q op key plain opened)
       by (Some s) held e =
           let same : u ≡ s = held.only n u q op key plain opened in
           agrees_so log index t u h (ap (agrees index t) same ∙ e) opened

@@ -212,9 +212,10 @@ module _ (r : Record) (log : List Record) (legal : IsLegal log) where
           h.only n u o was key plain (holder_open n u o was opened)
     ];
   }
-  on_other k none None h = λ n u o op key plain. elim (cases_eq n (length log + 1)) [
+  on_other k none None h = λ n u o op key plain opened. elim (cases_eq n (length log + 1)) [
     | inl e ↦ none u o (newest_at (AnOp u o) r log n e op) plain key
-    | inr e ↦ h n u o (older_at (AnOp u o) r log n e op) key plain
+    | inr e ↦ let was : IsOpBy log n u o = older_at (AnOp u o) r log n e op in
+        h n u o was key plain (holder_open n u o was opened)
   ]
 
   same_on : (old new : Bytes → Option ℕ) → ((k : Bytes) → new k ≡ old k)
@@ -505,6 +506,26 @@ gains (is.End u) log latest old new had has legal fits kept holder same was =
     gained_same (is.End u) log old new had has legal (λ v o op. cc) holder same was
 gains (is.Checkpoint l) log latest old new had has legal fits kept holder same was =
     gained_same (is.Checkpoint l) log old new had has legal (λ v o op. cc) holder same was
+
+-- ---- who held a key is forgotten while no transaction is open
+
+pub forgotten : (log : List Record) (old new : Index) → IsIndex log old → ((t : ℕ) → latest_in old t ≡ None)
+    → new.analysis ≡ old.analysis → ((k : Bytes) → holder_in new k ≡ None) → ((k : Bytes) → adders_of new k ≡ [])
+    → new.answered ≡ old.answered → new.last_not_session ≡ old.last_not_session
+    → IsIndex log new
+forgotten log old new h none same keys adders answered last =
+    let shut : (u : ℕ) → IsOpen log u → ⊥ = λ u. subst (KeptOf log u) (none u) (h.analysis.open_txns u) in
+    record {
+      legal = h.legal;
+      analysis = subst (IsAnalysis log) (sym same) h.analysis;
+      held_keys = λ k. subst (KeptOn log k) (sym (keys k)) (λ n u o op key plain opened. shut u opened);
+      added_keys = λ k. subst (AddedBy log k (holder_in new k)) (sym (adders k)) (record {
+        each = λ u among. absurd (true≢false (sym among));
+        all = λ u has opened. absurd (shut u opened);
+      });
+      answered = subst (FitsCheckpoint log) (sym answered) h.answered;
+      last = last ∙ h.last;
+    }
 
 -- ---- both
 

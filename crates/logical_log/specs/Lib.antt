@@ -1,4 +1,5 @@
 pub mod Adders
+pub mod Appended
 pub mod Checkpointed
 pub mod Crashed
 pub mod Found

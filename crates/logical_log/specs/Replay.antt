@@ -50,10 +50,10 @@ pub record HeldBy (log : List Record) (k : Bytes) (t : ℕ) : Type 0 where
   pub plain : is_add op ≡ false
   pub only : (n u : ℕ) (o : Op) → IsOpBy log n u o → key_of o ≡ k → is_add o ≡ false → IsOpen log u → u ≡ t
 
--- what is kept of a key: nothing where no operation is on it but Adds
+-- what is kept of a key: nothing where no open transaction has an operation on it but Adds
 abbrev pub KeptOn : List Record → Bytes → Option ℕ → Type 0
 KeptOn log k (Some t) = HeldBy log k t
-KeptOn log k None = (n u : ℕ) (o : Op) → IsOpBy log n u o → key_of o ≡ k → is_add o ≡ false → ⊥
+KeptOn log k None = (n u : ℕ) (o : Op) → IsOpBy log n u o → key_of o ≡ k → is_add o ≡ false → IsOpen log u → ⊥
 
 abbrev pub is_among : ℕ → List ℕ → Bool
 is_among u us = list_any (λ v. v == u) us

@@ -8,6 +8,7 @@ ghost use Rattle.codec.specs.FrameIndex.{places_of, Indexes};
 ghost use Rattle.codec.specs.Frames.{frame, IfTaken, IfBad, IsThere, IsCut};
 ghost use Rattle.codec.specs.Records.{record_bytes, HasNumbers, IsRecord};
 ghost use Rattle.codec.specs.Undoing.{AreAnsweredAt};
+ghost use Rattle.logical_log.specs.Appended.{record_of};
 ghost use Rattle.logical_log.specs.Index.{is_answered};
 ghost use Rattle.record_key.specs.FirstCause.{MayRefuse};
 ghost use Rattle.record_key.specs.declared.op.Op.{Op};
@@ -20,6 +21,7 @@ ghost use Rattle.logical_log.specs.Low.{stable_part};
 ghost use Rattle.logical_log.specs.Spelled.{spelled, AreRecords, IsAskedBy, IsNext, IsPlaceOf};
 ghost use Rattle.logical_log.specs.Undoing.{comp_at, inverse_at, next_at, IsToldOf};
 
+use crate::appended::Appended;
 use crate::compensated::Compensated;
 use crate::note::{ASKS_NOTHING, answer_held, answer_place, note, note_comp};
 use crate::write::{refusal_of, write, write_comp};
@@ -270,19 +272,20 @@ impl<D: LogDevice> Frames<D> {
         self.index.reserve()?;
         self.answers.reserve(1)?;
         let number = self.index.len() as u64 + 1;
-        note(&mut self.answers, accepted, number);
+        note(&mut self.answers, &Appended::Whole(accepted), number);
         self.index.push_reserved(self.end);
         self.end = next;
         Ok(())
     }
 
     /// Appends a record, in one device call. Refused NoMemory or Device, and unchanged then.
-    pub(crate) fn append(&mut self, appended: &Record) -> Result<(), Refusal>
+    #[inline(always)]
+    pub(crate) fn append(&mut self, appended: &Appended<'_>) -> Result<(), Refusal>
         requires all_read { self.old.left ≡ [] }
-        requires fits { Fits self.old.records appended.now }
-        requires numbers { HasNumbers appended.now }
+        requires fits { Fits self.old.records (record_of appended.now) }
+        requires numbers { HasNumbers (record_of appended.now) }
         requires room { length self.old.records < 281474976710655 }
-        ensures appended { OnOk result (self.new ≡ with_record self.old appended.now) }
+        ensures appended { OnOk result (self.new ≡ with_record self.old (record_of appended.now)) }
         ensures unchanged { IfErr result (λ refusal.
             self.new ≡ with_usage self.old (refused_use self.old.device.usage refusal)) }
         ensures cause { IfErr result (MayRefuse None) }

@@ -10,6 +10,7 @@
 
 mod adders;
 mod analysis;
+mod appended;
 mod compensated;
 mod fits;
 mod found;

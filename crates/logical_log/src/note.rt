@@ -4,8 +4,10 @@ ghost use Rattle.std.specs.Vec.{vec_capacity};
 ghost use Rattle.std.specs.Prelude.{is_some};
 ghost use Rattle.history.specs.Log.{request_of};
 ghost use Rattle.record_key.specs.declared.op.Op.{Op};
+ghost use Rattle.logical_log.specs.Appended.{record_of};
 ghost use Rattle.logical_log.specs.Index.{noted, NamesWithin, answer_in, asks_nothing, first_place as place_first};
 
+use crate::appended::Appended;
 use history::Record;
 use record_key::Answer;
 
@@ -52,15 +54,19 @@ fn first_place(asks: bool) -> u64
 }
 
 /// Notes that a record of this number is appended.
-pub(crate) fn note(answers: &mut Vec<u64>, appended: &Record, number: u64)
-    requires names { NamesWithin appended.now (vec_len answers.old) }
+#[inline(always)]
+pub(crate) fn note(answers: &mut Vec<u64>, appended: &Appended<'_>, number: u64)
+    requires names { NamesWithin (record_of appended.now) (vec_len answers.old) }
     requires room { vec_len answers.old < vec_capacity answers.old }
-    ensures { answers.new.items ≡ noted appended.now number answers.old.items }
+    ensures { answers.new.items ≡ noted (record_of appended.now) number answers.old.items }
 {
-    if let Record::Answer { of, .. } = appended {
-        answers[*of as usize - 1] = number;
+    match appended {
+        Appended::Answer { of, .. } | Appended::Whole(Record::Answer { of, .. }) => {
+            answers[*of as usize - 1] = number;
+        }
+        _ => {}
     }
-    answers.push_reserved(first_place(asks(appended)));
+    answers.push_reserved(first_place(appended.asks()));
 }
 
 /// The same of a Comp record, which asks for something or not.

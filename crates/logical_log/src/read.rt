@@ -104,6 +104,7 @@ fn step<D: LogDevice>(
     if frames.len() >= LAST_NUMBER {
         return Err(Refusal::BadBytes(frames.end() as u64));
     }
+    index.forget();
     if !fits(index, frames, found) {
         return Err(Refusal::BadBytes(frames.end() as u64));
     }

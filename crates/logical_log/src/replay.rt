@@ -1,5 +1,6 @@
 //! An index by transaction and by key, which tells in one pass whether each record fits those before it.
 ghost use Rattle.std.specs.Prelude.{◌≡◌, ◌↔◌, ◌∷◌, ◌++◌, [], IsTrue, OnOk, Some, None, List, ℕ, filter, if◌then◌else◌};
+ghost use Rattle.std.specs.BTreeMap.{btree_map_len};
 ghost use Rattle.std.specs.Bool.{MatchBool};
 ghost use Rattle.std.specs.List.{list_all};
 ghost use Rattle.record_key.specs.Table.{key_of, is_add};
@@ -22,6 +23,7 @@ use std::collections::BTreeMap;
 pub(crate) struct Index {
     pub(crate) analysis: Analysis,
     // For each key the transaction of its latest operation that is no Add: if another is open, it has none on the key.
+    // A key on which no open transaction has one may be left out.
     pub(crate) holders: BTreeMap<Key, u64>,
     // For each key the transactions that added to it since, but for such as were over when the next did.
     pub(crate) adders: Adders,
@@ -101,6 +103,19 @@ impl Index {
         ensures { IsTrue result ↔ IsKeyFree frames.now.records txn op.now }
     {
         self.holder_agrees(txn, op.key()) && (op.is_add() || self.adders_agree(txn, op.key()))
+    }
+
+    /// Where no transaction is open, nobody holds a key, and who did is forgotten: so the index is no larger than what the
+    /// open transactions did.
+    pub(crate) fn forget(&mut self)
+        ensures index { (log : List Record) → IsIndex log self.old → IsIndex log self.new }
+        ensures forgotten { btree_map_len self.old.analysis.open_txns ≡ 0
+            → (btree_map_len self.new.holders ≡ 0) × (btree_map_len self.new.adders.by_key ≡ 0) }
+    {
+        if self.analysis.open_txns.is_empty() {
+            self.holders.clear();
+            self.adders.by_key.clear();
+        }
     }
 
     /// Takes in a record of this number.

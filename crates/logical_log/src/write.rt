@@ -1,23 +1,25 @@
 //! What changes the log.
 ghost use Rattle.std.specs.Prelude.{◌≡◌, ◌++◌, None, length, is_some, IsTrue, OnOk, OnErr, IfOk, IfErr, IsErrOf};
+ghost use Rattle.history.specs.declared.record.Record.TheVariants as is;
 ghost use Rattle.history.specs.Legal.{Fits};
+ghost use Rattle.logical_log.specs.Appended.{record_of};
 ghost use Rattle.codec.specs.Frames.{frame};
 ghost use Rattle.codec.specs.Records.{record_bytes, HasNumbers, IsRecord};
 ghost use Rattle.codec.specs.Undoing.{AreAnsweredAt, comp_of};
 ghost use Rattle.inverse.specs.Inverse.{inverse_of};
-ghost use Rattle.record_key.specs.declared.op.Op.{Op};
-ghost use Rattle.record_key.specs.declared.op.Answer.{Answer};
+ghost use Rattle.record_key.specs.declared.op.Op.{Op as OpValue};
+ghost use Rattle.record_key.specs.declared.op.Answer.{Answer as AnswerValue};
 ghost use Rattle.record_key.specs.FirstCause.{MayRefuse};
 ghost use Rattle.stable.specs.Usage.{is_due, called};
 ghost use Rattle.logical_log.specs.LogView.{Appends, spent_refusal, after_refusal, usage_after, refusal_from};
 ghost use Rattle.logical_log.specs.Undoing.{comp_at, IsToldOf};
 
+use crate::appended::Appended;
 use crate::compensated::Compensated;
 use crate::log::Log;
-use crate::not_session::last_with;
-use codec::{CompNumbers, put_record, put_undo};
+use codec::{CompNumbers, put_undo};
 use history::Record;
-use record_key::Refusal;
+use record_key::{Answer, Op, Refusal};
 use stable::{DeviceError, LogDevice};
 
 /// The greatest number that a record may have.
@@ -34,12 +36,48 @@ impl<D: LogDevice> Log<D> {
         ensures device { IsErrOf result Refusal.Device → IsTrue (is_due self.old.usage) }
         ensures left { IfErr result (λ refusal. self.new ≡ after_refusal self.old refusal) }
     {
+        self.add(&Appended::Whole(appended))
+    }
+
+    /// The same of an Op record, whose operation is lent.
+    pub fn append_op(&mut self, txn: u64, prev: u64, op: &Op) -> Result<u64, Refusal>
+        requires fits { Fits self.old.records (is.Op txn prev op.now) }
+        requires numbers { HasNumbers (is.Op txn prev op.now) }
+        ensures appended { IfOk result (λ number. Appends self.old (is.Op txn prev op.now) number self.new) }
+        ensures refused { IfErr result (MayRefuse (spent_refusal self.old.records)) }
+        ensures device { IsErrOf result Refusal.Device → IsTrue (is_due self.old.usage) }
+        ensures left { IfErr result (λ refusal. self.new ≡ after_refusal self.old refusal) }
+    {
+        self.add(&Appended::Op { txn, prev, op })
+    }
+
+    /// The same of an Answer record, whose answer is lent.
+    pub fn append_answer(&mut self, of: u64, answer: &Answer) -> Result<u64, Refusal>
+        requires fits { Fits self.old.records (is.Answer of answer.now) }
+        requires numbers { HasNumbers (is.Answer of answer.now) }
+        ensures appended { IfOk result (λ number. Appends self.old (is.Answer of answer.now) number self.new) }
+        ensures refused { IfErr result (MayRefuse (spent_refusal self.old.records)) }
+        ensures device { IsErrOf result Refusal.Device → IsTrue (is_due self.old.usage) }
+        ensures left { IfErr result (λ refusal. self.new ≡ after_refusal self.old refusal) }
+    {
+        self.add(&Appended::Answer { of, answer })
+    }
+
+    #[inline(always)]
+    fn add(&mut self, appended: &Appended<'_>) -> Result<u64, Refusal>
+        requires fits { Fits self.old.records (record_of appended.now) }
+        requires numbers { HasNumbers (record_of appended.now) }
+        ensures appended { IfOk result (λ number. Appends self.old (record_of appended.now) number self.new) }
+        ensures refused { IfErr result (MayRefuse (spent_refusal self.old.records)) }
+        ensures device { IsErrOf result Refusal.Device → IsTrue (is_due self.old.usage) }
+        ensures left { IfErr result (λ refusal. self.new ≡ after_refusal self.old refusal) }
+    {
         if self.len() >= LAST_NUMBER {
             return Err(Refusal::NumbersSpent);
         }
         self.frames.append(appended)?;
         let number = self.frames.len();
-        self.last_not_session = last_with(appended, number, self.last_not_session);
+        self.last_not_session = appended.last_with(number, self.last_not_session);
         Ok(number)
     }
 
@@ -85,23 +123,24 @@ impl<D: LogDevice> Log<D> {
 }
 
 /// Spells the record's frame in the place of what stood in `out`, and appends it to the device.
+#[inline(always)]
 pub(crate) fn write<D: LogDevice>(
     device: &mut D,
     out: &mut Vec<u8>,
-    appended: &Record,
+    appended: &Appended<'_>,
 ) -> Result<(), Refusal>
-    requires { HasNumbers appended.now }
+    requires { HasNumbers (record_of appended.now) }
     ensures written { OnOk result (D.pending device.new
-        ≡ D.pending device.old ++ frame (record_bytes appended.now)) }
+        ≡ D.pending device.old ++ frame (record_bytes (record_of appended.now))) }
     ensures not_written { OnErr result (D.pending device.new ≡ D.pending device.old) }
     ensures forced { D.forced device.new ≡ D.forced device.old }
     ensures cause { IfErr result (MayRefuse None) }
     ensures device { IsErrOf result Refusal.Device → IsTrue (is_due (D.usage device.old)) }
     ensures used { D.usage device.new ≡ usage_after (D.usage device.old) result }
-    ensures has_spelling { IsRecord appended.now }
+    ensures has_spelling { IsRecord (record_of appended.now) }
 {
     out.clear();
-    put_record(out, appended)?;
+    appended.put(out)?;
     match device.append(out) {
         Ok(()) => Ok(()),
         Err(error) => Err(refusal_of(error)),
@@ -117,10 +156,10 @@ pub(crate) fn write_comp<D: LogDevice>(
     op_at: usize,
     answer_at: usize,
 ) -> Result<bool, Refusal>
-    ensures written { (o : Op) (a : Answer)
+    ensures written { (o : OpValue) (a : AnswerValue)
         → AreAnsweredAt (D.forced device.old ++ D.pending device.old) op_at answer_at o a
         → OnOk result (D.pending device.new ≡ D.pending device.old ++ frame (record_bytes (comp_of numbers o a))) }
-    ensures asks { (o : Op) (a : Answer)
+    ensures asks { (o : OpValue) (a : AnswerValue)
         → AreAnsweredAt (D.forced device.old ++ D.pending device.old) op_at answer_at o a
         → IfOk result (λ asks. asks ≡ is_some (inverse_of o a)) }
     ensures not_written { OnErr result (D.pending device.new ≡ D.pending device.old) }

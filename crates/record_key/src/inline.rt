@@ -66,7 +66,11 @@ impl Inline<32> {
     pub(crate) fn order(&self, other: &Inline<32>) -> Ordering
         ensures { result ≡ slice_cmp nat_cmp self.now other.now }
     {
-        order(&self.bytes, &other.bytes).then(self.len.cmp(&other.len))
+        let found = order(&self.bytes, &other.bytes);
+        if found.is_ne() {
+            return found;
+        }
+        self.len.cmp(&other.len)
     }
 }
 

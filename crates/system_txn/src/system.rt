@@ -20,7 +20,7 @@ ghost use Rattle.system_txn.specs.Kept.{IsSystem};
 use crate::devices::{Device, Devices, Refused};
 use crate::parts::Parts;
 use crate::tended::{Neighbours, Tended};
-use btree::{LeafSet, scan};
+use btree::LeafSet;
 use page::{Done, Leaf, RowSink};
 use record_key::{Key, Op, Refusal, Value};
 use stable::{CrashLog, CrashPages, LogDevice, PageDevice};
@@ -192,7 +192,7 @@ impl<L: LeafSet, D: LogDevice, P: PageDevice> SystemTxns<L, D, P> {
             (rows_of self.now.leaves)) }
         ensures memory { IsOkUnless result Refusal.NoMemory }
     {
-        scan(&self.parts.leaves, low, high, found)
+        self.parts.leaves.scan(low, high, found)
     }
 
     /// How many records the log has.

@@ -7,7 +7,6 @@ use crate::change::Change;
 use crate::locking::{mode_for, take};
 use crate::open_txn::Read;
 use crate::parts::{LAST_NUMBER, Parts};
-use history::Record;
 use range_locks::{Mode, Span};
 use record_key::{Op, Refusal};
 use stable::LogDevice;
@@ -22,8 +21,7 @@ impl<D: LogDevice> Parts<D> {
         let span = Span::Key(op.key().copied());
         let spent = self.log.len() >= LAST_NUMBER;
         take(&mut self.locks, spent, txn, mode_for(op), &span)?;
-        let op = op.copied();
-        match self.log.append(&Record::Op { txn, prev, op }) {
+        match self.log.append_op(txn, prev, op) {
             Ok(number) => {
                 let waiting = Some(number);
                 self.open_txns.change(

@@ -17,7 +17,6 @@ use crate::phase::Phase;
 use crate::replies::{heard_lost, heard_of, left_waiting, reads_key, reads_range, takes};
 use crate::told::{Heard, Told};
 use codec::{Reply, Rows};
-use history::Record;
 use record_key::{Answer, Refusal, Value};
 use stable::LogDevice;
 
@@ -112,7 +111,7 @@ impl<D: LogDevice> Parts<D> {
         };
         let txn = opened.txn;
         let heard = heard_of(opened, number);
-        self.log.append(&answered(number, answer))?;
+        self.log.append_answer(number, answer)?;
         self.open_txns.change(txn, Change::Answered);
         self.pass(number);
         Ok(heard)
@@ -134,7 +133,7 @@ impl<D: LogDevice> Parts<D> {
             return Ok(Heard::Nothing);
         };
         let heard = heard_lost(self.log.record(number), number);
-        self.log.append(&answered(number, answer))?;
+        self.log.append_answer(number, answer)?;
         self.pass(number);
         Ok(heard)
     }
@@ -229,15 +228,5 @@ impl<D: LogDevice> Parts<D> {
             }
             _ => {}
         }
-    }
-}
-
-/// The record of an answer.
-fn answered(number: u64, answer: &Answer) -> Record
-    ensures { result ≡ Record.Answer number answer.now }
-{
-    Record::Answer {
-        of: number,
-        answer: answer.copied(),
     }
 }

@@ -8,7 +8,7 @@ ghost use Rattle.btree.specs.Finding.{IsInside};
 ghost use Rattle.btree.specs.Nodes.{IsChangedAt, IsWhole, raised_node};
 ghost use Rattle.btree.specs.Performs.{IsAskedBelow};
 
-use super::children::{node_at, node_of, summary_in};
+use super::children::{node_at, node_of, renew_after, summary_in};
 use super::node::{Below, Node};
 use super::summary::Summary;
 use page::{Done, Leaf};
@@ -46,7 +46,7 @@ impl Node {
                 if !children[i].perform_into(number, op, done) {
                     return false;
                 }
-                self.summary.renew(summary_in(children.as_slice()))
+                renew_after(&mut self.summary, children.as_slice(), i)
             }
         }
     }

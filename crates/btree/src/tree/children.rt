@@ -1,11 +1,13 @@
 //! Nodes beside one another, at one depth.
-ghost use Rattle.std.specs.Prelude.{◌≡◌, ◌<◌, ◌^◌, length};
+ghost use Rattle.std.specs.Prelude.{◌≡◌, ◌<◌, ◌^◌, true, false, length};
 ghost use Rattle.btree.specs.Choosing.{summary_of};
 ghost use Rattle.btree.specs.Nodes.{AreChildren, height_in, low_of, under};
 ghost use Rattle.btree.specs.Finding.{IsIn, IsNodeOf};
+ghost use Rattle.btree.specs.Quiet.{IsQuietAt, WasSummary};
 
 use super::node::Node;
 use super::summary::Summary;
+use crate::choosing::may_join;
 use record_key::Key;
 
 /// How many leaves are below them.
@@ -45,6 +47,35 @@ pub fn summary_in(nodes: &[Node]) -> Summary
         all = all.before(nodes[i].summary());
     }
     all
+}
+
+/// Renews what was kept of nodes of which the one at a place was changed. Whether it is not the same. While no leaf is
+/// large and no two may be joined, the first leaf and the last tell it.
+pub fn renew_after(summary: &mut Summary, nodes: &[Node], changed: usize) -> bool
+    requires whole { AreChildren (height_in nodes.now) nodes.now }
+    requires there { changed < length nodes.now }
+    requires before { WasSummary nodes.now changed summary.old }
+    ensures renewed { summary.new ≡ summary_of (under nodes.now) }
+    ensures same { result ≡ false → summary.new ≡ summary.old }
+{
+    if summary.is_quiet() && is_quiet_at(nodes, changed) {
+        let last = nodes[nodes.len() - 1].summary().last;
+        summary.renew_ends(nodes[0].summary().first, last)
+    } else {
+        summary.renew(summary_in(nodes))
+    }
+}
+
+/// Whether no leaf below the node at a place is large, and none may be joined there or with one of the nodes beside it.
+fn is_quiet_at(nodes: &[Node], place: usize) -> bool
+    requires there { place < length nodes.now }
+    ensures { result ≡ true → IsQuietAt nodes.now place }
+{
+    let summary = nodes[place].summary();
+    summary.is_quiet()
+        && (place == 0 || !may_join(nodes[place - 1].summary().last.count, summary.first.count))
+        && (place + 1 == nodes.len()
+            || !may_join(summary.last.count, nodes[place + 1].summary().first.count))
 }
 
 /// The node in which a place among the leaves lies, and the place there.

@@ -1,6 +1,6 @@
 //! What a node keeps of the leaves below it, so that the leaf that is tended first is found by one descent.
 ghost use Rattle.std.specs.Prelude.{◌≡◌, false, [], ◌∷◌};
-ghost use Rattle.btree.specs.Choosing.{both_of, extent_of, is_reached, large_top, least, no_extent, pair_top, summary_of};
+ghost use Rattle.btree.specs.Choosing.{both_of, extent_of, is_quiet, is_reached, large_top, least, no_extent, pair_top, summary_of};
 
 use crate::choosing::{is_large, may_join};
 use page::Leaf;
@@ -103,6 +103,13 @@ impl Summary {
         }
     }
 
+    /// Whether no leaf is large and no two may be joined.
+    pub fn is_quiet(&self) -> bool
+        ensures { result ≡ is_quiet self.now }
+    {
+        self.large.is_none() && self.pair.is_none()
+    }
+
     /// Puts another in its place. Whether it is not the same.
     pub fn renew(&mut self, other: Summary) -> bool
         ensures other { self.new ≡ other }
@@ -110,6 +117,17 @@ impl Summary {
     {
         let differs = *self != other;
         *self = other;
+        differs
+    }
+
+    /// Puts other ends in the place of its own. Whether they are not the same.
+    pub fn renew_ends(&mut self, first: Extent, last: Extent) -> bool
+        ensures ends { self.new ≡ record self.old { first = first; last = last } }
+        ensures same { result ≡ false → self.new ≡ self.old }
+    {
+        let differs = self.first != first || self.last != last;
+        self.first = first;
+        self.last = last;
         differs
     }
 }

@@ -1,4 +1,5 @@
 use Rattle.std.proofs.Common.{◌≡◌, ◌∙◌, ◌<◌, ℕ, ◌+◌, List, [], ◌∷◌, ◌++◌, sym, ap, subst, arith, length, vec_len, drop, append_assoc}
+use Rattle.logical_log.specs.Appended.{record_of}
 use Rattle.std.proofs.lemmas.Grind.{common_steps}
 use Rattle.std.proofs.lemmas.List.{append-nil, length-append}
 use Rattle.codec.specs.Frames.{frame}
@@ -18,7 +19,7 @@ note-requires-clause-names g c =
     let m = c.self.inside in
     let bytes : List ℕ = g.D.LogDevice.forced m.device ++ g.D.LogDevice.pending m.device in
     let counted : vec_len m.answers ≡ length m.answers.items = grind (arith, common_steps) in
-    names_within (records_of bytes m.index.count) c.args.appended.now _
+    names_within (records_of bytes m.index.count) (record_of c.args.appended.now) _
     (rw (← c.self.view_is) at c.requires.fits)
     (c.in_ok-reserve-2.ensures.len ∙ counted ∙ ap length c.self.invariant.frames.indexed ∙ length-index _)
 
@@ -49,7 +50,7 @@ number_of g c =
 now : (g : Rattle.logical_log.proofs.frames.Frames.append.Given.Over) (c : goal.After-self-1 g)
     → let m = c.self.inside in
     let bytes : List ℕ = g.D.LogDevice.forced m.device ++ g.D.LogDevice.pending m.device in
-    AreIndexed (c.args.appended.now ∷ records_of bytes m.index.count)
+    AreIndexed ((record_of c.args.appended.now) ∷ records_of bytes m.index.count)
     (g.D.LogDevice.forced c.write.new.device ++ g.D.LogDevice.pending c.write.new.device) []
     c.push_reserved.new.self.marks c.push_reserved.new.self.count c.note.new.answers.items (length c.held.result.now)
 now g c =
@@ -61,7 +62,7 @@ now g c =
     let old : List ℕ = forced ++ pending in
     let log : List Record = records_of old m.index.count in
     let left : List ℕ = drop m.end old in
-    let r : Record = c.args.appended.now in
+    let r : Record = (record_of c.args.appended.now) in
     let f : List ℕ = frame (record_bytes r) in
     let read : left ≡ [] = rw (← c.self.view_is) at c.requires.all_read in
     let room : length log < 281474976710655 = rw (← c.self.view_is) at c.requires.room in
@@ -108,7 +109,7 @@ returns-clause-appended g c =
         usage = g.D.LogDevice.usage c.write.new.device;
       };
     }
-    ≡ with_record v c.args.appended.now in
+    ≡ with_record v (record_of c.args.appended.now) in
     subst Seen c.self.view_is (λ i. record {
       records = records i;
       left = left i;

@@ -17,8 +17,8 @@ use Rattle.tc_core.proofs.parts.Parts.act.Goals as goal
 pub take-requires-clause-range : goal.take-requires-clause-range
 take-requires-clause-range g c = key_range c.copied.result
 
-pub append-requires : goal.append-requires
-append-requires g c =
+pub append_op-requires : goal.append_op-requires
+append_op-requires g c =
     let w = seen c.args.self.now in
     let o = c.in_ok-prev.field-0.now in
     let found = c.in_ok-prev.ensures.found in
@@ -27,7 +27,7 @@ append-requires g c =
     rw found.at.number (subst P (taken_span c.mode_for.result c.copied.result c.args.op.now c.mode_for.ensures
     (c.copied.ensures ∙ c.key.ensures)) c.in_ok-take.ensures.free) in
     let fits = fits_op w o c.args.op.now c.requires found.at.is found.waiting free in
-    rw (c.copied-op.ensures, ← found.at.number)
+    rw (← found.at.number)
     (record { fits = fits; numbers = fits_numbers w.log (Op o.txn o.last c.args.op.now) c.requires.few.records fits })
 
 pub returns-in-Ok-clause-kept : goal.returns-in-Ok-clause-kept
@@ -51,7 +51,6 @@ returns-in-Ok-clause-kept g c =
       taken,
       appended.log,
       appended.number_is,
-      c.copied-op.ensures,
       ← found.at.number,
     )
     (keeps_act w o op c.requires found.at.is found.waiting found.reading found.rolling free appended.unspent)
@@ -69,7 +68,7 @@ left g c =
 
 pub returns-in-Err-clause-kept : goal.returns-in-Err-clause-kept
 returns-in-Err-clause-kept g c =
-    rw (left g c) (keeps_refused (seen c.args.self.now) c.in-Err.refusal c.append.new.self c.requires
+    rw (left g c) (keeps_refused (seen c.args.self.now) c.in-Err.refusal c.append_op.new.self c.requires
     c.in-Err.ensures.left)
 
 pub returns-in-Err-clause-gives : goal.returns-in-Err-clause-gives
@@ -81,6 +80,6 @@ returns-in-Err-clause-gives g c =
     rw (c.in_ok-prev.ensures.found.allowed, left g c)
     (inr (
       free,
-      refuses w (is_spent w.log) c.in-Err.refusal c.append.new.self c.in-Err.ensures.refused
+      refuses w (is_spent w.log) c.in-Err.refusal c.append_op.new.self c.in-Err.ensures.refused
           c.in-Err.ensures.left (λ e. c.in-Err.ensures.device (ap Err e)),
     ))

@@ -10,28 +10,26 @@ use Rattle.compensation.proofs.Numbers.{fits_numbers}
 use Rattle.tc_core.proofs.Refused.{happened}
 use Rattle.tc_core.proofs.parts.Parts.on_answered.Goals as goal
 
-pub append-requires : goal.append-requires
-append-requires g c =
+pub append_answer-requires : goal.append_answer-requires
+append_answer-requires g c =
     let w = seen c.args.self.now in
     let o = c.in-Some.opened.now in
     let at = awaited_is w c.args.number o (sym c.awaiting.ensures ∙ ap option_copied c.in-Some.is) in
     let fits = fits_answer w o c.args.number c.in-Some-answer.answer c.requires at.0 at.1 in
-    rw c.answered.ensures
-    (record {
+    record {
       fits = fits;
       numbers = fits_numbers w.log (Answer c.args.number c.in-Some-answer.answer) c.requires.few.records fits;
-    })
+    }
 
 pub pass-requires-clause-kept : goal.pass-requires-clause-kept
 pass-requires-clause-kept g c =
     let w = seen c.args.self.now in
     let o = c.in-Some.opened.now in
     let at = awaited_is w c.args.number o (sym c.awaiting.ensures ∙ ap option_copied c.in-Some.is) in
-    let appended = c.in_ok-append.ensures.appended in
+    let appended = c.in_ok-append_answer.ensures.appended in
     rw (
       happened w o.txn o Answered c.change.new.self (record { is = at.0; number = refl }) c.change.ensures,
       appended.log,
-      c.answered.ensures,
     )
     (keeps_passed (answered w o c.args.number c.in-Some-answer.answer) c.args.number
     (sym c.takes.ensures ∙ c.if-not-takes.false)
@@ -45,7 +43,7 @@ returns-clause-gives g c =
     let is : awaiting w c.args.number ≡ Some o = sym c.awaiting.ensures ∙ ap option_copied c.in-Some.is in
     let at = awaited_is w c.args.number o is in
     let takes : takes w.session w.phase c.args.number ≡ true = sym c.takes.ensures ∙ c.if-not-takes.false in
-    let appended = c.in_ok-append.ensures.appended in
+    let appended = c.in_ok-append_answer.ensures.appended in
     rw (
       is,
       c.in-Some-answer.is,
@@ -54,7 +52,6 @@ returns-clause-gives g c =
       c.pass.ensures.passed,
       appended.log,
       happened w o.txn o Answered c.change.new.self (record { is = at.0; number = refl }) c.change.ensures,
-      c.answered.ensures,
       c.heard_of-heard.ensures c.in-Some-answer.answer,
     )
     (refl, record { told = refl; left = refl })

@@ -12,20 +12,19 @@ pass-requires-clause-kept g c =
     keeps_passed w c.args.number c.requires.taken
     (not_lacking w c.args.number (sym c.lacks.ensures ∙ c.if-not-lacks.true)) c.requires.kept
 
-pub append-requires : goal.append-requires
-append-requires g c =
+pub append_answer-requires : goal.append_answer-requires
+append_answer-requires g c =
     let w = seen c.args.self.now in
     let fits = fits_lacking w c.args.number (sym c.lacks.ensures ∙ c.if-not-lacks.false) in
-    rw c.answered.ensures
-    (record {
+    record {
       fits = fits;
       numbers = fits_numbers w.log (Answer c.args.number c.in-Some.answer) c.requires.kept.few.records fits;
-    })
+    }
 
 pub pass-requires-2-clause-kept : goal.pass-requires-2-clause-kept
 pass-requires-2-clause-kept g c =
     let w = seen c.args.self.now in
-    let appended = c.in_ok-append.ensures.appended in
-    rw (appended.log, c.answered.ensures)
+    let appended = c.in_ok-append_answer.ensures.appended in
+    rw appended.log
     (keeps_lost_answer w c.requires.kept c.args.number c.in-Some.answer (sym c.lacks.ensures ∙ c.if-not-lacks.false)
     c.requires.unawaited c.requires.taken appended.unspent)

@@ -11,9 +11,10 @@ use Rattle.btree.specs.declared.tree.node.Below.TheVariants.{Inner}
 use Rattle.btree.specs.Below.{seen, IsNode}
 use Rattle.btree.proofs.Asking.{IsAfter, inner_asked, same_asked}
 use Rattle.btree.proofs.PlaceOf.{inside_of_nodes}
+use Rattle.btree.proofs.Quiet.{was_kept}
 use Rattle.btree.proofs.Whole.{all_get}
 use Rattle.btree.proofs.tree.node.Node.+perform_into.Goals as goal
-use Rattle.btree.proofs.tree.node.Node.+perform_into.Goals.{After-index_mut, Then-not-perform_into, After-renew-in-Inner}
+use Rattle.btree.proofs.tree.node.Node.+perform_into.Goals.{After-index_mut, Then-not-perform_into, After-renew_after}
 
 pub perform-requires : goal.perform-requires
 perform-requires t c =
@@ -85,8 +86,8 @@ after_same t c =
     (c.perform_into.ensures.same c.if-not-perform_into.true)
 
 -- the children are whole still
-pub summary_in-requires : goal.summary_in-requires
-summary_in-requires t c =
+pub renew_after-requires-clause-whole : goal.renew_after-requires-clause-whole
+renew_after-requires-clause-whole t c =
     rw c.as_slice-in-Inner.ensures.value
     (inner_asked _ _ _ _ c.in-Inner.children (with_item c.in-Inner.children c.node_of-i.result c.perform_into.new.self)
     c.node_of-i.result c.index_mut.result.now c.perform_into.new.self c.args.number c.args.op.now
@@ -95,9 +96,21 @@ summary_in-requires t c =
     (rw (c.as_slice.ensures.value, c.key.ensures) at c.node_of-i.ensures)
     c.index_mut.ensures.value c.perform_into.ensures.asked refl refl refl).kept.under_it.children
 
+-- before, another child stood where the one that was asked stands
+pub renew_after-requires-clause-before : goal.renew_after-requires-clause-before
+renew_after-requires-clause-before t c =
+    let ns = c.in-Inner.children.items in
+    let kept : IsNode c.self.inside.low c.self.inside.count c.self.inside.summary (Inner c.in-Inner.children) =
+    subst (IsNode c.self.inside.low c.self.inside.count c.self.inside.summary) c.in-Inner.is c.self.invariant in
+    let node : IsNodeOf ns (key_of c.args.op.now) c.node_of-i.result =
+    rw (c.as_slice.ensures.value, c.key.ensures) at c.node_of-i.ensures in
+    rw (c.as_slice-in-Inner.ensures.value, kept.summed)
+    (was_kept ns c.node_of-i.result c.perform_into.new.self
+    (all_get _ ns c.node_of-i.result nothing node.there kept.under_it.children).whole.some)
+
 -- and where it is another
-after_renewed : (t : ℕ) (c : After-renew-in-Inner t)
-    → IsAfter c.self.inside.low c.self.inside.count c.renew-in-Inner.new.self c.in-Inner.children
+after_renewed : (t : ℕ) (c : After-renew_after t)
+    → IsAfter c.self.inside.low c.self.inside.count c.renew_after.new.summary c.in-Inner.children
     (with_item c.in-Inner.children c.node_of-i.result c.perform_into.new.self) c.args.number c.args.op.now
     c.perform_into.new.done
 after_renewed t c =
@@ -106,8 +119,7 @@ after_renewed t c =
     (subst (IsNode c.self.inside.low c.self.inside.count c.self.inside.summary) c.in-Inner.is c.self.invariant)
     (rw (c.as_slice.ensures.value, c.key.ensures) at c.node_of-i.ensures)
     c.index_mut.ensures.value c.perform_into.ensures.asked refl refl
-    (c.renew-in-Inner.ensures.other
-    ∙ (c.summary_in.ensures ∙ ap (λ ns. summary_of (under ns)) c.as_slice-in-Inner.ensures.value))
+    (c.renew_after.ensures.renewed ∙ ap (λ ns. summary_of (under ns)) c.as_slice-in-Inner.ensures.value)
 
 pub invariant_of-self-then-not-perform_into : goal.invariant_of-self-then-not-perform_into
 invariant_of-self-then-not-perform_into t c = (after_same t c).0.kept

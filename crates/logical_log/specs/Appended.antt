@@ -1,0 +1,10 @@
+-- The record that is appended, also where its parts are lent.
+use Rattle.history.specs.declared.record.Record.{Record}
+use Rattle.history.specs.declared.record.Record.TheVariants as is
+use Rattle.logical_log.specs.declared.appended.Appended.{Appended}
+use Rattle.logical_log.specs.declared.appended.Appended.TheVariants as parts
+
+abbrev pub record_of : Appended → Record
+record_of (parts.Whole whole) = whole.now
+record_of (parts.Op txn prev op) = is.Op txn prev op.now
+record_of (parts.Answer of answer) = is.Answer of answer.now
