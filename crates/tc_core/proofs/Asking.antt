@@ -1,5 +1,8 @@
 -- The first request from a number on, and that none stands before it.
-use Rattle.std.proofs.Common.{ℕ, List, refl, arith}
+use Rattle.std.proofs.Common.{◌≡◌, ℕ, List, Option, Some, None, refl, arith}
+use Rattle.std.specs.Prelude.{IsSome}
+use Rattle.record_key.specs.declared.op.Op.{Op}
+use Rattle.history.specs.Log.{HasRequest, record_at, request_in}
 use Rattle.history.specs.declared.record.Record.{Record}
 use Rattle.restart.specs.Losers.{IsLeast}
 use Rattle.restart.specs.Redo.{Asks}
@@ -19,3 +22,10 @@ none_before log from below first found n o le lt asks =
       found.least n
           (record { from_there = le; up_to = omega (arith, lt, found.is.up_to); asks = rw asks refl }),
     ))
+
+pub has_request : (log : List Record) (from below n : ℕ) → Asks log from below n → HasRequest log n
+has_request log from below n asked = by (request_in (record_at log n)) refl asked.asks
+  where
+    by : (r : Option Op) → request_in (record_at log n) ≡ r → IsSome r → HasRequest log n
+    by None is some = absurd (cc (some))
+    by (Some o) is some = record { op = o; requested = is }

@@ -32,3 +32,4 @@ pub mod OpenedLosers
 pub mod OpenedLocks
 pub mod OpenedLog
 pub mod CrashedTc
+pub mod Recovering

@@ -90,3 +90,9 @@ Recovers old (step.Lost t) new = LosesLeast old t new
 abbrev pub RecoverGives : TcView → Result RecoverStep Refusal → TcView → Type 0
 RecoverGives old (Ok step) new = (recover_refusal old ≡ None) × Recovers old step new
 RecoverGives old (Err r) new = Refuses (recover_refusal old) (undo_logs_at old.phase) (undo_logs_at old.phase) old r new
+
+-- what it sends is the operation of this number
+pub record SendsOp (old : TcView) (n : ℕ) (new : TcView) : Type 0 where
+  pub op : Op
+  pub requests : Requests old.log n op
+  pub gives : RecoverGives old (Ok (step.Sends (asks.Perform old.session n old.stable op))) new

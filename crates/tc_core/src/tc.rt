@@ -3,10 +3,10 @@ ghost use Rattle.std.specs.Prelude.{◌≡◌, ◌≤◌, ◌++◌, ◌+◌, ℕ
 ghost use Rattle.std.specs.Option.{option_copied};
 ghost use Rattle.stable.specs.Crash.{BeginsWith};
 ghost use Rattle.stable.specs.Usage.{failing_in};
-ghost use Rattle.history.specs.Log.{record_at};
+ghost use Rattle.history.specs.Log.{record_at, request_in};
 ghost use Rattle.logical_log.specs.Low.{stable_part};
 ghost use Rattle.logical_log.specs.Opening.{RefusesOpen, UsedToOpen};
-ghost use Rattle.logical_log.specs.Spelled.{spelled, AreRecords};
+ghost use Rattle.logical_log.specs.Spelled.{spelled, AreRecords, IsAskedBy};
 ghost use Rattle.logical_log.specs.LogView.{spent_refusal};
 ghost use Rattle.tc_core.specs.TcView.{TcView, fresh, used_so};
 ghost use Rattle.tc_core.specs.OpenTxns.{find, oldest, wants};
@@ -18,7 +18,7 @@ ghost use Rattle.codec.specs.Replies.{session_of};
 ghost use Rattle.tc_core.specs.Heard.{all_told, told_row};
 ghost use Rattle.tc_core.specs.Answering.{AnsweredGives, Becomes};
 ghost use Rattle.tc_core.specs.Replies.{is_stale, on_row, reader, ReplyGives};
-ghost use Rattle.tc_core.specs.Recovery.{RecoverGives};
+ghost use Rattle.tc_core.specs.Recovery.{RecoverGives, SendsOp};
 ghost use Rattle.tc_core.specs.LowWater.{Announces, RefusesLow, LowWaterGives, IsGreatestAnnounced};
 ghost use Rattle.tc_core.specs.Checkpoint.{CheckpointGives};
 ghost use Rattle.tc_core.specs.Causes.{running_refusal, begin_refusal};
@@ -340,6 +340,24 @@ impl<D: LogDevice> Tc<D> {
         ensures gives { RecoverGives self.old result self.new }
     {
         self.parts.recover_step()
+    }
+
+    /// What `recover_step` does where it sends an operation, for a caller that sends it as its bytes: its number. None
+    /// where it sends none, and nothing changes.
+    pub fn recover_op(&mut self) -> Option<u64>
+        ensures sent { IfSome result (λ number. SendsOp self.old number self.new) }
+        ensures same { IfNone result (self.new ≡ self.old) }
+        ensures none { IfNone result ((number : ℕ) (new : TcView) → SendsOp self.old number new → ⊥) }
+    {
+        self.parts.recover_op()
+    }
+
+    /// The bytes that spell what the record of this number asks for, where they stand in the log.
+    pub fn asked_bytes(&self, number: u64) -> Option<&[u8]>
+        ensures asked { IfSome result (λ asked. IsAskedBy self.now.log number asked.now) }
+        ensures none { IfNone result (request_in (record_at self.now.log number) ≡ None) }
+    {
+        self.parts.log.asked_bytes(number)
     }
 
     /// How far the session has come.
