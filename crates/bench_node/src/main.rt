@@ -6,19 +6,13 @@
 #![tactic(auto)]
 
 mod client;
-mod crew;
-mod digest;
-mod draws;
-mod engine;
 mod hot;
 mod measure;
-mod player;
-mod quiet;
 mod work;
 mod workload;
 
-use crew::Crew;
-use measure::{Outcome, measured};
+use bench_crew::{Crew, Outcome};
+use measure::measured;
 use std::alloc::Global;
 use std::fs::{File, Files};
 use std::process::ExitCode;
@@ -66,8 +60,8 @@ where
     let (name, workload) = (name.as_str(), workload.as_str());
     if let Some(crew) = Crew::named(workload, operations) {
         let outcome = match folder {
-            [folder, ..] => engine::measured_on(rt, alloc, folder.as_str(), crew)?,
-            [] => engine::measured(rt, alloc, crew)?,
+            [folder, ..] => bench_crew::measured_on(rt, alloc, folder.as_str(), crew)?,
+            [] => bench_crew::measured(rt, alloc, crew)?,
         };
         return print_outcome(&rt, name, workload, (operations, operations), &outcome);
     }

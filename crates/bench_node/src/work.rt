@@ -1,9 +1,8 @@
 //! The work of each workload.
 use crate::client::Client;
-use crate::digest::digest;
-use crate::draws::{KEYS, Values, draw, key_of, mix};
 use crate::hot;
 use crate::workload::Workload;
+use bench_crew::{KEYS, Values, digest, draw, key_of, mix};
 use record_key::{Key, Refusal, Value};
 use std::alloc::Global;
 

@@ -3,9 +3,9 @@ use crate::holds::Beside;
 use crate::model::Model;
 use crate::open::{Doing, Open};
 use crate::span::Span;
+use node_laws::{Event, Out};
 use record_key::{Op, Refusal};
 use std::alloc::Global;
-use world::{Event, Out};
 
 const MOST_OPEN: usize = 64;
 

@@ -3,11 +3,11 @@ use crate::model::{Model, Service};
 use crate::open::Doing;
 use crate::span::Span;
 use codec::Rows;
+use node_laws::Out;
 use record_key::{Answer, Key, Value};
 use std::alloc::{AllocError, Global};
 use std::mem;
 use tc_core::Committed;
-use world::Out;
 
 impl Model {
     /// Where an output tells something, what it has to tell; nothing, where nobody waits for it.

@@ -21,7 +21,7 @@ use Rattle.codec.specs.declared.request.Request.TheVariants as asks
 use Rattle.dc_core.specs.DcView.{DcView}
 use Rattle.dc_core.specs.Serves.{runs, session_refusal, after_redo_refusal, serve_refusal}
 use Rattle.system_txn.specs.Gives.{is_spent as is_full_log}
-use Rattle.world.specs.Node.{LacksRoom}
+use Rattle.node_laws.specs.Node.{LacksRoom}
 use Rattle.device_laws.specs.Sound.{IsSound}
 
 -- ---- devices

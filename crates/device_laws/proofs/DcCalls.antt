@@ -23,7 +23,7 @@ use Rattle.system_txn.specs.declared.tended.Tended.TheVariants as tended
 use Rattle.dc_core.specs.DcView.{DcView, captures_at}
 use Rattle.dc_core.specs.Serves.{runs, connected, knows, performs, Serves, Stops, StopsUnless, ServeGives, serve_refusal}
 use Rattle.dc_core.specs.Tends.{may_merge, IsNotNow, SplitsTo, MergesTo, TendsTo as TendsDcTo, FlushesTo}
-use Rattle.world.specs.Component.{IsDownWith, IsUp}
+use Rattle.node_laws.specs.Component.{IsDownWith, IsUp}
 use Rattle.device_laws.specs.Sound.{IsSound}
 use Rattle.device_laws.proofs.Causes.{sound_called, sound_often, not_due, is_device, other_if, IsOther, serve_other}
 use Rattle.device_laws.proofs.TcCalls.{sound_opened}

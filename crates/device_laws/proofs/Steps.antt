@@ -26,16 +26,16 @@ use Rattle.history.specs.Spans.{changed_span}
 use Rattle.dc_core.specs.DcView.{DcView}
 use Rattle.dc_core.specs.Serves.{serve_refusal}
 use Rattle.system_txn.specs.declared.tended.Tended.TheVariants as tended
-use Rattle.world.specs.declared.event.Event.{Event}
-use Rattle.world.specs.declared.event.Event.TheVariants as event
-use Rattle.world.specs.declared.event.Out.{Out}
-use Rattle.world.specs.declared.event.Out.TheVariants as out
-use Rattle.world.specs.declared.round.Round.{Round}
-use Rattle.world.specs.declared.round.Round.TheVariants as round
-use Rattle.world.specs.Component.{TcSide, DcSide}
-use Rattle.world.specs.Node.{NodeView, with_tc, with_dc, Calls, IfUp, down_refusal, ReconnectsTo, RecoversTo, BeginsTo, ActsTo, ReadsTo, SavesTo, GoesBackTo, RollsBackTo, CommitsTo, UndoesTo, ForcesTo, SendsTo, LowersTo, AsksCheckpoint, TellsTo, PartsTo, JoinsTo, KeepsUpTo, WritesTo, ServesTo, TakesTo, Taken, as_out, is_replied_to, IsUnsent, Unreplied, Unread, CrashesTcTo, RestartsTcTo, CrashesDcTo, RestartsDcTo, StepsTo, fresh_node}
-use Rattle.world.specs.Stepping.{IsStep, Chain}
-use Rattle.world.specs.Rounds.{Plays, StopsAt, Rounds, events_of, Settles}
+use Rattle.node_laws.specs.declared.event.Event.{Event}
+use Rattle.node_laws.specs.declared.event.Event.TheVariants as event
+use Rattle.node_laws.specs.declared.event.Out.{Out}
+use Rattle.node_laws.specs.declared.event.Out.TheVariants as out
+use Rattle.node_laws.specs.declared.round.Round.{Round}
+use Rattle.node_laws.specs.declared.round.Round.TheVariants as round
+use Rattle.node_laws.specs.Component.{TcSide, DcSide}
+use Rattle.node_laws.specs.Node.{NodeView, with_tc, with_dc, Calls, IfUp, down_refusal, ReconnectsTo, RecoversTo, BeginsTo, ActsTo, ReadsTo, SavesTo, GoesBackTo, RollsBackTo, CommitsTo, UndoesTo, ForcesTo, SendsTo, LowersTo, AsksCheckpoint, TellsTo, PartsTo, JoinsTo, KeepsUpTo, WritesTo, ServesTo, TakesTo, Taken, as_out, is_replied_to, IsUnsent, Unreplied, Unread, CrashesTcTo, RestartsTcTo, CrashesDcTo, RestartsDcTo, StepsTo, fresh_node}
+use Rattle.node_laws.specs.Stepping.{IsStep, Chain}
+use Rattle.node_laws.specs.Rounds.{Plays, StopsAt, Rounds, events_of, Settles}
 use Rattle.device_laws.specs.Sound.{IsSound, HasSoundDevices, SaysNoFailure, SetsNone}
 use Rattle.device_laws.proofs.Causes.{sound_called, not_due, is_device, other_some, refuses_other, room_other, spent_other, running_other, idle_other, begin_other, commit_other, save_other, back_other, read_other, reads_other, undo_other, resend_other, recover_other, reply_other, serve_other}
 use Rattle.device_laws.proofs.TcCalls.{Ends, sound_as, ends_refused, ends_taking, ends_reconnect, sound_undone, sound_sent, sound_replied, sound_opened, ends_opening}

@@ -26,7 +26,7 @@ use Rattle.tc_core.specs.Calls.{ReconnectGives, Undoes}
 use Rattle.tc_core.specs.Recovery.{SendsAt}
 use Rattle.tc_core.specs.Replies.{Outcome, on_reply, on_awaited, on_lost, on_connected, on_redo_ended, on_row, on_rows, takes, lacks, awaiting, is_number, is_key, is_range, span_read, reader}
 use Rattle.tc_core.specs.Opened.{UsedByOpening}
-use Rattle.world.specs.Component.{LacksDevice}
+use Rattle.node_laws.specs.Component.{LacksDevice}
 use Rattle.device_laws.specs.Sound.{IsSound}
 use Rattle.device_laws.proofs.Causes.{sound_called, sound_often, not_due, is_device, IsOther, spent_other}
 

@@ -4,13 +4,13 @@ use Rattle.std.specs.List.{AllByRecursion}
 use Rattle.record_key.specs.declared.refusal.Refusal.{Refusal}
 use Rattle.record_key.specs.declared.refusal.Refusal.TheVariants.{Device}
 use Rattle.stable.specs.Usage.{Usage}
-use Rattle.world.specs.declared.event.Event.{Event}
-use Rattle.world.specs.declared.event.Event.TheVariants as event
-use Rattle.world.specs.declared.event.Out.{Out}
-use Rattle.world.specs.declared.event.Out.TheVariants as out
-use Rattle.world.specs.Node.{NodeView, fresh_node}
-use Rattle.world.specs.Stepping.{IsStep, Chain}
-use Rattle.world.specs.Rounds.{Settles}
+use Rattle.node_laws.specs.declared.event.Event.{Event}
+use Rattle.node_laws.specs.declared.event.Event.TheVariants as event
+use Rattle.node_laws.specs.declared.event.Out.{Out}
+use Rattle.node_laws.specs.declared.event.Out.TheVariants as out
+use Rattle.node_laws.specs.Node.{NodeView, fresh_node}
+use Rattle.node_laws.specs.Stepping.{IsStep, Chain}
+use Rattle.node_laws.specs.Rounds.{Settles}
 
 -- no call of the device was set to fail, and none may fail otherwise
 pub record IsSound (u : Usage) : Type 0 where

@@ -2,12 +2,12 @@
 use Rattle.std.proofs.Common.{◌≡◌, Bool, true, List, [], Option, None, Result, Ok, Err, refl, sym, ap, ◌∙◌, subst, inl, inr}
 use Rattle.std.specs.Prelude.{IfOk, IfErr}
 use Rattle.record_key.specs.declared.refusal.Refusal.{Refusal}
-use Rattle.world.specs.declared.event.Event.{Event}
-use Rattle.world.specs.declared.event.Out.{Out}
-use Rattle.world.specs.declared.event.Out.TheVariants as out
-use Rattle.world.specs.Node.{NodeView}
-use Rattle.world.specs.Rounds.{Settles, IsDone}
-use Rattle.world.specs.Stepping.{IsStep}
+use Rattle.node_laws.specs.declared.event.Event.{Event}
+use Rattle.node_laws.specs.declared.event.Out.{Out}
+use Rattle.node_laws.specs.declared.event.Out.TheVariants as out
+use Rattle.node_laws.specs.Node.{NodeView}
+use Rattle.node_laws.specs.Rounds.{Settles, IsDone}
+use Rattle.node_laws.specs.Stepping.{IsStep}
 use Rattle.jakumshe.specs.Calls.{Rests, Stops, IsStepped, IsTold, IsLeft, Refuses, Fails}
 
 pub rests : (old new : NodeView) (before told : List Out) (r : Result Bool Refusal) (b : Bool)

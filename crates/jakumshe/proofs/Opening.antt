@@ -2,8 +2,8 @@
 use Rattle.std.proofs.Common.{◌≡◌, ℕ, List, length, refl, subst, inl, inr}
 use Rattle.record_key.specs.declared.refusal.Refusal.{Refusal}
 use Rattle.record_key.specs.declared.refusal.Refusal.TheVariants.{NoMemory}
-use Rattle.world.specs.declared.event.Out.{Out}
-use Rattle.world.specs.Node.{NodeView}
+use Rattle.node_laws.specs.declared.event.Out.{Out}
+use Rattle.node_laws.specs.Node.{NodeView}
 use Rattle.node_store.specs.declared.unopened.Cause.TheVariants as why
 use Rattle.jakumshe.specs.declared.fault.Fault.TheVariants.{Refused}
 use Rattle.jakumshe.specs.Calls.{Rests, Stops}

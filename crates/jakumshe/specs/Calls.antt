@@ -7,13 +7,13 @@ use Rattle.record_key.specs.declared.op.Answer.TheVariants as answer
 use Rattle.record_key.specs.declared.op.Op.{Op}
 use Rattle.record_key.specs.declared.refusal.Refusal.{Refusal}
 use Rattle.record_key.specs.declared.refusal.Refusal.TheVariants.{NoMemory}
-use Rattle.world.specs.declared.event.Event.{Event}
-use Rattle.world.specs.declared.event.Event.TheVariants as event
-use Rattle.world.specs.declared.event.Out.{Out}
-use Rattle.world.specs.declared.event.Out.TheVariants as out
-use Rattle.world.specs.Node.{NodeView, fresh_node}
-use Rattle.world.specs.Rounds.{Settles, IsDone}
-use Rattle.world.specs.Stepping.{IsStep}
+use Rattle.node_laws.specs.declared.event.Event.{Event}
+use Rattle.node_laws.specs.declared.event.Event.TheVariants as event
+use Rattle.node_laws.specs.declared.event.Out.{Out}
+use Rattle.node_laws.specs.declared.event.Out.TheVariants as out
+use Rattle.node_laws.specs.Node.{NodeView, fresh_node}
+use Rattle.node_laws.specs.Rounds.{Settles, IsDone}
+use Rattle.node_laws.specs.Stepping.{IsStep}
 use Rattle.jakumshe.specs.declared.fault.Fault.{Fault}
 use Rattle.jakumshe.specs.Statuses.{Ends}
 use Rattle.jakumshe.specs.declared.fault.Fault.TheVariants.{Refused, Exists, NoRecord, NotNumber, Untold}

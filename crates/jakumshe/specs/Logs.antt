@@ -6,9 +6,9 @@ use Rattle.logical_log.specs.Spelled.{spelled}
 use Rattle.simulation.specs.Reading.{machine_read}
 use Rattle.dc_core.specs.DcView.{fresh}
 use Rattle.tc_core.specs.Opening.{IsOpened}
-use Rattle.world.specs.declared.event.Out.{Out}
-use Rattle.world.specs.Node.{NodeView, joined}
-use Rattle.world.specs.Simulation.{Stands}
+use Rattle.node_laws.specs.declared.event.Out.{Out}
+use Rattle.node_laws.specs.Node.{NodeView, joined}
+use Rattle.node_laws.specs.Simulation.{Stands}
 use Rattle.node_store.specs.declared.unopened.Cause.{Cause}
 use Rattle.node_store.specs.Opening.{IsRefusedFor}
 use Rattle.record_key.specs.declared.refusal.Refusal.{Refusal}

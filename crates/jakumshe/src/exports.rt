@@ -2,7 +2,7 @@
 //! and NumbersSpent. A `Global` takes no bytes, so C passes none.
 ghost use Rattle.std.specs.Prelude.{◌≡◌, ◌≢◌, ◌<◌, ◌≤◌, length, pos, None, IsSome, IsSomeAnd, IfOk, IfErr};
 ghost use Rattle.record_key.specs.declared.op.Op.TheVariants as op;
-ghost use Rattle.world.specs.declared.event.Event.TheVariants as event;
+ghost use Rattle.node_laws.specs.declared.event.Event.TheVariants as event;
 ghost use Rattle.jakumshe.specs.declared.fault.Fault.TheVariants.{Refused};
 ghost use Rattle.jakumshe.specs.Calls.{IsNew, NotMade, Makes, Tells, Reads, EndsSo, Puts, begins, saves, finds, goes_back, rolls_back, commits, end_of};
 ghost use Rattle.jakumshe.specs.Handles.{Acted};

@@ -1,8 +1,8 @@
 //! A node that answers each call of a client before it takes the next.
 ghost use Rattle.std.specs.Prelude.{◌≡◌, ◌<◌, ◌≤◌, [], false, length, Ok, Err, IfOk, IfErr, OnErr};
 ghost use Rattle.record_key.specs.declared.refusal.Refusal.TheVariants.{EmptyKey, TooLong};
-ghost use Rattle.world.specs.declared.event.Event.TheVariants as event;
-ghost use Rattle.world.specs.Rounds.{IsDone};
+ghost use Rattle.node_laws.specs.declared.event.Event.TheVariants as event;
+ghost use Rattle.node_laws.specs.Rounds.{IsDone};
 ghost use Rattle.jakumshe.specs.declared.fault.Fault.TheVariants.{Refused};
 ghost use Rattle.jakumshe.specs.Calls.{Rests, Stops, IsStepped, IsTold, IsNew, NotNew, Refuses, Fails, Makes, Tells, Acts, Reads, begins, saves, finds, goes_back, rolls_back, commits, end_of};
 ghost use Rattle.jakumshe.specs.Logs.{IsMadeOn, IsOpenedOn, NotOpened, Copies, stable_bytes};

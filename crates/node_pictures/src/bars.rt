@@ -1,8 +1,8 @@
 //! Crashes and restarts, as bars over the whole height.
 use crate::shapes::put_box;
 use crate::sheet::{At, HEAD, Sheet};
-use crate::text::Text;
 use node_story::{Doing, Story};
+use node_texts::Text;
 use std::io;
 use world::Out;
 

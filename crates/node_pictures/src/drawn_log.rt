@@ -2,9 +2,9 @@
 use crate::labels::{put_label, put_numbered};
 use crate::shapes::{put_arc, put_box, put_line};
 use crate::sheet::{ARCS, At, BOX, NAME, Sheet};
-use crate::text::Text;
 use history::Record;
 use node_story::{Logged, Story, txn_of};
+use node_texts::Text;
 use std::io;
 use world::Out;
 

@@ -3,8 +3,8 @@ use crate::labels::{begin_label, end_label, put_clipped};
 use crate::lane_steps::draw_step;
 use crate::shapes::{put_circle, put_cross, put_line};
 use crate::sheet::{At, HEAD, NAME, Sheet, TXN, has_lane};
-use crate::text::Text;
 use node_story::{Actor, State, Story};
+use node_texts::Text;
 use std::io;
 use world::Out;
 

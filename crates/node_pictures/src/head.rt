@@ -1,9 +1,8 @@
 //! What each step is, upright above its column.
 use crate::labels::{begin_label, begin_upright, end_label, put_clipped, put_numbered};
-use crate::rounds::put_round;
 use crate::sheet::{At, HEAD, Sheet};
-use crate::text::Text;
 use node_story::{Step, Story};
+use node_texts::{Text, put_round};
 use std::io;
 use world::Out;
 

@@ -1,6 +1,6 @@
 //! Texts of an SVG file.
 use crate::sheet::At;
-use crate::text::Text;
+use node_texts::Text;
 use std::io;
 
 /// A text whose beginning, middle or end stands at a place, as its class says.
@@ -38,7 +38,7 @@ pub fn begin_upright<W: io::Write>(text: &mut Text<'_, W>, class: &str, at: At) 
     text.say("<text class=\"")
         .say(class)
         .say("\" transform=\"translate(")
-        .place(at)
+        .place(at.x, at.y)
         .say(") rotate(-90)\">");
 }
 

@@ -2,9 +2,9 @@
 use crate::labels::put_numbered;
 use crate::shapes::{put_box, put_circle, put_line};
 use crate::sheet::{At, Sheet};
-use crate::text::Text;
 use history::Record;
 use node_story::{Actor, Logged, Step, txn_of};
+use node_texts::Text;
 use std::io;
 use world::Out;
 
@@ -90,8 +90,8 @@ fn put_triangle<W: io::Write>(text: &mut Text<'_, W>, at: At) {
         y: at.y,
     };
     text.say("<path class=\"ink\" d=\"M")
-        .place(top)
+        .place(top.x, top.y)
         .say("v14L")
-        .place(tip)
+        .place(tip.x, tip.y)
         .say("z\"/>\n");
 }

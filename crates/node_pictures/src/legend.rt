@@ -1,7 +1,7 @@
 //! What the signs of a picture mean.
 use crate::labels::put_label;
 use crate::sheet::{At, Sheet};
-use crate::text::Text;
+use node_texts::Text;
 use std::io;
 
 /// What the signs mean, a line each.

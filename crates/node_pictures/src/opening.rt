@@ -1,7 +1,7 @@
 //! The opening of a picture: how its shapes look in light and in dark.
 use crate::shapes::put_box;
 use crate::sheet::{At, Sheet};
-use crate::text::Text;
+use node_texts::Text;
 use std::io;
 
 const STYLE: &str = "<style>

@@ -1,15 +1,15 @@
 //! Shapes and texts of an SVG file.
 use crate::sheet::At;
-use crate::text::Text;
+use node_texts::Text;
 use std::io;
 
 pub fn put_line<W: io::Write>(text: &mut Text<'_, W>, class: &str, from: At, to: At) {
     text.say("<path class=\"")
         .say(class)
         .say("\" d=\"M")
-        .place(from)
+        .place(from.x, from.y)
         .say("L")
-        .place(to)
+        .place(to.x, to.y)
         .say("\"/>\n");
 }
 
@@ -18,11 +18,11 @@ pub fn put_arc<W: io::Write>(text: &mut Text<'_, W>, class: &str, from: At, by: 
     text.say("<path class=\"")
         .say(class)
         .say("\" d=\"M")
-        .place(from)
+        .place(from.x, from.y)
         .say("Q")
-        .place(by)
+        .place(by.x, by.y)
         .say(" ")
-        .place(to)
+        .place(to.x, to.y)
         .say("\"/>\n");
 }
 

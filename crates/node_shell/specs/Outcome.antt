@@ -2,8 +2,8 @@
 use Rattle.std.specs.Prelude.{ℕ, List, [], ◌∷◌, ◌++◌, codes, decimal}
 use Rattle.std.specs.List.{concat}
 use Rattle.system_txn.specs.declared.tended.Neighbours.{Neighbours}
-use Rattle.world.specs.declared.event.Out.{Out}
-use Rattle.world.specs.declared.event.Out.TheVariants as out
+use Rattle.node_laws.specs.declared.event.Out.{Out}
+use Rattle.node_laws.specs.declared.event.Out.TheVariants as out
 use Rattle.node_shell.specs.Printed.{numbered, refusal_line}
 use Rattle.node_shell.specs.Told.{committed_text, told_text}
 

@@ -6,7 +6,7 @@ ghost use Rattle.std.specs.Cmp.Lexicographic.{slice_cmp};
 ghost use Rattle.std.specs.BTreeMap.{get};
 ghost use Rattle.record_key.specs.FirstCause.{RefusesAs};
 ghost use Rattle.tc_core.specs.Causes.{begin_refusal};
-ghost use Rattle.world.specs.Node.{fresh_node, if_up};
+ghost use Rattle.node_laws.specs.Node.{fresh_node, if_up};
 ghost use Rattle.node_shell.specs.Labels.{number_in, unbound, AreSame};
 ghost use Rattle.node_shell.specs.Script.{meaning};
 ghost use Rattle.node_shell.specs.Text.{ComesTo, Begins, Writes, Adds, Gets, Scans, Treats, IsTable, IsSettling, event_of, leaf_event, op_of, length_fault, keys_fault};

@@ -5,8 +5,8 @@ ghost use Rattle.dc_core.specs.DcView.{fresh};
 ghost use Rattle.simulation.specs.Reading.{machine_read};
 ghost use Rattle.stable.specs.Usage.{called as called_once};
 ghost use Rattle.tc_core.specs.Opening.{IsOpened};
-ghost use Rattle.world.specs.Node.{joined};
-ghost use Rattle.world.specs.Simulation.{Stands};
+ghost use Rattle.node_laws.specs.Node.{joined};
+ghost use Rattle.node_laws.specs.Simulation.{Stands};
 ghost use Rattle.node_store.specs.Opening.{IsFit, IsRefusedFor};
 
 use crate::judging::judge;

@@ -1,8 +1,9 @@
 //! The calls of a node, each in a small function without a contract: a test of several calls is cheap to check then.
 use history::Record;
+use node_laws::{Event, Out};
 use record_key::{Key, Refusal, Value};
 use std::alloc::Global;
-use world::{Event, Out, World, settle};
+use world::{World, settle};
 
 /// A new node, behind a pointer: each step of a function that has a whole node by value is dear to check.
 pub fn new_world(alloc: Global) -> Result<Box<World>, Refusal> {

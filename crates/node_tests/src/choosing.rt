@@ -1,9 +1,11 @@
 //! The random choice of a walk's next event.
 use client_model::Model;
+use dc_core::Device;
+use node_laws::{Event, Out};
 use rand_pcg::Pcg32;
 use rand_pcg::rand_core::Rng;
 use record_key::{Key, Op, Refusal, Value};
-use world::{Device, Event, Out, World};
+use world::World;
 
 /// About how many transactions are open at a time.
 const OPEN: u64 = 8;

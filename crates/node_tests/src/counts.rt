@@ -1,7 +1,7 @@
 //! How far the walks came.
 use client_model::Model;
+use node_laws::Out;
 use record_key::{Answer, Op, Refusal};
-use world::Out;
 
 /// How often each thing happened.
 #[derive(Clone, Copy)]

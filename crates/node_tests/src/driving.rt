@@ -1,9 +1,10 @@
 //! A list of events at once, beside the same events one by one; and each event again where memory is refused.
 use crate::calls::{new_world, step};
 use crate::flaw::{Flaw, check};
+use node_laws::{Event, Out};
 use record_key::{Answer, Key, Op, Refusal, Value};
 use std::alloc::Global;
-use world::{Event, Out, World, drive};
+use world::{World, drive};
 
 /// An event that sends the request of this number, the request's delivery, and that of its reply.
 fn exchange(events: &mut Vec<Event>, event: Event, number: u64) -> Result<(), Flaw> {

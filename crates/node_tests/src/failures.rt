@@ -1,5 +1,6 @@
 //! The failures of devices that were set and may not have happened.
-use world::{Device, Event};
+use dc_core::Device;
+use node_laws::Event;
 
 /// Which device may fail, and how often they do at most.
 #[derive(Clone, Copy)]

@@ -8,9 +8,10 @@ use crate::flaw::{Flaw, check};
 use client_model::Model;
 use history::Record;
 use log_laws::plain_history;
+use node_laws::{Event, Out};
 use record_key::Refusal;
 use std::alloc::Global;
-use world::{Event, Out, World};
+use world::World;
 
 /// A node, the model beside it, and how far the walk came.
 #[derive(Drop)]

@@ -1,7 +1,7 @@
 //! A client's call.
+use node_laws::Event;
 use record_key::{Key, Op, Refusal};
 use test_lines::Words;
-use world::Event;
 
 /// What a client asks its session for.
 #[derive(Drop)]

@@ -3,11 +3,11 @@ use crate::call::Call;
 use crate::served::Serves;
 use crate::verdict::{TRIES, Verdict};
 use codec::Rows;
+use node_laws::{Event, Out};
 use record_key::{Answer, Key, Op, Refusal, Value};
 use session_answers::Told;
 use std::alloc::Global;
 use std::sync::Wait;
-use world::{Event, Out};
 
 /// A call, and what the client was answered, as the output that says it.
 #[derive(Drop)]

@@ -6,10 +6,10 @@ use crate::client::is_failure;
 use crate::served::Leaves;
 use crate::verdict::Verdict;
 use client_model::{Beside, Model, Span};
+use node_laws::{Event, Out};
 use pool_journal::Step;
 use record_key::{Op, Refusal};
 use std::alloc::{AllocError, Global};
-use world::{Event, Out};
 
 /// An operation that was logged.
 #[derive(Drop)]

@@ -1,9 +1,9 @@
 //! What each client noted, beside its session's part of the journal.
 use crate::client::{Note, is_failure, txn_of};
 use crate::served::Leaves;
+use node_laws::{Event, Out};
 use pool_journal::Step;
 use record_key::Refusal;
-use world::{Event, Out};
 
 /// A session's number, and what its client noted.
 #[derive(Drop)]

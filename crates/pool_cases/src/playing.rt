@@ -5,9 +5,9 @@ use crate::draws::Draws;
 use crate::plan::Plan;
 use crate::served::Serves;
 use crate::stage::Stage;
+use node_laws::Out;
 use record_key::{Key, Op, Refusal, Value};
 use std::sync::Wait;
-use world::Out;
 
 /// No call is made more often, one after another, than there are crashes, and some more.
 const MOST: u64 = 12;

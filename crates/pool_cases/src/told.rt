@@ -1,9 +1,9 @@
 //! The text of what a client was answered.
 use codec::Rows;
+use node_laws::Out;
 use record_key::{Key, Refusal, Value};
 use std::fmt::Write;
 use test_lines::{put_answer, put_refusal, put_text};
-use world::Out;
 
 /// Appends what a call was answered.
 pub fn put_told(text: &mut String, out: &Out) -> Result<(), Refusal> {

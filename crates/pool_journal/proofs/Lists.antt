@@ -8,8 +8,8 @@ use Rattle.std.proofs.lemmas.List.{append-nil, length-append}
 use Rattle.std.proofs.lemmas.List.Elements.{filter-append}
 use Rattle.codec.specs.declared.request.Request.{Request}
 use Rattle.codec.specs.declared.reply.Reply.{Reply}
-use Rattle.world.specs.Halves.{also}
-use Rattle.world.specs.Messages.{message_at}
+use Rattle.node_laws.specs.Halves.{also}
+use Rattle.node_laws.specs.Messages.{message_at}
 use Rattle.dc_core.proofs.Walks.{all_get}
 use Rattle.record_key.proofs.Kept.{all_filtered}
 use Rattle.record_key.proofs.Lists.{all_appended}

@@ -28,13 +28,13 @@ use Rattle.tc_core.specs.Recovery.{SendsAt}
 use Rattle.tc_core.specs.Replies.{Outcome, on_reply, on_awaited, on_lost, on_connected, on_redo_ended, on_row, on_rows, takes, awaiting, lacks, reader, is_key, is_range, is_number, span_read}
 use Rattle.tc_core.specs.Opened.{IsOpenedAgain}
 use Rattle.tc_core.specs.Kept.{IsTc}
-use Rattle.world.specs.declared.event.Event.{Event}
-use Rattle.world.specs.declared.event.Event.TheVariants as event
-use Rattle.world.specs.declared.event.Out.{Out}
-use Rattle.world.specs.declared.event.Out.TheVariants as out
-use Rattle.world.specs.Component.{TcSide, DcSide, Keeps, tc_size}
-use Rattle.world.specs.Node.{NodeView, ReconnectsTo, RecoversTo, BeginsTo, ActsTo, ReadsTo, SavesTo, GoesBackTo, RollsBackTo, CommitsTo, UndoesTo, ForcesTo, SendsTo, LowersTo, AsksCheckpoint, TellsTo, CrashesTcTo, FailsTcTo, RestartsTcTo, Taken, TakesTo, IfUp, IfTcUp, down_refusal, StepsTo}
-use Rattle.world.specs.Halves.{of_tc, node_of, also, IsNextNumber, BringsReply, TcLeads}
+use Rattle.node_laws.specs.declared.event.Event.{Event}
+use Rattle.node_laws.specs.declared.event.Event.TheVariants as event
+use Rattle.node_laws.specs.declared.event.Out.{Out}
+use Rattle.node_laws.specs.declared.event.Out.TheVariants as out
+use Rattle.node_laws.specs.Component.{TcSide, DcSide, Keeps, tc_size}
+use Rattle.node_laws.specs.Node.{NodeView, ReconnectsTo, RecoversTo, BeginsTo, ActsTo, ReadsTo, SavesTo, GoesBackTo, RollsBackTo, CommitsTo, UndoesTo, ForcesTo, SendsTo, LowersTo, AsksCheckpoint, TellsTo, CrashesTcTo, FailsTcTo, RestartsTcTo, Taken, TakesTo, IfUp, IfTcUp, down_refusal, StepsTo}
+use Rattle.node_laws.specs.Halves.{of_tc, node_of, also, IsNextNumber, BringsReply, TcLeads}
 
 -- ---- the component's calls
 

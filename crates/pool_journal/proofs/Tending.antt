@@ -9,12 +9,12 @@ use Rattle.record_key.specs.declared.refusal.Refusal.TheVariants.{NotConnected}
 use Rattle.system_txn.specs.Gives.{Tending, SplitsAt, MergesAt, Rests, TendsTo}
 use Rattle.system_txn.specs.SystemView.{SystemView}
 use Rattle.system_txn.specs.declared.tended.Tended.TheVariants as tended
-use Rattle.world.specs.declared.event.Event.TheVariants as event
-use Rattle.world.specs.declared.event.Out.{Out}
-use Rattle.world.specs.declared.event.Out.TheVariants as out
-use Rattle.world.specs.Component.{DcSide}
-use Rattle.world.specs.Halves.{DcLeads, node_of}
-use Rattle.world.specs.Node.{NodeView, CallsDc, dc_side}
+use Rattle.node_laws.specs.declared.event.Event.TheVariants as event
+use Rattle.node_laws.specs.declared.event.Out.{Out}
+use Rattle.node_laws.specs.declared.event.Out.TheVariants as out
+use Rattle.node_laws.specs.Component.{DcSide}
+use Rattle.node_laws.specs.Halves.{DcLeads, node_of}
+use Rattle.node_laws.specs.Node.{NodeView, CallsDc, dc_side}
 use Rattle.pool_journal.specs.declared.step.Step.{Step}
 use Rattle.pool_journal.specs.Kept.{EntersDc}
 use Rattle.pool_journal.specs.Steps.{Start, GivesDc, fresh_start}

@@ -6,13 +6,13 @@ use Rattle.codec.specs.declared.reply.Reply.{Reply}
 use Rattle.stable.specs.Usage.{unused}
 use Rattle.tc_core.specs.TcView.{fresh}
 use Rattle.dc_core.specs.DcView.{fresh as fresh_dc}
-use Rattle.world.specs.declared.event.Event.{Event}
-use Rattle.world.specs.declared.event.Out.{Out}
-use Rattle.world.specs.Component.{TcSide, DcSide}
-use Rattle.world.specs.Halves.{node_of, of_tc, also, BringsReply, BringsRequest, TcLeads, DcLeads}
-use Rattle.world.specs.Kept.{IsKept}
-use Rattle.world.specs.Node.{NodeView}
-use Rattle.world.specs.Stepping.{Chain}
+use Rattle.node_laws.specs.declared.event.Event.{Event}
+use Rattle.node_laws.specs.declared.event.Out.{Out}
+use Rattle.node_laws.specs.Component.{TcSide, DcSide}
+use Rattle.node_laws.specs.Halves.{node_of, of_tc, also, BringsReply, BringsRequest, TcLeads, DcLeads}
+use Rattle.node_laws.specs.Kept.{IsKept}
+use Rattle.node_laws.specs.Node.{NodeView}
+use Rattle.node_laws.specs.Stepping.{Chain}
 use Rattle.pool_journal.specs.declared.step.Step.{Step}
 
 abbrev pub is_tc : Step → Bool

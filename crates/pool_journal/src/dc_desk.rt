@@ -1,10 +1,10 @@
 //! What lies under the lock of the data component.
 ghost use Rattle.std.specs.Prelude.{◌≡◌, ◌+◌, false, None, Some, IfOk, IfErr, IfSome, IfNone};
 ghost use Rattle.std.specs.Option.{option_copied};
-ghost use Rattle.world.specs.Component as sides;
-ghost use Rattle.world.specs.declared.event.Event.TheVariants as event;
-ghost use Rattle.world.specs.declared.event.Out.TheVariants as out;
-ghost use Rattle.world.specs.Halves.{of_tc, DcLeads, MayDc, IsInNode};
+ghost use Rattle.node_laws.specs.Component as sides;
+ghost use Rattle.node_laws.specs.declared.event.Event.TheVariants as event;
+ghost use Rattle.node_laws.specs.declared.event.Out.TheVariants as out;
+ghost use Rattle.node_laws.specs.Halves.{of_tc, DcLeads, MayDc, IsInNode};
 ghost use Rattle.pool_journal.specs.Ending.{EndsWith};
 ghost use Rattle.pool_journal.specs.Desks.{delivers, Rests};
 ghost use Rattle.pool_journal.specs.Slots.{Shown};
@@ -23,13 +23,14 @@ use crate::tc_desk::next_number;
 use crate::view::Visitor;
 use boxcar::{Pushed, Vec as Row};
 use codec::Request;
+use node_laws::{Event, Out};
+use node_sides::DcSide;
 use record_key::{Key, Refusal, Value};
 use stable::{CrashLog, CrashPages};
 use std::alloc::Global;
 use std::marker::Model;
 use std::sync::{Mutex, Wait};
 use tie::Mark;
-use world::{DcSide, Event, Out};
 
 /// The data component with what it has seen of the journal. Contracts see the steps up to there, and the component.
 #[derive(Drop)]

@@ -5,7 +5,7 @@ ghost use Rattle.std.specs.Option.{option_copied};
 use crate::step::Step;
 use crate::trace::Trace;
 use codec::{Reply, Request};
-use world::Out;
+use node_laws::Out;
 
 /// A step, with those before it.
 #[derive(Drop)]

@@ -2,7 +2,7 @@
 ghost use Rattle.std.specs.Prelude.{◌≡◌};
 ghost use Rattle.pool_journal.specs.Errands.{errand_of, is_number, sent_on, serves};
 
-use world::{Event, Out};
+use node_laws::{Event, Out};
 
 /// The request that was sent last for a transaction, the reply that was given to it, and whether its commit waits for the
 /// log to be made stable.

@@ -2,8 +2,8 @@
 ghost use Rattle.std.specs.Prelude.{◌≡◌};
 ghost use Rattle.pool_journal.specs.Failing.{failure_in, failure_of, refusal_of};
 
+use node_laws::Out;
 use record_key::Refusal;
-use world::Out;
 
 /// A growth was refused, or a device failed.
 #[derive(Debug, Clone, Copy, PartialEq, Eq)]

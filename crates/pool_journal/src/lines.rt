@@ -1,7 +1,7 @@
 //! The journal's entries, in order.
 ghost use Rattle.std.specs.Prelude.{◌≡◌, ◌<◌, [], ◌∷◌, ◌++◌, true, IfOk, IfSome, IfNone, OnErr, length, slice_get, cond, vec_len, vec_capacity};
-ghost use Rattle.world.specs.Halves.{IsSpelledIf};
-ghost use Rattle.world.specs.Messages.{message_at};
+ghost use Rattle.node_laws.specs.Halves.{IsSpelledIf};
+ghost use Rattle.node_laws.specs.Messages.{message_at};
 ghost use Rattle.pool_journal.specs.Steps.{is_tc, IsRun, requests, replies, TcState, DcState, GivesTc, GivesDc, IsStart};
 ghost use Rattle.pool_journal.specs.Slots.{Shown, IsShown, seen, through, last_of};
 ghost use Rattle.pool_journal.specs.Views.{Sees};
@@ -15,12 +15,12 @@ use crate::trace::Trace;
 use crate::tracing::{nothing, up_to};
 use crate::view::{Party, Visitor, again};
 use boxcar::{Pushed, Vec as Row};
+use node_sides::DcSide;
 use stable::{CrashLog, CrashPages};
 use std::alloc::Global;
 use std::marker::Model;
 use std::sync::Wait;
 use tie::Book;
-use world::DcSide;
 
 /// The entries in order, as the tokens of their places in the row. Contracts see the steps.
 #[derive(Drop)]

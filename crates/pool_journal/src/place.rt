@@ -10,9 +10,9 @@ use crate::failure::Failure;
 use crate::naming::Naming;
 use crate::view::Party;
 use boxcar::Pushed;
+use node_laws::{Event, Out};
 use tc_core::Committed;
 use tie::Book;
-use world::{Event, Out};
 
 /// A session's place: its side of what the session has seen, the transaction whose lines are the session's, whether its
 /// latest call is still to be told of, and the entry that told of it; what is on its way for that call, and what a step of

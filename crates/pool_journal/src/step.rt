@@ -3,7 +3,7 @@ ghost use Rattle.std.specs.Prelude.{◌≡◌, None};
 
 use crate::message::Message;
 use codec::{Reply, Request};
-use world::{Event, Out};
+use node_laws::{Event, Out};
 
 /// An event with what it came to, whose call it is, and the request or the reply that it sent.
 #[derive(Debug, Drop)]

@@ -2,7 +2,7 @@
 ghost use Rattle.std.specs.Prelude.{◌≡◌, ◌+◌, ◌≤◌, true, false, max, IsTrue, None, Some, IfOk, IfSome};
 ghost use Rattle.marks.specs.Seen.{raiser, reader};
 ghost use Rattle.tc_core.specs.Kept.{IsTc};
-ghost use Rattle.world.specs.Halves.{of_tc, TcLeads};
+ghost use Rattle.node_laws.specs.Halves.{of_tc, TcLeads};
 ghost use Rattle.pool_journal.specs.Desks.{delivers};
 ghost use Rattle.pool_journal.specs.Marking.{announced, low_of, tells_commit, IsLowOf};
 ghost use Rattle.pool_journal.specs.Sessions.{IsCalled, IsClosed};
@@ -25,6 +25,8 @@ use crate::view::Visitor;
 use boxcar::Pushed;
 use codec::Reply;
 use marks::{Marks, Seat};
+use node_laws::{Event, Out};
+use node_sides::TcSide;
 use stable::CrashLog;
 use std::alloc::Global;
 use std::marker::Model;
@@ -32,7 +34,6 @@ use std::sync::{Mutex, Wait};
 use std::thread;
 use tc_core::Phase;
 use tie::Mark;
-use world::{Event, Out, TcSide};
 
 /// The transaction component with what it has seen of the journal. Contracts see the steps up to there, and the
 /// component.

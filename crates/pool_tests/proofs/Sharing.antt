@@ -3,13 +3,13 @@ use denote.RattleType.{RattleType}
 use denote.Struct.Declared.{shape}
 use denote.Param.Send.{IsSend, IsSync, recorded_send, struct_send, sendable}
 use Rattle.std.proofs.Crossing.{crosses}
-use Rattle.worker_pool.proofs.Sharing.{session_send}
+use Rattle.pool_sessions.proofs.Sharing.{session_send}
 use Rattle.pool_journal.specs.declared.naming.Naming as naming
 use Rattle.record_key.proofs.refusal.Refusal.TheSendSync as refusal
 use Rattle.pool_cases.proofs.Sharing.{client_field_send}
 use Rattle.pool_cases.proofs.stage.Door.TheSendSync as door
 use Rattle.pool_cases.specs.contracts.stage.Door as Door
-use Rattle.pool_tests.specs.contracts.seats.Seat as Seat
+use Rattle.engine_cases.specs.contracts.seats.Seat as Seat
 use Rattle.pool_tests.specs.contracts.threads.Ended as Ended
 
 pub seat_send : (J : RattleType) (n : naming.Ghosts J.Denot) → IsSend J → IsSync J → IsSend (Seat.the_row J n)

@@ -9,10 +9,7 @@
 //! to be answered like any other then.
 #![tactic(auto)]
 
-mod crashes;
-mod engine_lines;
 mod running;
-mod seats;
 mod tally;
 mod threads;
 

@@ -2,8 +2,8 @@
 ghost use Rattle.std.specs.Prelude.{◌<◌};
 ghost use Rattle.worker_pool.specs.Opened.{IsNamed};
 
-use crate::seats::{Left, Seat};
 use crate::threads::{Client, play_many, play_table};
+use engine_cases::{Left, Seat};
 use pool_cases::{
     Door, Hold, Leaves, Many, Part, Stage, Table, Verdict, both, is_journal, is_played, leaves,
 };

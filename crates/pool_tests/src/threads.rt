@@ -1,7 +1,5 @@
 //! Clients on threads, and what is done beside them.
-use crate::crashes::trouble;
-use crate::engine_lines::follow_all;
-use crate::seats::Seat;
+use engine_cases::{Seat, follow_all, trouble};
 use pool_cases::{Door, Many, Plan, Serves, Stage, Table, Verdict, both, follow, play};
 use record_key::Refusal;
 use std::alloc::{AllocError, Global};

@@ -1,10 +1,12 @@
 //! What holds of the text and of the picture of every script.
+use crate::files::bytes_of;
 use crate::markup::is_well_formed;
 use crate::tally::Tally;
-use node_pictures::{draw, explain};
+use node_pictures::draw;
 use node_shell::run;
+use node_texts::explain;
 use std::alloc::Global;
-use std::{fs, io};
+use std::io;
 
 /// The most columns of a line.
 const COLUMNS: usize = 100;
@@ -14,7 +16,7 @@ const COLUMNS: usize = 100;
 pub fn compare_all(rt: &HostRuntime, names: &[String]) -> io::Result<Tally> {
     let mut tally = Tally::new();
     for name in names {
-        let script = fs::read(rt, format!(in rt.alloc(); "{name}.script")?.as_str())?;
+        let script = bytes_of(rt, name.as_str(), "script")?;
         let explains = explains(rt.alloc(), script.as_slice());
         let draws = draws(rt.alloc(), script.as_slice());
         if !explains || !draws {

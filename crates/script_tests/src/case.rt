@@ -1,8 +1,9 @@
 //! One script with the text and the exit status that it must give.
 use crate::difference::print_difference;
+use crate::files::{bytes_of, text_of};
 use crate::tally::Tally;
 use node_shell::run;
-use std::{fs, io};
+use std::io;
 
 /// Runs each of these scripts, those on behind failures that are named so, and prints a line for each that gives another
 /// text or exit status than it must, or whose files can't be read.
@@ -31,16 +32,24 @@ fn has_line(text: &str, wanted: &str) -> bool {
 
 /// Whether the script gives what it must. Prints where it doesn't.
 fn agrees(rt: &HostRuntime, name: &str, continues: bool) -> io::Result<bool> {
-    let script = fs::read(rt, format!(in rt.alloc(); "{name}.script")?.as_str())?;
-    let text = fs::read(rt, format!(in rt.alloc(); "{name}.out")?.as_str())?;
-    let status = fs::read_to_string(rt, format!(in rt.alloc(); "{name}.status")?.as_str())?;
+    let script = bytes_of(rt, name, "script")?;
     let mut written = Vec::new(rt.alloc());
     let given = run(rt.alloc(), continues, &mut script.as_slice(), &mut written);
-    if written.as_slice() != text.as_slice() {
-        print_difference(rt, name, text.as_slice(), written.as_slice())?;
-        return Ok(false);
+    Ok(is_text(rt, name, written.as_slice())? && is_status(rt, name, given)?)
+}
+
+fn is_text(rt: &HostRuntime, name: &str, written: &[u8]) -> io::Result<bool> {
+    let text = bytes_of(rt, name, "out")?;
+    let agrees = written == text.as_slice();
+    if !agrees {
+        print_difference(rt, name, text.as_slice(), written)?;
     }
-    let status = status.trim_end();
+    Ok(agrees)
+}
+
+fn is_status(rt: &HostRuntime, name: &str, given: u8) -> io::Result<bool> {
+    let text = text_of(rt, name, "status")?;
+    let status = text.trim_end();
     let agrees = status.parse::<u8>() == Ok(given);
     if !agrees {
         println!(rt; "{name}: exit status {given}, not {status}")?;

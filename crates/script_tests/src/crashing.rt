@@ -3,9 +3,10 @@
 //! The transaction component, the data component or both crash; none, one or all of the records are kept that weren't
 //! forced. Then the node settles. It must refuse nothing, and its table must be the one that a plain reading of its log
 //! gives.
-use crate::reading::fault_in;
+use crate::files::text_of;
 use crate::tally::Tally;
 use node_shell::{DONE, run};
+use plain_reading::fault_in;
 use std::alloc::{AllocError, Global};
 use std::{fs, io};
 
@@ -37,7 +38,7 @@ pub fn compare_crashes(rt: &HostRuntime) -> io::Result<Tally> {
 
 /// Crashes the script after each of its events.
 fn crash_along(rt: &HostRuntime, name: &str, tally: &mut Tally) -> io::Result<()> {
-    let script = fs::read_to_string(rt, format!(in rt.alloc(); "{name}.script")?.as_str())?;
+    let script = text_of(rt, name, "script")?;
     let mut beginning = String::new(rt.alloc());
     let mut lines: u64 = 0;
     for line in script.as_str().split_terminator('\n') {

@@ -3,10 +3,10 @@
 //! The line that is refused is given again, and the script goes on. What clients are told then, and the tables that are
 //! shown, must be those of the undisturbed run; only the numbers of transactions may differ, since a session that a
 //! failure stopped may leave its record.
-use crate::reading::word;
+use crate::files::text_of;
 use crate::tally::Tally;
-use crate::told::told_lines;
 use node_shell::run;
+use plain_reading::{told_lines, word};
 use std::alloc::{AllocError, Global};
 use std::{fs, io};
 
@@ -50,25 +50,46 @@ pub fn compare_device_failures(rt: &HostRuntime) -> io::Result<Tally> {
 
 /// Fails each call of each device along this script.
 fn fail_along(rt: &HostRuntime, name: &str, tally: &mut Tally) -> io::Result<()> {
-    let script = fs::read_to_string(rt, format!(in rt.alloc(); "{name}.script")?.as_str())?;
-    let mut lines = Vec::new(rt.alloc());
-    let mut names_messages = false;
-    for line in script.as_str().split_terminator('\n') {
-        lines.push(line)?;
-        names_messages |= word(line, 0) == "req" || word(line, 0) == "rep";
-    }
-    let text = written_by(rt.alloc(), script.as_str())?;
-    let told = told_lines(rt.alloc(), text.as_str())?;
+    let script = text_of(rt, name, "script")?;
+    let told = told_by(rt.alloc(), script.as_str())?;
+    fail_script(rt, name, script.as_str(), told.as_str(), tally)
+}
+
+fn fail_script(
+    rt: &HostRuntime,
+    name: &str,
+    script: &str,
+    told: &str,
+    tally: &mut Tally,
+) -> io::Result<()> {
+    let lines = lines_of(rt.alloc(), script)?;
     let undisturbed = Undisturbed {
         name,
         lines: lines.as_slice(),
-        told: told.as_str(),
-        names_messages,
+        told,
+        names_messages: names_messages(lines.as_slice()),
     };
     for device in DEVICES {
         fail_device(rt, &undisturbed, device, tally)?;
     }
     Ok(())
+}
+
+fn lines_of(alloc: Global, script: &str) -> Result<Vec<&str>, AllocError> {
+    let mut lines = Vec::new(alloc);
+    for line in script.split_terminator('\n') {
+        lines.push(line)?;
+    }
+    Ok(lines)
+}
+
+fn names_messages(lines: &[&str]) -> bool {
+    for line in lines {
+        if word(line, 0) == "req" || word(line, 0) == "rep" {
+            return true;
+        }
+    }
+    false
 }
 
 /// Fails each call of this device along the script.
@@ -96,31 +117,51 @@ fn fail_device(
 /// Runs the script with this failure, its refused line given again.
 fn failed(alloc: Global, script: &Undisturbed<'_>, device: &str, call: u64) -> io::Result<Came> {
     let set = format!(in alloc; "fail {device} {call}\n")?;
-    let count = script.lines.len();
-    if !is_refused(alloc, set.as_str(), script.lines, count)? {
+    failed_by(alloc, script, set.as_str())
+}
+
+/// The same behind the line that sets it.
+fn failed_by(alloc: Global, script: &Undisturbed<'_>, set: &str) -> io::Result<Came> {
+    if !is_refused(alloc, set, script.lines, script.lines.len())? {
         return Ok(Came::Never);
     }
-    let refused = refused_line(alloc, set.as_str(), script.lines)?;
+    let refused = refused_line(alloc, set, script.lines)?;
     let Some(line) = script.lines.get(refused) else {
         return Ok(Came::Differs);
     };
     if script.names_messages && word(line, 0) == "settle" {
         return Ok(Came::Passed);
     }
-    let mut text = String::from_str(alloc, set.as_str())?;
-    for (place, line) in script.lines.iter().enumerate() {
+    if tells_again(alloc, set, script.lines, refused, script.told)? {
+        Ok(Came::Agrees)
+    } else {
+        Ok(Came::Differs)
+    }
+}
+
+/// Whether the lines tell just this where the refused one is given again.
+fn tells_again(
+    alloc: Global,
+    set: &str,
+    lines: &[&str],
+    refused: usize,
+    told: &str,
+) -> io::Result<bool> {
+    let mut text = String::from_str(alloc, set)?;
+    for (place, line) in lines.iter().enumerate() {
         push_line(&mut text, line)?;
         if place == refused {
             push_line(&mut text, line)?;
         }
     }
-    let text = written_by(alloc, text.as_str())?;
-    let told = told_lines(alloc, text.as_str())?;
-    Ok(if told.as_str() == script.told {
-        Came::Agrees
-    } else {
-        Came::Differs
-    })
+    let again = told_by(alloc, text.as_str())?;
+    Ok(again.as_str() == told)
+}
+
+/// What the script tells clients.
+fn told_by(alloc: Global, script: &str) -> io::Result<String> {
+    let text = written_by(alloc, script)?;
+    Ok(told_lines(alloc, text.as_str())?)
 }
 
 /// The place of the line that is refused, where one is: the least so that the lines up to it are refused.

@@ -14,18 +14,15 @@ mod bad_lines;
 mod case;
 mod crashing;
 mod difference;
-mod eight_bytes;
 mod failing;
 mod failing_devices;
+mod files;
 mod listing;
 mod markup;
 mod parts_of_pictures;
 mod pictures;
-mod plain_table;
-mod reading;
 mod refusals;
 mod tally;
-mod told;
 
 use std::{fs, io};
 

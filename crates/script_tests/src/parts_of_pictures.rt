@@ -1,8 +1,9 @@
 //! A line of a script alone, its last events alone, a script that can't be read, and a picture that can't be written.
 use crate::failing::{BrokenReader, broken_after};
 use crate::tally::Tally;
-use node_pictures::{draw, explain};
+use node_pictures::draw;
 use node_shell::{DONE, FAILED, FAULT};
+use node_texts::explain;
 use std::alloc::Global;
 use std::io;
 

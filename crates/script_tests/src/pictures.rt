@@ -1,8 +1,10 @@
 //! What explains a script, and what draws one: the texts and pictures of some scripts, byte for byte.
 use crate::difference::print_difference;
+use crate::files::bytes_of;
 use crate::tally::Tally;
-use node_pictures::{draw, explain};
+use node_pictures::draw;
 use node_shell::DONE;
+use node_texts::explain;
 use std::{fs, io};
 
 /// Explains and draws each script that the file `pictures` names, and prints a line for each whose text or picture
@@ -11,7 +13,7 @@ pub fn compare_pictures(rt: &HostRuntime) -> io::Result<Tally> {
     let names = fs::read_to_string(rt, "pictures")?;
     let mut tally = Tally::new();
     for name in names.as_str().split_terminator('\n') {
-        let script = fs::read(rt, format!(in rt.alloc(); "{name}.drawn")?.as_str())?;
+        let script = bytes_of(rt, name, "drawn")?;
         tally.count(is_explained(rt, name, script.as_slice())?);
         tally.count(is_drawn(rt, name, script.as_slice())?);
     }
@@ -20,7 +22,7 @@ pub fn compare_pictures(rt: &HostRuntime) -> io::Result<Tally> {
 
 /// Whether the script's text is the one in its file. Prints where it isn't.
 fn is_explained(rt: &HostRuntime, name: &str, script: &[u8]) -> io::Result<bool> {
-    let wanted = fs::read(rt, format!(in rt.alloc(); "{name}.txt")?.as_str())?;
+    let wanted = bytes_of(rt, name, "txt")?;
     let mut given = Vec::new(rt.alloc());
     let status = explain(rt.alloc(), None, &mut { script }, &mut given);
     agrees(rt, name, wanted.as_slice(), given.as_slice(), status)
@@ -28,7 +30,7 @@ fn is_explained(rt: &HostRuntime, name: &str, script: &[u8]) -> io::Result<bool>
 
 /// Whether the script's picture is the one in its file. Prints where it isn't.
 fn is_drawn(rt: &HostRuntime, name: &str, script: &[u8]) -> io::Result<bool> {
-    let wanted = fs::read(rt, format!(in rt.alloc(); "{name}.svg")?.as_str())?;
+    let wanted = bytes_of(rt, name, "svg")?;
     let mut given = Vec::new(rt.alloc());
     let status = draw(rt.alloc(), None, &mut { script }, &mut given);
     agrees(rt, name, wanted.as_slice(), given.as_slice(), status)

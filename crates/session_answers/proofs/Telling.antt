@@ -1,10 +1,10 @@
 -- What an output tells a transaction, and the line that it is.
 use Rattle.std.proofs.Common.{◌≡◌, ℕ, ◌==◌, Bool, true, false, Some, refl, ap, sym, subst}
 use Rattle.history.specs.ListMachine.{Line, TellsAnswer, TellsRow, TellsRows, TellsBack, TellsRolledBack, TellsCommitted, TellsLost}
-use Rattle.world.specs.declared.event.Event.{Event}
-use Rattle.world.specs.declared.event.Event.TheVariants as event
-use Rattle.world.specs.declared.event.Out.{Out}
-use Rattle.world.specs.declared.event.Out.TheVariants as out
+use Rattle.node_laws.specs.declared.event.Event.{Event}
+use Rattle.node_laws.specs.declared.event.Event.TheVariants as event
+use Rattle.node_laws.specs.declared.event.Out.{Out}
+use Rattle.node_laws.specs.declared.event.Out.TheVariants as out
 use Rattle.pool_journal.specs.Sessions.{is_among, line_to, only_if}
 use Rattle.session_answers.specs.Again.{is_given}
 use Rattle.session_answers.specs.Answers.{TellsCommit}

@@ -1,7 +1,7 @@
 //! What a call answers, by how it ended.
 ghost use Rattle.std.specs.Prelude.{◌≡◌, ℕ, false, IfOk, IfErr};
-ghost use Rattle.world.specs.declared.event.Out as outs;
-ghost use Rattle.world.specs.declared.event.Out.TheVariants as out;
+ghost use Rattle.node_laws.specs.declared.event.Out as outs;
+ghost use Rattle.node_laws.specs.declared.event.Out.TheVariants as out;
 ghost use Rattle.session_answers.specs.Again.{IsGiven, IsNotTold, IsToldSo, is_given};
 ghost use Rattle.session_answers.specs.Answers.{AreShown, IsRefusal, IsToldAs, IsAtOnce, TellsCommit};
 ghost use Rattle.session_answers.specs.Asking.{both, is_begun, is_saved, is_logged, is_asked, is_rolling, is_commit_logged, gives_answer, gives_row, gives_rows, gives_back, gives_rolled_back, gives_commit};
@@ -9,11 +9,11 @@ ghost use Rattle.session_answers.specs.Asking.{both, is_begun, is_saved, is_logg
 use crate::ended::{Ended, why};
 use crate::told::Told;
 use codec::Rows;
+use node_laws::{Event, Out};
 use pool_journal::{Hall, Naming, copied_value};
 use record_key::{Answer, Refusal, Value};
 use std::sync::Wait;
 use std::thread;
-use world::{Event, Out};
 
 /// The answer that a transaction's operation was told.
 pub fn answer_told<J: Naming>(hall: &Hall<J>, ended: &Ended) -> Result<Answer, Refusal>

@@ -2,8 +2,8 @@
 ghost use Rattle.std.specs.Prelude.{◌≡◌};
 ghost use Rattle.session_answers.specs.Asking.{event_of};
 
+use node_laws::Event;
 use record_key::{Key, Op};
-use world::Event;
 
 /// A call of a session's transaction.
 #[derive(Drop)]

@@ -4,9 +4,9 @@ ghost use Rattle.session_answers.specs.Unfinished.{bar_of, left_by};
 ghost use Rattle.session_answers.specs.Why.{why_of};
 
 use boxcar::Pushed;
+use node_laws::Out;
 use pool_journal::{Entry, Failure};
 use record_key::Refusal;
-use world::Out;
 
 /// A call that has its entry, and more is to be told of it: its transaction, and that entry.
 #[derive(Drop)]

@@ -7,10 +7,10 @@ ghost use Rattle.pool_journal.specs.Slots.{Shown};
 use crate::after::After;
 use boxcar::Pushed;
 use crossbeam_channel::Sender;
+use node_laws::{Event, Out};
 use pool_journal::{Caller, Entry, Hall, Journal, Naming, News, hold};
 use std::sync::atomic::{AtomicU64, Ordering};
 use std::sync::{Condvar, Mutex, Wait};
-use world::{Event, Out};
 
 /// How far a low number is above the last one that was handed over, before it is handed over itself.
 const LOW_STEP: u64 = 4096;

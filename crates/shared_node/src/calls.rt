@@ -2,7 +2,7 @@
 ghost use Rattle.std.specs.Prelude.{◌≡◌, true, ℕ, Some, None, IfOk, IfErr, IfSome, IfNone};
 ghost use Rattle.pool_journal.specs.Sessions.{IsClosed, is_pending};
 ghost use Rattle.pool_journal.specs.Slots.{Shown};
-ghost use Rattle.world.specs.declared.event.Event.TheVariants as event;
+ghost use Rattle.node_laws.specs.declared.event.Event.TheVariants as event;
 ghost use Rattle.session_answers.specs.Again.{Resumes};
 ghost use Rattle.session_answers.specs.Answers.{Ends, Finishes, IsSecond, IsUncalled};
 ghost use Rattle.session_answers.specs.Asking.{event_of};

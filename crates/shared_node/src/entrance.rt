@@ -1,9 +1,9 @@
 //! Where calls are entered: the transaction component under its lock, and the board.
 ghost use Rattle.std.specs.Prelude.{◌≡◌, ◌≤◌, true, false, ℕ, Some, None, IfSome, IfNone};
 ghost use Rattle.marks.specs.Seen.{reader};
-ghost use Rattle.world.specs.declared.event.Event.{Event};
-ghost use Rattle.world.specs.declared.event.Event.TheVariants as event;
-ghost use Rattle.world.specs.Halves.{of_tc};
+ghost use Rattle.node_laws.specs.declared.event.Event.{Event};
+ghost use Rattle.node_laws.specs.declared.event.Event.TheVariants as event;
+ghost use Rattle.node_laws.specs.Halves.{of_tc};
 ghost use Rattle.pool_journal.specs.Desks.{delivers};
 ghost use Rattle.pool_journal.specs.Sessions.{IsClosed};
 ghost use Rattle.pool_journal.specs.Slots.{Shown};
@@ -13,11 +13,11 @@ ghost use Rattle.session_answers.specs.Asking.{event_of};
 use crate::board::Board;
 use boxcar::Pushed;
 use marks::Seat;
+use node_laws::{Event, Out};
 use pool_journal::{Caller, Entry, Naming, Next, TcDesk, hold};
 use session_answers::Ask;
 use stable::CrashLog;
 use std::sync::{Mutex, Wait};
-use world::{Event, Out};
 
 /// A call that has its entry: its transaction, and the entries of the call and of its request that was sent with it.
 pub(crate) struct Called {

@@ -1,16 +1,16 @@
 //! How the components are brought up, and in one session.
 ghost use Rattle.std.specs.Prelude.{◌≡◌, true, false, IfErr};
-ghost use Rattle.world.specs.Halves.{of_tc};
+ghost use Rattle.node_laws.specs.Halves.{of_tc};
 ghost use Rattle.shared_node.specs.Outages.{IsOutage};
 ghost use Rattle.pool_journal.specs.Desks.{delivers};
 
 use crate::shared::Shared;
 use codec::{Reply, Request};
+use node_laws::{Event, Out};
 use pool_journal::{Gate, Naming, Next};
 use record_key::Refusal;
 use stable::{CrashLog, CrashPages};
 use std::sync::Wait;
-use world::{Event, Out};
 
 // Nobody looks on while the components are brought up.
 struct Nobody;

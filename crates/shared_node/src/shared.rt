@@ -1,10 +1,10 @@
 //! What the threads share, and what they do under its locks.
 use crate::board::Board;
 use crate::entrance::Entrance;
+use node_laws::Event;
 use pool_journal::{DcDesk, Hall, Journal, Naming, TcDesk};
 use stable::{CrashLog, CrashPages};
 use std::sync::{Mutex, Wait};
-use world::Event;
 
 /// What the threads share. A component's lock is taken first, and the journal's inside it; the two components' are
 /// never held together.

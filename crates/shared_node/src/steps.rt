@@ -7,11 +7,11 @@ use crate::board::Job;
 use crate::shared::Shared;
 use boxcar::Pushed;
 use crossbeam_channel::Sender;
+use node_laws::{Event, Out};
 use pool_journal::{Entry, Gate, Naming, hold_soon};
 use record_key::Refusal;
 use stable::{CrashLog, CrashPages};
 use std::sync::Wait;
-use world::{Event, Out};
 
 /// What is left to do of a call that is told of later.
 #[derive(Clone, Copy)]

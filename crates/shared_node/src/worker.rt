@@ -7,11 +7,11 @@ use crate::board::Job;
 use crate::shared::Shared;
 use boxcar::Pushed;
 use crossbeam_channel::Receiver;
+use node_laws::Out;
 use pool_journal::{DcDesk, Entry, Gate, Naming, hold};
 use record_key::Refusal;
 use stable::{CrashLog, CrashPages};
 use std::sync::{MutexGuard, Wait};
-use world::Out;
 
 /// Serves requests until the engine and every session are gone.
 pub fn work<J, G, D, P, R>(rt: &R, shared: &Shared<J, G, D, P>, jobs: &Receiver<Job>)

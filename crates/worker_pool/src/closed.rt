@@ -1,7 +1,7 @@
 //! What an engine leaves.
 ghost use Rattle.std.specs.Prelude.{◌≡◌, length, slice_get, IfOk, IfErr, IfSome, IfNone, Some, None};
-ghost use Rattle.world.specs.Node.{NodeView};
-ghost use Rattle.world.specs.Promises.{Promises};
+ghost use Rattle.node_laws.specs.Node.{NodeView};
+ghost use Rattle.node_laws.specs.Promises.{Promises};
 ghost use Rattle.pool_journal.specs.Ending.{EndsWith};
 ghost use Rattle.pool_journal.specs.Steps.{IsRun, RunsTo};
 

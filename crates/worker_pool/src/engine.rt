@@ -1,6 +1,7 @@
 //! An engine: the workers over what the threads share.
 ghost use Rattle.std.specs.Prelude.{◌≡◌, ◌<◌, IfOk, IfErr, length};
 ghost use Rattle.std.specs.List.{AllByRecursion};
+ghost use Rattle.pool_journal.specs.Ending.{EndsWith};
 ghost use Rattle.shared_node.specs.Outages.{IsOutage};
 ghost use Rattle.worker_pool.specs.Closing.{IsFresh, IsKeptBy, below, numbers_of};
 ghost use Rattle.worker_pool.specs.Opened.{IsNamed};
@@ -9,17 +10,18 @@ use crate::assembly::share;
 use crate::closed::Closed;
 use crate::opened::Opened;
 use crate::seated::{callers_of, cover, sessions_of};
-use crate::session::Session;
+use boxcar::Vec as Row;
 use crossbeam_channel::{Receiver, Sender};
-use pool_journal::{Gate, Naming};
-use record_key::Refusal;
+use node_laws::Event;
+use pool_journal::{DcDesk, Entry, Gate, Journal, Naming};
+use pool_sessions::Session;
+use record_key::{Key, Refusal, Value};
 use shared_node::{Job, Shared, work};
 use stable::{CrashLog, CrashPages, MemLog, MemPages};
 use std::alloc::{AllocError, Global};
 use std::sync::{Arc, Wait};
 use std::thread;
 use std::thread::{JoinHandle, Threads};
-use world::Event;
 
 /// Workers that serve the sessions' requests. What its sessions are called with is given out with it.
 pub struct Engine<J: Naming, G, D: CrashLog = MemLog, P: CrashPages = MemPages> {
@@ -63,6 +65,21 @@ fn alone<T, R: Wait>(rt: &R, shared: Arc<T>) -> T {
         thread::yield_now();
     }
     unreachable!()
+}
+
+// The records, where the data component runs. (Its desk is large, and goes before anything else is made.)
+fn rows_of<J: Naming, D: CrashLog + Drop, P: CrashPages + Drop>(
+    dc: DcDesk<J, D, P>,
+    row: &Row<Entry>,
+    journal: &mut Journal<J>,
+) -> Result<Option<Vec<(Key, Value)>>, Refusal>
+    requires row { row.now ≡ J.entries }
+    ensures same { journal.new ≡ journal.old }
+    ensures rows { IfOk result (λ rows. EndsWith J.start journal.old rows) }
+    ensures refused { IfErr result (λ refusal. refusal ≡ Refusal.NoMemory) }
+{
+    let mut dc = dc;
+    dc.rows(row, journal)
 }
 
 impl<J, G, D, P> Engine<J, G, D, P>
@@ -178,11 +195,9 @@ where
         let callers = callers_of(alloc, sessions);
         join_all(rt, workers);
         let callers = callers?;
-        let (hall, mut journal, mut dc) = alone(rt, shared).into_parts();
+        let (hall, mut journal, dc) = alone(rt, shared).into_parts();
+        let rows = rows_of(dc, hall.row(), &mut journal)?;
         cover(&mut journal, hall.row(), callers);
-        match dc.rows(hall.row(), &mut journal) {
-            Ok(rows) => Closed::new(alloc, hall, journal, rows),
-            Err(refusal) => Err(refusal),
-        }
+        Closed::new(alloc, hall, journal, rows)
     }
 }

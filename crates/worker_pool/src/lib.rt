@@ -6,17 +6,15 @@
 //! session made, each with what it was answered.
 #![tactic(auto)]
 
-mod ahead;
 mod assembly;
 mod closed;
 mod engine;
 mod opened;
 mod seated;
-mod session;
 
 pub use closed::Closed;
 pub use engine::Engine;
 pub use opened::Opened;
 pub use pool_journal::{Entry, Gate, Naming, Step};
-pub use session::Session;
+pub use pool_sessions::Session;
 pub use session_answers::Told;

@@ -2,19 +2,20 @@
 ghost use Rattle.std.specs.Prelude.{◌≡◌, ◌<◌, ◌≤◌, [], All, length, map, vec_len, Err, IfOk, IfErr};
 ghost use Rattle.std.specs.List.{AllByRecursion};
 ghost use Rattle.marks.specs.Seen.{raiser, reader};
-ghost use Rattle.world.specs.Node.{fresh_node};
+ghost use Rattle.node_laws.specs.Node.{fresh_node};
 ghost use Rattle.pool_journal.specs.Steps.{node_at};
 ghost use Rattle.worker_pool.specs.Opened.{IsReader};
 
 use boxcar::Vec as Row;
 use marks::{Marks, Seat};
+use node_sides::{DcSide, TcSide};
 use pool_journal::Entry;
 use record_key::Refusal;
 use stable::{CrashLog, CrashPages, MemLog, MemPages};
 use std::alloc::{AllocError, Global};
 use std::marker::Model;
 use tie::{Book, Mark};
-use world::{DcSide, TcSide, World};
+use world::World;
 
 /// The most sessions that an engine has.
 const MOST: usize = 8;

@@ -5,13 +5,12 @@ ghost use Rattle.worker_pool.specs.Closing.{IsFresh, IsCovered, IsSeated, below,
 ghost use Rattle.pool_journal.specs.Kept.{PlacesKept};
 ghost use Rattle.worker_pool.specs.Opened.{AreTied, IsReader, ties_of};
 
-use crate::ahead::Ahead;
 use crate::opened::Chair;
-use crate::session::Session;
 use boxcar::Vec as Row;
 use crossbeam_channel::Sender;
 use marks::Seat;
 use pool_journal::{Caller, Entry, Gate, Journal, Naming, Place};
+use pool_sessions::Session;
 use shared_node::{Job, Shared};
 use stable::{CrashLog, CrashPages};
 use std::alloc::{AllocError, Global};
@@ -80,8 +79,7 @@ where
     let mut sessions = Vec::with_capacity(alloc, sitters.len())?;
     for sitter in sitters {
         let Sitter { caller, seat } = sitter;
-        let ahead = Ahead::new(alloc);
-        let session = Session::new(caller, seat, Arc::try_clone(shared)?, work.clone()?, ahead);
+        let session = Session::new(alloc, caller, seat, Arc::try_clone(shared)?, work.clone()?);
         sessions.push(session)?;
     }
     Ok(sessions)

@@ -1,5 +1,5 @@
 -- A message whose operation, key, answer or value is read apart is the message of its number.
-use Rattle.std.proofs.Common.{◌≡◌, ◌∙◌, ℕ, zero, suc, Bool, true, false, List, map, slice_get, Option, Some, None, option_map, IsSome, refl, sym, ap, subst, is_some}
+use Rattle.std.proofs.Common.{◌≡◌, ◌∙◌, ℕ, zero, suc, List, map, Option, Some, None, option_map, IsSome, sym, ap, subst}
 use Rattle.std.proofs.lemmas.Option.{same_Some, slice_get-map}
 use Rattle.record_key.specs.declared.op.Op.{Op}
 use Rattle.record_key.specs.declared.op.Answer.{Answer}
@@ -14,9 +14,9 @@ use Rattle.codec.specs.declared.reply.Reply.{Reply}
 use Rattle.codec.specs.declared.reply.Reply.TheVariants as says
 use Rattle.world.specs.declared.sent.Asked.TheVariants as asked
 use Rattle.world.specs.declared.sent.Said.TheVariants as said
-use Rattle.world.specs.Messages.{message_at}
+use Rattle.node_laws.specs.Messages.{message_at}
 use Rattle.world.specs.Sent.{AllStand, StandsAt, IsReadApart, IsHeardApart, IsOfSession, WasSent}
-use Rattle.world.proofs.Invariant.ByNumber.{all_at}
+use Rattle.node_laws.proofs.Invariant.ByNumber.{all_at}
 
 read_at_number : {X : Type 0} (read : ℕ → X) (places : List ℕ) (i place : ℕ) → message_at places i ≡ Some place
     → message_at (map read places) i ≡ Some (read place)

@@ -1,6 +1,3 @@
-pub mod Invariant
-pub mod Restarts
-pub mod Machine
-pub mod Settles
-pub mod Halves
 pub mod Apart
+pub mod Doing
+pub mod Framed

@@ -1,15 +1,3 @@
-pub mod Component
-pub mod Node
-pub mod Messages
-pub mod Source
-pub mod Kept
-pub mod Simulation
-pub mod Stepping
 pub mod Seen
 pub mod Sent
 pub mod SentReads
-pub mod Bound
-pub mod Rounds
-pub mod Fallen
-pub mod Promises
-pub mod Halves

@@ -21,7 +21,7 @@ use Rattle.world.specs.declared.sent.Asked.{Asked}
 use Rattle.world.specs.declared.sent.Asked.TheVariants as asked
 use Rattle.world.specs.declared.sent.Said.{Said}
 use Rattle.world.specs.declared.sent.Said.TheVariants as said
-use Rattle.world.specs.Messages.{message_at}
+use Rattle.node_laws.specs.Messages.{message_at}
 use Rattle.codec.specs.declared.taken.Taken.{Taken}
 use Rattle.codec.specs.declared.taken.Taken.TheVariants as took
 

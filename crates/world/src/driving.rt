@@ -4,11 +4,11 @@ ghost use Rattle.history.specs.History.{plain};
 ghost use Rattle.history.specs.ListMachine.{Machine};
 ghost use Rattle.btree.specs.Leaves.{rows_of};
 ghost use Rattle.dc_core.specs.DcView.{leaves};
-ghost use Rattle.world.specs.Stepping.{Chain};
-ghost use Rattle.world.specs.Simulation.{LeadsAll, Stands, IsSettled};
+ghost use Rattle.node_laws.specs.Stepping.{Chain};
+ghost use Rattle.node_laws.specs.Simulation.{LeadsAll, Stands, IsSettled};
 
-use crate::event::{Event, Out};
 use crate::world::World;
+use node_laws::{Event, Out};
 use record_key::Refusal;
 use stable::{CrashLog, CrashPages};
 use std::alloc::Global;

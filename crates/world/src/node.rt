@@ -1,21 +1,20 @@
 //! The two components, and the messages between them.
 ghost use Rattle.std.specs.Prelude.{◌≡◌, true, [], None, IfOk, IfErr, IfSome, IfNone, OnSome};
-ghost use Rattle.world.specs.Node.{fresh_node, StepsTo};
+ghost use Rattle.node_laws.specs.Node.{fresh_node, StepsTo};
 ghost use Rattle.dc_core.specs.Kept.{IsDc};
 ghost use Rattle.tc_core.specs.Kept.{IsTc};
-ghost use Rattle.world.specs.Halves.{node_of, of_tc, IsNextNumber, BringsReply};
-ghost use Rattle.world.specs.Kept.{IsKept};
+ghost use Rattle.node_laws.specs.Halves.{node_of, of_tc, IsNextNumber, BringsReply};
+ghost use Rattle.node_laws.specs.Kept.{IsKept};
 ghost use Rattle.world.specs.Seen.{seen};
 ghost use Rattle.world.specs.Sent.{WasSent};
 ghost use Rattle.codec.specs.Parted.{get_of, request_to};
 
 use crate::attempt::attempt;
-use crate::dc_side::DcSide;
-use crate::event::{Event, Out};
 use crate::sent::{Asked, Said, Sent};
-use crate::tc_side::TcSide;
 use codec::{Asking, Reading, Reply, Request};
 use dc_core::answer_of;
+use node_laws::{Event, Out};
+use node_sides::{DcSide, TcSide};
 use record_key::{Key, Op, Refusal};
 use stable::{CrashLog, CrashPages, MemLog, MemPages};
 use std::alloc::Global;
@@ -74,6 +73,7 @@ impl<D: CrashLog, P: CrashPages> Node<D, P> {
             Event::Reply { number } => self.take(*number, out),
             Event::Request { number } => self.serve(*number, out),
             Event::Send { txn } => self.send(*txn, event, out),
+            Event::Recover => self.recover(event, out),
             _ if event.is_of_tc() => self.call(event, out),
             _ => self.dc.call(event, out),
         }
@@ -140,6 +140,37 @@ impl<D: CrashLog, P: CrashPages> Node<D, P> {
         tc.kept();
         let (number, op) = tc.awaited_op(txn)?;
         let next = self.requests.next()?;
+        self.requests
+            .push_perform(tc.session(), number, tc.stable_end(), op);
+        Some(next)
+    }
+
+    /// A step of recovery, as the event says.
+    fn recover(&mut self, event: &Event, out: &mut Out)
+        requires { event.now ≡ Event.Recover }
+        ensures { StepsTo (seen self.old) event.now out.new (seen self.new) }
+    {
+        match self.recover_op() {
+            Some(number) => *out = Out::Sent(number),
+            None => self.call(event, out),
+        }
+    }
+
+    /// The operation that recovery sends is sent, as the bytes that stand in the log; the request's number. None where it
+    /// sends none or there is no room, and nothing is sent then.
+    fn recover_op(&mut self) -> Option<u64>
+        ensures sent { IfSome result (λ number. StepsTo (seen self.old) Event.Recover (Out.Sent number) (seen self.new)) }
+        ensures unsent { IfNone result (seen self.new ≡ seen self.old) }
+    {
+        let next = self.requests.next()?;
+        self.tc.kept();
+        let number = self.tc.recover_op()?;
+        let Ok(tc) = self.tc.running() else {
+            unreachable!();
+        };
+        let Some(op) = tc.asked_bytes(number) else {
+            unreachable!();
+        };
         self.requests
             .push_perform(tc.session(), number, tc.stable_end(), op);
         Some(next)

@@ -8,9 +8,9 @@ ghost use Rattle.codec.specs.declared.reply.Reply.TheVariants as says;
 ghost use Rattle.codec.specs.Fields.{IsNumber, op_bytes};
 ghost use Rattle.codec.specs.FrameIndex.{places_of, Indexes};
 ghost use Rattle.codec.specs.Requests.{IsRequest};
-ghost use Rattle.world.specs.Halves.{IsNextNumber};
-ghost use Rattle.world.specs.Messages.{message_at};
-ghost use Rattle.world.specs.Node.{IsUnsent};
+ghost use Rattle.node_laws.specs.Halves.{IsNextNumber};
+ghost use Rattle.node_laws.specs.Messages.{message_at};
+ghost use Rattle.node_laws.specs.Node.{IsUnsent};
 ghost use Rattle.world.specs.Sent.{IsReadApart, IsHeardApart, IsStale, IsUnreadOf};
 
 use crate::message::{Message, reply_at, request_at, session_at};

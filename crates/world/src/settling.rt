@@ -1,11 +1,10 @@
 //! Rounds, until none is left.
 ghost use Rattle.std.specs.Prelude.{◌≡◌, ◌∷◌, []};
-ghost use Rattle.world.specs.Kept.{IsKept};
-ghost use Rattle.world.specs.Rounds.{Settles, Does, IsNext, IsExchange, events_of, exchange, fewer};
+ghost use Rattle.node_laws.specs.Kept.{IsKept};
+ghost use Rattle.node_laws.specs.Rounds.{Settles, Does, IsNext, IsExchange, events_of, exchange, fewer};
 
-use crate::event::{Event, Out};
-use crate::round::Round;
 use crate::world::World;
+use node_laws::{Event, Out, Round};
 use record_key::Refusal;
 use stable::{CrashLog, CrashPages};
 

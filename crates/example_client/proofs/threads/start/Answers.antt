@@ -3,7 +3,7 @@ use Rattle.std.proofs.Crossing.{crosses}
 use Rattle.file_devices.proofs.file_log.FileLog.TheSendSync as file_log
 use Rattle.file_devices.proofs.no_pages.NoPages.TheSendSync as no_pages
 use Rattle.record_key.proofs.refusal.Refusal.TheSendSync as refusal
-use Rattle.worker_pool.proofs.Sharing.{any_session_send, both}
+use Rattle.pool_sessions.proofs.Sharing.{any_session_send, both}
 use Rattle.example_client.proofs.threads.start.Goals as goal
 
 pub spawn-requires-send-F : goal.spawn-requires-send-F

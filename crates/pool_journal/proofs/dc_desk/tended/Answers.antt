@@ -1,7 +1,7 @@
 use Rattle.std.proofs.Common.{Option, None, subst}
 use Rattle.codec.specs.declared.reply.Reply.{Reply}
-use Rattle.world.specs.declared.event.Event.TheVariants as event
-use Rattle.world.specs.Halves.{DcLeads}
+use Rattle.node_laws.specs.declared.event.Event.TheVariants as event
+use Rattle.node_laws.specs.Halves.{DcLeads}
 use Rattle.pool_journal.proofs.Tending.{nothing_tended}
 use Rattle.pool_journal.proofs.dc_desk.tended.Goals as goal
 

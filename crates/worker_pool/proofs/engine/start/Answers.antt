@@ -1,5 +1,5 @@
 use denote.Param.Send.{sendable}
-use Rattle.worker_pool.proofs.Sharing.{arc_send, jobs_send, both}
+use Rattle.pool_sessions.proofs.Sharing.{arc_send, jobs_send, both}
 use Rattle.worker_pool.proofs.engine.start.Goals as goal
 
 pub spawn-requires-send-F : goal.spawn-requires-send-F

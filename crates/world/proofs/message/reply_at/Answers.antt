@@ -3,7 +3,7 @@ use Rattle.codec.specs.Replies.{has_rows}
 use Rattle.world.specs.SentReads.{reply_reads}
 use Rattle.codec.proofs.Replies.{rows_framed}
 use Rattle.world.specs.Sent.{reply_there}
-use Rattle.world.proofs.Invariant.Framed.{record_is}
+use Rattle.world.proofs.Framed.{record_is}
 use Rattle.world.proofs.message.reply_at.Goals as goal
 
 pub returns-in_err-reply-clause-refused : goal.returns-in_err-reply-clause-refused

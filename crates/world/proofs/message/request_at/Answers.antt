@@ -1,6 +1,6 @@
 use Rattle.std.proofs.Common.{◌∙◌, sym}
 use Rattle.world.specs.SentReads.{request_reads}
-use Rattle.world.proofs.Invariant.Framed.{record_is}
+use Rattle.world.proofs.Framed.{record_is}
 use Rattle.world.proofs.message.request_at.Goals as goal
 
 pub returns-clause-found : goal.returns-clause-found

@@ -1,6 +1,6 @@
 use Rattle.std.proofs.Common.{◌∙◌, ap, List, ◌++◌, ◌∷◌, []}
-use Rattle.world.specs.declared.event.Out.{Out}
-use Rattle.world.proofs.Settles.Playing.{done_if, one_done}
+use Rattle.node_laws.specs.declared.event.Out.{Out}
+use Rattle.node_laws.proofs.Settles.Playing.{done_if, one_done}
 use Rattle.world.proofs.settling.perform.Goals as goal
 
 pub returns-in_default : goal.returns-in_default

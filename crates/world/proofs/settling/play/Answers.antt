@@ -1,7 +1,7 @@
 use Rattle.std.proofs.Common.{subst}
-use Rattle.world.specs.Rounds.{IsNext}
-use Rattle.world.specs.declared.round.Round.TheVariants as round
-use Rattle.world.proofs.Settles.Asking.{asks_connect, asks_recover, asks_send}
+use Rattle.node_laws.specs.Rounds.{IsNext}
+use Rattle.node_laws.specs.declared.round.Round.TheVariants as round
+use Rattle.node_laws.proofs.Settles.Asking.{asks_connect, asks_recover, asks_send}
 use Rattle.world.proofs.settling.play.Goals as goal
 
 pub exchange-requires : goal.exchange-requires

@@ -1,5 +1,5 @@
 use Rattle.std.proofs.Common.{List, Vec, Global}
-use Rattle.world.specs.declared.event.Out.{Out}
+use Rattle.node_laws.specs.declared.event.Out.{Out}
 use Rattle.jakumshe.proofs.Ends.{told_if, left_if}
 use Rattle.jakumshe.proofs.node.Node.call.Goals as goal
 

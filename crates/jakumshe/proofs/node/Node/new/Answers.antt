@@ -1,5 +1,5 @@
 use Rattle.std.proofs.Common.{subst, inr}
-use Rattle.world.specs.Node.{NodeView}
+use Rattle.node_laws.specs.Node.{NodeView}
 use Rattle.jakumshe.specs.Calls.{Stops}
 use Rattle.jakumshe.proofs.node.Node.new.Goals as goal
 

@@ -1,5 +1,5 @@
 use Rattle.std.proofs.Common.{refl, inr}
-use Rattle.world.specs.declared.event.Out.TheVariants as out
+use Rattle.node_laws.specs.declared.event.Out.TheVariants as out
 use Rattle.jakumshe.proofs.Ends.{stepped, done}
 use Rattle.jakumshe.proofs.node.Node.step.Goals as goal
 

@@ -1,5 +1,5 @@
 use Rattle.std.proofs.Common.{List, subst}
-use Rattle.world.proofs.Invariant.Promised.{promised}
+use Rattle.node_laws.proofs.Invariant.Promised.{promised}
 use Rattle.pool_journal.specs.Ending.{EndsWith}
 use Rattle.pool_journal.specs.declared.step.Step.{Step}
 use Rattle.worker_pool.specs.Closing.{ClosedView}

@@ -1,4 +1,4 @@
-use Rattle.std.proofs.Common.{List, sym, subst, ◌∙◌}
+use Rattle.std.proofs.Common.{List, sym, subst}
 use Rattle.std.specs.List.{AllByRecursion}
 use Rattle.pool_journal.specs.declared.step.Step.{Step}
 use Rattle.worker_pool.specs.Closing.{ClosedView, IsCovered, IsKeptBy, caller_as}
@@ -6,12 +6,12 @@ use Rattle.pool_journal.proofs.Entering.{on_ok}
 use Rattle.pool_journal.proofs.Lists.{all_map}
 use Rattle.worker_pool.proofs.engine.Engine.close.Goals as goal
 
-pub returns-in-Ok-clause-kept : goal.returns-in-Ok-clause-kept
-returns-in-Ok-clause-kept g c =
-    let es = c.into_parts-hall.result.1 in
+pub returns-clause-kept : goal.returns-clause-kept
+returns-clause-kept g c =
+    let es = c.rows_of.new.journal in
     let all = subst (AllByRecursion (IsCovered es)) c.in_ok-callers.ensures.callers c.cover.ensures.covered in
     let kept = subst (λ (es : List Step). AllByRecursion (IsKeptBy es) c.args.sessions.items)
-    (sym (c.rows.ensures.same ∙ c.cover.ensures.same))
+    (sym c.cover.ensures.same)
     (all_map caller_as (IsCovered es) c.args.sessions.items all) in
     on_ok c.new.result
     (λ closed is. subst (λ (v : ClosedView). AllByRecursion (IsKeptBy v.steps) c.args.sessions.items) (sym is) kept)

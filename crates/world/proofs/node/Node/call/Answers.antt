@@ -1,5 +1,5 @@
 use Rattle.std.proofs.Common.{subst}
-use Rattle.world.proofs.Halves.{DoesTc}
+use Rattle.world.proofs.Doing.{DoesTc}
 use Rattle.world.proofs.node.Node.call.Goals as goal
 
 pub returns-in_default : goal.returns-in_default

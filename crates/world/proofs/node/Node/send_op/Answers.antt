@@ -5,8 +5,8 @@ use Rattle.codec.specs.declared.request.Request.TheVariants as asks
 use Rattle.codec.specs.Requests.{IsRequest}
 use Rattle.tc_core.specs.Calls.{ResendGives}
 use Rattle.tc_core.specs.TcView.{TcView}
-use Rattle.world.proofs.Halves.{sends_op}
-use Rattle.world.proofs.Invariant.Spellable.{awaited_spelled}
+use Rattle.node_laws.proofs.Halves.{sends_op}
+use Rattle.node_laws.proofs.Invariant.Spellable.{awaited_spelled}
 use Rattle.world.proofs.node.Node.send_op.Goals as goal
 
 pub push_perform-requires-clause-spelled : goal.push_perform-requires-clause-spelled

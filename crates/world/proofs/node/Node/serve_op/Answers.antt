@@ -1,12 +1,12 @@
 use Rattle.std.proofs.Common.{◌≡◌, refl, subst, true}
-use Rattle.std.specs.Prelude.{Ok, Err}
 use Rattle.codec.specs.Parted.{request_to}
 use Rattle.dc_core.specs.Performing.{reply_if, reply_with}
-use Rattle.world.specs.Halves.{HasRoom, IsOrderedIf}
+use Rattle.node_laws.specs.Halves.{HasRoom, IsOrderedIf}
 use Rattle.world.specs.Seen.{seen}
-use Rattle.world.specs.declared.event.Event.TheVariants as event
-use Rattle.world.proofs.Halves.{DoesDc, owed, roomy}
-use Rattle.world.proofs.Invariant.Spellable.{numbers_spelled}
+use Rattle.node_laws.specs.declared.event.Event.TheVariants as event
+use Rattle.node_laws.proofs.Halves.{owed, roomy}
+use Rattle.world.proofs.Doing.{DoesDc}
+use Rattle.node_laws.proofs.Invariant.Spellable.{numbers_spelled}
 use Rattle.world.proofs.node.Node.serve_op.Goals as goal
 
 pub perform-requires-clause-numbers : goal.perform-requires-clause-numbers

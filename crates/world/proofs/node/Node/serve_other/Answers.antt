@@ -1,10 +1,11 @@
 use Rattle.std.proofs.Common.{◌≡◌, refl, subst, true}
 use Rattle.codec.specs.Replies.{has_rows}
-use Rattle.world.specs.Halves.{HasRoom}
+use Rattle.node_laws.specs.Halves.{HasRoom}
 use Rattle.world.specs.Seen.{seen}
-use Rattle.world.specs.declared.event.Event.TheVariants as event
-use Rattle.world.proofs.Halves.{DoesDc, owed, roomy, unroomed}
-use Rattle.world.proofs.Invariant.Spellable.{numbers_spelled}
+use Rattle.node_laws.specs.declared.event.Event.TheVariants as event
+use Rattle.node_laws.proofs.Halves.{owed, roomy, unroomed}
+use Rattle.world.proofs.Doing.{DoesDc}
+use Rattle.node_laws.proofs.Invariant.Spellable.{numbers_spelled}
 use Rattle.world.proofs.node.Node.serve_other.Goals as goal
 
 pub serve-requires-clause-numbers : goal.serve-requires-clause-numbers

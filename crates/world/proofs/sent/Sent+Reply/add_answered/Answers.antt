@@ -8,7 +8,7 @@ use Rattle.codec.specs.Replies.{reply_bytes}
 use Rattle.codec.proofs.Indexed.{indexed_few}
 use Rattle.world.specs.Sent.{SentView, reply_there, IsFramedReply}
 use Rattle.world.specs.SentReads.{reply_reads}
-use Rattle.world.proofs.Invariant.Framed.{all_more, all_read_more}
+use Rattle.world.proofs.Framed.{all_more, all_read_more}
 use Rattle.world.proofs.sent.Sent+Reply.add_answered.Goals as goal
 
 pub push_reserved-requires-clause-few : goal.push_reserved-requires-clause-few

@@ -9,7 +9,7 @@ use Rattle.codec.specs.Requests.{request_bytes, IsRequest}
 use Rattle.codec.proofs.Indexed.{indexed_few}
 use Rattle.world.specs.Sent.{SentView, request_there}
 use Rattle.world.specs.SentReads.{request_reads}
-use Rattle.world.proofs.Invariant.Framed.{all_more, all_read_more, body_is_short}
+use Rattle.world.proofs.Framed.{all_more, all_read_more, body_is_short}
 use Rattle.world.proofs.sent.Sent+Request.add_perform.Goals as goal
 
 pub push_reserved-requires-clause-few : goal.push_reserved-requires-clause-few

@@ -1,7 +1,7 @@
 use Rattle.std.proofs.Common.{◌≡◌, List, ℕ, [], refl}
 use Rattle.std.specs.Prelude.{map}
 use Rattle.codec.specs.FrameIndex.{places_of}
-use Rattle.world.proofs.Invariant.Framed.{none_stand}
+use Rattle.world.proofs.Framed.{none_stand}
 use Rattle.world.proofs.sent.Sent.new.Goals as goal
 
 none_read : (X : Type 0) (read_at : List ℕ → ℕ → X) → map (read_at []) (places_of [] 0) ≡ []

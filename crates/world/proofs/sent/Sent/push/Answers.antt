@@ -3,7 +3,7 @@ use Rattle.std.proofs.lemmas.Grind.{common_steps}
 use Rattle.codec.specs.Marks.{marked}
 use Rattle.codec.proofs.Indexed.{indexed_few}
 use Rattle.world.specs.Sent.{SentView}
-use Rattle.world.proofs.Invariant.Framed.{all_more, all_read_more, body_is_short}
+use Rattle.world.proofs.Framed.{all_more, all_read_more, body_is_short}
 use Rattle.world.proofs.sent.Sent.push.Given as given
 use Rattle.world.proofs.sent.Sent.push.Goals as goal
 

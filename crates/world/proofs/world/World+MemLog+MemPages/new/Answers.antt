@@ -1,10 +1,10 @@
 use Rattle.std.proofs.Common.{sym, subst}
 use Rattle.history.specs.ListMachine.{fresh}
 use Rattle.dc_core.specs.Kept.{IsDc}
-use Rattle.world.specs.Kept.{IsKept}
-use Rattle.world.specs.Node.{NodeView}
-use Rattle.world.specs.Simulation.{Stands}
-use Rattle.world.proofs.Machine.Headline.{kept_fresh, fresh_stands_for}
+use Rattle.node_laws.specs.Kept.{IsKept}
+use Rattle.node_laws.specs.Node.{NodeView}
+use Rattle.node_laws.specs.Simulation.{Stands}
+use Rattle.node_laws.proofs.Machine.Headline.{kept_fresh, fresh_stands_for}
 use Rattle.world.proofs.world.World+MemLog+MemPages.new.Goals as goal
 
 pub invariant_of-result : goal.invariant_of-result

@@ -7,10 +7,10 @@ use Rattle.tc_core.specs.declared.phase.Phase.TheVariants as phase
 use Rattle.tc_core.specs.OpenTxns.{oldest, wants}
 use Rattle.tc_core.specs.TcView.{TcView}
 use Rattle.dc_core.specs.DcView.{DcView}
-use Rattle.world.specs.Node.{NodeView, AreUp}
-use Rattle.world.specs.Rounds.{AreApart, IsApart, AreRunning, IsNext, round_for}
-use Rattle.world.proofs.Machine.Settled.{at_rest, serving}
-use Rattle.world.proofs.Settles.Rounds.{next_for, idle_all, rolling_first, unrolled_all}
+use Rattle.node_laws.specs.Node.{NodeView, AreUp}
+use Rattle.node_laws.specs.Rounds.{AreApart, IsApart, AreRunning, IsNext, round_for}
+use Rattle.node_laws.proofs.Machine.Settled.{at_rest, serving}
+use Rattle.node_laws.proofs.Settles.Rounds.{next_for, idle_all, rolling_first, unrolled_all}
 use Rattle.world.proofs.world.World.next_round.Goals as goal
 
 -- the components run, and are these

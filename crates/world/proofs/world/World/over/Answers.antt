@@ -4,13 +4,13 @@ use Rattle.dc_core.specs.Kept.{IsDc}
 use Rattle.simulation.specs.Reading.{machine_read}
 use Rattle.simulation.proofs.Reading.{opened_is_read}
 use Rattle.tc_core.specs.TcView.{TcView}
-use Rattle.world.specs.Halves.{node_of}
-use Rattle.world.specs.Kept.{IsKept}
-use Rattle.world.specs.Node.{NodeView, joined}
+use Rattle.node_laws.specs.Halves.{node_of}
+use Rattle.node_laws.specs.Kept.{IsKept}
+use Rattle.node_laws.specs.Node.{NodeView, joined}
 use Rattle.world.specs.Seen.{seen}
-use Rattle.world.specs.Simulation.{Stands}
-use Rattle.world.proofs.Machine.Opened.{kept_joined}
-use Rattle.world.proofs.Restarts.TcCrashes.{stands_over}
+use Rattle.node_laws.specs.Simulation.{Stands}
+use Rattle.node_laws.proofs.Machine.Opened.{kept_joined}
+use Rattle.node_laws.proofs.Restarts.TcCrashes.{stands_over}
 use Rattle.world.proofs.world.World.over.Goals as goal
 
 pub invariant_of-result : goal.invariant_of-result

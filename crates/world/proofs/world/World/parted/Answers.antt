@@ -1,7 +1,7 @@
 use Rattle.std.proofs.Common.{◌≡◌, ◌∙◌, ap, sym}
-use Rattle.world.specs.Halves.{node_of}
-use Rattle.world.specs.Kept.{IsKept}
-use Rattle.world.specs.Node.{NodeView}
+use Rattle.node_laws.specs.Halves.{node_of}
+use Rattle.node_laws.specs.Kept.{IsKept}
+use Rattle.node_laws.specs.Node.{NodeView}
 use Rattle.world.specs.Seen.{seen}
 use Rattle.world.proofs.world.World.parted.Goals as goal
 

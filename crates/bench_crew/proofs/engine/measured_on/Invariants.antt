@@ -1,0 +1,13 @@
+use Rattle.std.proofs.Common.{length}
+use Rattle.worker_pool.specs.Opened.{name_of}
+use Rattle.bench_crew.proofs.engine.measured_on.Given as goal
+
+-- the engine's names are those of what was just opened
+abbrev pub ghosts-measured_in : goal.ghosts-measured_in
+ghosts-measured_in g a = record {
+  start = a.opened.start;
+  entries = a.opened.entries;
+  marks = a.opened.marks;
+  names = name_of a.opened;
+  sessions = length a.opened.sessions;
+}

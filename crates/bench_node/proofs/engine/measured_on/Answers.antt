@@ -1,5 +1,0 @@
-use Rattle.worker_pool.proofs.Opening.{named_as}
-use Rattle.bench_node.proofs.engine.measured_on.Goals as goal
-
-pub measured_in-requires-clause-named : goal.measured_in-requires-clause-named
-measured_in-requires-clause-named g c κs within = named_as c.in_ok-opened.opened

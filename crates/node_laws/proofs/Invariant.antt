@@ -1,0 +1,26 @@
+-- What holds of a node at every moment, and why each event keeps it.
+pub mod Announced
+pub mod AtKeys
+pub mod ByNumber
+pub mod CallsKeep
+pub mod FreshTc
+pub mod Captured
+pub mod Carries
+pub mod Grows
+pub mod Keeps
+pub mod LastRecord
+pub mod MayAsk
+pub mod Performs
+pub mod Promised
+pub mod Repeats
+pub mod Running
+pub mod Sends
+pub mod Serves
+pub mod Sources
+pub mod Spellable
+pub mod Systems
+pub mod TakenBack
+pub mod Tends
+pub mod Trees
+pub mod Unread
+pub mod Written

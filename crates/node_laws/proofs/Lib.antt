@@ -1,0 +1,6 @@
+pub mod Invariant
+pub mod Restarts
+pub mod Machine
+pub mod Settles
+pub mod Halves
+pub mod Recovered

@@ -1,0 +1,72 @@
+-- What a node promises at every moment, whatever crashes and restarts of either component came.
+use Rattle.std.specs.Prelude.{◌≡◌, ℕ, ◌≤◌, List, Some}
+use Rattle.std.specs.List.{AllByRecursion}
+use Rattle.record_key.specs.declared.op.Op.{Op}
+use Rattle.record_key.specs.declared.op.Answer.{Answer}
+use Rattle.inverse.specs.Inverse.{IsEffective}
+use Rattle.history.specs.declared.record.Record.{Record}
+use Rattle.history.specs.declared.record.Record.TheVariants as is
+use Rattle.history.specs.History.{plain, entries_of}
+use Rattle.history.specs.ListMachine.{Machine}
+use Rattle.history.specs.Log.{record_at, answer_of, hist}
+use Rattle.log_laws.specs.Laws.{Names}
+use Rattle.logical_log.specs.LogView.{last_not_session}
+use Rattle.page.specs.Leaf.{LeafView}
+use Rattle.page.specs.Honest.{IsHonestLeaf}
+use Rattle.page.specs.TakingBack.{taken_back}
+use Rattle.btree.specs.Leaves.{rows_of}
+use Rattle.recovery_laws.specs.Ready.{IsHonestTo, AllHave}
+use Rattle.system_txn.specs.Crashed.{crashed}
+use Rattle.system_txn.specs.Devices.{pages_of}
+use Rattle.dc_core.specs.DcView.{leaves}
+use Rattle.simulation.specs.Lasting.{HasCommitted}
+use Rattle.simulation.specs.View.{IsCommitAt, standing}
+use Rattle.node_laws.specs.Node.{NodeView}
+use Rattle.node_laws.specs.Source.{IsWaiting}
+use Rattle.node_laws.specs.Simulation.{Stands, IsSettled}
+
+-- the leaf is honest for the log once what stands above the end that the next Connect would carry is taken back
+abbrev pub IsHonestBack : List Record → LeafView → Type 0
+IsHonestBack log leaf = IsHonestLeaf log (taken_back leaf (last_not_session log))
+
+-- every leaf is honest for the transactions' log: each that is cached once what that has lost is taken back, and at once
+-- where the transaction component doesn't wait for a session; at once, with stable numbers captured only, each page and
+-- each leaf in the data component's log, and each that recovery would give, however much of that log a crash keeps
+pub record AreHonest (w : NodeView) : Type 0 where
+  pub cached : AllByRecursion (IsHonestBack w.tc.log) (leaves w.dc)
+  pub served : (IsWaiting w.tc.phase → ⊥) → AllByRecursion (IsHonestLeaf w.tc.log) (leaves w.dc)
+  pub written : AllHave (IsHonestTo w.tc.log w.tc.stable) (pages_of w.dc.system.pages) w.dc.system.log
+  pub recovered : (n : ℕ) → w.dc.system.stable ≤ n
+      → AllByRecursion (IsHonestTo w.tc.log w.tc.stable) (crashed w.dc.system n).leaves
+
+-- no operation is compensated twice
+abbrev pub IsCompensatedOnce : List Record → Type 0
+IsCompensatedOnce log = (n m undoes : ℕ) → Names log n undoes → Names log m undoes → n ≡ m
+
+-- no compensation is answered Exists, NoRecord or NotNumber
+abbrev pub IsNoneRefused : List Record → Type 0
+IsNoneRefused log =
+    (n t u x : ℕ) (i : Op) (a : Answer) → record_at log n ≡ Some (is.Comp t u x (Some i)) → answer_of log n ≡ Some a
+    → IsEffective a
+
+-- whose Commit record is stable has committed, and of its entries those stand that do in the log; and all records are
+-- stable that a component found when it was opened
+pub record IsCommitted (log : List Record) (m : Machine) (t : ℕ) : Type 0 where
+  pub committed : HasCommitted m t (entries_of t m.h)
+  pub entries : standing (entries_of t m.h) ≡ standing (entries_of t (hist log))
+
+abbrev pub CommitsStand : NodeView → Machine → Type 0
+CommitsStand w m = (t k : ℕ) → IsCommitAt w.tc.log t k → k ≤ w.tc.stable → IsCommitted w.tc.log m t
+
+-- a settled node holds what a plain map holds after the operations that stand, and these are the log's
+pub record IsPlain (w : NodeView) (m : Machine) : Type 0 where
+  pub rows : rows_of (leaves w.dc) ≡ plain m.h
+  pub history : standing m.h ≡ standing (hist w.tc.log)
+
+-- for each list machine that the node stands for
+pub record Promises (w : NodeView) : Type 0 where
+  pub honest : AreHonest w
+  pub once : IsCompensatedOnce w.tc.log
+  pub unrefused : IsNoneRefused w.tc.log
+  pub commits : (m : Machine) → Stands w m → CommitsStand w m
+  pub settled : (m : Machine) → Stands w m → IsSettled w → IsPlain w m

@@ -1,0 +1,10 @@
+use Rattle.std.proofs.Common.{arith, subst}
+use Rattle.tc_core.specs.Kept.{IsTc}
+use Rattle.tc_core.proofs.OpenedLog.{opened_kept}
+use Rattle.node_sides.proofs.stopped_tc.StoppedTc.kept.Goals as goal
+
+pub returns : goal.returns
+returns g c =
+    let begins = c.self.invariant.0.begins in
+    subst IsTc c.self.view_is
+    (opened_kept c.self.inside.found.log (g.D.LogDevice.usage c.self.inside.device) begins.legal (omega (arith, begins.numbered)))

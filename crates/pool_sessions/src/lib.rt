@@ -1,0 +1,12 @@
+//! A client's calls of an engine.
+//!
+//! Knows: by which steps a call is carried on, and what was told of it.
+//! Must not know: how either half of the node keeps its state, or who else shares the node.
+//! Promises the next crates: a session's part of the journal has just the calls that the session made, each with what it
+//! was answered.
+#![tactic(auto)]
+
+mod ahead;
+mod session;
+
+pub use session::Session;
