@@ -13,6 +13,7 @@ pub struct Text<'a, W> {
 }
 
 impl<'a, W: io::Write> Text<'a, W> {
+    /// A text of which nothing is written yet.
     pub fn new(writer: &'a mut W) -> Text<'a, W> {
         Text {
             writer,
@@ -25,10 +26,12 @@ impl<'a, W: io::Write> Text<'a, W> {
         !self.is_cut
     }
 
+    /// Words as they are.
     pub fn say(&mut self, words: &str) -> &mut Self {
         self.bytes(words.as_bytes())
     }
 
+    /// Bytes as they are.
     pub fn bytes(&mut self, bytes: &[u8]) -> &mut Self {
         if !self.is_cut {
             self.is_cut = put(self.writer, bytes).is_err();
@@ -41,11 +44,12 @@ impl<'a, W: io::Write> Text<'a, W> {
         self.piece(Piece::Word(word))
     }
 
-    /// A place: how far right, and how far down.
+    /// A place as a picture names it: how far right, a space, and how far down, in pixels.
     pub fn place(&mut self, right: u64, down: u64) -> &mut Self {
         self.number(right).say(" ").number(down)
     }
 
+    /// A number in digits of base ten.
     pub fn number(&mut self, number: u64) -> &mut Self {
         self.piece(Piece::Number(number))
     }
