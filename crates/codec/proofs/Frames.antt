@@ -9,9 +9,11 @@ use Rattle.std.proofs.lemmas.Option.{cond_some}
 use Rattle.record_key.specs.Table.{Bytes}
 use Rattle.codec.specs.declared.taken.Taken.{Taken}
 use Rattle.codec.specs.declared.taken.Taken.TheVariants as took
+use Rattle.codec.specs.declared.frame.FrameEnd.{FrameEnd}
+use Rattle.codec.specs.declared.frame.FrameEnd.TheVariants as ends
 use Rattle.codec.specs.Fields.{number, first_number}
 use Rattle.codec.specs.Frames.{frame, any_length, IsCut, IfTaken, IfBad, IsThere, IsWhole}
-use Rattle.codec.specs.Reading.{Reader, all_of, frame_at, value_or_bad, within, seen}
+use Rattle.codec.specs.Reading.{Reader, all_of, frame_at, value_or_bad, taken_at, within, seen}
 use Rattle.codec.proofs.Readers.{IsBytes, IsBytes-drop, IsBytes-take, IsReader, bind_some}
 use Rattle.codec.proofs.Fields.{length-number, number_in_front, first_number-number}
 
@@ -261,11 +263,30 @@ bad_place X read limit place left at e =
           (sym (ap (within place read) is) ∙ e)
     ]
 
+pub bad_read : (X : Type 0) (read : Reader X) (limit place : ℕ) (left : List ℕ) {at : ℕ}
+    → took.Bad at ≡ frame_at limit place left → took.Bad place ≡ within place read (frame_at limit place left)
+bad_read X read limit place left {at} e =
+    let is : within place read (frame_at limit place left) ≡ took.Bad at = sym (ap (within place read) e) in
+    sym (is ∙ ap (λ (p : ℕ). took.Bad p) (bad_place X read limit place left at is))
+
 pub bad : (X : Type 0) (read : Reader X) (limit place : ℕ) (left : List ℕ) (result : Taken X)
     → result ≡ within place read (frame_at limit place left) → IfBad result (λ at. at ≡ place)
 bad X read limit place left (took.Record x next) e = tt
 bad X read limit place left took.Short e = tt
 bad X read limit place left (took.Bad at) e = bad_place X read limit place left at (sym e)
+
+-- ---- a value that was put in its place
+
+-- nothing whole stands there where its end is so
+pub no_end : (X : Type 0) (place : ℕ) (end : FrameEnd) (x : X) → taken_at place end x ≡ took.Short → end ≡ ends.Short
+no_end X place (ends.At next) x e = absurd cc
+no_end X place ends.Short x e = refl
+no_end X place ends.Bad x e = absurd cc
+
+pub bad_at : (X : Type 0) (place : ℕ) (end : FrameEnd) (x : X) → IfBad (taken_at place end x) (λ at. at ≡ place)
+bad_at X place (ends.At next) x = tt
+bad_at X place ends.Short x = tt
+bad_at X place ends.Bad x = refl
 
 -- what was no frame was not the body of one
 pub not_taken : {X : Type 0} (view : X → Bytes) (taken : Taken X) (body : Bytes) (next : ℕ)

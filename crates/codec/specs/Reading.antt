@@ -12,6 +12,8 @@ use Rattle.codec.specs.declared.request.Request.{Request}
 use Rattle.codec.specs.declared.request.Request.TheVariants as asks
 use Rattle.codec.specs.declared.taken.Taken.{Taken}
 use Rattle.codec.specs.declared.taken.Taken.TheVariants as took
+use Rattle.codec.specs.declared.frame.FrameEnd.{FrameEnd}
+use Rattle.codec.specs.declared.frame.FrameEnd.TheVariants as ends
 use Rattle.record_key.specs.Rows.{Row, rises}
 use Rattle.record_key.specs.Order.{is_below, is_between}
 use Rattle.codec.specs.declared.reply.Reply.{Reply}
@@ -294,6 +296,12 @@ abbrev pub within : {X : Type 0} → ℕ → Reader X → Taken Bytes → Taken 
 within place part (took.Record body next) = value_or_bad place next (all_of part body)
 within place part took.Short = took.Short
 within place part (took.Bad at) = took.Bad at
+
+-- a value that was put in its place, and where its frame ends, as what was taken at a place
+abbrev pub taken_at : {X : Type 0} → ℕ → FrameEnd → X → Taken X
+taken_at place (ends.At next) x = took.Record x next
+taken_at place ends.Short x = took.Short
+taken_at place ends.Bad x = took.Bad place
 
 -- what was taken, seen by view
 abbrev pub seen : {X Y : Type 0} → (X → Y) → Taken X → Taken Y

@@ -2,7 +2,7 @@
 ghost use Rattle.std.specs.Prelude.{◌≡◌, ◌↔◌, ◌+◌, ◌<◌, ◌^◌, ℕ, length, drop, IfOk, IfErr};
 ghost use Rattle.codec.specs.Fields.{first_number};
 ghost use Rattle.codec.specs.Frames.{IsWholeFrame, IsNoLength, IsCut, IsFrameOf};
-ghost use Rattle.codec.specs.Reading.{frame_at, seen, within};
+ghost use Rattle.codec.specs.Reading.{frame_at, seen, taken_at, within};
 
 use crate::framed::Framed;
 use crate::taken::Taken;
@@ -65,6 +65,42 @@ pub(crate) fn take_body(bytes: &[u8], at: usize, limit: u64) -> Taken<&[u8]>
     Taken::Record(&rest[..length], at + HEADER_LEN + length)
 }
 
+/// Puts the value whose frame begins at a place in place of another, and tells where that frame ends. Where there is none,
+/// what stands in its place is not said.
+pub(crate) fn read_framed<T: Framed>(
+    memory: T::Memory,
+    bytes: &[u8],
+    at: usize,
+    limit: u64,
+    value: &mut T,
+) -> Result<FrameEnd, T::Refused>
+    ensures value { IfOk result (λ end.
+        taken_at at end value.new ≡ within at T.read_at (frame_at limit at (drop at bytes.now))) }
+    ensures fits { length bytes.now < 2 ^ 64 }
+    ensures cause { IfErr result (λ _. IsFrameOf limit T.takes_memory (drop at bytes.now)) }
+{
+    match take_body(bytes, at, limit) {
+        Taken::Record(body, next) => match T::take_all(memory, body, value) {
+            Ok(true) => Ok(FrameEnd::At(next)),
+            Ok(false) => Ok(FrameEnd::Bad),
+            Err(refused) => Err(refused),
+        },
+        Taken::Short => Ok(FrameEnd::Short),
+        Taken::Bad(_) => Ok(FrameEnd::Bad),
+    }
+}
+
+/// What was taken at a place, where a value was put in its place and its frame ends so.
+pub(crate) fn taken_at<T: Drop>(at: usize, end: FrameEnd, value: T) -> Taken<T>
+    ensures { result ≡ taken_at at end value }
+{
+    match end {
+        FrameEnd::At(next) => Taken::Record(value, next),
+        FrameEnd::Short => Taken::Short,
+        FrameEnd::Bad => Taken::Bad(at as u64),
+    }
+}
+
 /// The value whose frame begins at a place, and the place after it.
 pub(crate) fn take_framed<T: Framed>(
     memory: T::Memory,
@@ -76,16 +112,9 @@ pub(crate) fn take_framed<T: Framed>(
     ensures fits { length bytes.now < 2 ^ 64 }
     ensures cause { IfErr result (λ _. IsFrameOf limit T.takes_memory (drop at bytes.now)) }
 {
-    match take_body(bytes, at, limit) {
-        Taken::Record(body, next) => {
-            let mut value = T::blank();
-            match T::take_all(memory, body, &mut value) {
-                Ok(true) => Ok(Taken::Record(value, next)),
-                Ok(false) => Ok(Taken::Bad(at as u64)),
-                Err(refused) => Err(refused),
-            }
-        }
-        Taken::Short => Ok(Taken::Short),
-        Taken::Bad(place) => Ok(Taken::Bad(place)),
+    let mut value = T::blank();
+    match read_framed(memory, bytes, at, limit, &mut value) {
+        Ok(end) => Ok(taken_at(at, end, value)),
+        Err(refused) => Err(refused),
     }
 }

@@ -40,8 +40,8 @@ pub use image::{
 pub use parted::{Asking, answered_at, asking_at, put_answered};
 pub use parted_reads::{Reading, found_at, reading_at};
 pub use record::{
-    asked_op, left_to_undo, put_answer_record, put_op_record, put_record, record_spelling_law,
-    step_prev, step_txn, take_record,
+    asked_op, left_to_undo, put_answer_record, put_op_record, put_record, read_record,
+    record_spelling_law, step_prev, step_txn, take_record,
 };
 pub use reply::{Reply, put_reply, reply_session, reply_spelling_law, take_reply};
 pub use request::{Request, put_request, request_spelling_law, take_request};

@@ -8,9 +8,9 @@ ghost use Rattle.std.specs.List.{flat_map, AllByRecursion};
 ghost use Rattle.codec.specs.Writing.{HasRoom, Puts};
 ghost use Rattle.history.specs.Log.{request_of, step_of};
 ghost use Rattle.history.specs.Chains.{undo_from, prev_in};
-ghost use Rattle.codec.specs.Reading.{Gives, pair, mapped, optional_at, byte_at, number_at, op_at, record_at};
+ghost use Rattle.codec.specs.Reading.{Gives, pair, mapped, optional_at, byte_at, number_at, op_at, record_at, taken_at};
 
-use crate::frame::{HEADER_LEN, left_at, take_framed};
+use crate::frame::{FrameEnd, HEADER_LEN, left_at, read_framed, taken_at};
 use crate::framed::Framed;
 use crate::lengths::{answer_len, op_len, optional_op_len};
 use crate::reading::{take_answer, take_number, take_op, take_optional_op};
@@ -77,18 +77,32 @@ pub fn put_answer_record(out: &mut Vec<u8>, of: u64, answer: &Answer) -> Result<
     Ok(())
 }
 
+/// Puts the record whose frame begins at a place in place of another, and tells where that frame ends: a record is large,
+/// and each hand-over of one is a copy. Where there is none, what stands in its place is not said. Takes no memory.
+pub fn read_record(bytes: &[u8], at: usize, record: &mut Record) -> FrameEnd
+    // What is read stands there.
+    ensures found { IfTaken (taken_at at result «record».new)
+        (IsThere Record record_bytes IsRecord at (drop at bytes.now)) }
+    // What stands there is read, whatever follows.
+    ensures only { (r : Record) (rest : List ℕ) → IsRecord r → drop at bytes.now ≡ frame (record_bytes r) ++ rest
+        → taken_at at result «record».new ≡ Taken.Record r (at + length (frame (record_bytes r))) }
+    ensures short { (result ≡ FrameEnd.Short) ↔ IsCut 181 (drop at bytes.now) }
+{
+    let Ok(end) = read_framed((), bytes, at, RECORD_LIMIT, record);
+    end
+}
+
 /// The record whose frame begins at a place, and the place after it. Takes no memory.
 pub fn take_record(bytes: &[u8], at: usize) -> Taken<Record>
-    // What is taken stands there.
     ensures found { IfTaken result (IsThere Record record_bytes IsRecord at (drop at bytes.now)) }
-    // What stands there is taken, whatever follows.
     ensures only { (r : Record) (rest : List ℕ) → IsRecord r → drop at bytes.now ≡ frame (record_bytes r) ++ rest
         → result ≡ Taken.Record r (at + length (frame (record_bytes r))) }
     ensures short { (result ≡ Taken.Short) ↔ IsCut 181 (drop at bytes.now) }
     ensures bad { IfBad result (λ place. place ≡ at) }
 {
-    let Ok(taken) = take_framed((), bytes, at, RECORD_LIMIT);
-    taken
+    let mut record = Record::Session;
+    let end = read_record(bytes, at, &mut record);
+    taken_at(at, end, record)
 }
 
 /// The transaction of the Op or Comp record whose frame begins at a place, none of another record. Reads no more than

@@ -5,7 +5,8 @@ ghost use Rattle.history.specs.Legal.{Fits, IsLegal, Inverts};
 ghost use Rattle.history.specs.Chains.{undo_from};
 ghost use Rattle.history.specs.declared.record.Record.{Record};
 ghost use Rattle.codec.specs.FrameIndex.{places_of, Indexes};
-ghost use Rattle.codec.specs.Frames.{frame, IfTaken, IfBad, IsThere, IsCut};
+ghost use Rattle.codec.specs.Frames.{frame, IfTaken, IsThere, IsCut};
+ghost use Rattle.codec.specs.Reading.{taken_at};
 ghost use Rattle.codec.specs.Records.{record_bytes, HasNumbers, IsRecord};
 ghost use Rattle.codec.specs.Undoing.{AreAnsweredAt};
 ghost use Rattle.logical_log.specs.Appended.{record_of};
@@ -26,8 +27,8 @@ use crate::compensated::Compensated;
 use crate::note::{ASKS_NOTHING, answer_held, answer_place, note, note_comp};
 use crate::write::{refusal_of, write, write_comp};
 use codec::{
-    CompNumbers, FrameIndex, Taken, asked_bytes, asked_op, left_to_undo, step_prev, step_txn,
-    take_record,
+    CompNumbers, FrameEnd, FrameIndex, Taken, asked_bytes, asked_op, left_to_undo, read_record,
+    step_prev, step_txn, take_record,
 };
 use history::Record;
 use record_key::{Answer, Op, Refusal};
@@ -248,15 +249,16 @@ impl<D: LogDevice> Frames<D> {
         self.device.held().len() <= self.end
     }
 
-    /// What stands after the records that were read.
-    pub(crate) fn next(&self) -> Taken<Record>
-        ensures found { IfTaken result (IsNext self.now.records self.now.left) }
+    /// Puts what stands after the records that were read in place of another record, and tells where it ends.
+    pub(crate) fn next(&self, found: &mut Record) -> FrameEnd
+        ensures found { IfTaken (taken_at (length (spelled self.now.records)) result «found».new)
+            (IsNext self.now.records self.now.left) }
         ensures only { (r : Record) (rest : List ℕ) → IsRecord r → self.now.left ≡ frame (record_bytes r) ++ rest
-            → result ≡ Taken.Record r (length (spelled self.now.records) + length (frame (record_bytes r))) }
-        ensures short { (result ≡ Taken.Short) ↔ IsCut 181 self.now.left }
-        ensures bad { IfBad result (λ place. place ≡ length (spelled self.now.records)) }
+            → taken_at (length (spelled self.now.records)) result «found».new
+            ≡ Taken.Record r (length (spelled self.now.records) + length (frame (record_bytes r))) }
+        ensures short { (result ≡ FrameEnd.Short) ↔ IsCut 181 self.now.left }
     {
-        take_record(self.device.held(), self.end)
+        read_record(self.device.held(), self.end, found)
     }
 
     /// Counts what stands next among the records that were read.

@@ -14,7 +14,7 @@ use crate::frames::Frames;
 use crate::open::Refused;
 use crate::replay::Index;
 use crate::write::{LAST_NUMBER, refusal_of};
-use codec::Taken;
+use codec::FrameEnd;
 use history::Record;
 use record_key::Refusal;
 use stable::LogDevice;
@@ -72,13 +72,13 @@ fn replay<D: LogDevice>(alloc: Global, frames: &mut Frames<D>) -> Result<Index, 
     ensures device { frames.new.device ≡ frames.old.device }
 {
     let mut index = Index::new(alloc);
+    // One place for each record that is read: a record is large.
+    let mut found = Record::Session;
     loop {
-        // It is looked at where it stands: a record is large.
-        let taken = frames.next();
-        match &taken {
-            Taken::Record(found, next) => step(frames, &mut index, found, *next)?,
-            Taken::Short => return Ok(index),
-            Taken::Bad(place) => return Err(Refusal::BadBytes(*place)),
+        match frames.next(&mut found) {
+            FrameEnd::At(next) => step(frames, &mut index, &found, next)?,
+            FrameEnd::Short => return Ok(index),
+            FrameEnd::Bad => return Err(Refusal::BadBytes(frames.end() as u64)),
         }
     }
 }

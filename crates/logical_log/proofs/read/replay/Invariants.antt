@@ -3,10 +3,10 @@ use Rattle.logical_log.specs.Opening.{BeginsAs}
 use Rattle.logical_log.specs.Replay.{IsIndex}
 use Rattle.logical_log.proofs.read.replay.Given as goal
 
-abbrev pub invariant-loop-found : goal.invariant-loop-found
-invariant-loop-found g l =
+abbrev pub invariant-loop-next : goal.invariant-loop-next
+invariant-loop-next g l =
     BeginsAs l.initial.frames.left l.frames.records l.frames.left × IsIndex l.frames.records l.index
     × (l.frames.device ≡ l.initial.frames.device)
 
-abbrev pub decreases-loop-found : goal.decreases-loop-found
-decreases-loop-found g l = length l.frames.left
+abbrev pub decreases-loop-next : goal.decreases-loop-next
+decreases-loop-next g l = length l.frames.left
