@@ -24,7 +24,8 @@ use Rattle.tc_core.specs.declared.phase.Phase.TheVariants as phase
 use Rattle.tc_core.specs.OpenTxns.{find}
 use Rattle.tc_core.specs.TcView.{TcView, is_none_lost}
 use Rattle.tc_core.specs.Locking.{is_listed, is_holder, HoldOperations}
-use Rattle.tc_core.specs.Changes.{next_of, inverse_at, waits_for, lost_comp, lost_compensated, lost_ended}
+use Rattle.logical_log.specs.Undoing.{inverse_at, next_at}
+use Rattle.tc_core.specs.Changes.{waits_for, lost_comp, lost_compensated, lost_ended}
 use Rattle.tc_core.specs.Kept.{AreOpen, IsPhase, IsPhaseOf, MayLack, IsDue, closing, IsTc}
 use Rattle.tc_core.proofs.Committing.{holder_more, holder_alike}
 use Rattle.tc_core.proofs.Finding.{found_number}
@@ -175,7 +176,7 @@ module _ (w : TcView) (k : IsTc w) (undoing : w.phase ≡ phase.Undoing None) wh
 
   module _ (x : Loser) (l : LosersView) (next : LosesNext w.log w.losers.below x)
       (fits : Fits w.log (lost_comp w.log x))
-      (taken : TakesComp w.losers (length w.log + 1) (next_of w.log x.left) l) (same : l.below ≡ w.losers.below) where
+      (taken : TakesComp w.losers (length w.log + 1) (next_at w.log x.left) l) (same : l.below ≡ w.losers.below) where
     abbrev inverse : Option Op
     inverse = inverse_at w.log x.left
 

@@ -14,7 +14,8 @@ use Rattle.tc_core.specs.declared.open_txn.Rollback.{Rollback}
 use Rattle.tc_core.specs.OpenTxns.{find}
 use Rattle.logical_log.specs.LogView.{is_spent}
 use Rattle.tc_core.specs.TcView.{TcView}
-use Rattle.tc_core.specs.Changes.{waits_for, compensated_txn, compensated, ended, committed, next_of, inverse_at}
+use Rattle.logical_log.specs.Undoing.{inverse_at, next_at}
+use Rattle.tc_core.specs.Changes.{waits_for, compensated_txn, compensated, ended, committed}
 use Rattle.tc_core.specs.Kept.{IsTc, closing}
 use Rattle.tc_core.proofs.Committing.{holder_closing, commits_more}
 use Rattle.restart.specs.Losers.{txns}
@@ -42,18 +43,18 @@ inverse_is log u i h = rw (h.is, h.answered) h.inverse
 
 -- so the compensation that fits is that of what is left to undo
 pub comp_is : (log : List Record) (t u above : ℕ) (r : Record) → IsLegal log → IsLatestOrNone (Stands log t) u
-    → Compensates log t above r → (r ≡ is.Comp t u (next_of log u) (inverse_at log u)) × (above < u)
+    → Compensates log t above r → (r ≡ is.Comp t u (next_at log u) (inverse_at log u)) × (above < u)
 comp_is log t u above r legal left h =
     let same : h.undoes ≡ u = latest_unique (Stands log t) h.undoes u (inl h.fits.latest) left in
-    let next : h.next ≡ next_of log h.undoes =
-    latest_unique (λ n. Stands log t n × (n < h.undoes)) h.next (next_of log h.undoes) h.fits.next
+    let next : h.next ≡ next_at log h.undoes =
+    latest_unique (λ n. Stands log t n × (n < h.undoes)) h.next (next_at log h.undoes) h.fits.next
     (earlier_found log t h.undoes legal h.fits.latest.is) in
     let inverse : h.inverse ≡ inverse_at log h.undoes = inverse_is log h.undoes h.inverse h.fits.inverse in
     (h.is ∙ rw (next, inverse, same) refl, omega (arith, h.above_bound, same))
 
 pub is_comp : (w : TcView) (o : OpenTxn) (above : ℕ) (r : Record) → IsTc w → find o.txn w.open_txns ≡ Some o
     → Compensates w.log o.txn above r
-    → (r ≡ is.Comp o.txn o.undo (next_of w.log o.undo) (inverse_at w.log o.undo)) × (above < o.undo)
+    → (r ≡ is.Comp o.txn o.undo (next_at w.log o.undo) (inverse_at w.log o.undo)) × (above < o.undo)
 is_comp w o above r k at h = comp_is w.log o.txn o.undo above r k.legal (undo_found w o k at) h
 
 pub fits_comp : (log : List Record) (t above : ℕ) (r : Record) → Compensates log t above r → Fits log r
@@ -67,11 +68,11 @@ none_left w o above k at undone =
 
 pub keeps_comp : (w : TcView) (o : OpenTxn) (b : Rollback) → IsTc w → find o.txn w.open_txns ≡ Some o
     → o.waiting ≡ None → o.rolling ≡ Some b
-    → Fits w.log (is.Comp o.txn o.undo (next_of w.log o.undo) (inverse_at w.log o.undo)) → is_spent w.log ≡ false
+    → Fits w.log (is.Comp o.txn o.undo (next_at w.log o.undo) (inverse_at w.log o.undo)) → is_spent w.log ≡ false
     → IsTc (compensated w o)
 keeps_comp w o b k at none rolling fits unspent =
     let h = open_at w o k at in
-    let next : ℕ = next_of w.log o.undo in
+    let next : ℕ = next_at w.log o.undo in
     let i : Option Op = inverse_at w.log o.undo in
     let r : Record = is.Comp o.txn o.undo next i in
     let new : OpenTxn = compensated_txn o (length w.log + 1) next i in

@@ -2,14 +2,12 @@
 use Rattle.std.specs.Prelude.{ℕ, ◌+◌, List, [], ◌∷◌, ◌++◌, Option, Some, None, length, nat_lt, take, if◌then◌else◌}
 use Rattle.record_key.specs.declared.op.Op.{Op}
 use Rattle.record_key.specs.declared.op.Answer.{Answer}
-use Rattle.inverse.specs.Inverse.{inverse_of}
 use Rattle.stable.specs.Usage.{called}
 use Rattle.history.specs.declared.record.Record.{Record}
 use Rattle.history.specs.declared.record.Record.TheVariants as is
-use Rattle.history.specs.Log.{record_at, answer_of, op_in}
 use Rattle.history.specs.Spans.{changed_span}
 use Rattle.history.specs.Spans as law
-use Rattle.history.specs.Chains.{undo_from, prev_in}
+use Rattle.logical_log.specs.Undoing.{inverse_at, next_at}
 use Rattle.range_locks.specs.declared.span.Mode.TheVariants.{Shared}
 use Rattle.range_locks.specs.declared.span.Span.{Span}
 use Rattle.range_locks.specs.Locks.{LocksView, spans_of, set_spans}
@@ -143,18 +141,6 @@ committed w t = record w {
   committing = w.committing ++ t ∷ [];
 }
 
--- what is left to undo after an operation
-abbrev pub next_of : List Record → ℕ → ℕ
-next_of log u = undo_from (record_at log (prev_in (record_at log u))) (prev_in (record_at log u))
-
--- the inverse of an operation by its answer
-abbrev pub inverse_in : Option (ℕ × Op) → Option Answer → Option Op
-inverse_in (Some by) (Some answer) = inverse_of by.1 answer
-inverse_in _ _ = None
-
-abbrev pub inverse_at : List Record → ℕ → Option Op
-inverse_at log u = inverse_in (op_in (record_at log u)) (answer_of log u)
-
 -- a compensation waits for its answer where it has an inverse
 abbrev pub waits_for : ℕ → Option Op → Option ℕ
 waits_for n None = None
@@ -166,9 +152,9 @@ compensated_txn o n next inverse = record o { last = n; undo = next; waiting = w
 
 abbrev pub compensated : TcView → OpenTxn → TcView
 compensated w o = record w {
-  log = is.Comp o.txn o.undo (next_of w.log o.undo) (inverse_at w.log o.undo) ∷ w.log;
+  log = is.Comp o.txn o.undo (next_at w.log o.undo) (inverse_at w.log o.undo) ∷ w.log;
   usage = called w.usage;
-  open_txns = replace (compensated_txn o (length w.log + 1) (next_of w.log o.undo) (inverse_at w.log o.undo))
+  open_txns = replace (compensated_txn o (length w.log + 1) (next_at w.log o.undo) (inverse_at w.log o.undo))
       w.open_txns;
 }
 
@@ -204,7 +190,7 @@ answered_lost w n a = record w { log = is.Answer n a ∷ w.log; usage = called w
 
 -- the compensation of a loser's latest operation that none names
 abbrev pub lost_comp : List Record → Loser → Record
-lost_comp log x = is.Comp x.txn x.left (next_of log x.left) (inverse_at log x.left)
+lost_comp log x = is.Comp x.txn x.left (next_at log x.left) (inverse_at log x.left)
 
 -- it is logged, and awaits its answer where it has an inverse
 abbrev pub lost_compensated : TcView → Loser → LosersView → TcView

@@ -34,7 +34,8 @@ use Rattle.stable.specs.Usage.{failed}
 use Rattle.tc_core.specs.TcView.{TcView}
 use Rattle.tc_core.specs.Refusing.{Refuses}
 use Rattle.tc_core.specs.Causes.{begin_refusal, idle_refusal, is_full, answered_refusal, undo_refusal, undo_logs, logs_next, saves_of, has_savepoint, reads_spent, RefusesTaking, commit_refusal, serving_refusal}
-use Rattle.tc_core.specs.Changes.{shared, logged_session, committed, answered, was_told, checkpointed, next_of, inverse_at}
+use Rattle.logical_log.specs.Undoing.{inverse_at, next_at}
+use Rattle.tc_core.specs.Changes.{shared, logged_session, committed, answered, was_told, checkpointed}
 use Rattle.tc_core.specs.Calls.{ReconnectGives, BeginGives, ActGives, ReadGives, SaveGives, BackGives, RollbackGives, CommitGives, UndoGives, ForceGives, Undoes, IsAt}
 use Rattle.tc_core.specs.Replies.{ReplyGives, Outcome, on_reply, on_answered, on_awaited, on_lost, lacks, passed, on_connected, on_redo_ended, on_row, on_rows, on_checkpointed, is_number, awaiting, reader, takes, is_key, is_range, span_read, is_logged, is_stale, answered_refusal_of, reply_refusal}
 use Rattle.tc_core.specs.Recovery.{RecoverGives, SendsAt, redoing, redo_place}
@@ -194,11 +195,11 @@ checkpoint_keeps old new (Err r) k h = subst IsTc (sym h.1) k
 
 -- what is left to undo can be compensated
 fits_comp : (w : TcView) (o : OpenTxn) → IsTc w → find o.txn w.open_txns ≡ Some o → o.waiting ≡ None → 0 < o.undo
-    → Fits w.log (is.Comp o.txn o.undo (next_of w.log o.undo) (inverse_at w.log o.undo))
+    → Fits w.log (is.Comp o.txn o.undo (next_at w.log o.undo) (inverse_at w.log o.undo))
 fits_comp w o k at none some = by (undo_found w o k at)
   where
     by : IsLatestOrNone (Stands w.log o.txn) o.undo
-        → Fits w.log (is.Comp o.txn o.undo (next_of w.log o.undo) (inverse_at w.log o.undo))
+        → Fits w.log (is.Comp o.txn o.undo (next_at w.log o.undo) (inverse_at w.log o.undo))
     by (inr zero) = absurd (omega (arith, zero.0, some))
     by (inl latest) =
         let h = open_at w o k at in

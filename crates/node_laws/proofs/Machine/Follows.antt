@@ -31,7 +31,8 @@ use Rattle.stable.specs.Usage.{Usage, failed}
 use Rattle.tc_core.specs.TcView.{TcView, used_so}
 use Rattle.tc_core.specs.Refusing.{Refuses}
 use Rattle.tc_core.specs.Causes.{serving_refusal, begin_refusal, commit_refusal, idle_refusal, read_refusal, save_refusal, saves_of, back_refusal, has_savepoint, undo_refusal, answered_refusal, undo_logs, RefusesTaking}
-use Rattle.tc_core.specs.Changes.{begun, acted, acted_txn, asked_read, reading_txn, shared, saved, saved_txn, going_back, going_back_txn, rolled, rolling_txn, committed, compensated, compensated_txn, ended, is_back, back_txn, next_of, inverse_at, forced}
+use Rattle.logical_log.specs.Undoing.{inverse_at, next_at}
+use Rattle.tc_core.specs.Changes.{begun, acted, acted_txn, asked_read, reading_txn, shared, saved, saved_txn, going_back, going_back_txn, rolled, rolling_txn, committed, compensated, compensated_txn, ended, is_back, back_txn, forced}
 use Rattle.tc_core.specs.Calls.{IsAt, Acts, AsksRead, Saves, GoesBack, RollsBack, ReadGives, UndoGives, UndoesStep, Undoes}
 use Rattle.tc_core.specs.Kept.{IsTc}
 use Rattle.tc_core.specs.Locking.{is_listed}
@@ -441,10 +442,10 @@ module _ (old : NodeView) (t : ℕ) (k : IsKept old) where
       → Undoes old.tc o (Some r) (undo.Compensated n) new.tc → Follows old (event.Undo t) (out.Compensated n) new
   compensates new n o r at allowed rolling left is_tc h =
       let tc : TcView = compensated old.tc o in
-      let mine : OpenTxn = compensated_txn o (length old.tc.log + 1) (next_of old.tc.log o.undo)
+      let mine : OpenTxn = compensated_txn o (length old.tc.log + 1) (next_at old.tc.log o.undo)
       (inverse_at old.tc.log o.undo) in
       let after : IsTc tc = subst IsTc h.2 is_tc in
-      let c : Record = is.Comp o.txn o.undo (next_of old.tc.log o.undo) (inverse_at old.tc.log o.undo) in
+      let c : Record = is.Comp o.txn o.undo (next_at old.tc.log o.undo) (inverse_at old.tc.log o.undo) in
       at_tc old new tc (event.Undo t) (out.Compensated n) left h.2 (record {
         leads = no_line old (with_tc old tc) (event.Undo t) (out.Compensated n) refl
             (λ m stands. stands_compensated old.tc m o k.tc at.is stands r rolling h.0 after);

@@ -43,7 +43,8 @@ use Rattle.tc_core.specs.OpenTxns.{find, without}
 use Rattle.tc_core.specs.TcView.{TcView}
 use Rattle.restart.specs.Losers.{LosersView, txns, IsLoser}
 use Rattle.tc_core.specs.Causes.{saves_of}
-use Rattle.tc_core.specs.Changes.{let_go, forced, logged_session, reconnected, begun_txn, begun, acted_txn, acted, reading_txn, shared, asked_read, told_txn, was_told, saved_txn, saved, rolling_txn, rolled, going_back_txn, going_back, committed, next_of, inverse_at, compensated_txn, compensated, ended, back_txn, is_back, answered_txn, answered, answered_lost, lost_comp, lost_compensated, lost_ended, checkpointed}
+use Rattle.logical_log.specs.Undoing.{inverse_at, next_at}
+use Rattle.tc_core.specs.Changes.{let_go, forced, logged_session, reconnected, begun_txn, begun, acted_txn, acted, reading_txn, shared, asked_read, told_txn, was_told, saved_txn, saved, rolling_txn, rolled, going_back_txn, going_back, committed, compensated_txn, compensated, ended, back_txn, is_back, answered_txn, answered, answered_lost, lost_comp, lost_compensated, lost_ended, checkpointed}
 use Rattle.tc_core.specs.Locking.{is_listed, is_holder}
 use Rattle.tc_core.specs.Kept.{IsTc, IsDue, commits_in}
 use Rattle.tc_core.proofs.Finding.{find_here, find_there, found_number, without_same}
@@ -278,15 +279,15 @@ module _ (w : TcView) (m : Machine) (o : OpenTxn) (k : IsTc w) (at : find o.txn 
       → StandsFor (clients (compensated w o)) m
   stands_compensated r rolling above after =
       let u : ℕ = o.undo in
-      let new : OpenTxn = compensated_txn o (length w.log + 1) (next_of w.log u) (inverse_at w.log u) in
+      let new : OpenTxn = compensated_txn o (length w.log + 1) (next_at w.log u) (inverse_at w.log u) in
       let undoes : is_to_undo ((clients w).doing o.txn) u ≡ true =
       ap (λ d. is_to_undo d u) (does_this w o (Rolls r.savepoint r.above) at (rolls o r rolling))
       ∙ grind (arith, nat_tests) in
-      stands_along (record (clients w) { log = is.Comp o.txn u (next_of w.log u) (inverse_at w.log u) ∷ w.log })
+      stands_along (record (clients w) { log = is.Comp o.txn u (next_at w.log u) (inverse_at w.log u) ∷ w.log })
       (clients (compensated w o)) m refl refl (λ t. refl)
       (doing_kept w.open_txns new o at (rolls new r rolling ∙ sym (rolls o r rolling)))
       (saves_kept w.open_txns new o at refl) (λ t. refl)
-      (comp_is_no_step (clients w) m o.txn u (next_of w.log u) (inverse_at w.log u) after.legal stands (inr undoes))
+      (comp_is_no_step (clients w) m o.txn u (next_at w.log u) (inverse_at w.log u) after.legal stands (inr undoes))
 
   -- is rolled back
   pub stands_ended : (r : Rollback) → o.rolling ≡ Some r → r.savepoint ≡ None → IsTc (ended w o.txn)
@@ -365,7 +366,7 @@ stands_lost_compensated w m x l k after same loser stands =
     loser_had comp w.log after.legal w.losers.below u k.lost.losers.bound (subst P same now)) in
     stands_along (record (clients w) { log = comp ∷ w.log }) (clients (lost_compensated w x l)) m refl refl
     (λ u. sym (listed u)) (λ u. refl) (λ u. refl) (λ u. refl)
-    (comp_is_no_step (clients w) m x.txn x.left (next_of w.log x.left) (inverse_at w.log x.left) after.legal stands
+    (comp_is_no_step (clients w) m x.txn x.left (next_at w.log x.left) (inverse_at w.log x.left) after.legal stands
     (inl (loser_listed w.log w.losers k.lost.losers x.txn loser)))
 
 -- its End is logged

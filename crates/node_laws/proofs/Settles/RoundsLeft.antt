@@ -18,7 +18,8 @@ use Rattle.tc_core.specs.TcView.{TcView, rolls_back, is_none_lost, is_running}
 use Rattle.tc_core.proofs.KeepsLost.{fits_lacking}
 use Rattle.node_laws.proofs.Machine.Waited.{lost_if}
 use Rattle.restart.specs.declared.loser.Loser.{Loser}
-use Rattle.tc_core.specs.Changes.{waits_for, next_of, inverse_at, compensated_txn, compensated, ended, is_back, back_txn, answered_txn, answered, answered_lost, forced, told_txn, was_told, undoing_or_running, lost_compensated, lost_ended}
+use Rattle.logical_log.specs.Undoing.{inverse_at, next_at}
+use Rattle.tc_core.specs.Changes.{waits_for, compensated_txn, compensated, ended, is_back, back_txn, answered_txn, answered, answered_lost, forced, told_txn, was_told, undoing_or_running, lost_compensated, lost_ended}
 use Rattle.tc_core.specs.Replies.{awaiting, lacks, next_phase, on_awaited}
 use Rattle.tc_core.specs.Recovery.{redoing, CompensatesLatest, LosesLeast}
 use Rattle.tc_core.specs.Kept.{IsTc, AreOpen}
@@ -106,7 +107,7 @@ falls_comp w o b k running at rolling above = by (undo_found w o k at)
     by : IsLatestOrNone (Stands w.log o.txn) o.undo → tc_rounds (compensated w o) < tc_rounds w
     by (inr none) = absurd (omega (arith, none.0, above))
     by (inl latest) =
-        let follows : ℕ = next_of w.log o.undo in
+        let follows : ℕ = next_at w.log o.undo in
         let inverse : Option Op = inverse_at w.log o.undo in
         let r : Record = is.Comp o.txn o.undo follows inverse in
         let new : OpenTxn = compensated_txn o (length w.log + 1) follows inverse in
@@ -328,7 +329,7 @@ pub falls_latest : (w new : TcView) (n : ℕ) → CompensatesLatest w n new → 
 falls_latest w new n h =
     let x : Loser = h.loser in
     let stands = h.next.at.left.is in
-    let follows : ℕ = next_of w.log x.left in
+    let follows : ℕ = next_at w.log x.left in
     let inverse : Option Op = inverse_at w.log x.left in
     let r : Record = is.Comp x.txn x.left follows inverse in
     let txns = total_most (txn_rounds (r ∷ w.log) w.stable) (txn_rounds w.log w.stable) w.open_txns

@@ -6,7 +6,8 @@ use Rattle.compensation.specs.NextUndo.{Compensates, Undoes, UndoesNext, undo_ne
 use Rattle.tc_core.specs.declared.change.Change.TheVariants.{Stepped}
 use Rattle.tc_core.specs.declared.told.UndoStep.TheVariants.{Compensated}
 use Rattle.logical_log.specs.LogView.{is_spent}
-use Rattle.tc_core.specs.Changes.{next_of, inverse_at, waits_for, compensated}
+use Rattle.logical_log.specs.Undoing.{inverse_at, next_at}
+use Rattle.tc_core.specs.Changes.{waits_for, compensated}
 use Rattle.tc_core.specs.Kept.{IsTc}
 use Rattle.tc_core.specs.TcView.{TcView}
 use Rattle.tc_core.specs.declared.open_txn.Rollback.{Rollback}
@@ -20,7 +21,7 @@ use Rattle.tc_core.proofs.parts.Parts.compensate.Goals.{then-told, else-told}
 
 -- the compensation is that of what is left to undo
 it_is : (w : TcView) (t : ℕ) (b : Rollback) (may : MayStep w t b) (r : Record) → IsTc w → Compensates w.log t b.above r
-    → (r ≡ Comp may.open_txn.txn may.open_txn.undo (next_of w.log may.open_txn.undo)
+    → (r ≡ Comp may.open_txn.txn may.open_txn.undo (next_at w.log may.open_txn.undo)
     (inverse_at w.log may.open_txn.undo)) × (b.above < may.open_txn.undo)
 it_is w t b may r k next =
     let at = may.found.at in
@@ -43,7 +44,7 @@ now g c =
     let told = c.in-Ok-Some.told in
     let d = appended g c in
     let is = (it_is w c.args.txn c.args.rollback may d.compensation c.requires.kept d.next).0 in
-    let undo : told.next ≡ next_of w.log o.undo = d.undo_next ∙ ap undo_next_in is in
+    let undo : told.next ≡ next_at w.log o.undo = d.undo_next ∙ ap undo_next_in is in
     let asked : told.asks ≡ is_some (inverse_at w.log o.undo) = d.asks ∙ ap has_inverse is in
     let waits : c.if-told.waiting ≡ waits_for told.number (inverse_at w.log o.undo) =
     elim c.if-told.branch [

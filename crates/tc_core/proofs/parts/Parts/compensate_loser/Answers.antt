@@ -8,7 +8,8 @@ use Rattle.compensation.specs.NextUndo.{Compensates, MayUndo, Undoes, UndoesNext
 use Rattle.restart.specs.declared.loser.Loser.{Loser}
 use Rattle.restart.specs.Losers.{TakesComp}
 use Rattle.tc_core.specs.declared.phase.Phase.TheVariants.{Undoing}
-use Rattle.tc_core.specs.Changes.{next_of, inverse_at, waits_for, lost_comp, lost_compensated}
+use Rattle.logical_log.specs.Undoing.{inverse_at, next_at}
+use Rattle.tc_core.specs.Changes.{waits_for, lost_comp, lost_compensated}
 use Rattle.tc_core.specs.Kept.{IsTc}
 use Rattle.tc_core.specs.Seen.{seen}
 use Rattle.tc_core.proofs.KeepsUndo.{fits_comp, waits_if, waits_not}
@@ -94,10 +95,10 @@ returns-clause-kept g c =
     let fits : Fits w.log (lost_comp w.log x) =
     subst P is (fits_comp w.log x.txn 0 d.compensation
     (of_loser w.log x c.chain.result d.compensation c.chain.ensures d.next)) in
-    let next : told.next ≡ next_of w.log x.left = d.undo_next ∙ ap undo_next_in is in
+    let next : told.next ≡ next_at w.log x.left = d.undo_next ∙ ap undo_next_in is in
     let Q : ℕ → Type 0 = λ m. TakesComp w.losers told.number m l in
-    let R : ℕ → Type 0 = λ n. TakesComp w.losers n (next_of w.log x.left) l in
-    let taken : TakesComp w.losers (length w.log + 1) (next_of w.log x.left) l =
+    let R : ℕ → Type 0 = λ n. TakesComp w.losers n (next_at w.log x.left) l in
+    let taken : TakesComp w.losers (length w.log + 1) (next_at w.log x.left) l =
     subst R d.appended.number_is (subst Q next c.compensated.ensures.taken) in
     subst IsTc (sym (now g c))
     (keeps_lost_comp w c.requires.kept c.requires.undoing x l c.requires.next fits taken c.compensated.ensures.same
