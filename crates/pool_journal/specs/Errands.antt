@@ -4,6 +4,7 @@ use Rattle.node_laws.specs.declared.event.Event.{Event}
 use Rattle.node_laws.specs.declared.event.Event.TheVariants as event
 use Rattle.node_laws.specs.declared.event.Out.{Out}
 use Rattle.node_laws.specs.declared.event.Out.TheVariants as out
+use Rattle.tc_core.specs.Replies.{is_number}
 use Rattle.pool_journal.specs.Failing.{failure_of}
 use Rattle.pool_journal.specs.declared.errand.Errand.{Errand}
 use Rattle.pool_journal.specs.declared.failure.Failure.{Failure}
@@ -18,10 +19,6 @@ is_commit _ = false
 -- nothing is sent yet of a call that came to this
 abbrev pub errand_of : Out → Errand
 errand_of o = record { request = None; reply = None; commits = is_commit o }
-
-abbrev pub is_number : Option ℕ → ℕ → Bool
-is_number None n = false
-is_number (Some m) n = m == n
 
 -- the step is made for this transaction: it sends its request, serves that or takes the reply to it, or undoes; where the
 -- transaction commits, it makes the log stable

@@ -1,6 +1,7 @@
 //! What is on its way for a session's transaction.
 ghost use Rattle.std.specs.Prelude.{◌≡◌};
-ghost use Rattle.pool_journal.specs.Errands.{errand_of, is_number, sent_on, serves};
+ghost use Rattle.pool_journal.specs.Errands.{errand_of, sent_on, serves};
+ghost use Rattle.tc_core.specs.Replies.{is_number};
 
 use node_laws::{Event, Out};
 

@@ -3,10 +3,10 @@ use std::hint::spin_loop;
 use std::sync::{Mutex, MutexGuard, Wait};
 
 /// How often a lock is looked at before its thread sleeps.
-const LOOKS: u32 = 150;
+const LOOKS: u32 = 1500;
 
 /// How long it stays away between two looks, so that who holds it isn't held up.
-const PAUSES: u32 = 30;
+const PAUSES: u32 = 10;
 
 /// Takes a lock. Who holds it does one step of a component, or writes one entry down, which is sooner done than a thread
 /// put to sleep and woken: so it is looked at for a while first.

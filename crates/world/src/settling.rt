@@ -90,13 +90,16 @@ fn perform<D: CrashLog, P: CrashPages>(
     if out.reserve(1).is_err() {
         return Err(Refusal::NoMemory);
     }
-    let mut output = Out::Nothing;
-    world.step_into(event, &mut output);
-    match output {
-        Out::Refused(refusal) => Err(refusal),
-        output => {
-            out.push_reserved(output);
-            Ok(())
+    // It is written where it is to stand: each hand-over of one is a copy.
+    let last = out.len();
+    out.push_reserved(Out::Nothing);
+    world.step_into(event, &mut out[last]);
+    match &out[last] {
+        Out::Refused(refusal) => {
+            let refusal = *refusal;
+            out.truncate(last);
+            Err(refusal)
         }
+        _ => Ok(()),
     }
 }
