@@ -1,20 +1,14 @@
 -- What a label stands for, before and after a key was put into the map of labels.
 use Rattle.std.proofs.Common.{◌≡◌, ℕ, Bool, true, false, cond, List, Option, Some, None, Result, Ok, Err, unwrap_or, ap, sym, ◌∙◌, refl}
 use Rattle.std.specs.Prelude.{is_some, IsSome, OnOk, OnErr}
-use Rattle.std.specs.Ordering.{nat_cmp, is_eq}
+use Rattle.std.specs.Ordering.{nat_cmp}
+use Rattle.std.specs.Cmp.{Equal-is}
 use Rattle.std.specs.Cmp.Lexicographic.{slice_cmp}
 use Rattle.std.specs.BTreeMap.{BTreeMap, get, is_at, Updates}
-use Rattle.std.specs.declared.cmp.Ordering.{Ordering}
-use Rattle.std.specs.declared.cmp.Ordering.TheVariants.{Less, Equal, Greater}
 use Rattle.std.proofs.lemmas.Map.Lookups.{exact_bytes}
 
-from_eq : (o : Ordering) → is_eq o ≡ true → o ≡ Equal
-from_eq Less h = cc h
-from_eq Equal h = refl
-from_eq Greater h = cc h
-
 at_label : (label q : List ℕ) → is_at (slice_cmp nat_cmp label) q ≡ true → label ≡ q
-at_label label q h = exact_bytes label q (from_eq (slice_cmp nat_cmp label q) h)
+at_label label q h = exact_bytes label q ((Equal-is (slice_cmp nat_cmp label q)).0 h)
 
 zero_by : (label q : List ℕ) (m : BTreeMap (List ℕ) ℕ) (b : Bool) → is_at (slice_cmp nat_cmp label) q ≡ b
     → get (slice_cmp nat_cmp) m label ≡ None

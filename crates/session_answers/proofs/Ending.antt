@@ -27,7 +27,7 @@ halted _ was mid new pends left same alive = at left
 adds : (c : Call) (old new : Part) → new.before ≡ calls old → new.latest ≡ Some c → calls new ≡ calls old ++ c ∷ []
 adds c old new before latest i = with_latest (before i) (latest i)
 
-abbrev out_of : Slot → Out
+abbrev pub out_of : Slot → Out
 out_of p = p.value.step.value.out
 
 pub ends_by : (row : Shelves) (e : Event) (old mid new : Part) (token : Slot) (how : Ended) → Calls row e old token mid

@@ -17,12 +17,10 @@ use Rattle.session_answers.specs.declared.ended.Ended.{Ended}
 use Rattle.session_answers.specs.declared.ended.Ended.TheVariants as ended
 use Rattle.session_answers.specs.declared.told.Told.{Told}
 use Rattle.session_answers.specs.declared.told.Told.TheVariants as told
+use Rattle.session_answers.proofs.Ending.{out_of}
 
 abbrev event_in : Slot → Event
 event_in p = p.value.step.value.event
-
-abbrev out_in : Slot → Out
-out_in p = p.value.step.value.out
 
 -- an output that answers a call tells the line that does
 answers : (e : Event) (o : Out) (t : ℕ) (l : Out) (line : Line) (a : Told) → line_to t l ≡ Some line
@@ -59,9 +57,9 @@ carries_on row old new (ended.Told p q) a (s, s_shown, was, unfinished, (p_shown
       call = call_in p;
       was = now;
       line = by.line;
-      answers = answers (event_in p) (out_in p) by.txn (out_in q) by.line a by.tells given;
+      answers = answers (event_in p) (out_of p) by.txn (out_of q) by.line a by.tells given;
       list =
-          listed old new (called_as (event_in p) (out_in p) (Some by.line)) by.before
+          listed old new (called_as (event_in p) (out_of p) (Some by.line)) by.before
           (subst (λ (o : Option Call). HasLine o new.latest by.line) now by.latest);
       over = by.over;
     }
@@ -71,8 +69,8 @@ carries_on row old new ended.CutOff a resumes given = absurd given
 
 -- a call that is to be told of isn't answered by its entry
 pends_of : (s : Slot) (latest : Option Call) → latest ≡ Some (call_in s) → pending latest ≡ true
-    → is_pending (out_in s) ≡ true
-pends_of s latest is pends = at (is_pending (out_in s)) (sym (ap (λ (o : Option Call). pending o) is) ∙ pends)
+    → is_pending (out_of s) ≡ true
+pends_of s latest is pends = at (is_pending (out_of s)) (sym (ap (λ (o : Option Call). pending o) is) ∙ pends)
   where
     at : (b : Bool) → cond b true false ≡ true → b ≡ true
     at true so = refl
@@ -88,7 +86,7 @@ refused_again row old new (ended.AtOnce p) r (s, s_shown, was, unfinished, (p_sh
     absurd (cc (sym done ∙ pends_of s old.latest was unfinished.0))
 refused_again row old new (ended.Told p q) r (s, s_shown, was, unfinished, (p_shown, is, q_shown, pends, by)) (why, isnt) =
     let now : old.latest ≡ Some (call_in p) = was ∙ ap (λ (x : Slot). Some (call_in x)) (sym is) in
-    let awaited : is_pending (out_in p) ≡ true = ap (λ (x : Slot). is_pending (out_in x)) is ∙ pends in
+    let awaited : is_pending (out_of p) ≡ true = ap (λ (x : Slot). is_pending (out_of x)) is ∙ pends in
     inr (inr (
       why,
       unfinished,
@@ -97,11 +95,11 @@ refused_again row old new (ended.Told p q) r (s, s_shown, was, unfinished, (p_sh
         was = now;
         line = Some by.line;
         list =
-            listed old new (called_as (event_in p) (out_in p) (Some by.line)) by.before
+            listed old new (called_as (event_in p) (out_of p) (Some by.line)) by.before
             (subst (λ (o : Option Call). HasLine o new.latest by.line) now by.latest);
         unanswered =
-            not_answered (event_in p) (out_in p) (Some by.line) awaited
-            (sym (given_as_told (event_in p) (out_in p) by.txn (out_in q) by.line by.tells) ∙ isnt);
+            not_answered (event_in p) (out_of p) (Some by.line) awaited
+            (sym (given_as_told (event_in p) (out_of p) by.txn (out_of q) by.line by.tells) ∙ isnt);
         cut = λ none. absurd (cc (none));
       },
     ))
@@ -123,7 +121,7 @@ refused_again row old new ended.CutOff r (s, s_shown, was, unfinished, (pends, g
         was = was;
         line = None;
         list = listed old new (call_in s) untold.before (untold.latest ∙ was);
-        unanswered = not_answered (event_in s) (out_in s) None pends refl;
+        unanswered = not_answered (event_in s) (out_of s) None pends refl;
         cut = λ none. gone;
       },
     ))

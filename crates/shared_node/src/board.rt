@@ -90,9 +90,11 @@ impl<J: Naming> Board<J> {
 
     /// Waits until something was told of the session's call, or failed of it, or another step may be made.
     fn wait<R: Wait>(&self, rt: &R, session: u64, restarts: u64) {
-        let _journal = self.news.wait_while(rt, hold(rt, &self.journal), |journal| {
-            !journal.has_news(session) && self.restarts() == restarts
-        });
+        let _journal = self
+            .news
+            .wait_while(rt, hold(rt, &self.journal), |journal| {
+                !journal.has_news(session) && self.restarts() == restarts
+            });
     }
 
     /// Waits where that is to follow a step of the session's call.
