@@ -63,7 +63,7 @@ fn number_of(out: &Out) -> Option<u64> {
 fn is_lost<L: Leaves>(closed: &L, from: usize, txn: u64) -> bool {
     for place in from..closed.count() {
         if let Some(step) = closed.step_at(place) {
-            if let Event::CrashTc { .. } = &step.event {
+            if let Event::CrashTc { .. } = step.event.lent().event() {
                 return false;
             }
             if step.out == Out::Lost(txn) {
@@ -108,7 +108,8 @@ impl Machine {
         place: usize,
         step: &Step,
     ) -> Result<(), Refusal> {
-        match (&step.event, &step.out) {
+        let event = step.event.lent();
+        match (event.event(), &step.out) {
             (Event::CrashTc { .. }, _) => {
                 self.down = true;
                 self.model.crash();
@@ -139,7 +140,7 @@ impl Machine {
             return Ok(true);
         }
         let next = number_of(&step.out).unwrap_or(0);
-        match self.model.call(alloc, &step.event, next) {
+        match self.model.call(alloc, step.event.lent().event(), next) {
             Some(Out::Refused(Refusal::NoMemory)) => Err(Refusal::NoMemory),
             Some(wanted) => Ok(wanted == step.out),
             None => Ok(true),
@@ -156,7 +157,8 @@ impl Machine {
 
     // Notes which record a step has logged, and whose End it has.
     fn keep(&mut self, step: &Step) -> Result<(), AllocError> {
-        match (&step.event, &step.out) {
+        let event = step.event.lent();
+        match (event.event(), &step.out) {
             (_, Out::Begun(txn)) => self.begun.push(*txn)?,
             (Event::Act { txn, op }, Out::Logged(number)) => self.acts.push(Act {
                 number: *number,

@@ -56,7 +56,7 @@ fn is_noted<L: Leaves>(closed: &L, place: usize, note: &Note) -> bool {
     let Some(step) = closed.step_at(place) else {
         return false;
     };
-    step.event == note.event && came_to(closed, place, step, &note.out)
+    *step.event.lent().event() == note.event && came_to(closed, place, step, &note.out)
 }
 
 // Whether a call came to what its client was answered: to what was told of it, where more was to be told.
@@ -67,7 +67,11 @@ fn came_to<L: Leaves>(closed: &L, place: usize, step: &Step, answered: &Out) -> 
     if is_failure(answered) {
         return true;
     }
-    match line_after(closed, place.saturating_add(1), txn_of(&step.event)) {
+    match line_after(
+        closed,
+        place.saturating_add(1),
+        txn_of(step.event.lent().event()),
+    ) {
         None => *answered == Out::Refused(Refusal::NotConnected),
         Some(Out::Stable { .. } | Out::Connects { .. }) => step.out == *answered,
         Some(line) => line == answered,
@@ -85,7 +89,7 @@ fn is_pending(out: &Out) -> bool {
 fn line_after<L: Leaves>(closed: &L, from: usize, txn: u64) -> Option<&Out> {
     for place in from..closed.count() {
         if let Some(step) = closed.step_at(place) {
-            if let Event::CrashTc { .. } = &step.event {
+            if let Event::CrashTc { .. } = step.event.lent().event() {
                 return None;
             }
             if is_told(&step.out, txn) {

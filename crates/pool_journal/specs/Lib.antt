@@ -11,3 +11,4 @@ pub mod Ending
 pub mod Failing
 pub mod Errands
 pub mod Messages
+pub mod KeptEvents

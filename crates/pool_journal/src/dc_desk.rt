@@ -14,6 +14,7 @@ use crate::entry::Entry;
 use crate::gate::Gate;
 use crate::holding::hold;
 use crate::journal::Journal;
+use crate::kept_event::KeptEvent;
 use crate::lines::Unsent;
 use crate::message::Message;
 use crate::naming::Naming;
@@ -156,7 +157,8 @@ impl<J: Naming, D: CrashLog, P: CrashPages> DcDesk<J, D, P> {
         if let Out::Nothing = &out {
             return None;
         }
-        let step = boxed(rt, *alloc, Step::new(None, Event::Tend, out));
+        let event = KeptEvent::of(rt, *alloc, Event::Tend);
+        let step = boxed(rt, *alloc, Step::new(None, event, out));
         Some(hold(rt, journal).enter_dc(rt, row, visitor, step))
     }
 
@@ -248,17 +250,18 @@ fn stepped<D: CrashLog, P: CrashPages, R: Wait>(
     ensures given { result.1 ≡ given + count result.0.value.given }
 {
     let next = next_number(rt, given);
-    let mut step = boxed(rt, alloc, Step::new(None, event, Out::Nothing));
+    let mut step = boxed(rt, alloc, Step::new(None, KeptEvent::blank(), Out::Nothing));
     let Step {
         caller: _,
-        event,
+        event: kept,
         out,
         sent: _,
         given: message,
     } = &mut *step;
     let mut reply = None;
-    *out = side.step(event, request, Some(next), &mut reply);
+    *out = side.step(&event, request, Some(next), &mut reply);
     let after = if reply.is_some() { next } else { given };
     *message = Message::new(rt, alloc, reply);
+    *kept = KeptEvent::of(rt, alloc, event);
     (step, after)
 }

@@ -57,8 +57,9 @@ fn hear_all<J: Naming>(places: &mut Vec<Place<J>>, entry: &Entry, token: &Pushed
     ensures heard { places.new.items ≡ map (place_after token.now) places.old.items }
     ensures count { vec_len places.new ≡ vec_len places.old }
 {
+    let event = entry.step.event.lent();
     for place in places.iter_mut() {
-        place.hear(entry, token);
+        place.hear(entry, event.event(), token);
     }
 }
 

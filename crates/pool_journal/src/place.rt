@@ -138,21 +138,22 @@ impl<J: Naming> Place<J> {
     }
 
     /// An entry that is no call of its session may be made for it, tell it a line, or cut it off.
-    pub fn hear(&mut self, entry: &Entry, token: &Pushed<Entry>)
-        requires { entry.now ≡ token.now.value }
+    pub fn hear(&mut self, entry: &Entry, event: &Event, token: &Pushed<Entry>)
+        requires entry { entry.now ≡ token.now.value }
+        requires event { event.now ≡ token.now.value.step.value.event }
         ensures { self.new ≡ place_after token.now self.old }
     {
         if is_call_of(entry.step.caller, self.number) {
             return;
         }
-        if cuts_off(&entry.step.event) {
+        if cuts_off(event) {
             self.live = None;
             return;
         }
         let Some(txn) = self.live else {
             return;
         };
-        self.work(txn, &entry.step.event, entry.out());
+        self.work(txn, event, entry.out());
         let kind = told_to(txn, entry.out());
         if kind != Told::Nothing {
             self.tell(kind, token);

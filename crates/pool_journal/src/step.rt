@@ -1,16 +1,17 @@
 //! One step of one component, with the message that it sent.
 ghost use Rattle.std.specs.Prelude.{◌≡◌, None};
 
+use crate::kept_event::KeptEvent;
 use crate::message::Message;
 use codec::{Reply, Request};
-use node_laws::{Event, Out};
+use node_laws::Out;
 
 /// An event with what it came to, whose call it is, and the request or the reply that it sent.
 #[derive(Debug, Drop)]
 pub struct Step {
     /// The session whose call it is, from 0.
     pub caller: Option<u64>,
-    pub event: Event,
+    pub event: KeptEvent,
     pub out: Out,
     pub sent: Message<Request>,
     pub given: Message<Reply>,
@@ -18,7 +19,7 @@ pub struct Step {
 
 impl Step {
     /// A step that sent nothing.
-    pub(crate) fn new(caller: Option<u64>, event: Event, out: Out) -> Step
+    pub(crate) fn new(caller: Option<u64>, event: KeptEvent, out: Out) -> Step
         ensures { result ≡ record { caller = caller; event = event; out = out; sent = None; given = None } }
     {
         Step {

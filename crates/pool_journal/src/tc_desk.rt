@@ -15,6 +15,7 @@ use crate::entry::Entry;
 use crate::hall::Hall;
 use crate::holding::hold;
 use crate::journal::Journal;
+use crate::kept_event::KeptEvent;
 use crate::lines::Unsent;
 use crate::message::Message;
 use crate::naming::Naming;
@@ -313,7 +314,8 @@ fn copy<R: Wait>(rt: &R, reply: &Reply) -> Reply
 fn low_sent(step: &Step) -> u64
     ensures { result ≡ low_of step.now.event step.now.out }
 {
-    match (&step.event, &step.out) {
+    let event = step.event.lent();
+    match (event.event(), &step.out) {
         (Event::LowWater { low }, Out::Sent(_)) => *low,
         _ => 0,
     }
@@ -371,17 +373,22 @@ fn stepped<D: CrashLog, R: Wait>(
 {
     side.kept();
     let next = next_number(rt, sent);
-    let mut step = boxed(rt, alloc, Step::new(caller, event, Out::Nothing));
+    let mut step = boxed(
+        rt,
+        alloc,
+        Step::new(caller, KeptEvent::blank(), Out::Nothing),
+    );
     let Step {
         caller: _,
-        event,
+        event: kept,
         out,
         sent: message,
         given: _,
     } = &mut *step;
     let mut request = None;
-    *out = side.step(event, reply, Some(next), &mut request);
+    *out = side.step(&event, reply, Some(next), &mut request);
     let after = if request.is_some() { next } else { sent };
     *message = Message::new(rt, alloc, request);
+    *kept = KeptEvent::of(rt, alloc, event);
     (step, after)
 }

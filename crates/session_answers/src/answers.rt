@@ -218,7 +218,8 @@ pub fn carried_told<J: Naming, R: Wait>(
         Ended::Unfinished(_, failure) => Err(failure.refusal()),
         Ended::Told(call, line) => {
             let step = &hall.row().value(call).step;
-            told_of(rt, &step.event, &step.out, hall.row().value(line).out())
+            let event = step.event.lent();
+            told_of(rt, event.event(), &step.out, hall.row().value(line).out())
         }
     }
 }

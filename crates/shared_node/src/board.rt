@@ -35,7 +35,7 @@ pub struct Board<J: Naming> {
 
 // The low number that an entry announces, 0 where it announces none.
 fn low_in(entry: &Entry) -> u64 {
-    match &entry.step.event {
+    match entry.step.event.lent().event() {
         Event::LowWater { low } => *low,
         _ => 0,
     }

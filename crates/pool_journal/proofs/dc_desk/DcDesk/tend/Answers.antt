@@ -1,4 +1,7 @@
-use Rattle.std.proofs.Common.{ap, ◌∙◌, sym, subst}
+use Rattle.std.proofs.Common.{◌≡◌, None, ap, ◌∙◌, sym, subst}
+use Rattle.node_laws.specs.declared.event.Event.{Event}
+use Rattle.node_laws.specs.declared.event.Event.TheVariants as event
+use Rattle.node_laws.specs.declared.event.Out.{Out}
 use Rattle.pool_journal.specs.declared.step.Step.{Step}
 use Rattle.pool_journal.specs.Kept.{EntersDc}
 use Rattle.pool_journal.specs.Steps.{DcState}
@@ -6,11 +9,19 @@ use Rattle.pool_journal.specs.Views.{View}
 use Rattle.pool_journal.proofs.Tending.{tending_enters}
 use Rattle.pool_journal.proofs.dc_desk.DcDesk.tend.Goals as goal
 
+-- the step of a tending, which sends nothing
+abbrev tends : Out → Event → Step
+tends o e = record { caller = None; event = e; out = o; sent = None; given = None }
+
+-- its event is kept as it is
+is_tending : (o : Out) (e : Event) (x y : Step) → y ≡ x → x ≡ tends o e → e ≡ event.Tend → y ≡ tends o event.Tend
+is_tending o e x y boxed made kept = boxed ∙ made ∙ ap (tends o) kept
+
 pub enter_dc-requires-clause-enters : goal.enter_dc-requires-clause-enters
 enter_dc-requires-clause-enters g c =
     let s = c.self.inside in let n : DcState = record { side = c.tended-out.new.side; given = s.given } in (
       n,
-      subst (λ (x : Step). EntersDc g.J.Naming.start s.visitor.steps x n) (sym (c.boxed-step.ensures ∙ c.new.ensures))
+      subst (λ (x : Step). EntersDc g.J.Naming.start s.visitor.steps x n) (sym (is_tending _ _ _ _ c.boxed-step.ensures c.new.ensures c.of-event.ensures))
           (tending_enters g.J.Naming.start s.visitor.steps s.side c.tended-out.new.side s.given c.tended-out.result
           c.self.invariant.gives c.tended-out.ensures.leads),
     )
@@ -18,7 +29,7 @@ enter_dc-requires-clause-enters g c =
 pub invariant_of-self-2 : goal.invariant_of-self-2
 invariant_of-self-2 g c =
     let s = c.self.inside in let n : DcState = record { side = c.tended-out.new.side; given = s.given } in
-    let enters = subst (λ (x : Step). EntersDc g.J.Naming.start s.visitor.steps x n) (sym (c.boxed-step.ensures ∙ c.new.ensures))
+    let enters = subst (λ (x : Step). EntersDc g.J.Naming.start s.visitor.steps x n) (sym (is_tending _ _ _ _ c.boxed-step.ensures c.new.ensures c.of-event.ensures))
     (tending_enters g.J.Naming.start s.visitor.steps s.side c.tended-out.new.side s.given c.tended-out.result c.self.invariant.gives
     c.tended-out.ensures.leads) in
     record {
