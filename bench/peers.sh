@@ -3,7 +3,8 @@
 # FOLDER/run.sh measures them: it takes further programs by EXTRA (name=command; a program is called with NAME WORKLOAD
 # N and prints the line that crates/bench_node/src/main.rt describes) and writes results.md into the folder RESULTS.
 # REPS, SIZES, WORKLOADS and PEERS choose what is measured. Prints the table, in which g and h are an engine's and the
-# rest a node's; then the line of one, the work of g by one session. The first line is the machine's.
+# rest a node's, all in memory; then the line of one, the work of g by one session. The first line is the machine's. With
+# PROGRAM, a built bench_node, that is measured and nothing is built.
 set -eu
 folder=$(cd "$1" && pwd)
 results=${2:-$(mktemp -d)}
@@ -12,10 +13,14 @@ results=$(cd "$results" && pwd)
 cd "$(dirname "$0")/../crates/bench_node"
 model=$(sed -n 's/^model name[^:]*: //p' /proc/cpuinfo | head -n 1)
 printf 'machine: %s processors, %s\n' "$(nproc)" "$model"
-if ! rt run >"$results/build" 2>&1; then
+if [ -z "${PROGRAM:-}" ] && ! rt run >"$results/build" 2>&1; then
     cat "$results/build" >&2
     exit 1
 fi
-EXTRA="node=$PWD/out/bench_node" RESULTS="$results" "$folder/run.sh"
+program=${PROGRAM:-$PWD/out/bench_node}
+# It is handed no folder, so that an engine works in memory too.
+printf '#!/bin/sh\nexec "%s" "$1" "$2" "$3"\n' "$program" >"$results/node"
+chmod +x "$results/node"
+EXTRA="node=$results/node${EXTRA:+;$EXTRA}" RESULTS="$results" "$folder/run.sh"
 cat "$results/results.md"
-./out/bench_node node one 100000
+"$program" node one 100000
