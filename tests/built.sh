@@ -1,0 +1,13 @@
+#!/bin/sh
+# Usage: tests/built.sh [SHELL]. What no proved crate can try, since it starts other programs: the built shell (without
+# SHELL the one that the gate has built) is killed amid scripts on a store (bench/kill.py, forty runs), opens damaged
+# stores (bench/damage.py), and lists in its help what docs/FORMATS.md lists (tests/help.sh). Takes a minute.
+set -eu
+cd "$(dirname "$0")/.."
+shell=${1:-crates/undo_shell/out/undo_shell}
+if [ ! -x "$shell" ]; then
+    (cd crates/undo_shell && rt run -- run --help) >/dev/null
+fi
+python3 bench/kill.py "$shell" 40
+python3 bench/damage.py "$shell"
+tests/help.sh "$shell"
