@@ -5,10 +5,9 @@ use Rattle.std.specs.List.{AllByRecursion}
 use Rattle.std.specs.FinMap as map
 use Rattle.std.proofs.lemmas.Bool.{cases_Bool, and_parts, and_from, not-true, not_from_false}
 use Rattle.record_key.specs.Table.{Bytes}
-use Rattle.record_key.specs.Order.{is_below, starts_at_most, ends_above}
+use Rattle.record_key.specs.Order.{is_below, starts_at_most, ends_above, Range, has_key, rows_in}
 use Rattle.record_key.specs.Rows.{Row}
 use Rattle.record_key.proofs.Lists.{all_from}
-use Rattle.history.specs.Spans.{Span, is_within, rows_in}
 use Rattle.page.specs.Leaf.{LeafView, IsLeaf, is_in_fences}
 use Rattle.page.specs.Tiles.{parts_of, TileFrom}
 use Rattle.page.proofs.Halves.{below_free, free_below}
@@ -47,12 +46,12 @@ begins_over fence (Some end) over =
       | inr free ↦ absurd (true≢false (sym (ap not free) ∙ over))
     ]
 
-module _ (s : Span) where
+module _ (s : Range) where
   -- all records of a leaf that begins where the range does or above, and ends within it
   all_within : (leaf : LeafView) (fence : Bytes) → IsLeaf leaf → leaf.low_fence ≡ Some fence
       → is_below fence s.lo ≡ false → ends_within leaf.high_fence s.hi ≡ true → rows_in s leaf.rows ≡ map.entries leaf.rows
   all_within leaf fence kept begins above within =
-      all_pass (λ (row : Row). is_within s row.0) (map.entries leaf.rows)
+      all_pass (λ (row : Row). has_key s row.0) (map.entries leaf.rows)
       (all_from _ _ (λ (row : Row) inside.
       let both = and_parts (starts_at_most leaf.low_fence row.0) (ends_above leaf.high_fence row.0) inside in
       let from : starts_at_most (Some fence) row.0 ≡ true =

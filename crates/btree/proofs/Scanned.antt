@@ -6,7 +6,7 @@ use Rattle.std.proofs.lemmas.List.{drop-append-le}
 use Rattle.std.proofs.Math.Seq.{drop-append-add}
 use Rattle.record_key.specs.declared.refusal.Refusal.{Refusal}
 use Rattle.record_key.specs.Rows.{Row}
-use Rattle.history.specs.Spans.{Span, rows_in}
+use Rattle.record_key.specs.Order.{Range, rows_in}
 use Rattle.page.specs.Leaf.{LeafView}
 use Rattle.btree.specs.Finding.{IsNodeOf}
 use Rattle.btree.specs.Nodes.{NodeView, nothing, under, AreChildren}
@@ -19,7 +19,7 @@ pub nodes_after : (ns : List NodeView) (i : ℕ) → take (length ns - (i + 1)) 
 nodes_after ns i =
     rw add-one (take_all (length ns - suc i) (drop (suc i) ns) (omega (arith, length-drop (suc i) ns)))
 
-module _ (s : Span) where
+module _ (s : Range) where
   -- ---- what a stretch with others after it comes to
 
   ended_past : (xs ys : List LeafView) → is_ended s xs ≡ false → is_ended s (xs ++ ys) ≡ is_ended s ys

@@ -6,11 +6,10 @@ use Rattle.std.specs.FinMap as map
 use Rattle.std.proofs.lemmas.Bool.{and_parts, and_right, false_from_ne_true, not-true}
 use Rattle.std.proofs.lemmas.List.Elements.{filter-append}
 use Rattle.record_key.specs.Table.{Bytes}
-use Rattle.record_key.specs.Order.{is_below, starts_at_most, ends_above}
+use Rattle.record_key.specs.Order.{is_below, starts_at_most, ends_above, Range, has_key, rows_in}
 use Rattle.record_key.specs.Rows.{Row}
 use Rattle.record_key.proofs.Lists.{all_from}
 use Rattle.record_key.proofs.Rows.{entries-table_of}
-use Rattle.history.specs.Spans.{Span, is_within, rows_in}
 use Rattle.page.specs.Leaf.{LeafView, IsLeaf}
 use Rattle.page.specs.Tiles.{parts_of, TileFrom}
 use Rattle.page.proofs.Halves.{below_free, none_pass}
@@ -21,28 +20,28 @@ use Rattle.btree.proofs.Together.{ordered_from, in_order}
 use Rattle.btree.proofs.Searching.{none_there}
 
 -- the records of a range in each leaf
-abbrev pub found_in : Span → List LeafView → List Row
+abbrev pub found_in : Range → List LeafView → List Row
 found_in s [] = []
 found_in s (leaf ∷ leaves) = rows_in s leaf.rows ++ found_in s leaves
 
-found_rows : (s : Span) (leaves : List LeafView)
-    → filter (λ (row : Row). is_within s row.0) (all_rows leaves) ≡ found_in s leaves
+found_rows : (s : Range) (leaves : List LeafView)
+    → filter (λ (row : Row). has_key s row.0) (all_rows leaves) ≡ found_in s leaves
 found_rows s [] = refl
 found_rows s (leaf ∷ leaves) =
-    filter-append (λ (row : Row). is_within s row.0) (map.entries leaf.rows) (all_rows leaves)
+    filter-append (λ (row : Row). has_key s row.0) (map.entries leaf.rows) (all_rows leaves)
     ∙ ap (λ (more : List Row). rows_in s leaf.rows ++ more) (found_rows s leaves)
 
-pub found_all : (s : Span) (leaves : List LeafView) → AreLeaves leaves → rows_in s (rows_of leaves) ≡ found_in s leaves
+pub found_all : (s : Range) (leaves : List LeafView) → AreLeaves leaves → rows_in s (rows_of leaves) ≡ found_in s leaves
 found_all s leaves kept =
-    ap (λ (rows : List Row). filter (λ (row : Row). is_within s row.0) rows)
+    ap (λ (rows : List Row). filter (λ (row : Row). has_key s row.0) rows)
     (entries-table_of (all_rows leaves) (in_order leaves kept)) ∙ found_rows s leaves
 
 -- ---- leaves that end at most where the range begins
 
-pub none_before : (s : Span) (from : Option Bytes) (leaf : LeafView) (rest : List LeafView) → IsLeaf leaf
+pub none_before : (s : Range) (from : Option Bytes) (leaf : LeafView) (rest : List LeafView) → IsLeaf leaf
     → LiesLater from leaf rest s.lo → rows_in s leaf.rows ≡ []
 none_before s from leaf rest kept later =
-    none_pass (is_within s) (map.entries leaf.rows)
+    none_pass (has_key s) (map.entries leaf.rows)
     (all_from _ _ (λ (row : Row) inside.
     let ends = (and_parts (starts_at_most leaf.low_fence row.0) (ends_above leaf.high_fence row.0) inside).1 in
     let under : is_below row.0 later.on.fence ≡ true =
@@ -50,7 +49,7 @@ none_before s from leaf rest kept later =
     rw (below_free row.0 later.on.fence s.lo under later.past) refl)
     (map.entries leaf.rows) kept.rows)
 
-pub found_before : (s : Span) (from : Option Bytes) (leaves : List LeafView) → TileFrom from (parts_of leaves)
+pub found_before : (s : Range) (from : Option Bytes) (leaves : List LeafView) → TileFrom from (parts_of leaves)
     → AllByRecursion IsLeaf leaves
     → starts_at_most from s.lo ≡ true → found_in s leaves ≡ found_in s (drop (place_at leaves s.lo) leaves)
 found_before s from [] tile each starts = absurd tile
@@ -75,12 +74,12 @@ past_end (Some low) (Some high) x past starts =
     true≢false (sym (below_free x high low under (not-true (is_below low high) past))
     ∙ not-true (is_below x low) starts))
 
-pub found_after : (s : Span) (from : Option Bytes) (leaf : LeafView) (rest : List LeafView)
+pub found_after : (s : Range) (from : Option Bytes) (leaf : LeafView) (rest : List LeafView)
     → TileFrom from (parts_of (leaf ∷ rest)) → AllByRecursion IsLeaf (leaf ∷ rest)
     → is_past leaf.low_fence s.hi ≡ true → found_in s (leaf ∷ rest) ≡ []
 found_after s from leaf rest tile each past =
     sym (found_rows s (leaf ∷ rest))
-    ∙ none_pass (is_within s) (all_rows (leaf ∷ rest))
+    ∙ none_pass (has_key s) (all_rows (leaf ∷ rest))
     (all_from _ _ (λ (row : Row) inside.
     let starts = (and_parts (starts_at_most from row.0) true inside).0 in
     and_right (not (is_below row.0 s.lo)) (ends_above s.hi row.0)
@@ -88,7 +87,7 @@ found_after s from leaf rest tile each past =
     (subst (λ (low : Option Bytes). starts_at_most low row.0 ≡ true) (sym tile.0) starts)))
     (all_rows (leaf ∷ rest)) (ordered_from from (leaf ∷ rest) tile each).above)
 
-module _ {X : Type 0} (leaf_of : X → LeafView) (s : Span) where
+module _ {X : Type 0} (leaf_of : X → LeafView) (s : Range) where
   pub found_more : (xs : List X) (i : ℕ) (x d : X) → i < length xs → leaf_of x ≡ leaf_of (get_or xs i d)
       → found_in s (map leaf_of (take (suc i) xs)) ≡ found_in s (map leaf_of (take i xs)) ++ rows_in s (leaf_of x).rows
   found_more [] i x d within is = absurd (omega (arith, within))

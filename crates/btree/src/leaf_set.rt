@@ -5,7 +5,7 @@ ghost use Rattle.std.specs.Option.{option_copied};
 ghost use Rattle.std.specs.FinMap as table;
 ghost use Rattle.record_key.specs.Table.{key_of};
 ghost use Rattle.ab_lsn.specs.AbLsn.{captures};
-ghost use Rattle.history.specs.Spans.{Shared, rows_in};
+ghost use Rattle.record_key.specs.Order.{rows_in};
 ghost use Rattle.page.specs.Leaf.{LeafView, first, raised_to};
 ghost use Rattle.btree.specs.Choosing.{first_large, first_pair};
 ghost use Rattle.btree.specs.Leaves.{AreLeaves, leaf_at, place_at, rows_of};
@@ -69,7 +69,7 @@ pub trait LeafSet {
     /// some of them may stand there then.
     fn scan<S: RowSink>(&self, low: &Key, high: Option<&Key>, found: &mut S) -> Result<(), Refusal>
         ensures found { OnOk result (S.rows found.new ≡ S.rows found.old
-            ++ rows_in (record { lo = low.now; hi = option_copied high.entry; mode = Shared })
+            ++ rows_in (record { lo = low.now; hi = option_copied high.entry })
             (rows_of (leaves self.now))) }
         ensures memory { IsOkUnless result Refusal.NoMemory };
 

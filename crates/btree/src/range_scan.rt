@@ -1,7 +1,7 @@
 //! A scan of leaves in boxes.
 ghost use Rattle.std.specs.Prelude.{◌≡◌, ◌++◌, OnOk, IsOkUnless};
 ghost use Rattle.std.specs.Option.{option_copied};
-ghost use Rattle.history.specs.Spans.{Shared, rows_in};
+ghost use Rattle.record_key.specs.Order.{rows_in};
 ghost use Rattle.btree.specs.Leaves.{AreLeaves, rows_of};
 ghost use Rattle.btree.specs.Lists.{is_past, leaves_in};
 
@@ -19,7 +19,7 @@ pub fn scan_in<S: RowSink>(
 ) -> Result<(), Refusal>
     requires { AreLeaves (leaves_in leaves.now) }
     ensures found { OnOk result (S.rows found.new ≡ S.rows found.old
-        ++ rows_in (record { lo = low.now; hi = option_copied high.entry; mode = Shared })
+        ++ rows_in (record { lo = low.now; hi = option_copied high.entry })
         (rows_of (leaves_in leaves.now))) }
     ensures memory { IsOkUnless result Refusal.NoMemory }
 {

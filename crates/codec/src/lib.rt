@@ -39,6 +39,7 @@ pub use image::{
 };
 pub use parted::{Asking, answered_at, asking_at, put_answered};
 pub use parted_reads::{Reading, found_at, reading_at};
+pub use reading::NUMBER_LIMIT;
 pub use record::{
     asked_op, left_to_undo, put_answer_record, put_op_record, put_record, read_record,
     record_spelling_law, step_prev, step_txn, take_record,

@@ -5,8 +5,8 @@ ghost use Rattle.codec.specs.Reading.{Gives, mapped, number_at, count_at, bytes_
 use byteorder::{BigEndian, ByteOrder};
 use record_key::{Answer, Key, Op, Value};
 
-/// The first number that is too large to stand in a frame.
-const NUMBER_LIMIT: u64 = 1 << 48;
+/// What each number is below that stands in a frame: of a record, a transaction, a session, a read and a page.
+pub const NUMBER_LIMIT: u64 = 1 << 48;
 
 #[tactic(auto, unfolding(crate::specs::Reading::below_at, crate::specs::Fields::first_number))]
 pub(crate) fn take_number(bytes: &[u8]) -> Option<(u64, &[u8])>

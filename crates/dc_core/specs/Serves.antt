@@ -8,7 +8,7 @@ use Rattle.record_key.specs.declared.refusal.Refusal.{Refusal}
 use Rattle.record_key.specs.declared.refusal.Refusal.TheVariants.{NoMemory, NotConnected, Stale, Redoing, NumbersSpent}
 use Rattle.record_key.specs.FirstCause.{first_of, or_else}
 use Rattle.record_key.specs.Table.{Bytes, key_of, answer_in, AreAdds}
-use Rattle.history.specs.Spans.{Span, Shared, rows_in}
+use Rattle.record_key.specs.Order.{Range, rows_in}
 use Rattle.codec.specs.declared.request.Request.{Request}
 use Rattle.codec.specs.declared.request.Request.TheVariants as asks
 use Rattle.codec.specs.declared.reply.Reply.{Reply}
@@ -113,8 +113,8 @@ performs w n o = record w {
 abbrev pub lowers : DcView → ℕ → DcView
 lowers w l = with_system w (lowered w.system l)
 
-abbrev pub range : Bytes → Option Bytes → Span
-range lo hi = record { lo = lo; hi = hi; mode = Shared }
+abbrev pub range : Bytes → Option Bytes → Range
+range lo hi = record { lo = lo; hi = hi }
 
 -- the reply, if there is one, and what is left
 abbrev pub Serves : DcView → Request → Option Reply → DcView → Type 0

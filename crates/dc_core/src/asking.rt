@@ -11,7 +11,7 @@ ghost use Rattle.dc_core.specs.Shows.{was_added, Follows, IsOn, IsSavedOn, NoneH
 ghost use Rattle.dc_core.specs.Seen.{seen};
 
 use crate::parts::Parts;
-use codec::Request;
+use codec::{NUMBER_LIMIT, Request};
 use record_key::{Answer, Entries, Entry, Key, Op};
 use stable::{LogDevice, PageDevice};
 
@@ -160,9 +160,6 @@ fn are_on(entries: &Entries, number: u64, key: &Key) -> bool
     true
 }
 
-/// What numbers are below. Sessions, reads and operations are numbered so in messages.
-const NUMBERS: u64 = 1 << 48;
-
 fn has_numbers(request: &Request) -> bool
     ensures { IsTrue result ↔ HasRequestNumbers request.now }
 {
@@ -173,12 +170,12 @@ fn has_numbers(request: &Request) -> bool
             number,
             stable,
             ..
-        } => are_numbers(*session, *number) && *stable < NUMBERS,
+        } => are_numbers(*session, *number) && *stable < NUMBER_LIMIT,
         Request::Get { session, read, .. } => are_numbers(*session, *read),
         Request::Scan { session, read, .. } => are_numbers(*session, *read),
         Request::LowWater { session, low } => are_numbers(*session, *low),
         Request::Checkpoint { session, low } => are_numbers(*session, *low),
-        Request::RedoEnd { session } => *session < NUMBERS,
+        Request::RedoEnd { session } => *session < NUMBER_LIMIT,
         Request::StableEnd { session, stable } => are_numbers(*session, *stable),
     }
 }
@@ -186,5 +183,5 @@ fn has_numbers(request: &Request) -> bool
 fn are_numbers(session: u64, other: u64) -> bool
     ensures { IsTrue result ↔ ((session < 2 ^ 48) × (other < 2 ^ 48)) }
 {
-    session < NUMBERS && other < NUMBERS
+    session < NUMBER_LIMIT && other < NUMBER_LIMIT
 }

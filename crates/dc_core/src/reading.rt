@@ -2,7 +2,7 @@
 ghost use Rattle.std.specs.Prelude.{◌≡◌, Some, None, IfOk, IfErr, OnOk};
 ghost use Rattle.std.specs.FinMap as map;
 ghost use Rattle.std.specs.Option.{option_copied};
-ghost use Rattle.history.specs.Spans.{rows_in};
+ghost use Rattle.record_key.specs.Order.{rows_in};
 ghost use Rattle.btree.specs.Leaves.{leaf_at, all_rows, rows_of};
 ghost use Rattle.dc_core.specs.DcView.{value_at};
 ghost use Rattle.dc_core.specs.Seen.{seen};

@@ -2,15 +2,13 @@
 use crate::component_calls::{add_leaf, put_leaf, put_pair, put_tended};
 use btree::LeafList;
 use call_lines::{Digest, Text, UNREADABLE, Words};
+use codec::NUMBER_LIMIT;
 use page::{Done, Leaf};
 use record_key::{Key, Op, Refusal};
 use stable::{MemLog, MemPages};
 use system_txn::{Neighbours, SystemTxns, Tended};
 
 pub type System = SystemTxns<LeafList, MemLog, MemPages>;
-
-/// What numbers of requests, low numbers and sessions are below.
-const NUMBERS: u64 = 1 << 48;
 
 pub fn call_of(
     system: &mut System,
@@ -75,13 +73,13 @@ fn read(system: &System, name: &str, words: &mut Words, answer: &mut Text) -> Re
 }
 
 fn number_of(words: &mut Words) -> Result<u64, Refusal> {
-    Ok(words.number()? % NUMBERS)
+    Ok(words.number()? % NUMBER_LIMIT)
 }
 
 // Each of these drops what its call promises, so that what calls it is checked soon.
 
 fn perform(system: &mut System, number: u64, op: &Op) -> Result<Done, Refusal> {
-    system.perform(number % NUMBERS, op)
+    system.perform(number % NUMBER_LIMIT, op)
 }
 
 fn split(system: &mut System, key: &Key, known: u64) -> Result<Neighbours, Refusal> {
@@ -101,15 +99,15 @@ fn flush(system: &mut System, key: &Key, known: u64) -> Result<u64, Refusal> {
 }
 
 fn checkpoint(system: &mut System, low: u64, known: u64) -> Result<(), Refusal> {
-    system.checkpoint(low % NUMBERS, known)
+    system.checkpoint(low % NUMBER_LIMIT, known)
 }
 
 fn accept(system: &mut System, session: u64, end: u64) -> Result<(), Refusal> {
-    system.accept(session % NUMBERS, end)
+    system.accept(session % NUMBER_LIMIT, end)
 }
 
 fn lower(system: &mut System, low: u64) {
-    system.lower(low % NUMBERS);
+    system.lower(low % NUMBER_LIMIT);
 }
 
 fn leaf_at(system: &System, place: usize) -> Result<&Leaf, Refusal> {

@@ -1,6 +1,7 @@
 -- A failed device is no call's cause of its own: a call that is refused so called a device that was due to fail.
 use Rattle.std.proofs.Common.{◌≡◌, ℕ, Bool, true, false, List, [], ◌∷◌, Option, Some, None, IsTrue, refl, sym, ap, ◌∙◌, subst, true≢false}
 use Rattle.std.specs.Prelude.{◌||◌, ◌&&◌, ◌==◌, not, nat_le, nat_lt, is_some, length, if◌then◌else◌}
+use Rattle.range_locks.specs.Meant.{range_of}
 use Rattle.record_key.specs.declared.refusal.Refusal.{Refusal}
 use Rattle.record_key.specs.declared.refusal.Refusal.TheVariants.{NotConnected, Redoing, NotOpen, RollingBack, Unanswered, Full, BadSavepoint, BadRange, NumbersSpent, Unsent, Stale, Device}
 use Rattle.record_key.specs.FirstCause.{first_of, or_else, RefusesAs}
@@ -10,7 +11,6 @@ use Rattle.range_locks.specs.declared.span.Span.{Span}
 use Rattle.tc_core.specs.TcView.{TcView, is_unconnected, is_running, is_serving, is_rolling, is_waiting}
 use Rattle.tc_core.specs.OpenTxns.{find}
 use Rattle.tc_core.specs.Causes.{is_full, saves_of, has_savepoint, undo_logs, running_refusal, serving_refusal, open_refusal, idle_refusal, begin_refusal, commit_refusal, save_refusal, back_refusal, read_refusal, reads_spent, answered_refusal, undo_refusal, resend_refusal}
-use Rattle.tc_core.specs.Changes.{shared}
 use Rattle.tc_core.specs.Recovery.{recover_refusal, undo_logs_at}
 use Rattle.tc_core.specs.Replies.{reply_refusal, is_stale, logs}
 use Rattle.codec.specs.declared.reply.Reply.{Reply}
@@ -132,10 +132,10 @@ back_other w t s =
     or_other (idle_refusal w t) _ (idle_other w t)
     (first_other ((not (has_savepoint (saves_of (find t w.open_txns)) s), BadSavepoint) ∷ []) (refl, tt))
 
-pub read_other : (w : TcView) (t : ℕ) (s : Span) → IsOther (read_refusal w t (shared s))
+pub read_other : (w : TcView) (t : ℕ) (s : Span) → IsOther (read_refusal w t (range_of s))
 read_other w t s =
     or_other _ (idle_refusal w t)
-    (first_other ((not (ends_above (shared s).hi (shared s).lo), BadRange) ∷ []) (refl, tt)) (idle_other w t)
+    (first_other ((not (ends_above (range_of s).hi (range_of s).lo), BadRange) ∷ []) (refl, tt)) (idle_other w t)
 
 pub reads_other : (reads : ℕ) → IsOther (reads_spent reads)
 reads_other reads = first_other ((nat_le 281474976710655 reads, NumbersSpent) ∷ []) (refl, tt)

@@ -10,6 +10,7 @@ use Rattle.record_key.specs.declared.refusal.Refusal.TheVariants.{NoMemory, Devi
 use Rattle.range_locks.specs.declared.span.Span.{Span}
 use Rattle.range_locks.specs.declared.span.Span.TheVariants.{Key, Range}
 use Rattle.logical_log.specs.LogView.{spent_refusal}
+use Rattle.range_locks.specs.Meant.{range_of}
 use Rattle.tc_core.specs.declared.told.Told.{Told}
 use Rattle.tc_core.specs.declared.told.Told.TheVariants as told
 use Rattle.tc_core.specs.declared.told.UndoStep.{UndoStep}
@@ -140,7 +141,7 @@ reads old new t span (out.Asked n) s h =
     tc_is old new (asked_read old.tc h.0.open_txn span) (out.Asked n) s (same_dc old new h.1) h.0.asked s.log refl
 reads old new t span (out.Refused r) s h =
     tc_ends old new r s (same_dc old new h.1)
-    (ends_taking (read_refusal old.tc t (shared span)) (reads_spent old.tc.reads) false old.tc t (shared span) r new.tc
+    (ends_taking (read_refusal old.tc t (range_of span)) (reads_spent old.tc.reads) false old.tc t (shared span) r new.tc
     s.log (read_other old.tc t span) (reads_other old.tc.reads) h.0)
 reads old new t span _ s h = absurd h
 

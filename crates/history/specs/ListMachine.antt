@@ -9,18 +9,23 @@ use Rattle.record_key.specs.declared.op.Answer.{Answer}
 use Rattle.record_key.specs.declared.refusal.Refusal.{Refusal}
 use Rattle.record_key.specs.declared.refusal.Refusal.TheVariants as no
 use Rattle.record_key.specs.Table.{Bytes, answer_in}
+use Rattle.record_key.specs.Order.{Range, HasKeys, one_key, rows_in}
 use Rattle.history.specs.History.{Entry, plain, placed, cross, numbers_of, is_left, left_of, lost}
-use Rattle.history.specs.Spans.{Span, Shared, IsRange, at_key, changed_span, AnyConflict, rows_in}
+use Rattle.history.specs.Spans.{Span, Shared, changed_span, AnyConflict}
 
 -- what a read asks for: the record of a key, or the records of a range, to the end where it has no upper one
 pub data Query : Type 0 where
   OfKey : (key : Bytes) → Query
   OfRange : (lo : Bytes) → (hi : Option Bytes) → Query
 
--- the keys that a read looks at, which it holds shared
+-- the keys that a read looks at
+abbrev pub asked_range : Query → Range
+asked_range (OfKey k) = one_key k
+asked_range (OfRange lo hi) = record { lo = lo; hi = hi }
+
+-- it holds them shared
 abbrev pub asked_span : Query → Span
-asked_span (OfKey k) = at_key Shared k
-asked_span (OfRange lo hi) = record { lo = lo; hi = hi; mode = Shared }
+asked_span q = record { range = asked_range q; mode = Shared }
 
 -- what a transaction waits for or does
 pub data Status : Type 0 where
@@ -213,7 +218,7 @@ MeetsHolder m (ToRead t q) u = HasStatus m t Open × IsHolder m t (asked_span q)
 MeetsHolder m _ u = ⊥
 
 abbrev pub AsksNoRange : Call → Type 0
-AsksNoRange (ToRead t q) = IsRange (asked_span q) → ⊥
+AsksNoRange (ToRead t q) = HasKeys (asked_range q) → ⊥
 AsksNoRange _ = ⊥
 
 -- no room for a transaction, or for a savepoint
@@ -259,13 +264,13 @@ Step m (TellsAnswer t a) n =
       h = placed (record { number = k; txn = t; op = o; answer = a; crossed = false }) m.h;
     })
 Step m (Reads t q) n =
-    HasStatus m t Open × IsRange (asked_span q) × IsFree m t (asked_span q)
+    HasStatus m t Open × HasKeys (asked_range q) × IsFree m t (asked_span q)
     × (n ≡ with_txn m t (record (m.txns t) { status = Reading q; spans = asked_span q ∷ (m.txns t).spans }))
 Step m (TellsRow t value) n =
     (k : Bytes) × HasStatus m t (Reading (OfKey k)) × (value ≡ get (plain m.h) k) × (n ≡ with_status m t Open)
 Step m (TellsRows t rows) n =
     (lo : Bytes) × (hi : Option Bytes) × HasStatus m t (Reading (OfRange lo hi))
-    × (rows ≡ rows_in (asked_span (OfRange lo hi)) (plain m.h)) × (n ≡ with_status m t Open)
+    × (rows ≡ rows_in (asked_range (OfRange lo hi)) (plain m.h)) × (n ≡ with_status m t Open)
 Step m (Saves t s) n =
     HasStatus m t Open × (length (m.txns t).saves + 1 ≡ s) × (s ≤ 16)
     × (n ≡ with_txn m t (record (m.txns t) { saves = (m.txns t).saves ++ numbers_of t m.h ∷ [] }))

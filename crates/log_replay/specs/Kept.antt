@@ -37,6 +37,7 @@ abbrev pub dues_of : List Record → List (Option Answer)
 dues_of [] = []
 dues_of (r ∷ log) = due_to log (request_of r) ∷ dues_of log
 
+-- what a replay has after these records: their answers are right, each key's value, and what each of them gets
 pub record IsReplay (log : List Record) (values : tree.BTreeMap Bytes Bytes) (dues : List (Option Answer)) : Type 0 where
   pub right : HasRightAnswers log
   pub of_keys : (k : Bytes) → value_in values k ≡ value_on k log

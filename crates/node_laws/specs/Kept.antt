@@ -9,10 +9,11 @@ use Rattle.record_key.specs.declared.op.Answer.{Answer}
 use Rattle.history.specs.declared.record.Record.{Record}
 use Rattle.history.specs.Log.{answer_of, Requests}
 use Rattle.history.specs.Values.{value_on, IsRight, HasRightAnswers}
-use Rattle.history.specs.Spans as spans
-use Rattle.history.specs.Spans.{is_within, rows_in}
+use Rattle.record_key.specs.Order as keys
+use Rattle.record_key.specs.Order.{has_key, rows_in}
 use Rattle.range_locks.specs.declared.span.Span.{Span}
 use Rattle.range_locks.specs.declared.span.Span.TheVariants.{Key, Range}
+use Rattle.range_locks.specs.Meant.{range_of}
 use Rattle.codec.specs.declared.request.Request.{Request}
 use Rattle.codec.specs.declared.request.Request.TheVariants as asks
 use Rattle.codec.specs.declared.reply.Reply.{Reply}
@@ -34,7 +35,6 @@ use Rattle.tc_core.specs.declared.open_txn.OpenTxn.{OpenTxn}
 use Rattle.tc_core.specs.declared.phase.Phase.{Phase}
 use Rattle.tc_core.specs.declared.phase.Phase.TheVariants as phase
 use Rattle.tc_core.specs.OpenTxns.{find}
-use Rattle.tc_core.specs.Changes.{shared}
 use Rattle.tc_core.specs.TcView.{TcView}
 use Rattle.tc_core.specs.Opening.{IsOpened}
 use Rattle.stable.specs.Usage.{Usage}
@@ -148,14 +148,14 @@ abbrev pub IsValue : List Record → Option Bytes → Span → Type 0
 IsValue log v (Key k) = v ≡ value_on k log
 IsValue log v _ = Unit {0}
 
--- rows that the log gives in a span: those of a table that has at each key there what the log gives
-pub record AreRowsOf (log : List Record) (rows : List (Bytes × Bytes)) (s : spans.Span) : Type 0 where
+-- rows that the log gives in a range: those of a table that has at each key there what the log gives
+pub record AreRowsOf (log : List Record) (rows : List (Bytes × Bytes)) (r : keys.Range) : Type 0 where
   pub table : Table
-  pub rows_are : rows ≡ rows_in s table
-  pub values : (k : Bytes) → is_within s k ≡ true → map.get table k ≡ value_on k log
+  pub rows_are : rows ≡ rows_in r table
+  pub values : (k : Bytes) → has_key r k ≡ true → map.get table k ≡ value_on k log
 
 abbrev pub AreRows : List Record → List (Bytes × Bytes) → Span → Type 0
-AreRows log rows (Range low high) = AreRowsOf log rows (shared (Range low high))
+AreRows log rows (Range low high) = AreRowsOf log rows (range_of (Range low high))
 AreRows log rows _ = Unit {0}
 
 -- what was replied stays true: also a row or rows, while they are waited for; and that all leaves are low

@@ -6,12 +6,10 @@ ghost use Rattle.node_shell.specs.Words.{is_plain, text_in, end_in, value_behind
 ghost use Rattle.node_shell.specs.Script.{written_bytes};
 
 use crate::line::Written;
+use codec::NUMBER_LIMIT;
 use hex::decode_to_slice;
 use itoa::Buffer;
 use record_key::Value;
-
-/// Every number of a transaction, a message or a savepoint is below this.
-const NUMBER_LIMIT: u64 = 1 << 48;
 
 /// Every amount that is added is below this.
 const AMOUNT_LIMIT: u128 = 1 << 64;

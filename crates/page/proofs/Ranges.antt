@@ -11,10 +11,9 @@ use Rattle.std.proofs.lemmas.Cmp.{nat_list_cmp_total}
 use Rattle.record_key.specs.Table.{Bytes}
 use Rattle.record_key.specs.Laws.{key_cmp}
 use Rattle.record_key.specs.Rows.{Row, AreInOrder, IsAt, IsGapFor, IsPlaceOf, table_of}
-use Rattle.record_key.specs.Order.{is_below}
+use Rattle.record_key.specs.Order.{is_below, Range, rows_in}
 use Rattle.record_key.proofs.Truths.{is_lt-Less, and_first, and_second, as_T, from_T}
 use Rattle.record_key.proofs.Rows.{entries-table_of}
-use Rattle.history.specs.Spans.{Span, rows_in}
 use Rattle.page.specs.Places.{IsStartFor}
 
 -- how a key lies to a row that was compared with it
@@ -115,13 +114,13 @@ alone p (row ∷ rows) = (λ i. cond (is_same i) (row ∷ alone p rows i) (alone
     is_same = and_true (p row)
 
 -- the rows of a range
-pub ranged : (s : Span) (rows part : List Row) (hi : Bytes) → AreInOrder rows → s.hi ≡ Some hi
+pub ranged : (s : Range) (rows part : List Row) (hi : Bytes) → AreInOrder rows → s.hi ≡ Some hi
     → part ≡ filter (λ row. is_below row.0 hi) (filter (λ row. not (is_below row.0 s.lo)) rows)
     → part ≡ rows_in s (table_of rows)
 ranged s rows part hi ordered is h =
     h ∙ both (is_from s.lo) (is_under hi) rows
     ∙ rw (entries-table_of rows ordered, is) refl
 
-pub ranged_on : (s : Span) (rows part : List Row) → AreInOrder rows → s.hi ≡ None
+pub ranged_on : (s : Range) (rows part : List Row) → AreInOrder rows → s.hi ≡ None
     → part ≡ filter (λ row. not (is_below row.0 s.lo)) rows → part ≡ rows_in s (table_of rows)
 ranged_on s rows part ordered is h = h ∙ alone (is_from s.lo) rows ∙ rw (entries-table_of rows ordered, is) refl

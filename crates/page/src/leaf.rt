@@ -4,7 +4,7 @@ ghost use Rattle.std.specs.Option.{option_copied};
 ghost use Rattle.std.specs.FinMap as map;
 ghost use Rattle.record_key.specs.Entries.{StandBetween};
 ghost use Rattle.record_key.specs.Rows.{AreInOrder, LieBetween, table_of};
-ghost use Rattle.history.specs.Spans.{Shared, rows_in};
+ghost use Rattle.record_key.specs.Order.{rows_in};
 ghost use Rattle.ab_lsn.specs.AbLsn.{captures};
 ghost use Rattle.page.specs.Leaf.{first, IsLeaf};
 
@@ -175,7 +175,7 @@ impl Leaf {
     /// The records from `low` on, below `high` where there is one. Takes no memory.
     pub fn scan(&self, low: &Key, high: Option<&Key>) -> &[(Key, Value)]
         ensures { result.now
-            ≡ rows_in (record { lo = low.now; hi = option_copied high.entry; mode = Shared }) self.now.rows }
+            ≡ rows_in (record { lo = low.now; hi = option_copied high.entry }) self.now.rows }
     {
         let rows = rows_from(self.rows.as_slice(), low);
         match high {

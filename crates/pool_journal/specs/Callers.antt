@@ -12,6 +12,7 @@ use Rattle.pool_journal.specs.Errands.{EndsWithFailure, FailsSince}
 use Rattle.pool_journal.specs.Slots.{Shown}
 use Rattle.pool_journal.specs.Sessions.{Call, Part, called_as, calls, ends, line_to, IsClosed, IsLeft, IsSameCall}
 
+-- a session's number, and its part of the journal
 pub record CallerView : Type 0 where
   pub number : ℕ
   pub part : Part

@@ -18,6 +18,7 @@ pub record TcFound : Type 0 where
   pub state : TcState
   pub seat : Seen
 
+-- the same of the data component, which has no seat
 pub record DcFound : Type 0 where
   pub steps : List Step
   pub state : DcState
@@ -30,13 +31,14 @@ pub record SeatKept (marks : TableId) (steps : List Step) (stable : ℕ) (seat :
   pub stable_so : seat.stable ≤ stable
   pub low : seat.low ≡ announced steps
 
--- it is what these steps give
+-- a desk of the transaction component is what these steps give
 pub record TcDeskKept (start : Start) (names : ℕ → ℕ) (marks : TableId) (seen : View) (state : TcState) (seat : Seen)
     : Type 0 where
   pub name : seen.name ≡ names 0
   pub gives : GivesTc start seen.steps state
   pub seated : SeatKept marks seen.steps state.side.tc.stable seat
 
+-- the same of the data component's desk
 pub record DcDeskKept (start : Start) (names : ℕ → ℕ) (seen : View) (state : DcState) : Type 0 where
   pub name : seen.name ≡ names 1
   pub gives : GivesDc start seen.steps state

@@ -136,13 +136,14 @@ abbrev pub HandsRequest : Event → Option Request → Type 0
 HandsRequest (event.Request i) None = ⊥
 HandsRequest _ request = ⊤
 
--- a step that goes on from what the component has seen, and leaves it so
+-- a step that goes on from what the transaction component has seen, and leaves it so
 pub record EntersTc (start : Start) (before : List Step) (e : Step) (new : TcState) : Type 0 where
   pub old : TcState
   pub gives : GivesTc start before old
   pub step : TcStep (replies before) old e new
   pub handed : HandsReply e.event step.reply
 
+-- the same of the data component
 pub record EntersDc (start : Start) (before : List Step) (e : Step) (new : DcState) : Type 0 where
   pub old : DcState
   pub gives : GivesDc start before old

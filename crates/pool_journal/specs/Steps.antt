@@ -39,11 +39,12 @@ requests es = asked_after [] es
 abbrev pub replies : List Step → List Reply
 replies es = given_after [] es
 
--- a component, and how many messages it has sent
+-- the transaction component, and how many requests it has sent
 pub record TcState : Type 0 where
   pub side : TcSide
   pub sent : ℕ
 
+-- the data component, and how many replies it has given
 pub record DcState : Type 0 where
   pub side : DcSide
   pub given : ℕ

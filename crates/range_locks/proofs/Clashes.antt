@@ -9,8 +9,8 @@ use Rattle.std.proofs.lemmas.Cmp.{nat_list_cmp_total, tied_itself}
 use Rattle.record_key.specs.Table.{Bytes}
 use Rattle.record_key.specs.Laws.{key_cmp}
 use Rattle.record_key.proofs.Truths.{is_lt-Less, as_T, from_T, and_first, and_second, both_T}
-use Rattle.history.specs.Spans.{Span, is_within, do_conflict, Conflict, AnyConflict}
-use Rattle.record_key.specs.Order.{is_below, ends_above}
+use Rattle.history.specs.Spans.{Span, do_conflict, Conflict, AnyConflict}
+use Rattle.record_key.specs.Order.{is_below, ends_above, has_key}
 use Rattle.range_locks.specs.Meant.{later, clash}
 
 -- a key below another is at most it
@@ -57,29 +57,29 @@ late_at_most a b k false x y = x
 
 pub conflict_from_clash : (s r : Span) → T (clash s r) → Conflict s r
 conflict_from_clash s r h =
-    let k : Bytes = later s.lo r.lo in
+    let k : Bytes = later s.range.lo r.range.lo in
     let modes : T (do_conflict s.mode r.mode) = and_first (do_conflict s.mode r.mode) _ h in
-    let ends : T (ends_above s.hi k && ends_above r.hi k) = and_second (do_conflict s.mode r.mode) _ h in (
+    let ends : T (ends_above s.range.hi k && ends_above r.range.hi k) = and_second (do_conflict s.mode r.mode) _ h in (
       k,
-      from_T (is_within s k) (both_T (not (is_below k s.lo)) _ (late_first s.lo r.lo (is_below s.lo r.lo) refl)
-          (and_first (ends_above s.hi k) _ ends)),
-      from_T (is_within r k) (both_T (not (is_below k r.lo)) _ (late_second s.lo r.lo (is_below s.lo r.lo) refl)
-          (and_second (ends_above s.hi k) _ ends)),
+      from_T (has_key s.range k) (both_T (not (is_below k s.range.lo)) _ (late_first s.range.lo r.range.lo (is_below s.range.lo r.range.lo) refl)
+          (and_first (ends_above s.range.hi k) _ ends)),
+      from_T (has_key r.range k) (both_T (not (is_below k r.range.lo)) _ (late_second s.range.lo r.range.lo (is_below s.range.lo r.range.lo) refl)
+          (and_second (ends_above s.range.hi k) _ ends)),
       from_T _ modes,
     )
 
 pub clash_from_conflict : (s r : Span) → Conflict s r → T (clash s r)
 clash_from_conflict s r c =
     let k : Bytes = c.0 in
-    let in_s : T (is_within s k) = as_T (is_within s k) c.1 in
-    let in_r : T (is_within r k) = as_T (is_within r k) c.2 in
-    let late : T (not (is_below k (later s.lo r.lo))) =
-    late_at_most s.lo r.lo k (is_below s.lo r.lo) (and_first (not (is_below k s.lo)) _ in_s)
-    (and_first (not (is_below k r.lo)) _ in_r) in
+    let in_s : T (has_key s.range k) = as_T (has_key s.range k) c.1 in
+    let in_r : T (has_key r.range k) = as_T (has_key r.range k) c.2 in
+    let late : T (not (is_below k (later s.range.lo r.range.lo))) =
+    late_at_most s.range.lo r.range.lo k (is_below s.range.lo r.range.lo) (and_first (not (is_below k s.range.lo)) _ in_s)
+    (and_first (not (is_below k r.range.lo)) _ in_r) in
     both_T (do_conflict s.mode r.mode) _ (as_T _ c.3)
-    (both_T (ends_above s.hi (later s.lo r.lo)) _
-    (ends_lower s.hi (later s.lo r.lo) k late (and_second (not (is_below k s.lo)) _ in_s))
-    (ends_lower r.hi (later s.lo r.lo) k late (and_second (not (is_below k r.lo)) _ in_r)))
+    (both_T (ends_above s.range.hi (later s.range.lo r.range.lo)) _
+    (ends_lower s.range.hi (later s.range.lo r.range.lo) k late (and_second (not (is_below k s.range.lo)) _ in_s))
+    (ends_lower r.range.hi (later s.range.lo r.range.lo) k late (and_second (not (is_below k r.range.lo)) _ in_r)))
 
 -- the same of a list
 either : (b c : Bool) → T (b || c) → T b ⊎ T c

@@ -5,7 +5,8 @@ use Rattle.std.specs.Map.{remove_entry}
 use Rattle.std.specs.Ordering.{is_eq, nat_cmp}
 use Rattle.record_key.specs.declared.refusal.Refusal.{Refusal}
 use Rattle.record_key.specs.declared.refusal.Refusal.TheVariants.{BadRange, Busy, NoMemory}
-use Rattle.history.specs.Spans.{Span, IsRange, AnyConflict}
+use Rattle.record_key.specs.Order.{HasKeys}
+use Rattle.history.specs.Spans.{Span, AnyConflict}
 
 -- by transaction its spans, the newest first
 abbrev pub LocksView : Type 0
@@ -42,7 +43,7 @@ pub record IsLeastHolder (v : LocksView) (t : ℕ) (s : Span) (u : ℕ) : Type 0
 
 -- a take is refused for the first of these causes: no range, another's lock, no memory
 abbrev pub Refuses : LocksView → ℕ → Span → Refusal → Type 0
-Refuses v t s BadRange = IsRange s → ⊥
-Refuses v t s (Busy u) = IsRange s × IsLeastHolder v t s u
-Refuses v t s NoMemory = IsRange s × IsFree v t s
+Refuses v t s BadRange = HasKeys s.range → ⊥
+Refuses v t s (Busy u) = HasKeys s.range × IsLeastHolder v t s u
+Refuses v t s NoMemory = HasKeys s.range × IsFree v t s
 Refuses v t s _ = ⊥

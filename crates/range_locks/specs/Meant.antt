@@ -7,6 +7,7 @@ use Rattle.std.specs.Global.{Vec}
 use Rattle.record_key.specs.Table.{Bytes}
 use Rattle.history.specs.Spans as law
 use Rattle.history.specs.Spans.{do_conflict}
+use Rattle.record_key.specs.Order as keys
 use Rattle.record_key.specs.Order.{ends_above, is_below}
 use Rattle.range_locks.specs.declared.span.Mode.{Mode}
 use Rattle.range_locks.specs.declared.span.Mode.TheVariants.{Shared, Increment, Exclusive}
@@ -29,9 +30,11 @@ abbrev pub high_of : Span → Option Bytes
 high_of (Key k) = Some (k ++ 0 ∷ [])
 high_of (Range low high) = high
 
--- one key is the keys from it to the next text
+abbrev pub range_of : Span → keys.Range
+range_of s = record { lo = low_of s; hi = high_of s }
+
 abbrev pub meant : Mode → Span → law.Span
-meant m s = record { lo = low_of s; hi = high_of s; mode = mode_of m }
+meant m s = record { range = range_of s; mode = mode_of m }
 
 abbrev pub span_of : Lock → law.Span
 span_of l = meant l.mode l.span
@@ -41,7 +44,9 @@ later a b = if is_below a b then b else a
 
 -- the later of the two lower ends is below both upper ones, and the modes conflict
 abbrev pub clash : law.Span → law.Span → Bool
-clash s r = do_conflict s.mode r.mode && (ends_above s.hi (later s.lo r.lo) && ends_above r.hi (later s.lo r.lo))
+clash s r =
+    do_conflict s.mode r.mode
+    && (ends_above s.range.hi (later s.range.lo r.range.lo) && ends_above r.range.hi (later s.range.lo r.range.lo))
 
 abbrev pub clashes_with : Lock → Lock → Bool
 clashes_with lock held = clash (span_of lock) (span_of held)

@@ -1,9 +1,8 @@
 //! The locks and their index together. While one transaction alone asks for locks there is no index.
 ghost use Rattle.std.specs.Prelude.{◌≡◌, ◌≢◌, ℕ, ◌∷◌, [], drop, true, IfOk, IfErr, IfSome, IfNone, OnOk, OnErr};
-ghost use Rattle.history.specs.Spans.{IsRange};
-ghost use Rattle.record_key.specs.Order.{ends_above};
+ghost use Rattle.record_key.specs.Order.{ends_above, HasKeys};
 ghost use Rattle.range_locks.specs.Locks.{spans_of, set_spans, IsFree, IsLeastHolder, Refuses};
-ghost use Rattle.range_locks.specs.Meant.{low_of, high_of, meant, span_of, seen};
+ghost use Rattle.range_locks.specs.Meant.{low_of, high_of, meant, range_of, span_of, seen};
 ghost use Rattle.range_locks.specs.Index.{IsIndexed, IsKept};
 ghost use Rattle.range_locks.specs.Rebuilt.{IsRebuilt};
 
@@ -54,7 +53,7 @@ impl Parts {
     pub fn take(&mut self, txn: u64, mode: Mode, span: &Span) -> Result<(), Refusal>
         requires { IsKept self.old.held self.old.index }
         ensures kept { IsKept self.new.held self.new.index }
-        ensures range { OnOk result (IsRange (meant mode span.now)) }
+        ensures range { OnOk result (HasKeys (range_of span.now)) }
         ensures free { OnOk result (IsFree (seen self.old.held) txn (meant mode span.now)) }
         ensures taken { OnOk result
             (seen self.new.held ≡ set_spans txn (meant mode span.now ∷ spans_of (seen self.old.held) txn)

@@ -1,9 +1,9 @@
 //! The lock table that looks at each lock.
 ghost use Rattle.std.specs.Prelude.{◌≡◌, ◌≢◌, ◌∷◌, [], drop, IfErr, OnOk, OnErr};
 ghost use Rattle.std.specs.Bool.{MatchBool};
-ghost use Rattle.history.specs.Spans.{IsRange};
+ghost use Rattle.record_key.specs.Order.{HasKeys};
 ghost use Rattle.range_locks.specs.Locks.{spans_of, set_spans, IsFree, Refuses};
-ghost use Rattle.range_locks.specs.Meant.{meant};
+ghost use Rattle.range_locks.specs.Meant.{meant, range_of};
 ghost use Rattle.range_locks.specs.Rebuilt.{IsRebuilt};
 
 use crate::held::Held;
@@ -43,7 +43,7 @@ impl PlainLocks {
     /// Busy with the least holder where another transaction holds a conflicting span, NoMemory; unchanged
     /// then. The first of these causes is given.
     pub fn take(&mut self, txn: u64, mode: Mode, span: &Span) -> Result<(), Refusal>
-        ensures range { OnOk result (IsRange (meant mode span.now)) }
+        ensures range { OnOk result (HasKeys (range_of span.now)) }
         ensures free { OnOk result (IsFree self.old txn (meant mode span.now)) }
         ensures taken { OnOk result (self.new ≡ set_spans txn (meant mode span.now ∷ spans_of self.old txn) self.old) }
         ensures refused { IfErr result (Refuses self.old txn (meant mode span.now)) }

@@ -1,15 +1,15 @@
 -- Numbers with amounts more: sums in either order, and an amount taken back.
-use Rattle.std.proofs.Common.{◌≡◌, ℕ, zero, suc, ◌+◌, ◌-◌, ◌%◌, ◌^◌, ◌<◌, Bool, true, false, List, [], ◌∷◌, ◌++◌, length, get_or, slice_index, Option, Some, None, refl, sym, ap, ◌∙◌, arith, inl, inr, eqb-true}
-use Rattle.std.specs.Prelude.{◌==◌, nat_lt, if◌then◌else◌}
+use Rattle.std.proofs.Common.{◌≡◌, ℕ, zero, suc, ◌^◌, ◌<◌, true, List, [], ◌∷◌, ◌++◌, length, get_or, slice_index, refl, sym, ap, ◌∙◌, arith, eqb-true}
+use Rattle.std.specs.Prelude.{nat_lt}
 use Rattle.std.specs.List.{list_all}
 use Rattle.std.specs.Int.{byte_at, bytes_high_first}
 use Rattle.std.proofs.Math.Nat.{mod-lt, mod-eq_of_lt}
-use Rattle.std.proofs.lemmas.Bool.{and_parts, and_from, lt-ltb, ltb-true, cases_Bool}
+use Rattle.std.proofs.lemmas.Bool.{and_parts, and_from, lt-ltb, ltb-true}
 use Rattle.std.proofs.lemmas.List.{append-nil}
 use Rattle.std.proofs.lemmas.Nat.{be_bytes_8}
 use Rattle.byteorder.specs.Endian.{big_from}
 use Rattle.byteorder.specs.Numbers.{big_from-bytes, big_from-lt, length-bytes_high_first}
-use Rattle.record_key.specs.Amounts.{amount_bytes, amount_in, is_number, summed, negated}
+use Rattle.record_key.specs.Amounts.{amount_bytes, amount_in, is_number}
 
 -- a number's bytes spell it, whatever follows
 pub amount_then : (n : ℕ) (rest : List ℕ) → n < 2 ^ 64 → amount_in (amount_bytes n ++ rest) ≡ n

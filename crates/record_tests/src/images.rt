@@ -4,7 +4,7 @@ ghost use Rattle.codec.specs.Images.{IsOrderedImage};
 use crate::rows::put_listed;
 use crate::walking::{Found, Reading};
 use crate::written::{marked, told, unwritten};
-use codec::{LeafImage, RowList, Taken, put_leaf_image, take_leaf_image};
+use codec::{LeafImage, NUMBER_LIMIT, RowList, Taken, put_leaf_image, take_leaf_image};
 use record_key::{Entries, Entry, Key, Refusal};
 use std::alloc::Global;
 use std::fmt::Write;
@@ -72,7 +72,7 @@ fn put_entry(answer: &mut String, entry: &Entry) -> Result<(), Refusal> {
 
 /// The bytes of an image without fences, records and entries, which was made and not read.
 pub fn put_blank(alloc: Global, id: u64, answer: &mut String) -> Result<(), Refusal> {
-    if id >= 1 << 48 {
+    if id >= NUMBER_LIMIT {
         return Err(OUTSIDE);
     }
     let image = LeafImage {

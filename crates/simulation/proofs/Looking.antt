@@ -2,9 +2,10 @@
 use Rattle.std.proofs.Common.{◌≡◌, ℕ, false, List, ◌∷◌, Option, Some, refl, sym, ap, ◌∙◌, subst, inl, inr}
 use Rattle.std.proofs.lemmas.Bool.{cases_eq}
 use Rattle.record_key.specs.declared.op.Op.{Op}
-use Rattle.history.specs.Spans.{Span, IsRange}
+use Rattle.record_key.specs.Order.{HasKeys}
+use Rattle.history.specs.Spans.{Span}
 use Rattle.history.specs.Log.{is_crossed, IsOpBy}
-use Rattle.history.specs.ListMachine.{Query, OfKey, OfRange, asked_span, Machine, Txn, Open, Reading, Reads, IsFree, with_txn, with_status}
+use Rattle.history.specs.ListMachine.{Query, OfKey, OfRange, asked_range, asked_span, Machine, Txn, Open, Reading, Reads, IsFree, with_txn, with_status}
 use Rattle.simulation.specs.View.{View, Doing, Ready, Looks, counts, is_to_undo, HasStatusOf, HasSavesOf, HoldsAs, AreSpans, IsUntold, IsTxnOf, StandsFor}
 use Rattle.simulation.specs.Running.{put, does, Leads, after_read, ReadIsAStep, RowIsTold, RowsAreTold}
 use Rattle.simulation.proofs.Entries.{Agrees, Both, alike}
@@ -49,7 +50,7 @@ module _ (v : View) (m : Machine) (t : ℕ) (stands : StandsFor v m) where
       → is_to_undo (v.doing t) n ≡ false
   below d e out n = ap (λ y. is_to_undo y n) e ∙ out n
 
-  pub reads_so : (q : Query) → v.doing t ≡ Some Ready → IsRange (asked_span q) → IsFree m t (asked_span q)
+  pub reads_so : (q : Query) → v.doing t ≡ Some Ready → HasKeys (asked_range q) → IsFree m t (asked_span q)
       → Leads v m (Reads t q) (after_read v t q)
   reads_so q idle range is_free =
       let at = open_as v m t stands idle in

@@ -3,9 +3,10 @@ use Rattle.std.specs.Prelude.{◌≡◌, ◌≢◌, ◌⊎◌, ℕ, ◌<◌, ◌
 use Rattle.std.specs.List.{AllByRecursion}
 use Rattle.record_key.specs.declared.refusal.Refusal.{Refusal}
 use Rattle.record_key.specs.declared.refusal.Refusal.TheVariants as no
-use Rattle.history.specs.Spans.{Span, IsRange, AnyConflict, changed_span}
+use Rattle.record_key.specs.Order.{HasKeys}
+use Rattle.history.specs.Spans.{Span, AnyConflict, changed_span}
 use Rattle.history.specs.Legal.{IsLegal}
-use Rattle.history.specs.ListMachine.{Query, asked_span, Machine, Call, ToBegin, ToAct, ToRead, ToSave, ToGoBack, ToRollBack, ToCommit, AreDifferent, IsRefused, Step}
+use Rattle.history.specs.ListMachine.{Query, asked_range, asked_span, Machine, Call, ToBegin, ToAct, ToRead, ToSave, ToGoBack, ToRollBack, ToCommit, AreDifferent, IsRefused, Step}
 use Rattle.simulation.specs.View.{View, Ready, Awaits, Looks, Rolls, StandsFor}
 use Rattle.simulation.specs.Views.{HasTrueSpans}
 
@@ -59,7 +60,7 @@ BusyIsALine =
     → wanted call ≡ Some (t, s) → HoldsFirst v t s u → IsRefusal m call (no.Busy u)
 
 abbrev pub BadRangeIsALine : Type 0
-BadRangeIsALine = (m : Machine) (t : ℕ) (q : Query) → (IsRange (asked_span q) → ⊥)
+BadRangeIsALine = (m : Machine) (t : ℕ) (q : Query) → (HasKeys (asked_range q) → ⊥)
     → IsRefusal m (ToRead t q) no.BadRange
 
 -- 64 transactions are open

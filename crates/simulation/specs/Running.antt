@@ -5,12 +5,13 @@ use Rattle.record_key.specs.declared.op.Op.{Op}
 use Rattle.record_key.specs.declared.op.Answer.{Answer}
 use Rattle.record_key.specs.Table.{Bytes}
 use Rattle.history.specs.declared.record.Record.TheVariants as is
-use Rattle.history.specs.Spans.{IsRange, rows_in, changed_span}
+use Rattle.record_key.specs.Order.{HasKeys, rows_in}
+use Rattle.history.specs.Spans.{changed_span}
 use Rattle.history.specs.History.{plain}
 use Rattle.history.specs.Log.{IsOpBy}
 use Rattle.history.specs.Legal.{IsLegal, Stands}
 use Rattle.history.specs.Values.{HasRightAnswers}
-use Rattle.history.specs.ListMachine.{Query, OfKey, OfRange, asked_span, Machine, Line, Begins, Acts, TellsAnswer, RollsBack, TellsRolledBack, TellsBack, Commits, Saves, GoesBack, Reads, TellsRow, TellsRows, Step, IsFree}
+use Rattle.history.specs.ListMachine.{Query, OfKey, OfRange, asked_range, asked_span, Machine, Line, Begins, Acts, TellsAnswer, RollsBack, TellsRolledBack, TellsBack, Commits, Saves, GoesBack, Reads, TellsRow, TellsRows, Step, IsFree}
 use Rattle.simulation.specs.View.{View, Doing, Ready, Awaits, Looks, Rolls, is_to_undo, StandsFor}
 
 -- the function with this value at a number
@@ -127,7 +128,7 @@ after_read v t q = record v { doing = put v.doing t (Some (Looks q)); spans = pu
 
 abbrev pub ReadIsAStep : Type 0
 ReadIsAStep =
-    (v : View) (m : Machine) (t : ℕ) (q : Query) → StandsFor v m → v.doing t ≡ Some Ready → IsRange (asked_span q)
+    (v : View) (m : Machine) (t : ℕ) (q : Query) → StandsFor v m → v.doing t ≡ Some Ready → HasKeys (asked_range q)
     → IsFree m t (asked_span q)
     → Leads v m (Reads t q) (after_read v t q)
 
@@ -141,5 +142,5 @@ abbrev pub RowsAreTold : Type 0
 RowsAreTold =
     (v : View) (m : Machine) (t : ℕ) (lo : Bytes) (hi : Option Bytes) (rows : List (Bytes × Bytes)) → StandsFor v m
     → v.doing t ≡ Some (Looks (OfRange lo hi))
-    → rows ≡ rows_in (asked_span (OfRange lo hi)) (plain m.h)
+    → rows ≡ rows_in (asked_range (OfRange lo hi)) (plain m.h)
     → Leads v m (TellsRows t rows) (does v t (Some Ready))

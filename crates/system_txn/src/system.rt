@@ -6,7 +6,7 @@ ghost use Rattle.record_key.specs.Table.{key_of};
 ghost use Rattle.ab_lsn.specs.AbLsn.{captures};
 ghost use Rattle.page.specs.Leaf.{first};
 ghost use Rattle.stable.specs.Crash.{BeginsWith};
-ghost use Rattle.history.specs.Spans.{Shared, rows_in};
+ghost use Rattle.record_key.specs.Order.{rows_in};
 ghost use Rattle.btree.specs.Leaves.{leaf_at, place_at, rows_of};
 ghost use Rattle.btree.specs.Performs.{PerformsAt};
 ghost use Rattle.recovery_laws.specs.Shape.{beginning};
@@ -188,7 +188,7 @@ impl<L: LeafSet, D: LogDevice, P: PageDevice> SystemTxns<L, D, P> {
         found: &mut S,
     ) -> Result<(), Refusal>
         ensures found { OnOk result (S.rows found.new ≡ S.rows found.old
-            ++ rows_in (record { lo = low.now; hi = option_copied high.entry; mode = Shared })
+            ++ rows_in (record { lo = low.now; hi = option_copied high.entry })
             (rows_of self.now.leaves)) }
         ensures memory { IsOkUnless result Refusal.NoMemory }
     {

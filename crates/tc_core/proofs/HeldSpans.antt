@@ -13,7 +13,8 @@ use Rattle.history.specs.declared.record.Record.{Record}
 use Rattle.history.specs.declared.record.Record.TheVariants as is
 use Rattle.history.specs.Log.{record_at, op_of, IsOpBy}
 use Rattle.history.specs.Legal.{IsLegal}
-use Rattle.history.specs.Spans.{Span, Exclusive, at_key, is_within, Conflict, AnyConflict, changed_span, do_conflict, mode_of, Shared, Increment}
+use Rattle.record_key.specs.Order.{has_key, one_key}
+use Rattle.history.specs.Spans.{Span, Exclusive, Conflict, AnyConflict, changed_span, do_conflict, mode_of, Shared, Increment}
 use Rattle.log_laws.proofs.Records.{AnOp, op_step, both_same, newest_at, older_at, at_newest, at_older, not_newest}
 use Rattle.log_laws.proofs.LegalLogs.{begun, begun_number, op_number}
 use Rattle.tc_core.specs.declared.open_txn.OpenTxn.{OpenTxn}
@@ -21,8 +22,8 @@ use Rattle.tc_core.specs.OpenTxns.{find, replace, without}
 use Rattle.tc_core.specs.Locking.{op_spans, held_spans, is_holder, is_listed, is_for_change, is_changing}
 use Rattle.tc_core.proofs.Finding.{find_here, find_there, replaced_same, replaced_other, without_same, without_other}
 
--- a key stands in its own span
-pub within_itself : (k : Bytes) → is_within (at_key Exclusive k) k ≡ true
+-- a key stands in its own range
+pub within_itself : (k : Bytes) → has_key (one_key k) k ≡ true
 within_itself k =
     let same : key_cmp k k ≡ Equal = tied_itself nat_list_cmp_total k in
     let below = key_cmp-beginning k (0 ∷ []) (λ e. cc) in
@@ -32,7 +33,7 @@ within_itself k =
 pub conflict_at : (o q : Op) → key_of o ≡ key_of q → do_conflict (mode_of o) (mode_of q) ≡ true
     → Conflict (changed_span o) (changed_span q)
 conflict_at o q same clash =
-    let P : Bytes → Type 0 = λ k. is_within (at_key Exclusive k) (key_of o) ≡ true in
+    let P : Bytes → Type 0 = λ k. has_key (one_key k) (key_of o) ≡ true in
     (key_of o, within_itself (key_of o), subst P same (within_itself (key_of o)), clash)
 
 -- what an operation holds is held against readers, and counts as changed

@@ -5,7 +5,9 @@ use Rattle.record_key.specs.declared.op.Op.{Op}
 use Rattle.record_key.specs.Table.{key_of}
 use Rattle.history.specs.declared.record.Record.{Record}
 use Rattle.history.specs.Log.{IsOpen, IsOpBy}
-use Rattle.history.specs.Spans.{is_within, IsRange, Conflict, changed_span}
+use Rattle.record_key.specs.Order.{has_key, HasKeys}
+use Rattle.range_locks.specs.Meant.{range_of}
+use Rattle.history.specs.Spans.{Conflict, changed_span}
 use Rattle.history.specs.Spans as law
 use Rattle.range_locks.specs.declared.span.Span.{Span}
 use Rattle.range_locks.specs.Locks.{spans_of, IsFree}
@@ -47,7 +49,7 @@ open_alike log o r h = record {
 
 pub keeps_ask : (w : TcView) (o : OpenTxn) (s : Span) → IsTc w → find o.txn w.open_txns ≡ Some o → o.waiting ≡ None
     → o.rolling ≡ None
-    → IsRange (shared s) → IsFree w.locks o.txn (shared s) → w.reads < 281474976710655 → IsTc (asked_read w o s)
+    → HasKeys (range_of s) → IsFree w.locks o.txn (shared s) → w.reads < 281474976710655 → IsTc (asked_read w o s)
 keeps_ask w o s k at none flat range free unspent =
     let r : Read = record { number = w.reads + 1; span = s } in
     let new : OpenTxn = reading_txn o (w.reads + 1) s in
@@ -135,9 +137,9 @@ reads w o n s k at some = pick (reader w n) refl
 -- no operation of another open transaction is in the span that is read
 pub held_apart : (w : TcView) (o : OpenTxn) (r : Read) (n u : ℕ) (q : Op) → IsTc w → find o.txn w.open_txns ≡ Some o
     → o.reading ≡ Some r → IsOpBy w.log n u q → IsOpen w.log u → u ≢ o.txn
-    → is_within (shared r.span) (key_of q) ≡ false
+    → has_key (range_of r.span) (key_of q) ≡ false
 held_apart w o r n u q k at some by open_u other =
-    elim (cases_Bool (is_within (shared r.span) (key_of q))) [
+    elim (cases_Bool (has_key (range_of r.span) (key_of q))) [
       | inl within ↦
           let h : IsReading w.reads w.locks o r = reading_at w o r k at some in
           let clash : Conflict (shared r.span) (changed_span q) =

@@ -14,7 +14,8 @@ use Rattle.history.specs.declared.record.Record.{Record}
 use Rattle.history.specs.declared.record.Record.TheVariants as is
 use Rattle.history.specs.Log.{IsOpen, IsOpBy}
 use Rattle.history.specs.Legal.{IsLatestOrNone, IsLegal, FitsCheckpoint}
-use Rattle.history.specs.Spans.{Exclusive, at_key, is_within, AnyConflict, changed_span, do_conflict, mode_of, Mode}
+use Rattle.record_key.specs.Order.{has_key, one_key}
+use Rattle.history.specs.Spans.{at_key, AnyConflict, changed_span, do_conflict, mode_of, Mode}
 use Rattle.log_laws.proofs.Sharing.{share_adds, modes_agree}
 use Rattle.log_laws.proofs.Records.{AnOp, at_newest, at_older, not_newest, since}
 use Rattle.log_laws.proofs.LegalLogs.{begun_number, fits_at, op_number}
@@ -34,8 +35,8 @@ use Rattle.tc_core.proofs.Losers.{listed_loser, loser_listed}
 use Rattle.tc_core.proofs.LettingGo.{apart_none}
 use Rattle.tc_core.proofs.Low.{may_none}
 
--- one key is the only one in its span
-pub only_key : (k x : Bytes) → is_within (at_key Exclusive k) x ≡ true → x ≡ k
+-- one key is the only one in its range
+pub only_key : (k x : Bytes) → has_key (one_key k) x ≡ true → x ≡ k
 only_key [] [] h = refl
 only_key [] (zero ∷ []) h = absurd (cc)
 only_key [] (zero ∷ y ∷ ys) h = absurd (cc)
@@ -45,7 +46,7 @@ only_key [] (suc a ∷ ys) h =
 only_key (b ∷ bs) [] h = absurd (cc)
 only_key (b ∷ bs) (a ∷ xs) h = pick (only_key bs xs) (nat_cmp a b) refl h
   where
-    pick : (is_within (at_key Exclusive bs) xs ≡ true → xs ≡ bs) → (o : Ordering) → nat_cmp a b ≡ o
+    pick : (has_key (one_key bs) xs ≡ true → xs ≡ bs) → (o : Ordering) → nat_cmp a b ≡ o
         → (not (is_lt (ordering_then o (key_cmp xs bs))) && is_lt (ordering_then o (key_cmp xs (bs ++ 0 ∷ [])))) ≡ true
         → (a ∷ xs) ≡ (b ∷ bs)
     pick rest Less is test = absurd (cc)

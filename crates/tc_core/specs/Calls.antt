@@ -4,6 +4,7 @@ use Rattle.record_key.specs.declared.op.Op.{Op}
 use Rattle.record_key.specs.declared.refusal.Refusal.{Refusal}
 use Rattle.record_key.specs.declared.refusal.Refusal.TheVariants.{Device}
 use Rattle.stable.specs.Usage.{is_due}
+use Rattle.range_locks.specs.Meant.{range_of}
 use Rattle.history.specs.Log.{Requests}
 use Rattle.history.specs.Spans.{changed_span}
 use Rattle.codec.specs.declared.request.Request.{Request}
@@ -65,7 +66,7 @@ ActGives old t op (Err r) new =
 pub record AsksRead (old : TcView) (t : ℕ) (span : Span) (number : ℕ) (new : TcView) : Type 0 where
   pub open_txn : OpenTxn
   pub at : IsAt old t open_txn
-  pub allowed : read_refusal old t (shared span) ≡ None
+  pub allowed : read_refusal old t (range_of span) ≡ None
   pub free : IsFree old.locks t (shared span)
   pub unspent : reads_spent old.reads ≡ None
   pub number_is : number ≡ old.reads + 1
@@ -74,7 +75,7 @@ pub record AsksRead (old : TcView) (t : ℕ) (span : Span) (number : ℕ) (new :
 abbrev pub ReadGives : TcView → ℕ → Span → Result ℕ Refusal → TcView → Type 0
 ReadGives old t span (Ok n) new = AsksRead old t span n new
 ReadGives old t span (Err r) new =
-    RefusesTaking (read_refusal old t (shared span)) (reads_spent old.reads) false old t (shared span) r new
+    RefusesTaking (read_refusal old t (range_of span)) (reads_spent old.reads) false old t (shared span) r new
 
 -- a savepoint is set: its number is the count of present ones plus 1
 pub record Saves (old : TcView) (t s : ℕ) (new : TcView) : Type 0 where

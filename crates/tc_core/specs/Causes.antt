@@ -4,7 +4,7 @@ use Rattle.record_key.specs.declared.refusal.Refusal.{Refusal}
 use Rattle.record_key.specs.declared.refusal.Refusal.TheVariants.{NotConnected, Redoing, NotOpen, RollingBack, Unanswered, Full, BadSavepoint, BadRange, Busy, NumbersSpent, Unsent}
 use Rattle.record_key.specs.FirstCause.{first_of, or_else}
 use Rattle.history.specs.Spans.{Span}
-use Rattle.record_key.specs.Order.{ends_above}
+use Rattle.record_key.specs.Order.{Range, ends_above}
 use Rattle.range_locks.specs.Locks.{IsFree, IsLeastHolder}
 use Rattle.tc_core.specs.declared.open_txn.OpenTxn.{OpenTxn}
 use Rattle.tc_core.specs.declared.open_txn.Rollback.{Rollback}
@@ -60,8 +60,8 @@ back_refusal w t s =
     or_else (idle_refusal w t) (first_of ((not (has_savepoint (saves_of (find t w.open_txns)) s), BadSavepoint) ∷ []))
 
 -- a read asks for a range, and has a number of its own
-abbrev pub read_refusal : TcView → ℕ → Span → Option Refusal
-read_refusal w t s = or_else (first_of ((not (ends_above s.hi s.lo), BadRange) ∷ [])) (idle_refusal w t)
+abbrev pub read_refusal : TcView → ℕ → Range → Option Refusal
+read_refusal w t r = or_else (first_of ((not (ends_above r.hi r.lo), BadRange) ∷ [])) (idle_refusal w t)
 
 abbrev pub reads_spent : ℕ → Option Refusal
 reads_spent reads = first_of ((nat_le 281474976710655 reads, NumbersSpent) ∷ [])

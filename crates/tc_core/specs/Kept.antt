@@ -8,7 +8,9 @@ use Rattle.history.specs.declared.record.Record.TheVariants as is
 use Rattle.history.specs.Log.{record_at, answer_of, IsOpen, Requests, IsStepOf}
 use Rattle.history.specs.Legal.{IsLatestOrNone, IsIdle, IsLegal, FitsCheckpoint}
 use Rattle.history.specs.Chains.{undo_from}
-use Rattle.history.specs.Spans.{Span, IsRange}
+use Rattle.record_key.specs.Order.{HasKeys}
+use Rattle.range_locks.specs.Meant.{range_of}
+use Rattle.history.specs.Spans.{Span}
 use Rattle.range_locks.specs.Locks.{LocksView, spans_of}
 use Rattle.tc_core.specs.declared.open_txn.OpenTxn.{OpenTxn}
 use Rattle.tc_core.specs.declared.open_txn.Read.{Read}
@@ -68,7 +70,7 @@ pub record IsReading (reads : ℕ) (locks : LocksView) (o : OpenTxn) (r : Read) 
   pub idle : o.waiting ≡ None
   pub flat : o.rolling ≡ None
   pub asked : r.number ≤ reads
-  pub range : IsRange (shared r.span)
+  pub range : HasKeys (range_of r.span)
   pub before : List Span
   pub held : spans_of locks o.txn ≡ shared r.span ∷ before
 

@@ -1,8 +1,8 @@
 //! Locks for the calls of clients.
 ghost use Rattle.std.specs.Prelude.{◌≡◌, ◌∷◌, false, IfErr, OnOk, OnErr};
-ghost use Rattle.history.specs.Spans.{IsRange};
+ghost use Rattle.record_key.specs.Order.{HasKeys};
 ghost use Rattle.range_locks.specs.Locks.{spans_of, set_spans, IsFree, IsTable};
-ghost use Rattle.range_locks.specs.Meant.{meant};
+ghost use Rattle.range_locks.specs.Meant.{meant, range_of};
 ghost use Rattle.tc_core.specs.Locking.{RefusesLock, held_mode, spent_of};
 
 use range_locks::{Mode, RangeLocks, Span};
@@ -17,7 +17,7 @@ pub fn take(
     mode: Mode,
     span: &Span,
 ) -> Result<(), Refusal>
-    requires range { IsRange (meant mode span.now) }
+    requires range { HasKeys (range_of span.now) }
     requires table { IsTable locks.old }
     ensures free { OnOk result (IsFree locks.old txn (meant mode span.now)) }
     ensures unspent { OnOk result (spent ≡ false) }

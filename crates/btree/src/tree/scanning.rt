@@ -1,7 +1,6 @@
 //! The records of a range, found by one walk below the nodes that have them.
 ghost use Rattle.std.specs.Prelude.{◌≡◌, [], ◌∷◌, IfOk, IsOkUnless};
 ghost use Rattle.std.specs.Option.{option_copied};
-ghost use Rattle.history.specs.Spans.{Shared};
 ghost use Rattle.btree.specs.Nodes.{IsWhole, under};
 ghost use Rattle.btree.specs.Scanned.{IsScannedFrom, IsScannedOn, ends_within};
 
@@ -22,7 +21,7 @@ impl Node {
     ) -> Result<bool, Refusal>
         requires whole { IsWhole self.now }
         ensures found { IfOk result (λ ended.
-            IsScannedFrom (record { lo = low.now; hi = option_copied high.entry; mode = Shared }) self.now.leaves
+            IsScannedFrom (record { lo = low.now; hi = option_copied high.entry }) self.now.leaves
             (S.rows found.old) (S.rows found.new) ended) }
         ensures memory { IsOkUnless result Refusal.NoMemory }
     {
@@ -50,7 +49,7 @@ impl Node {
         found: &mut S,
     ) -> Result<bool, Refusal>
         ensures found { IfOk result (λ ended.
-            IsScannedOn (record { lo = low.now; hi = option_copied high.entry; mode = Shared }) self.now.leaves
+            IsScannedOn (record { lo = low.now; hi = option_copied high.entry }) self.now.leaves
             (S.rows found.old) (S.rows found.new) ended) }
         ensures memory { IsOkUnless result Refusal.NoMemory }
     {
@@ -70,7 +69,7 @@ fn scan_nodes<S: RowSink>(
     found: &mut S,
 ) -> Result<bool, Refusal>
     ensures found { IfOk result (λ ended.
-        IsScannedOn (record { lo = low.now; hi = option_copied high.entry; mode = Shared }) (under nodes.now)
+        IsScannedOn (record { lo = low.now; hi = option_copied high.entry }) (under nodes.now)
         (S.rows found.old) (S.rows found.new) ended) }
     ensures memory { IsOkUnless result Refusal.NoMemory }
 {
@@ -90,7 +89,7 @@ fn scan_leaf<S: RowSink>(
     found: &mut S,
 ) -> Result<bool, Refusal>
     ensures found { IfOk result (λ ended.
-        IsScannedOn (record { lo = low.now; hi = option_copied high.entry; mode = Shared }) (leaf.now ∷ [])
+        IsScannedOn (record { lo = low.now; hi = option_copied high.entry }) (leaf.now ∷ [])
         (S.rows found.old) (S.rows found.new) ended) }
     ensures memory { IsOkUnless result Refusal.NoMemory }
 {

@@ -9,8 +9,9 @@ use Rattle.record_key.specs.declared.refusal.Refusal.TheVariants.{Full, BadRange
 use Rattle.record_key.specs.FirstCause.{first_of}
 use Rattle.record_key.specs.Table.{Bytes}
 use Rattle.history.specs.declared.record.Record.TheVariants as is
-use Rattle.history.specs.Spans.{IsRange, changed_span}
-use Rattle.record_key.specs.Order.{ends_above}
+use Rattle.range_locks.specs.Meant.{range_of}
+use Rattle.history.specs.Spans.{changed_span}
+use Rattle.record_key.specs.Order.{ends_above, HasKeys}
 use Rattle.history.specs.Legal.{Fits, IsLatestOrNone, Stands, Inverts}
 use Rattle.history.specs.Log.{record_at, answer_of, IsOpBy}
 use Rattle.range_locks.specs.declared.span.Span.{Span}
@@ -112,12 +113,12 @@ pub read_keeps : (old new : TcView) (t : ℕ) (s : Span) (x : Result ℕ Refusal
     → IsTc new
 read_keeps old new t s (Ok n) k h =
     let o : OpenTxn = h.open_txn in
-    let allowed = both_none (first_of ((not (ends_above (shared s).hi (shared s).lo), BadRange) ∷ []))
+    let allowed = both_none (first_of ((not (ends_above (range_of s).hi (range_of s).lo), BadRange) ∷ []))
     (idle_refusal old t) h.allowed in
     let idle = idle_found old t o h.at allowed.1 in
-    let range : IsRange (shared s) =
-    not_not (ends_above (shared s).hi (shared s).lo)
-    (one_false (not (ends_above (shared s).hi (shared s).lo)) BadRange allowed.0) in
+    let range : HasKeys (range_of s) =
+    not_not (ends_above (range_of s).hi (range_of s).lo)
+    (one_false (not (ends_above (range_of s).hi (range_of s).lo)) BadRange allowed.0) in
     let free : IsFree old.locks o.txn (shared s) =
     subst (λ (x : ℕ). IsFree old.locks x (shared s)) (sym h.at.number) h.free in
     let less = unspent (nat_le 281474976710655 old.reads) h.unspent in

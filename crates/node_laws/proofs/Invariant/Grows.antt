@@ -2,6 +2,7 @@
 use Rattle.std.proofs.Common.{◌≡◌, ◌≢◌, ℕ, ◌+◌, ◌<◌, ◌≤◌, ◌⊎◌, true, List, ◌∷◌, length, Option, Some, None, refl, sym, ap, ◌∙◌, subst, arith, inl, inr, true≢false}
 use Rattle.std.specs.List.{AllByRecursion}
 use Rattle.std.proofs.lemmas.Bool.{cases_Bool}
+use Rattle.range_locks.specs.Meant.{range_of}
 use Rattle.record_key.specs.declared.op.Op.{Op}
 use Rattle.record_key.specs.declared.op.Answer.{Answer}
 use Rattle.record_key.specs.Table.{Bytes}
@@ -9,7 +10,7 @@ use Rattle.history.specs.declared.record.Record.{Record}
 use Rattle.history.specs.declared.record.Record.TheVariants as is
 use Rattle.history.specs.Legal.{IsLegal, FitsCheckpoint}
 use Rattle.history.specs.Log.{answer_of, request_of, Requests}
-use Rattle.history.specs.Spans.{is_within}
+use Rattle.record_key.specs.Order.{has_key}
 use Rattle.history.specs.Values.{is_on, value_with, value_on, IsRight, HasRightAnswers}
 use Rattle.log_laws.proofs.Records.{ARequest, older_at, at_newest}
 use Rattle.log_laws.proofs.LegalLogs.{request_number}
@@ -34,7 +35,6 @@ use Rattle.page.proofs.Honest.{right_longer, honest_uncaptured}
 use Rattle.dc_core.specs.DcView.{DcView}
 use Rattle.tc_core.specs.declared.open_txn.OpenTxn.{OpenTxn}
 use Rattle.tc_core.specs.OpenTxns.{find}
-use Rattle.tc_core.specs.Changes.{shared}
 use Rattle.tc_core.proofs.Finding.{found_own}
 use Rattle.tc_core.proofs.HeldSpans.{within_itself}
 use Rattle.tc_core.proofs.KeepsTc.{none_next}
@@ -275,7 +275,7 @@ pub record BothKept (old new : TcView) : Type 0 where
 -- the value at a key that is being read stays
 value_stays : (old new : TcView) → BothKept old new → Extends old.log new.log
     → (t : ℕ) (x : OpenTxn) (n : ℕ) (q : Span) → find t new.open_txns ≡ Some x
-    → x.reading ≡ Some (record { number = n; span = q }) → (key : Bytes) → is_within (shared q) key ≡ true
+    → x.reading ≡ Some (record { number = n; span = q }) → (key : Bytes) → has_key (range_of q) key ≡ true
     → value_on key new.log ≡ value_on key old.log
 value_stays old new both (inl same) t x n q found reading key within = ap (value_on key) same
 value_stays old new both (inr grown) t x n q found reading key within =
@@ -294,7 +294,7 @@ value_stays old new both (inr grown) t x n q found reading key within =
         let other = unread new x (record { number = n; span = q }) next o both.now (found_own t new.open_txns x found)
         reading asks none in
         elim (cases_Bool (is_on key o)) [
-          | inl on ↦ absurd (true≢false (sym within ∙ ap (is_within (shared q)) (sym (key_on key o on)) ∙ other))
+          | inl on ↦ absurd (true≢false (sym within ∙ ap (has_key (range_of q)) (sym (key_on key o on)) ∙ other))
           | inr off ↦ rw off refl
         ]
 

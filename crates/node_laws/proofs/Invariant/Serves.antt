@@ -2,13 +2,14 @@
 use Rattle.std.proofs.Common.{◌≡◌, ℕ, ◌<◌, ◌≤◌, Bool, true, false, List, ◌∷◌, length, Option, Some, None, IfSome, MatchBool, refl, sym, ap, ◌∙◌, subst, arith, inl, inr}
 use Rattle.std.specs.Prelude.{max, Err}
 use Rattle.std.proofs.lemmas.Bool.{cases_Bool, MatchBool-at_true, MatchBool-at_false}
+use Rattle.range_locks.specs.Meant.{range_of}
 use Rattle.record_key.specs.declared.refusal.Refusal.{Refusal}
 use Rattle.record_key.specs.declared.refusal.Refusal.TheVariants.{Device}
 use Rattle.stable.specs.Usage.{Usage, called, failed}
 use Rattle.system_txn.specs.Uses.{refused_use}
 use Rattle.record_key.specs.Table.{Bytes, key_of, answer_in}
 use Rattle.history.specs.declared.record.Record.{Record}
-use Rattle.history.specs.Spans.{is_within, rows_in}
+use Rattle.record_key.specs.Order.{has_key, rows_in}
 use Rattle.history.specs.Values.{value_on}
 use Rattle.range_locks.specs.declared.span.Span.{Span}
 use Rattle.range_locks.specs.declared.span.Span.TheVariants.{Key, Range}
@@ -40,7 +41,6 @@ use Rattle.dc_core.proofs.Checked.{checked_served, checkpoint_checked}
 use Rattle.tc_core.specs.declared.phase.Phase.{Phase}
 use Rattle.tc_core.specs.declared.phase.Phase.TheVariants as phase
 use Rattle.tc_core.specs.TcView.{TcView}
-use Rattle.tc_core.specs.Changes.{shared}
 use Rattle.tc_core.specs.Kept.{IsPhase}
 use Rattle.tc_core.proofs.Finding.{found_own}
 use Rattle.tc_core.proofs.HeldSpans.{within_itself}
@@ -221,7 +221,7 @@ reads_row w s n key k past sent = record {
       subst P (sym same)
       (read_logged w x (record { number = n; span = q }) k (found_own t w.tc.open_txns x found) reading
       (run_live w s k past.runs is) past.past key
-      (let Q : Span → Type 0 = λ z. is_within (shared z) key ≡ true in subst Q (sym same) (within_itself key)));
+      (let Q : Span → Type 0 = λ z. has_key (range_of z) key ≡ true in subst Q (sym same) (within_itself key)));
 }
 
 reads_rows : (w : NodeView) (s n : ℕ) (low : Bytes) (high : Option Bytes) (k : IsKept w) → IsPast w.dc s
@@ -234,7 +234,7 @@ reads_rows w s n low high k past sent = record {
   holds = λ is t x q found reading.
       let same : q ≡ Range low high = sent.holds is t x q found reading in
       let P : Span → Type 0 = AreRows w.tc.log (rows_in (range low high) (rows_of (leaves w.dc))) in
-      let Q : Span → Type 0 = λ z. (key : Bytes) → is_within (shared z) key ≡ true → value_at w.dc key
+      let Q : Span → Type 0 = λ z. (key : Bytes) → has_key (range_of z) key ≡ true → value_at w.dc key
       ≡ value_on key w.tc.log in
       let there : Q q = read_logged w x (record { number = n; span = q }) k (found_own t w.tc.open_txns x found) reading
       (run_live w s k past.runs is) past.past in

@@ -6,7 +6,7 @@ use Rattle.std.specs.FinMap as map
 use Rattle.record_key.specs.Table.{Bytes, Table, key_of, answer_in}
 use Rattle.record_key.specs.Rows.{AreInOrder}
 use Rattle.record_key.proofs.Rows.{own_rows}
-use Rattle.history.specs.Spans.{is_within, rows_in}
+use Rattle.record_key.specs.Order.{has_key, rows_in}
 use Rattle.log_laws.proofs.LegalLogs.{request_number}
 use Rattle.range_locks.specs.declared.span.Span.{Span}
 use Rattle.range_locks.specs.declared.span.Span.TheVariants.{Key, Range}
@@ -117,7 +117,7 @@ numbers_spelled (asks.StableEnd s stable) h = h
 
 -- a range of a table's rows rises
 rows_rise : (lo : Bytes) (hi : Option Bytes) (t : Table) → AreInOrder (rows_in (range lo hi) t)
-rows_rise lo hi t = (retained (map.entries t) (λ k. is_within (range lo hi) k) (own_rows t)).0
+rows_rise lo hi t = (retained (map.entries t) (λ k. has_key (range lo hi) k) (own_rows t)).0
 
 reply_is : {A : Type 0} {a b : A} → Some a ≡ Some b → a ≡ b
 reply_is e = cc

@@ -8,12 +8,13 @@ use Rattle.record_key.specs.Table.{Bytes}
 use Rattle.record_key.specs.declared.refusal.Refusal.{Refusal}
 use Rattle.record_key.specs.declared.refusal.Refusal.TheVariants.{Full, BadSavepoint, BadRange, NumbersSpent}
 use Rattle.record_key.specs.FirstCause.{first_of}
-use Rattle.history.specs.Spans.{Span, IsRange, changed_span}
-use Rattle.record_key.specs.Order.{ends_above}
+use Rattle.range_locks.specs.Meant.{range_of}
+use Rattle.history.specs.Spans.{Span, changed_span}
+use Rattle.record_key.specs.Order.{ends_above, HasKeys}
 use Rattle.history.specs.declared.record.Record.{Record}
 use Rattle.history.specs.declared.record.Record.TheVariants as is
 use Rattle.history.specs.Log.{record_at}
-use Rattle.history.specs.ListMachine.{Machine, Line, Call, ToBegin, ToAct, ToRead, ToSave, ToGoBack, ToRollBack, ToCommit, IsRefused, Begins, Acts as acts, Reads, Saves as saves_line, GoesBack as goes_back, RollsBack as rolls_back_line, Commits, TellsRolledBack, TellsBack, asked_span, Steps}
+use Rattle.history.specs.ListMachine.{Machine, Line, Call, ToBegin, ToAct, ToRead, ToSave, ToGoBack, ToRollBack, ToCommit, IsRefused, Begins, Acts as acts, Reads, Saves as saves_line, GoesBack as goes_back, RollsBack as rolls_back_line, Commits, TellsRolledBack, TellsBack, asked_range, asked_span, Steps}
 use Rattle.simulation.specs.View.{StandsFor}
 use Rattle.simulation.specs.Running.{Leads as LeadsTo}
 use Rattle.range_locks.specs.declared.span.Span.{Span as Keys}
@@ -221,13 +222,13 @@ follows_read old new t s n e k line h =
     let o : OpenTxn = a.open_txn in
     let tc : TcView = asked_read old.tc o s in
     let mine : OpenTxn = reading_txn o (old.tc.reads + 1) s in
-    let allowed = both_none (first_of ((not (ends_above (shared s).hi (shared s).lo), BadRange) ∷ []))
+    let allowed = both_none (first_of ((not (ends_above (range_of s).hi (range_of s).lo), BadRange) ∷ []))
     (idle_refusal old.tc t) a.allowed in
     let idle = idle_found old.tc t o a.at allowed.1 in
-    let is_range : IsRange (asked_span (query_of s)) =
-    ap (λ (x : Span). ends_above x.hi x.lo) (same_span s)
-    ∙ not_not (ends_above (shared s).hi (shared s).lo)
-    (one_false (not (ends_above (shared s).hi (shared s).lo)) BadRange allowed.0) in
+    let is_range : HasKeys (asked_range (query_of s)) =
+    ap (λ (x : Span). ends_above x.range.hi x.range.lo) (same_span s)
+    ∙ not_not (ends_above (range_of s).hi (range_of s).lo)
+    (one_false (not (ends_above (range_of s).hi (range_of s).lo)) BadRange allowed.0) in
     let free : IsFree old.tc.locks o.txn (asked_span (query_of s)) =
     subst (λ (x : Span). IsFree old.tc.locks o.txn x) (sym (same_span s))
     (subst (λ (x : ℕ). IsFree old.tc.locks x (shared s)) (sym a.at.number) a.free) in
@@ -260,7 +261,7 @@ refused_read : (old new : NodeView) (t : ℕ) (s : Keys) (r : Refusal) (e : Even
     → Calls (ReadGives old.tc t s (Err r)) old new → Follows old e (out.Refused r) new
 refused_read old new t s r e k line h =
     refused old new e (ToRead t (query_of s)) r k line h.1
-    (left_taking (read_refusal old.tc t (shared s)) _ false old.tc t (shared s) r new.tc h.0)
+    (left_taking (read_refusal old.tc t (range_of s)) _ false old.tc t (shared s) r new.tc h.0)
     (λ m stands. read_refused old.tc new.tc m t s r k.tc stands h.0)
 
 pub follows_get : (old new : NodeView) (t : ℕ) (key : Bytes) (output : Out) → IsKept old

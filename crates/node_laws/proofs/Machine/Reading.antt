@@ -2,12 +2,13 @@
 use Rattle.std.proofs.Common.{◌≡◌, ◌≢◌, ℕ, true, false, List, Option, Some, None, IsSome, refl, sym, ap, ◌∙◌, subst, arith, inl, inr, true≢false}
 use Rattle.std.proofs.lemmas.Bool.{cases_Bool}
 use Rattle.std.specs.FinMap.{get}
+use Rattle.range_locks.specs.Meant.{range_of}
 use Rattle.record_key.specs.declared.op.Op.{Op}
 use Rattle.record_key.specs.declared.op.Answer.{Answer}
 use Rattle.record_key.specs.Table.{Bytes, key_of}
 use Rattle.history.specs.declared.record.Record.{Record}
 use Rattle.history.specs.History.{plain}
-use Rattle.history.specs.Spans.{is_within}
+use Rattle.record_key.specs.Order.{has_key}
 use Rattle.history.specs.Values.{value_on}
 use Rattle.history.specs.Log.{record_at, answer_of, IsOpBy, IsOpen, Requests}
 use Rattle.history.specs.ListMachine.{Machine}
@@ -22,7 +23,6 @@ use Rattle.tc_core.specs.declared.open_txn.OpenTxn.{OpenTxn}
 use Rattle.tc_core.specs.declared.open_txn.Read.{Read}
 use Rattle.tc_core.specs.declared.open_txn.Rollback.{Rollback}
 use Rattle.tc_core.specs.OpenTxns.{find}
-use Rattle.tc_core.specs.Changes.{shared}
 use Rattle.tc_core.specs.Kept.{IsReading}
 use Rattle.tc_core.proofs.Finding.{found_number}
 use Rattle.tc_core.proofs.KeepsReads.{held_apart}
@@ -56,24 +56,24 @@ module _ (w : NodeView) (o : OpenTxn) (r : Read) (k : IsKept w) (at : find o.txn
   is_reading = reading_at w.tc o r k.tc at reads
 
   -- no operation of another open transaction is on a key of its span
-  unshared : (key : Bytes) (n u : ℕ) (q : Op) → is_within (shared r.span) key ≡ true → IsOpBy log n u q → IsOpen log u
+  unshared : (key : Bytes) (n u : ℕ) (q : Op) → has_key (range_of r.span) key ≡ true → IsOpBy log n u q → IsOpen log u
       → u ≢ o.txn → key_of q ≡ key → ⊥
   unshared key n u q within by is_open other on =
-      true≢false (sym within ∙ ap (is_within (shared r.span)) (sym on)
+      true≢false (sym within ∙ ap (has_key (range_of r.span)) (sym on)
       ∙ held_apart w.tc o r n u q k.tc at reads by is_open other)
 
   -- all requests on the key are answered
-  answered_there : (key : Bytes) → is_within (shared r.span) key ≡ true → (n : ℕ) (q : Op) → Requests log n q
+  answered_there : (key : Bytes) → has_key (range_of r.span) key ≡ true → (n : ℕ) (q : Op) → Requests log n q
       → key_of q ≡ key → IsSome (answer_of log n)
   answered_there key within n q asks on = by (answer_of log n) refl
     where
       by : (a : Option Answer) → answer_of log n ≡ a → IsSome a
       by (Some a) is = refl
       by None is = absurd (true≢false
-          (sym within ∙ ap (is_within (shared r.span)) (sym on) ∙ unread w.tc o r n q k.tc at reads asks is))
+          (sym within ∙ ap (has_key (range_of r.span)) (sym on) ∙ unread w.tc o r n q k.tc at reads asks is))
 
   -- of no loser is an operation there
-  not_lost : (key : Bytes) (n t : ℕ) (q : Op) → is_within (shared r.span) key ≡ true → IsOpBy log n t q
+  not_lost : (key : Bytes) (n t : ℕ) (q : Op) → has_key (range_of r.span) key ≡ true → IsOpBy log n t q
       → key_of q ≡ key → (clients w.tc).loses t ≡ false
   not_lost key n t q within by on = elim (cases_Bool ((clients w.tc).loses t)) [
     | inl listed ↦
@@ -84,7 +84,7 @@ module _ (w : NodeView) (o : OpenTxn) (r : Read) (k : IsKept w) (at : find o.txn
   ]
 
   -- and nobody has to undo an operation there
-  not_undone : (key : Bytes) (n t : ℕ) (q : Op) → is_within (shared r.span) key ≡ true → IsOpBy log n t q
+  not_undone : (key : Bytes) (n t : ℕ) (q : Op) → has_key (range_of r.span) key ≡ true → IsOpBy log n t q
       → key_of q ≡ key → is_to_undo ((clients w.tc).doing t) n ≡ false
   not_undone key n t q within by on = by_txn (find t w.tc.open_txns) refl
     where
@@ -110,7 +110,7 @@ module _ (w : NodeView) (o : OpenTxn) (r : Read) (k : IsKept w) (at : find o.txn
       by_txn (Some p) some = ap (λ y. is_to_undo (doing_in y) n) some ∙ by_rolling p some p.rolling refl
 
   -- what the leaf has there is what the log gives
-  pub read_logged : k.source ≡ own w.tc → may_merge w.dc ≡ true → (key : Bytes) → is_within (shared r.span) key ≡ true
+  pub read_logged : k.source ≡ own w.tc → may_merge w.dc ≡ true → (key : Bytes) → has_key (range_of r.span) key ≡ true
       → value_at w.dc key ≡ value_on key log
   read_logged live past key within =
       (honest_at w key k live).right
@@ -120,7 +120,7 @@ module _ (w : NodeView) (o : OpenTxn) (r : Read) (k : IsKept w) (at : find o.txn
       (answered_captured w k live past n q asks (answered_there key within n q asks on))))
 
   -- and that is what the plain map has
-  pub logged_plain : (m : Machine) → Stands w m → (key : Bytes) → is_within (shared r.span) key ≡ true
+  pub logged_plain : (m : Machine) → Stands w m → (key : Bytes) → has_key (range_of r.span) key ≡ true
       → value_on key log ≡ get (plain m.h) key
   logged_plain m stands key within =
       sym (plain_is_the_logs (clients w.tc) m key k.tc.legal k.right stands (λ n t q by on uncrossed. (

@@ -8,9 +8,10 @@ use Rattle.record_key.specs.declared.op.Op.{Op}
 use Rattle.record_key.specs.declared.refusal.Refusal.{Refusal}
 use Rattle.record_key.specs.declared.refusal.Refusal.TheVariants as no
 use Rattle.record_key.specs.FirstCause.{first_of, or_else}
-use Rattle.history.specs.Spans.{Span, IsRange, changed_span}
-use Rattle.record_key.specs.Order.{ends_above}
-use Rattle.history.specs.ListMachine.{Machine, Call, ToBegin, ToAct, ToRead, ToSave, ToGoBack, ToRollBack, ToCommit, AreDifferent, asked_span}
+use Rattle.range_locks.specs.Meant.{range_of}
+use Rattle.history.specs.Spans.{Span, changed_span}
+use Rattle.record_key.specs.Order.{ends_above, HasKeys}
+use Rattle.history.specs.ListMachine.{Machine, Call, ToBegin, ToAct, ToRead, ToSave, ToGoBack, ToRollBack, ToCommit, AreDifferent, asked_range, asked_span}
 use Rattle.simulation.specs.View.{Ready, StandsFor}
 use Rattle.simulation.specs.Refusals.{IsRefusal, caller, wanted}
 use Rattle.simulation.proofs.Refusing.{busy_is_a_line, not_open_is_a_line, unanswered_is_a_line, rolling_back_is_a_line, bad_range_is_a_line, full_is_a_line, full_of_savepoints_is_a_line, bad_savepoint_is_a_line, node_refusal_is_a_line}
@@ -266,9 +267,9 @@ same_span (Range low high) = refl
 pub read_refused : (w new : TcView) (m : Machine) (t : ℕ) (s : Keys) (r : Refusal) → IsTc w → StandsFor (clients w) m
     → ReadGives w t s (Err r) new
     → RefusesSo m (ToRead t (query_of s)) r new
-read_refused w new m t s r k stands h = by (ends_above (shared s).hi (shared s).lo) refl h
+read_refused w new m t s r k stands h = by (ends_above (range_of s).hi (range_of s).lo) refl h
   where
-    by : (b : Bool) → ends_above (shared s).hi (shared s).lo ≡ b
+    by : (b : Bool) → ends_above (range_of s).hi (range_of s).lo ≡ b
         → RefusesTaking (or_else (first_of ((not b, no.BadRange) ∷ [])) (idle_refusal w t)) (reads_spent w.reads) false
         w t (shared s) r new
         → RefusesSo m (ToRead t (query_of s)) r new
@@ -276,8 +277,8 @@ read_refused w new m t s r k stands h = by (ends_above (shared s).hi (shared s).
         taking_refused w new m (ToRead t (query_of s)) t (shared s) (nat_le 281474976710655 w.reads) false r k stands
         refl (ap (λ x. Some (t, x)) (same_span s)) g
     by false none g =
-        let empty : IsRange (asked_span (query_of s)) → ⊥ =
-        λ range. true≢false (sym range ∙ ap (λ (x : Span). ends_above x.hi x.lo) (same_span s) ∙ none) in
+        let empty : HasKeys (asked_range (query_of s)) → ⊥ =
+        λ range. true≢false (sym range ∙ ap (λ (x : Span). ends_above x.range.hi x.range.lo) (same_span s) ∙ none) in
         record {
           line = as_that m (ToRead t (query_of s)) no.BadRange r (sym g.0) (bad_range_is_a_line m t (query_of s) empty);
           stands = subst (λ x. StandsFor (clients x) m) (sym g.1) stands;

@@ -10,11 +10,12 @@ use Rattle.record_key.specs.Table.{Bytes}
 use Rattle.history.specs.declared.record.Record.{Record}
 use Rattle.history.specs.declared.record.Record.TheVariants as is
 use Rattle.history.specs.History.{plain}
-use Rattle.history.specs.Spans.{Span, IsRange, rows_in, changed_span}
+use Rattle.record_key.specs.Order.{HasKeys, rows_in}
+use Rattle.history.specs.Spans.{Span, changed_span}
 use Rattle.history.specs.Log.{record_at, IsOpBy, IsOpen}
 use Rattle.history.specs.Legal.{Stands, IsLegal}
 use Rattle.history.specs.Values.{HasRightAnswers}
-use Rattle.history.specs.ListMachine.{Machine, OfKey, OfRange, asked_span, Begins, Acts, TellsAnswer, Reads, TellsRow, TellsRows, Saves, GoesBack, TellsBack, RollsBack, TellsRolledBack, Commits, TellsLost, IsFree, Steps}
+use Rattle.history.specs.ListMachine.{Machine, OfKey, OfRange, asked_range, asked_span, Begins, Acts, TellsAnswer, Reads, TellsRow, TellsRows, Saves, GoesBack, TellsBack, RollsBack, TellsRolledBack, Commits, TellsLost, IsFree, Steps}
 use Rattle.log_laws.proofs.Records.{op_step, newest_at, older_at}
 use Rattle.log_laws.proofs.Strict.{end_number, end_ends}
 use Rattle.simulation.specs.View.{View, Doing, Ready, Awaits, Looks, Rolls, is_to_undo, IsCommitAt, AreItsKeys, StandsFor}
@@ -156,7 +157,7 @@ module _ (w : TcView) (m : Machine) (o : OpenTxn) (k : IsTc w) (at : find o.txn 
       )
 
   -- asks for a read
-  pub stands_asked : (s : Keys) → IsIdleTxn o → IsRange (asked_span (query_of s))
+  pub stands_asked : (s : Keys) → IsIdleTxn o → HasKeys (asked_range (query_of s))
       → locks.IsFree w.locks o.txn (asked_span (query_of s)) → asked_span (query_of s) ≡ shared s
       → Leads (clients w) m (Reads o.txn (query_of s)) (clients (asked_read w o s))
   stands_asked s idle range free same =
@@ -191,7 +192,7 @@ module _ (w : TcView) (m : Machine) (o : OpenTxn) (k : IsTc w) (at : find o.txn 
 
   pub stands_rows : (r : Read) (lo : Bytes) (hi : Option Bytes) (rows : List (Bytes × Bytes)) → o.rolling ≡ None
       → o.waiting ≡ None → o.reading ≡ Some r → r.span ≡ Range lo hi
-      → rows ≡ rows_in (asked_span (OfRange lo hi)) (plain m.h)
+      → rows ≡ rows_in (asked_range (OfRange lo hi)) (plain m.h)
       → Leads (clients w) m (TellsRows o.txn rows) (clients (was_told w o))
   stands_rows r lo hi rows flat still reads is right =
       let l = rows_are_told (clients w) m o.txn lo hi rows stands

@@ -5,15 +5,16 @@ use Rattle.std.proofs.lemmas.Cmp.{nat_list_cmp_total, tied_itself}
 use Rattle.record_key.specs.Table.{Bytes}
 use Rattle.history.specs.History.{plain}
 use Rattle.history.specs.Values.{value_on}
-use Rattle.history.specs.Spans.{Span, IsRange, is_within}
-use Rattle.record_key.specs.Order.{is_below}
+use Rattle.record_key.specs.Order as keys
+use Rattle.record_key.specs.Order.{is_below, HasKeys, has_key}
 use Rattle.history.specs.ListMachine.{Machine, TellsRow, TellsRows}
 use Rattle.simulation.specs.Running.{Leads as LeadsTo}
 use Rattle.range_locks.specs.declared.span.Span.TheVariants.{Key, Range}
+use Rattle.range_locks.specs.Meant.{range_of}
 use Rattle.tc_core.specs.declared.open_txn.OpenTxn.{OpenTxn}
 use Rattle.tc_core.specs.declared.open_txn.Read.{Read}
 use Rattle.tc_core.specs.OpenTxns.{find}
-use Rattle.tc_core.specs.Changes.{shared, was_told}
+use Rattle.tc_core.specs.Changes.{was_told}
 use Rattle.tc_core.specs.Kept.{IsReading}
 use Rattle.tc_core.proofs.KeepsTc.{reading_at}
 use Rattle.node_laws.specs.Node.{NodeView}
@@ -24,10 +25,10 @@ use Rattle.node_laws.proofs.Machine.Reading.{logged_plain}
 use Rattle.node_laws.proofs.Machine.Rows.{rows_alike}
 
 -- a range has its lower end
-low_within : (s : Span) → IsRange s → is_within s s.lo ≡ true
-low_within s range =
-    let above : is_below s.lo s.lo ≡ false = ap is_lt (tied_itself nat_list_cmp_total s.lo) in
-    rw (above, range) refl
+low_within : (r : keys.Range) → HasKeys r → has_key r r.lo ≡ true
+low_within r some =
+    let above : is_below r.lo r.lo ≡ false = ap is_lt (tied_itself nat_list_cmp_total r.lo) in
+    rw (above, some) refl
 
 -- a row is told
 pub tells_row : (w : NodeView) (o : OpenTxn) (n : ℕ) (key : Bytes) → IsKept w → find o.txn w.tc.open_txns ≡ Some o
@@ -38,17 +39,17 @@ tells_row w o n key k at reads v value m stands =
     let r : Read = record { number = n; span = Key key } in
     let reading : IsReading w.tc.reads w.tc.locks o r = reading_at w.tc o r k.tc at reads in
     stands_row w.tc m o k.tc at stands r key v reading.flat reading.idle reads refl
-    (value ∙ logged_plain w o r k at reads m stands key (low_within (shared (Key key)) reading.range))
+    (value ∙ logged_plain w o r k at reads m stands key (low_within (range_of (Key key)) reading.range))
 
 -- rows are told
 pub tells_rows : (w : NodeView) (o : OpenTxn) (n : ℕ) (low : Bytes) (high : Option Bytes) → IsKept w
     → find o.txn w.tc.open_txns ≡ Some o
     → o.reading ≡ Some (record { number = n; span = Range low high }) → (rows : List (Bytes × Bytes))
-    → AreRowsOf w.tc.log rows (shared (Range low high))
+    → AreRowsOf w.tc.log rows (range_of (Range low high))
     → (m : Machine) → Stands w m → LeadsTo (clients w.tc) m (TellsRows o.txn rows) (clients (was_told w.tc o))
 tells_rows w o n low high k at reads rows are m stands =
     let r : Read = record { number = n; span = Range low high } in
     let reading : IsReading w.tc.reads w.tc.locks o r = reading_at w.tc o r k.tc at reads in
     stands_rows w.tc m o k.tc at stands r low high rows reading.flat reading.idle reads refl
-    (are.rows_are ∙ rows_alike (shared (Range low high)) are.table (plain m.h)
+    (are.rows_are ∙ rows_alike (range_of (Range low high)) are.table (plain m.h)
     (λ key within. are.values key within ∙ logged_plain w o r k at reads m stands key within))

@@ -4,7 +4,7 @@ use Rattle.record_key.specs.declared.op.Op.{Op}
 use Rattle.record_key.specs.declared.op.Answer.{Answer}
 use Rattle.record_key.specs.Table.{Bytes, key_of, answer_in}
 use Rattle.history.specs.Log.{Requests}
-use Rattle.history.specs.Spans.{rows_in}
+use Rattle.record_key.specs.Order.{rows_in}
 use Rattle.range_locks.specs.declared.span.Span.{Span}
 use Rattle.range_locks.specs.declared.span.Span.TheVariants.{Key, Range}
 use Rattle.codec.specs.declared.request.Request.{Request}

@@ -1,7 +1,7 @@
 use Rattle.std.proofs.Common.{◌≡◌, ℕ, ◌-◌, true, List, ◌++◌, length, take, drop, take_all, sym, ap, ◌∙◌, subst, arith, add-one, append_assoc, append-nil, length-drop, Box}
 use Rattle.std.specs.declared.alloc.Global.{Global}
 use Rattle.std.specs.Option.{option_copied}
-use Rattle.history.specs.Spans.{Span, Shared, rows_in}
+use Rattle.record_key.specs.Order.{Range, rows_in}
 use Rattle.page.specs.Leaf.{LeafView}
 use Rattle.record_key.specs.Rows.{Row}
 use Rattle.btree.specs.Lists.{is_past, leaf_of, leaves_in}
@@ -18,7 +18,7 @@ loop-leaf-init g c = sym (append-nil (g.S.RowSink.rows c.args.found.now))
 
 pub returns-then-begins_past-clause-found : goal.returns-then-begins_past-clause-found
 returns-then-begins_past-clause-found g c =
-    let s : Span = record { lo = c.args.low.now; hi = option_copied c.args.high; mode = Shared } in
+    let s : Range = record { lo = c.args.low.now; hi = option_copied c.args.high } in
     let xs = c.args.leaves.now in
     let p = c.place_in.result in
     let past : is_past (leaf_of c.leaf-item.result).low_fence s.hi ≡ true =
@@ -31,7 +31,7 @@ returns-then-begins_past-clause-found g c =
 
 pub loop-leaf-preserved : goal.loop-leaf-preserved
 loop-leaf-preserved g c =
-    let s : Span = record { lo = c.args.low.now; hi = option_copied c.args.high; mode = Shared } in
+    let s : Range = record { lo = c.args.low.now; hi = option_copied c.args.high } in
     let old = g.S.RowSink.rows c.args.found.now in
     let xs = c.args.leaves.now in
     let ys = take (length xs - c.place_in.result) (drop c.place_in.result xs) in
@@ -48,7 +48,7 @@ loop-leaf-preserved g c =
 
 pub returns-clause-found : goal.returns-clause-found
 returns-clause-found g c =
-    let s : Span = record { lo = c.args.low.now; hi = option_copied c.args.high; mode = Shared } in
+    let s : Range = record { lo = c.args.low.now; hi = option_copied c.args.high } in
     let xs = c.args.leaves.now in
     let p = c.place_in.result in
     c.loop-leaf.invariant

@@ -1,7 +1,7 @@
 use Rattle.std.proofs.Common.{◌≡◌, ◌+◌, ℕ, suc, ◌*◌, ◌≤◌, Bool, false, List, [], ◌∷◌, take_all, refl, sym, ap, ◌∙◌, subst, arith, add-one, append-nil}
 use denote.Param.Weighed.{most}
 use Rattle.std.specs.Option.{option_copied}
-use Rattle.history.specs.Spans.{Span, Shared}
+use Rattle.record_key.specs.Order.{Range}
 use Rattle.btree.specs.Nodes.{NodeView, AreChildren, height_in, under}
 use Rattle.btree.specs.declared.tree.node.Node.TheDeep.{size-Node}
 use Rattle.btree.specs.Below.{seen, IsNode}
@@ -35,7 +35,7 @@ scanning::scan_nodes-loop-node-init g t c = record {
 pub scanning::scan_nodes-returns-then-branch-clause-found :
     goal.scanning::scan_nodes-returns-then-branch-clause-found
 scanning::scan_nodes-returns-then-branch-clause-found g t c =
-    let s : Span = record { lo = c.args.low.now; hi = option_copied c.args.high; mode = Shared } in
+    let s : Range = record { lo = c.args.low.now; hi = option_copied c.args.high } in
     scanned_ended s c.args.nodes.now c.loop-node.node-index c.node-item.result c.loop-node-test.true c.node-item.is
     (g.S.RowSink.rows c.args.found.now) (g.S.RowSink.rows c.loop-node.found) (g.S.RowSink.rows c.scan_on.new.found)
     c.loop-node.invariant
@@ -45,7 +45,7 @@ scanning::scan_nodes-returns-then-branch-clause-found g t c =
 
 pub scanning::scan_nodes-loop-node-preserved : goal.scanning::scan_nodes-loop-node-preserved
 scanning::scan_nodes-loop-node-preserved g t c =
-    let s : Span = record { lo = c.args.low.now; hi = option_copied c.args.high; mode = Shared } in
+    let s : Range = record { lo = c.args.low.now; hi = option_copied c.args.high } in
     rw add-one
     (scanned_more s c.args.nodes.now c.loop-node.node-index c.node-item.result c.loop-node-test.true c.node-item.is
     (g.S.RowSink.rows c.args.found.now) (g.S.RowSink.rows c.loop-node.found) (g.S.RowSink.rows c.scan_on.new.found)
@@ -56,7 +56,7 @@ scanning::scan_nodes-loop-node-preserved g t c =
 
 pub scanning::scan_nodes-returns-clause-found : goal.scanning::scan_nodes-returns-clause-found
 scanning::scan_nodes-returns-clause-found g t c =
-    let s : Span = record { lo = c.args.low.now; hi = option_copied c.args.high; mode = Shared } in
+    let s : Range = record { lo = c.args.low.now; hi = option_copied c.args.high } in
     subst (λ (ns : List NodeView). IsScannedOn s (under ns) (g.S.RowSink.rows c.args.found.now)
     (g.S.RowSink.rows c.loop-node.found) false)
     (take_all c.loop-node.node-index c.args.nodes.now (omega (arith, c.loop-node-test.false)))

@@ -1,7 +1,7 @@
 use Rattle.std.proofs.Common.{List, ◌++◌, ap, ◌∙◌}
 use Rattle.std.specs.Option.{option_copied}
 use Rattle.record_key.specs.Rows.{Row}
-use Rattle.history.specs.Spans.{Span, Shared, rows_in}
+use Rattle.record_key.specs.Order.{Range, rows_in}
 use Rattle.btree.specs.Leaves.{rows_of}
 use Rattle.btree.specs.Lists.{ListView}
 use Rattle.btree.proofs.Ranging.{scanned_all}
@@ -9,7 +9,7 @@ use Rattle.btree.proofs.tree.TreeLeafSet.scan.Goals as goal
 
 pub returns-clause-found : goal.returns-clause-found
 returns-clause-found g c =
-    let s : Span = record { lo = c.args.low.now; hi = option_copied c.args.high; mode = Shared } in
+    let s : Range = record { lo = c.args.low.now; hi = option_copied c.args.high } in
     let one = c.in_ok-scan_from.ensures.found in
     one.rows
     ∙ ap (λ (rows : List Row). g.S.RowSink.rows c.args.found.now ++ rows)

@@ -1,13 +1,12 @@
 use Rattle.std.proofs.Common.{ap}
 use Rattle.std.specs.Option.{option_copied}
-use Rattle.history.specs.Spans.{Shared}
 use Rattle.page.proofs.Ranges.{ranged, ranged_on}
 use Rattle.page.proofs.leaf.Leaf.scan.Goals as goal
 
 pub returns-in-Some : goal.returns-in-Some
 returns-in-Some c =
     rw (← c.self.view_is)
-    (ranged (record { lo = c.args.low.now; hi = option_copied c.args.high; mode = Shared }) c.self.inside.rows.items
+    (ranged (record { lo = c.args.low.now; hi = option_copied c.args.high }) c.self.inside.rows.items
     c.rows_below.result.now c.in-Some.high.now c.self.invariant.0
     (ap option_copied c.in-Some.is)
     (rw (c.rows_from-rows.ensures.rows, c.as_slice.ensures.value) at c.rows_below.ensures))
@@ -15,6 +14,6 @@ returns-in-Some c =
 pub returns-in-None : goal.returns-in-None
 returns-in-None c =
     rw (← c.self.view_is)
-    (ranged_on (record { lo = c.args.low.now; hi = option_copied c.args.high; mode = Shared }) c.self.inside.rows.items
+    (ranged_on (record { lo = c.args.low.now; hi = option_copied c.args.high }) c.self.inside.rows.items
     c.rows_from-rows.result.now c.self.invariant.0
     (ap option_copied c.in-None.is) (rw (c.as_slice.ensures.value) at c.rows_from-rows.ensures.rows))

@@ -1,4 +1,4 @@
-use Rattle.std.proofs.Common.{◌≡◌, ◌≤◌, ℕ, ◌+◌, ◌%◌, ◌^◌, true, List, Some, sym, ap, ◌∙◌, subst, rules, eq-eqb, length, arith}
+use Rattle.std.proofs.Common.{◌≡◌, ◌≤◌, ℕ, ◌+◌, ◌%◌, ◌^◌, true, List, Some, sym, ap, ◌∙◌, rules, eq-eqb, length, arith}
 use Rattle.std.specs.Result.{result_ok}
 use Rattle.std.proofs.lemmas.Bool.{and_from}
 use Rattle.byteorder.specs.Endian.{big_bytes}

@@ -1,6 +1,7 @@
 use Rattle.std.proofs.Common.{◌+◌, ◌<◌, sym, arith, ◌∙◌}
 use Rattle.std.proofs.lemmas.Bool.Decides.{nat_tests}
-use Rattle.history.specs.Spans.{IsRange}
+use Rattle.range_locks.specs.Meant.{range_of}
+use Rattle.record_key.specs.Order.{HasKeys}
 use Rattle.range_locks.specs.Locks.{IsFree}
 use Rattle.tc_core.specs.declared.change.Change.TheVariants.{Reads}
 use Rattle.tc_core.specs.Changes.{shared}
@@ -14,7 +15,7 @@ returns-clause-kept g c =
     let w = seen c.args.self.now in
     let o = c.in_ok-idle.field-0.now in
     let found = c.in_ok-idle.ensures.found in
-    let range : IsRange (shared c.args.span) = sym c.is_range.ensures ∙ c.if-not-is_range.false in
+    let range : HasKeys (range_of c.args.span) = sym c.is_range.ensures ∙ c.if-not-is_range.false in
     let free : IsFree w.locks o.txn (shared c.args.span) = rw found.at.number c.in_ok-take.ensures.free in
     let unspent : w.reads < 281474976710655 = grind (arith, nat_tests, c.in_ok-take.ensures.unspent) in
     rw (

@@ -1,7 +1,7 @@
 use Rattle.std.proofs.Common.{◌≡◌, suc, ◌+◌, ◌-◌, Bool, true, false, List, length, get_or, take, drop, IfOk, sym, ap, ◌∙◌, subst}
 use Rattle.std.specs.Option.{option_copied}
 use Rattle.std.proofs.lemmas.List.{get_or_default}
-use Rattle.history.specs.Spans.{Span, Shared}
+use Rattle.record_key.specs.Order.{Range}
 use Rattle.btree.specs.Nodes.{NodeView, nothing, under}
 use Rattle.btree.specs.Finding.{IsNodeOf}
 use Rattle.btree.specs.Below.{seen, IsNode}
@@ -11,7 +11,7 @@ use Rattle.btree.proofs.tree.node.Node.+scan_from.Goals as goal
 
 pub returns-then-branch-clause-found : goal.returns-then-branch-clause-found
 returns-then-branch-clause-found g t c =
-    let s : Span = record { lo = c.args.low.now; hi = option_copied c.args.high; mode = Shared } in
+    let s : Range = record { lo = c.args.low.now; hi = option_copied c.args.high } in
     let ns = c.in-Inner.children.items in
     let i = c.node_of-i.result in
     let old = g.S.RowSink.rows c.args.found.now in
@@ -30,7 +30,7 @@ returns-then-branch-clause-found g t c =
 
 pub returns-else-branch-clause-found : goal.returns-else-branch-clause-found
 returns-else-branch-clause-found g t c =
-    let s : Span = record { lo = c.args.low.now; hi = option_copied c.args.high; mode = Shared } in
+    let s : Range = record { lo = c.args.low.now; hi = option_copied c.args.high } in
     let ns = c.in-Inner.children.items in
     let i = c.node_of-i.result in
     let old = g.S.RowSink.rows c.args.found.now in
