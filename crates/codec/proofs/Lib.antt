@@ -23,5 +23,6 @@ mod Told
 mod Sessions
 mod Apart
 mod ApartReads
+mod KeptRows
 mod LongHeads
 pub mod UndoBytes

@@ -43,6 +43,11 @@ abbrev pub found_of : Reply → Option (ℕ × Option Bytes)
 found_of (says.Row session read value) = Some (read, value)
 found_of _ = None
 
+-- a reply that has rows
+abbrev pub rows_of : Reply → Option Reply
+rows_of (says.Rows session read rows) = Some (says.Rows session read rows)
+rows_of _ = None
+
 -- the fields of a request to perform, of which the operation is kept apart
 abbrev pub asked : ℕ × (ℕ × (ℕ × Op)) → Asking × Option Op
 asked p = (record { session = p.0; number = p.1.0; stable = p.1.1.0 }, Some p.1.1.1)

@@ -15,6 +15,7 @@ mod frame;
 mod frame_index;
 mod framed;
 mod image;
+mod kept;
 mod lengths;
 mod parted;
 mod parted_reads;
@@ -37,6 +38,7 @@ pub use image::{
     LeafImage, LeafImageRef, leaf_image_len, leaf_image_spelling_law, put_leaf_image,
     take_leaf_image,
 };
+pub use kept::kept_rows;
 pub use parted::{Asking, answered_at, asking_at, put_answered};
 pub use parted_reads::{Reading, found_at, reading_at};
 pub use reading::NUMBER_LIMIT;

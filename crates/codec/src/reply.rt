@@ -180,7 +180,7 @@ fn put_body(out: &mut Vec<u8>, reply: &Reply)
 }
 
 /// The kind of a reply that has rows.
-const ROWS: u8 = 0x14;
+pub(crate) const ROWS: u8 = 0x14;
 
 fn take_answered<'a>(bytes: &'a [u8], reply: &mut Reply) -> Option<&'a [u8]>
     ensures { Gives (λ rest. (reply.new, rest.now)) result (mapped (λ p. Reply.Answered p.0 p.1.0 p.1.1)
@@ -238,7 +238,7 @@ fn take_plain<'a>(kind: u8, bytes: &'a [u8], reply: &mut Reply) -> Option<&'a [u
 }
 
 /// The session and the read number of rows.
-fn take_read(bytes: &[u8]) -> Option<((u64, u64), &[u8])>
+pub(crate) fn take_read(bytes: &[u8]) -> Option<((u64, u64), &[u8])>
     ensures { Gives (λ x. (x.0, x.1.now)) result (pair number_at number_at bytes.now) }
 {
     let (session, rest) = take_number(bytes)?;

@@ -200,7 +200,7 @@ pub(crate) fn take_rows(alloc: Global, bytes: &[u8]) -> Result<(Rows, &[u8]), Fa
 }
 
 /// The rows that the bytes are, so many.
-fn copy_of(alloc: Global, bytes: &[u8], count: usize) -> Result<Rows, AllocError>
+pub(crate) fn copy_of(alloc: Global, bytes: &[u8], count: usize) -> Result<Rows, AllocError>
     requires { ArePacked (rows_spelled count bytes.now) bytes.now }
     ensures { IfOk result (λ rows. rows ≡ rows_spelled count bytes.now) }
 {

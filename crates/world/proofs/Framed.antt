@@ -1,5 +1,5 @@
 -- Messages' bytes and places, and one message more.
-use Rattle.std.proofs.Common.{◌≡◌, ◌∙◌, ℕ, ◌+◌, ◌<◌, ◌≤◌, ◌^◌, List, [], ◌∷◌, ◌++◌, length, drop, refl, sym, ap, subst, arith, append_assoc}
+use Rattle.std.proofs.Common.{◌≡◌, ◌∙◌, ℕ, ◌+◌, ◌<◌, ◌≤◌, ◌^◌, List, [], ◌∷◌, ◌++◌, length, drop, Some, refl, sym, ap, subst, arith, append_assoc}
 use Rattle.std.specs.Prelude.{map}
 use Rattle.std.specs.List.{AllByRecursion}
 use Rattle.std.proofs.lemmas.List.{length-append, length-drop, drop-append-le, append-nil, map-append, drop_at}
@@ -7,12 +7,24 @@ use Rattle.codec.specs.Fields.{number}
 use Rattle.codec.specs.FrameIndex.{place_at, places_of, Indexes}
 use Rattle.codec.specs.Marks.{marked}
 use Rattle.codec.specs.Frames.{frame}
+use Rattle.codec.specs.Parted.{rows_of}
+use Rattle.codec.specs.declared.reply.Reply.{Reply}
+use Rattle.codec.specs.declared.reply.Reply.TheVariants as says
 use Rattle.codec.specs.declared.taken.Taken.TheVariants as took
 use Rattle.codec.proofs.Fields.{length-number}
 use Rattle.codec.proofs.Indexed.{GoesOn, goes_on, indexes_none}
 use Rattle.world.specs.Sent.{StandsAt, AllStand}
 use Rattle.record_key.proofs.Lists.{all_from}
 use Rattle.node_laws.proofs.Invariant.ByNumber.{all_push}
+
+-- a reply that was found by its rows is that reply
+pub rows_are : (r x : Reply) → Some x ≡ rows_of r → x ≡ r
+rows_are (says.Rows session read rows) x found = cc
+rows_are (says.Connected session) x found = absurd cc
+rows_are (says.Answered session n a) x found = absurd cc
+rows_are (says.Row session read value) x found = absurd cc
+rows_are (says.Checkpointed session low) x found = absurd cc
+rows_are (says.RedoEnded session) x found = absurd cc
 
 pub record_is : {X : Type 0} {x y : X} {m n : ℕ} → took.Record x m ≡ took.Record y n → x ≡ y
 record_is e = cc

@@ -6,7 +6,8 @@ ghost use Rattle.codec.specs.Replies.{reply_bytes, session_of, has_rows};
 ghost use Rattle.world.specs.Sent.{StandsAt, request_there, reply_there, IsFramedReply};
 
 use codec::{
-    Reply, Request, Taken, put_reply, put_request, reply_session, take_reply, take_request,
+    Reply, Request, Taken, kept_rows, put_reply, put_request, reply_session, take_reply,
+    take_request,
 };
 use record_key::Refusal;
 use std::alloc::Global;
@@ -108,6 +109,10 @@ pub(crate) fn reply_at(alloc: Global, bytes: &[u8], place: usize) -> Result<Repl
     ensures refused { IfErr result (λ refusal. (refusal ≡ Refusal.NoMemory)
         × (has_rows (reply_there bytes.now place) ≡ true)) }
 {
+    // Rows were spelled when they were sent, so they are copied as they stand.
+    if let Some(reply) = kept_rows(alloc, bytes, place)? {
+        return Ok(reply);
+    }
     match take_reply(alloc, bytes, place)? {
         Taken::Record(reply, _) => Ok(reply),
         Taken::Short | Taken::Bad(_) => unreachable!(),
