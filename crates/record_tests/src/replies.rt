@@ -1,11 +1,15 @@
 //! Replies.
-ghost use Rattle.codec.specs.Replies.{IsOrdered};
+ghost use Rattle.std.specs.Prelude.{ℕ, drop};
+ghost use Rattle.codec.specs.declared.reply.Reply.{Reply as ReplyValue};
+ghost use Rattle.codec.specs.Frames.{IsThere};
+ghost use Rattle.codec.specs.Replies.{reply_bytes, IsOrdered, IsReply};
 
 use crate::rows::put_rows;
 use crate::walking::{Found, Reading};
 use crate::written::{marked, told, unwritten};
 use codec::{
-    Reply, Taken, answered_at, found_at, put_answered, put_reply, reply_session, take_reply,
+    Reply, Taken, answered_at, found_at, kept_rows, put_answered, put_reply, reply_session,
+    take_reply,
 };
 use record_key::{Answer, Refusal, Value};
 use std::fmt::Write;
@@ -19,6 +23,7 @@ pub fn read(reading: &Reading<'_>, answer: &mut String) -> Result<Found, Refusal
             let out = written(reading, &found)?;
             put_told(reading, answer, &found)?;
             compare_apart(reading, &found, &out, answer)?;
+            compare_kept(reading, &found, answer)?;
             told(reading, next, &out, answer)
         }
         Taken::Short => Ok(Found::Short),
@@ -65,6 +70,39 @@ fn compare_apart(
         answer.push_str(" but apart otherwise")?;
     }
     Ok(())
+}
+
+/// Tells where its rows are read otherwise without a look at them.
+fn compare_kept(reading: &Reading<'_>, found: &Reply, answer: &mut String) -> Result<(), Refusal>
+    requires { (next : ℕ) × IsThere ReplyValue reply_bytes IsReply reading.now.at
+        (drop reading.now.at reading.now.bytes.now) found.now next }
+{
+    let kept = kept_rows(reading.alloc, reading.bytes, reading.at)?;
+    if !are_same(&kept, found) {
+        answer.push_str(" but kept otherwise")?;
+    }
+    Ok(())
+}
+
+fn are_same(kept: &Option<Reply>, found: &Reply) -> bool {
+    let Reply::Rows {
+        session,
+        read,
+        rows,
+    } = found
+    else {
+        return kept.is_none();
+    };
+    match kept {
+        Some(
+            Reply::Rows {
+                session: of,
+                read: number,
+                rows: same,
+            },
+        ) => of == session && number == read && same == rows,
+        _ => false,
+    }
 }
 
 fn is_found(reading: &Reading<'_>, found: &Reply) -> bool {
