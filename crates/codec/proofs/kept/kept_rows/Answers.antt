@@ -1,5 +1,4 @@
-use Rattle.std.proofs.Common.{rules, ◌≡◌, ◌∙◌, ◌+◌, ◌<◌, ◌^◌, length, List, ℕ}
-use Rattle.codec.specs.declared.reply.Reply.{Reply}
+use Rattle.std.proofs.Common.{rules, ◌≡◌, ◌∙◌, ◌+◌, ◌<◌, ◌^◌, length}
 use Rattle.codec.specs.declared.taken.Taken.TheVariants as took
 use Rattle.codec.specs.Frames.{frame}
 use Rattle.codec.specs.Replies.{reply_bytes}

@@ -1,4 +1,4 @@
-use Rattle.std.proofs.Common.{rules, ◌≡◌, ◌∙◌, arith, ap, sym, length, Some, None, true}
+use Rattle.std.proofs.Common.{rules, ◌≡◌, ◌∙◌, arith, ap, sym, length, Some, None}
 use Rattle.codec.specs.Replies.{has_rows}
 use Rattle.codec.proofs.KeptRows.{rows_there, no_rows, counted_there, packed_there, reply_there}
 use Rattle.codec.proofs.Replies.{reply_not_empty}
