@@ -12,8 +12,8 @@ use crate::rows::copy_of;
 use crate::taken::Taken;
 use std::alloc::{AllocError, Global};
 
-/// The reply whose frame stands at a place, where it has rows; none where it has none. Refused where memory is, for rows
-/// alone.
+/// The reply whose frame begins at a place of the bytes, from 0, where it has rows; none where it has none. Whoever calls it
+/// owes that a reply's frame begins there, as one does where a reply was written. Refused where memory is, for rows alone.
 pub fn kept_rows(alloc: Global, bytes: &[u8], at: usize) -> Result<Option<Reply>, AllocError>
     requires stands { (r : ReplyValue) × (rest : List ℕ) × IsReply r × (drop at bytes.now ≡ frame (reply_bytes r) ++ rest) }
     ensures rows { (r : ReplyValue) (rest : List ℕ) → IsReply r → drop at bytes.now ≡ frame (reply_bytes r) ++ rest

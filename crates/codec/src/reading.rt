@@ -5,7 +5,8 @@ ghost use Rattle.codec.specs.Reading.{Gives, mapped, number_at, count_at, bytes_
 use byteorder::{BigEndian, ByteOrder};
 use record_key::{Answer, Key, Op, Value};
 
-/// What each number is below that stands in a frame: of a record, a transaction, a session, a read and a page.
+/// What each number is below that names something in a frame: a record, a transaction, a session, a read or a leaf. Counts and
+/// amounts have eight bytes.
 pub const NUMBER_LIMIT: u64 = 1 << 48;
 
 #[tactic(auto, unfolding(crate::specs::Reading::below_at, crate::specs::Fields::first_number))]
