@@ -44,7 +44,7 @@ fn falls<L: Leaves>(closed: &L) -> usize {
     let mut count = 0usize;
     for place in 0..closed.count() {
         if let Some(step) = closed.step_at(place)
-            && step.out == Out::Down
+            && *step.out.lent().get() == Out::Down
         {
             count = count.saturating_add(1);
         }

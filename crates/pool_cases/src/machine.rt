@@ -63,10 +63,10 @@ fn number_of(out: &Out) -> Option<u64> {
 fn is_lost<L: Leaves>(closed: &L, from: usize, txn: u64) -> bool {
     for place in from..closed.count() {
         if let Some(step) = closed.step_at(place) {
-            if let Event::CrashTc { .. } = step.event.lent().event() {
+            if let Event::CrashTc { .. } = step.event.lent().get() {
                 return false;
             }
-            if step.out == Out::Lost(txn) {
+            if *step.out.lent().get() == Out::Lost(txn) {
                 return true;
             }
         }
@@ -93,11 +93,12 @@ impl Machine {
             return Ok(false);
         };
         self.turn(alloc, closed, place, step)?;
-        if !self.counts(&step.out) || !self.calls(alloc, step)? {
+        let out = step.out.lent();
+        if !self.counts(out.get()) || !self.calls(alloc, step)? {
             return Ok(false);
         }
         self.keep(step)?;
-        self.tells(alloc, &step.out)
+        self.tells(alloc, out.get())
     }
 
     // The transaction component crashes or is opened again.
@@ -109,7 +110,8 @@ impl Machine {
         step: &Step,
     ) -> Result<(), Refusal> {
         let event = step.event.lent();
-        match (event.event(), &step.out) {
+        let out = step.out.lent();
+        match (event.get(), out.get()) {
             (Event::CrashTc { .. }, _) => {
                 self.down = true;
                 self.model.crash();
@@ -136,13 +138,14 @@ impl Machine {
 
     // Whether a client's call came to what the model says, to which nothing fails.
     fn calls(&mut self, alloc: Global, step: &Step) -> Verdict {
-        if is_failure(&step.out) {
+        let out = step.out.lent();
+        if is_failure(out.get()) {
             return Ok(true);
         }
-        let next = number_of(&step.out).unwrap_or(0);
-        match self.model.call(alloc, step.event.lent().event(), next) {
+        let next = number_of(out.get()).unwrap_or(0);
+        match self.model.call(alloc, step.event.lent().get(), next) {
             Some(Out::Refused(Refusal::NoMemory)) => Err(Refusal::NoMemory),
-            Some(wanted) => Ok(wanted == step.out),
+            Some(wanted) => Ok(wanted == *out.get()),
             None => Ok(true),
         }
     }
@@ -158,7 +161,8 @@ impl Machine {
     // Notes which record a step has logged, and whose End it has.
     fn keep(&mut self, step: &Step) -> Result<(), AllocError> {
         let event = step.event.lent();
-        match (event.event(), &step.out) {
+        let out = step.out.lent();
+        match (event.get(), out.get()) {
             (_, Out::Begun(txn)) => self.begun.push(*txn)?,
             (Event::Act { txn, op }, Out::Logged(number)) => self.acts.push(Act {
                 number: *number,

@@ -2,7 +2,7 @@
 use crate::client::{Note, is_failure, txn_of};
 use crate::served::Leaves;
 use node_laws::{Event, Out};
-use pool_journal::Step;
+use pool_journal::{Lent, Step};
 use record_key::Refusal;
 
 /// A session's number, and what its client noted.
@@ -56,13 +56,14 @@ fn is_noted<L: Leaves>(closed: &L, place: usize, note: &Note) -> bool {
     let Some(step) = closed.step_at(place) else {
         return false;
     };
-    *step.event.lent().event() == note.event && came_to(closed, place, step, &note.out)
+    *step.event.lent().get() == note.event && came_to(closed, place, step, &note.out)
 }
 
 // Whether a call came to what its client was answered: to what was told of it, where more was to be told.
 fn came_to<L: Leaves>(closed: &L, place: usize, step: &Step, answered: &Out) -> bool {
-    if !is_pending(&step.out) {
-        return step.out == *answered;
+    let out = step.out.lent();
+    if !is_pending(out.get()) {
+        return *out.get() == *answered;
     }
     if is_failure(answered) {
         return true;
@@ -70,11 +71,13 @@ fn came_to<L: Leaves>(closed: &L, place: usize, step: &Step, answered: &Out) -> 
     match line_after(
         closed,
         place.saturating_add(1),
-        txn_of(step.event.lent().event()),
+        txn_of(step.event.lent().get()),
     ) {
         None => *answered == Out::Refused(Refusal::NotConnected),
-        Some(Out::Stable { .. } | Out::Connects { .. }) => step.out == *answered,
-        Some(line) => line == answered,
+        Some(line) => match line.get() {
+            Out::Stable { .. } | Out::Connects { .. } => *out.get() == *answered,
+            line => line == answered,
+        },
     }
 }
 
@@ -86,14 +89,15 @@ fn is_pending(out: &Out) -> bool {
 }
 
 // The first line that is told to the transaction from a place on, unless a crash comes before it.
-fn line_after<L: Leaves>(closed: &L, from: usize, txn: u64) -> Option<&Out> {
+fn line_after<L: Leaves>(closed: &L, from: usize, txn: u64) -> Option<Lent<'_, Out>> {
     for place in from..closed.count() {
         if let Some(step) = closed.step_at(place) {
-            if let Event::CrashTc { .. } = step.event.lent().event() {
+            if let Event::CrashTc { .. } = step.event.lent().get() {
                 return None;
             }
-            if is_told(&step.out, txn) {
-                return Some(&step.out);
+            let out = step.out.lent();
+            if is_told(out.get(), txn) {
+                return Some(out);
             }
         }
     }

@@ -1,10 +1,8 @@
--- An event in little room, and one that is looked at.
+-- An event in little room.
 use Rattle.node_laws.specs.declared.event.Event.{Event}
 use Rattle.node_laws.specs.declared.event.Event.TheVariants as event
 use Rattle.pool_journal.specs.declared.kept_event.Kept.{Kept}
 use Rattle.pool_journal.specs.declared.kept_event.Kept.TheVariants as kept
-use Rattle.pool_journal.specs.declared.kept_event.LentEvent.{LentEvent}
-use Rattle.pool_journal.specs.declared.kept_event.LentEvent.TheVariants as lent
 
 -- the event that is kept so
 abbrev pub kept_event : Kept → Event
@@ -19,8 +17,3 @@ kept_event kept.Tend = event.Tend
 kept_event (kept.Request i) = event.Request i
 kept_event (kept.Reply j) = event.Reply j
 kept_event (kept.Other e) = e.value
-
--- the event that is lent
-abbrev pub lent_event : LentEvent → Event
-lent_event (lent.Made e) = e
-lent_event (lent.Kept e) = e.now

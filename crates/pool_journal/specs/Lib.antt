@@ -12,3 +12,5 @@ pub mod Failing
 pub mod Errands
 pub mod Messages
 pub mod KeptEvents
+pub mod KeptOuts
+pub mod Lending

@@ -15,6 +15,7 @@ use crate::gate::Gate;
 use crate::holding::hold;
 use crate::journal::Journal;
 use crate::kept_event::KeptEvent;
+use crate::kept_out::KeptOut;
 use crate::lines::Unsent;
 use crate::message::Message;
 use crate::naming::Naming;
@@ -158,6 +159,7 @@ impl<J: Naming, D: CrashLog, P: CrashPages> DcDesk<J, D, P> {
             return None;
         }
         let event = KeptEvent::of(rt, *alloc, Event::Tend);
+        let out = KeptOut::of(rt, *alloc, out);
         let step = boxed(rt, *alloc, Step::new(None, event, out));
         Some(hold(rt, journal).enter_dc(rt, row, visitor, step))
     }
@@ -250,18 +252,15 @@ fn stepped<D: CrashLog, P: CrashPages, R: Wait>(
     ensures given { result.1 ≡ given + count result.0.value.given }
 {
     let next = next_number(rt, given);
-    let mut step = boxed(rt, alloc, Step::new(None, KeptEvent::blank(), Out::Nothing));
-    let Step {
-        caller: _,
-        event: kept,
-        out,
-        sent: _,
-        given: message,
-    } = &mut *step;
     let mut reply = None;
-    *out = side.step(&event, request, Some(next), &mut reply);
+    let out = side.step(&event, request, Some(next), &mut reply);
     let after = if reply.is_some() { next } else { given };
-    *message = Message::new(rt, alloc, reply);
-    *kept = KeptEvent::of(rt, alloc, event);
-    (step, after)
+    let step = Step {
+        caller: None,
+        event: KeptEvent::of(rt, alloc, event),
+        out: KeptOut::of(rt, alloc, out),
+        sent: Message::none(),
+        given: Message::new(rt, alloc, reply),
+    };
+    (boxed(rt, alloc, step), after)
 }

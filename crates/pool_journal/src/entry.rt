@@ -1,7 +1,9 @@
 //! What stands in the row.
 ghost use Rattle.std.specs.Prelude.{◌≡◌};
 ghost use Rattle.std.specs.Option.{option_copied};
+ghost use Rattle.pool_journal.specs.Lending.{lent};
 
+use crate::lent::Lent;
 use crate::step::Step;
 use crate::trace::Trace;
 use codec::{Reply, Request};
@@ -16,10 +18,10 @@ pub struct Entry {
 
 impl Entry {
     /// What its event came to.
-    pub fn out(&self) -> &Out
-        ensures { result.now ≡ self.now.step.value.out }
+    pub fn out(&self) -> Lent<'_, Out>
+        ensures { lent result ≡ self.now.step.value.out }
     {
-        &self.step.out
+        self.step.out.lent()
     }
 
     /// The request that it sent.

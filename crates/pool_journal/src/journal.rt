@@ -58,8 +58,9 @@ fn hear_all<J: Naming>(places: &mut Vec<Place<J>>, entry: &Entry, token: &Pushed
     ensures count { vec_len places.new ≡ vec_len places.old }
 {
     let event = entry.step.event.lent();
+    let out = entry.out();
     for place in places.iter_mut() {
-        place.hear(entry, event.event(), token);
+        place.hear(entry, event.get(), out.get(), token);
     }
 }
 
@@ -334,10 +335,11 @@ impl<J: Naming> Journal<J> {
         } = caller;
         let place = &mut places[*number as usize];
         place.party.meet(row, own, &Some(token.again()));
-        place.live = live_after(place.live, entry.out());
-        place.awaits = is_pending(entry.out());
+        let out = entry.out();
+        place.live = live_after(place.live, out.get());
+        place.awaits = is_pending(out.get());
         place.line = None;
-        place.errand = Errand::of(entry.out());
+        place.errand = Errand::of(out.get());
         place.failed = None;
         stirs.set(*number, false);
         token

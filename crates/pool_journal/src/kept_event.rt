@@ -1,7 +1,8 @@
 //! An event in little room: of ten entries of a transaction nine are told by one number.
 ghost use Rattle.std.specs.Prelude.{◌≡◌};
-ghost use Rattle.pool_journal.specs.KeptEvents.{lent_event};
+ghost use Rattle.pool_journal.specs.Lending.{lent};
 
+use crate::lent::Lent;
 use crate::row::boxed;
 use node_laws::Event;
 use std::alloc::Global;
@@ -29,13 +30,6 @@ enum Kept {
     Other(Box<Event>),
 }
 
-/// An event to be looked at: made anew where it is small, else where it is kept.
-#[derive(Drop)]
-pub enum LentEvent<'a> {
-    Made(Event),
-    Kept(&'a Event),
-}
-
 impl Model for KeptEvent {
     ghost use Rattle.std.specs.Coded.{codes};
     ghost use Rattle.node_laws.specs.declared.event.Event.{Event};
@@ -49,11 +43,6 @@ impl Model for KeptEvent {
 }
 
 impl KeptEvent {
-    /// Some event, for the one that happens to be put in its place. Takes no memory.
-    pub(crate) fn blank() -> KeptEvent {
-        KeptEvent { inside: Kept::Tend }
-    }
-
     /// Where memory for a box is refused it is tried again until it is made.
     pub(crate) fn of<R: Wait>(rt: &R, alloc: Global, event: Event) -> KeptEvent
         ensures { result ≡ event }
@@ -75,10 +64,10 @@ impl KeptEvent {
     }
 
     /// The event, to be looked at. Takes no memory.
-    pub fn lent(&self) -> LentEvent<'_>
-        ensures { lent_event result ≡ self.now }
+    pub fn lent(&self) -> Lent<'_, Event>
+        ensures { lent result ≡ self.now }
     {
-        LentEvent::Made(match &self.inside {
+        Lent::Made(match &self.inside {
             Kept::Begin => Event::Begin,
             Kept::Commit(txn) => Event::Commit { txn: *txn },
             Kept::Force => Event::Force,
@@ -89,19 +78,7 @@ impl KeptEvent {
             Kept::Tend => Event::Tend,
             Kept::Request(number) => Event::Request { number: *number },
             Kept::Reply(number) => Event::Reply { number: *number },
-            Kept::Other(event) => return LentEvent::Kept(event),
+            Kept::Other(event) => return Lent::Kept(event),
         })
-    }
-}
-
-impl LentEvent<'_> {
-    /// The event.
-    pub fn event(&self) -> &Event
-        ensures { result.now ≡ lent_event self.now }
-    {
-        match self {
-            LentEvent::Made(event) => event,
-            LentEvent::Kept(event) => event,
-        }
     }
 }

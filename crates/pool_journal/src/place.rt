@@ -138,9 +138,10 @@ impl<J: Naming> Place<J> {
     }
 
     /// An entry that is no call of its session may be made for it, tell it a line, or cut it off.
-    pub fn hear(&mut self, entry: &Entry, event: &Event, token: &Pushed<Entry>)
+    pub fn hear(&mut self, entry: &Entry, event: &Event, out: &Out, token: &Pushed<Entry>)
         requires entry { entry.now ≡ token.now.value }
         requires event { event.now ≡ token.now.value.step.value.event }
+        requires out { out.now ≡ token.now.value.step.value.out }
         ensures { self.new ≡ place_after token.now self.old }
     {
         if is_call_of(entry.step.caller, self.number) {
@@ -153,8 +154,8 @@ impl<J: Naming> Place<J> {
         let Some(txn) = self.live else {
             return;
         };
-        self.work(txn, event, entry.out());
-        let kind = told_to(txn, entry.out());
+        self.work(txn, event, out);
+        let kind = told_to(txn, out);
         if kind != Told::Nothing {
             self.tell(kind, token);
         }

@@ -8,8 +8,7 @@ use std::alloc::{AllocFailed, Global};
 use std::sync::Wait;
 use std::thread;
 
-/// A value in a box. Where memory for it is refused it is tried again until it is made. A step is boxed before it is made,
-/// so that what it comes to can be written where it will stand, and is moved no more.
+/// A value in a box. Where memory for it is refused it is tried again until it is made.
 pub fn boxed<T, R: Wait>(rt: &R, alloc: Global, value: T) -> Box<T>
     ensures { result.value ≡ value }
 {

@@ -16,6 +16,7 @@ use crate::hall::Hall;
 use crate::holding::hold;
 use crate::journal::Journal;
 use crate::kept_event::KeptEvent;
+use crate::kept_out::KeptOut;
 use crate::lines::Unsent;
 use crate::message::Message;
 use crate::naming::Naming;
@@ -209,7 +210,7 @@ impl<J: Naming, D: CrashLog> TcDesk<J, D> {
         ensures low { IfSome result.1 (λ token. Shown J.entries token) }
     {
         let token = self.enter(rt, hall, journal, Event::Force);
-        if !tells_commit(hall.row().value(&token).out()) {
+        if !tells_commit(hall.row().value(&token).out().get()) {
             return (None, None);
         }
         let tell = self.enter(rt, hall, journal, Event::Tell);
@@ -315,7 +316,8 @@ fn low_sent(step: &Step) -> u64
     ensures { result ≡ low_of step.now.event step.now.out }
 {
     let event = step.event.lent();
-    match (event.event(), &step.out) {
+    let out = step.out.lent();
+    match (event.get(), out.get()) {
         (Event::LowWater { low }, Out::Sent(_)) => *low,
         _ => 0,
     }
@@ -343,7 +345,7 @@ fn mark<D: CrashLog>(marks: &Marks, seat: &mut Seat, side: &TcSide<D>, step: &Bo
     ensures low { seat.new.low ≡ max seat.old.low (low_of step.now.value.event step.now.value.out) }
 {
     let low = low_sent(step);
-    if low == 0 && !tells_commit(&step.out) {
+    if low == 0 && !tells_commit(step.out.lent().get()) {
         return;
     }
     let Ok(end) = side.stable_end() else {
@@ -373,22 +375,15 @@ fn stepped<D: CrashLog, R: Wait>(
 {
     side.kept();
     let next = next_number(rt, sent);
-    let mut step = boxed(
-        rt,
-        alloc,
-        Step::new(caller, KeptEvent::blank(), Out::Nothing),
-    );
-    let Step {
-        caller: _,
-        event: kept,
-        out,
-        sent: message,
-        given: _,
-    } = &mut *step;
     let mut request = None;
-    *out = side.step(&event, reply, Some(next), &mut request);
+    let out = side.step(&event, reply, Some(next), &mut request);
     let after = if request.is_some() { next } else { sent };
-    *message = Message::new(rt, alloc, request);
-    *kept = KeptEvent::of(rt, alloc, event);
-    (step, after)
+    let step = Step {
+        caller,
+        event: KeptEvent::of(rt, alloc, event),
+        out: KeptOut::of(rt, alloc, out),
+        sent: Message::new(rt, alloc, request),
+        given: Message::none(),
+    };
+    (boxed(rt, alloc, step), after)
 }

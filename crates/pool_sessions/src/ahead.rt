@@ -2,7 +2,7 @@
 use std::alloc::Global;
 
 /// How many calls are made before the heap grows again.
-const CALLS: u32 = 24;
+const CALLS: u32 = 36;
 
 /// By how many bytes it grows: so many calls take somewhat less. What is free at a heap's end is given back to the system
 /// from 128 KB on, where a piece of 64 KB or more is freed.

@@ -27,9 +27,12 @@ pub fn answer_told<J: Naming>(hall: &Hall<J>, ended: &Ended) -> Result<Answer, R
     let row = hall.row();
     match ended {
         Ended::CutOff => Err(Refusal::NotConnected),
-        Ended::AtOnce(call) => Err(why(row.value(call).out())),
+        Ended::AtOnce(call) => Err(why(row.value(call).out().get())),
         Ended::Unfinished(_, failure) => Err(failure.refusal()),
-        Ended::Told(call, line) => answer_of(row.value(call).out(), row.value(line).out()),
+        Ended::Told(call, line) => answer_of(
+            row.value(call).out().get(),
+            row.value(line).out().get(),
+        ),
     }
 }
 
@@ -59,9 +62,9 @@ pub fn row_told<J: Naming>(hall: &Hall<J>, ended: &Ended) -> Result<Option<Value
     let row = hall.row();
     match ended {
         Ended::CutOff => Err(Refusal::NotConnected),
-        Ended::AtOnce(call) => Err(why(row.value(call).out())),
+        Ended::AtOnce(call) => Err(why(row.value(call).out().get())),
         Ended::Unfinished(_, failure) => Err(failure.refusal()),
-        Ended::Told(call, line) => row_of(row.value(call).out(), row.value(line).out()),
+        Ended::Told(call, line) => row_of(row.value(call).out().get(), row.value(line).out().get()),
     }
 }
 
@@ -91,9 +94,13 @@ pub fn rows_told<J: Naming, R: Wait>(rt: &R, hall: &Hall<J>, ended: &Ended) -> R
     let row = hall.row();
     match ended {
         Ended::CutOff => Err(Refusal::NotConnected),
-        Ended::AtOnce(call) => Err(why(row.value(call).out())),
+        Ended::AtOnce(call) => Err(why(row.value(call).out().get())),
         Ended::Unfinished(_, failure) => Err(failure.refusal()),
-        Ended::Told(call, line) => rows_of(rt, row.value(call).out(), row.value(line).out()),
+        Ended::Told(call, line) => rows_of(
+            rt,
+            row.value(call).out().get(),
+            row.value(line).out().get(),
+        ),
     }
 }
 
@@ -123,9 +130,12 @@ pub fn back_told<J: Naming>(hall: &Hall<J>, ended: &Ended) -> Result<(), Refusal
     let row = hall.row();
     match ended {
         Ended::CutOff => Err(Refusal::NotConnected),
-        Ended::AtOnce(call) => Err(why(row.value(call).out())),
+        Ended::AtOnce(call) => Err(why(row.value(call).out().get())),
         Ended::Unfinished(_, failure) => Err(failure.refusal()),
-        Ended::Told(call, line) => back_of(row.value(call).out(), row.value(line).out()),
+        Ended::Told(call, line) => back_of(
+            row.value(call).out().get(),
+            row.value(line).out().get(),
+        ),
     }
 }
 
@@ -155,9 +165,12 @@ pub fn rollback_told<J: Naming>(hall: &Hall<J>, ended: &Ended) -> Result<(), Ref
     let row = hall.row();
     match ended {
         Ended::CutOff => Err(Refusal::NotConnected),
-        Ended::AtOnce(call) => Err(why(row.value(call).out())),
+        Ended::AtOnce(call) => Err(why(row.value(call).out().get())),
         Ended::Unfinished(_, failure) => Err(failure.refusal()),
-        Ended::Told(call, line) => rollback_of(row.value(call).out(), row.value(line).out()),
+        Ended::Told(call, line) => rollback_of(
+            row.value(call).out().get(),
+            row.value(line).out().get(),
+        ),
     }
 }
 
@@ -185,9 +198,12 @@ pub fn commit_told<J: Naming>(hall: &Hall<J>, ended: &Ended) -> Result<u64, Refu
     let row = hall.row();
     match ended {
         Ended::CutOff => Err(Refusal::NotConnected),
-        Ended::AtOnce(call) => Err(why(row.value(call).out())),
+        Ended::AtOnce(call) => Err(why(row.value(call).out().get())),
         Ended::Unfinished(_, failure) => Err(failure.refusal()),
-        Ended::Told(call, line) => commit_of(row.value(call).out(), row.value(line).out()),
+        Ended::Told(call, line) => commit_of(
+            row.value(call).out().get(),
+            row.value(line).out().get(),
+        ),
     }
 }
 
@@ -219,7 +235,12 @@ pub fn carried_told<J: Naming, R: Wait>(
         Ended::Told(call, line) => {
             let step = &hall.row().value(call).step;
             let event = step.event.lent();
-            told_of(rt, event.event(), &step.out, hall.row().value(line).out())
+            told_of(
+                rt,
+                event.get(),
+                step.out.lent().get(),
+                hall.row().value(line).out().get(),
+            )
         }
     }
 }
@@ -256,7 +277,7 @@ pub fn saved<J: Naming>(hall: &Hall<J>, ended: &Ended) -> Result<u64, Refusal>
     match ended {
         Ended::CutOff | Ended::Told(_, _) => Err(Refusal::NotConnected),
         Ended::Unfinished(_, failure) => Err(failure.refusal()),
-        Ended::AtOnce(call) => match hall.row().value(call).out() {
+        Ended::AtOnce(call) => match hall.row().value(call).out().get() {
             Out::Saved(savepoint) => Ok(*savepoint),
             out => Err(why(out)),
         },
@@ -272,7 +293,7 @@ pub fn begun<J: Naming>(hall: &Hall<J>, ended: &Ended) -> Result<u64, Refusal>
     match ended {
         Ended::CutOff | Ended::Told(_, _) => Err(Refusal::NotConnected),
         Ended::Unfinished(_, failure) => Err(failure.refusal()),
-        Ended::AtOnce(call) => match hall.row().value(call).out() {
+        Ended::AtOnce(call) => match hall.row().value(call).out().get() {
             Out::Begun(txn) => Ok(*txn),
             out => Err(why(out)),
         },

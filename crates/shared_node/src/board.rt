@@ -2,13 +2,14 @@
 ghost use Rattle.std.specs.Prelude.{◌≡◌, ℕ, true, false, Some, None, IfSome};
 ghost use Rattle.pool_journal.specs.Callers.{IsNews, IsUntold};
 ghost use Rattle.pool_journal.specs.Sessions.{IsClosed, calls, line_of};
+ghost use Rattle.pool_journal.specs.Lending.{lent};
 ghost use Rattle.pool_journal.specs.Slots.{Shown};
 
 use crate::after::After;
 use boxcar::Pushed;
 use crossbeam_channel::Sender;
 use node_laws::{Event, Out};
-use pool_journal::{Caller, Entry, Hall, Journal, Naming, News, hold};
+use pool_journal::{Caller, Entry, Hall, Journal, Lent, Naming, News, hold};
 use std::sync::atomic::{AtomicU64, Ordering};
 use std::sync::{Condvar, Mutex, Wait};
 
@@ -35,7 +36,7 @@ pub struct Board<J: Naming> {
 
 // The low number that an entry announces, 0 where it announces none.
 fn low_in(entry: &Entry) -> u64 {
-    match entry.step.event.lent().event() {
+    match entry.step.event.lent().get() {
         Event::LowWater { low } => *low,
         _ => 0,
     }
@@ -136,9 +137,9 @@ impl<J: Naming> Board<J> {
     }
 
     /// What an entry came to.
-    pub(crate) fn out(&self, token: &Pushed<Entry>) -> &Out
+    pub(crate) fn out(&self, token: &Pushed<Entry>) -> Lent<'_, Out>
         requires shown { Shown J.entries token.now }
-        ensures { result.now ≡ token.now.value.step.value.out }
+        ensures { lent result ≡ token.now.value.step.value.out }
     {
         self.hall.row().value(token).out()
     }
@@ -160,7 +161,7 @@ impl<J: Naming> Board<J> {
     pub(crate) fn hand_over<R: Wait>(&self, rt: &R, work: &Sender<Job>, token: &Pushed<Entry>)
         requires shown { Shown J.entries token.now }
     {
-        if let Out::Sent(number) = self.out(token) {
+        if let Out::Sent(number) = self.out(token).get() {
             let job = Job {
                 number: *number,
                 session: None,

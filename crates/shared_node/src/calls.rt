@@ -39,7 +39,7 @@ impl<J: Naming, G: Gate, D: CrashLog, P: CrashPages> Shared<J, G, D, P> {
         let board = &self.entrance.board;
         let session = caller.number();
         let Unfinished { txn, call } = call;
-        let rest = Rest::of(board.out(&call));
+        let rest = Rest::of(board.out(&call).get());
         for _ in rt.forever() {
             match board.look(rt, caller) {
                 News::Line(line) => return Ended::Told(call, line),
@@ -68,7 +68,7 @@ impl<J: Naming, G: Gate, D: CrashLog, P: CrashPages> Shared<J, G, D, P> {
         ensures ends { Finishes J.entries call.call caller.old.part result caller.new.part }
         ensures rest { IsAtRest J.entries caller.new.part (left_by result) }
     {
-        if !is_pending(self.entrance.board.out(&call.call)) {
+        if !is_pending(self.entrance.board.out(&call.call).get()) {
             let Unfinished { txn: _, call } = call;
             return Ended::AtOnce(call);
         }

@@ -69,7 +69,7 @@ impl<J: Naming, D: CrashLog> Entrance<J, D> {
         let mut desk = hold(rt, tc);
         let txn = board.see(rt, caller)?;
         let token = desk.call(rt, &board.hall, &board.journal, ask.into_event(txn), caller);
-        let sent = if has_request(board.out(&token)) {
+        let sent = if has_request(board.out(&token).get()) {
             Some(desk.enter(rt, &board.hall, &board.journal, Event::Send { txn }))
         } else {
             None

@@ -79,7 +79,7 @@ impl<J: Naming, G, D: CrashLog, P: CrashPages> Shared<J, G, D, P> {
             .dc
             .lock(rt)
             .turn(rt, board.hall.row(), &board.journal, Event::RestartDc);
-        passed(board.out(&token))
+        passed(board.out(&token).get())
     }
 
     // An event of the transaction component.
@@ -89,7 +89,7 @@ impl<J: Naming, G, D: CrashLog, P: CrashPages> Shared<J, G, D, P> {
         ensures { IfErr result IsOutage }
     {
         let token = self.entrance.enter(rt, event);
-        passed(self.entrance.board.out(&token))
+        passed(self.entrance.board.out(&token).get())
     }
 
     // An event that sends a request, which is served, and its reply taken.
@@ -100,9 +100,9 @@ impl<J: Naming, G, D: CrashLog, P: CrashPages> Shared<J, G, D, P> {
     {
         let token = self.entrance.enter(rt, event);
         let out = self.entrance.board.out(&token);
-        match number_sent(out) {
+        match number_sent(out.get()) {
             Some(number) => self.serve_up(rt, number),
-            None => passed(out),
+            None => passed(out.get()),
         }
     }
 
@@ -119,11 +119,11 @@ impl<J: Naming, G, D: CrashLog, P: CrashPages> Shared<J, G, D, P> {
             return Ok(true);
         };
         let out = board.out(&token);
-        let Out::Replied(reply) = out else {
-            return passed(out);
+        let Out::Replied(reply) = out.get() else {
+            return passed(out.get());
         };
         match self.entrance.take(rt, *reply) {
-            Some(token) => passed(board.out(&token)),
+            Some(token) => passed(board.out(&token).get()),
             None => Ok(true),
         }
     }

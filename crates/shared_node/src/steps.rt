@@ -47,7 +47,7 @@ impl<J: Naming, G: Gate, D: CrashLog, P: CrashPages> Shared<J, G, D, P> {
     ) -> After
         requires shown { Shown J.entries token.now }
     {
-        match self.entrance.board.out(token) {
+        match self.entrance.board.out(token).get() {
             Out::Sent(number) => self.have_served(rt, work, Some(session), token, *number),
             Out::Refused(Refusal::Unsent | Refusal::NoMemory | Refusal::Device) => After::Look,
             _ => After::Wait,
@@ -85,7 +85,7 @@ impl<J: Naming, G: Gate, D: CrashLog, P: CrashPages> Shared<J, G, D, P> {
     // One step back.
     fn undo<R: Wait>(&self, rt: &R, work: &Sender<Job>, session: u64, txn: u64) -> After {
         let token = self.entrance.enter(rt, Event::Undo { txn });
-        match self.entrance.board.out(&token) {
+        match self.entrance.board.out(&token).get() {
             Out::Refused(Refusal::NoMemory | Refusal::Device) => After::Look,
             Out::Compensated(_) | Out::Refused(_) => self.send(rt, work, session, txn),
             _ => After::Look,
@@ -111,7 +111,7 @@ impl<J: Naming, G: Gate, D: CrashLog, P: CrashPages> Shared<J, G, D, P> {
     fn tell<R: Wait>(&self, rt: &R, work: &Sender<Job>, token: &Pushed<Entry>)
         requires shown { Shown J.entries token.now }
     {
-        if let Out::Sent(number) = self.entrance.board.out(token) {
+        if let Out::Sent(number) = self.entrance.board.out(token).get() {
             self.have_served(rt, work, None, token, *number);
         }
     }

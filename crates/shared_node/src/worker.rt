@@ -92,7 +92,7 @@ impl<J: Naming, G: Gate, D: CrashLog, P: CrashPages> Shared<J, G, D, P> {
         if let Some(reply) = entry.given() {
             self.gate.after(reply);
         }
-        match entry.out() {
+        match entry.out().get() {
             Out::Replied(reply) => {
                 self.entrance.take(rt, *reply);
                 After::Look

@@ -13,15 +13,16 @@ use Rattle.pool_journal.proofs.dc_desk.DcDesk.tend.Goals as goal
 abbrev tends : Out → Event → Step
 tends o e = record { caller = None; event = e; out = o; sent = None; given = None }
 
--- its event is kept as it is
-is_tending : (o : Out) (e : Event) (x y : Step) → y ≡ x → x ≡ tends o e → e ≡ event.Tend → y ≡ tends o event.Tend
-is_tending o e x y boxed made kept = boxed ∙ made ∙ ap (tends o) kept
+-- its event and what it came to are kept as they are
+is_tending : (o p : Out) (e : Event) (x y : Step) → y ≡ x → x ≡ tends p e → e ≡ event.Tend → p ≡ o
+    → y ≡ tends o event.Tend
+is_tending o p e x y boxed made kept same = boxed ∙ made ∙ (λ i. tends (same i) (kept i))
 
 pub enter_dc-requires-clause-enters : goal.enter_dc-requires-clause-enters
 enter_dc-requires-clause-enters g c =
     let s = c.self.inside in let n : DcState = record { side = c.tended-out.new.side; given = s.given } in (
       n,
-      subst (λ (x : Step). EntersDc g.J.Naming.start s.visitor.steps x n) (sym (is_tending _ _ _ _ c.boxed-step.ensures c.new.ensures c.of-event.ensures))
+      subst (λ (x : Step). EntersDc g.J.Naming.start s.visitor.steps x n) (sym (is_tending _ _ _ _ _ c.boxed-step.ensures c.new.ensures c.of-event.ensures c.of-out.ensures))
           (tending_enters g.J.Naming.start s.visitor.steps s.side c.tended-out.new.side s.given c.tended-out.result
           c.self.invariant.gives c.tended-out.ensures.leads),
     )
@@ -29,7 +30,7 @@ enter_dc-requires-clause-enters g c =
 pub invariant_of-self-2 : goal.invariant_of-self-2
 invariant_of-self-2 g c =
     let s = c.self.inside in let n : DcState = record { side = c.tended-out.new.side; given = s.given } in
-    let enters = subst (λ (x : Step). EntersDc g.J.Naming.start s.visitor.steps x n) (sym (is_tending _ _ _ _ c.boxed-step.ensures c.new.ensures c.of-event.ensures))
+    let enters = subst (λ (x : Step). EntersDc g.J.Naming.start s.visitor.steps x n) (sym (is_tending _ _ _ _ _ c.boxed-step.ensures c.new.ensures c.of-event.ensures c.of-out.ensures))
     (tending_enters g.J.Naming.start s.visitor.steps s.side c.tended-out.new.side s.given c.tended-out.result c.self.invariant.gives
     c.tended-out.ensures.leads) in
     record {

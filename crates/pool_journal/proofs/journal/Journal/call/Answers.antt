@@ -68,11 +68,11 @@ invariant_of-self g c =
     } in
     let done : PlaceKept J.entries J.names (s.lines ++ e ∷ []) n q =
     called_kept J.entries J.names s.lines n p q e (calls_same e.caller n own) k refl party
-    (c.live_after-place.ensures ∙ ap (λ (o : Out). live_after p.live o) c.out.ensures
+    (c.live_after-place.ensures ∙ ap (λ (o : Out). live_after p.live o) (c.get.ensures ∙ c.out-out.ensures)
     ∙ ap (λ (x : Step). live_after p.live x.out) entry)
-    (c.is_pending-place.ensures ∙ ap (λ (o : Out). is_pending o) c.out-2.ensures
+    (c.is_pending-place.ensures ∙ ap (λ (o : Out). is_pending o) (c.get-2.ensures ∙ c.out-out.ensures)
     ∙ ap (λ (x : Step). is_pending x.out) entry) refl
-    (c.of-place.ensures ∙ ap (λ (o : Out). errand_of o) c.out-3.ensures
+    (c.of-place.ensures ∙ ap (λ (o : Out). errand_of o) (c.get-3.ensures ∙ c.out-out.ensures)
     ∙ ap (λ (x : Step). errand_of x.out) entry) refl in
     let kept = places_called J.entries J.names s.lines s.places.items token n q c.self.invariant.0
     c.enter_tc-token.ensures.shown own done in
