@@ -16,6 +16,10 @@ use std::mem::replace;
 /// How many of nine children stay in a node that is divided.
 const HALF: usize = 4;
 
+/// The same where the ninth came after all others, as where keys rise: nothing is put among those that stay, so they are
+/// all but the two that the other node must have.
+const ALL_BUT_TWO: usize = 7;
+
 impl Node {
     /// Makes blocks until there is one for each level below the node, one for itself and `above` more.
     pub fn stock(
@@ -76,7 +80,15 @@ impl Node {
     }
 }
 
-/// Puts a node among others. A ninth one divides them: four stay, and a node over the other five is given.
+/// How many of nine children stay, of which the one at this place came last.
+fn stays_of(i: usize) -> usize
+    ensures two { 2 ≤ result }
+    ensures seven { result ≤ 7 }
+{
+    if i == MOST { ALL_BUT_TWO } else { HALF }
+}
+
+/// Puts a node among others. A ninth one divides them, and a node over those that don't stay is given.
 fn add(children: &mut Vec<Node>, i: usize, node: Node, spare: &mut Vec<Vec<Node>>) -> Option<Node>
     requires children { AreChildren node.height children.old.items }
     requires node { IsWhole node }
@@ -100,7 +112,7 @@ fn add(children: &mut Vec<Node>, i: usize, node: Node, spare: &mut Vec<Vec<Node>
     if children.len() <= MOST {
         return None;
     }
-    Some(divide(children, HALF, take_block(spare)))
+    Some(divide(children, stays_of(i), take_block(spare)))
 }
 
 /// Puts a leaf after the one at a place of a tree; a root that is divided gets a root above it.
