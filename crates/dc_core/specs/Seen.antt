@@ -19,7 +19,7 @@ seen p = record {
   opened_to = p.opened_to;
   system = p.system;
   opened = p.opened.table;
-  performed = p.performed.list;
+  performed = p.performed.list.items;
 }
 
 -- the answer that a number is given, and what is left

@@ -9,7 +9,6 @@
 mod effects;
 mod parts;
 mod replay;
-mod taken;
 mod values;
 
 pub use replay::Replay;

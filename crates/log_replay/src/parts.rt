@@ -4,8 +4,8 @@ ghost use Rattle.std.specs.Option.{option_copied};
 ghost use Rattle.history.specs.Values.{IsRight, HasRightAnswers};
 ghost use Rattle.log_replay.specs.Kept.{IsReplay, due_at};
 
-use crate::taken::Taken;
 use crate::values::follow;
+use ghost_list::GhostList;
 use history::Record;
 use record_key::{Answer, Key, Refusal, Value};
 use std::alloc::Global;
@@ -16,30 +16,30 @@ pub struct Parts {
     pub values: BTreeMap<Key, Value>,
     // One for each record, the oldest first: what it gets, where it asks for something.
     pub dues: Vec<Option<Answer>>,
-    pub taken: Taken,
+    pub taken: GhostList<Record>,
 }
 
 impl Parts {
     pub fn new(alloc: Global) -> Parts
-        ensures kept { IsReplay result.taken.log result.values result.dues.items }
-        ensures none { result.taken.log ≡ [] }
+        ensures kept { IsReplay result.taken.items result.values result.dues.items }
+        ensures none { result.taken.items ≡ [] }
     {
         Parts {
             values: BTreeMap::new(alloc),
             dues: Vec::new(alloc),
-            taken: Taken::new(),
+            taken: GhostList::new(),
         }
     }
 
     /// The next record, where the answers are right with it; else false. Refused NoMemory. Unchanged but where true.
     pub fn take(&mut self, next: &Record) -> Result<bool, Refusal>
-        requires { IsReplay self.old.taken.log self.old.values self.old.dues.items }
-        ensures kept { IsReplay self.new.taken.log self.new.values self.new.dues.items }
-        ensures right { IfOk result (λ right. IsTrue right ↔ HasRightAnswers (next.now ∷ self.old.taken.log)) }
-        ensures taken { IfOk result (λ right. self.new.taken.log
-            ≡ (if right then next.now ∷ self.old.taken.log else self.old.taken.log)) }
+        requires { IsReplay self.old.taken.items self.old.values self.old.dues.items }
+        ensures kept { IsReplay self.new.taken.items self.new.values self.new.dues.items }
+        ensures right { IfOk result (λ right. IsTrue right ↔ HasRightAnswers (next.now ∷ self.old.taken.items)) }
+        ensures taken { IfOk result (λ right. self.new.taken.items
+            ≡ (if right then next.now ∷ self.old.taken.items else self.old.taken.items)) }
         ensures refused { IfErr result (λ refusal. refusal ≡ Refusal.NoMemory) }
-        ensures unchanged { OnErr result (self.new.taken.log ≡ self.old.taken.log) }
+        ensures unchanged { OnErr result (self.new.taken.items ≡ self.old.taken.items) }
     {
         if !self.fits(next) {
             return Ok(false);
@@ -54,8 +54,8 @@ impl Parts {
 
     /// The answers are right with this record too.
     fn fits(&self, next: &Record) -> bool
-        requires { IsReplay self.now.taken.log self.now.values self.now.dues.items }
-        ensures { IsTrue result ↔ HasRightAnswers (next.now ∷ self.now.taken.log) }
+        requires { IsReplay self.now.taken.items self.now.values self.now.dues.items }
+        ensures { IsTrue result ↔ HasRightAnswers (next.now ∷ self.now.taken.items) }
     {
         match next {
             Record::Answer { of, answer } => self.is_right(*of, answer),
@@ -64,8 +64,8 @@ impl Parts {
     }
 
     fn is_right(&self, of: u64, answer: &Answer) -> bool
-        requires { IsReplay self.now.taken.log self.now.values self.now.dues.items }
-        ensures { IsTrue result ↔ IsRight self.now.taken.log of answer.now }
+        requires { IsReplay self.now.taken.items self.now.values self.now.dues.items }
+        ensures { IsTrue result ↔ IsRight self.now.taken.items of answer.now }
     {
         match self.due(of) {
             Some(due) => answer == due,
@@ -75,8 +75,8 @@ impl Parts {
 
     /// What the request of this number gets.
     fn due(&self, number: u64) -> Option<&Answer>
-        requires { IsReplay self.now.taken.log self.now.values self.now.dues.items }
-        ensures { option_copied result ≡ due_at self.now.taken.log number }
+        requires { IsReplay self.now.taken.items self.now.values self.now.dues.items }
+        ensures { option_copied result ≡ due_at self.now.taken.items number }
     {
         if number == 0 {
             return None;

@@ -22,9 +22,9 @@ impl Model for Replay {
 
     ghost Value = { List Record };
 
-    ghost view = { λ r. r.parts.taken.log };
+    ghost view = { λ r. r.parts.taken.items };
 
-    ghost invariant = { λ r. IsReplay r.parts.taken.log r.parts.values r.parts.dues.items };
+    ghost invariant = { λ r. IsReplay r.parts.taken.items r.parts.values r.parts.dues.items };
 }
 
 impl Replay {

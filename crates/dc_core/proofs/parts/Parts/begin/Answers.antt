@@ -22,7 +22,7 @@ returns-clause-kept g c =
       opened_to = w.opened_to;
       system = c.accept-accepted.new.self;
       opened = w.opened;
-      performed = c.up_to-self.result.list;
+      performed = c.up_to-self.result.list.items;
     } in
     let same : begun ≡ connected w c.args.session c.args.end =
     (λ i. record begun { system = c.in_ok-accepted.ensures.gives.1 i; performed = c.up_to-self.ensures i }) in

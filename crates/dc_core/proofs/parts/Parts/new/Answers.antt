@@ -8,7 +8,7 @@ use Rattle.dc_core.proofs.parts.Parts.new.Goals as goal
 pub returns-clause-kept : goal.returns-clause-kept
 returns-clause-kept g c =
     let fresh = c.in-Ok.ensures.fresh in
-    keeps_opened c.in-Ok.system 0 0 0 c.of-opened.result.table c.new-2.result.list c.kept.ensures
+    keeps_opened c.in-Ok.system 0 0 0 c.of-opened.result.table c.new-2.result.list.items c.kept.ensures
     (ap (λ (v : SystemView). v.stable) fresh ∙ sym (ap (λ (v : SystemView). length v.log) fresh))
     (sym (ap (λ (v : SystemView). stored_session v.log) fresh)) (sym (ap (λ (v : SystemView). top_of v.leaves) fresh))
     c.of-opened.ensures c.new-2.ensures

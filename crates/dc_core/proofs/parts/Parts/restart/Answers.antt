@@ -5,6 +5,6 @@ pub returns-clause-kept : goal.returns-clause-kept
 returns-clause-kept g c =
     let opened = c.in_ok-opened.opened in
     let top = c.top_of-top.result in
-    keeps_opened opened.system opened.stored_session top top c.of-base.result.table c.new.result.list c.kept.ensures
+    keeps_opened opened.system opened.stored_session top top c.of-base.result.table c.new.result.list.items c.kept.ensures
     c.in_ok-opened.ensures.recovers.stable c.in_ok-opened.ensures.stored c.top_of-top.ensures c.of-base.ensures
     c.new.ensures

@@ -1,0 +1,5 @@
+use Rattle.std.proofs.Common.{◌∷◌}
+use Rattle.ghost_list.proofs.ghost_list.GhostList.with.Given as goal
+
+abbrev pub ghost-picked : goal.ghost-picked
+ghost-picked g a = a.b.now ∷ a.a.now.items
