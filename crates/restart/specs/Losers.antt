@@ -1,5 +1,5 @@
 -- The transactions that a restart rolls back, and what each has left to undo.
-use Rattle.std.specs.Prelude.{◌≡◌, ℕ, ◌+◌, ◌<◌, ◌≤◌, List, ◌∷◌, ◌++◌, Bool, IsTrue, ◌↔◌, Option, map, length, MatchOption}
+use Rattle.std.specs.Prelude.{◌≡◌, ℕ, ◌+◌, ◌<◌, ◌≤◌, List, [], ◌∷◌, ◌++◌, Bool, IsTrue, ◌↔◌, Option, map, length, MatchOption}
 use Rattle.std.specs.List.{All}
 use Rattle.record_key.specs.declared.op.Op.{Op}
 use Rattle.history.specs.declared.record.Record.{Record}
@@ -28,6 +28,10 @@ pub record LosersView : Type 0 where
   pub below : ℕ
   pub undoing : List Loser
   pub done : List ℕ
+
+-- nobody, where a log is new
+abbrev pub nobody_lost : LosersView
+nobody_lost = record { below = 0; undoing = []; done = [] }
 
 -- all of them by their numbers
 abbrev pub txns : LosersView → List ℕ

@@ -1,6 +1,6 @@
 //! The losers in two heaps, each with room for all of them.
 ghost use Rattle.std.specs.Prelude.{◌≡◌, ◌+◌, ◌∷◌, [], ℕ, IfOk};
-ghost use Rattle.restart.specs.Losers.{FindsNext, FindsEnded, TakesComp, TakesEnd};
+ghost use Rattle.restart.specs.Losers.{nobody_lost, FindsNext, FindsEnded, TakesComp, TakesEnd};
 ghost use Rattle.restart.specs.Heaps.{seen, IsHeaped, Adds};
 
 use crate::loser::Loser;
@@ -19,6 +19,18 @@ pub(crate) struct Heaps {
 }
 
 impl Heaps {
+    /// No loser, and no room. Takes no memory.
+    pub(crate) fn new(alloc: Global) -> Heaps
+        ensures kept { IsHeaped result 0 }
+        ensures empty { seen result ≡ nobody_lost }
+    {
+        Heaps {
+            below: 0,
+            undoing: BinaryHeap::new(alloc),
+            done: BinaryHeap::new(alloc),
+        }
+    }
+
     /// No loser, and room for so many.
     pub(crate) fn with_room(alloc: Global, below: u64, count: usize) -> Result<Heaps, AllocError>
         ensures kept { IfOk result (λ heaps. IsHeaped heaps count) }

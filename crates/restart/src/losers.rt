@@ -1,9 +1,10 @@
 //! The transactions that a restart rolls back.
 ghost use Rattle.std.specs.Prelude.{◌≡◌};
-ghost use Rattle.restart.specs.Losers.{TellsNone, FindsNext, FindsEnded, TakesComp, TakesEnd};
+ghost use Rattle.restart.specs.Losers.{nobody_lost, TellsNone, FindsNext, FindsEnded, TakesComp, TakesEnd};
 
 use crate::heaps::Heaps;
 use crate::loser::Loser;
+use std::alloc::Global;
 use std::marker::Model;
 
 /// The transactions that began below a number and have neither a Commit nor an End, each with what it has left to
@@ -26,6 +27,15 @@ impl Model for Losers {
 }
 
 impl Losers {
+    /// No transaction is one, as where a log is new. Takes no memory; the allocator serves nothing.
+    pub fn nobody(alloc: Global) -> Losers
+        ensures { result ≡ nobody_lost }
+    {
+        Losers {
+            heaps: Heaps::new(alloc),
+        }
+    }
+
     /// The number below which they began.
     pub fn below(&self) -> u64
         ensures { result ≡ self.now.below }

@@ -10,7 +10,6 @@ pub mod Calls
 pub mod Finds
 pub mod Replies
 pub mod Answering
-pub mod Lost
 pub mod Recovery
 pub mod Opening
 pub mod Opened

@@ -3,7 +3,7 @@ use Rattle.std.specs.Prelude.{ℕ, ◌||◌, Bool, true, false, List, [], ◌∷
 use Rattle.stable.specs.Usage.{Usage, failed as failed_use}
 use Rattle.history.specs.declared.record.Record.{Record}
 use Rattle.range_locks.specs.Locks.{LocksView}
-use Rattle.restart.specs.Losers.{LosersView, txns}
+use Rattle.restart.specs.Losers.{LosersView, nobody_lost, txns}
 use Rattle.tc_core.specs.declared.open_txn.OpenTxn.{OpenTxn}
 use Rattle.tc_core.specs.declared.phase.Phase.{Phase}
 use Rattle.tc_core.specs.declared.phase.Phase.TheVariants.{Unconnected, Undoing, Running}
@@ -41,10 +41,6 @@ abbrev pub is_serving : Phase → Bool
 is_serving (Undoing waiting) = true
 is_serving Running = true
 is_serving _ = false
-
--- no transaction was lost
-abbrev pub nobody_lost : LosersView
-nobody_lost = record { below = 0; undoing = []; done = [] }
 
 abbrev pub is_nil : List ℕ → Bool
 is_nil [] = true

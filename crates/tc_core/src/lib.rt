@@ -12,7 +12,6 @@ mod forcing;
 mod laws;
 mod locking;
 mod losing;
-mod lost;
 mod low_water;
 mod open_txn;
 mod open_txns;

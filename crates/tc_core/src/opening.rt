@@ -18,7 +18,6 @@ ghost use Rattle.tc_core.specs.Kept.{IsTc};
 ghost use Rattle.tc_core.specs.Seen.{seen};
 
 use crate::locking::mode_for;
-use crate::lost::Lost;
 use crate::open_txns::OpenTxns;
 use crate::parts::Parts;
 use crate::phase::Phase;
@@ -72,7 +71,7 @@ impl<D: LogDevice> Parts<D> {
             checkpointed: work.redo_start - 1,
             open_txns: OpenTxns::new(alloc),
             committing: Vec::new(alloc),
-            losers: Lost::found(work.losers),
+            losers: work.losers,
             locks,
         }
     }

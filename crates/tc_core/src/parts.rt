@@ -8,13 +8,13 @@ ghost use Rattle.tc_core.specs.Finds.{FindsOpen, FindsAnswered, FindsIdle};
 ghost use Rattle.tc_core.specs.Kept.{IsTc};
 ghost use Rattle.tc_core.specs.Seen.{seen};
 
-use crate::lost::Lost;
 use crate::open_txn::OpenTxn;
 use crate::open_txns::OpenTxns;
 use crate::phase::Phase;
 use logical_log::Log;
 use range_locks::RangeLocks;
 use record_key::Refusal;
+use restart::Losers;
 use stable::{CrashLog, LogDevice};
 use std::alloc::Global;
 
@@ -40,7 +40,8 @@ pub struct Parts<D: LogDevice> {
     pub open_txns: OpenTxns,
     /// Whose Commit record isn't stable, in the order of these records.
     pub committing: Vec<u64>,
-    pub losers: Lost,
+    /// Those of the log that was opened that haven't ended since.
+    pub losers: Losers,
     pub locks: RangeLocks,
 }
 
@@ -60,7 +61,7 @@ impl<D: LogDevice> Parts<D> {
             checkpointed: 0,
             open_txns: OpenTxns::new(alloc),
             committing: Vec::new(alloc),
-            losers: Lost::nobody(),
+            losers: Losers::nobody(alloc),
             locks: RangeLocks::new(alloc),
         }
     }
