@@ -95,6 +95,7 @@ impl<D: CrashLog, P: CrashPages> Node<D, P> {
     }
 
     /// The transaction's request is sent, as the event says.
+    #[inline(never)]
     fn send(&mut self, txn: u64, event: &Event, out: &mut Out)
         requires { event.now ≡ Event.Send txn }
         ensures { StepsTo (seen self.old) event.now out.new (seen self.new) }
@@ -146,6 +147,7 @@ impl<D: CrashLog, P: CrashPages> Node<D, P> {
     }
 
     /// A step of recovery, as the event says.
+    #[inline(never)]
     fn recover(&mut self, event: &Event, out: &mut Out)
         requires { event.now ≡ Event.Recover }
         ensures { StepsTo (seen self.old) event.now out.new (seen self.new) }
