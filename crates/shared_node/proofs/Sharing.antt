@@ -9,10 +9,11 @@ use Rattle.btree.proofs.tree.summary.Summary.TheSendSync as summary
 use Rattle.btree.specs.contracts.tree.Tree as Tree
 use Rattle.btree.specs.contracts.tree.TreeLeafSet.TheImpl as tree
 use Rattle.dc_core.proofs.base.Base.TheSendSync as base
-use Rattle.dc_core.proofs.performances.Performances.TheSendSync as performances
 use Rattle.dc_core.specs.contracts.dc.Dc as Dc
 use Rattle.dc_core.specs.contracts.dc.Dc.TheInside as DcInside
 use Rattle.dc_core.specs.contracts.parts.Parts as Parts
+use Rattle.dc_core.specs.contracts.performances.Performances as Performances
+use Rattle.ghost_list.proofs.ghost_list.GhostList.TheSendSync as ghost_list
 use Rattle.page.proofs.leaf.Leaf.TheSendSync as leaf
 use Rattle.record_key.proofs.key.Key.TheSendSync as key
 use Rattle.stable.specs.declared.log_device.LogDevice as log_device
@@ -38,13 +39,16 @@ use Rattle.pool_journal.specs.contracts.tc_desk.TcDesk as TcDesk
 tree_send : IsSend Tree.the_row
 tree_send = search (leaf.the_send, key.the_send, summary.the_send, node.crosses, crosses, sendable) depth 40
 
+performances_send : IsSend Performances.the_field.row
+performances_send = search (ghost_list.the_send, sendable) depth 20
+
 module _ (D : RattleType) (d : log_device.Ghosts D.Denot) (sd : IsSend D) (P : RattleType)
     (p : page_device.Ghosts P.Denot) (sp : IsSend P) where
   system_send : IsSend (SystemTxns.the_row Tree.the_row D P tree.ghosts d p)
   system_send = search (tree_send, system.the_send) depth 20
 
   parts_send : IsSend (Parts.the_field D P d p).row
-  parts_send = search (base.the_send, performances.the_send, system_send, sendable) depth 40
+  parts_send = search (base.the_send, performances_send, system_send, sendable) depth 40
 
   dc_inside_send : IsSend (DcInside.the_row D P d p)
   dc_inside_send = search (parts_send, sendable) depth 20
